@@ -1,0 +1,5 @@
+pub mod Code
+pub mod Refusal
+pub mod Number
+pub mod Arguments
+pub mod Register

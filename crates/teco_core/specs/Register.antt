@@ -1,0 +1,32 @@
+-- Registers: 36 of them, A to Z and 0 to 9, each with a number and a text.
+use Rattle.std.specs.Prelude.{ℕ, ◌+◌, ◌-◌, ◌&&◌, List, [], Option, Some, None, ℤ, pos, nat_le, replicate, slice_index_or, slice_set, if◌then◌else◌}
+use Rattle.teco_core.specs.Number.{is_digit}
+
+-- a byte, with a small letter as its capital
+abbrev pub upper : ℕ → ℕ
+upper b = if nat_le 97 b && nat_le b 122 then b - 32 else b
+
+-- A to Z are the registers 0 to 25, 0 to 9 the registers 26 to 35
+abbrev pub register_named : ℕ → Option ℕ
+register_named b = if nat_le 65 b && nat_le b 90 then Some (b - 65) else if is_digit b then Some (b - 48 + 26) else None
+
+-- the register that a byte names, a letter in either case
+abbrev pub register_of : ℕ → Option ℕ
+register_of b = register_named (upper b)
+
+-- what a register, or a place of the push-down list, holds
+pub record Content : Type 0 where
+  pub number : ℤ
+  pub text : List ℕ
+
+abbrev pub blank : Content
+blank = record { number = pos 0; text = [] }
+
+abbrev pub blank_registers : List Content
+blank_registers = replicate 36 blank
+
+abbrev pub content : List Content → ℕ → Content
+content registers q = slice_index_or registers q blank
+
+abbrev pub with_content : List Content → ℕ → Content → List Content
+with_content registers q c = slice_set registers q c
