@@ -3,3 +3,4 @@ pub mod Refusal
 pub mod Number
 pub mod Arguments
 pub mod Register
+pub mod Contents

@@ -30,3 +30,16 @@ content registers q = slice_index_or registers q blank
 
 abbrev pub with_content : List Content → ℕ → Content → List Content
 with_content registers q c = slice_set registers q c
+
+-- with another number, with another text
+abbrev pub numbered : ℤ → Content → Content
+numbered n c = record c { number = n }
+
+abbrev pub texted : List ℕ → Content → Content
+texted text c = record c { text = text }
+
+abbrev pub with_number : List Content → ℕ → ℤ → List Content
+with_number registers q n = with_content registers q (numbered n (content registers q))
+
+abbrev pub with_text : List Content → ℕ → List ℕ → List Content
+with_text registers q text = with_content registers q (texted text (content registers q))

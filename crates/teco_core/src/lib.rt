@@ -5,11 +5,13 @@ mod arguments;
 mod case_mode;
 mod code;
 mod number;
+mod push_down;
 mod register;
 
 pub use arguments::{Expression, Level, Sign, Taken};
 pub use case_mode::CaseMode;
 pub use code::Code;
 pub use number::{Op, operation};
-pub use register::Reg;
+pub use push_down::PushList;
+pub use register::{Reg, Registers, Value};
 pub use std::alloc::AllocError as NoMemory;

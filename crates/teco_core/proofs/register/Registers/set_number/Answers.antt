@@ -1,0 +1,12 @@
+use Rattle.std.proofs.Common.{rules, FitsSigned, w32, arith}
+use Rattle.std.proofs.lemmas.Int.{to_z-of_z}
+use Rattle.teco_core.specs.Register.{numbered}
+use Rattle.teco_core.proofs.Holdings.{map-changed}
+use Rattle.teco_core.proofs.register.Registers.set_number.Goals as goal
+
+pub returns-clause-put : goal.returns-clause-put
+returns-clause-put c =
+    let held = c.self.inside.values in
+    let fits : FitsSigned w32 c.args.number = search rules in
+    rw (← c.self.view_is, ← c.index.ensures.value)
+    (map-changed held c.index.result c.index-self-index.result _ (numbered c.args.number) (omega arith) (rw (to_z-of_z w32 c.args.number fits)))

@@ -1,0 +1,10 @@
+use Rattle.std.proofs.Common.{ap, arith}
+use Rattle.teco_core.specs.Contents.{content_of}
+use Rattle.teco_core.proofs.Holdings.{map-changed}
+use Rattle.teco_core.proofs.register.Registers.swap.Goals as goal
+
+pub returns-clause-put : goal.returns-clause-put
+returns-clause-put c =
+    let held = c.self.inside.values in
+    rw (← c.self.view_is, ← c.index.ensures.value)
+    (map-changed held c.index.result c.index-self-index.result _ (λ _. content_of c.args.value.now) (omega arith) (ap content_of c.swap.ensures.x_after))

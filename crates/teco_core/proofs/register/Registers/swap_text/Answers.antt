@@ -1,0 +1,10 @@
+use Rattle.std.proofs.Common.{arith}
+use Rattle.teco_core.specs.Register.{texted}
+use Rattle.teco_core.proofs.Holdings.{map-changed}
+use Rattle.teco_core.proofs.register.Registers.swap_text.Goals as goal
+
+pub returns-clause-put : goal.returns-clause-put
+returns-clause-put c =
+    let held = c.self.inside.values in
+    rw (← c.self.view_is, ← c.index.ensures.value)
+    (map-changed held c.index.result c.index-self-index.result _ (texted c.args.text.now.items) (omega arith) (rw c.swap.ensures.x_after))
