@@ -1,0 +1,17 @@
+//! The spelling of tokens, and the tree of blocks that they make of a text.
+#![tactic(auto)]
+
+mod blocks;
+mod command;
+mod scan;
+mod table;
+mod token;
+
+pub use blocks::Kind;
+pub use command::{
+    Arithmetic, Bare, BlockMark, Command, Form, LevelCommand, Modifiers, Name, Quantity,
+    RegisterCommand, Row, Test, TextCommand,
+};
+pub use scan::token_at;
+pub use table::ROWS;
+pub use token::{Found, Item, Span, Token, TokenKind};

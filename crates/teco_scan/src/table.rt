@@ -1,0 +1,42 @@
+//! The table of commands.
+use crate::command::{
+    Arithmetic, Bare, Command, Form, Modifiers, Name, Quantity, Row, TextCommand,
+};
+use teco_core::Op;
+
+const ESCAPE: u8 = 27;
+
+const NONE: Modifiers = Modifiers {
+    at: false,
+    colons: 0,
+};
+
+const ANY: Modifiers = Modifiers {
+    at: true,
+    colons: 2,
+};
+
+macro_rules! rows {
+    ($($name:expr, $allows:expr, $form:expr;)*) => {
+        [$(Row { name: $name, allows: $allows, form: $form }),*]
+    };
+}
+
+/// Every command but the run of digits. A longer name comes before one that begins it.
+pub const ROWS: [Row; 15] = rows! {
+    Name::Three(b'=', b'=', b'='), ANY, Form::Refused;
+    Name::Two(b'=', b'='), NONE, Form::Refused;
+    Name::One(b'B'), NONE, Form::Bare(Bare::Quantity(Quantity::Beginning));
+    Name::One(b'Z'), NONE, Form::Bare(Bare::Quantity(Quantity::End));
+    Name::One(b'.'), NONE, Form::Bare(Bare::Quantity(Quantity::Pointer));
+    Name::One(b'+'), NONE, Form::Bare(Bare::Arithmetic(Arithmetic::Operator(Op::Plus)));
+    Name::One(b'-'), NONE, Form::Bare(Bare::Arithmetic(Arithmetic::Operator(Op::Minus)));
+    Name::One(b'*'), NONE, Form::Bare(Bare::Arithmetic(Arithmetic::Operator(Op::Times)));
+    Name::One(b'/'), NONE, Form::Bare(Bare::Arithmetic(Arithmetic::Operator(Op::Over)));
+    Name::One(b'J'), NONE, Form::Bare(Bare::Command(Command::Jump));
+    Name::One(b'C'), NONE, Form::Bare(Bare::Command(Command::Forward));
+    Name::One(b'T'), NONE, Form::Bare(Bare::Command(Command::TypeOut));
+    Name::One(b'='), NONE, Form::Bare(Bare::Command(Command::Print));
+    Name::One(ESCAPE), NONE, Form::Escape;
+    Name::One(b'I'), NONE, Form::Text(TextCommand::Insert, ESCAPE);
+};
