@@ -1,0 +1,10 @@
+//! One step of a token, line places, and terminals.
+#![tactic(auto)]
+
+mod memory_terminal;
+mod terminal;
+mod writer_terminal;
+
+pub use memory_terminal::MemoryTerminal;
+pub use terminal::{Terminal, TerminalFault};
+pub use writer_terminal::WriterTerminal;

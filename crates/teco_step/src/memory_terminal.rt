@@ -1,0 +1,72 @@
+//! A terminal that keeps its bytes in memory.
+ghost use Rattle.std.specs.Prelude.{◌≡◌, ℕ, [], Some, OnErr};
+ghost use Rattle.teco_step.specs.Terminal.{Puts};
+
+use crate::terminal::{Terminal, TerminalFault};
+use std::alloc::Global;
+
+/// A terminal that keeps all that is shown. A growth that is refused is a failure, and then nothing is added.
+#[derive(Drop)]
+pub struct MemoryTerminal {
+    bytes: Vec<u8>,
+    failures: u64,
+}
+
+impl MemoryTerminal {
+    /// A terminal that has shown nothing. Takes no memory.
+    pub fn new(alloc: Global) -> MemoryTerminal
+        ensures shown { ⟦<MemoryTerminal as Terminal>⟧.shown result ≡ Some [] }
+        ensures failures { ⟦<MemoryTerminal as Terminal>⟧.failures result ≡ 0 }
+    {
+        MemoryTerminal {
+            bytes: Vec::new(alloc),
+            failures: 0,
+        }
+    }
+
+    /// All that it has shown.
+    pub fn bytes(&self) -> &[u8]
+        ensures { ⟦<MemoryTerminal as Terminal>⟧.shown self.now ≡ Some result.now }
+    {
+        self.bytes.as_slice()
+    }
+}
+
+impl Terminal for MemoryTerminal {
+    ghost shown = { λ terminal. Some terminal.bytes.items };
+
+    ghost failures = { λ terminal. terminal.failures };
+
+    fn put(&mut self, bytes: &[u8]) -> Result<(), TerminalFault>
+        ensures puts { Puts ⟦<MemoryTerminal as Terminal>⟧.shown ⟦<MemoryTerminal as Terminal>⟧.failures self.old self.new bytes.now result }
+        ensures nothing_added { OnErr result (⟦<MemoryTerminal as Terminal>⟧.shown self.new ≡ ⟦<MemoryTerminal as Terminal>⟧.shown self.old) }
+    {
+        if self.bytes.extend_from_slice(bytes).is_err() {
+            self.failures = self.failures.wrapping_add(1);
+            return Err(TerminalFault);
+        }
+        Ok(())
+    }
+}
+
+#[cfg(test)]
+mod tests {
+    use super::*;
+
+    // A put that is refused adds nothing, and the same put can be tried again.
+    #[test]
+    fn keeps_what_is_shown(rt: HostRuntime) {
+        let mut terminal = MemoryTerminal::new(rt.alloc());
+        if terminal.put(b"1").is_err() {
+            assert_eq!(rt; terminal.bytes(), b"".as_slice());
+            assert_eq!(rt; terminal.failures, 1);
+            assert!(rt; terminal.put(b"1").is_ok());
+        }
+        assert!(rt; terminal.put(b"").is_ok());
+        if terminal.put(b"=23456789012345\r\n").is_err() {
+            assert_eq!(rt; terminal.bytes(), b"1".as_slice());
+            assert!(rt; terminal.put(b"=23456789012345\r\n").is_ok());
+        }
+        assert_eq!(rt; terminal.bytes(), b"1=23456789012345\r\n".as_slice());
+    }
+}

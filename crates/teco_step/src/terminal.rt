@@ -1,0 +1,23 @@
+//! Terminals.
+ghost use Rattle.std.specs.Prelude.{ℕ, List, Option};
+ghost use Rattle.teco_step.specs.Terminal.{Puts};
+
+use thiserror::Error;
+
+/// A put failed. The terminal's count of failures rose too.
+#[derive(Debug, Drop, Error)]
+#[error("cannot show")]
+pub struct TerminalFault;
+
+/// What the typed bytes are put on.
+pub trait Terminal {
+    // the bytes shown so far, where the terminal tells them
+    ghost shown: { Self → Option (List ℕ) };
+
+    // how often a put has failed, modulo 2^64
+    ghost failures: { Self → ℕ };
+
+    /// Shows the bytes. Where it fails, a beginning of them is shown, and the count of failures rises by one.
+    fn put(&mut self, bytes: &[u8]) -> Result<(), TerminalFault>
+        ensures { Puts shown failures self.old self.new bytes.now result };
+}

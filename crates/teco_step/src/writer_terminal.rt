@@ -1,0 +1,130 @@
+//! A terminal over a writer.
+ghost use Rattle.std.specs.Io.KnownBytes.{Appends};
+ghost use Rattle.std.specs.Prelude.{◌≡◌, ℕ, List, OnErr, OnOk};
+ghost use Rattle.teco_step.specs.Terminal.{IsFrontOf};
+
+use crate::terminal::{Terminal, TerminalFault};
+use std::io::Write;
+
+/// A terminal that writes all that is shown to a writer, and flushes it after each put.
+///
+/// An error of the writer, or a write that takes nothing, is a failure.
+#[derive(Drop)]
+pub struct WriterTerminal<W: Write + Drop> {
+    writer: W,
+    failures: u64,
+}
+
+impl<W: Write + Drop> WriterTerminal<W> {
+    /// A terminal that goes on after what the writer has.
+    pub fn new(writer: W) -> WriterTerminal<W>
+        ensures shown { ⟦<WriterTerminal<W> as Terminal>⟧.shown result ≡ W.contents writer }
+        ensures failures { ⟦<WriterTerminal<W> as Terminal>⟧.failures result ≡ 0 }
+    {
+        WriterTerminal {
+            writer,
+            failures: 0,
+        }
+    }
+}
+
+/// Writes the bytes and flushes. Where it fails, a beginning of them is written.
+fn write_flushed<W: Write>(writer: &mut W, bytes: &[u8]) -> Result<(), TerminalFault>
+    ensures ok { OnOk result (Appends (W.contents writer.old) (W.contents writer.new) bytes.now) }
+    ensures err { OnErr result ((front : List ℕ) × IsFrontOf front bytes.now × Appends (W.contents writer.old) (W.contents writer.new) front) }
+{
+    let mut at = 0;
+    while at < bytes.len() {
+        match writer.write(&bytes[at..]) {
+            Ok(0) => return Err(TerminalFault),
+            Ok(n) => at += n,
+            Err(_) => return Err(TerminalFault),
+        }
+    }
+    match writer.flush() {
+        Ok(()) => Ok(()),
+        Err(_) => Err(TerminalFault),
+    }
+}
+
+impl<W: Write + Drop> Terminal for WriterTerminal<W> {
+    ghost shown = { λ terminal. W.contents terminal.writer };
+
+    ghost failures = { λ terminal. terminal.failures };
+
+    fn put(&mut self, bytes: &[u8]) -> Result<(), TerminalFault> {
+        let written = write_flushed(&mut self.writer, bytes);
+        if written.is_err() {
+            self.failures = self.failures.wrapping_add(1);
+        }
+        written
+    }
+}
+
+#[cfg(test)]
+mod tests {
+    use super::*;
+    use std::io;
+
+    /// Takes at most two bytes a write, and `left` in all; then it fails, or takes nothing.
+    #[derive(Drop)]
+    struct Narrow {
+        taken: [u8; 8],
+        len: usize,
+        left: usize,
+        fails: bool,
+    }
+
+    impl Write for Narrow {
+        fn write(&mut self, bytes: &[u8]) -> io::Result<usize> {
+            if self.left == 0 && self.fails {
+                return Err(io::Error::from(io::ErrorKind::Other));
+            }
+            let left = self.left;
+            let n = left.min(2).min(bytes.len());
+            for byte in &bytes[..n] {
+                if self.len < 8 {
+                    self.taken[self.len] = *byte;
+                    self.len += 1;
+                }
+            }
+            self.left = left - n;
+            Ok(n)
+        }
+
+        fn flush(&mut self) -> io::Result<()> {
+            Ok(())
+        }
+    }
+
+    fn over_narrow(left: usize, fails: bool) -> WriterTerminal<Narrow> {
+        WriterTerminal::new(Narrow {
+            taken: [0; 8],
+            len: 0,
+            left,
+            fails,
+        })
+    }
+
+    #[test]
+    fn writes_all_or_fails(rt: HostRuntime) {
+        let mut all = over_narrow(8, true);
+        assert!(rt; all.put(b"hello").is_ok());
+        assert_eq!(rt;
+            &all.writer.taken[..all.writer.len.min(8)],
+            b"hello".as_slice()
+        );
+        assert_eq!(rt; all.failures, 0);
+
+        for fails in [false, true] {
+            let mut part = over_narrow(3, fails);
+            assert!(rt; part.put(b"hello").is_err());
+            assert_eq!(rt;
+                &part.writer.taken[..part.writer.len.min(8)],
+                b"hel".as_slice()
+            );
+            assert!(rt; part.put(b"!").is_err());
+            assert_eq!(rt; part.failures, 2);
+        }
+    }
+}
