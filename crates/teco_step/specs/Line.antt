@@ -1,0 +1,23 @@
+-- Lines: a line ends at a line feed, a vertical tab or a form feed.
+use Rattle.std.specs.Prelude.{if◌then◌else◌, ℕ, zero, suc, ◌+◌, Bool, ◌||◌, List, [], ◌∷◌, length, reverse, filter, slice_get, Option, Some, None, ℤ, pos, negsuc, nat_abs, nat_le, nat_lt, ◌==◌}
+
+abbrev pub is_line_end : ℕ → Bool
+is_line_end b = b == 10 || b == 11 || b == 12
+
+-- the places of the line ends of bytes that begin at a place, rising
+unfoldable pub line_ends_from : ℕ → List ℕ → List ℕ
+line_ends_from place [] = []
+line_ends_from place (b ∷ bs) = if is_line_end b then place ∷ line_ends_from (suc place) bs else line_ends_from (suc place) bs
+
+abbrev pub line_ends : List ℕ → List ℕ
+line_ends text = line_ends_from 0 text
+
+abbrev pub behind : Option ℕ → ℕ → ℕ
+behind (Some place) otherwise = place + 1
+behind None otherwise = otherwise
+
+-- The place of line n, as seen from a place: for n above 0 one past the nth line end from there on, or the end of the text; for
+-- other n one past the line end that is number 1-n, counted backward, among those before there, or 0.
+abbrev pub line : List ℕ → ℕ → ℤ → ℕ
+line text from (pos (suc n)) = behind (slice_get (filter (λ place. nat_le from place) (line_ends text)) n) (length text)
+line text from n = behind (slice_get (reverse (filter (λ place. nat_lt place from) (line_ends text))) (nat_abs n)) 0

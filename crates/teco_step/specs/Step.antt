@@ -1,0 +1,123 @@
+-- One step of a command string, and what commands have in common.
+use Rattle.std.specs.Prelude.{ℕ, min, max, List, [], length, Option, Result, Ok, Err, ℤ, pos, negsuc, Bool, nat_le, if◌then◌else◌}
+use Rattle.teco_core.specs.declared.code.Code.{Code}
+use Rattle.teco_core.specs.declared.code.Code.TheVariants.{Arg, Ill, Pop}
+use Rattle.teco_core.specs.declared.arguments.Taken.{Taken}
+use Rattle.teco_core.specs.declared.arguments.Taken.TheVariants as taken
+use Rattle.teco_core.specs.Refusal.{◌>>=◌}
+use Rattle.teco_core.specs.Arguments.{Arguments, no_arguments, give, taken_from}
+use Rattle.teco_scan.specs.declared.command.Modifiers.{Modifiers}
+use Rattle.teco_store.specs.State.{State}
+use Rattle.teco_step.specs.declared.next.Work.{Work}
+use Rattle.teco_step.specs.Line.{line}
+
+-- How a step ends.
+pub data End : Type 0 where
+  on : End  -- the string goes on
+  leave : End  -- the innermost iteration is left
+  go : (name : List ℕ) → End  -- to the tag of this name
+  call : (text : List ℕ) → End  -- this text is run
+  out : End  -- after an exit
+  again : (work : Work) → End  -- the same token has a further step
+  stop : (c : Code) → End  -- an error
+
+-- One step: the new state and arguments, the bytes that it types, the load of its change, and its end.
+pub record Step : Type 0 where
+  pub state : State
+  pub arguments : Arguments
+  pub typed : List ℕ
+  pub load : ℕ
+  pub end : End
+
+-- What surrounds a step: the token's modifiers; what is left of it after an earlier step; whether an iteration of the same text
+-- is open; and whether a `;` without modifiers comes next.
+pub record Setting : Type 0 where
+  pub modifiers : Modifiers
+  pub work : Option Work
+  pub inside : Bool
+  pub before : Bool
+
+-- a step, or the code by which it is refused with nothing changed
+abbrev pub Tried : Type 0
+Tried = Result Step Code
+
+-- A refused step leaves all as it was.
+abbrev pub settled : State → Arguments → Tried → Step
+settled s a (Ok step) = step
+settled s a (Err c) = record { state = s; arguments = a; typed = []; load = 0; end = stop c }
+
+-- What a command does that has taken its arguments: a new state, with the load of the change.
+abbrev pub changes : State → ℕ → Tried
+changes s load = Ok (record { state = s; arguments = no_arguments; typed = []; load = load; end = on })
+
+-- It types bytes.
+abbrev pub types : State → List ℕ → Tried
+types s bytes = Ok (record { state = s; arguments = no_arguments; typed = bytes; load = 0; end = on })
+
+-- It leaves these arguments.
+abbrev pub leaves : State → Arguments → Tried
+leaves s a = Ok (record { state = s; arguments = a; typed = []; load = 0; end = on })
+
+-- It gives a value.
+abbrev pub gives : State → Arguments → ℤ → Tried
+gives s a v = do
+  given ← give v a
+  leaves s given
+
+-- A command that isn't built is none.
+abbrev pub unbuilt : Tried
+unbuilt = Err Ill
+
+-- What a command takes: one number, or this one where there is none;
+abbrev pub one_or : ℤ → Taken → Result ℤ Code
+one_or default taken.None = Ok default
+one_or default (taken.One n) = Ok n
+one_or default (taken.Two m n) = Err Arg
+
+abbrev pub takes_one_or : ℤ → Arguments → Result ℤ Code
+takes_one_or default a = do
+  t ← taken_from a
+  one_or default t
+
+-- one number, or this code where there is none.
+abbrev pub just_one : Code → Taken → Result ℤ Code
+just_one c taken.None = Err c
+just_one c (taken.One n) = Ok n
+just_one c (taken.Two m n) = Err Arg
+
+abbrev pub takes_one : Code → Arguments → Result ℤ Code
+takes_one c a = do
+  t ← taken_from a
+  just_one c t
+
+-- a byte
+abbrev pub as_byte : ℤ → Result ℕ Code
+as_byte (pos n) = if nat_le n 255 then Ok n else Err Arg
+as_byte (negsuc n) = Err Arg
+
+-- a place in the text, or this code
+abbrev pub place_or : Code → State → ℤ → Result ℕ Code
+place_or c s (pos n) = if nat_le n (length s.text) then Ok n else Err c
+place_or c s (negsuc n) = Err c
+
+-- from one place up to another
+pub record Range : Type 0 where
+  pub low : ℕ
+  pub high : ℕ
+
+abbrev pub rising : ℕ → ℕ → Range
+rising p q = record { low = min p q; high = max p q }
+
+-- What a command reaches: n lines from the pointer, or the range m,n, which must lie in the text; one line where there is nothing.
+abbrev pub reached : State → Taken → Result Range Code
+reached s taken.None = Ok (rising s.pointer (line s.text s.pointer (pos 1)))
+reached s (taken.One n) = Ok (rising s.pointer (line s.text s.pointer n))
+reached s (taken.Two m n) = do
+  p ← place_or Pop s m
+  q ← place_or Pop s n
+  Ok (rising p q)
+
+abbrev pub takes_reach : State → Arguments → Result Range Code
+takes_reach s a = do
+  t ← taken_from a
+  reached s t

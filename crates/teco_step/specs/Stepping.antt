@@ -1,0 +1,76 @@
+-- What a step may do on a desk and a terminal: what its effect says; or, with nothing changed, want of memory; or a failed put.
+use Rattle.std.specs.Prelude.{◌≡◌, ◌≢◌, ℕ, List, [], Option, Some, None, Bool, true, false, ◌⊎◌}
+use Rattle.teco_core.specs.declared.code.Code.{Code}
+use Rattle.teco_core.specs.declared.code.Code.TheVariants.{Mem, Tty}
+use Rattle.teco_core.specs.Arguments.{Arguments}
+use Rattle.teco_scan.specs.Scan.{Item}
+use Rattle.teco_scan.specs.Scan.Item as item
+use Rattle.teco_scan.specs.declared.command.Bare.TheVariants as bare
+use Rattle.teco_scan.specs.declared.command.RegisterCommand.TheVariants as register_command
+use Rattle.teco_store.specs.State.{State}
+use Rattle.teco_store.specs.Trail.{Trail, moved}
+use Rattle.teco_step.specs.Terminal.{Shows, IsFrontOf}
+use Rattle.teco_step.specs.Step.{Step, End, on, leave, go, call, out, again, stop}
+use Rattle.teco_step.specs.declared.next.Next.{Next}
+use Rattle.teco_step.specs.declared.next.Next.TheVariants as next
+
+-- how a step ends, as what it leads to says; a jump's name is the token's
+abbrev pub end_of : List ℕ → Next → End
+end_of name next.On = on
+end_of name next.Leave = leave
+end_of name next.Go = go name
+end_of name (next.Call text) = call text.items
+end_of name next.Out = out
+end_of name (next.Again work) = again work
+end_of name (next.Error c) = stop c
+
+-- the code says that a step was begun and not done
+abbrev pub is_unfinished_code : Code → Bool
+is_unfinished_code Mem = true
+is_unfinished_code Tty = true
+is_unfinished_code c = false
+
+abbrev pub is_unfinished : Next → Bool
+is_unfinished (next.Error c) = is_unfinished_code c
+is_unfinished n = false
+
+-- what is seen of a desk and a terminal around a step: the states, and what a step shows is said of the terminals
+pub record IsDone {T : Type 0} (shown : T → Option (List ℕ)) (failures : T → ℕ) (e : Step) (name : List ℕ) (new : State) (arguments : Arguments) (before after : T) (n : Next) : Type 0 where
+  pub state : new ≡ e.state
+  pub arguments : arguments ≡ e.arguments
+  pub end : end_of name n ≡ e.end
+  pub finished : is_unfinished n ≡ false
+  pub shows : Shows shown failures before after e.typed false
+
+-- memory was refused, and nothing changed
+pub record LacksMemory {T : Type 0} (shown : T → Option (List ℕ)) (failures : T → ℕ) (old new : State) (before after : T) (n : Next) : Type 0 where
+  pub code : n ≡ next.Error Mem
+  pub state : new ≡ old
+  pub shows : Shows shown failures before after [] false
+
+-- a put failed: of the step's bytes, of which there are some, a beginning is shown, and nothing changed
+pub record LacksTerminal {T : Type 0} (shown : T → Option (List ℕ)) (failures : T → ℕ) (e : Step) (old new : State) (before after : T) (n : Next) : Type 0 where
+  pub code : n ≡ next.Error Tty
+  pub state : new ≡ old
+  pub types : e.typed ≢ []
+  pub front : List ℕ
+  pub beginning : IsFrontOf front e.typed
+  pub shows : Shows shown failures before after front true
+
+abbrev pub Steps : {T : Type 0} → (T → Option (List ℕ)) → (T → ℕ) → Step → List ℕ → State → State → Arguments → T → T → Next → Type 0
+Steps shown failures e name old new arguments before after n =
+    IsDone shown failures e name new arguments before after n
+    ⊎ (LacksMemory shown failures old new before after n ⊎ LacksTerminal shown failures e old new before after n)
+
+-- what a desk follows after a step of this load
+abbrev pub trail_after : Next → Trail → ℕ → Trail
+trail_after n t load = elim (is_unfinished n) [ true ↦ t | false ↦ moved t load ]
+
+-- Values and arithmetic take nothing: no memory, and no arguments.
+abbrev pub takes_nothing : Item → Bool
+takes_nothing (item.digits ds) = true
+takes_nothing (item.bare (bare.Quantity q)) = true
+takes_nothing (item.bare (bare.Arithmetic b)) = true
+takes_nothing (item.byte b) = true
+takes_nothing (item.register register_command.Number q) = true
+takes_nothing i = false

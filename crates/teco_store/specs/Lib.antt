@@ -1,0 +1,4 @@
+pub mod Refused
+pub mod State
+pub mod Trail
+pub mod View

@@ -1,0 +1,67 @@
+-- The editing state, its beginning, and its limits.
+use Rattle.std.specs.Prelude.{ℕ, ◌^◌, ◌≤◌, Bool, false, List, [], ◌++◌, ◌+◌, length, take, drop, Option, Some, None}
+use Rattle.teco_core.specs.declared.case_mode.CaseMode.{CaseMode}
+use Rattle.teco_core.specs.declared.case_mode.CaseMode.TheVariants.{Exact}
+use Rattle.teco_core.specs.Register.{Content, blank_registers}
+
+pub record State : Type 0 where
+  pub text : List ℕ  -- of the buffer
+  pub pointer : ℕ  -- from 0 to the text's length
+  pub registers : List Content  -- 36, A to Z and 0 to 9
+  pub pushed : List Content  -- at most 64, the last pushed first
+  pub input : List ℕ
+  pub place : ℕ  -- in the input
+  pub output : List ℕ
+  pub form_feed : Bool  -- whether a form feed ended the page
+  pub last_search : Option (List ℕ)  -- the last search text
+  pub last_found : Bool  -- the last search result
+  pub is_done : Bool  -- after an exit
+  pub case_mode : CaseMode
+
+-- the beginning, with this input
+abbrev pub beginning : List ℕ → State
+beginning input = record {
+  text = [];
+  pointer = 0;
+  registers = blank_registers;
+  pushed = [];
+  input = input;
+  place = 0;
+  output = [];
+  form_feed = false;
+  last_search = None;
+  last_found = false;
+  is_done = false;
+  case_mode = Exact;
+}
+
+-- the most bytes of the buffer, of each register's text and of the last search text
+abbrev pub text_limit : ℕ
+text_limit = 2 ^ 24
+
+-- the most bytes of the input, and of the output
+abbrev pub file_limit : ℕ
+file_limit = 2 ^ 30
+
+-- The pointer is in the text and the place in the input, and the text is within its limit.
+pub record IsSound (s : State) : Type 0 where
+  pub pointer : s.pointer ≤ length s.text
+  pub text : length s.text ≤ text_limit
+  pub place : s.place ≤ length s.input
+  pub input : length s.input ≤ file_limit
+
+-- a text with these bytes for those between two places
+abbrev pub replaced : List ℕ → ℕ → ℕ → List ℕ → List ℕ
+replaced text low high put = take low text ++ (put ++ drop high text)
+
+-- the pointer is put at a place, or behind the bytes that were put in
+abbrev pub pointer_after : ℕ → List ℕ → Option ℕ → ℕ
+pointer_after at put (Some place) = place
+pointer_after at put None = at + length put
+
+-- these bytes for so many at a place
+abbrev pub spliced : State → ℕ → ℕ → List ℕ → Option ℕ → State
+spliced s at deleted put point = record s { text = replaced s.text at (at + deleted) put; pointer = pointer_after at put point }
+
+abbrev pub pointed : State → ℕ → State
+pointed s place = record s { pointer = place }

@@ -1,0 +1,21 @@
+-- What contracts see of an editor.
+use Rattle.std.specs.Prelude.{◌≤◌, List, length, option_map}
+use Rattle.teco_gap.specs.Gap.{text}
+use Rattle.teco_store.specs.State.{State}
+use Rattle.teco_store.specs.declared.editor.Editor.TheInside.{Inside}
+
+abbrev pub state_in : Inside → State
+state_in e = record {
+  text = text e.text;
+  pointer = e.pointer;
+  registers = e.registers;
+  pushed = e.pushed;
+  input = e.input.items;
+  place = e.place;
+  output = e.output.items;
+  form_feed = e.form_feed;
+  last_search = option_map (λ v. v.items) e.last_search;
+  last_found = e.last_found;
+  is_done = e.done;
+  case_mode = e.case_mode;
+}

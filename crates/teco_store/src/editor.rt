@@ -1,0 +1,188 @@
+//! The editor: one editing state.
+ghost use Rattle.std.specs.Prelude.{◌≡◌, ◌≤◌, [], vec_len, IfOk, OnOk};
+ghost use Rattle.teco_gap.specs.Gap.{text};
+ghost use Rattle.teco_store.specs.State.{beginning, file_limit};
+
+use crate::desk::{Desk, Refused};
+use std::alloc::Global;
+use std::marker::Model;
+use teco_core::{CaseMode, NoMemory, PushList, Registers};
+use teco_gap::GapBuffer;
+
+/// The most bytes of the buffer.
+const TEXT_LIMIT: usize = 1 << 24;
+
+/// The editing state: the buffer with its pointer, the registers and the push-down list, the input and the output, and what the last
+/// search left.
+#[derive(Drop)]
+pub struct Editor {
+    text: GapBuffer,
+    pointer: usize,
+    registers: Registers,
+    pushed: PushList,
+    input: Vec<u8>,
+    place: usize,
+    output: Vec<u8>,
+    form_feed: bool,
+    last_search: Option<Vec<u8>>,
+    last_found: bool,
+    done: bool,
+    case_mode: CaseMode,
+}
+
+impl Model for Editor {
+    ghost use Rattle.teco_store.specs.State.{State, IsSound};
+
+    ghost Value = { State };
+
+    ghost use Rattle.teco_store.specs.View.{state_in};
+
+    ghost view = { state_in };
+
+    ghost invariant = { λ e. IsSound (state_in e) };
+}
+
+impl Editor {
+    /// The beginning of a session with this input. Takes no memory.
+    pub fn new(input: Vec<u8>) -> Editor
+        requires { vec_len input ≤ file_limit }
+        ensures { result ≡ beginning input.items }
+    {
+        let alloc = *input.allocator();
+        Editor {
+            text: GapBuffer::new(),
+            pointer: 0,
+            registers: Registers::new(alloc),
+            pushed: PushList::new(alloc),
+            input,
+            place: 0,
+            output: Vec::new(alloc),
+            form_feed: false,
+            last_search: None,
+            last_found: false,
+            done: false,
+            case_mode: CaseMode::Exact,
+        }
+    }
+
+    /// The same state again, in memory of its own.
+    pub fn copy(&self) -> Result<Editor, NoMemory>
+        ensures { IfOk result (λ editor. editor ≡ self.now) }
+    {
+        let last_search = match &self.last_search {
+            None => None,
+            Some(text) => Some(text.clone()?),
+        };
+        let mut text = GapBuffer::new();
+        copy_text(*self.input.allocator(), &self.text, &mut text)?;
+        Ok(Editor {
+            text,
+            pointer: self.pointer,
+            registers: self.registers.copy()?,
+            pushed: self.pushed.copy()?,
+            input: self.input.clone()?,
+            place: self.place,
+            output: self.output.clone()?,
+            form_feed: self.form_feed,
+            last_search,
+            last_found: self.last_found,
+            done: self.done,
+            case_mode: self.case_mode,
+        })
+    }
+}
+
+// Puts the text of a buffer into an empty one.
+fn copy_text(alloc: Global, from: &GapBuffer, to: &mut GapBuffer) -> Result<(), NoMemory>
+    requires { text to.old ≡ [] }
+    ensures { OnOk result (text to.new ≡ text from.now) }
+{
+    let (before, after) = from.halves();
+    to.reserve(alloc, before.len() + after.len())?;
+    to.splice(0, 0, before);
+    to.splice(before.len(), 0, after);
+    Ok(())
+}
+
+impl Desk for Editor {
+    ghost state = { λ e. e };
+
+    ghost follows = { λ _ _. Unit {0} };
+
+    ghost eases = { λ _ _ h. h };
+
+    fn halves(&self) -> (&[u8], &[u8]) {
+        self.text.halves()
+    }
+
+    fn pointer(&self) -> usize {
+        self.pointer
+    }
+
+    fn registers(&self) -> &Registers {
+        &self.registers
+    }
+
+    fn pushed(&self) -> &PushList {
+        &self.pushed
+    }
+
+    fn place(&self) -> usize {
+        self.place
+    }
+
+    fn output(&self) -> &[u8] {
+        &self.output
+    }
+
+    fn flag(&self) -> bool {
+        self.form_feed
+    }
+
+    fn last_search(&self) -> Option<&[u8]> {
+        match &self.last_search {
+            None => None,
+            Some(text) => Some(text.as_slice()),
+        }
+    }
+
+    fn last_result(&self) -> bool {
+        self.last_found
+    }
+
+    fn done(&self) -> bool {
+        self.done
+    }
+
+    fn case_mode(&self) -> CaseMode {
+        self.case_mode
+    }
+
+    fn splice(
+        &mut self,
+        at: usize,
+        del: usize,
+        ins: &[u8],
+        point: Option<usize>,
+    ) -> Result<(), Refused> {
+        let kept = self.text.len() - del;
+        if ins.len() > TEXT_LIMIT - kept {
+            return Err(Refused::Big);
+        }
+        self.text
+            .reserve(*self.input.allocator(), kept + ins.len())?;
+        self.text.splice(at, del, ins);
+        self.pointer = match point {
+            Some(place) => place,
+            None => at + ins.len(),
+        };
+        Ok(())
+    }
+
+    fn point(&mut self, place: usize) -> Result<(), Refused> {
+        self.pointer = place;
+        Ok(())
+    }
+
+    fn step_done(&mut self, _steps: u64) {}
+}
