@@ -7,7 +7,7 @@ use Rattle.teco_scan.specs.declared.command.Command.TheVariants as command
 use Rattle.teco_scan.specs.declared.command.TextCommand.{TextCommand}
 use Rattle.teco_scan.specs.declared.command.TextCommand.TheVariants as text_command
 use Rattle.teco_scan.specs.Scan.{Item}
-use Rattle.teco_scan.specs.Scan.Item as item
+use Rattle.teco_scan.specs.Scan as token
 use Rattle.teco_core.specs.Arguments.{Arguments}
 use Rattle.teco_store.specs.State.{State}
 use Rattle.teco_step.specs.Step.{Setting, Step, Tried, settled, unbuilt}
@@ -34,9 +34,9 @@ text_effect text_command.Insert text w = insert text
 text_effect c text w = λ s a. unbuilt
 
 abbrev pub item_effect : Item → Setting → State → Arguments → Tried
-item_effect (item.digits ds) w = number ds
-item_effect (item.bare b) w = bare_effect b w
-item_effect (item.text c text) w = text_effect c text w
+item_effect (token.digits ds) w = number ds
+item_effect (token.bare b) w = bare_effect b w
+item_effect (token.text c text) w = text_effect c text w
 item_effect i w = λ s a. unbuilt
 
 -- One step of a token, its first or a further one.

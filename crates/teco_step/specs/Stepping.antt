@@ -4,7 +4,7 @@ use Rattle.teco_core.specs.declared.code.Code.{Code}
 use Rattle.teco_core.specs.declared.code.Code.TheVariants.{Mem, Tty}
 use Rattle.teco_core.specs.Arguments.{Arguments}
 use Rattle.teco_scan.specs.Scan.{Item}
-use Rattle.teco_scan.specs.Scan.Item as item
+use Rattle.teco_scan.specs.Scan as token
 use Rattle.teco_scan.specs.declared.command.Bare.TheVariants as bare
 use Rattle.teco_scan.specs.declared.command.RegisterCommand.TheVariants as register_command
 use Rattle.teco_store.specs.State.{State}
@@ -68,9 +68,9 @@ trail_after n t load = elim (is_unfinished n) [ true ↦ t | false ↦ moved t l
 
 -- Values and arithmetic take nothing: no memory, and no arguments.
 abbrev pub takes_nothing : Item → Bool
-takes_nothing (item.digits ds) = true
-takes_nothing (item.bare (bare.Quantity q)) = true
-takes_nothing (item.bare (bare.Arithmetic b)) = true
-takes_nothing (item.byte b) = true
-takes_nothing (item.register register_command.Number q) = true
+takes_nothing (token.digits ds) = true
+takes_nothing (token.bare (bare.Quantity q)) = true
+takes_nothing (token.bare (bare.Arithmetic b)) = true
+takes_nothing (token.byte b) = true
+takes_nothing (token.register register_command.Number q) = true
 takes_nothing i = false

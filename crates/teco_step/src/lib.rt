@@ -2,9 +2,11 @@
 #![tactic(auto)]
 
 mod memory_terminal;
+mod next;
 mod terminal;
 mod writer_terminal;
 
 pub use memory_terminal::MemoryTerminal;
+pub use next::{Next, Work};
 pub use terminal::{Terminal, TerminalFault};
 pub use writer_terminal::WriterTerminal;
