@@ -1,2 +1,5 @@
 pub mod Scan
+pub mod Table
+pub mod Spelling
 pub mod Seen
+pub mod Tree
