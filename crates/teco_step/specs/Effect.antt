@@ -1,5 +1,5 @@
 -- One step of a token.
-use Rattle.std.specs.Prelude.{List}
+use Rattle.std.specs.Prelude.{ℕ, List}
 use Rattle.teco_scan.specs.declared.command.Bare.{Bare}
 use Rattle.teco_scan.specs.declared.command.Bare.TheVariants as bare
 use Rattle.teco_scan.specs.declared.command.Command.{Command}

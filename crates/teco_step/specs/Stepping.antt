@@ -35,9 +35,9 @@ is_unfinished (next.Error c) = is_unfinished_code c
 is_unfinished n = false
 
 -- what is seen of a desk and a terminal around a step: the states, and what a step shows is said of the terminals
-pub record IsDone {T : Type 0} (shown : T → Option (List ℕ)) (failures : T → ℕ) (e : Step) (name : List ℕ) (new : State) (arguments : Arguments) (before after : T) (n : Next) : Type 0 where
+pub record IsDone {T : Type 0} (shown : T → Option (List ℕ)) (failures : T → ℕ) (e : Step) (name : List ℕ) (new : State) (left : Arguments) (before after : T) (n : Next) : Type 0 where
   pub state : new ≡ e.state
-  pub arguments : arguments ≡ e.arguments
+  pub arguments : left ≡ e.arguments
   pub end : end_of name n ≡ e.end
   pub finished : is_unfinished n ≡ false
   pub shows : Shows shown failures before after e.typed false
@@ -58,8 +58,8 @@ pub record LacksTerminal {T : Type 0} (shown : T → Option (List ℕ)) (failure
   pub shows : Shows shown failures before after front true
 
 abbrev pub Steps : {T : Type 0} → (T → Option (List ℕ)) → (T → ℕ) → Step → List ℕ → State → State → Arguments → T → T → Next → Type 0
-Steps shown failures e name old new arguments before after n =
-    IsDone shown failures e name new arguments before after n
+Steps shown failures e name old new left before after n =
+    IsDone shown failures e name new left before after n
     ⊎ (LacksMemory shown failures old new before after n ⊎ LacksTerminal shown failures e old new before after n)
 
 -- what a desk follows after a step of this load

@@ -1,0 +1,5 @@
+pub mod World
+pub mod Test
+pub mod Meaning
+pub mod StringMeaning
+pub mod Runs

@@ -1,0 +1,53 @@
+-- How a run may end: as its meaning says, or by want of memory or a failed terminal after some whole steps.
+use Rattle.std.specs.Prelude.{◌≡◌, ◌≢◌, ℕ, ◌+◌, ◌<◌, List, Bool, true, false, Option, Some, None}
+use Rattle.teco_core.specs.declared.code.Code.{Code}
+use Rattle.teco_core.specs.declared.code.Code.TheVariants.{Mem, Tty}
+use Rattle.teco_store.specs.State.{State}
+use Rattle.teco_store.specs.Trail.{Trail}
+use Rattle.teco_step.specs.Terminal.{IsFrontOf}
+use Rattle.teco_exec.specs.StringMeaning.{Meant, string_meaning}
+use Rattle.teco_exec.specs.declared.outcome.Outcome.{Outcome}
+
+-- the string ended by itself
+pub record EndsWell (s : State) (text : List ℕ) (limit : ℕ) (outcome : Outcome) (typed : List ℕ) (new : State) : Type 0 where
+  pub code : outcome.code ≡ (string_meaning s text limit).code
+  pub steps : outcome.steps ≡ (string_meaning s text limit).steps
+  pub state : new ≡ (string_meaning s text limit).state
+  pub bytes : typed ≡ (string_meaning s text limit).typed
+
+-- the string ended by want of memory after k whole steps
+pub record EndsByMemory (s : State) (text : List ℕ) (limit k : ℕ) (typed : List ℕ) (new : State) : Type 0 where
+  pub before : k < (string_meaning s text limit).steps
+  pub state : new ≡ (string_meaning s text k).state
+  pub bytes : typed ≡ (string_meaning s text k).typed
+
+-- the terminal failed in the step after k whole steps, which types
+pub record EndsByTerminal (s : State) (text : List ℕ) (limit k : ℕ) (typed : List ℕ) (new : State) : Type 0 where
+  pub before : k < (string_meaning s text limit).steps
+  pub state : new ≡ (string_meaning s text k).state
+  pub types : (string_meaning s text k).typed ≢ (string_meaning s text (k + 1)).typed
+  pub at_least : IsFrontOf (string_meaning s text k).typed typed
+  pub at_most : IsFrontOf typed (string_meaning s text (k + 1)).typed
+
+-- a string from s may have this outcome, type these bytes and leave this state
+abbrev pub Runs : State → List ℕ → ℕ → Outcome → List ℕ → State → Type 0
+Runs s text limit outcome typed new = elim outcome.code [
+  | Some Mem ↦ EndsByMemory s text limit outcome.steps typed new
+  | Some Tty ↦ EndsByTerminal s text limit outcome.steps typed new
+  | _ ↦ EndsWell s text limit outcome typed new
+]
+
+-- the outcome says that the terminal failed
+abbrev pub is_tty : Outcome → Bool
+is_tty outcome = elim outcome.code [ Some Tty ↦ true | _ ↦ false ]
+
+-- what a desk comes through in k steps of a string, from the state before it
+abbrev pub trail_of : State → List ℕ → ℕ → ℕ → Trail
+trail_of s text floor k = record {
+  states = λ i. (string_meaning s text i).state;
+  loads = λ i. (string_meaning s text i).load;
+  steps = k;
+  load = (string_meaning s text k).load;
+  changes = 0;
+  floor = floor;
+}

@@ -1,0 +1,6 @@
+//! The run of a command string.
+#![tactic(auto)]
+
+mod outcome;
+
+pub use outcome::Outcome;
