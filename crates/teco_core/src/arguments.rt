@@ -1,6 +1,9 @@
 //! Arguments: what stands before a command.
+ghost use Rattle.std.specs.Prelude.{◌≡◌, ◌≤◌, ◌<◌, ◌^◌, Ok, Err, OnOk, OnErr, IfErr};
+ghost use Rattle.teco_core.specs.Arguments.{no_arguments, given, waiting, sign_value, ground_value, level_of, emptied, give, operate, open_level, close_level, comma, give_pair, taken_from, with_first};
 
-use crate::number::Op;
+use crate::code::Code;
+use crate::number::{Op, operation};
 
 /// A `+` or `-` before a value.
 #[derive(Clone, Copy, Debug, PartialEq, Eq)]
@@ -37,4 +40,249 @@ pub enum Taken {
     None,
     One(i32),
     Two(i32, i32),
+}
+
+impl Sign {
+    /// A lone sign as a number, 1 or -1.
+    fn value(self) -> i32
+        ensures { result ≡ sign_value self }
+    {
+        match self {
+            Sign::Positive => 1,
+            Sign::Negative => -1,
+        }
+    }
+}
+
+impl Expression {
+    /// The number that it becomes when `value` is given to it.
+    fn given(self, value: i32) -> Result<i32, Code>
+        ensures { result ≡ given self value }
+    {
+        match self {
+            Expression::Nothing => Ok(value),
+            Expression::Number(_) => Err(Code::Arg),
+            Expression::Signed(Sign::Positive) => Ok(value),
+            Expression::Signed(Sign::Negative) => value.checked_neg().ok_or(Code::Ovf),
+            Expression::Operation(first, op) => operation(op, first, value),
+        }
+    }
+
+    /// What it becomes when `op` comes after it.
+    fn waiting(self, op: Op) -> Result<Expression, Code>
+        ensures { result ≡ waiting op self }
+    {
+        match self {
+            Expression::Number(value) => Ok(Expression::Operation(value, op)),
+            Expression::Nothing => match op {
+                Op::Plus => Ok(Expression::Signed(Sign::Positive)),
+                Op::Minus => Ok(Expression::Signed(Sign::Negative)),
+                Op::Times | Op::Over | Op::And | Op::Or => Err(Code::Arg),
+            },
+            Expression::Signed(_) | Expression::Operation(..) => Err(Code::Arg),
+        }
+    }
+
+    /// Its value for a command, if it has one.
+    fn ground_value(self) -> Result<Option<i32>, Code>
+        ensures { result ≡ ground_value self }
+    {
+        match self {
+            Expression::Nothing => Ok(None),
+            Expression::Number(value) => Ok(Some(value)),
+            Expression::Signed(sign) => Ok(Some(sign.value())),
+            Expression::Operation(..) => Err(Code::Arg),
+        }
+    }
+}
+
+/// What two values make for a command.
+fn with_first(first: Option<i32>, value: Option<i32>) -> Result<Taken, Code>
+    ensures { result ≡ with_first first value }
+{
+    match (first, value) {
+        (None, None) => Ok(Taken::None),
+        (None, Some(n)) => Ok(Taken::One(n)),
+        (Some(m), Some(n)) => Ok(Taken::Two(m, n)),
+        (Some(_), None) => Err(Code::Arg),
+    }
+}
+
+/// The arguments as they are built, with at most 16 open parentheses. They take no memory.
+///
+/// A call that is refused changes nothing.
+#[derive(Clone, Copy, Debug)]
+pub struct Args {
+    first: Option<i32>,
+    /// At the level in use.
+    expression: Expression,
+    /// Around the open parentheses, the outermost first.
+    outer: [Expression; 16],
+    /// How many parentheses are open.
+    depth: usize,
+    ghost at_most_16: { depth ≤ 16 },
+}
+
+impl Args {
+    ghost use Rattle.teco_core.specs.ArgumentsView.{arguments};
+
+    /// No arguments.
+    pub fn new() -> Args
+        ensures { arguments result ≡ no_arguments }
+    {
+        Args {
+            first: None,
+            expression: Expression::Nothing,
+            outer: [Expression::Nothing; 16],
+            depth: 0,
+        }
+    }
+
+    /// Drops the arguments.
+    pub fn clear(&mut self)
+        ensures { arguments self.new ≡ no_arguments }
+    {
+        *self = Args::new();
+    }
+
+    /// Gives a value to the level in use: [`Code::Arg`] after a value alone, [`Code::Ovf`] and [`Code::Dvz`] by the operator that waits.
+    #[tactic(auto, unfolding(crate::specs::Arguments::give))]
+    pub fn give(&mut self, value: i32) -> Result<(), Code>
+        ensures ok { OnOk result (give value (arguments self.old) ≡ Ok (arguments self.new)) }
+        ensures err { IfErr result (λ code. give value (arguments self.old) ≡ Err code) }
+        ensures unchanged { OnErr result (self.new ≡ self.old) }
+    {
+        let number = self.expression.given(value)?;
+        self.expression = Expression::Number(number);
+        Ok(())
+    }
+
+    /// Lets an operator wait, or a sign where there is nothing: else [`Code::Arg`].
+    #[tactic(auto, unfolding(crate::specs::Arguments::operate))]
+    pub fn operator(&mut self, op: Op) -> Result<(), Code>
+        ensures ok { OnOk result (operate op (arguments self.old) ≡ Ok (arguments self.new)) }
+        ensures err { IfErr result (λ code. operate op (arguments self.old) ≡ Err code) }
+        ensures unchanged { OnErr result (self.new ≡ self.old) }
+    {
+        let expression = self.expression.waiting(op)?;
+        self.expression = expression;
+        Ok(())
+    }
+
+    /// Opens a parenthesis: [`Code::Arg`] after a value alone, [`Code::Pdo`] where 16 are open.
+    #[tactic(auto, unfolding(crate::specs::Arguments::open_level))]
+    pub fn open(&mut self) -> Result<(), Code>
+        ensures ok { OnOk result (open_level (arguments self.old) ≡ Ok (arguments self.new)) }
+        ensures err { IfErr result (λ code. open_level (arguments self.old) ≡ Err code) }
+        ensures unchanged { OnErr result (self.new ≡ self.old) }
+    {
+        if let Expression::Number(_) = self.expression {
+            return Err(Code::Arg);
+        }
+        if self.depth == 16 {
+            return Err(Code::Pdo);
+        }
+        self.outer[self.depth] = self.expression;
+        self.depth += 1;
+        self.expression = Expression::Nothing;
+        Ok(())
+    }
+
+    /// Closes a parenthesis and gives its value to the level around it: [`Code::Arg`] where none is open or it has no finished
+    /// value, else as for [`Args::give`].
+    #[tactic(auto, unfolding(crate::specs::Arguments::close_level, crate::specs::Arguments::give))]
+    pub fn close(&mut self) -> Result<(), Code>
+        ensures ok { OnOk result (close_level (arguments self.old) ≡ Ok (arguments self.new)) }
+        ensures err { IfErr result (λ code. close_level (arguments self.old) ≡ Err code) }
+        ensures unchanged { OnErr result (self.new ≡ self.old) }
+    {
+        let Expression::Number(value) = self.expression else {
+            return Err(Code::Arg);
+        };
+        if self.depth == 0 {
+            return Err(Code::Arg);
+        }
+        let around = self.outer[self.depth - 1];
+        let number = around.given(value)?;
+        self.depth -= 1;
+        self.expression = Expression::Number(number);
+        Ok(())
+    }
+
+    /// Makes a value alone the first of two: else, or where there is a first one or an open parenthesis, [`Code::Arg`].
+    #[tactic(auto, unfolding(crate::specs::Arguments::comma))]
+    pub fn comma(&mut self) -> Result<(), Code>
+        ensures ok { OnOk result (comma (arguments self.old) ≡ Ok (arguments self.new)) }
+        ensures err { IfErr result (λ code. comma (arguments self.old) ≡ Err code) }
+        ensures unchanged { OnErr result (self.new ≡ self.old) }
+    {
+        if self.depth > 0 {
+            return Err(Code::Arg);
+        }
+        match (self.first, self.expression) {
+            (None, Expression::Number(value)) => {
+                self.first = Some(value);
+                self.expression = Expression::Nothing;
+                Ok(())
+            }
+            _ => Err(Code::Arg),
+        }
+    }
+
+    /// Makes the arguments 0 and `length`, a text's length in bytes: [`Code::Arg`] where there are any.
+    #[tactic(auto, unfolding(crate::specs::Arguments::give_pair))]
+    pub fn pair(&mut self, length: usize) -> Result<(), Code>
+        requires { length < 2 ^ 31 }
+        ensures ok { OnOk result (give_pair length (arguments self.old) ≡ Ok (arguments self.new)) }
+        ensures err { IfErr result (λ code. give_pair length (arguments self.old) ≡ Err code) }
+        ensures unchanged { OnErr result (self.new ≡ self.old) }
+    {
+        if self.depth > 0 {
+            return Err(Code::Arg);
+        }
+        match (self.first, self.expression) {
+            (None, Expression::Nothing) => {
+                self.first = Some(0);
+                self.expression = Expression::Number(length as i32);
+                Ok(())
+            }
+            _ => Err(Code::Arg),
+        }
+    }
+
+    /// Takes the arguments for a command and leaves none: [`Code::Mrp`] where a parenthesis is open, [`Code::Arg`] where an
+    /// operator waits after a value, or nothing follows a comma.
+    #[tactic(auto, unfolding(crate::specs::Arguments::taken_from))]
+    pub fn take(&mut self) -> Result<Taken, Code>
+        ensures value { result ≡ taken_from (arguments self.old) }
+        ensures empty { OnOk result (arguments self.new ≡ no_arguments) }
+        ensures unchanged { OnErr result (self.new ≡ self.old) }
+    {
+        if self.depth > 0 {
+            return Err(Code::Mrp);
+        }
+        let value = self.expression.ground_value()?;
+        let taken = with_first(self.first, value)?;
+        self.clear();
+        Ok(taken)
+    }
+
+    /// What the level in use has.
+    pub fn level(&self) -> Level
+        ensures { result ≡ level_of (arguments self.now).expression }
+    {
+        match self.expression {
+            Expression::Nothing => Level::Empty,
+            Expression::Number(value) => Level::Value(value),
+            Expression::Signed(sign) => Level::Sign(sign.value()),
+            Expression::Operation(..) => Level::Waits,
+        }
+    }
+
+    /// Empties the level in use; a first value and the open parentheses stay.
+    pub fn empty_level(&mut self)
+        ensures { arguments self.new ≡ emptied (arguments self.old) }
+    {
+        self.expression = Expression::Nothing;
+    }
 }

@@ -8,10 +8,10 @@ mod number;
 mod push_down;
 mod register;
 
-pub use arguments::{Expression, Level, Sign, Taken};
+pub use arguments::{Args, Expression, Level, Sign, Taken};
 pub use case_mode::CaseMode;
 pub use code::Code;
-pub use number::{Op, operation};
+pub use number::{Op, decimal, operation};
 pub use push_down::PushList;
 pub use register::{Reg, Registers, Value};
 pub use std::alloc::AllocError as NoMemory;

@@ -1,6 +1,7 @@
 //! Whole numbers from -2147483648 to 2147483647, with their faults.
-ghost use Rattle.std.specs.Prelude.{◌≡◌};
-ghost use Rattle.teco_core.specs.Number.{operation};
+ghost use Rattle.std.specs.Prelude.{◌≡◌, ◌-◌, IsTrue, pos, ◌+ℤ◌, ◌*ℤ◌, ◌≤ℤ◌};
+ghost use Rattle.std.specs.List.{list_all};
+ghost use Rattle.teco_core.specs.Number.{operation, decimal_value, fitted, is_digit};
 
 use crate::code::Code;
 
@@ -35,4 +36,26 @@ pub fn operation(op: Op, a: i32, b: i32) -> Result<i32, Code>
         Op::And => Ok(a & b),
         Op::Or => Ok(a | b),
     }
+}
+
+/// A number with one more digit after its own.
+fn with_digit(value: i32, digit: u8) -> Result<i32, Code>
+    requires natural { pos 0 ≤ℤ value }
+    requires digit { IsTrue (is_digit digit) }
+    ensures { result ≡ fitted ((value *ℤ pos 10) +ℤ pos (digit - 48)) }
+{
+    let tens = value.checked_mul(10).ok_or(Code::Ovf)?;
+    tens.checked_add(i32::from(digit - b'0')).ok_or(Code::Ovf)
+}
+
+/// The value of a run of decimal digits: [`Code::Ovf`] where it is above 2147483647.
+pub fn decimal(digits: &[u8]) -> Result<i32, Code>
+    requires { IsTrue (list_all is_digit digits.now) }
+    ensures { result ≡ decimal_value digits.now }
+{
+    let mut value = 0;
+    for digit in digits {
+        value = with_digit(value, *digit)?;
+    }
+    Ok(value)
 }
