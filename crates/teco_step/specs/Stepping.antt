@@ -1,5 +1,5 @@
 -- What a step may do on a desk and a terminal: what its effect says; or, with nothing changed, want of memory; or a failed put.
-use Rattle.std.specs.Prelude.{◌≡◌, ◌≢◌, ℕ, List, [], Option, Some, None, Bool, true, false, ◌⊎◌}
+use Rattle.std.specs.Prelude.{◌≡◌, ◌≢◌, ℕ, List, [], Option, Some, None, length, Bool, true, false, ◌⊎◌}
 use Rattle.teco_core.specs.declared.code.Code.{Code}
 use Rattle.teco_core.specs.declared.code.Code.TheVariants.{Mem, Tty}
 use Rattle.teco_core.specs.Arguments.{Arguments}
@@ -10,7 +10,13 @@ use Rattle.teco_scan.specs.declared.command.RegisterCommand.TheVariants as regis
 use Rattle.teco_store.specs.State.{State}
 use Rattle.teco_store.specs.Trail.{Trail, moved}
 use Rattle.teco_step.specs.Terminal.{Shows, IsFrontOf}
-use Rattle.teco_step.specs.Step.{Step, End, on, leave, go, call, out, again, stop}
+use Rattle.teco_scan.specs.declared.token.Token.{Token}
+use Rattle.teco_scan.specs.declared.token.TokenKind.{TokenKind}
+use Rattle.teco_scan.specs.declared.token.TokenKind.TheVariants as kind
+use Rattle.teco_scan.specs.Seen.{item_in, IsItemIn}
+use Rattle.teco_step.specs.declared.next.Work.{Work}
+use Rattle.teco_step.specs.Effect.{effect}
+use Rattle.teco_step.specs.Step.{Step, Setting, settled, unbuilt, End, on, leave, go, call, out, again, stop}
 use Rattle.teco_step.specs.declared.next.Next.{Next}
 use Rattle.teco_step.specs.declared.next.Next.TheVariants as next
 
@@ -74,3 +80,39 @@ takes_nothing (token.bare (bare.Arithmetic b)) = true
 takes_nothing (token.byte b) = true
 takes_nothing (token.register register_command.Number q) = true
 takes_nothing i = false
+
+-- a token that is one step, and whose texts lie in the text
+abbrev pub IsStepKind : ℕ → TokenKind → Type 0
+IsStepKind n (kind.Item i) = IsItemIn n i
+IsStepKind n k = ⊥
+
+abbrev pub IsStepIn : List ℕ → Token → Type 0
+IsStepIn text token = IsStepKind (length text) token.kind
+
+-- the step of a token in a text
+abbrev pub kind_effect : List ℕ → TokenKind → Setting → State → Arguments → Step
+kind_effect text (kind.Item i) w s a = effect (item_in text i) w s a
+kind_effect text k w s a = settled s a unbuilt
+
+abbrev pub token_effect : List ℕ → Token → Option Work → Bool → Bool → State → Arguments → Step
+token_effect text token work inside before s a =
+    kind_effect text token.kind (record { modifiers = token.modifiers; work = work; inside = inside; before = before }) s a
+
+-- the name that a jump names
+abbrev pub name_of : Item → List ℕ
+name_of (token.text c name) = name
+name_of i = []
+
+abbrev pub kind_name : List ℕ → TokenKind → List ℕ
+kind_name text (kind.Item i) = name_of (item_in text i)
+kind_name text k = []
+
+abbrev pub name_in : List ℕ → Token → List ℕ
+name_in text t = kind_name text t.kind
+
+abbrev pub kind_takes_nothing : List ℕ → TokenKind → Bool
+kind_takes_nothing text (kind.Item i) = takes_nothing (item_in text i)
+kind_takes_nothing text k = false
+
+abbrev pub takes_nothing_in : List ℕ → Token → Bool
+takes_nothing_in text t = kind_takes_nothing text t.kind
