@@ -3,6 +3,8 @@
 
 mod desk;
 mod editor;
+#[cfg(test)]
+mod tests;
 
 pub use desk::{Desk, Refused};
 pub use editor::Editor;
