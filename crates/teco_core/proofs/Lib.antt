@@ -1,3 +1,4 @@
+pub mod ArgumentProofs
 pub mod Digits
 pub mod Holdings
 pub mod Levels

@@ -4,6 +4,7 @@
 mod arguments;
 mod case_mode;
 mod code;
+mod facts;
 mod number;
 mod push_down;
 mod register;
@@ -11,6 +12,7 @@ mod register;
 pub use arguments::{Args, Expression, Level, Sign, Taken};
 pub use case_mode::CaseMode;
 pub use code::Code;
+pub use facts::argument_facts;
 pub use number::{Op, decimal, operation};
 pub use push_down::PushList;
 pub use register::{Reg, Registers, Value};
