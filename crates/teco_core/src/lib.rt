@@ -8,6 +8,8 @@ mod facts;
 mod number;
 mod push_down;
 mod register;
+#[cfg(test)]
+mod tests;
 
 pub use arguments::{Args, Expression, Level, Sign, Taken};
 pub use case_mode::CaseMode;
