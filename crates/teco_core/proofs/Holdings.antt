@@ -19,14 +19,14 @@ pub map-copied : (from to : List Value) (i : ℕ) (was now : Value) → i < leng
     → map content_of (take i to) ≡ map content_of (take i from)
     → map content_of (take (i + 1) (set to i now)) ≡ map content_of (take (i + 1) from)
 map-copied from to i was now below room is so_far =
-    rw (take_more_set to i now room, take_more from i was below, map-append, map-append, so_far, is)
+    rw (take_more_set to i now room, take_more from i was below, map-append content_of (take i to) (now ∷ []), map-append, so_far, is)
 
 pub map-copied_on : (from to : List Value) (i : ℕ) (was now : Value) → i < length from
     → content_of now ≡ content_of (get_or from i was)
     → map content_of to ≡ map content_of (take i from)
     → map content_of (to ++ now ∷ []) ≡ map content_of (take (i + 1) from)
 map-copied_on from to i was now below is so_far =
-    rw (take_more from i was below, map-append, map-append, so_far, is)
+    rw (take_more from i was below, map-append content_of to (now ∷ []), map-append, so_far, is)
 
 -- Values that are all blank.
 pub map-blank : (values : List Value)

@@ -1,3 +1,5 @@
+pub mod ArgumentProofs
+pub mod ArgumentRows
 pub mod Digits
 pub mod Holdings
 pub mod Levels

@@ -3,5 +3,5 @@ use Rattle.std.specs.Prelude.{take, reverse}
 use Rattle.teco_core.specs.declared.arguments.Args.{Args}
 use Rattle.teco_core.specs.Arguments.{Arguments}
 
-abbrev pub arguments : Args → Arguments
+unfoldable pub arguments : Args → Arguments
 arguments a = record { first = a.first; expression = a.expression; outer = reverse (take a.depth a.outer) }

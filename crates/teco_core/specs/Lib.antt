@@ -3,5 +3,7 @@ pub mod Refusal
 pub mod Number
 pub mod Arguments
 pub mod ArgumentsView
+pub mod Pieces
+pub mod ArgumentFacts
 pub mod Register
 pub mod Contents

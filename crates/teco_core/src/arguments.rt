@@ -123,6 +123,7 @@ pub struct Args {
     ghost at_most_16: { depth ≤ 16 },
 }
 
+#[tactic(auto, unfolding(crate::specs::ArgumentsView::arguments, crate::specs::Arguments::give, crate::specs::Arguments::operate, crate::specs::Arguments::open_level, crate::specs::Arguments::close_level, crate::specs::Arguments::comma, crate::specs::Arguments::give_pair, crate::specs::Arguments::taken_from))]
 impl Args {
     ghost use Rattle.teco_core.specs.ArgumentsView.{arguments};
 
@@ -146,7 +147,6 @@ impl Args {
     }
 
     /// Gives a value to the level in use: [`Code::Arg`] after a value alone, [`Code::Ovf`] and [`Code::Dvz`] by the operator that waits.
-    #[tactic(auto, unfolding(crate::specs::Arguments::give))]
     pub fn give(&mut self, value: i32) -> Result<(), Code>
         ensures ok { OnOk result (give value (arguments self.old) ≡ Ok (arguments self.new)) }
         ensures err { IfErr result (λ code. give value (arguments self.old) ≡ Err code) }
@@ -158,7 +158,6 @@ impl Args {
     }
 
     /// Lets an operator wait, or a sign where there is nothing: else [`Code::Arg`].
-    #[tactic(auto, unfolding(crate::specs::Arguments::operate))]
     pub fn operator(&mut self, op: Op) -> Result<(), Code>
         ensures ok { OnOk result (operate op (arguments self.old) ≡ Ok (arguments self.new)) }
         ensures err { IfErr result (λ code. operate op (arguments self.old) ≡ Err code) }
@@ -170,7 +169,6 @@ impl Args {
     }
 
     /// Opens a parenthesis: [`Code::Arg`] after a value alone, [`Code::Pdo`] where 16 are open.
-    #[tactic(auto, unfolding(crate::specs::Arguments::open_level))]
     pub fn open(&mut self) -> Result<(), Code>
         ensures ok { OnOk result (open_level (arguments self.old) ≡ Ok (arguments self.new)) }
         ensures err { IfErr result (λ code. open_level (arguments self.old) ≡ Err code) }
@@ -190,7 +188,6 @@ impl Args {
 
     /// Closes a parenthesis and gives its value to the level around it: [`Code::Arg`] where none is open or it has no finished
     /// value, else as for [`Args::give`].
-    #[tactic(auto, unfolding(crate::specs::Arguments::close_level, crate::specs::Arguments::give))]
     pub fn close(&mut self) -> Result<(), Code>
         ensures ok { OnOk result (close_level (arguments self.old) ≡ Ok (arguments self.new)) }
         ensures err { IfErr result (λ code. close_level (arguments self.old) ≡ Err code) }
@@ -210,7 +207,6 @@ impl Args {
     }
 
     /// Makes a value alone the first of two: else, or where there is a first one or an open parenthesis, [`Code::Arg`].
-    #[tactic(auto, unfolding(crate::specs::Arguments::comma))]
     pub fn comma(&mut self) -> Result<(), Code>
         ensures ok { OnOk result (comma (arguments self.old) ≡ Ok (arguments self.new)) }
         ensures err { IfErr result (λ code. comma (arguments self.old) ≡ Err code) }
@@ -230,7 +226,6 @@ impl Args {
     }
 
     /// Makes the arguments 0 and `length`, a text's length in bytes: [`Code::Arg`] where there are any.
-    #[tactic(auto, unfolding(crate::specs::Arguments::give_pair))]
     pub fn pair(&mut self, length: usize) -> Result<(), Code>
         requires { length < 2 ^ 31 }
         ensures ok { OnOk result (give_pair length (arguments self.old) ≡ Ok (arguments self.new)) }
@@ -252,7 +247,6 @@ impl Args {
 
     /// Takes the arguments for a command and leaves none: [`Code::Mrp`] where a parenthesis is open, [`Code::Arg`] where an
     /// operator waits after a value, or nothing follows a comma.
-    #[tactic(auto, unfolding(crate::specs::Arguments::taken_from))]
     pub fn take(&mut self) -> Result<Taken, Code>
         ensures value { result ≡ taken_from (arguments self.old) }
         ensures empty { OnOk result (arguments self.new ≡ no_arguments) }
