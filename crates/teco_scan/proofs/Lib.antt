@@ -4,4 +4,5 @@ pub mod Again
 pub mod Longest
 pub mod Faults
 pub mod Cut
+pub mod Fronts
 pub mod Trees
