@@ -1,17 +1,16 @@
 -- What is spelled is read, whatever follows it.
-use Rattle.std.proofs.Common.{leb-true, ◌≡◌, ◌≢◌, ℕ, suc, zero, ◌+◌, ◌<◌, ◌≤◌, Bool, true, false, ◌⊎◌, cond, eqb, List, [], ◌∷◌, ◌++◌, length, Option, Some, None, Result, Ok, Err, refl, sym, ap, subst, ◌∙◌, arith, append_assoc, inl, inr, length-append}
-use Rattle.std.specs.Prelude.{◌==◌, ◌||◌, not, ◌-◌, ◌&&◌, option_and_then, nat_le}
+use Rattle.std.proofs.Common.{leb-true, ◌≡◌, ◌≢◌, ℕ, ◌+◌, ◌<◌, Bool, true, false, ◌⊎◌, eqb, List, [], ◌∷◌, ◌++◌, length, Some, Ok, refl, sym, ap, subst, ◌∙◌, arith, append_assoc, inl, inr}
+use Rattle.std.specs.Prelude.{◌||◌, not, ◌-◌, ◌&&◌}
 use Rattle.std.proofs.lemmas.Bool.{eqb-true, eq-eqb, false_from_ne_true}
 use Rattle.std.specs.List.{AllByRecursion, list_all, list_any}
-use Rattle.teco_core.specs.Refusal.{◌>>=◌}
 use Rattle.teco_core.specs.Register.{upper, register_of}
 use Rattle.teco_scan.specs.declared.command.Modifiers.{Modifiers}
 use Rattle.teco_scan.specs.declared.command.Row.{Row}
 use Rattle.teco_scan.specs.declared.command.Name.{Name}
 use Rattle.teco_scan.specs.declared.command.Name.TheVariants.{One, Two, Three, Control}
 use Rattle.teco_scan.specs.declared.command.Form.{Form}
-use Rattle.teco_scan.specs.Scan.{Instruction, test_of, byte_at, register_at, test_at, delimiter_at, text_at, operand_at, modifiers_at, after_letter, after_name, is_refused, admits, row_at, at_row}
-use Rattle.teco_scan.specs.Table.{is_upper, is_first_letter, is_name, lower, first_bytes, begins_with, meets, is_alone, has_more_letters, is_longer, is_apart, is_table}
+use Rattle.teco_scan.specs.Scan.{Instruction, test_of, byte_at, register_at, test_at, delimiter_at, text_at, operand_at, modifiers_at, after_letter, after_name}
+use Rattle.teco_scan.specs.Table.{is_name, lower, first_bytes, begins_with, meets, has_more_letters, is_longer, is_apart, is_table}
 use Rattle.teco_scan.specs.Spelling.{Marks, no_mark, at_mark, colon_mark, SpellsName, one_spelled, two_spelled, three_spelled, control_spelled, caret_spelled, Delimits, Ends, SpellsOperand, bare_spelled, mark_spelled, escape_spelled, register_spelled, byte_spelled, test_spelled, text_spelled, tag_spelled, set_text_spelled, replace_spelled, Among}
 
 free_text : (d : ℕ) (t rest : List ℕ) → AllByRecursion (λ b. b ≢ d) t → text_at d (t ++ (d ∷ rest)) ≡ Ok (t, rest)

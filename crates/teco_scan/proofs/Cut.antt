@@ -1,5 +1,5 @@
 -- Where the fault is UTC, the bytes are a front of a token's spelling.
-use Rattle.std.proofs.Common.{leb-true, ◌≡◌, ◌≢◌, ℕ, suc, zero, ◌+◌, ◌<◌, ◌≤◌, Bool, true, false, ◌⊎◌, cond, eqb, List, [], ◌∷◌, ◌++◌, Option, Some, None, Result, Ok, Err, refl, sym, ap, subst, ◌∙◌, arith, append_assoc, inl, inr}
+use Rattle.std.proofs.Common.{leb-true, ◌≡◌, ℕ, ◌≤◌, Bool, true, false, ◌⊎◌, cond, eqb, List, [], ◌∷◌, ◌++◌, Option, Some, None, Ok, Err, refl, sym, ap, subst, ◌∙◌, arith, append_assoc, inl, inr}
 use Rattle.std.specs.Prelude.{◌&&◌, ◌||◌, ◌==◌, ◌-◌, not, nat_le}
 use Rattle.std.proofs.lemmas.Bool.{eqb-true}
 use Rattle.std.specs.List.{list_all}
@@ -17,8 +17,8 @@ use Rattle.teco_scan.specs.declared.command.Form.TheVariants as form
 use Rattle.teco_scan.specs.declared.command.Test.{Test}
 use Rattle.teco_scan.specs.declared.command.Test.TheVariants as tests
 use Rattle.teco_scan.specs.Table.{is_upper, is_first_letter, is_name, is_apart, is_table}
-use Rattle.teco_scan.specs.Scan.{Reading, or_else, digits, bare, register, byte, text, set_text, replace, Instruction, step, mark, decide, tag, escape, Order, run_of, after_run, test_of, byte_at, register_at, test_at, delimiter_at, text_at, operand_at, is_refused, admits, modifiers_at, ends_inside, is_cut, row_at, of_row, command_at, begins_run, token_from, no_modifiers}
-use Rattle.teco_scan.specs.Spelling.{Marks, SpellsName, one_spelled, two_spelled, three_spelled, control_spelled, caret_spelled, Delimits, Ends, SpellsOperand, bare_spelled, mark_spelled, escape_spelled, register_spelled, byte_spelled, test_spelled, text_spelled, tag_spelled, set_text_spelled, replace_spelled, Among, Spells, IsFront}
+use Rattle.teco_scan.specs.Scan.{Reading, or_else, digits, bare, register, byte, text, set_text, replace, Instruction, step, mark, decide, tag, escape, run_of, after_run, test_of, byte_at, register_at, test_at, delimiter_at, text_at, operand_at, is_refused, admits, modifiers_at, ends_inside, is_cut, row_at, of_row, command_at, begins_run, token_from, no_modifiers}
+use Rattle.teco_scan.specs.Spelling.{Marks, SpellsName, one_spelled, two_spelled, three_spelled, control_spelled, caret_spelled, Delimits, Ends, SpellsOperand, bare_spelled, mark_spelled, escape_spelled, register_spelled, byte_spelled, test_spelled, text_spelled, tag_spelled, set_text_spelled, replace_spelled, Spells, IsFront}
 use Rattle.teco_scan.proofs.Sound.{Takes, IsByte, IsRegister, IsTest, append_nil, not_eqb, byte_takes, register_takes, test_takes, delimiter_takes, text_takes, IsCommand, as_token, TakesRow, row_takes, marks_take}
 use Rattle.teco_scan.proofs.Again.{both}
 use Rattle.teco_scan.proofs.Longest.{finished}

@@ -1,5 +1,5 @@
 -- Which fault is read, and where.
-use Rattle.std.proofs.Common.{◌≡◌, ◌≢◌, ℕ, suc, zero, ◌+◌, Bool, true, false, ◌⊎◌, cond, eqb, List, [], ◌∷◌, ◌++◌, Option, Some, None, Result, Ok, Err, refl, sym, ap, subst, ◌∙◌, inl, inr}
+use Rattle.std.proofs.Common.{◌≡◌, ℕ, ◌+◌, Bool, true, false, ◌⊎◌, cond, eqb, List, [], ◌∷◌, ◌++◌, Option, Some, None, Ok, Err, refl, sym, ap, subst, ◌∙◌, inl, inr}
 use Rattle.teco_core.specs.declared.code.Code.{Code}
 use Rattle.teco_core.specs.declared.code.Code.TheVariants.{Ill, Iqn, Iqc, Utc}
 use Rattle.teco_core.specs.Refusal.{◌>>=◌}
@@ -10,8 +10,8 @@ use Rattle.teco_scan.specs.declared.command.Form.{Form}
 use Rattle.teco_scan.specs.declared.command.Form.TheVariants as form
 use Rattle.teco_scan.specs.declared.command.Test.{Test}
 use Rattle.teco_scan.specs.Table.{is_alone, is_table}
-use Rattle.teco_scan.specs.Scan.{Reading, digits, Instruction, step, Order, or_else, test_of, byte_at, register_at, test_at, delimiter_at, text_at, operand_at, modifiers_at, row_at, is_cut, command_at, of_row, begins_run, run_of, after_run, token_from, no_modifiers}
-use Rattle.teco_scan.specs.Spelling.{Marks, Among, StandsAt, NeedsRegister, LacksRegister, LacksTest, LacksRegisterExactly, LacksTestExactly, IsFaultOfFour}
+use Rattle.teco_scan.specs.Scan.{Reading, digits, Instruction, step, or_else, test_of, byte_at, register_at, test_at, delimiter_at, text_at, operand_at, modifiers_at, row_at, is_cut, command_at, of_row, begins_run, run_of, after_run, token_from, no_modifiers}
+use Rattle.teco_scan.specs.Spelling.{Marks, StandsAt, NeedsRegister, LacksRegister, LacksTest, LacksRegisterExactly, LacksTestExactly, IsFaultOfFour}
 use Rattle.teco_scan.proofs.Sound.{Takes, marks_take, TakesRow, row_takes}
 use Rattle.teco_scan.proofs.Longest.{finished, Reached, Finds, finds}
 
@@ -131,7 +131,12 @@ command_faults rows m marks bs whole marked is = here (row_at rows m bs) (row_ta
 
     stands : (x : Row × List ℕ) → TakesRow rows m bs (Some x) → (behind : List ℕ) → x.1 ≡ behind → StandsAt rows x.0 m whole behind
     stands x t behind e = record {
-      among = t.0; admitted = t.1; marks = marks; name = t.2.0; marked = marked; named = t.2.1;
+      among = t.0;
+      admitted = t.1;
+      marks = marks;
+      name = t.2.0;
+      marked = marked;
+      named = t.2.1;
       whole = is ∙ ap (λ w. marks ++ w) (t.2.2 ∙ ap (λ w. t.2.0 ++ w) e);
     }
 

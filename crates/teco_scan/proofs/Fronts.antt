@@ -1,8 +1,8 @@
 -- A front of a token's spelling is read as a token, or is UTC.
-use Rattle.std.proofs.Common.{leb-true, ◌≡◌, ◌≢◌, ℕ, suc, zero, ◌+◌, ◌<◌, ◌≤◌, Bool, true, false, ◌⊎◌, cond, eqb, leb, List, [], ◌∷◌, ◌++◌, length, Option, Some, None, Result, Ok, Err, refl, sym, ap, subst, ◌∙◌, arith, append_assoc, inl, inr, length-append}
+use Rattle.std.proofs.Common.{leb-true, ◌≡◌, ◌≢◌, ℕ, ◌+◌, ◌<◌, ◌≤◌, Bool, true, false, ◌⊎◌, cond, eqb, List, [], ◌∷◌, ◌++◌, length, Option, Some, None, Ok, Err, refl, sym, ap, subst, ◌∙◌, arith, append_assoc, inl, inr, length-append}
 use Rattle.std.specs.Prelude.{◌&&◌, ◌||◌, not, nat_le, if◌then◌else◌}
-use Rattle.std.proofs.lemmas.Bool.{eqb-true, eq-eqb, le-leb}
-use Rattle.std.specs.List.{AllByRecursion, list_all}
+use Rattle.std.proofs.lemmas.Bool.{eq-eqb, le-leb}
+use Rattle.std.specs.List.{AllByRecursion}
 use Rattle.teco_core.specs.declared.code.Code.{Code}
 use Rattle.teco_core.specs.declared.code.Code.TheVariants.{Ill, Iqc, Iqn, Utc}
 use Rattle.teco_core.specs.Refusal.{◌>>=◌}
@@ -14,11 +14,11 @@ use Rattle.teco_scan.specs.declared.command.Name.{Name}
 use Rattle.teco_scan.specs.declared.command.Form.{Form}
 use Rattle.teco_scan.specs.declared.command.Form.TheVariants as form
 use Rattle.teco_scan.specs.declared.command.Test.{Test}
-use Rattle.teco_scan.specs.Table.{meets, is_alone, is_longer, is_table}
-use Rattle.teco_scan.specs.Scan.{Reading, or_else, digits, Instruction, step, Order, run_of, after_run, test_of, byte_at, register_at, test_at, delimiter_at, text_at, operand_at, is_refused, admits, modifiers_at, after_name, ends_inside, is_cut, row_at, of_row, command_at, begins_run, token_from, no_modifiers}
+use Rattle.teco_scan.specs.Table.{meets, is_table}
+use Rattle.teco_scan.specs.Scan.{Reading, or_else, Instruction, Order, test_of, byte_at, register_at, test_at, delimiter_at, text_at, operand_at, is_refused, admits, after_name, ends_inside, is_cut, row_at, of_row, command_at, begins_run, token_from, no_modifiers}
 use Rattle.teco_scan.specs.Spelling.{Marks, no_mark, at_mark, colon_mark, SpellsName, one_spelled, two_spelled, three_spelled, control_spelled, caret_spelled, SpellsOperand, bare_spelled, mark_spelled, escape_spelled, register_spelled, byte_spelled, test_spelled, text_spelled, tag_spelled, set_text_spelled, replace_spelled, Among, StandsAt, Spells, run_spelled, command_spelled, IsFront}
 use Rattle.teco_scan.proofs.Sound.{append_nil, TakesRow, row_takes, name_long}
-use Rattle.teco_scan.proofs.Again.{both, IsName, NoMark, marks_again, operand_again, name_again, meet, more_bytes, named_well, apart}
+use Rattle.teco_scan.proofs.Again.{both, IsName, NoMark, operand_again, name_again, meet, more_bytes, named_well, apart}
 use Rattle.teco_scan.proofs.Longest.{name_start, finished, read_behind, IsLongerThan, longer_is, Reached, Finds, finds, alone_empty, alone_read}
 use Rattle.teco_scan.proofs.Faults.{Faults, then_faults}
 
@@ -155,7 +155,7 @@ unfolding is_cut
 cut_seen [] row m bs among admitted spelled ends = absurd among
 cut_seen (r ∷ rows) row m bs (inl same) admitted spelled ends =
     let here : (admits r m && not (is_refused r.form) && ends_inside r.name bs) ≡ true =
-        subst (λ (w : Row). (admits w m && not (is_refused w.form) && ends_inside w.name bs) ≡ true) same (rw (admitted, spelled, ends)) in
+    subst (λ (w : Row). (admits w m && not (is_refused w.form) && ends_inside w.name bs) ≡ true) same (rw (admitted, spelled, ends)) in
     ap (λ v. v || is_cut rows m bs) here
 cut_seen (r ∷ rows) row m bs (inr later) admitted spelled ends =
     ap (λ v. admits r m && not (is_refused r.form) && ends_inside r.name bs || v) (cut_seen rows row m bs later admitted spelled ends) ∙ or_true (admits r m && not (is_refused r.form) && ends_inside r.name bs)
@@ -239,12 +239,12 @@ module _ (rows : List Row) (table : is_table rows ≡ true) (row : Row) (m : Mod
   shorter : (y : Row × List ℕ) → TakesRow rows m bs (Some y) → Faults IsCutOnly (operand_at y.0.form m y.1)
   shorter y t = elim (apart rows table y.0 row t.0 among met back) [
     | inl equal ↦
-      let other : SpellsName row.name t.2.0 = subst (λ (w : Row). SpellsName w.name t.2.0) equal t.2.1 in
-      let one : after_name row.name name ≡ Some [] = ap (after_name row.name) (sym (append_nil name)) ∙ name_again named well [] in
-      let two : after_name row.name name ≡ Some (y.1 ++ (x ∷ e)) = ap (after_name row.name) divided ∙ name_again other well (y.1 ++ (x ∷ e)) in
-      let nothing : Some (y.1 ++ (x ∷ e)) ≡ Some [] = sym two ∙ one in
-      let none : y.1 ++ (x ∷ e) ≡ [] = cc in
-      absurd (omega (arith, ap length none, length-append y.1 (x ∷ e)))
+        let other : SpellsName row.name t.2.0 = subst (λ (w : Row). SpellsName w.name t.2.0) equal t.2.1 in
+        let one : after_name row.name name ≡ Some [] = ap (after_name row.name) (sym (append_nil name)) ∙ name_again named well [] in
+        let two : after_name row.name name ≡ Some (y.1 ++ (x ∷ e)) = ap (after_name row.name) divided ∙ name_again other well (y.1 ++ (x ∷ e)) in
+        let nothing : Some (y.1 ++ (x ∷ e)) ≡ Some [] = sym two ∙ one in
+        let none : y.1 ++ (x ∷ e) ≡ [] = cc in
+        absurd (omega (arith, ap length none, length-append y.1 (x ∷ e)))
     | inr long ↦ elim long [
       | inl longer ↦ absurd (omega (arith, more_bytes (longer_is y.0 row longer).letters t.2.1 named, longer_than name bs x e same, ap length t.2.2, length-append t.2.0 y.1))
       | inr longer ↦ alone (longer_is row y.0 longer)

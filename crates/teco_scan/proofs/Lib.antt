@@ -5,4 +5,5 @@ pub mod Longest
 pub mod Faults
 pub mod Cut
 pub mod Fronts
+pub mod Exactly
 pub mod Trees

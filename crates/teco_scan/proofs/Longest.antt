@@ -1,5 +1,5 @@
 -- Of the tokens that the bytes begin with the longest is read; a refused name is ILL.
-use Rattle.std.proofs.Common.{leb-true, ◌≡◌, ◌≢◌, ℕ, suc, zero, ◌+◌, ◌<◌, ◌≤◌, Bool, true, false, ◌⊎◌, cond, eqb, List, [], ◌∷◌, ◌++◌, length, Option, Some, None, Result, Ok, Err, refl, sym, ap, subst, ◌∙◌, arith, append_assoc, inl, inr, length-append}
+use Rattle.std.proofs.Common.{leb-true, ◌≡◌, ◌≢◌, ℕ, ◌<◌, ◌≤◌, Bool, true, false, ◌⊎◌, cond, List, [], ◌∷◌, ◌++◌, length, Option, Some, None, Ok, Err, refl, sym, ap, subst, ◌∙◌, arith, append_assoc, inl, inr, length-append}
 use Rattle.std.specs.Prelude.{◌&&◌, ◌||◌, not, nat_le}
 use Rattle.std.proofs.lemmas.Bool.{false_from_ne_true}
 use Rattle.std.specs.List.{AllByRecursion, list_all}
@@ -14,7 +14,7 @@ use Rattle.teco_scan.specs.declared.command.Form.{Form}
 use Rattle.teco_scan.specs.declared.command.Form.TheVariants as form
 use Rattle.teco_scan.specs.Table.{is_upper, is_first_letter, is_name, meets, is_alone, has_more_letters, is_longer, is_apart, is_table}
 use Rattle.teco_scan.specs.Scan.{Reading, Instruction, Order, is_refused, admits, after_name, row_at, at_row, of_row, command_at, operand_at, modifiers_at, begins_run, after_run, token_from, no_modifiers}
-use Rattle.teco_scan.specs.Spelling.{Marks, no_mark, at_mark, colon_mark, SpellsName, one_spelled, two_spelled, three_spelled, control_spelled, caret_spelled, SpellsOperand, bare_spelled, mark_spelled, escape_spelled, register_spelled, byte_spelled, test_spelled, text_spelled, tag_spelled, set_text_spelled, replace_spelled, Among, StandsAt, Spells, run_spelled, command_spelled, IsRefused, LeavesAtMost, IsLongest}
+use Rattle.teco_scan.specs.Spelling.{Marks, no_mark, at_mark, colon_mark, SpellsName, one_spelled, two_spelled, three_spelled, control_spelled, caret_spelled, SpellsOperand, bare_spelled, mark_spelled, escape_spelled, register_spelled, byte_spelled, test_spelled, text_spelled, tag_spelled, set_text_spelled, replace_spelled, Among, StandsAt, run_spelled, command_spelled, IsRefused, LeavesAtMost, IsLongest}
 use Rattle.teco_scan.proofs.Sound.{TakesSome, name_takes, TakesRow, row_takes}
 use Rattle.teco_scan.proofs.Again.{both, each, IsName, NoMark, marks_again, operand_again, name_again, meet, more_bytes, one_of, named_well}
 
@@ -113,6 +113,9 @@ Reached r rest x = ((x.0 ≡ r) × (x.1 ≡ rest)) ⊎ (IsLongerThan x.0 r × (l
 pub record Finds (rows : List Row) (row : Row) (m : Modifiers) (bs behind : List ℕ) : Type 0 where
   pub at : Row × List ℕ
   pub stands : StandsAt rows at.0 m bs at.1
+  pub command : List ℕ
+  pub marks_read : modifiers_at no_modifiers bs ≡ Ok (m, command)
+  pub row_found : row_at rows m command ≡ Some at
   pub reads : token_from rows bs ≡ (operand_at at.0.form m at.1 >>= finished m)
   pub reached : Reached row behind at
 
@@ -132,6 +135,9 @@ finds rows table {row = row} {m = m} {bs = bs} {behind = behind} stands =
     record {
       at = x;
       stands = record { among = taken.0; admitted = taken.1; marks = stands.marks; name = taken.2.0; marked = stands.marked; named = taken.2.1; whole = stands.whole ∙ ap (λ w. stands.marks ++ w) taken.2.2 };
+      command = here;
+      marks_read = ap (modifiers_at no_modifiers) stands.whole ∙ marks_again stands.marked here start.0;
+      row_found = found.1;
       reads = ap (token_from rows) stands.whole ∙ read_behind rows stands.marked here start.0 start.1 ∙ ap (λ o. of_row rows m here o >>= finished m) found.1;
       reached = reached x found.2 taken well;
     }
@@ -175,7 +181,12 @@ alone_read form.Refused m bs e = inr refl
 -- more bytes behind
 pub stands_more : {rows : List Row} {row : Row} {m : Modifiers} {bs behind : List ℕ} → StandsAt rows row m bs behind → (rest : List ℕ) → StandsAt rows row m (bs ++ rest) (behind ++ rest)
 stands_more {behind = behind} s rest = record {
-  among = s.among; admitted = s.admitted; marks = s.marks; name = s.name; marked = s.marked; named = s.named;
+  among = s.among;
+  admitted = s.admitted;
+  marks = s.marks;
+  name = s.name;
+  marked = s.marked;
+  named = s.named;
   whole = ap (λ w. w ++ rest) s.whole ∙ append_assoc s.marks (s.name ++ behind) rest ∙ ap (λ w. s.marks ++ w) (append_assoc s.name behind rest);
 }
 
@@ -211,34 +222,32 @@ longest rows table front rest _ (command_spelled {m = m} {i = i} row operand sta
             alone (inl read) = inl (subst (LeavesAtMost rest) (sym (reads ∙ ap (λ r. r >>= finished m) read.1)) (omega (arith, longer.1, length-append operand rest, ap length (alone_empty is longer.0.other_alone))))
             alone (inr refused) = inr (x.0, m, x.1, there, refused)
 
+refused_too : (v w : Bool) → (v || not w) ≡ true → w ≡ true → v ≡ true
+refused_too true w e is = refl
+refused_too false w e is = absurd cc
+
+-- where a refused name stands a refused row is found
+pub refused_found : {row : Row} {rest : List ℕ} (x : Row × List ℕ) → Reached row rest x → is_refused row.form ≡ true → is_refused x.0.form ≡ true
+refused_found x (inl same) e = ap (λ (w : Row). is_refused w.form) same.0 ∙ e
+refused_found {row = row} x (inr longer) e = refused_too (is_refused x.0.form) (is_refused row.form) longer.0.refused e
+
+pub refused_form : (f : Form) → is_refused f ≡ true → f ≡ form.Refused
+refused_form (form.Bare c) e = absurd cc
+refused_form (form.Mark c) e = absurd cc
+refused_form form.Escape e = absurd cc
+refused_form (form.Register c) e = absurd cc
+refused_form form.Byte e = absurd cc
+refused_form form.Test e = absurd cc
+refused_form (form.Text c d) e = absurd cc
+refused_form form.Tag e = absurd cc
+refused_form form.SetText e = absurd cc
+refused_form form.Replace e = absurd cc
+refused_form form.Refused e = refl
+
 -- a refused name is ILL
 pub refused_is_ill : (rows : List Row) → is_table rows ≡ true → (bs : List ℕ) → IsRefused rows bs → token_from rows bs ≡ Err Ill
 unfolding operand_at
 refused_is_ill rows table bs h = by (finds rows table h.3)
   where
-    by_refused : (x : Row) (m : Modifiers) (rest : List ℕ) → is_refused x.form ≡ true → operand_at x.form m rest ≡ Err Ill
-    by_refused x m rest e = of_form x.form e
-      where
-        of_form : (f : Form) → is_refused f ≡ true → operand_at f m rest ≡ Err Ill
-        of_form (form.Bare c) e = absurd cc
-        of_form (form.Mark c) e = absurd cc
-        of_form form.Escape e = absurd cc
-        of_form (form.Register c) e = absurd cc
-        of_form form.Byte e = absurd cc
-        of_form form.Test e = absurd cc
-        of_form (form.Text c d) e = absurd cc
-        of_form form.Tag e = absurd cc
-        of_form form.SetText e = absurd cc
-        of_form form.Replace e = absurd cc
-        of_form form.Refused e = refl
-
     by : Finds rows h.0 h.1 bs h.2 → token_from rows bs ≡ Err Ill
-    by found = found.reads ∙ ap (λ r. r >>= finished h.1) (by_refused found.at.0 h.1 found.at.1 (reached found.at found.reached))
-      where
-        refused_too : (v w : Bool) → (v || not w) ≡ true → w ≡ true → v ≡ true
-        refused_too true w e is = refl
-        refused_too false w e is = absurd cc
-
-        reached : (x : Row × List ℕ) → Reached h.0 h.2 x → is_refused x.0.form ≡ true
-        reached x (inl same) = ap (λ (w : Row). is_refused w.form) same.0 ∙ ap is_refused h.4
-        reached x (inr longer) = refused_too (is_refused x.0.form) (is_refused h.0.form) longer.0.refused (ap is_refused h.4)
+    by found = found.reads ∙ ap (λ f. operand_at f h.1 found.at.1 >>= finished h.1) (refused_form found.at.0.form (refused_found found.at found.reached (ap is_refused h.4)))

@@ -1,9 +1,8 @@
 -- What is read from the front of bytes is spelled so by them.
-use Rattle.std.proofs.Common.{◌≡◌, ◌≢◌, ℕ, suc, zero, ◌+◌, ◌<◌, ◌≤◌, Bool, true, false, cond, eqb, List, [], ◌∷◌, ◌++◌, length, Option, Some, None, Result, Ok, Err, refl, sym, ap, subst, ◌∙◌, arith, append_assoc, inl, inr, length-append}
+use Rattle.std.proofs.Common.{◌≡◌, ◌≢◌, ℕ, ◌+◌, ◌<◌, Bool, true, false, cond, eqb, List, [], ◌∷◌, ◌++◌, length, Option, Some, None, Ok, Err, refl, sym, ap, subst, ◌∙◌, arith, append_assoc, inl, inr, length-append}
 use Rattle.std.specs.Prelude.{option_and_then}
 use Rattle.std.proofs.lemmas.Bool.{eqb-true}
 use Rattle.std.specs.List.{AllByRecursion}
-use Rattle.teco_core.specs.declared.code.Code.{Code}
 use Rattle.teco_core.specs.declared.code.Code.TheVariants.{Ill, Iqn, Iqc, Utc}
 use Rattle.teco_core.specs.Refusal.{◌>>=◌}
 use Rattle.teco_core.specs.Number.{is_digit}
@@ -15,8 +14,8 @@ use Rattle.teco_scan.specs.declared.command.Name.TheVariants.{One, Two, Three, C
 use Rattle.teco_scan.specs.declared.command.Form.{Form}
 use Rattle.teco_scan.specs.declared.command.Form.TheVariants as form
 use Rattle.teco_scan.specs.declared.command.Test.{Test}
-use Rattle.teco_scan.specs.Scan.{Reading, or_else, digits, bare, register, byte, text, set_text, replace, Instruction, step, mark, decide, tag, escape, Order, test_of, byte_at, register_at, test_at, delimiter_at, text_at, operand_at, modifiers_at, after_letter, after_name, admits, row_at, at_row, command_at, of_row, is_cut, run_of, after_run, begins_run, token_from, no_modifiers}
-use Rattle.teco_scan.specs.Spelling.{Marks, no_mark, at_mark, colon_mark, SpellsName, one_spelled, two_spelled, three_spelled, control_spelled, caret_spelled, Delimits, Ends, SpellsOperand, bare_spelled, mark_spelled, escape_spelled, register_spelled, byte_spelled, test_spelled, text_spelled, tag_spelled, set_text_spelled, replace_spelled, Among, StandsAt, Spells, run_spelled, command_spelled, IsSpelled}
+use Rattle.teco_scan.specs.Scan.{Reading, or_else, register, byte, text, set_text, replace, Instruction, step, decide, tag, Order, test_of, byte_at, register_at, test_at, delimiter_at, text_at, operand_at, modifiers_at, after_letter, after_name, admits, row_at, at_row, command_at, of_row, is_cut, run_of, after_run, begins_run, token_from, no_modifiers}
+use Rattle.teco_scan.specs.Spelling.{Marks, no_mark, at_mark, colon_mark, SpellsName, one_spelled, two_spelled, three_spelled, control_spelled, caret_spelled, Delimits, Ends, SpellsOperand, bare_spelled, mark_spelled, escape_spelled, register_spelled, byte_spelled, test_spelled, text_spelled, tag_spelled, set_text_spelled, replace_spelled, Among, Spells, run_spelled, command_spelled, IsSpelled}
 
 -- what was read, if anything was, is P of a front, and the rest follows it
 abbrev pub Takes : {A : Type 0} → (A → List ℕ → Type 0) → List ℕ → Reading A → Type 0

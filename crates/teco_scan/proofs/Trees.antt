@@ -1,5 +1,5 @@
 -- What is left of a text, token by token.
-use Rattle.std.proofs.Common.{◌≡◌, ℕ, suc, zero, ◌+◌, ◌<◌, ◌≤◌, Bool, true, false, cond as choose, List, [], ◌∷◌, ◌++◌, length, Result, Ok, Err, refl, sym, ap, ◌∙◌, arith, length-append}
+use Rattle.std.proofs.Common.{◌≡◌, ℕ, suc, zero, ◌<◌, ◌≤◌, true, false, cond as choose, List, [], ◌∷◌, length, Ok, Err, refl, ap, arith, length-append}
 use Rattle.teco_scan.specs.declared.blocks.Kind.{Kind}
 use Rattle.teco_scan.specs.declared.table.TheConstants.{ROWS}
 use Rattle.teco_scan.specs.Scan.{Reading, Order, Scanned, found, ended, fault, scan, scan_here, scanned, after_fillers, token_from, is_filler}

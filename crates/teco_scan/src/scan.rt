@@ -3,6 +3,7 @@ ghost use Rattle.std.specs.Prelude.{◌≡◌, ◌<◌, ◌≤◌, ℕ, length, 
 ghost use Rattle.teco_core.specs.Number.{is_digit};
 ghost use Rattle.teco_core.specs.Register.{upper};
 ghost use Rattle.teco_scan.specs.Scan.{is_filler, admits, is_refused, after_name, ends_inside, row_at, is_cut, command_at, after_letter, token_from, scan, run_of, after_run, after_fillers, test_of, byte_at, register_at, test_at, delimiter_at, text_at, modifiers_at, operand_at};
+ghost use Rattle.teco_scan.specs.Spelling.{IsSpelled, IsLongest, IsCutExactly, LacksRegisterExactly, LacksTestExactly, IsIllExactly, IsFaultOfFour, PassesFillers};
 ghost use Rattle.teco_scan.specs.Seen.{Gives, GivesSome, IsSpanIn, IsKindIn, IsFoundAt, bytes_in, instruction_in, found_in};
 
 use crate::command::{Form, Modifiers, Name, Row, Test};
@@ -431,3 +432,20 @@ pub fn token_at(text: &[u8], at: usize) -> Found
         Err(code) => Found::Fault(code),
     }
 }
+
+/// The laws of spelling, as its clauses.
+///
+/// The token that is read is spelled by the bytes before the rest, and no token that they begin with is longer, but where a
+/// refused name stands. The fault is UTC exactly where no token stands and the bytes are a front of a spelling, IQN and IQC
+/// exactly where they fit a spelling up to its register or test, and ILL exactly where a refused name stands, or nothing
+/// of all this is so; no other fault is read. Fillers are passed.
+pub fn spelling()
+    ensures spelled { IsSpelled ROWS }
+    ensures longest { IsLongest ROWS }
+    ensures cut { IsCutExactly ROWS }
+    ensures no_register { LacksRegisterExactly ROWS }
+    ensures no_test { LacksTestExactly ROWS }
+    ensures ill { IsIllExactly ROWS }
+    ensures faults { IsFaultOfFour ROWS }
+    ensures fillers { PassesFillers }
+{}
