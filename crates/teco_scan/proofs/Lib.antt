@@ -7,3 +7,4 @@ pub mod Cut
 pub mod Fronts
 pub mod Exactly
 pub mod Trees
+pub mod Rows

@@ -449,3 +449,74 @@ pub fn spelling()
     ensures faults { IsFaultOfFour ROWS }
     ensures fillers { PassesFillers }
 {}
+
+#[cfg(test)]
+mod tests {
+    use super::*;
+    use crate::command::{Arithmetic, Bare, Command, Quantity, TextCommand};
+    use teco_core::Op;
+
+    #[test]
+    fn finds_each_token(rt: HostRuntime) {
+        let operator = |op| TokenKind::Item(Item::Bare(Bare::Arithmetic(Arithmetic::Operator(op))));
+        let quantity = |quantity| TokenKind::Item(Item::Bare(Bare::Quantity(quantity)));
+        let command = |command| TokenKind::Item(Item::Bare(Bare::Command(command)));
+        let text = b"20 +-*/\r\nBZ.\0jCT=Ia=b\x1b\x1b";
+        let want = [
+            (0, 2, TokenKind::Item(Item::Digits(Span { from: 0, to: 2 }))),
+            (3, 4, operator(Op::Plus)),
+            (4, 5, operator(Op::Minus)),
+            (5, 6, operator(Op::Times)),
+            (6, 7, operator(Op::Over)),
+            (9, 10, quantity(Quantity::Beginning)),
+            (10, 11, quantity(Quantity::End)),
+            (11, 12, quantity(Quantity::Pointer)),
+            (13, 14, command(Command::Jump)),
+            (14, 15, command(Command::Forward)),
+            (15, 16, command(Command::TypeOut)),
+            (16, 17, command(Command::Print)),
+            (
+                17,
+                22,
+                TokenKind::Item(Item::Text(TextCommand::Insert, Span { from: 18, to: 21 })),
+            ),
+            (22, 23, TokenKind::Escape),
+        ];
+        let mut at = 0;
+        for (from, to, kind) in want {
+            let modifiers = Modifiers {
+                at: false,
+                colons: 0,
+            };
+            let token = Token {
+                span: Span { from, to },
+                modifiers,
+                kind,
+            };
+            assert_eq!(rt; token_at(text, at), Found::Token(token));
+            at = to;
+        }
+        assert_eq!(rt; token_at(text, at), Found::End);
+    }
+
+    #[test]
+    fn names_each_fault(rt: HostRuntime) {
+        let faults: [(&[u8], Code); 9] = [
+            (b"I", Code::Utc),
+            (b"Iab", Code::Utc),
+            (b"==", Code::Ill),
+            (b"===", Code::Ill),
+            (b":=", Code::Ill),
+            (b":::=", Code::Ill),
+            (b"@I/a/", Code::Ill),
+            (b"^", Code::Ill),
+            (b"?", Code::Ill),
+        ];
+        for (text, code) in faults {
+            assert_eq!(rt; token_at(text, 0), Found::Fault(code));
+        }
+        assert_eq!(rt; token_at(b" \r\n\0", 0), Found::End);
+        assert_eq!(rt; token_at(b"", 0), Found::End);
+        spelling();
+    }
+}
