@@ -1,6 +1,6 @@
 -- Of the tokens that the bytes begin with the longest is read; a refused name is ILL.
 use Rattle.std.proofs.Common.{leb-true, ◌≡◌, ◌≢◌, ℕ, ◌<◌, ◌≤◌, Bool, true, false, ◌⊎◌, cond, List, [], ◌∷◌, ◌++◌, length, Option, Some, None, Ok, Err, refl, sym, ap, subst, ◌∙◌, arith, append_assoc, inl, inr, length-append}
-use Rattle.std.specs.Prelude.{◌&&◌, ◌||◌, not, nat_le}
+use Rattle.std.specs.Prelude.{◌==◌, ◌&&◌, ◌||◌, not, nat_le}
 use Rattle.std.proofs.lemmas.Bool.{false_from_ne_true}
 use Rattle.std.specs.List.{AllByRecursion, list_all}
 use Rattle.teco_core.specs.Refusal.{◌>>=◌}
@@ -31,7 +31,7 @@ letter_start b l e ok =
       λ is. let wrong : is_first_letter (upper 58) ≡ true = subst (λ w. is_first_letter (upper w) ≡ true) is ok_b in absurd cc,
       false_from_ne_true (is_digit b) (λ d.
           let small : upper b ≡ b = same_small b (omega (arith, (digit_small b d).1)) in
-          let no : not (is_digit b) ≡ true = subst (λ w. not (is_digit w) ≡ true) small (both _ _ ok_b).1 in
+          let no : not (is_digit b) ≡ true = subst (λ w. not (is_digit w) ≡ true) small (both (is_upper (upper b) && not (upper b == 64) && not (upper b == 58)) (not (is_digit (upper b))) ok_b).1 in
           let never : not true ≡ true = subst (λ w. not w ≡ true) d no in
           absurd cc),
     )
@@ -49,7 +49,7 @@ name_start (two_spelled {l = l} {k = k} {b = b} e f) ok rest = let p = letter_st
 name_start (three_spelled {l = l} {k = k} {j = j} {b = b} e f g) ok rest =
     let p = letter_start b l e (first_letter (is_first_letter l) (is_upper k) (first_letter (is_first_letter l && is_upper k) (is_upper j) ok)) in ((p.0, p.1), p.2)
 name_start (control_spelled {l = l} {b = b} e) ok rest =
-    let high : l ≤ 94 = leb-true l 94 (both _ _ ok).1 in
+    let high : l ≤ 94 = leb-true l 94 (both (nat_le 65 l) (nat_le l 94) ok).1 in
     ((λ is. absurd (omega arith), λ is. absurd (omega arith)), no_digit b (omega arith))
 name_start (caret_spelled e) ok rest = ((λ is. absurd (omega arith), λ is. absurd (omega arith)), refl)
 

@@ -488,14 +488,17 @@ mod tests {
                 at: false,
                 colons: 0,
             };
+            let span = Span { from, to };
             let token = Token {
-                span: Span { from, to },
+                span,
                 modifiers,
                 kind,
             };
+            assert!(rt; at <= text.len());
             assert_eq!(rt; token_at(text, at), Found::Token(token));
             at = to;
         }
+        assert!(rt; at <= text.len());
         assert_eq!(rt; token_at(text, at), Found::End);
     }
 
