@@ -128,6 +128,34 @@ fn text_at(delimiter: u8, text: &[u8], at: usize) -> Result<(Span, usize), Code>
     }
 }
 
+/// A register and its new text.
+#[tactic(auto, unfolding(crate::specs::Scan::operand_at))]
+fn set_text_at(modifiers: Modifiers, text: &[u8], at: usize) -> Result<(TokenKind, usize), Code>
+    requires { at ≤ length text.now }
+    ensures read { Gives (λ x. (instruction_in text.now x.0, drop x.1 text.now)) result (operand_at Form.SetText modifiers (drop at text.now)) }
+    ensures within { IfOk result (λ x. (at ≤ x.1) × (x.1 ≤ length text.now)) }
+    ensures spans { IfOk result (λ x. IsKindIn (length text.now) x.0) }
+{
+    let (register, at) = register_at(text, at)?;
+    let (delimiter, at) = delimiter_at(modifiers, ESCAPE, text, at)?;
+    let (span, at) = text_at(delimiter, text, at)?;
+    Ok((TokenKind::Item(Item::SetText(register, span)), at))
+}
+
+/// A text and the one to replace it.
+#[tactic(auto, unfolding(crate::specs::Scan::operand_at))]
+fn replace_at(modifiers: Modifiers, text: &[u8], at: usize) -> Result<(TokenKind, usize), Code>
+    requires { at ≤ length text.now }
+    ensures read { Gives (λ x. (instruction_in text.now x.0, drop x.1 text.now)) result (operand_at Form.Replace modifiers (drop at text.now)) }
+    ensures within { IfOk result (λ x. (at ≤ x.1) × (x.1 ≤ length text.now)) }
+    ensures spans { IfOk result (λ x. IsKindIn (length text.now) x.0) }
+{
+    let (delimiter, at) = delimiter_at(modifiers, ESCAPE, text, at)?;
+    let (old, at) = text_at(delimiter, text, at)?;
+    let (new, at) = text_at(delimiter, text, at)?;
+    Ok((TokenKind::Item(Item::Replace(old, new)), at))
+}
+
 /// What follows a command's name.
 #[tactic(auto, unfolding(crate::specs::Scan::operand_at))]
 fn operand_at(
@@ -166,18 +194,8 @@ fn operand_at(
             let (name, at) = text_at(b'!', text, at)?;
             Ok((TokenKind::Tag(name), at))
         }
-        Form::SetText => {
-            let (register, at) = register_at(text, at)?;
-            let (delimiter, at) = delimiter_at(modifiers, ESCAPE, text, at)?;
-            let (span, at) = text_at(delimiter, text, at)?;
-            Ok((TokenKind::Item(Item::SetText(register, span)), at))
-        }
-        Form::Replace => {
-            let (delimiter, at) = delimiter_at(modifiers, ESCAPE, text, at)?;
-            let (old, at) = text_at(delimiter, text, at)?;
-            let (new, at) = text_at(delimiter, text, at)?;
-            Ok((TokenKind::Item(Item::Replace(old, new)), at))
-        }
+        Form::SetText => set_text_at(modifiers, text, at),
+        Form::Replace => replace_at(modifiers, text, at),
         Form::Refused => Err(Code::Ill),
     }
 }
@@ -194,27 +212,21 @@ fn modifiers_at(modifiers: Modifiers, text: &[u8], at: usize) -> Result<(Modifie
         if modifiers.at {
             return Err(Code::Ill);
         }
-        return modifiers_at(
-            Modifiers {
-                at: true,
-                colons: modifiers.colons,
-            },
-            text,
-            at + 1,
-        );
+        let marked = Modifiers {
+            at: true,
+            ..modifiers
+        };
+        return modifiers_at(marked, text, at + 1);
     }
     if at < text.len() && text[at] == b':' {
         if modifiers.colons == 2 {
             return Err(Code::Ill);
         }
-        return modifiers_at(
-            Modifiers {
-                at: modifiers.at,
-                colons: modifiers.colons + 1,
-            },
-            text,
-            at + 1,
-        );
+        let marked = Modifiers {
+            colons: modifiers.colons + 1,
+            ..modifiers
+        };
+        return modifiers_at(marked, text, at + 1);
     }
     Ok((modifiers, at))
 }
