@@ -1,1 +1,10 @@
 pub mod Places
+pub mod Sound
+pub mod Again
+pub mod Longest
+pub mod Faults
+pub mod Cut
+pub mod Fronts
+pub mod Exactly
+pub mod Trees
+pub mod Rows

@@ -12,6 +12,6 @@ pub use command::{
     Arithmetic, Bare, BlockMark, Command, Form, LevelCommand, Modifiers, Name, Quantity,
     RegisterCommand, Row, Test, TextCommand,
 };
-pub use scan::token_at;
+pub use scan::{spelling, token_at};
 pub use table::ROWS;
 pub use token::{Found, Item, Span, Token, TokenKind};

@@ -3,6 +3,7 @@ ghost use Rattle.std.specs.Prelude.{◌≡◌, ◌<◌, ◌≤◌, ℕ, length, 
 ghost use Rattle.teco_core.specs.Number.{is_digit};
 ghost use Rattle.teco_core.specs.Register.{upper};
 ghost use Rattle.teco_scan.specs.Scan.{is_filler, admits, is_refused, after_name, ends_inside, row_at, is_cut, command_at, after_letter, token_from, scan, run_of, after_run, after_fillers, test_of, byte_at, register_at, test_at, delimiter_at, text_at, modifiers_at, operand_at};
+ghost use Rattle.teco_scan.specs.Spelling.{IsSpelled, IsLongest, IsCutExactly, LacksRegisterExactly, LacksTestExactly, IsIllExactly, IsFaultOfFour, PassesFillers};
 ghost use Rattle.teco_scan.specs.Seen.{Gives, GivesSome, IsSpanIn, IsKindIn, IsFoundAt, bytes_in, instruction_in, found_in};
 
 use crate::command::{Form, Modifiers, Name, Row, Test};
@@ -127,6 +128,34 @@ fn text_at(delimiter: u8, text: &[u8], at: usize) -> Result<(Span, usize), Code>
     }
 }
 
+/// A register and its new text.
+#[tactic(auto, unfolding(crate::specs::Scan::operand_at))]
+fn set_text_at(modifiers: Modifiers, text: &[u8], at: usize) -> Result<(TokenKind, usize), Code>
+    requires { at ≤ length text.now }
+    ensures read { Gives (λ x. (instruction_in text.now x.0, drop x.1 text.now)) result (operand_at Form.SetText modifiers (drop at text.now)) }
+    ensures within { IfOk result (λ x. (at ≤ x.1) × (x.1 ≤ length text.now)) }
+    ensures spans { IfOk result (λ x. IsKindIn (length text.now) x.0) }
+{
+    let (register, at) = register_at(text, at)?;
+    let (delimiter, at) = delimiter_at(modifiers, ESCAPE, text, at)?;
+    let (span, at) = text_at(delimiter, text, at)?;
+    Ok((TokenKind::Item(Item::SetText(register, span)), at))
+}
+
+/// A text and the one to replace it.
+#[tactic(auto, unfolding(crate::specs::Scan::operand_at))]
+fn replace_at(modifiers: Modifiers, text: &[u8], at: usize) -> Result<(TokenKind, usize), Code>
+    requires { at ≤ length text.now }
+    ensures read { Gives (λ x. (instruction_in text.now x.0, drop x.1 text.now)) result (operand_at Form.Replace modifiers (drop at text.now)) }
+    ensures within { IfOk result (λ x. (at ≤ x.1) × (x.1 ≤ length text.now)) }
+    ensures spans { IfOk result (λ x. IsKindIn (length text.now) x.0) }
+{
+    let (delimiter, at) = delimiter_at(modifiers, ESCAPE, text, at)?;
+    let (old, at) = text_at(delimiter, text, at)?;
+    let (new, at) = text_at(delimiter, text, at)?;
+    Ok((TokenKind::Item(Item::Replace(old, new)), at))
+}
+
 /// What follows a command's name.
 #[tactic(auto, unfolding(crate::specs::Scan::operand_at))]
 fn operand_at(
@@ -165,18 +194,8 @@ fn operand_at(
             let (name, at) = text_at(b'!', text, at)?;
             Ok((TokenKind::Tag(name), at))
         }
-        Form::SetText => {
-            let (register, at) = register_at(text, at)?;
-            let (delimiter, at) = delimiter_at(modifiers, ESCAPE, text, at)?;
-            let (span, at) = text_at(delimiter, text, at)?;
-            Ok((TokenKind::Item(Item::SetText(register, span)), at))
-        }
-        Form::Replace => {
-            let (delimiter, at) = delimiter_at(modifiers, ESCAPE, text, at)?;
-            let (old, at) = text_at(delimiter, text, at)?;
-            let (new, at) = text_at(delimiter, text, at)?;
-            Ok((TokenKind::Item(Item::Replace(old, new)), at))
-        }
+        Form::SetText => set_text_at(modifiers, text, at),
+        Form::Replace => replace_at(modifiers, text, at),
         Form::Refused => Err(Code::Ill),
     }
 }
@@ -193,27 +212,21 @@ fn modifiers_at(modifiers: Modifiers, text: &[u8], at: usize) -> Result<(Modifie
         if modifiers.at {
             return Err(Code::Ill);
         }
-        return modifiers_at(
-            Modifiers {
-                at: true,
-                colons: modifiers.colons,
-            },
-            text,
-            at + 1,
-        );
+        let marked = Modifiers {
+            at: true,
+            ..modifiers
+        };
+        return modifiers_at(marked, text, at + 1);
     }
     if at < text.len() && text[at] == b':' {
         if modifiers.colons == 2 {
             return Err(Code::Ill);
         }
-        return modifiers_at(
-            Modifiers {
-                at: modifiers.at,
-                colons: modifiers.colons + 1,
-            },
-            text,
-            at + 1,
-        );
+        let marked = Modifiers {
+            colons: modifiers.colons + 1,
+            ..modifiers
+        };
+        return modifiers_at(marked, text, at + 1);
     }
     Ok((modifiers, at))
 }
@@ -429,5 +442,96 @@ pub fn token_at(text: &[u8], at: usize) -> Found
             kind,
         }),
         Err(code) => Found::Fault(code),
+    }
+}
+
+/// The laws of spelling, as its clauses.
+///
+/// The token that is read is spelled by the bytes before the rest, and no token that they begin with is longer, but where a
+/// refused name stands. The fault is UTC exactly where no token stands and the bytes are a front of a spelling, IQN and IQC
+/// exactly where they fit a spelling up to its register or test, and ILL exactly where a refused name stands, or nothing
+/// of all this is so; no other fault is read. Fillers are passed.
+pub fn spelling()
+    ensures spelled { IsSpelled ROWS }
+    ensures longest { IsLongest ROWS }
+    ensures cut { IsCutExactly ROWS }
+    ensures no_register { LacksRegisterExactly ROWS }
+    ensures no_test { LacksTestExactly ROWS }
+    ensures ill { IsIllExactly ROWS }
+    ensures faults { IsFaultOfFour ROWS }
+    ensures fillers { PassesFillers }
+{}
+
+#[cfg(test)]
+mod tests {
+    use super::*;
+    use crate::command::{Arithmetic, Bare, Command, Quantity, TextCommand};
+    use teco_core::Op;
+
+    #[test]
+    fn finds_each_token(rt: HostRuntime) {
+        let operator = |op| TokenKind::Item(Item::Bare(Bare::Arithmetic(Arithmetic::Operator(op))));
+        let quantity = |quantity| TokenKind::Item(Item::Bare(Bare::Quantity(quantity)));
+        let command = |command| TokenKind::Item(Item::Bare(Bare::Command(command)));
+        let text = b"20 +-*/\r\nBZ.\0jCT=Ia=b\x1b\x1b";
+        let want = [
+            (0, 2, TokenKind::Item(Item::Digits(Span { from: 0, to: 2 }))),
+            (3, 4, operator(Op::Plus)),
+            (4, 5, operator(Op::Minus)),
+            (5, 6, operator(Op::Times)),
+            (6, 7, operator(Op::Over)),
+            (9, 10, quantity(Quantity::Beginning)),
+            (10, 11, quantity(Quantity::End)),
+            (11, 12, quantity(Quantity::Pointer)),
+            (13, 14, command(Command::Jump)),
+            (14, 15, command(Command::Forward)),
+            (15, 16, command(Command::TypeOut)),
+            (16, 17, command(Command::Print)),
+            (
+                17,
+                22,
+                TokenKind::Item(Item::Text(TextCommand::Insert, Span { from: 18, to: 21 })),
+            ),
+            (22, 23, TokenKind::Escape),
+        ];
+        let mut at = 0;
+        for (from, to, kind) in want {
+            let modifiers = Modifiers {
+                at: false,
+                colons: 0,
+            };
+            let span = Span { from, to };
+            let token = Token {
+                span,
+                modifiers,
+                kind,
+            };
+            assert!(rt; at <= text.len());
+            assert_eq!(rt; token_at(text, at), Found::Token(token));
+            at = to;
+        }
+        assert!(rt; at <= text.len());
+        assert_eq!(rt; token_at(text, at), Found::End);
+    }
+
+    #[test]
+    fn names_each_fault(rt: HostRuntime) {
+        let faults: [(&[u8], Code); 9] = [
+            (b"I", Code::Utc),
+            (b"Iab", Code::Utc),
+            (b"==", Code::Ill),
+            (b"===", Code::Ill),
+            (b":=", Code::Ill),
+            (b":::=", Code::Ill),
+            (b"@I/a/", Code::Ill),
+            (b"^", Code::Ill),
+            (b"?", Code::Ill),
+        ];
+        for (text, code) in faults {
+            assert_eq!(rt; token_at(text, 0), Found::Fault(code));
+        }
+        assert_eq!(rt; token_at(b" \r\n\0", 0), Found::End);
+        assert_eq!(rt; token_at(b"", 0), Found::End);
+        spelling();
     }
 }
