@@ -1,9 +1,9 @@
 //! A region beside the allocator that it came from, so that it can grow and is given back.
-ghost use Rattle.std.specs.Prelude.{◌≡◌, ◌+◌, ◌^◌, ◌<◌, ◌≤◌, [], ◌++◌, length, replicate, IfOk, OnOk, OnErr};
+ghost use Rattle.std.specs.Prelude.{◌≡◌, ◌+◌, ◌^◌, ◌<◌, ◌≤◌, [], ◌++◌, length, take, drop, replicate, IfOk, OnOk, OnErr};
 ghost use Rattle.teco_gap.specs.Gap.{around};
 
 use super::NoMemory;
-use super::moves::move_gap;
+use super::moves::{fill, move_gap};
 use super::region::Region;
 use std::alloc::Global;
 
@@ -56,33 +56,59 @@ impl Block {
     }
 
     // Writes `n` zeros behind the bytes that are written.
-    fn append_zeros(&mut self, n: usize)
-        requires { length self.old.region.bytes + n ≤ self.old.cap }
-        ensures bytes { self.new.region.bytes ≡ self.old.region.bytes ++ replicate n 0 }
-        ensures cap { self.new.cap ≡ self.old.cap }
+    fn with_zeros(self, n: usize) -> Block
+        requires { length self.region.bytes + n ≤ self.cap }
+        ensures bytes { result.region.bytes ≡ self.region.bytes ++ replicate n 0 }
+        ensures cap { result.cap ≡ self.cap }
     {
+        let Block {
+            mut region,
+            cap,
+            alloc,
+        } = self;
         for _written in 0..n {
-            self.region.put(0);
+            region.put(0);
         }
+        Block { region, cap, alloc }
     }
 
     // Makes the gap from `gap` to `tail` longer by at least `lacking`, and returns where it ends then.
     // It is made longer by an eighth of what follows it, if there is room, so that few inserts move that.
-    pub(crate) fn widen(&mut self, gap: usize, tail: usize, lacking: usize) -> usize
-        requires gap { (gap ≤ tail) × (tail ≤ length self.old.region.bytes) }
-        requires fits { length self.old.region.bytes + lacking ≤ self.old.cap }
-        ensures wider { tail + lacking ≤ result }
-        ensures same { around self.new.region.bytes gap result ≡ around self.old.region.bytes gap tail }
-        ensures length { length self.new.region.bytes + tail ≡ length self.old.region.bytes + result }
-        ensures cap { self.new.cap ≡ self.old.cap }
+    pub(crate) fn widened(self, gap: usize, tail: usize, lacking: usize) -> (Block, usize)
+        requires gap { (gap ≤ tail) × (tail ≤ length self.region.bytes) }
+        requires fits { length self.region.bytes + lacking ≤ self.cap }
+        ensures wider { (tail + lacking ≤ result.1) × (result.1 ≤ length result.0.region.bytes) }
+        ensures same { around result.0.region.bytes gap result.1 ≡ around self.region.bytes gap tail }
+        ensures cap { result.0.cap ≡ self.cap }
     {
-        if lacking == 0 {
-            return tail;
-        }
         let written = self.region.bytes().len();
         let more = ahead(lacking, written - tail, self.cap - written);
-        self.append_zeros(more);
-        move_gap(self.region.bytes_mut(), written, written + more, tail)
+        let mut block = self.with_zeros(more);
+        let tail = move_gap(block.region.bytes_mut(), written, written + more, tail);
+        (block, tail)
+    }
+
+    // Moves the gap from `gap..tail` to `at`, puts `ins` for the `del` bytes there, and returns where the gap ends then.
+    pub(crate) fn splice(
+        &mut self,
+        gap: usize,
+        tail: usize,
+        at: usize,
+        del: usize,
+        ins: &[u8],
+    ) -> usize
+        requires gap { (gap ≤ tail) × (tail ≤ length self.old.region.bytes) }
+        requires inside { at + del ≤ length (around self.old.region.bytes gap tail) }
+        requires fits { gap + length ins.now ≤ tail + del }
+        ensures gap { (at + length ins.now ≤ result) × (result ≤ length self.new.region.bytes) }
+        ensures before { take (at + length ins.now) self.new.region.bytes ≡ take at (around self.old.region.bytes gap tail) ++ ins.now }
+        ensures after { drop result self.new.region.bytes ≡ drop (at + del) (around self.old.region.bytes gap tail) }
+        ensures cap { self.new.cap ≡ self.old.cap }
+    {
+        let bytes = self.region.bytes_mut();
+        let end = move_gap(bytes, gap, tail, at) + del;
+        fill(bytes, at, ins);
+        end
     }
 }
 
