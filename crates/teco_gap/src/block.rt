@@ -89,7 +89,7 @@ impl Block {
         (block, tail)
     }
 
-    // Moves the gap from `gap..tail` to `at`, puts `ins` for the `del` bytes there, and returns where the gap ends then.
+    // Moves the gap from `gap..tail` to `at`, puts `ins` for the `del` bytes there, and returns the gap behind it.
     pub(crate) fn splice(
         &mut self,
         gap: usize,
@@ -97,19 +97,19 @@ impl Block {
         at: usize,
         del: usize,
         ins: &[u8],
-    ) -> usize
+    ) -> (usize, usize)
         requires gap { (gap ≤ tail) × (tail ≤ length self.old.region.bytes) }
         requires inside { at + del ≤ length (around self.old.region.bytes gap tail) }
         requires fits { gap + length ins.now ≤ tail + del }
-        ensures gap { (at + length ins.now ≤ result) × (result ≤ length self.new.region.bytes) }
-        ensures before { take (at + length ins.now) self.new.region.bytes ≡ take at (around self.old.region.bytes gap tail) ++ ins.now }
-        ensures after { drop result self.new.region.bytes ≡ drop (at + del) (around self.old.region.bytes gap tail) }
+        ensures gap { (result.0 ≤ result.1) × (result.1 ≤ length self.new.region.bytes) }
+        ensures before { take result.0 self.new.region.bytes ≡ take at (around self.old.region.bytes gap tail) ++ ins.now }
+        ensures after { drop result.1 self.new.region.bytes ≡ drop (at + del) (around self.old.region.bytes gap tail) }
         ensures cap { self.new.cap ≡ self.old.cap }
     {
         let bytes = self.region.bytes_mut();
         let end = move_gap(bytes, gap, tail, at) + del;
         fill(bytes, at, ins);
-        end
+        (at + ins.len(), end)
     }
 }
 
