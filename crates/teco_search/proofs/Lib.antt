@@ -1,0 +1,4 @@
+mod Rows
+pub mod Runs
+pub mod Lists
+pub mod Ends

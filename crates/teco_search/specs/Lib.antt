@@ -1,0 +1,3 @@
+pub mod Element
+pub mod Reading
+pub mod Occurrence

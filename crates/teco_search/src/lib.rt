@@ -1,0 +1,9 @@
+//! Search texts, and where they occur in a text that lies in two halves.
+#![tactic(auto)]
+
+mod element;
+mod joined;
+mod matching;
+mod reading;
+
+pub use element::{Class, Element, Item, Items, OneByte};
