@@ -2,3 +2,6 @@ mod Rows
 pub mod Runs
 pub mod Lists
 pub mod Ends
+pub mod Choosing
+pub mod Past
+pub mod Occurring

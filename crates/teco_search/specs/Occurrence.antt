@@ -1,5 +1,5 @@
 -- Where the elements of a search text match, and which matches are its occurrences from a place.
-use Rattle.std.specs.Prelude.{ℕ, zero, suc, ◌+◌, Bool, not, List, [], ◌∷◌, length, drop, reverse, Option, Some, None, slice_get, ℤ, pos, negsuc, nat_le, ◌==◌, option_and_then, if◌then◌else◌}
+use Rattle.std.specs.Prelude.{◌≡◌, ℕ, zero, suc, ◌+◌, Bool, not, List, [], ◌∷◌, length, drop, reverse, Option, Some, None, slice_get, ℤ, pos, negsuc, nat_le, ◌==◌, option_and_then, if◌then◌else◌}
 use Rattle.std.specs.List.{filter_map, range_with_len, prefix_len}
 use Rattle.std.specs.Option.{option_map}
 use Rattle.teco_core.specs.declared.case_mode.CaseMode.{CaseMode}
@@ -11,6 +11,9 @@ use Rattle.teco_search.specs.Element.{is_blank, admits}
 pub record Sought : Type 0 where
   pub mode : CaseMode
   pub elements : List Element
+
+abbrev pub looked_for : CaseMode → List Element → Sought
+looked_for mode elements = record { mode = mode; elements = elements }
 
 -- Matching.
 
@@ -78,3 +81,13 @@ unfoldable pub occurrence : Sought → List ℕ → ℕ → ℤ → Option Span
 occurrence sought text from (pos zero) = None
 occurrence sought text from (pos (suc n)) = slice_get (forward sought text from) n
 occurrence sought text from (negsuc n) = slice_get (backward sought text from) n
+
+-- The forward occurrences from a place are none, or this one and then those from its end.
+abbrev pub BeginsForward : Sought → List ℕ → ℕ → Option Span → Type 0
+BeginsForward sought text from None = forward sought text from ≡ []
+BeginsForward sought text from (Some m) = forward sought text from ≡ m ∷ forward sought text m.1
+
+-- Backward occurrences are none, or this one and then those that end no later than it begins.
+abbrev pub BeginsBackward : Sought → List ℕ → List Span → Option Span → Type 0
+BeginsBackward sought text all None = all ≡ []
+BeginsBackward sought text all (Some m) = all ≡ m ∷ before sought text m.0

@@ -2,6 +2,7 @@
 #![tactic(auto)]
 
 mod element;
+mod find;
 mod joined;
 mod matching;
 mod reading;
