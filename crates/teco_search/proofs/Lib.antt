@@ -5,3 +5,5 @@ pub mod Ends
 pub mod Choosing
 pub mod Past
 pub mod Occurring
+pub mod Literals
+pub mod Halves

@@ -1,3 +1,5 @@
 pub mod Element
 pub mod Reading
 pub mod Occurrence
+pub mod Literal
+pub mod Pattern

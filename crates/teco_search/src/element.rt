@@ -2,6 +2,7 @@
 ghost use Rattle.std.specs.Prelude.{◌≡◌};
 ghost use Rattle.std.specs.List.{list_any};
 ghost use Rattle.teco_search.specs.Element.{is_lower, is_upper, is_letter, is_digit, is_blank, is_line_end, upper, is_in, item_admits, admits};
+ghost use Rattle.teco_search.specs.Literal.{is_exact};
 
 use std::marker::Model;
 use teco_core::CaseMode;
@@ -104,6 +105,16 @@ pub(crate) fn upper(byte: u8) -> u8
     ensures { result ≡ upper byte }
 {
     if is_lower(byte) { byte - 32 } else { byte }
+}
+
+/// Whether a byte as an item admits itself alone.
+pub(crate) fn is_exact(mode: CaseMode, byte: u8) -> bool
+    ensures { result ≡ is_exact mode byte }
+{
+    match mode {
+        CaseMode::Exact => true,
+        CaseMode::Either => !is_letter(byte),
+    }
 }
 
 impl Class {

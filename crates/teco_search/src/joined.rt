@@ -1,5 +1,6 @@
 //! A text that lies in two halves.
-ghost use Rattle.std.specs.Prelude.{◌≡◌, ◌++◌, ◌+◌, ◌^◌, ◌<◌, ◌≤◌, ℕ, List, length, slice_get, IfSome};
+ghost use Rattle.std.specs.Prelude.{◌≡◌, ◌++◌, ◌+◌, ◌^◌, ◌<◌, ◌≤◌, ℕ, List, length, slice_get, IfSome, IsTrue, ◌↔◌};
+ghost use Rattle.memchr.specs.Find.{OccursAt};
 
 use std::marker::Model;
 
@@ -40,5 +41,29 @@ impl<'t> Joined<'t> {
         } else {
             self.after.get(at - self.before.len()).copied()
         }
+    }
+
+    /// The two halves.
+    pub(crate) fn halves(&self) -> (&'t [u8], &'t [u8])
+        ensures { result.0.now ++ result.1.now ≡ self.now }
+    {
+        (self.before, self.after)
+    }
+
+    /// Whether these bytes stand at a place.
+    pub(crate) fn has(&self, at: usize, bytes: &[u8]) -> bool
+        ensures holds { IsTrue result ↔ OccursAt self.now bytes.now at }
+        ensures within { IsTrue result → at + length bytes.now < 2 ^ 64 }
+    {
+        let len = self.len();
+        if at > len || bytes.len() > len - at {
+            return false;
+        }
+        'bytes: for (i, byte) in bytes.iter().enumerate() {
+            if self.get(at + i) != Some(*byte) {
+                return false;
+            }
+        }
+        true
     }
 }

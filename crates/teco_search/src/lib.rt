@@ -4,7 +4,10 @@
 mod element;
 mod find;
 mod joined;
+mod literal;
 mod matching;
+mod pattern;
 mod reading;
 
 pub use element::{Class, Element, Item, Items, OneByte};
+pub use pattern::{Pattern, matches_at};

@@ -1,10 +1,12 @@
 //! Reading a search text.
-ghost use Rattle.std.specs.Prelude.{◌≡◌, ◌⊎◌, ◌<◌, ◌≤◌, ◌++◌, ◌∷◌, [], length, IfOk, IfErr, OnOk};
+ghost use Rattle.std.specs.Prelude.{◌≡◌, ◌⊎◌, ◌<◌, ◌≤◌, ◌++◌, ◌∷◌, [], length, map, true, IfOk, IfErr, IfSome, OnOk};
+ghost use Rattle.std.specs.List.{list_all};
+ghost use Rattle.teco_search.specs.Literal.{plain, is_exact};
 ghost use Rattle.teco_search.specs.Reading.{Reads, stands_at, byte_at, class_named, item_at, listed_at, items_at, one_byte_at, element_at, read};
 
-use crate::element::{Class, Element, Item, Items, OneByte, upper};
+use crate::element::{Class, Element, Item, Items, OneByte, is_exact, upper};
 use std::alloc::Global;
-use teco_core::Code;
+use teco_core::{CaseMode, Code};
 
 const CONTROL_E: u8 = 5;
 const CONTROL_N: u8 = 14;
@@ -154,6 +156,7 @@ fn element_at(alloc: Global, text: &[u8], at: usize) -> Result<(Element, usize),
 /// The elements of a search text.
 pub(crate) fn read(alloc: Global, text: &[u8]) -> Result<Vec<Element>, Code>
     ensures ok { IfOk result (λ es. read text.now ≡ Ok es.items) }
+    ensures some { IfOk result (λ es. 0 < length text.now → 0 < length es.items) }
     ensures err { IfErr result (λ e. (e ≡ Code.Mem) ⊎ ((e ≡ Code.Ice) × (read text.now ≡ Err Code.Ice))) }
 {
     let mut elements = Vec::new(alloc);
@@ -164,4 +167,30 @@ pub(crate) fn read(alloc: Global, text: &[u8]) -> Result<Vec<Element>, Code>
         at = behind;
     }
     Ok(elements)
+}
+
+/// The bytes of a search text that has no other elements, where each of them admits itself alone; none where it has others or isn't allowed.
+pub(crate) fn literal(
+    alloc: Global,
+    text: &[u8],
+    mode: CaseMode,
+) -> Result<Option<Vec<u8>>, Code>
+    ensures elements { IfOk result (λ r. IfSome r (λ bytes. read text.now ≡ Ok (map plain bytes.items))) }
+    ensures exact { IfOk result (λ r. IfSome r (λ bytes. list_all (is_exact mode) bytes.items ≡ true)) }
+    ensures some { IfOk result (λ r. IfSome r (λ bytes. 0 < length text.now → 0 < length bytes.items)) }
+    ensures err { IfErr result (λ e. e ≡ Code.Mem) }
+{
+    let mut bytes = Vec::new(alloc);
+    let mut at = 0;
+    'bytes: while at < text.len() {
+        let Ok((Item::Byte(byte), behind)) = item_at(text, at) else {
+            return Ok(None);
+        };
+        if !is_exact(mode, byte) {
+            return Ok(None);
+        }
+        keep(&mut bytes, byte)?;
+        at = behind;
+    }
+    Ok(Some(bytes))
 }

@@ -1,4 +1,5 @@
 use Rattle.std.proofs.Common.{◌≡◌, ◌+◌, ◌<◌, ◌≤◌, ◌∷◌, [], ◌++◌, List, length, Ok, Err, sym, ap, ◌∙◌, subst, ⊎_elim, inl, inr, refl, arith}
+use Rattle.std.proofs.lemmas.List.{length_push}
 use Rattle.std.proofs.lemmas.Result.{err_from_is_err_and}
 use Rattle.teco_core.specs.declared.code.Code.TheVariants.{Ice}
 use Rattle.teco_search.specs.declared.element.Element.{Element}
@@ -7,7 +8,7 @@ use Rattle.teco_search.proofs.Lists.{ElementsSoFar, elements_begin, elements_don
 use Rattle.teco_search.proofs.reading.read.Goals as goal
 
 pub elements-init : goal.elements-init
-elements-init c = record { within = omega arith; so_far = rw c.new-elements.ensures.items (elements_begin c.args.text.now) }
+elements-init c = record { within = omega arith; so_far = rw c.new-elements.ensures.items (elements_begin c.args.text.now); some = λ past. absurd (omega arith) }
 
 pub returns-in_err-element-clause-err : goal.returns-in_err-element-clause-err
 returns-in_err-element-clause-err c =
@@ -27,4 +28,5 @@ elements-preserved c =
       within = c.in_ok-element.ensures.within.1;
       so_far = rw c.in_ok-keep.ensures.ok (elements_more c.args.text.now c.elements.elements.items c.elements.at c.elements.invariant.so_far c.in_ok-element.element c.in_ok-element.behind
         inside c.in_ok-element.ensures.read c.in_ok-element.ensures.within.0);
+      some = λ past. omega (arith, ap length c.in_ok-keep.ensures.ok, length_push c.elements.elements.items c.in_ok-element.element);
     }
