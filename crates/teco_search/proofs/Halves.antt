@@ -1,8 +1,9 @@
 -- Where bytes stand in a text of two halves, from where they stand in each.
-use Rattle.std.proofs.Common.{◌≡◌, ℕ, ◌+◌, ◌-◌, ◌<◌, ◌≤◌, List, ◌++◌, length, get_or, take, drop, Option, Some, None, refl, sym, ap, subst, ◌∙◌, arith, length-append, length-drop, length-take}
-use Rattle.std.specs.Prelude.{min}
-use Rattle.std.proofs.lemmas.List.{get_or_append_left, get_or-append_right, get_or-take, get_or-drop}
-use Rattle.memchr.specs.Find.{OccursAt, Nowhere, NoneBefore, NoneAfter, IsFirst, IsLast}
+use Rattle.std.proofs.Common.{◌≡◌, ℕ, ◌+◌, ◌-◌, ◌<◌, ◌≤◌, List, ◌++◌, length, get_or, take, drop, Option, Some, None, refl, sym, ap, subst, ◌∙◌, arith, ⊎_elim, length-append, length-drop, length-take}
+use Rattle.std.specs.Prelude.{min, max}
+use Rattle.std.proofs.lemmas.Bool.{cases_lt}
+use Rattle.std.proofs.lemmas.List.{take_rest, get_or_append_left, get_or-append_right, get_or-take, get_or-drop}
+use Rattle.memchr.specs.Find.{FindsNeedle, OccursAt, Nowhere, NoneBefore, NoneAfter, IsFirst, IsLast}
 
 module _ (bytes : List ℕ) where
   dropped_to : (xs : List ℕ) (a k : ℕ) → a ≤ length xs → OccursAt (drop a xs) bytes k → OccursAt xs bytes (a + k)
@@ -120,3 +121,26 @@ module _ (bytes : List ℕ) where
           let here = taken_from after b (k - length before) (omega arith) (back_from k (omega arith) o) in
           let fits = here.fits in
           h.0.after (k - length before) (omega arith) (omega arith) here)
+
+  -- what a search of the rest of a slice answers, as one of the rest of a list
+  pub rest_first : (xs : List ℕ) (a : ℕ) (r : Option ℕ) → FindsNeedle (take (length xs - a) (drop a xs)) bytes 0 r → FindsNeedle (drop a xs) bytes 0 r
+  rest_first xs a r h = subst (λ ys. FindsNeedle ys bytes 0 r) (take_rest xs a) h
+
+  module _ (before after : List ℕ) (some : 0 < length bytes) where
+    -- Up to a place of the first half: what ends in it, and what begins too late to end in it.
+    pub first_gap :
+      (from low end : ℕ) → low ≡ max from (length before - (length bytes - 1))
+      → ((k : ℕ) → from ≤ k → k + length bytes ≤ length before → OccursAt (before ++ after) bytes k → ⊥)
+      → ((k : ℕ) → low ≤ k → k < end → OccursAt (before ++ after) bytes k → ⊥)
+      → (k : ℕ) → from ≤ k → k < end → OccursAt (before ++ after) bytes k → ⊥
+    first_gap from low end is inside across k above below occurs =
+        ⊎_elim (λ ends. inside k above (omega arith) occurs) (λ late. across k (omega arith) below occurs) (cases_lt (k + length bytes) (length before + 1))
+
+    -- The same from the back.
+    pub last_gap :
+      (to low high s : ℕ) → low ≡ length before - (length bytes - 1) → high ≡ min (length before) (to - (length bytes - 1)) → low ≤ s
+      → ((k : ℕ) → length before ≤ k → k + length bytes ≤ to → OccursAt (before ++ after) bytes k → ⊥)
+      → ((k : ℕ) → s ≤ k → k < high → OccursAt (before ++ after) bytes k → ⊥)
+      → (k : ℕ) → s ≤ k → k + length bytes ≤ to → OccursAt (before ++ after) bytes k → ⊥
+    last_gap to low high s low_is high_is above_low inside across k above by occurs =
+        ⊎_elim (λ early. across k above (omega arith) occurs) (λ late. inside k late by occurs) (cases_lt k (length before))
