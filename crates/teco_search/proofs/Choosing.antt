@@ -41,9 +41,9 @@ module _ (sets : Span → Span → Bool) where
   chosen_past passes m ms h = rw h
 
   chosen_hit :
-    (passes : Span → Bool) (front : List Span) (m : Span) (ms : List Span)
-    → AllFail passes front → passes m ≡ true → AllFail (sets m) front → sets m m ≡ false
-    → chosen sets passes (front ++ m ∷ ms) ≡ m ∷ chosen sets (sets m) (front ++ m ∷ ms)
+      (passes : Span → Bool) (front : List Span) (m : Span) (ms : List Span)
+      → AllFail passes front → passes m ≡ true → AllFail (sets m) front → sets m m ≡ false
+      → chosen sets passes (front ++ m ∷ ms) ≡ m ∷ chosen sets (sets m) (front ++ m ∷ ms)
   chosen_hit passes front m ms before here after itself =
       chosen_skip passes front (m ∷ ms) before ∙ chosen_here passes m ms here
       ∙ ap (λ os. m ∷ os) (sym (chosen_skip (sets m) front (m ∷ ms) after ∙ chosen_past (sets m) m ms itself))
@@ -86,18 +86,18 @@ module _ (f : ℕ → Option Span) (placed : (k : ℕ) (m : Span) → f k ≡ So
     forward_none from none =
         chosen_none (λ m. starts_from m.1) (starts_from from) (filter_map f (range_with_len 0 n)) (fails_within (starts_from from) 0 n
         (λ k m low high is. ⊎_elim (λ before. rw (placed k m is).0 (lt-leb from k before))
-          (λ behind. absurd (none-some m (sym (none k behind (omega arith)) ∙ is))) (cases_lt k from)))
+        (λ behind. absurd (none-some m (sym (none k behind (omega arith)) ∙ is))) (cases_lt k from)))
 
     -- Forward: the first from a place on.
     pub forward_hit :
-      (from k : ℕ) (m : Span) → from ≤ k → k < n → f k ≡ Some m → ((j : ℕ) → from ≤ j → j < k → f j ≡ None)
-      → chosen (λ o. starts_from o.1) (starts_from from) (filter_map f (range_with_len 0 n)) ≡ m ∷ chosen (λ o. starts_from o.1) (starts_from m.1) (filter_map f (range_with_len 0 n))
+        (from k : ℕ) (m : Span) → from ≤ k → k < n → f k ≡ Some m → ((j : ℕ) → from ≤ j → j < k → f j ≡ None)
+        → chosen (λ o. starts_from o.1) (starts_from from) (filter_map f (range_with_len 0 n)) ≡ m ∷ chosen (λ o. starts_from o.1) (starts_from m.1) (filter_map f (range_with_len 0 n))
     forward_hit from k m low high is none =
         let here = placed k m is in
         let split = found_split n k m high is in
         rw split (chosen_hit (λ o. starts_from o.1) (starts_from from) (filter_map f (range_with_len 0 k)) m (filter_map f (range_with_len (k + 1) (n - k - 1)))
         (fails_within (starts_from from) 0 k (λ j o a b at. ⊎_elim (λ before. rw (placed j o at).0 (lt-leb from j before))
-          (λ behind. absurd (none-some o (sym (none j behind (omega arith)) ∙ at))) (cases_lt j from)))
+        (λ behind. absurd (none-some o (sym (none j behind (omega arith)) ∙ at))) (cases_lt j from)))
         (le-leb from m.0 (omega (arith, here.0)))
         (fails_within (starts_from m.1) 0 k (λ j o a b at. lt-leb m.1 o.0 (omega (arith, here.1, (placed j o at).0))))
         (lt-leb m.1 m.0 (omega (arith, here.0, here.1))))
@@ -110,14 +110,14 @@ module _ (f : ℕ → Option Span) (placed : (k : ℕ) (m : Span) → f k ≡ So
 
     -- Backward: the last that passes.
     pub backward_hit :
-      (passes : Span → Bool) (k : ℕ) (m : Span) → k < n → f k ≡ Some m → passes m ≡ true → ((j : ℕ) (o : Span) → k < j → j < n → f j ≡ Some o → passes o ≡ false)
-      → chosen (λ o. ends_by o.0) passes (reverse (filter_map f (range_with_len 0 n))) ≡ m ∷ chosen (λ o. ends_by o.0) (ends_by m.0) (reverse (filter_map f (range_with_len 0 n)))
+        (passes : Span → Bool) (k : ℕ) (m : Span) → k < n → f k ≡ Some m → passes m ≡ true → ((j : ℕ) (o : Span) → k < j → j < n → f j ≡ Some o → passes o ≡ false)
+        → chosen (λ o. ends_by o.0) passes (reverse (filter_map f (range_with_len 0 n))) ≡ m ∷ chosen (λ o. ends_by o.0) (ends_by m.0) (reverse (filter_map f (range_with_len 0 n)))
     backward_hit passes k m high is here none =
         let placed_here = placed k m is in
         let front = filter_map f (range_with_len 0 k) in
         let back = filter_map f (range_with_len (k + 1) (n - k - 1)) in
         let turned : reverse (filter_map f (range_with_len 0 n)) ≡ reverse back ++ m ∷ reverse front =
-            ap reverse (found_split n k m high is) ∙ reverse-append front (m ∷ back) ∙ ap (λ ms. ms ++ reverse front) (reverse-append (m ∷ []) back) ∙ append_assoc (reverse back) (m ∷ []) (reverse front) in
+        ap reverse (found_split n k m high is) ∙ reverse-append front (m ∷ back) ∙ ap (λ ms. ms ++ reverse front) (reverse-append (m ∷ []) back) ∙ append_assoc (reverse back) (m ∷ []) (reverse front) in
         rw turned (chosen_hit (λ o. ends_by o.0) passes (reverse back) m (reverse front)
         (AllFail-reverse passes back (fails_within passes (k + 1) (n - k - 1) (λ j o a b at. none j o (omega arith) (omega arith) at)))
         here

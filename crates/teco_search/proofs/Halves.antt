@@ -68,8 +68,8 @@ module _ (bytes : List ℕ) where
         none (k - from) (omega arith) (omega arith) here
 
     pub front_hit :
-      (from s : ℕ) → from ≤ length before → IsFirst (OccursAt (drop from before) bytes) 0 (length (drop from before) + 1) (Some s)
-      → OccursAt (before ++ after) bytes (from + s) × ((k : ℕ) → from ≤ k → k < from + s → OccursAt (before ++ after) bytes k → ⊥)
+        (from s : ℕ) → from ≤ length before → IsFirst (OccursAt (drop from before) bytes) 0 (length (drop from before) + 1) (Some s)
+        → OccursAt (before ++ after) bytes (from + s) × ((k : ℕ) → from ≤ k → k < from + s → OccursAt (before ++ after) bytes k → ⊥)
     front_hit from s within h =
         let there = dropped_to before from s within h.1 in
         let fits = there.fits in
@@ -83,12 +83,13 @@ module _ (bytes : List ℕ) where
         none (k - length before - a) (omega arith) (omega arith) here
 
     pub back_hit :
-      (a s : ℕ) → a ≤ length after → IsFirst (OccursAt (drop a after) bytes) 0 (length (drop a after) + 1) (Some s)
-      → OccursAt (before ++ after) bytes (length before + a + s) × ((k : ℕ) → length before + a ≤ k → k < length before + a + s → OccursAt (before ++ after) bytes k → ⊥)
+        (a s : ℕ) → a ≤ length after → IsFirst (OccursAt (drop a after) bytes) 0 (length (drop a after) + 1) (Some s)
+        → OccursAt (before ++ after) bytes (length before + a + s) × ((k : ℕ) → length before + a ≤ k → k < length before + a + s → OccursAt (before ++ after) bytes k → ⊥)
     back_hit a s within h =
-        let along : length before + (a + s) ≡ length before + a + s = omega arith in
-        (subst (OccursAt (before ++ after) bytes) along (back_to (a + s) (dropped_to after a s within h.1)),
-          λ k low below o. h.0.before (k - length before - a) (omega arith) (omega arith) (dropped_from after a (k - length before) (omega arith) (back_from k (omega arith) o)))
+        let along : length before + (a + s) ≡ length before + a + s = omega arith in (
+          subst (OccursAt (before ++ after) bytes) along (back_to (a + s) (dropped_to after a s within h.1)),
+          λ k low below o. h.0.before (k - length before - a) (omega arith) (omega arith) (dropped_from after a (k - length before) (omega arith) (back_from k (omega arith) o)),
+        )
 
     -- A search of the first half for what ends by a place.
     pub front_by_nowhere : (b : ℕ) → b ≤ length before → Nowhere (OccursAt (take b before) bytes) 0 (length (take b before) + 1) → (k : ℕ) → k + length bytes ≤ b → OccursAt (before ++ after) bytes k → ⊥
@@ -98,13 +99,16 @@ module _ (bytes : List ℕ) where
         none k (omega arith) (omega arith) here
 
     pub front_by_hit :
-      (b s : ℕ) → b ≤ length before → IsLast (OccursAt (take b before) bytes) 0 (length (take b before) + 1) (Some s)
-      → OccursAt (before ++ after) bytes s × (s + length bytes ≤ b) × ((k : ℕ) → s < k → k + length bytes ≤ b → OccursAt (before ++ after) bytes k → ⊥)
-    front_by_hit b s within h =
-        (front_to s (taken_to before b s h.1), (taken_fits before b s h.1).0, λ k above by o.
+        (b s : ℕ) → b ≤ length before → IsLast (OccursAt (take b before) bytes) 0 (length (take b before) + 1) (Some s)
+        → OccursAt (before ++ after) bytes s × (s + length bytes ≤ b) × ((k : ℕ) → s < k → k + length bytes ≤ b → OccursAt (before ++ after) bytes k → ⊥)
+    front_by_hit b s within h = (
+      front_to s (taken_to before b s h.1),
+      (taken_fits before b s h.1).0,
+      λ k above by o.
           let here = taken_from before b k by (front_from k (omega arith) o) in
           let fits = here.fits in
-          h.0.after k (omega arith) (omega arith) here)
+          h.0.after k (omega arith) (omega arith) here,
+    )
 
     -- A search of the second half for what ends by a place.
     pub back_by_nowhere : (b : ℕ) → Nowhere (OccursAt (take b after) bytes) 0 (length (take b after) + 1) → (k : ℕ) → length before ≤ k → k + length bytes ≤ length before + b → OccursAt (before ++ after) bytes k → ⊥
@@ -114,13 +118,16 @@ module _ (bytes : List ℕ) where
         none (k - length before) (omega arith) (omega arith) here
 
     pub back_by_hit :
-      (b s : ℕ) → IsLast (OccursAt (take b after) bytes) 0 (length (take b after) + 1) (Some s)
-      → OccursAt (before ++ after) bytes (length before + s) × (s + length bytes ≤ b) × ((k : ℕ) → length before + s < k → k + length bytes ≤ length before + b → OccursAt (before ++ after) bytes k → ⊥)
-    back_by_hit b s h =
-        (back_to s (taken_to after b s h.1), (taken_fits after b s h.1).0, λ k above by o.
+        (b s : ℕ) → IsLast (OccursAt (take b after) bytes) 0 (length (take b after) + 1) (Some s)
+        → OccursAt (before ++ after) bytes (length before + s) × (s + length bytes ≤ b) × ((k : ℕ) → length before + s < k → k + length bytes ≤ length before + b → OccursAt (before ++ after) bytes k → ⊥)
+    back_by_hit b s h = (
+      back_to s (taken_to after b s h.1),
+      (taken_fits after b s h.1).0,
+      λ k above by o.
           let here = taken_from after b (k - length before) (omega arith) (back_from k (omega arith) o) in
           let fits = here.fits in
-          h.0.after (k - length before) (omega arith) (omega arith) here)
+          h.0.after (k - length before) (omega arith) (omega arith) here,
+    )
 
   -- what a search of the rest of a slice answers, as one of the rest of a list
   pub rest_first : (xs : List ℕ) (a : ℕ) (r : Option ℕ) → FindsNeedle (take (length xs - a) (drop a xs)) bytes 0 r → FindsNeedle (drop a xs) bytes 0 r
@@ -129,18 +136,18 @@ module _ (bytes : List ℕ) where
   module _ (before after : List ℕ) (some : 0 < length bytes) where
     -- Up to a place of the first half: what ends in it, and what begins too late to end in it.
     pub first_gap :
-      (from low end : ℕ) → low ≡ max from (length before - (length bytes - 1))
-      → ((k : ℕ) → from ≤ k → k + length bytes ≤ length before → OccursAt (before ++ after) bytes k → ⊥)
-      → ((k : ℕ) → low ≤ k → k < end → OccursAt (before ++ after) bytes k → ⊥)
-      → (k : ℕ) → from ≤ k → k < end → OccursAt (before ++ after) bytes k → ⊥
+        (from low end : ℕ) → low ≡ max from (length before - (length bytes - 1))
+        → ((k : ℕ) → from ≤ k → k + length bytes ≤ length before → OccursAt (before ++ after) bytes k → ⊥)
+        → ((k : ℕ) → low ≤ k → k < end → OccursAt (before ++ after) bytes k → ⊥)
+        → (k : ℕ) → from ≤ k → k < end → OccursAt (before ++ after) bytes k → ⊥
     first_gap from low end is inside across k above below occurs =
         ⊎_elim (λ ends. inside k above (omega arith) occurs) (λ late. across k (omega arith) below occurs) (cases_lt (k + length bytes) (length before + 1))
 
     -- The same from the back.
     pub last_gap :
-      (to low high s : ℕ) → low ≡ length before - (length bytes - 1) → high ≡ min (length before) (to - (length bytes - 1)) → low ≤ s
-      → ((k : ℕ) → length before ≤ k → k + length bytes ≤ to → OccursAt (before ++ after) bytes k → ⊥)
-      → ((k : ℕ) → s ≤ k → k < high → OccursAt (before ++ after) bytes k → ⊥)
-      → (k : ℕ) → s ≤ k → k + length bytes ≤ to → OccursAt (before ++ after) bytes k → ⊥
+        (to low high s : ℕ) → low ≡ length before - (length bytes - 1) → high ≡ min (length before) (to - (length bytes - 1)) → low ≤ s
+        → ((k : ℕ) → length before ≤ k → k + length bytes ≤ to → OccursAt (before ++ after) bytes k → ⊥)
+        → ((k : ℕ) → s ≤ k → k < high → OccursAt (before ++ after) bytes k → ⊥)
+        → (k : ℕ) → s ≤ k → k + length bytes ≤ to → OccursAt (before ++ after) bytes k → ⊥
     last_gap to low high s low_is high_is above_low inside across k above by occurs =
         ⊎_elim (λ early. across k above (omega arith) occurs) (λ late. inside k late by occurs) (cases_lt k (length before))

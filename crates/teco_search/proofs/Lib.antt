@@ -7,3 +7,5 @@ pub mod Past
 pub mod Occurring
 pub mod Literals
 pub mod Halves
+pub mod Begins
+pub mod Numbered

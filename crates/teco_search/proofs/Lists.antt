@@ -65,9 +65,9 @@ comma_step i (Ok x) at = refl
 comma_step i (Err e) at = refl
 
 pub items_done :
-  (text : List ℕ) (start : ℕ) (is : List Item) (at : ℕ) (so_far : ItemsSoFar text start is at) (i : Item) (behind : ℕ)
-  → listed_at text at ≡ Ok (i, behind) → at < behind → behind ≤ length text → byte_at text behind ≡ Ok 93
-  → items_at (length text) text start ≡ Ok (is ++ i ∷ [], behind + 1)
+    (text : List ℕ) (start : ℕ) (is : List Item) (at : ℕ) (so_far : ItemsSoFar text start is at) (i : Item) (behind : ℕ)
+    → listed_at text at ≡ Ok (i, behind) → at < behind → behind ≤ length text → byte_at text behind ≡ Ok 93
+    → items_at (length text) text start ≡ Ok (is ++ i ∷ [], behind + 1)
 items_done text start is at so_far i behind e past within f = so_far.same ∙ by so_far.left so_far.room
   where
     by : (n : ℕ) → length text ≤ at + n → with_front is (items_at n text at) ≡ Ok (is ++ i ∷ [], behind + 1)
@@ -75,9 +75,9 @@ items_done text start is at so_far i behind e past within f = so_far.same ∙ by
     by (suc n) room = ap (with_front is) (step_read n text at i behind 93 e f)
 
 pub items_more :
-  (text : List ℕ) (start : ℕ) (is : List Item) (at : ℕ) (so_far : ItemsSoFar text start is at) (i : Item) (behind : ℕ)
-  → listed_at text at ≡ Ok (i, behind) → at < behind → behind ≤ length text → byte_at text behind ≡ Ok 44
-  → ItemsSoFar text start (is ++ i ∷ []) (behind + 1)
+    (text : List ℕ) (start : ℕ) (is : List Item) (at : ℕ) (so_far : ItemsSoFar text start is at) (i : Item) (behind : ℕ)
+    → listed_at text at ≡ Ok (i, behind) → at < behind → behind ≤ length text → byte_at text behind ≡ Ok 44
+    → ItemsSoFar text start (is ++ i ∷ []) (behind + 1)
 items_more text start is at so_far i behind e past within f = by so_far.left so_far.room so_far.same
   where
     by : (n : ℕ) → length text ≤ at + n → items_at (length text) text start ≡ with_front is (items_at n text at) → ItemsSoFar text start (is ++ i ∷ []) (behind + 1)

@@ -91,6 +91,7 @@ literal_element text at b q is = by (slice_get text at) refl
   where
     refused : ◌≡◌ {A = Reading Item} (Err Ice) (Ok (Byte b, q)) → ⊥
     refused e = cc
+
     by : (o : Option ℕ) → slice_get text at ≡ o → element_at text at ≡ Ok (plain b, q)
     by None none = absurd (refused (sym (read_none text at none) ∙ is))
     by (Some c) here =
@@ -110,9 +111,9 @@ module _ (mode : CaseMode) (text : List ℕ) where
   unfolding element_end admits
   plain_only b p r exact is =
       option_and_then_some {P = (slice_get text p ≡ Some b) × (r ≡ p + 1)} _ (slice_get text p) r is (λ x here end.
-        let parts = cond_some (admits mode (Single (Byte b)) x) (p + 1) r end in
-        let same : b ≡ x = eqb-true b x (sym (exact_admits mode b x exact) ∙ parts.0) in
-        (here ∙ ap (λ y. let o : Option ℕ = Some y in o) (sym same), sym parts.1))
+      let parts = cond_some (admits mode (Single (Byte b)) x) (p + 1) r end in
+      let same : b ≡ x = eqb-true b x (sym (exact_admits mode b x exact) ∙ parts.0) in
+      (here ∙ ap (λ y. let o : Option ℕ = Some y in o) (sym same), sym parts.1))
 
   -- Bytes that admit themselves alone match where they stand,
   pub literal_hit : (bs : List ℕ) (p : ℕ) → list_all (is_exact mode) bs ≡ true → OccursAt text bs p → match_end mode (map plain bs) text p ≡ Some (p + length bs)
@@ -139,16 +140,16 @@ module _ (mode : CaseMode) (text : List ℕ) where
   literal_only (b ∷ bs) p q within exact is =
       let parts = and_parts (is_exact mode b) (list_all (is_exact mode) bs) exact in
       option_and_then_some {P = OccursAt text (b ∷ bs) p × (q ≡ p + suc (length bs))} (match_end mode (map plain bs) text) (element_end mode (plain b) text p) q is (λ r first rest.
-        let here = plain_only b p r parts.0 first in
-        let inside = slice_get_within text p b here.0 in
-        let next : r ≡ p + 1 = here.1 in
-        let later = literal_only bs r q (omega arith) parts.1 rest in
-        let fits : r + length bs ≤ length text = later.0.fits in
-        (record { fits = omega arith; reads = reads_all b bs p r next (get_or_from_slice_get text p b 0 here.0) later.0.reads }, omega (arith, later.1)))
+      let here = plain_only b p r parts.0 first in
+      let inside = slice_get_within text p b here.0 in
+      let next : r ≡ p + 1 = here.1 in
+      let later = literal_only bs r q (omega arith) parts.1 rest in
+      let fits : r + length bs ≤ length text = later.0.fits in
+      (record { fits = omega arith; reads = reads_all b bs p r next (get_or_from_slice_get text p b 0 here.0) later.0.reads }, omega (arith, later.1)))
     where
       reads_all :
-        (b : ℕ) (bs : List ℕ) (p r : ℕ) → r ≡ p + 1 → get_or text p 0 ≡ b → ((j : ℕ) → j < length bs → get_or text (r + j) 0 ≡ get_or bs j 0)
-        → (j : ℕ) → j < suc (length bs) → get_or text (p + j) 0 ≡ get_or (b ∷ bs) j 0
+          (b : ℕ) (bs : List ℕ) (p r : ℕ) → r ≡ p + 1 → get_or text p 0 ≡ b → ((j : ℕ) → j < length bs → get_or text (r + j) 0 ≡ get_or bs j 0)
+          → (j : ℕ) → j < suc (length bs) → get_or text (p + j) 0 ≡ get_or (b ∷ bs) j 0
       reads_all b bs p r next first reads zero below = let start : p + 0 ≡ p = omega arith in ap (λ k. get_or text k 0) start ∙ first
       reads_all b bs p r next first reads (suc j) below = let along : p + suc j ≡ r + j = omega arith in ap (λ k. get_or text k 0) along ∙ reads j (omega arith)
 
@@ -170,8 +171,8 @@ all_more mode (c ∷ bs) b all here =
 
 -- How a pattern is kept, where it is one of such bytes.
 pub kept_literal :
-  (mode : CaseMode) (form : Form) (bytes : Vec ℕ) (value : Sought) → form ≡ Literal bytes → looked_for mode (elements_of form) ≡ value → is_sound mode form ≡ true
-  → (value ≡ looked_for mode (map plain bytes.items)) × (0 < length bytes.items) × (list_all (is_exact mode) bytes.items ≡ true)
+    (mode : CaseMode) (form : Form) (bytes : Vec ℕ) (value : Sought) → form ≡ Literal bytes → looked_for mode (elements_of form) ≡ value → is_sound mode form ≡ true
+    → (value ≡ looked_for mode (map plain bytes.items)) × (0 < length bytes.items) × (list_all (is_exact mode) bytes.items ≡ true)
 kept_literal mode form bytes value is view sound =
     let parts = and_parts (nat_lt 0 (length bytes.items)) (list_all (is_exact mode) bytes.items) (sym (ap (is_sound mode) is) ∙ sound) in
     (sym view ∙ ap (λ f. looked_for mode (elements_of f)) is, ltb-true 0 (length bytes.items) parts.0, parts.1)

@@ -20,9 +20,9 @@ pub record EndsPast (text : List ℕ) (p q : ℕ) : Type 0 where
 byte_past : (passes : ℕ → Bool) (text : List ℕ) (p q : ℕ) → end_of_byte passes text p ≡ Some q → EndsPast text p q
 byte_past passes text p q is =
     option_and_then_some {P = EndsPast text p q} _ (slice_get text p) q is (λ b here end.
-      let inside = slice_get_within text p b here in
-      let same = (cond_some (passes b) (p + 1) q end).1 in
-      record { past = omega arith; within = omega arith })
+    let inside = slice_get_within text p b here in
+    let same = (cond_some (passes b) (p + 1) q end).1 in
+    record { past = omega arith; within = omega arith })
 
 run_past : (n : ℕ) (text : List ℕ) (p q : ℕ) → n ≡ blanks_at text p → cond (eqb n 0) None (Some (p + n)) ≡ Some q → EndsPast text p q
 run_past zero text p q run is = absurd (none-some q is)
@@ -38,15 +38,14 @@ element_past mode (Among c) text p q is = byte_past (λ b. admits mode c b) text
 element_past mode (Except c) text p q is = byte_past (λ b. not (admits mode c b)) text p q is
 element_past mode Blanks text p q is = run_past (blanks_at text p) text p q refl is
 
-
 match_from : (mode : CaseMode) (es : List Element) (text : List ℕ) (p q : ℕ) → match_end mode es text p ≡ Some q → (p ≤ q) × (p < q → q ≤ length text)
 unfolding match_end
 match_from mode [] text p q is = let same : p ≡ q = same_Some p q is in (omega arith, λ past. absurd (omega arith))
 match_from mode (e ∷ es) text p q is =
     option_and_then_some {P = (p ≤ q) × (p < q → q ≤ length text)} (match_end mode es text) (element_end mode e text p) q is (λ r here later.
-      let first = element_past mode e text p r here in
-      let rest = match_from mode es text r q later in
-      (omega (arith, first.past, rest.0), λ past. ⊎_elim (λ same. omega (arith, first.within)) (λ other. rest.1 (omega (arith, rest.0))) (cases_eq r q)))
+    let first = element_past mode e text p r here in
+    let rest = match_from mode es text r q later in
+    (omega (arith, first.past, rest.0), λ past. ⊎_elim (λ same. omega (arith, first.within)) (λ other. rest.1 (omega (arith, rest.0))) (cases_eq r q)))
 
 -- A match of at least one element ends behind its start and within the text.
 pub match_past : (mode : CaseMode) (es : List Element) (text : List ℕ) (p q : ℕ) → 0 < length es → match_end mode es text p ≡ Some q → EndsPast text p q
@@ -54,10 +53,10 @@ unfolding match_end
 match_past mode [] text p q some is = absurd (omega arith)
 match_past mode (e ∷ es) text p q some is =
     option_and_then_some {P = EndsPast text p q} (match_end mode es text) (element_end mode e text p) q is (λ r here later.
-      let first = element_past mode e text p r here in
-      let rest = match_from mode es text r q later in
-      let past : p < q = omega (arith, first.past, rest.0) in
-      record { past = past; within = ⊎_elim (λ same. omega (arith, first.within)) (λ other. rest.1 (omega (arith, rest.0))) (cases_eq r q) })
+    let first = element_past mode e text p r here in
+    let rest = match_from mode es text r q later in
+    let past : p < q = omega (arith, first.past, rest.0) in
+    record { past = past; within = ⊎_elim (λ same. omega (arith, first.within)) (λ other. rest.1 (omega (arith, rest.0))) (cases_eq r q) })
 
 -- The match at a place, and where there is none.
 pub match_at-hit : (sought : Sought) (text : List ℕ) (p q : ℕ) → match_end sought.mode sought.elements text p ≡ Some q → match_at sought text p ≡ Some (p, q)

@@ -3,3 +3,4 @@ pub mod Reading
 pub mod Occurrence
 pub mod Literal
 pub mod Pattern
+pub mod Search

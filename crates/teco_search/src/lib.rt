@@ -2,12 +2,13 @@
 #![tactic(auto)]
 
 mod element;
-mod find;
 mod joined;
 mod literal;
 mod matching;
 mod pattern;
+mod places;
 mod reading;
+mod search;
 
 pub use element::{Class, Element, Item, Items, OneByte};
-pub use pattern::{Pattern, matches_at};
+pub use pattern::{Pattern, count, find, matches_at};

@@ -1,5 +1,5 @@
 //! Searching bytes that admit themselves alone, in each half at the speed of a substring search.
-ghost use Rattle.std.specs.Prelude.{◌≡◌, ◌<◌, ◌≤◌, length};
+ghost use Rattle.std.specs.Prelude.{◌≡◌, ◌+◌, ◌^◌, ◌<◌, ◌≤◌, length, IfSome};
 ghost use Rattle.memchr.specs.Find.{IsFirst, IsLast, OccursAt, FindsNeedle, FindsLastNeedleBy};
 
 use crate::joined::Joined;
@@ -35,7 +35,8 @@ fn last_across(text: &Joined, bytes: &[u8], from: usize, to: usize) -> Option<us
 pub(crate) fn first_from(finder: &Finder, text: &Joined, from: usize) -> Option<usize>
     requires some { 0 < length finder.now }
     requires within { from ≤ length text.now }
-    ensures { FindsNeedle text.now finder.now from result }
+    ensures value { FindsNeedle text.now finder.now from result }
+    ensures fits { IfSome result (λ start. start + length finder.now < 2 ^ 64) }
 {
     let (before, after) = text.halves();
     let cut = before.len();

@@ -9,12 +9,19 @@ use std::alloc::Global;
 use teco_core::{CaseMode, Code};
 
 const CONTROL_E: u8 = 5;
+
 const CONTROL_N: u8 = 14;
+
 const CONTROL_Q: u8 = 17;
+
 const CONTROL_R: u8 = 18;
+
 const CONTROL_S: u8 = 19;
+
 const CONTROL_V: u8 = 22;
+
 const CONTROL_W: u8 = 23;
+
 const CONTROL_X: u8 = 24;
 
 fn stands_at(text: &[u8], at: usize, byte: u8) -> bool
@@ -170,11 +177,7 @@ pub(crate) fn read(alloc: Global, text: &[u8]) -> Result<Vec<Element>, Code>
 }
 
 /// The bytes of a search text that has no other elements, where each of them admits itself alone; none where it has others or isn't allowed.
-pub(crate) fn literal(
-    alloc: Global,
-    text: &[u8],
-    mode: CaseMode,
-) -> Result<Option<Vec<u8>>, Code>
+pub(crate) fn literal(alloc: Global, text: &[u8], mode: CaseMode) -> Result<Option<Vec<u8>>, Code>
     ensures elements { IfOk result (λ r. IfSome r (λ bytes. read text.now ≡ Ok (map plain bytes.items))) }
     ensures exact { IfOk result (λ r. IfSome r (λ bytes. list_all (is_exact mode) bytes.items ≡ true)) }
     ensures some { IfOk result (λ r. IfSome r (λ bytes. 0 < length text.now → 0 < length bytes.items)) }

@@ -13,8 +13,8 @@ pub starts-preserved : goal.starts-preserved
 starts-preserved c = record {
   within = omega arith;
   none = λ k low high occurs. ⊎_elim
-    (λ same. both_ways c.has.result c.if-has.false (c.has.ensures.holds.1 (subst (OccursAt c.args.text.now c.args.bytes.now) same occurs)))
-    (λ other. c.starts.invariant.none k (omega arith) high occurs) (cases_eq k (c.starts.start - 1));
+      (λ same. both_ways c.has.result c.if-has.false (c.has.ensures.holds.1 (subst (OccursAt c.args.text.now c.args.bytes.now) same occurs)))
+      (λ other. c.starts.invariant.none k (omega arith) high occurs) (cases_eq k (c.starts.start - 1));
 }
 
 pub returns : goal.returns

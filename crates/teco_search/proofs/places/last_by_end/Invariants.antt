@@ -1,6 +1,6 @@
 use Rattle.std.proofs.Common.{◌≡◌, ◌<◌, ◌≤◌, ℕ, Some}
 use Rattle.teco_search.specs.Occurrence.{match_end}
-use Rattle.teco_search.proofs.find.last_by_end.Given as goal
+use Rattle.teco_search.proofs.places.last_by_end.Given as goal
 
 abbrev pub invariant-starts : goal.invariant-starts
 invariant-starts l = record {

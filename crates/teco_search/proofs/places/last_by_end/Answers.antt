@@ -1,7 +1,7 @@
 use Rattle.std.proofs.Common.{◌≡◌, ◌-◌, ◌<◌, ◌≤◌, sym, arith}
 use Rattle.teco_search.specs.Occurrence.{looked_for}
 use Rattle.teco_search.proofs.Occurring.{ends_past, before-none, before-some}
-use Rattle.teco_search.proofs.find.last_by_end.Goals as goal
+use Rattle.teco_search.proofs.places.last_by_end.Goals as goal
 
 pub returns-then-end-to-clause-value : goal.returns-then-end-to-clause-value
 returns-then-end-to-clause-value c =

@@ -1,7 +1,7 @@
 use Rattle.std.proofs.Common.{◌≡◌, ◌-◌, ◌<◌, ◌≤◌, sym, arith}
 use Rattle.teco_search.specs.Occurrence.{looked_for}
 use Rattle.teco_search.proofs.Occurring.{ends_past, backward-none, backward-some}
-use Rattle.teco_search.proofs.find.last_by_start.Goals as goal
+use Rattle.teco_search.proofs.places.last_by_start.Goals as goal
 
 pub returns-in-Some-clause-value : goal.returns-in-Some-clause-value
 returns-in-Some-clause-value c =
