@@ -1,0 +1,11 @@
+mod Rows
+pub mod Runs
+pub mod Lists
+pub mod Ends
+pub mod Choosing
+pub mod Past
+pub mod Occurring
+pub mod Literals
+pub mod Halves
+pub mod Begins
+pub mod Numbered

@@ -1,0 +1,6 @@
+pub mod Element
+pub mod Reading
+pub mod Occurrence
+pub mod Literal
+pub mod Pattern
+pub mod Search

@@ -1,0 +1,19 @@
+-- Search texts of bytes alone.
+use Rattle.std.specs.Prelude.{ℕ, ◌<◌, Bool, true, not, ◌&&◌, List, length, map, nat_lt}
+use Rattle.std.specs.List.{list_all}
+use Rattle.teco_core.specs.declared.case_mode.CaseMode.{CaseMode}
+use Rattle.teco_core.specs.declared.case_mode.CaseMode.TheVariants.{Exact, Either}
+use Rattle.teco_search.specs.declared.element.Item.TheVariants.{Byte}
+use Rattle.teco_search.specs.declared.element.OneByte.TheVariants.{Single}
+use Rattle.teco_search.specs.declared.element.Element.{Element}
+use Rattle.teco_search.specs.declared.element.Element.TheVariants.{Among}
+use Rattle.teco_search.specs.Element.{is_letter}
+
+-- the element that is a byte itself
+abbrev pub plain : ℕ → Element
+plain b = Among (Single (Byte b))
+
+-- whether a byte itself admits no other
+abbrev pub is_exact : CaseMode → ℕ → Bool
+is_exact Exact b = true
+is_exact Either b = not (is_letter b)

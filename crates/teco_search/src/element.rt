@@ -1,0 +1,182 @@
+//! The elements of a search text, and which bytes they admit.
+ghost use Rattle.std.specs.Prelude.{◌≡◌};
+ghost use Rattle.std.specs.List.{list_any};
+ghost use Rattle.teco_search.specs.Element.{is_lower, is_upper, is_letter, is_digit, is_blank, is_line_end, upper, is_in, item_admits, admits};
+ghost use Rattle.teco_search.specs.Literal.{is_exact};
+
+use std::marker::Model;
+use teco_core::CaseMode;
+
+/// A kind of bytes. Letters and digits are those of ASCII.
+#[derive(Clone, Copy, Debug, PartialEq, Eq)]
+pub enum Class {
+    /// Any byte.
+    Any,
+    /// Neither a letter nor a digit.
+    Other,
+    Letter,
+    Digit,
+    /// LF, VT or FF.
+    LineEnd,
+    LetterOrDigit,
+    LowerCase,
+    UpperCase,
+}
+
+/// What one byte may be: a given byte, or one of a kind.
+#[derive(Clone, Copy, Debug, PartialEq, Eq)]
+pub enum Item {
+    Byte(u8),
+    Class(Class),
+}
+
+/// The items of a list, at least one.
+#[derive(Debug, Drop)]
+pub struct Items {
+    items: Vec<Item>,
+}
+
+impl Model for Items {
+    ghost use Rattle.std.specs.Prelude.{List};
+    ghost use Rattle.teco_search.specs.declared.element.Item.{Item};
+
+    ghost Value = { List Item };
+
+    ghost view = { λ i. i.items.items };
+}
+
+/// One item, or a list of them.
+#[derive(Debug, Drop)]
+pub enum OneByte {
+    Single(Item),
+    Listed(Items),
+}
+
+/// A part of a search text that matches by itself.
+#[derive(Debug, Drop)]
+pub enum Element {
+    /// A byte that one of these admits.
+    Among(OneByte),
+    /// A byte that none of these admits.
+    Except(OneByte),
+    /// The longest run of spaces and tabs, at least one.
+    Blanks,
+}
+
+fn is_lower(byte: u8) -> bool
+    ensures { result ≡ is_lower byte }
+{
+    b'a' <= byte && byte <= b'z'
+}
+
+fn is_upper(byte: u8) -> bool
+    ensures { result ≡ is_upper byte }
+{
+    b'A' <= byte && byte <= b'Z'
+}
+
+fn is_letter(byte: u8) -> bool
+    ensures { result ≡ is_letter byte }
+{
+    is_lower(byte) || is_upper(byte)
+}
+
+fn is_digit(byte: u8) -> bool
+    ensures { result ≡ is_digit byte }
+{
+    b'0' <= byte && byte <= b'9'
+}
+
+fn is_line_end(byte: u8) -> bool
+    ensures { result ≡ is_line_end byte }
+{
+    byte == b'\n' || byte == 11 || byte == 12
+}
+
+/// Whether a byte is a space or a tab.
+pub(crate) fn is_blank(byte: u8) -> bool
+    ensures { result ≡ is_blank byte }
+{
+    byte == b' ' || byte == b'\t'
+}
+
+/// The byte, a small letter as its capital.
+pub(crate) fn upper(byte: u8) -> u8
+    ensures { result ≡ upper byte }
+{
+    if is_lower(byte) { byte - 32 } else { byte }
+}
+
+/// Whether a byte as an item admits itself alone.
+pub(crate) fn is_exact(mode: CaseMode, byte: u8) -> bool
+    ensures { result ≡ is_exact mode byte }
+{
+    match mode {
+        CaseMode::Exact => true,
+        CaseMode::Either => !is_letter(byte),
+    }
+}
+
+impl Class {
+    /// Whether a byte is of this kind.
+    #[tactic(auto, unfolding(crate::specs::Element::is_in))]
+    pub fn contains(self, byte: u8) -> bool
+        ensures { result ≡ is_in self byte }
+    {
+        match self {
+            Class::Any => true,
+            Class::Other => !is_letter(byte) && !is_digit(byte),
+            Class::Letter => is_letter(byte),
+            Class::Digit => is_digit(byte),
+            Class::LineEnd => is_line_end(byte),
+            Class::LetterOrDigit => is_letter(byte) || is_digit(byte),
+            Class::LowerCase => is_lower(byte),
+            Class::UpperCase => is_upper(byte),
+        }
+    }
+}
+
+impl Item {
+    /// Whether a byte may stand here. With either case a letter admits both its cases.
+    #[tactic(auto, unfolding(crate::specs::Element::item_admits))]
+    pub fn admits(self, mode: CaseMode, byte: u8) -> bool
+        ensures { result ≡ item_admits mode self byte }
+    {
+        match self {
+            Item::Class(class) => class.contains(byte),
+            Item::Byte(own) => match mode {
+                CaseMode::Exact => own == byte,
+                CaseMode::Either => upper(own) == upper(byte),
+            },
+        }
+    }
+}
+
+impl Items {
+    /// A list of these items.
+    pub(crate) fn new(items: Vec<Item>) -> Self
+        ensures { result ≡ items.items }
+    {
+        Items { items }
+    }
+
+    /// Whether one of the items admits a byte.
+    pub fn admit(&self, mode: CaseMode, byte: u8) -> bool
+        ensures { result ≡ list_any (λ i. item_admits mode i byte) self.now }
+    {
+        self.items.iter().any(|item| item.admits(mode, byte))
+    }
+}
+
+impl OneByte {
+    /// Whether a byte may stand here.
+    #[tactic(auto, unfolding(crate::specs::Element::admits))]
+    pub fn admits(&self, mode: CaseMode, byte: u8) -> bool
+        ensures { result ≡ admits mode self.now byte }
+    {
+        match self {
+            OneByte::Single(item) => item.admits(mode, byte),
+            OneByte::Listed(items) => items.admit(mode, byte),
+        }
+    }
+}

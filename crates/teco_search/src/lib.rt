@@ -1,0 +1,14 @@
+//! Search texts, and where they occur in a text that lies in two halves.
+#![tactic(auto)]
+
+mod element;
+mod joined;
+mod literal;
+mod matching;
+mod pattern;
+mod places;
+mod reading;
+mod search;
+
+pub use element::{Class, Element, Item, Items, OneByte};
+pub use pattern::{Pattern, count, find, matches_at};

@@ -1,0 +1,80 @@
+//! Searching bytes that admit themselves alone, in each half at the speed of a substring search.
+ghost use Rattle.std.specs.Prelude.{◌≡◌, ◌+◌, ◌^◌, ◌<◌, ◌≤◌, length, IfSome};
+ghost use Rattle.memchr.specs.Find.{IsFirst, IsLast, OccursAt, FindsNeedle, FindsLastNeedleBy};
+
+use crate::joined::Joined;
+use memchr::memmem::{Finder, FinderRev};
+
+/// The first place in a range where the bytes stand, by comparing them at each.
+fn first_across(text: &Joined, bytes: &[u8], from: usize, to: usize) -> Option<usize>
+    ensures { IsFirst (OccursAt text.now bytes.now) from to result }
+{
+    'starts: for start in from..to {
+        if text.has(start, bytes) {
+            return Some(start);
+        }
+    }
+    None
+}
+
+/// The last place in a range where the bytes stand, by comparing them at each.
+fn last_across(text: &Joined, bytes: &[u8], from: usize, to: usize) -> Option<usize>
+    ensures { IsLast (OccursAt text.now bytes.now) from to result }
+{
+    let mut start = to;
+    'starts: while start > from {
+        start -= 1;
+        if text.has(start, bytes) {
+            return Some(start);
+        }
+    }
+    None
+}
+
+/// The first place at or after one where the bytes stand. Only at the starts whose match lies across both halves are they compared one by one.
+pub(crate) fn first_from(finder: &Finder, text: &Joined, from: usize) -> Option<usize>
+    requires some { 0 < length finder.now }
+    requires within { from ≤ length text.now }
+    ensures value { FindsNeedle text.now finder.now from result }
+    ensures fits { IfSome result (λ start. start + length finder.now < 2 ^ 64) }
+{
+    let (before, after) = text.halves();
+    let cut = before.len();
+    if from >= cut {
+        let start = finder.find(&after[from - cut..])?;
+        return Some(from + start);
+    }
+    if let Some(start) = finder.find(&before[from..]) {
+        return Some(from + start);
+    }
+    let bytes = finder.needle();
+    let across = cut.saturating_sub(bytes.len() - 1);
+    if let Some(start) = first_across(text, bytes, from.max(across), cut) {
+        return Some(start);
+    }
+    let start = finder.find(after)?;
+    Some(cut + start)
+}
+
+/// The last place where the bytes stand and end at or before a place.
+pub(crate) fn last_by(finder: &FinderRev, text: &Joined, to: usize) -> Option<usize>
+    requires some { 0 < length finder.now }
+    requires within { to ≤ length text.now }
+    ensures { FindsLastNeedleBy text.now finder.now to result }
+{
+    let (before, after) = text.halves();
+    let cut = before.len();
+    if to <= cut {
+        return finder.rfind(&before[..to]);
+    }
+    if let Some(start) = finder.rfind(&after[..to - cut]) {
+        return Some(cut + start);
+    }
+    let bytes = finder.needle();
+    let across = cut.saturating_sub(bytes.len() - 1);
+    let end = cut.min(to.saturating_sub(bytes.len() - 1));
+    if let Some(start) = last_across(text, bytes, across, end) {
+        return Some(start);
+    }
+    finder.rfind(before)
+}

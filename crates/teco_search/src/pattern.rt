@@ -1,0 +1,131 @@
+//! Search texts that have been read.
+ghost use Rattle.std.specs.Prelude.{◌≡◌, ◌⊎◌, ◌++◌, ◌<◌, ◌≤◌, length, IfOk, IfErr, Ok, Err, IsTrue, ◌≢◌, pos};
+ghost use Rattle.teco_search.specs.Occurrence.{match_end, forward, occurrence};
+ghost use Rattle.teco_search.specs.Search.{sought_forward, sought_backward, is_ready_forward, is_ready_backward};
+ghost use Rattle.teco_search.specs.Reading.{read};
+
+use crate::element::Element;
+use crate::joined::Joined;
+use crate::matching::match_end;
+use crate::reading::{literal, read};
+use crate::search::{Backward, Forward, count_forward, nth_backward, nth_forward};
+use memchr::memmem::{Finder, FinderRev};
+use std::alloc::Global;
+use std::marker::Model;
+use teco_core::{CaseMode, Code};
+
+/// A search text that has been read, in a case mode.
+///
+/// A clause sees its mode and its elements, of which there is at least one.
+#[derive(Drop)]
+pub struct Pattern {
+    mode: CaseMode,
+    form: Form,
+}
+
+#[derive(Drop)]
+enum Form {
+    /// These bytes, none of which admits another byte.
+    Literal(Vec<u8>),
+    Elements(Vec<Element>),
+}
+
+impl Model for Pattern {
+    ghost use Rattle.std.specs.Prelude.{IsTrue};
+    ghost use Rattle.teco_search.specs.Occurrence.{Sought, looked_for};
+    ghost use Rattle.teco_search.specs.Pattern.{elements_of, is_sound};
+
+    ghost Value = { Sought };
+
+    ghost view = { λ p. looked_for p.mode (elements_of p.form) };
+
+    ghost invariant = { λ p. IsTrue (is_sound p.mode p.form) };
+}
+
+impl Pattern {
+    /// Reads a search text, or answers [`Code::Ice`] where it isn't allowed and [`Code::Mem`] where memory was refused.
+    pub fn read(alloc: Global, text: &[u8], mode: CaseMode) -> Result<Pattern, Code>
+        requires { 0 < length text.now }
+        ensures elements { IfOk result (λ p. read text.now ≡ Ok p.elements) }
+        ensures mode { IfOk result (λ p. p.mode ≡ mode) }
+        ensures err { IfErr result (λ e. (e ≡ Code.Mem) ⊎ ((e ≡ Code.Ice) × (read text.now ≡ Err Code.Ice))) }
+    {
+        match literal(alloc, text, mode)? {
+            Some(bytes) => Ok(Pattern {
+                mode,
+                form: Form::Literal(bytes),
+            }),
+            None => Ok(Pattern {
+                mode,
+                form: Form::Elements(read(alloc, text)?),
+            }),
+        }
+    }
+}
+
+/// The end of the match at a place of the text that the two halves are together; none where the pattern doesn't match there. Takes no memory.
+pub fn matches_at(pattern: &Pattern, halves: (&[u8], &[u8]), at: usize) -> Option<usize>
+    ensures { result ≡ match_end pattern.now.mode pattern.now.elements (halves.entry.0.now ++ halves.entry.1.now) at }
+{
+    let text = Joined::new(halves.0, halves.1);
+    match &pattern.form {
+        Form::Literal(bytes) => {
+            if text.has(at, bytes) {
+                Some(at + bytes.len())
+            } else {
+                None
+            }
+        }
+        Form::Elements(elements) => match_end(pattern.mode, elements, &text, at),
+    }
+}
+
+impl Pattern {
+    fn forward(&self) -> Forward<'_>
+        ensures sought { sought_forward result ≡ self.now }
+        ensures ready { IsTrue (is_ready_forward result) }
+    {
+        match &self.form {
+            Form::Literal(bytes) => Forward::Literal(self.mode, Finder::new(bytes)),
+            Form::Elements(elements) => Forward::Elements(self.mode, elements),
+        }
+    }
+
+    fn backward(&self) -> Backward<'_>
+        ensures sought { sought_backward result ≡ self.now }
+        ensures ready { IsTrue (is_ready_backward result) }
+    {
+        match &self.form {
+            Form::Literal(bytes) => Backward::Literal(self.mode, FinderRev::new(bytes)),
+            Form::Elements(elements) => Backward::Elements(self.mode, elements),
+        }
+    }
+}
+
+/// The nth occurrence from a place of the text that the two halves are together, as its start and its end; backward for a negative n. Takes no memory.
+pub fn find(
+    pattern: &Pattern,
+    halves: (&[u8], &[u8]),
+    from: usize,
+    n: i32,
+) -> Option<(usize, usize)>
+    requires within { from ≤ length (halves.0.now ++ halves.1.now) }
+    requires some { n ≢ pos 0 }
+    ensures { result ≡ occurrence pattern.now (halves.entry.0.now ++ halves.entry.1.now) from n }
+{
+    let text = Joined::new(halves.0, halves.1);
+    if n > 0 {
+        nth_forward(&pattern.forward(), &text, from, n.unsigned_abs())
+    } else {
+        nth_backward(&pattern.backward(), &text, from, n.unsigned_abs())
+    }
+}
+
+/// How many occurrences there are forward from a place. Takes no memory.
+pub fn count(pattern: &Pattern, halves: (&[u8], &[u8]), from: usize) -> usize
+    requires { from ≤ length (halves.0.now ++ halves.1.now) }
+    ensures { result ≡ length (forward pattern.now (halves.entry.0.now ++ halves.entry.1.now) from) }
+{
+    let text = Joined::new(halves.0, halves.1);
+    count_forward(&pattern.forward(), &text, from)
+}
