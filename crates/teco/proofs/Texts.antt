@@ -1,8 +1,8 @@
 -- Lemmas on the cut of a stream.
-use Rattle.std.proofs.Common.{◌≡◌, ℕ, ◌-◌, List, [], ◌∷◌, ◌++◌, Bool, true, false, ◌&&◌, ◌==◌, cond, if◌then◌else◌, refl, sym, ap, ◌∙◌, append-nil, append_assoc, inl, inr, map, length, take, drop, get_or, take-append-drop, ◌+◌, ◌<◌}
+use Rattle.std.proofs.Common.{◌≡◌, ℕ, List, [], ◌∷◌, ◌++◌, true, false, ◌&&◌, ◌==◌, refl, sym, ap, ◌∙◌, append-nil, append_assoc, inl, inr, map, length, take, drop, get_or, take-append-drop, ◌+◌, ◌<◌}
 use Rattle.std.proofs.lemmas.Bool.{cases_Bool}
 use Rattle.std.proofs.lemmas.List.{drop_more}
-use Rattle.teco.specs.Stream.{Asks, asks_of, ends_in_escape, requests, texts_from, texts_of, IsText}
+use Rattle.teco.specs.Stream.{asks_of, ends_in_escape, requests, texts_from, texts_of, IsText}
 
 pub ends-more : (xs : List ℕ) (b : ℕ) → ends_in_escape (xs ++ b ∷ []) ≡ (b == 27)
 ends-more [] b = refl

@@ -1,10 +1,9 @@
 -- How the program ends: its status, and what it prints on standard error.
-use Rattle.std.specs.Prelude.{ℕ, List, [], ◌∷◌, ◌++◌, Option, Some, None, codes}
+use Rattle.std.specs.Prelude.{ℕ, List, [], ◌∷◌, ◌++◌, Some, None, codes}
 use Rattle.std.specs.String.{string_bytes}
 use Rattle.teco.specs.declared.line.Line.{Line}
 use Rattle.teco.specs.declared.ending.Fate.{Fate}
 use Rattle.teco.specs.declared.ending.Fate.TheVariants.{NoInput, LargeInput, NoMemory, NoOutput, Ended}
-use Rattle.teco.specs.declared.served.Served.{Served}
 use Rattle.teco.specs.declared.served.Served.TheVariants as served
 
 -- the name of the output file: the one given, or the input's followed by .out

@@ -1,5 +1,5 @@
 -- What a read takes from a source.
-use Rattle.std.specs.Prelude.{◌≡◌, ℕ, ◌+◌, List, ◌++◌, length, Option, Bool}
+use Rattle.std.specs.Prelude.{◌≡◌, ℕ, ◌+◌, List, length, Option, Bool}
 use Rattle.std.specs.Io.KnownBytes.{Consumes}
 use Rattle.teco_step.specs.Terminal.{counted}
 

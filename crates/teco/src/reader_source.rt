@@ -79,17 +79,15 @@ mod tests {
 
     impl Read for Stumbling {
         fn read(&mut self, piece: &mut [u8]) -> io::Result<usize> {
-            if self.reads == 4 {
+            let reads = self.reads;
+            if reads >= 4 || piece.is_empty() {
                 return Ok(0);
             }
-            self.reads += 1;
-            if self.reads == 2 {
+            self.reads = reads + 1;
+            if reads == 1 {
                 return Err(io::Error::from(io::ErrorKind::Other));
             }
-            if piece.is_empty() {
-                return Ok(0);
-            }
-            piece[0] = b'a' + self.reads;
+            piece[0] = b'a' + reads;
             Ok(1)
         }
     }
@@ -99,11 +97,11 @@ mod tests {
         let mut source = ReaderSource::new(Stumbling { reads: 0 });
         let mut room = [0; 4];
         assert!(rt; matches!(source.read(&mut room), Ok(1)));
-        assert_eq!(rt; room[0], b'b');
+        assert_eq!(rt; room[0], b'a');
         assert!(rt; source.read(&mut room).is_err());
         assert_eq!(rt; source.failures, 1);
         assert!(rt; matches!(source.read(&mut room), Ok(1)));
-        assert_eq!(rt; room[0], b'd');
+        assert_eq!(rt; room[0], b'c');
         assert!(rt; matches!(source.read(&mut []), Ok(0)));
         assert!(rt; !source.ended);
         assert!(rt; matches!(source.read(&mut room), Ok(1)));

@@ -1,6 +1,4 @@
-use Rattle.std.proofs.Common.{◌≡◌, ◌≤◌, List, ℕ, ◌∷◌, [], ◌++◌, length, Bool, true, Some, ap, arith, sym, ◌∙◌}
-use Rattle.std.specs.List.{list_all}
-use Rattle.teco_core.specs.Number.{is_digit}
+use Rattle.std.proofs.Common.{◌≡◌, ◌∷◌, [], ◌++◌, Some, ap, arith, sym, ◌∙◌}
 use Rattle.teco.specs.Stream.Asks.{Undo, Redo}
 use Rattle.teco.proofs.Counts.{counted-digits}
 use Rattle.teco.proofs.splitter.counted.Goals as goal

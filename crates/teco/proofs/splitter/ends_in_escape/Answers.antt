@@ -1,4 +1,4 @@
-use Rattle.std.proofs.Common.{◌≡◌, ap, sym, ◌∙◌}
+use Rattle.std.proofs.Common.{ap, sym, ◌∙◌}
 use Rattle.teco.specs.Stream.{ends_in_escape}
 use Rattle.teco.proofs.Texts.{ends-more}
 use Rattle.teco.proofs.splitter.ends_in_escape.Goals as goal
