@@ -17,7 +17,6 @@ pub record EndsWell (s : State) (text : List ℕ) (limit : ℕ) (outcome : Outco
 
 -- the string ended by want of memory after k whole steps
 pub record EndsByMemory (s : State) (text : List ℕ) (limit k : ℕ) (typed : List ℕ) (new : State) : Type 0 where
-  pub before : k < (string_meaning s text limit).steps
   pub state : new ≡ (string_meaning s text k).state
   pub bytes : typed ≡ (string_meaning s text k).typed
 
