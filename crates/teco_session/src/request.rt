@@ -7,24 +7,28 @@ use teco_exec::Outcome;
 pub enum Request {
     /// Run this command string.
     Run(Vec<u8>),
-    /// Undo the last string that isn't undone.
+    /// Go back to the state before the last string that is not undone.
     Undo,
-    /// Redo the first undone string.
+    /// Go on to the state after the first undone string.
     Redo,
 }
 
 /// What a session answers to one request.
 #[derive(Clone, Copy, Debug, PartialEq, Eq)]
 pub enum Answer {
-    /// The string was run and is noted, however it ended.
+    /// The string was run and is noted in the history, however it ended.
     Ended(Outcome),
-    /// Want of memory for the history: the string was not begun, and nothing changed.
+    /// The history found no memory: the string was not begun, and nothing changed.
     NotBegun,
     /// The session is done: the string was not begun, and nothing changed.
     AfterExit,
+    /// The state before the last string that was not undone is back.
     Undone,
+    /// No string is left to undo, and nothing changed.
     NothingToUndo,
+    /// The state after the first undone string is back.
     Redone,
+    /// No string is left to redo, and nothing changed.
     NothingToRedo,
 }
 

@@ -3,10 +3,10 @@ ghost use Rattle.std.specs.Prelude.{◌≡◌, ℕ, List, [], ◌<◌, ◌≤◌
 ghost use Rattle.teco_store.specs.State.{file_limit};
 ghost use Rattle.teco_step.specs.Terminal.{Shows};
 ghost use Rattle.teco_session.specs.History.{IsHistory, new_history, present, undone, redone};
-ghost use Rattle.teco_session.specs.Step.{Step, RunStep, Reply, failed};
+ghost use Rattle.teco_session.specs.Step.{Step, RunStep, Reply, is_terminal_failure};
 ghost use Rattle.teco_session.specs.Play.{Play, ShowsAll, answers_of};
 
-use crate::kept::{Noted, note_at};
+use crate::entry::{Entry, add_entry};
 use crate::request::{Answer, NothingToRedo, NothingToUndo, Request};
 use std::alloc::Global;
 use std::marker::Model;
@@ -17,12 +17,12 @@ use teco_store::{Desk, Editor};
 
 /// Command strings one after another, each of which can be undone and redone.
 ///
-/// A clause sees a session as its history: the first state, each string with its text, its steps and the state after it, and how
-/// many of the strings are not undone.
+/// A clause sees a session as its history: the state before the first string, each string with its text, its steps and the state
+/// after it, and how many of the strings are not undone.
 #[derive(Drop)]
 pub struct Session {
     first: Editor,
-    notes: Vec<Noted>,
+    entries: Vec<Entry>,
     cursor: usize,
 }
 
@@ -31,11 +31,11 @@ impl Model for Session {
 
     ghost Value = { History };
 
-    ghost use Rattle.teco_session.specs.Kept.{notes_of};
+    ghost use Rattle.teco_session.specs.Entries.{notes_of};
 
-    ghost view = { λ s. record { first = s.first; notes = notes_of s.notes.items; cursor = s.cursor } };
+    ghost view = { λ s. record { first = s.first; notes = notes_of s.entries.items; cursor = s.cursor } };
 
-    ghost invariant = { λ s. IsHistory (record { first = s.first; notes = notes_of s.notes.items; cursor = s.cursor }) };
+    ghost invariant = { λ s. IsHistory (record { first = s.first; notes = notes_of s.entries.items; cursor = s.cursor }) };
 }
 
 impl Session {
@@ -47,7 +47,7 @@ impl Session {
         let alloc = *input.allocator();
         Session {
             first: Editor::new(input),
-            notes: Vec::new(alloc),
+            entries: Vec::new(alloc),
             cursor: 0,
         }
     }
@@ -60,11 +60,27 @@ impl Session {
         if self.cursor == 0 {
             &self.first
         } else {
-            &self.notes[self.cursor - 1].state
+            &self.entries[self.cursor - 1].state
         }
     }
 
-    /// Goes back to the state before the last string that isn't undone. Takes no memory.
+    /// How many strings the history has, undone ones too. Takes no memory.
+    pub fn strings(&self) -> usize
+        ensures { result ≡ length self.now.notes }
+    {
+        self.entries.len()
+    }
+
+    /// How many strings are not undone. Takes no memory.
+    pub fn cursor(&self) -> usize
+        ensures value { result ≡ self.now.cursor }
+        ensures within { result ≤ length self.now.notes }
+    {
+        self.cursor
+    }
+
+    /// Goes back to the state before the last string that is not undone, where there is one; otherwise nothing changes. Takes no
+    /// memory, also after an exit.
     pub fn undo(&mut self) -> Result<(), NothingToUndo>
         ensures offers { IsOk result ↔ (0 < self.old.cursor) }
         ensures ok { OnOk result (self.new ≡ undone self.old) }
@@ -77,13 +93,13 @@ impl Session {
         Ok(())
     }
 
-    /// Goes to the state after the first undone string. Takes no memory.
+    /// Goes on to the state after the first undone string, where there is one; otherwise nothing changes. Takes no memory.
     pub fn redo(&mut self) -> Result<(), NothingToRedo>
         ensures offers { IsOk result ↔ (self.old.cursor < length self.old.notes) }
         ensures ok { OnOk result (self.new ≡ redone self.old) }
         ensures err { OnErr result ((self.new ≡ self.old) × (self.old.cursor ≡ length self.old.notes)) }
     {
-        if self.cursor == self.notes.len() {
+        if self.cursor == self.entries.len() {
             return Err(NothingToRedo);
         }
         self.cursor += 1;
@@ -96,36 +112,36 @@ impl Session {
     /// nothing has changed, and the undone strings are kept.
     pub fn run<T: Terminal>(&mut self, text: &[u8], limit: u64, term: &mut T) -> Answer
         ensures { (typed : List ℕ) × RunStep limit self.old text.now result typed self.new
-            × Shows T.shown T.failures term.old term.new typed (failed result) }
+            × Shows T.shown T.failures term.old term.new typed (is_terminal_failure result) }
     {
         if self.editor().done() {
             return Answer::AfterExit;
         }
-        let alloc = *self.notes.allocator();
+        let alloc = *self.entries.allocator();
         let Ok(kept) = Vec::from_slice(alloc, text) else {
             return Answer::NotBegun;
         };
         let Ok(mut state) = self.editor().copy() else {
             return Answer::NotBegun;
         };
-        if self.notes.reserve(1).is_err() {
+        if self.entries.reserve(1).is_err() {
             return Answer::NotBegun;
         }
         let outcome = run(&mut state, text, limit, term);
-        let noted = Noted {
+        let entry = Entry {
             text: kept,
             steps: outcome.steps,
             state,
         };
-        note_at(&mut self.notes, self.cursor, noted);
-        self.cursor = self.notes.len();
+        add_entry(&mut self.entries, self.cursor, entry);
+        self.cursor = self.entries.len();
         Answer::Ended(outcome)
     }
 
     /// Answers one request, whichever it is.
     pub fn answer<T: Terminal>(&mut self, request: &Request, limit: u64, term: &mut T) -> Answer
         ensures { (typed : List ℕ) × Step limit self.old request.now (record { answer = result; typed = typed }) self.new
-            × Shows T.shown T.failures term.old term.new typed (failed result) }
+            × Shows T.shown T.failures term.old term.new typed (is_terminal_failure result) }
     {
         match request {
             Request::Run(text) => self.run(text.as_slice(), limit, term),
