@@ -30,7 +30,7 @@ pub IsHistory-noted : (h : History) (note : Note) → IsHistory h → note.state
 IsHistory-noted h note ok e = record {
   begins = ok.begins;
   states = AreMeant-noted h.first h.notes h.cursor note ok.states ok.within e;
-  within = simp (length-append, length-take) (let w = ok.within in omega arith)
+  within = simp (length-append, length-take) (let w = ok.within in omega arith);
 }
 
 -- the notes of entries that were cut, with one more
@@ -75,5 +75,5 @@ pub ShowsAll-more : {T : Type 0} {shown : T → Option (List ℕ)} {failures : T
 ShowsAll-more {shown} {failures} {a} {b} {c} replies reply p q = record {
   more = rw (typed_by-more replies reply) (Appends-trans _ _ _ _ _ p.more q.more);
   count = q.count ∙ ap (counted (is_terminal_failure reply.answer)) p.count
-    ∙ sym (ap (λ l. failures_after l (failures a)) (answers_of-more replies reply) ∙ failures_after-more (answers_of replies) reply.answer (failures a))
+      ∙ sym (ap (λ l. failures_after l (failures a)) (answers_of-more replies reply) ∙ failures_after-more (answers_of replies) reply.answer (failures a));
 }

@@ -1,5 +1,9 @@
 //! What is asked of a session, and what it answers.
+ghost use Rattle.std.specs.Prelude.{◌≡◌};
+ghost use Rattle.teco_session.specs.Answers.{code_of};
+
 use std::fmt;
+use teco_core::Code;
 use teco_exec::Outcome;
 
 /// What is asked of a session.
@@ -30,6 +34,22 @@ pub enum Answer {
     Redone,
     /// No string is left to redo, and nothing changed.
     NothingToRedo,
+}
+
+impl Answer {
+    /// The code of the answer: why the string ended before its end, or why the request was refused.
+    pub fn code(self) -> Option<Code>
+        ensures { result ≡ code_of self }
+    {
+        match self {
+            Answer::Ended(outcome) => outcome.code,
+            Answer::NotBegun => Some(Code::Mem),
+            Answer::AfterExit => Some(Code::End),
+            Answer::NothingToUndo => Some(Code::Ntu),
+            Answer::NothingToRedo => Some(Code::Ntr),
+            Answer::Undone | Answer::Redone => None,
+        }
+    }
 }
 
 /// No string is left to undo.

@@ -9,6 +9,6 @@ invariant-loop-request g l = record {
   room : vec_capacity l.answers ≡ length l.requests;
   filled : vec_len l.answers ≡ l.request-index;
   played : (replies : List Reply) × (l.answers.items ≡ answers_of replies)
-    × Play l.limit l.initial.self (take l.request-index l.requests) replies l.self
-    × ShowsAll g.T.Terminal.shown g.T.Terminal.failures l.initial.term l.term replies
+      × Play l.limit l.initial.self (take l.request-index l.requests) replies l.self
+      × ShowsAll g.T.Terminal.shown g.T.Terminal.failures l.initial.term l.term replies;
 }

@@ -24,7 +24,7 @@ added g c =
     let old = c.self.inside.entries.items in
     let within : c.self.inside.cursor ≤ length old = simp length-map at c.self.invariant.within in
     let items : c.add_entry.new.entries.items ≡ take c.self.inside.cursor old ++ entry_now g c ∷ [] =
-      c.add_entry.ensures ∙ ap (λ l. take c.self.inside.cursor l ++ entry_now g c ∷ []) c.reserve.ensures.items in
+    c.add_entry.ensures ∙ ap (λ l. take c.self.inside.cursor l ++ entry_now g c ∷ []) c.reserve.ensures.items in
     let count : c.len-self-inside.result ≡ length c.add_entry.new.entries.items = omega (arith, c.len-self-inside.ensures, c.add_entry.new.entries.ok.0) in
     noted-added c.self.inside.first old _ _ _ _ within items count
 
@@ -34,7 +34,7 @@ invariant_of-self-2 g c =
     let steps = c.run-outcome.result.steps in
     let from : c.in-Ok-copy.state ≡ present (before g c) = c.in-Ok-copy.ensures ∙ c.editor-2.ensures.present ∙ ap present (sym c.self.view_is) in
     let state : c.run-outcome.new.desk ≡ (string_meaning (present (before g c)) c.in-Ok.kept.items steps).state =
-      c.run-outcome.ensures.again ∙ ap (λ s. (string_meaning s c.args.text.now steps).state) from ∙ ap (λ t. (string_meaning (present (before g c)) t steps).state) (sym c.in-Ok.ensures.items) in
+    c.run-outcome.ensures.again ∙ ap (λ s. (string_meaning s c.args.text.now steps).state) from ∙ ap (λ t. (string_meaning (present (before g c)) t steps).state) (sym c.in-Ok.ensures.items) in
     subst IsHistory (sym (added g c)) (IsHistory-noted (before g c) (note_of (entry_now g c)) c.self.invariant state)
 
 pub returns : goal.returns
