@@ -1,0 +1,38 @@
+-- How the program ends: its status, and what it prints on standard error.
+use Rattle.std.specs.Prelude.{ℕ, List, [], ◌∷◌, ◌++◌, Option, Some, None, codes}
+use Rattle.std.specs.String.{string_bytes}
+use Rattle.teco.specs.declared.line.Line.{Line}
+use Rattle.teco.specs.declared.ending.Fate.{Fate}
+use Rattle.teco.specs.declared.ending.Fate.TheVariants.{NoInput, LargeInput, NoMemory, NoOutput, Ended}
+use Rattle.teco.specs.declared.served.Served.{Served}
+use Rattle.teco.specs.declared.served.Served.TheVariants as served
+
+-- the name of the output file: the one given, or the input's followed by .out
+abbrev pub output_of : Line → List ℕ
+output_of line = elim line.output [ Some name ↦ string_bytes name | None ↦ string_bytes line.input ++ codes ".out" ]
+
+abbrev pub status_of : Fate → ℕ
+status_of NoInput = 1
+status_of LargeInput = 1
+status_of NoMemory = 1
+status_of NoOutput = 1
+status_of (Ended served.Exit) = 0
+status_of (Ended served.EndOfCommands) = 2
+status_of (Ended served.ReadFault) = 1
+status_of (Ended served.ShowFault) = 1
+status_of (Ended served.NoMemory) = 1
+
+-- a line that ends by LF
+abbrev pub said : List ℕ → List ℕ
+said words = codes "teco: " ++ words ++ 10 ∷ []
+
+abbrev pub text_of : Line → Fate → List ℕ
+text_of line NoInput = said (codes "cannot read " ++ string_bytes line.input)
+text_of line LargeInput = said (string_bytes line.input ++ codes " is too large")
+text_of line NoMemory = said (codes "no memory")
+text_of line NoOutput = said (codes "cannot write " ++ output_of line)
+text_of line (Ended served.Exit) = []
+text_of line (Ended served.EndOfCommands) = []
+text_of line (Ended served.ReadFault) = said (codes "cannot read commands")
+text_of line (Ended served.ShowFault) = said (codes "cannot show")
+text_of line (Ended served.NoMemory) = said (codes "no memory")

@@ -1,0 +1,4 @@
+pub mod Stream
+pub mod Cut
+pub mod Source
+pub mod Ending

@@ -1,0 +1,151 @@
+//! How the program ends.
+ghost use Rattle.std.specs.Prelude.{◌≡◌, ◌++◌, codes, IfOk};
+ghost use Rattle.std.specs.String.{string_bytes};
+ghost use Rattle.teco.specs.Ending.{said, status_of, text_of};
+
+use crate::line::{Line, output_name};
+use crate::served::Served;
+use std::alloc::Global;
+use teco_core::NoMemory;
+
+/// How the program ends, once its line is read.
+#[derive(Clone, Copy, Debug, PartialEq, Eq)]
+pub enum Fate {
+    /// The input cannot be read.
+    NoInput,
+    /// The input is above its limit.
+    LargeInput,
+    /// Memory was refused before the serving, or after it.
+    NoMemory,
+    /// The output cannot be written.
+    NoOutput,
+    /// The serving ended; after [`Served::Exit`] the output is written.
+    Ended(Served),
+}
+
+fn status(fate: Fate) -> u8
+    ensures { result ≡ status_of fate }
+{
+    match fate {
+        Fate::Ended(Served::Exit) => 0,
+        Fate::Ended(Served::EndOfCommands) => 2,
+        _ => 1,
+    }
+}
+
+/// A line about a file, whose name stands between two texts.
+fn said_of(alloc: Global, before: &str, name: &str, after: &str) -> Result<String, NoMemory>
+    ensures { IfOk result (λ text. string_bytes text ≡ said (before.now ++ name.now ++ after.now)) }
+{
+    let mut text = String::from_str(alloc, "teco: ")?;
+    text.push_str(before)?;
+    text.push_str(name)?;
+    text.push_str(after)?;
+    text.push_str("\n")?;
+    Ok(text)
+}
+
+fn text(alloc: Global, line: &Line, fate: Fate) -> Result<String, NoMemory>
+    ensures { IfOk result (λ text. string_bytes text ≡ text_of line.now fate) }
+{
+    match fate {
+        Fate::NoInput => said_of(alloc, "cannot read ", line.input.as_str(), ""),
+        Fate::LargeInput => said_of(alloc, "", line.input.as_str(), " is too large"),
+        Fate::NoMemory | Fate::Ended(Served::NoMemory) => String::from_str(
+            alloc,
+            "teco: no memory\n",
+        ),
+        Fate::NoOutput => {
+            let name = output_name(alloc, line)?;
+            said_of(alloc, "cannot write ", name.as_str(), "")
+        }
+        Fate::Ended(Served::ReadFault) => String::from_str(alloc, "teco: cannot read commands\n"),
+        Fate::Ended(Served::ShowFault) => String::from_str(alloc, "teco: cannot show\n"),
+        Fate::Ended(Served::Exit) | Fate::Ended(Served::EndOfCommands) => Ok(String::new(alloc)),
+    }
+}
+
+/// The status of the program, and what it prints on standard error, which may be nothing.
+pub fn ending(alloc: Global, line: &Line, fate: Fate) -> Result<(u8, String), NoMemory>
+    ensures { IfOk result (λ ending. (ending.0 ≡ status_of fate) × (string_bytes ending.1 ≡ text_of line.now fate)) }
+{
+    Ok((status(fate), text(alloc, line, fate)?))
+}
+
+#[cfg(test)]
+mod tests {
+    use super::*;
+    use std::process::Abort;
+
+    fn line(alloc: Global, output: Option<&str>) -> Result<Line, NoMemory> {
+        let output = match output {
+            Some(name) => Some(String::from_str(alloc, name)?),
+            None => None,
+        };
+        Ok(Line {
+            input: String::from_str(alloc, "in")?,
+            output,
+            limit: 0,
+            prompt: false,
+        })
+    }
+
+    fn ends_once(
+        rt: &impl Abort,
+        alloc: Global,
+        output: Option<&str>,
+        fate: Fate,
+        status: u8,
+        text: &str,
+    ) -> Result<(), NoMemory> {
+        let line = line(alloc, output)?;
+        let (given, said) = ending(alloc, &line, fate)?;
+        assert_eq!(rt; given, status);
+        assert_eq!(rt; said.as_str(), text);
+        Ok(())
+    }
+
+    /// The ending is this; where memory was refused, a second time.
+    fn ends(
+        rt: &impl Abort,
+        alloc: Global,
+        output: Option<&str>,
+        fate: Fate,
+        status: u8,
+        text: &str,
+    ) {
+        if ends_once(rt, alloc, output, fate, status, text).is_err() {
+            assert!(rt; ends_once(rt, alloc, output, fate, status, text).is_ok());
+        }
+    }
+
+    #[test]
+    fn says_how_it_ends(rt: HostRuntime) {
+        let alloc = rt.alloc();
+        for (fate, status, text) in [
+            (Fate::NoInput, 1, "teco: cannot read in\n"),
+            (Fate::LargeInput, 1, "teco: in is too large\n"),
+            (Fate::NoMemory, 1, "teco: no memory\n"),
+            (Fate::NoOutput, 1, "teco: cannot write in.out\n"),
+            (Fate::Ended(Served::Exit), 0, ""),
+            (Fate::Ended(Served::EndOfCommands), 2, ""),
+            (
+                Fate::Ended(Served::ReadFault),
+                1,
+                "teco: cannot read commands\n",
+            ),
+            (Fate::Ended(Served::ShowFault), 1, "teco: cannot show\n"),
+            (Fate::Ended(Served::NoMemory), 1, "teco: no memory\n"),
+        ] {
+            ends(&rt, alloc, None, fate, status, text);
+        }
+        ends(
+            &rt,
+            alloc,
+            Some("out"),
+            Fate::NoOutput,
+            1,
+            "teco: cannot write out\n",
+        );
+    }
+}

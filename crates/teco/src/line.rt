@@ -1,0 +1,117 @@
+//! The program's command line.
+ghost use Rattle.std.specs.Prelude.{◌≡◌, ◌≤◌, IfOk};
+ghost use Rattle.std.specs.String.{string_bytes};
+ghost use Rattle.teco.specs.Ending.{output_of};
+
+use clap::error::ErrorKind;
+use clap::{Arg, ArgAction, Command};
+use std::alloc::Global;
+use teco_core::NoMemory;
+
+/// The most steps that a command string may be given.
+pub const MOST_STEPS: u64 = 1_000_000_000_000;
+
+// The most steps where the line does not say them.
+const USUAL_STEPS: u64 = 1_000_000;
+
+/// What the command line says.
+#[derive(Debug, Drop)]
+pub struct Line {
+    /// The name of the input file.
+    pub input: String,
+    /// The name of the output file, if one is given.
+    pub output: Option<String>,
+    /// The most steps that each command string may take, at most [`MOST_STEPS`].
+    pub limit: u64,
+    /// Whether a star asks for commands.
+    pub prompt: bool,
+}
+
+/// Why there is no [`Line`].
+#[derive(Debug, Drop)]
+pub enum LineFault {
+    /// The parser's text: what is wrong with the line, or the help that it asks for.
+    Refused(clap::Error),
+    /// The parser found no memory.
+    NoMemory,
+}
+
+impl From<NoMemory> for LineFault {
+    fn from(_: NoMemory) -> LineFault {
+        LineFault::NoMemory
+    }
+}
+
+impl From<clap::Error> for LineFault {
+    fn from(error: clap::Error) -> LineFault {
+        match error.kind() {
+            ErrorKind::OutOfMemory => LineFault::NoMemory,
+            _ => LineFault::Refused(error),
+        }
+    }
+}
+
+fn command<'a>(alloc: Global) -> Result<Command<'a>, NoMemory> {
+    let limit = Arg::new(alloc, "limit")
+        .long("limit")
+        .value_name("N")
+        .action(ArgAction::Set)
+        .value_parser(clap::value_parser!(u64).range(0..=MOST_STEPS as i64))
+        .default_value("1000000");
+    let output = Arg::new(alloc, "output")
+        .long("output")
+        .value_name("FILE")
+        .action(ArgAction::Set);
+    let prompt = Arg::new(alloc, "prompt")
+        .long("prompt")
+        .action(ArgAction::SetTrue);
+    let input = Arg::new(alloc, "input")
+        .value_name("INPUT")
+        .required(true)
+        .action(ArgAction::Set);
+    Command::new(alloc, "teco")
+        .arg(limit)?
+        .arg(output)?
+        .arg(prompt)?
+        .arg(input)
+}
+
+/// What the words say, the program's name first: `teco [--limit N] [--output FILE] [--prompt] INPUT`.
+pub fn line_of(alloc: Global, words: &[String]) -> Result<Line, LineFault>
+    ensures { IfOk result (λ line. line.limit ≤ 1000000000000) }
+{
+    let matches = command(alloc)?.try_get_matches_from(words)?;
+    let input = String::from_str(alloc, matches.get_str("input").unwrap_or(""))?;
+    let output = match matches.get_str("output") {
+        Some(name) => Some(String::from_str(alloc, name)?),
+        None => None,
+    };
+    // The parser keeps the range too; the minimum is what the clause rests on.
+    let limit = matches
+        .get_one::<u64>("limit")
+        .unwrap_or(USUAL_STEPS)
+        .min(MOST_STEPS);
+    Ok(Line {
+        input,
+        output,
+        limit,
+        prompt: matches.get_flag("prompt"),
+    })
+}
+
+/// The name of the output file: the one given, or the input's followed by `.out`.
+pub fn output_name(alloc: Global, line: &Line) -> Result<String, NoMemory>
+    ensures { IfOk result (λ name. string_bytes name ≡ output_of line.now) }
+{
+    match &line.output {
+        Some(name) => String::from_str(alloc, name.as_str()),
+        None => {
+            let mut name = String::from_str(alloc, line.input.as_str())?;
+            name.push_str(".out")?;
+            Ok(name)
+        }
+    }
+}
+
+#[cfg(test)]
+mod tests;

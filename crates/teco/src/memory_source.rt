@@ -1,0 +1,145 @@
+//! A source over memory.
+ghost use Rattle.std.specs.Prelude.{◌≡◌, ◌≤◌, ◌<◌, ◌-◌, Some, drop, false, length, slice_index, vec_len};
+
+use crate::source::{Source, SourceFault};
+
+/// A source that gives its bytes piece by piece, one piece a read, or a longer one in parts; then it ends or, by choice, fails.
+#[derive(Drop)]
+pub struct MemorySource {
+    bytes: Vec<u8>,
+    // where pieces end; a cut that is not past the place is left out
+    cuts: Vec<usize>,
+    fails: bool,
+    at: usize,
+    next_cut: usize,
+    ended: bool,
+    failures: u64,
+    ghost within: { at ≤ vec_len bytes },
+}
+
+impl MemorySource {
+    /// The pieces of the bytes that end at the cuts, which rise, and at the end. Without `fails` it ends after them.
+    pub fn new(bytes: Vec<u8>, cuts: Vec<usize>, fails: bool) -> MemorySource
+        ensures coming { ⟦<MemorySource as Source>⟧.coming result ≡ Some bytes.items }
+        ensures bound { ⟦<MemorySource as Source>⟧.bound result ≡ vec_len bytes }
+        ensures ended { ⟦<MemorySource as Source>⟧.ended result ≡ false }
+        ensures failures { ⟦<MemorySource as Source>⟧.failures result ≡ 0 }
+    {
+        MemorySource {
+            bytes,
+            cuts,
+            fails,
+            at: 0,
+            next_cut: 0,
+            ended: false,
+            failures: 0,
+        }
+    }
+}
+
+/// The place of the first cut, from `next` on, that is past `at`; the number of cuts where there is none.
+fn cut_past(cuts: &[usize], next: usize, at: usize) -> usize
+    ensures { result < length cuts.now → at < slice_index cuts.now result }
+{
+    let mut place = next;
+    while place < cuts.len() && cuts[place] <= at {
+        place += 1;
+    }
+    place
+}
+
+/// Where the piece at `at` ends: at that cut, if there is one before the end of the bytes, which are `len`.
+fn piece_end(cuts: &[usize], cut: usize, at: usize, len: usize) -> usize
+    requires more { at < len }
+    requires past { cut < length cuts.now → at < slice_index cuts.now cut }
+    ensures past { at < result }
+    ensures within { result ≤ len }
+{
+    if cut < cuts.len() && cuts[cut] < len {
+        return cuts[cut];
+    }
+    len
+}
+
+impl Source for MemorySource {
+    ghost coming = { λ source. Some (drop source.at source.bytes.items) };
+
+    ghost bound = { λ source. vec_len source.bytes - source.at };
+
+    ghost ended = { λ source. source.ended };
+
+    ghost failures = { λ source. source.failures };
+
+    fn read(&mut self, piece: &mut [u8]) -> Result<usize, SourceFault> {
+        if piece.is_empty() {
+            return Ok(0);
+        }
+        if self.at == self.bytes.len() {
+            if self.fails {
+                self.failures = self.failures.wrapping_add(1);
+                return Err(SourceFault);
+            }
+            self.ended = true;
+            return Ok(0);
+        }
+        self.next_cut = cut_past(self.cuts.as_slice(), self.next_cut, self.at);
+        let end = piece_end(
+            self.cuts.as_slice(),
+            self.next_cut,
+            self.at,
+            self.bytes.len(),
+        );
+        let n = piece.len().min(end - self.at);
+        piece[..n].copy_from_slice(&self.bytes[self.at..self.at + n]);
+        self.at += n;
+        Ok(n)
+    }
+}
+
+#[cfg(test)]
+mod tests {
+    use super::*;
+    use std::alloc::{AllocError, Global};
+    use std::process::Abort;
+
+    fn source(alloc: Global, fails: bool) -> Result<MemorySource, AllocError> {
+        let bytes = Vec::from_slice(alloc, b"hello!")?;
+        let cuts = Vec::from_slice(alloc, &[0, 2, 2, 5])?;
+        Ok(MemorySource::new(bytes, cuts, fails))
+    }
+
+    fn source_again(rt: &impl Abort, alloc: Global, fails: bool) -> MemorySource {
+        match source(alloc, fails) {
+            Ok(source) => source,
+            Err(_) => source(alloc, fails).expect(rt, "memory is there again"),
+        }
+    }
+
+    // Empty pieces are left out, and a piece longer than the room comes in parts.
+    #[test]
+    fn gives_its_pieces(rt: HostRuntime) {
+        for fails in [false, true] {
+            let mut source = source_again(&rt, rt.alloc(), fails);
+            let mut room = [0; 2];
+            assert!(rt; matches!(source.read(&mut []), Ok(0)));
+            for wanted in ["he", "ll", "o", "!"] {
+                let Ok(n) = source.read(&mut room) else {
+                    panic!(rt; "failed before {wanted}");
+                };
+                assert!(rt; n <= 2);
+                assert_eq!(rt; &room[..n], wanted.as_bytes());
+            }
+            for count in 1..=2 {
+                assert!(rt; !source.ended || count == 2);
+                let last = source.read(&mut room);
+                if fails {
+                    assert!(rt; last.is_err());
+                    assert_eq!(rt; source.failures, count);
+                } else {
+                    assert!(rt; matches!(last, Ok(0)));
+                    assert!(rt; source.ended);
+                }
+            }
+        }
+    }
+}

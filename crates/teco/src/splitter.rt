@@ -1,0 +1,210 @@
+//! Cutting the stream of commands.
+ghost use Rattle.std.specs.List.{list_all, prefix_len, suffix_len};
+ghost use Rattle.std.specs.Option.{option_map};
+ghost use Rattle.std.specs.Prelude.{◌≡◌, ℕ, ◌+◌, ◌-◌, ◌≤◌, ◌<◌, [], ◌++◌, length, take, drop, slice_index, vec_len, List, MatchOption, IfOk, OnOk, OnErr, IsTrue};
+ghost use Rattle.teco.specs.Cut.{AsksFirst, Cuts, IsHeld, value_of};
+ghost use Rattle.teco.specs.Stream.{IsText, asks_of, counted, ends_in_escape, is_filler, texts_of, times, without_fillers, without_fillers_after, without_fillers_before};
+ghost use Rattle.teco_core.specs.Number.{is_digit};
+
+use std::alloc::Global;
+use std::marker::Model;
+use teco_core::NoMemory;
+
+const ESCAPE: u8 = 27;
+
+/// What a text of the stream asks.
+#[derive(Debug, Drop, PartialEq, Eq)]
+pub enum Asked {
+    /// To run the text, which includes the first ESC of its pair.
+    Run(Vec<u8>),
+    /// So many undos.
+    Undo(u32),
+    /// So many redos.
+    Redo(u32),
+}
+
+fn is_filler(byte: u8) -> bool
+    ensures { result ≡ is_filler byte }
+{
+    byte == b' ' || byte == b'\r' || byte == b'\n' || byte == 0
+}
+
+fn after_fillers(bytes: &[u8]) -> &[u8]
+    ensures { result.now ≡ without_fillers_before bytes.now }
+{
+    let mut start = 0;
+    while start < bytes.len() && is_filler(bytes[start]) {
+        start += 1;
+    }
+    &bytes[start..]
+}
+
+fn before_fillers(bytes: &[u8]) -> &[u8]
+    ensures { result.now ≡ without_fillers_after bytes.now }
+{
+    let mut end = bytes.len();
+    while end > 0 && is_filler(bytes[end - 1]) {
+        end -= 1;
+    }
+    &bytes[..end]
+}
+
+fn is_digit(byte: u8) -> bool
+    ensures { result ≡ is_digit byte }
+{
+    b'0' <= byte && byte <= b'9'
+}
+
+fn are_digits(bytes: &[u8]) -> bool
+    ensures { result ≡ list_all is_digit bytes.now }
+{
+    bytes.iter().all(|byte| is_digit(*byte))
+}
+
+/// The number that at most 9 digits say, 1 without digits.
+fn times(digits: &[u8]) -> u32
+    requires few { length digits.now ≤ 9 }
+    requires digits { IsTrue (list_all is_digit digits.now) }
+    ensures { result ≡ times digits.now }
+{
+    if digits.is_empty() {
+        return 1;
+    }
+    let mut number: u32 = 0;
+    for digit in digits {
+        number = number * 10 + u32::from(*digit - b'0');
+    }
+    number
+}
+
+/// The undos or redos that are asked by at most 9 digits and a brace.
+fn counted(bytes: &[u8]) -> Option<Asked>
+    ensures { option_map value_of result ≡ counted bytes.now }
+{
+    let (brace, digits) = bytes.split_last()?;
+    if digits.len() > 9 || !are_digits(digits) {
+        return None;
+    }
+    match *brace {
+        b'{' => Some(Asked::Undo(times(digits))),
+        b'}' => Some(Asked::Redo(times(digits))),
+        _ => None,
+    }
+}
+
+/// What a text asks.
+fn asked_in(alloc: Global, text: &[u8]) -> Result<Asked, NoMemory>
+    requires { 0 < length text.now }
+    ensures { IfOk result (λ asked. value_of asked ≡ asks_of text.now) }
+{
+    let body = &text[..text.len() - 1];
+    match counted(before_fillers(after_fillers(body))) {
+        Some(asked) => Ok(asked),
+        None => Ok(Asked::Run(Vec::from_slice(alloc, text)?)),
+    }
+}
+
+fn ends_in_escape(bytes: &[u8]) -> bool
+    ensures { result ≡ ends_in_escape bytes.now }
+{
+    match bytes.split_last() {
+        Some((last, _)) => *last == ESCAPE,
+        None => false,
+    }
+}
+
+/// The place of the second ESC of the leftmost pair, which does not end before `from`.
+fn pair_end(bytes: &[u8], from: usize) -> Option<usize>
+    requires within { from ≤ length bytes.now }
+    requires none { texts_of (take from bytes.now) ≡ [] }
+    ensures { MatchOption result (texts_of bytes.now ≡ [])
+        (λ at. (at < length bytes.now) × (slice_index bytes.now at ≡ 27) × IsText (take at bytes.now)) }
+{
+    let mut escape = ends_in_escape(&bytes[..from]);
+    for at in from..bytes.len() {
+        let is_escape = bytes[at] == ESCAPE;
+        if is_escape && escape {
+            return Some(at);
+        }
+        escape = is_escape;
+    }
+    None
+}
+
+/// Drops the bytes before `start` once they are at least as many as those from there on, and gives the place of the first byte that is held.
+fn compacted(bytes: &mut Vec<u8>, start: usize) -> usize
+    requires { start ≤ vec_len bytes.old }
+    ensures within { result ≤ vec_len bytes.new }
+    ensures held { drop result bytes.new.items ≡ drop start bytes.old.items }
+{
+    let held = bytes.len() - start;
+    if start < held {
+        return start;
+    }
+    bytes.copy_within(start.., 0);
+    bytes.truncate(held);
+    0
+}
+
+/// What has come of the stream and is not cut off yet: the held bytes.
+///
+/// However the stream comes in pieces, each byte is looked at once for a pair, and moved a bounded number of times.
+#[derive(Drop)]
+pub struct Splitter {
+    bytes: Vec<u8>,
+    // the held bytes are those from here on
+    start: usize,
+    // no pair ends within so many of them
+    looked: usize,
+}
+
+impl Model for Splitter {
+    ghost Value = { List ℕ };
+
+    ghost view = { λ splitter. drop splitter.start splitter.bytes.items };
+
+    ghost invariant = { λ splitter. IsHeld splitter.bytes.items splitter.start splitter.looked };
+}
+
+impl Splitter {
+    /// Holds nothing. Takes no memory.
+    pub fn new(alloc: Global) -> Splitter
+        ensures { result ≡ [] }
+    {
+        Splitter {
+            bytes: Vec::new(alloc),
+            start: 0,
+            looked: 0,
+        }
+    }
+
+    /// The next piece of the stream. Where memory is refused, the held bytes are as before.
+    pub fn feed(&mut self, piece: &[u8]) -> Result<(), NoMemory>
+        ensures ok { OnOk result (self.new ≡ self.old ++ piece.now) }
+        ensures err { OnErr result (self.new ≡ self.old) }
+    {
+        self.bytes.extend_from_slice(piece)
+    }
+
+    /// What the text up to the leftmost pair asks, which is cut off with its pair; none where no pair is held.
+    /// Where memory is refused, the held bytes are as before.
+    pub fn next(&mut self) -> Result<Option<Asked>, NoMemory>
+        ensures cut { IfOk result (λ cut. Cuts self.old cut self.new) }
+        ensures first { IfOk result (λ cut. AsksFirst self.old cut self.new) }
+        ensures err { OnErr result (self.new ≡ self.old) }
+    {
+        let held = &self.bytes.as_slice()[self.start..];
+        let Some(at) = pair_end(held, self.looked) else {
+            self.looked = held.len();
+            return Ok(None);
+        };
+        self.looked = at;
+        let asked = asked_in(*self.bytes.allocator(), &held[..at])?;
+        self.looked = 0;
+        self.start = compacted(&mut self.bytes, self.start + at + 1);
+        Ok(Some(asked))
+    }
+}
+
+#[cfg(test)]
+mod tests;
