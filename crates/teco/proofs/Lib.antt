@@ -1,3 +1,4 @@
 pub mod Counts
 pub mod Readings
+pub mod Servings
 pub mod Texts

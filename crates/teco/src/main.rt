@@ -6,7 +6,9 @@ mod line;
 mod memory_source;
 mod reader_source;
 mod served;
+mod serving;
 mod source;
 mod splitter;
+mod turn;
 
 fn main() {}

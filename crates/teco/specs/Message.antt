@@ -1,0 +1,29 @@
+-- What is shown of answers.
+use Rattle.std.specs.Prelude.{ℕ, List, [], ◌∷◌, ◌++◌, Option, Some, None, Bool, true, false}
+use Rattle.std.specs.List.{flat_map}
+use Rattle.teco_core.specs.Code.{letters_of}
+use Rattle.teco_core.specs.declared.code.Code.{Code}
+use Rattle.teco_session.specs.Answers.{code_of}
+use Rattle.teco_session.specs.Step.{Reply}
+use Rattle.teco_session.specs.declared.request.Answer.{Answer}
+
+-- a question mark, the letters of the code, CR LF
+abbrev pub code_line : Code → List ℕ
+code_line code = 63 ∷ letters_of code ++ 13 ∷ 10 ∷ []
+
+abbrev pub line_of : Option Code → List ℕ
+line_of None = []
+line_of (Some code) = code_line code
+
+-- the message of an answer: the line of its code, if it has one
+unfoldable pub message : Answer → List ℕ
+message answer = line_of (code_of answer)
+
+-- what is shown of replies: of each its typed bytes, and then its message
+abbrev pub replies_shown : List Reply → List ℕ
+replies_shown replies = flat_map (λ reply. reply.typed ++ message reply.answer) replies
+
+-- what asks for commands: a star where the prompt is wanted
+abbrev pub star : Bool → List ℕ
+star true = 42 ∷ []
+star false = []

@@ -1,0 +1,82 @@
+//! Serving a stream of commands.
+ghost use Rattle.std.specs.Prelude.{◌≡◌, ℕ, List};
+ghost use Rattle.teco.specs.Held.{CutsOff, Emptied, HeldEnds};
+ghost use Rattle.teco.specs.Serving.{AreFirstOf, Ends, Turns, is_read_fault};
+ghost use Rattle.teco.specs.Source.{Gives};
+ghost use Rattle.teco.specs.Turn.{Turn};
+
+use crate::served::Served;
+use crate::source::{Source, SourceFault};
+use crate::splitter::Splitter;
+use crate::turn::{do_turn, show_prompt};
+use std::alloc::Global;
+use teco_session::Session;
+use teco_step::{Terminal, TerminalFault};
+
+/// The most bytes of a piece.
+const PIECE: usize = 4096;
+
+/// Does what each held text asks, unless that ends the serving; says how the serving ends, if it does.
+fn serve_held<T: Terminal>(
+    splitter: &mut Splitter,
+    session: &mut Session,
+    limit: u64,
+    prompt: bool,
+    term: &mut T,
+) -> Option<Served>
+    ensures { (turns : List Turn) × Turns limit session.old turns session.new × CutsOff splitter.old turns splitter.new
+        × Emptied result splitter.new × HeldEnds T.shown T.failures term.old term.new prompt turns result }
+{
+    'held: loop {
+        match splitter.next() {
+            Err(_) => return Some(Served::NoMemory),
+            Ok(None) => return None,
+            Ok(Some(asked)) => {
+                if let Some(served) = do_turn(&asked, session, limit, prompt, term) {
+                    return Some(served);
+                }
+            }
+        }
+    }
+}
+
+/// Reads pieces of the stream, cuts them into texts, and does what each asks before it reads again; `limit` is the most steps that
+/// each command string may take. With `prompt` a star asks for commands.
+///
+/// However the source cuts its bytes, what is done is a beginning of what they ask, and all of it at the end of the stream and where
+/// a read fails. It ends where a run makes the session done, and at the first put that fails.
+pub fn serve<S: Source, T: Terminal>(
+    alloc: Global,
+    source: &mut S,
+    session: &mut Session,
+    limit: u64,
+    prompt: bool,
+    term: &mut T,
+) -> Served
+    // What was read; the turns, which are a beginning of what those bytes ask; how it ended, and what was shown.
+    ensures { (bytes : List ℕ) × (turns : List Turn)
+        × Gives S.coming S.bound S.failures source.old source.new bytes (is_read_fault result)
+        × AreFirstOf turns bytes × Turns limit session.old turns session.new
+        × Ends T.shown T.failures term.old term.new (S.ended source.new) prompt bytes turns result }
+{
+    if let Err(TerminalFault) = show_prompt(prompt, term) {
+        return Served::ShowFault;
+    }
+    let mut splitter = Splitter::new(alloc);
+    let mut piece = [0; PIECE];
+    'pieces: loop {
+        let n = match source.read(&mut piece) {
+            Err(SourceFault) => return Served::ReadFault,
+            Ok(n) => n,
+        };
+        if n == 0 {
+            return Served::EndOfCommands;
+        }
+        if splitter.feed(&piece[..n]).is_err() {
+            return Served::NoMemory;
+        }
+        if let Some(served) = serve_held(&mut splitter, session, limit, prompt, term) {
+            return served;
+        }
+    }
+}
