@@ -1,7 +1,6 @@
 //! Whole numbers from -2147483648 to 2147483647, with their faults.
-ghost use Rattle.std.specs.Prelude.{◌≡◌, ◌-◌, IsTrue, pos, ◌+ℤ◌, ◌*ℤ◌, ◌≤ℤ◌};
-ghost use Rattle.std.specs.List.{list_all};
-ghost use Rattle.teco_core.specs.Number.{operation, decimal_value, fitted, is_digit};
+ghost use Rattle.std.specs.Prelude.{◌≡◌, ◌-◌, pos, ◌+ℤ◌, ◌*ℤ◌, ◌≤ℤ◌};
+ghost use Rattle.teco_core.specs.Number.{operation, decimal_value, fitted};
 
 use crate::code::Code;
 
@@ -40,17 +39,17 @@ pub fn operation(op: Op, a: i32, b: i32) -> Result<i32, Code>
 
 /// A number with one more digit after its own.
 fn with_digit(value: i32, digit: u8) -> Result<i32, Code>
-    requires natural { pos 0 ≤ℤ value }
-    requires digit { IsTrue (is_digit digit) }
+    requires { pos 0 ≤ℤ value }
     ensures { result ≡ fitted ((value *ℤ pos 10) +ℤ pos (digit - 48)) }
 {
     let tens = value.checked_mul(10).ok_or(Code::Ovf)?;
-    tens.checked_add(i32::from(digit - b'0')).ok_or(Code::Ovf)
+    tens.checked_add(i32::from(digit.saturating_sub(b'0'))).ok_or(Code::Ovf)
 }
 
-/// The value of a run of decimal digits: [`Code::Ovf`] where it is above 2147483647.
+/// The value of a run of decimal digits: [`Code::Ovf`] where it is above 2147483647. Takes no memory.
+///
+/// It doesn't ask whether the bytes are digits: each counts for as much as it is above `0`.
 pub fn decimal(digits: &[u8]) -> Result<i32, Code>
-    requires { IsTrue (list_all is_digit digits.now) }
     ensures { result ≡ decimal_value digits.now }
 {
     let mut value = 0;

@@ -1,7 +1,8 @@
 -- One put after another.
-use Rattle.std.proofs.Common.{ℕ, List, [], ◌++◌, Option, Bool, false, Result, Ok, Err, refl, sym, ap, append_assoc, ◌∙◌}
+use Rattle.std.proofs.Common.{ℕ, List, [], ◌++◌, Option, Bool, true, false, Result, Ok, Err, IsErr, refl, sym, ap, append_assoc, ◌∙◌}
+use Rattle.std.proofs.lemmas.Bool.{false≢true}
 use Rattle.std.proofs.KnownBytes.{Appends-trans, Appends-nil}
-use Rattle.teco_step.specs.Terminal.{Shows, Puts, counted}
+use Rattle.teco_step.specs.Terminal.{IsFrontOf, Shows, Puts, counted}
 
 pub Shows-nil : {T : Type 0} (shown : T → Option (List ℕ)) (failures : T → ℕ) (t : T) → Shows shown failures t t [] false
 Shows-nil shown failures t = record { more = Appends-nil (shown t); count = refl }
@@ -14,3 +15,9 @@ pub Puts-after : {T A E : Type 0} {shown : T → Option (List ℕ)} {failures : 
     → Shows shown failures a b xs false → Puts shown failures b c ys r → Puts shown failures a c (xs ++ ys) r
 Puts-after c ys (Ok done) p q = Shows-trans p q
 Puts-after {xs} c ys (Err fault) p (front, (rest, e), q) = (xs ++ front, (rest, ap (λ l. xs ++ l) e ∙ sym (append_assoc xs front rest)), Shows-trans p q)
+
+-- a put that failed before more bytes came
+pub Puts-front : {T A E : Type 0} {shown : T → Option (List ℕ)} {failures : T → ℕ} {a b : T} {xs : List ℕ} (front ys : List ℕ) (r : Result A E)
+    → IsFrontOf front xs → Shows shown failures a b front true → IsErr r → Puts shown failures a b (xs ++ ys) r
+Puts-front front ys (Ok done) p q is = absurd (false≢true is)
+Puts-front front ys (Err fault) (rest, e) q is = (front, (rest ++ ys, ap (λ l. l ++ ys) e ∙ append_assoc front rest ys), q)

@@ -42,8 +42,12 @@ inserted [] (taken.One n) = do
 inserted (b ∷ text) (taken.One n) = Err Iia
 inserted text (taken.Two m n) = Err Arg
 
+abbrev pub insert_taken : List ℕ → State → Taken → Tried
+insert_taken text s t = do
+  bytes ← inserted text t
+  inserts s bytes
+
 abbrev pub insert : List ℕ → State → Arguments → Tried
 insert text s a = do
   t ← taken_from a
-  bytes ← inserted text t
-  inserts s bytes
+  insert_taken text s t

@@ -1,12 +1,20 @@
 //! One step of a token, line places, and terminals.
 #![tactic(auto)]
 
+mod edit;
+mod line;
 mod memory_terminal;
 mod next;
+mod step;
+mod taking;
 mod terminal;
+mod typing;
+mod value;
 mod writer_terminal;
 
+pub use line::line_place;
 pub use memory_terminal::MemoryTerminal;
 pub use next::{Next, Work};
+pub use step::step_token;
 pub use terminal::{Terminal, TerminalFault};
 pub use writer_terminal::WriterTerminal;

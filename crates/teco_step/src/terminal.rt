@@ -2,12 +2,24 @@
 ghost use Rattle.std.specs.Prelude.{ℕ, List, Option};
 ghost use Rattle.teco_step.specs.Terminal.{Puts};
 
+use teco_core::Code;
 use thiserror::Error;
 
 /// A put failed. The terminal's count of failures rose too.
 #[derive(Debug, Drop, Error)]
 #[error("cannot show")]
 pub struct TerminalFault;
+
+impl From<TerminalFault> for Code {
+    ghost use Rattle.std.specs.Prelude.{◌≡◌};
+    ghost use Rattle.teco_core.specs.declared.code.Code.TheVariants.{Tty};
+
+    ghost from_gives = { λ _ code. code ≡ Tty };
+
+    fn from(_: TerminalFault) -> Self {
+        Code::Tty
+    }
+}
 
 /// What the typed bytes are put on.
 pub trait Terminal {
