@@ -43,8 +43,8 @@ module _ (mode : CaseMode) (bytes text : List ℕ) (some : 0 < length bytes) (ex
       forward-none (looked_for mode (map plain bytes)) text several from (λ k low high. literal_none mode text bytes k some exact (none k low (omega arith)))
 
   pub literal_forward-some :
-    (from s : ℕ) → FindsNeedle text bytes from (Some s)
-    → forward (looked_for mode (map plain bytes)) text from ≡ (s, s + length bytes) ∷ forward (looked_for mode (map plain bytes)) text (s + length bytes)
+      (from s : ℕ) → FindsNeedle text bytes from (Some s)
+      → forward (looked_for mode (map plain bytes)) text from ≡ (s, s + length bytes) ∷ forward (looked_for mode (map plain bytes)) text (s + length bytes)
   literal_forward-some from s found =
       forward-some (looked_for mode (map plain bytes)) text several from s (s + length bytes) found.0.low (literal_hit mode text bytes s exact found.1)
       (λ j low below. literal_none mode text bytes j some exact (found.0.before j low below))
@@ -52,31 +52,31 @@ module _ (mode : CaseMode) (bytes text : List ℕ) (some : 0 < length bytes) (ex
   pub literal_before-none : (to : ℕ) → FindsLastNeedleBy text bytes to None → before (looked_for mode (map plain bytes)) text to ≡ []
   literal_before-none to none =
       before-none (looked_for mode (map plain bytes)) text several to (λ k q below is.
-        let here = tells k q is in
-        ⊎_elim (λ beyond. beyond) (λ by. absurd (none k (omega arith) (omega (arith, here.1)) here.0)) (cases_lt to q))
+      let here = tells k q is in
+      ⊎_elim (λ beyond. beyond) (λ by. absurd (none k (omega arith) (omega (arith, here.1)) here.0)) (cases_lt to q))
 
   pub literal_before-some :
-    (to s : ℕ) → FindsLastNeedleBy text bytes to (Some s)
-    → before (looked_for mode (map plain bytes)) text to ≡ (s, s + length bytes) ∷ before (looked_for mode (map plain bytes)) text s
+      (to s : ℕ) → FindsLastNeedleBy text bytes to (Some s)
+      → before (looked_for mode (map plain bytes)) text to ≡ (s, s + length bytes) ∷ before (looked_for mode (map plain bytes)) text s
   literal_before-some to s found =
       before-some (looked_for mode (map plain bytes)) text several to s (s + length bytes) (literal_hit mode text bytes s exact found.1) (omega (arith, found.0.high))
       (λ j q above below is.
-        let here = tells j q is in
-        ⊎_elim (λ beyond. beyond) (λ by. absurd (found.0.after j (omega arith) (omega (arith, here.1)) here.0)) (cases_lt to q))
+      let here = tells j q is in
+      ⊎_elim (λ beyond. beyond) (λ by. absurd (found.0.after j (omega arith) (omega (arith, here.1)) here.0)) (cases_lt to q))
 
   pub literal_backward-none :
-    (from to : ℕ) → to ≡ from + min (length bytes) (length text - from) → FindsLastNeedleBy text bytes to None → backward (looked_for mode (map plain bytes)) text from ≡ []
+      (from to : ℕ) → to ≡ from + min (length bytes) (length text - from) → FindsLastNeedleBy text bytes to None → backward (looked_for mode (map plain bytes)) text from ≡ []
   literal_backward-none from to is none =
       backward-none (looked_for mode (map plain bytes)) text several from (λ k by high. literal_none mode text bytes k some exact (λ occurs.
-        let fits = occurs.fits in
-        none k (omega arith) (omega arith) occurs))
+      let fits = occurs.fits in
+      none k (omega arith) (omega arith) occurs))
 
   pub literal_backward-some :
-    (from to s : ℕ) → to ≡ from + min (length bytes) (length text - from) → FindsLastNeedleBy text bytes to (Some s)
-    → backward (looked_for mode (map plain bytes)) text from ≡ (s, s + length bytes) ∷ before (looked_for mode (map plain bytes)) text s
+      (from to s : ℕ) → to ≡ from + min (length bytes) (length text - from) → FindsLastNeedleBy text bytes to (Some s)
+      → backward (looked_for mode (map plain bytes)) text from ≡ (s, s + length bytes) ∷ before (looked_for mode (map plain bytes)) text s
   literal_backward-some from to s is found =
       let high = found.0.high in
       backward-some (looked_for mode (map plain bytes)) text several from s (s + length bytes) (omega arith) (literal_hit mode text bytes s exact found.1)
       (λ j above by below. literal_none mode text bytes j some exact (λ occurs.
-        let fits = occurs.fits in
-        found.0.after j (omega arith) (omega arith) occurs))
+      let fits = occurs.fits in
+      found.0.after j (omega arith) (omega arith) occurs))

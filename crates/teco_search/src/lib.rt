@@ -9,6 +9,8 @@ mod pattern;
 mod places;
 mod reading;
 mod search;
+#[cfg(test)]
+mod tests;
 
 pub use element::{Class, Element, Item, Items, OneByte};
 pub use pattern::{Pattern, count, find, matches_at};
