@@ -1,5 +1,5 @@
 //! The twin of gap_inserts.rt.txt in Rust: the same gap buffer, the same calls, the same clock.
-use std::alloc::{alloc, dealloc, Layout};
+use std::alloc::{alloc, dealloc, realloc, Layout};
 use std::ptr;
 use std::slice;
 use std::time::Instant;
@@ -50,16 +50,16 @@ impl GapBuffer {
         }
         let cap = n.max(self.cap.saturating_mul(2).min(isize::MAX as usize));
         unsafe {
-            let block = alloc(Layout::from_size_align_unchecked(cap, 1));
+            let block = if self.cap == 0 {
+                alloc(Layout::from_size_align_unchecked(cap, 1))
+            } else {
+                realloc(self.block, Layout::from_size_align_unchecked(self.cap, 1), cap)
+            };
             if block.is_null() {
                 return Err(());
             }
             let after = self.cap - self.tail;
-            if self.cap > 0 {
-                ptr::copy_nonoverlapping(self.block, block, self.gap);
-                ptr::copy_nonoverlapping(self.block.add(self.tail), block.add(cap - after), after);
-                dealloc(self.block, Layout::from_size_align_unchecked(self.cap, 1));
-            }
+            ptr::copy(block.add(self.tail), block.add(cap - after), after);
             self.block = block;
             self.cap = cap;
             self.tail = cap - after;
@@ -117,7 +117,6 @@ fn moves(buffer: &mut GapBuffer) {
     for _there_and_back in 0..MOVES / 2 {
         let len = buffer.len();
         buffer.splice(len, 0, b"");
-        let _len = buffer.len();
         buffer.splice(0, 0, b"");
     }
 }

@@ -90,6 +90,7 @@ impl Block {
     }
 
     // Moves the gap from `gap..tail` to `at`, puts `ins` for the `del` bytes there, and returns the gap behind it.
+    #[tactic(auto, using(crate::proofs::Around::after_splice))]
     pub(crate) fn splice(
         &mut self,
         gap: usize,
