@@ -1,0 +1,11 @@
+pub mod Fuel
+pub mod Limits
+pub mod Strings
+pub mod Idle
+pub mod Sound
+pub mod Trees
+pub mod Found
+pub mod Running
+pub mod Straight
+pub mod Plain
+pub mod Tokens

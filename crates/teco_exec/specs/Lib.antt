@@ -3,3 +3,4 @@ pub mod Test
 pub mod Meaning
 pub mod StringMeaning
 pub mod Runs
+pub mod Quiet

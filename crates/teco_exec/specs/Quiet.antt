@@ -1,0 +1,14 @@
+-- Texts that take no memory.
+use Rattle.std.specs.Prelude.{Bool, true, false, ◌&&◌}
+use Rattle.teco_scan.specs.Tree.{Nodes, done, item, escape, iter, cond, tag, faulty}
+use Rattle.teco_step.specs.Stepping.{takes_nothing}
+
+-- Values and arithmetic alone, with ESC between them, and perhaps a fault at the end.
+abbrev pub takes_no_memory : Nodes → Bool
+takes_no_memory done = true
+takes_no_memory (faulty c) = true
+takes_no_memory (escape rest) = takes_no_memory rest
+takes_no_memory (item m i rest) = takes_nothing i && takes_no_memory rest
+takes_no_memory (iter body rest) = false
+takes_no_memory (cond t first second rest) = false
+takes_no_memory (tag name rest) = false
