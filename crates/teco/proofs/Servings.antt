@@ -82,8 +82,10 @@ asked_in-append [] ys = refl
 asked_in-append (x ∷ xs) ys = ap (λ l. x.asked ∷ l) (asked_in-append xs ys)
 
 pub CutsOff-append : (bytes mid held : List ℕ) (xs ys : List Turn) → CutsOff bytes xs mid → CutsOff mid ys held → CutsOff bytes (xs ++ ys) held
-CutsOff-append bytes mid held xs ys p q = record { asks = λ more.
-    p.asks more ∙ ap (λ l. asked_in xs ++ l) (q.asks more) ∙ sym (append_assoc (asked_in xs) (asked_in ys) (requests (held ++ more))) ∙ ap (λ l. l ++ requests (held ++ more)) (sym (asked_in-append xs ys)) }
+CutsOff-append bytes mid held xs ys p q = record {
+  asks = λ more.
+      p.asks more ∙ ap (λ l. asked_in xs ++ l) (q.asks more) ∙ sym (append_assoc (asked_in xs) (asked_in ys) (requests (held ++ more))) ∙ ap (λ l. l ++ requests (held ++ more)) (sym (asked_in-append xs ys));
+}
 
 -- a text is cut off
 pub CutsOff-cut : (old held : List ℕ) (turn : Turn) (asked : Asked) → AsksFirst old (Some asked) held → turn.asked ≡ value_of asked → CutsOff old (turn ∷ []) held
@@ -91,8 +93,10 @@ CutsOff-cut old held turn asked first e = record { asks = λ more. first more �
 
 -- a piece is fed
 pub CutsOff-fed : (bytes held piece new : List ℕ) (turns : List Turn) → CutsOff bytes turns held → new ≡ held ++ piece → CutsOff (bytes ++ piece) turns new
-CutsOff-fed bytes held piece new turns p e = record { asks = λ more.
-    ap requests (append_assoc bytes piece more) ∙ p.asks (piece ++ more) ∙ ap (λ l. asked_in turns ++ requests l) (sym (append_assoc held piece more)) ∙ ap (λ l. asked_in turns ++ requests (l ++ more)) (sym e) }
+CutsOff-fed bytes held piece new turns p e = record {
+  asks = λ more.
+      ap requests (append_assoc bytes piece more) ∙ p.asks (piece ++ more) ∙ ap (λ l. asked_in turns ++ requests l) (sym (append_assoc held piece more)) ∙ ap (λ l. asked_in turns ++ requests (l ++ more)) (sym e);
+}
 
 pub CutsOff-none : (held : List ℕ) → held ≡ [] → CutsOff [] [] held
 CutsOff-none held e = record { asks = λ more. ap (λ l. requests (l ++ more)) (sym e) }
@@ -112,10 +116,14 @@ HeldEnds-one shown failures old mid new prompt turns turn Exit go p t =
     (turns, turn, record { parts = refl; going = go }, t.0, subst (λ l. Shows shown failures old new l false) (sym (turns_shown-one prompt turns turn)) (Shows-trans p t.1))
 HeldEnds-one shown failures old mid new prompt turns turn EndOfCommands go p t = t
 HeldEnds-one shown failures old mid new prompt turns turn ReadFault go p t = t
-HeldEnds-one shown failures old mid new prompt turns turn ShowFault go p t =
-    (turns, turn, record { parts = refl; going = go }, turns_shown prompt turns ++ t.0,
-      subst (λ l. IsFrontOf (turns_shown prompt turns ++ t.0) l) (sym (turns_shown-one prompt turns turn)) (front-after (turns_shown prompt turns) t.0 (turn_shown prompt turn) t.1),
-      Shows-trans p t.2)
+HeldEnds-one shown failures old mid new prompt turns turn ShowFault go p t = (
+  turns,
+  turn,
+  record { parts = refl; going = go },
+  turns_shown prompt turns ++ t.0,
+  subst (λ l. IsFrontOf (turns_shown prompt turns ++ t.0) l) (sym (turns_shown-one prompt turns turn)) (front-after (turns_shown prompt turns) t.0 (turn_shown prompt turn) t.1),
+  Shows-trans p t.2,
+)
 HeldEnds-one shown failures old mid new prompt turns turn NoMemory go p t = absurd t
 
 -- a turn for a text that is cut off
@@ -133,7 +141,7 @@ pub Gives-more : {S : Type 0} {coming : S → Option (List ℕ)} {bound failures
 Gives-more {xs} {ys} {failed} p q = record {
   given = Consumes-trans _ _ _ _ _ p.given q.given;
   less = simp length-append (let e = p.less in let f = q.less in omega arith);
-  count = q.count ∙ ap (counted failed) p.count
+  count = q.count ∙ ap (counted failed) p.count;
 }
 
 joined : (prompt : Bool) (xs ys : List Turn) → (star prompt ++ turns_shown prompt xs) ++ turns_shown prompt ys ≡ star prompt ++ turns_shown prompt (xs ++ ys)
@@ -148,13 +156,29 @@ shows_on shown failures old mid new prompt xs ys p q = subst (λ l. Shows shown 
 pub ends_from : {T : Type 0} (shown : T → Option (List ℕ)) (failures : T → ℕ) (old mid new : T) (ended prompt : Bool) (bytes : List ℕ) (xs ys : List Turn) (served : Served)
     → GoOn xs → Shows shown failures old mid (star prompt ++ turns_shown prompt xs) false → HeldEnds shown failures mid new prompt ys (Some served)
     → (is_read_fault served ≡ false) × Ends shown failures old new ended prompt bytes (xs ++ ys) served
-ends_from shown failures old mid new ended prompt bytes xs ys Exit go p s =
-    (refl, (xs ++ s.0, s.1, record { parts = ap (λ l. xs ++ l) s.2.parts ∙ sym (append_assoc xs s.0 (s.1 ∷ [])); going = GoOn-append xs s.0 go s.2.going }, s.3,
-      shows_on shown failures old mid new prompt xs ys p s.4))
+ends_from shown failures old mid new ended prompt bytes xs ys Exit go p s = (
+  refl,
+  (
+    xs ++ s.0,
+    s.1,
+    record { parts = ap (λ l. xs ++ l) s.2.parts ∙ sym (append_assoc xs s.0 (s.1 ∷ [])); going = GoOn-append xs s.0 go s.2.going },
+    s.3,
+    shows_on shown failures old mid new prompt xs ys p s.4,
+  ),
+)
 ends_from shown failures old mid new ended prompt bytes xs ys EndOfCommands go p s = absurd s
 ends_from shown failures old mid new ended prompt bytes xs ys ReadFault go p s = absurd s
-ends_from shown failures old mid new ended prompt bytes xs ys ShowFault go p s =
-    (refl, (xs ++ s.0, s.1 ∷ [], ap (λ l. xs ++ l) s.2.parts ∙ sym (append_assoc xs s.0 (s.1 ∷ [])), GoOn-append xs s.0 go s.2.going, omega arith,
-      (star prompt ++ turns_shown prompt xs) ++ s.3, subst (λ l. IsFrontOf ((star prompt ++ turns_shown prompt xs) ++ s.3) l) (joined prompt xs ys) (front-after (star prompt ++ turns_shown prompt xs) s.3 (turns_shown prompt ys) s.4),
-      Shows-trans p s.5))
+ends_from shown failures old mid new ended prompt bytes xs ys ShowFault go p s = (
+  refl,
+  (
+    xs ++ s.0,
+    s.1 ∷ [],
+    ap (λ l. xs ++ l) s.2.parts ∙ sym (append_assoc xs s.0 (s.1 ∷ [])),
+    GoOn-append xs s.0 go s.2.going,
+    omega arith,
+    (star prompt ++ turns_shown prompt xs) ++ s.3,
+    subst (λ l. IsFrontOf ((star prompt ++ turns_shown prompt xs) ++ s.3) l) (joined prompt xs ys) (front-after (star prompt ++ turns_shown prompt xs) s.3 (turns_shown prompt ys) s.4),
+    Shows-trans p s.5,
+  ),
+)
 ends_from shown failures old mid new ended prompt bytes xs ys NoMemory go p s = (refl, (GoOn-append xs ys go s.0, shows_on shown failures old mid new prompt xs ys p s.1))

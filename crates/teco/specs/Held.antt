@@ -29,7 +29,7 @@ abbrev pub HeldEnds : {T : Type 0} → (T → Option (List ℕ)) → (T → ℕ)
 HeldEnds shown failures old new prompt turns ended = elim ended [
   | Some Exit ↦ (before : List Turn) × (last : Turn) × EndsBy turns before last × (exits last ≡ true) × Shows shown failures old new (turns_shown prompt turns) false
   | Some ShowFault ↦ (before : List Turn) × (last : Turn) × EndsBy turns before last
-    × (front : List ℕ) × IsFrontOf front (turns_shown prompt turns) × Shows shown failures old new front true
+      × (front : List ℕ) × IsFrontOf front (turns_shown prompt turns) × Shows shown failures old new front true
   | Some EndOfCommands ↦ ⊥
   | Some ReadFault ↦ ⊥
   | _ ↦ GoOn turns × Shows shown failures old new (turns_shown prompt turns) false

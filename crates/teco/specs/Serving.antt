@@ -54,13 +54,13 @@ is_read_fault NoMemory = false
 abbrev pub Ends : {T : Type 0} → (T → Option (List ℕ)) → (T → ℕ) → T → T → Bool → Bool → List ℕ → List Turn → Served → Type 0
 -- The last turn made the session done.
 Ends shown failures old new ended prompt bytes turns Exit = (before : List Turn) × (last : Turn) × EndsBy turns before last × (exits last ≡ true)
-  × Shows shown failures old new (all_shown prompt turns) false
+    × Shows shown failures old new (all_shown prompt turns) false
 -- The source has ended.
 Ends shown failures old new ended prompt bytes turns EndOfCommands = AllDone turns bytes × (ended ≡ true) × Shows shown failures old new (all_shown prompt turns) false
 -- A read failed, after all that came before it was done.
 Ends shown failures old new ended prompt bytes turns ReadFault = AllDone turns bytes × Shows shown failures old new (all_shown prompt turns) false
 -- A put failed, of the first star or in the last turn; nothing was shown after it.
 Ends shown failures old new ended prompt bytes turns ShowFault = (before : List Turn) × (last : List Turn) × (turns ≡ before ++ last) × GoOn before × (length last ≤ 1)
-  × (front : List ℕ) × IsFrontOf front (all_shown prompt turns) × Shows shown failures old new front true
+    × (front : List ℕ) × IsFrontOf front (all_shown prompt turns) × Shows shown failures old new front true
 -- The splitter was refused.
 Ends shown failures old new ended prompt bytes turns NoMemory = GoOn turns × Shows shown failures old new (all_shown prompt turns) false

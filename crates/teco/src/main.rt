@@ -1,6 +1,9 @@
 //! The editor: a stream of commands, served.
 #![tactic(auto)]
 
+ghost use Rattle.std.specs.Prelude.{◌≤◌, IfOk, vec_len};
+ghost use Rattle.teco_store.specs.State.{file_limit};
+
 mod ending;
 mod line;
 mod memory_source;
@@ -11,4 +14,109 @@ mod source;
 mod splitter;
 mod turn;
 
-fn main() {}
+use crate::ending::{Fate, ending};
+use crate::line::{Line, LineFault, line_of, output_name};
+use crate::reader_source::ReaderSource;
+use crate::served::Served;
+use crate::serving::serve;
+use std::fs::File;
+use std::io::{ErrorKind, Read};
+use std::process::ExitCode;
+use std::{fs, io};
+use teco_core::NoMemory;
+use teco_session::Session;
+use teco_step::WriterTerminal;
+use teco_store::Desk;
+
+/// The most bytes of the input.
+const INPUT_LIMIT: usize = 1 << 30;
+
+/// How the program ends at an error of the system: where it lacked memory, without it, and else so.
+fn fate_of(error: io::Error, other: Fate) -> Fate {
+    match error.kind() {
+        ErrorKind::OutOfMemory => Fate::NoMemory,
+        _ => other,
+    }
+}
+
+/// The whole input, or how the program ends without it.
+fn read_input(rt: &HostRuntime, name: &str) -> Result<Vec<u8>, Fate>
+    ensures { IfOk result (λ input. vec_len input ≤ file_limit) }
+{
+    let file = match File::open(rt, name) {
+        Ok(file) => file,
+        Err(error) => return Err(fate_of(error, Fate::NoInput)),
+    };
+    let mut input = Vec::new(rt.alloc());
+    match file.take(INPUT_LIMIT as u64 + 1).read_to_end(&mut input) {
+        Err(error) => Err(fate_of(error, Fate::NoInput)),
+        Ok(_) if input.len() > INPUT_LIMIT => Err(Fate::LargeInput),
+        Ok(_) => Ok(input),
+    }
+}
+
+/// Reads the input, serves the commands, and writes the output after an exit.
+fn run(rt: &HostRuntime, line: &Line) -> Fate {
+    let alloc = rt.alloc();
+    let input = match read_input(rt, line.input.as_str()) {
+        Ok(input) => input,
+        Err(fate) => return fate,
+    };
+    let Ok(output) = output_name(alloc, line) else {
+        return Fate::NoMemory;
+    };
+    let mut session = Session::new(input);
+    let mut source = ReaderSource::new(rt.stdin());
+    let mut term = WriterTerminal::new(rt.stdout());
+    let served = serve(
+        alloc,
+        &mut source,
+        &mut session,
+        line.limit,
+        line.prompt,
+        &mut term,
+    );
+    if let Served::Exit = served {
+        if let Err(error) = fs::write(rt, output.as_str(), session.editor().output()) {
+            return fate_of(error, Fate::NoOutput);
+        }
+    }
+    Fate::Ended(served)
+}
+
+/// The line that the program was called with.
+fn line_given(rt: &HostRuntime) -> Result<Line, LineFault> {
+    let Ok(words) = std::env::args(rt) else {
+        return Err(LineFault::NoMemory);
+    };
+    let words: Vec<String> = words.collect(rt.alloc())?;
+    line_of(rt.alloc(), words.as_slice())
+}
+
+/// Runs the program, and gives its status and what it prints on standard error.
+fn conclusion(rt: &HostRuntime, line: &Line) -> Result<(u8, String), NoMemory> {
+    ending(rt.alloc(), line, run(rt, line))
+}
+
+fn no_memory(rt: &HostRuntime) -> ExitCode {
+    let _ = eprintln!(rt; "teco: no memory");
+    ExitCode::from(1)
+}
+
+fn main(rt: HostRuntime) -> ExitCode {
+    let line = match line_given(&rt) {
+        Ok(line) => line,
+        Err(LineFault::NoMemory) => return no_memory(&rt),
+        Err(LineFault::Refused(error)) => {
+            let _ = error.print(&rt);
+            return ExitCode::from(if error.use_stderr() { 3 } else { 0 });
+        }
+    };
+    match conclusion(&rt, &line) {
+        Ok((status, text)) => {
+            let _ = eprint!(rt; "{text}");
+            ExitCode::from(status)
+        }
+        Err(NoMemory) => no_memory(&rt),
+    }
+}

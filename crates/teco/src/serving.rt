@@ -80,3 +80,6 @@ pub fn serve<S: Source, T: Terminal>(
         }
     }
 }
+
+#[cfg(test)]
+mod tests;

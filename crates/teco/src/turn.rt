@@ -96,10 +96,12 @@ fn is_unshown(answer: Answer) -> bool
     ensures { result ≡ is_terminal_failure answer }
 {
     match answer {
-        Answer::Ended(Outcome {
-            code: Some(Code::Tty),
-            ..
-        }) => true,
+        Answer::Ended(
+            Outcome {
+                code: Some(Code::Tty),
+                ..
+            },
+        ) => true,
         _ => false,
     }
 }

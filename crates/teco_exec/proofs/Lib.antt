@@ -5,7 +5,8 @@ pub mod Idle
 pub mod Sound
 pub mod Trees
 pub mod Found
-pub mod Running
+pub mod Going
 pub mod Straight
 pub mod Plain
 pub mod Tokens
+pub mod Quiet

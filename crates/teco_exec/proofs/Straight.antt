@@ -14,7 +14,7 @@ use Rattle.teco_exec.specs.Meaning.{then_rest, carries, leave_comes, first_setti
 use Rattle.teco_exec.specs.StringMeaning.{code_of}
 use Rattle.teco_exec.proofs.Fuel.{meaning_falls, trans_le, then_rest_fuel, carries_fuel, list_is}
 use Rattle.teco_exec.proofs.Idle.{Stays, stays_on, list_stays, then_rest_stays, carries_stays}
-use Rattle.teco_exec.proofs.Running.{Rest, world, Rests, Costs, Leads, Settles, EndsWith, Ends}
+use Rattle.teco_exec.proofs.Going.{Rest, world, Rests, Costs, Leads, Settles, EndsWith, Ends}
 
 -- from these nodes of the text on, with these arguments
 abbrev pub rest_of : List ℕ → Nodes → Arguments → State → Rest

@@ -23,13 +23,13 @@ use Rattle.teco_step.specs.Terminal.{Shows}
 use Rattle.teco_exec.specs.World.{Ran}
 use Rattle.teco_exec.specs.Meaning.{leave_comes}
 use Rattle.teco_exec.specs.StringMeaning.{start, run_of}
-use Rattle.teco_exec.proofs.Found.{Placed, nodes_of, nodes_whole, nodes_item, nodes_escape, fault_is_finished}
+use Rattle.teco_exec.proofs.Found.{Placed, nodes_of, nodes_whole, nodes_item, nodes_escape, fault_is_finished, token_is_step}
 use Rattle.teco_exec.proofs.Idle.{list_stays}
 use Rattle.teco_step.proofs.Shown.{Shows-nil}
 use Rattle.teco_exec.specs.Runs.{trail_of}
 use Rattle.teco_exec.proofs.Plain.{is_plain, effect_is_plain}
-use Rattle.teco_exec.proofs.Running as running
-use Rattle.teco_exec.proofs.Running.{trail, Rest, Rests, Costs, Leads, Ends, Going, Ended, over}
+use Rattle.teco_exec.proofs.Going as running
+use Rattle.teco_exec.proofs.Going.{trail, Rest, Rests, Costs, Leads, Ends, Going, Ended, over}
 use Rattle.teco_exec.proofs.Straight.{rest_of, after_step, rest_rests, after_rests, setting_of, item_leads, item_costs, item_halts, on_settles, escape_settles, done_ends, faulty_ends, stop_ends, leave_ends, out_ends}
 
 -- a token that is a step has an item
@@ -109,6 +109,16 @@ module _ {T : Type 0} (shown : T → Option (List ℕ)) (failures : T → ℕ) (
         (subst (λ y. Going shown failures (run_of old text) first later d.state P G (steps + 1) (to left y d.state)) (sym done.end)
         (subst (λ x. Going shown failures (run_of old text) first later d.state P G (steps + 1) (to x d.end d.state)) (sym done.arguments) g))
 
+    -- it was done, as the code sees it
+    pub counts : (name : List ℕ) (new same : State) (left : Arguments) (later : T) (n : Next) (G H : Trail → Type 0)
+        → Steps shown failures (token_effect text t None false before s a) name s new left now later n → is_unfinished n ≡ false → same ≡ new
+        → ((u : Trail) → F u → G (trail_after n u (token_effect text t None false before s a).load))
+        → ((u : Trail) → G u → u.changes ≤ 6 → steps + 1 ≡ u.steps + 1 → u.states (steps + 1) ≡ new → u.load ≤ u.loads (steps + 1) → H (stepped u))
+        → Going shown failures (run_of old text) first later same P H (steps + 1) (after_step text (nodes_of text after) (item_in text i) (setting_of t.modifiers (nodes_of text after)) left (end_of name n) same)
+    counts name new same left later n G H stepping f e took marks =
+        does name new same left later n H (finished_done (token_effect text t None false before s a) name s new left now later n f stepping) e
+          (follows_step F G H n (token_effect text t None false before s a).load steps (steps + 1) new f refl took marks)
+
     -- it was begun and not done
     pub fails : (name : List ℕ) (new : State) (left : Arguments) (later : T) (n : Next) (code : Code) (G : Trail → Type 0)
         → Steps shown failures (token_effect text t None false before s a) name s new left now later n → n ≡ next.Error code → is_unfinished_code code ≡ true → steps < limit
@@ -127,9 +137,9 @@ module _ {T : Type 0} (shown : T → Option (List ℕ)) (failures : T → ℕ) (
           lacks.state lacks.types lacks.beginning lacks.shows keeps)
 
     -- neither a jump, nor a call, nor a further step
-    pub ends_plainly : (name : List ℕ) (new : State) (left : Arguments) (later : T) (n : Next) → IsDone shown failures (token_effect text t None false before s a) name new left now later n → is_plain (end_of name n) ≡ true
-    ends_plainly name new left later n done =
-        ap is_plain done.end ∙ ap (λ (d : Step). is_plain d.end) effect_is ∙ effect_is_plain (item_in text i) (setting_of t.modifiers (nodes_of text after)) s a
+    pub ends_plainly : (name : List ℕ) (new : State) (left : Arguments) (later : T) (n : Next) → Steps shown failures (token_effect text t None false before s a) name s new left now later n → is_unfinished n ≡ false → is_plain (end_of name n) ≡ true
+    ends_plainly name new left later n stepping f =
+        ap is_plain (finished_done (token_effect text t None false before s a) name s new left now later n f stepping).end ∙ ap (λ (d : Step). is_plain d.end) effect_is ∙ effect_is_plain (item_in text i) (setting_of t.modifiers (nodes_of text after)) s a
 
 -- behind a step
 module _ {T : Type 0} (shown : T → Option (List ℕ)) (failures : T → ℕ) (old : State) (text : List ℕ) (limit : ℕ) (first now : T) (s : State) (P : ℕ → Type 0) (F : Trail → Type 0) (steps : ℕ)
@@ -188,3 +198,10 @@ module _ {T : Type 0} (shown : T → Option (List ℕ)) (failures : T → ℕ) (
 
   pub at_end : f ≡ places.End → steps ≤ limit → Ended shown failures old text limit first now s P F (record { code = None; steps = steps })
   at_end e le = over shown failures old text limit first now s P F steps _ (found_is places.End e) None tt le (done_ends text a s (limit - steps))
+
+pub token_placed : (text : List ℕ) (f : Found) (t : Token) → Placed text f → f ≡ places.Token t → Placed text (places.Token t)
+token_placed text f t p e = subst (Placed text) e p
+
+-- a token that is found and isn't ESC is a step
+pub found_step : (text : List ℕ) (f : Found) (t : Token) → Placed text f → f ≡ places.Token t → (t.kind ≡ kinds.Escape → ⊥) → IsStepIn text t
+found_step text f t p e other = let q = token_placed text f t p e in token_is_step text q.at t q.read q.stands.spans other

@@ -2,5 +2,7 @@
 #![tactic(auto)]
 
 mod outcome;
+mod running;
 
 pub use outcome::Outcome;
+pub use running::run;

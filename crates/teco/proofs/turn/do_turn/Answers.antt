@@ -21,9 +21,14 @@ returns-then-exits g c =
     let was : c.done-was_done.result ≡ (present turn.before).is_done = c.done-was_done.ensures ∙ ap (λ s. s.is_done) c.editor.ensures.present in
     let now : c.done.result ≡ (present turn.after).is_done = c.done.ensures ∙ ap (λ s. s.is_done) c.editor-2.ensures.present in
     let same : c.exits.result ≡ exits turn = exits_from turn c.exits.result c.done-was_done.result c.done.result c.exits.ensures was now in
-    let ends : exits turn ≡ true = sym same ∙ c.if-exits.true in
-    (turn, record { asked_is = refl; before_is = refl; after_is = refl; does = d.1 }, (ends,
-      subst (λ l. Shows g.T.Terminal.shown g.T.Terminal.failures c.args.term.now c.do_asked.new.term l false) (sym (shown_exit c.args.prompt turn ends)) d.2))
+    let ends : exits turn ≡ true = sym same ∙ c.if-exits.true in (
+      turn,
+      record { asked_is = refl; before_is = refl; after_is = refl; does = d.1 },
+      (
+        ends,
+        subst (λ l. Shows g.T.Terminal.shown g.T.Terminal.failures c.args.term.now c.do_asked.new.term l false) (sym (shown_exit c.args.prompt turn ends)) d.2,
+      ),
+    )
 
 pub returns-in-Err-show_prompt : goal.returns-in-Err-show_prompt
 returns-in-Err-show_prompt g c =
@@ -33,10 +38,15 @@ returns-in-Err-show_prompt g c =
     let was : c.done-was_done.result ≡ (present turn.before).is_done = c.done-was_done.ensures ∙ ap (λ s. s.is_done) c.editor.ensures.present in
     let now : c.done.result ≡ (present turn.after).is_done = c.done.ensures ∙ ap (λ s. s.is_done) c.editor-2.ensures.present in
     let same : c.exits.result ≡ exits turn = exits_from turn c.exits.result c.done-was_done.result c.done.result c.exits.ensures was now in
-    let on : exits turn ≡ false = sym same ∙ c.if-exits.false in
-    (turn, record { asked_is = refl; before_is = refl; after_is = refl; does = d.1 }, (replies_shown d.0 ++ p.0,
-      subst (λ l. IsFrontOf (replies_shown d.0 ++ p.0) l) (sym (shown_on c.args.prompt turn on)) (front-after (replies_shown d.0) p.0 (star c.args.prompt) p.1),
-      Shows-trans d.2 p.2))
+    let on : exits turn ≡ false = sym same ∙ c.if-exits.false in (
+      turn,
+      record { asked_is = refl; before_is = refl; after_is = refl; does = d.1 },
+      (
+        replies_shown d.0 ++ p.0,
+        subst (λ l. IsFrontOf (replies_shown d.0 ++ p.0) l) (sym (shown_on c.args.prompt turn on)) (front-after (replies_shown d.0) p.0 (star c.args.prompt) p.1),
+        Shows-trans d.2 p.2,
+      ),
+    )
 
 pub returns : goal.returns
 returns g c =
@@ -46,6 +56,11 @@ returns g c =
     let was : c.done-was_done.result ≡ (present turn.before).is_done = c.done-was_done.ensures ∙ ap (λ s. s.is_done) c.editor.ensures.present in
     let now : c.done.result ≡ (present turn.after).is_done = c.done.ensures ∙ ap (λ s. s.is_done) c.editor-2.ensures.present in
     let same : c.exits.result ≡ exits turn = exits_from turn c.exits.result c.done-was_done.result c.done.result c.exits.ensures was now in
-    let on : exits turn ≡ false = sym same ∙ c.if-exits.false in
-    (turn, record { asked_is = refl; before_is = refl; after_is = refl; does = d.1 }, (on,
-      subst (λ l. Shows g.T.Terminal.shown g.T.Terminal.failures c.args.term.now c.show_prompt.new.term l false) (sym (shown_on c.args.prompt turn on)) (Shows-trans d.2 p)))
+    let on : exits turn ≡ false = sym same ∙ c.if-exits.false in (
+      turn,
+      record { asked_is = refl; before_is = refl; after_is = refl; does = d.1 },
+      (
+        on,
+        subst (λ l. Shows g.T.Terminal.shown g.T.Terminal.failures c.args.term.now c.show_prompt.new.term l false) (sym (shown_on c.args.prompt turn on)) (Shows-trans d.2 p),
+      ),
+    )

@@ -9,5 +9,5 @@ abbrev pub invariant-moves : goal.invariant-moves
 invariant-moves g l = record {
   same : l.term ≡ l.initial.term;
   moved : (replies : List Reply) × (replies_shown replies ≡ [])
-    × ((rest : List Reply) (new : History) → Moves l.kind (l.n - l._i) l.session rest new → Moves l.kind l.n l.initial.session (replies ++ rest) new)
+      × ((rest : List Reply) (new : History) → Moves l.kind (l.n - l._i) l.session rest new → Moves l.kind l.n l.initial.session (replies ++ rest) new);
 }
