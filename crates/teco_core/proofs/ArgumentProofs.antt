@@ -12,7 +12,7 @@ use Rattle.teco_core.specs.Pieces.{built, taken_after}
 use Rattle.teco_core.specs.ArgumentFacts.{LeftToRight, ParenthesesFirst, Signs, Sixteen, Commas, Unfinished}
 
 one_after_another : {A B C E : Type 0} → (r : Result A E) (f : A → Result B E) (g : B → Result C E)
-  → ((r >>= f) >>= g) ≡ (r >>= (λ x. f x >>= g))
+    → ((r >>= f) >>= g) ≡ (r >>= (λ x. f x >>= g))
 one_after_another (Ok x) f g = refl
 one_after_another (Err e) f g = refl
 

@@ -18,7 +18,7 @@ digits_value-rises n (d ∷ ds) = omega (arith, digits_value-rises (n * 10 + (d 
 
 -- One more digit.
 pub digits_value-next : (ds : List ℕ) (i d : ℕ) → i < length ds
-  → digits_value 0 (take (i + 1) ds) ≡ digits_value 0 (take i ds) * 10 + (get_or ds i d - 48)
+    → digits_value 0 (take (i + 1) ds) ≡ digits_value 0 (take i ds) * 10 + (get_or ds i d - 48)
 unfolding digits_value
 digits_value-next ds i d below =
     ap (digits_value 0) (take_more ds i d below) ∙ digits_value-append 0 (take i ds) (get_or ds i d ∷ [])
@@ -47,12 +47,12 @@ fitted-large m e is =
 
 -- A turn of the loop at the digit i, from the value of those before.
 pub next-ok : (ds : List ℕ) (i d : ℕ) (v n : ℤ) → i < length ds → v ≡ pos (digits_value 0 (take i ds))
-  → fitted ((v *ℤ pos 10) +ℤ pos (get_or ds i d - 48)) ≡ Ok n → n ≡ pos (digits_value 0 (take (i + 1) ds))
+    → fitted ((v *ℤ pos 10) +ℤ pos (get_or ds i d - 48)) ≡ Ok n → n ≡ pos (digits_value 0 (take (i + 1) ds))
 next-ok ds i d v n below so_far is =
     by_test-ok _ _ n (rw so_far at is) ∙ ap pos (sym (digits_value-next ds i d below))
 
 pub next-err : (ds : List ℕ) (i d : ℕ) (v : ℤ) (e : Code) → i < length ds → v ≡ pos (digits_value 0 (take i ds))
-  → fitted ((v *ℤ pos 10) +ℤ pos (get_or ds i d - 48)) ≡ Err e → decimal_value ds ≡ Err e
+    → fitted ((v *ℤ pos 10) +ℤ pos (get_or ds i d - 48)) ≡ Err e → decimal_value ds ≡ Err e
 next-err ds i d v e below so_far is =
     let no = fitted-large _ e (rw so_far at is) in
     too_many ds (i + 1) _ (omega (arith, digits_value-next ds i d below)) no.1 ∙ ap Err (sym no.0)

@@ -9,7 +9,7 @@ use Rattle.teco_core.specs.Arguments.{Arguments, given, give, close_level}
 
 -- The level opened last comes first.
 pub innermost : (levels : List Expression) (depth : ℕ) → 0 < depth → depth ≤ length levels
-  → reverse (take depth levels) ≡ get_or levels (depth - 1) Nothing ∷ reverse (take (depth - 1) levels)
+    → reverse (take depth levels) ≡ get_or levels (depth - 1) Nothing ∷ reverse (take (depth - 1) levels)
 innermost levels depth some room =
     let back : depth ≡ depth - 1 + 1 = omega arith in
     let last = take_more levels (depth - 1) Nothing (omega arith) in
@@ -24,14 +24,14 @@ module _ (first : Option ℤ) (levels : List Expression) (depth : ℕ) (e : Expr
   After n = record { first = first; expression = Number n; outer = reverse (take (depth - 1) levels) }
 
   closes : e ≡ Number v → 0 < depth → depth ≤ length levels
-    → close_level Before ≡ (given (get_or levels (depth - 1) Nothing) v >>= (λ n. Ok (After n)))
+      → close_level Before ≡ (given (get_or levels (depth - 1) Nothing) v >>= (λ n. Ok (After n)))
   unfolding close_level give
   closes is some room = rw (is, innermost levels depth some room)
 
   pub closes-ok : (n : ℤ) → e ≡ Number v → 0 < depth → depth ≤ length levels
-    → given (get_or levels (depth - 1) Nothing) v ≡ Ok n → close_level Before ≡ Ok (After n)
+      → given (get_or levels (depth - 1) Nothing) v ≡ Ok n → close_level Before ≡ Ok (After n)
   closes-ok n is some room gives = closes is some room ∙ ap (λ r. r >>= (λ n. Ok (After n))) gives
 
   pub closes-err : (code : Code) → e ≡ Number v → 0 < depth → depth ≤ length levels
-    → given (get_or levels (depth - 1) Nothing) v ≡ Err code → close_level Before ≡ Err code
+      → given (get_or levels (depth - 1) Nothing) v ≡ Err code → close_level Before ≡ Err code
   closes-err code is some room gives = closes is some room ∙ ap (λ r. r >>= (λ n. Ok (After n))) gives

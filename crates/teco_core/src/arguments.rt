@@ -4,6 +4,7 @@ ghost use Rattle.teco_core.specs.Arguments.{no_arguments, given, waiting, sign_v
 
 use crate::code::Code;
 use crate::number::{Op, operation};
+use std::mem;
 
 /// A `+` or `-` before a value.
 #[derive(Clone, Copy, Debug, PartialEq, Eq)]
@@ -180,9 +181,8 @@ impl Args {
         if self.depth == 16 {
             return Err(Code::Pdo);
         }
-        self.outer[self.depth] = self.expression;
+        self.outer[self.depth] = mem::replace(&mut self.expression, Expression::Nothing);
         self.depth += 1;
-        self.expression = Expression::Nothing;
         Ok(())
     }
 
@@ -218,7 +218,7 @@ impl Args {
         match (self.first, self.expression) {
             (None, Expression::Number(value)) => {
                 self.first = Some(value);
-                self.expression = Expression::Nothing;
+                self.empty_level();
                 Ok(())
             }
             _ => Err(Code::Arg),

@@ -1,5 +1,5 @@
 //! The codes by which a command string, or an answer, ends.
-ghost use Rattle.std.specs.Prelude.{◌≡◌};
+ghost use Rattle.std.specs.Prelude.{◌≡◌, Some, length};
 ghost use Rattle.teco_core.specs.Code.{letters_of, number_of};
 
 use std::fmt;
@@ -85,43 +85,15 @@ impl Code {
     pub fn letters(self) -> [u8; 3]
         ensures { result ≡ letters_of self }
     {
-        match self {
-            Code::Arg => *b"ARG",
-            Code::Bni => *b"BNI",
-            Code::Cpq => *b"CPQ",
-            Code::Dtb => *b"DTB",
-            Code::Ice => *b"ICE",
-            Code::Iia => *b"IIA",
-            Code::Ill => *b"ILL",
-            Code::Ipa => *b"IPA",
-            Code::Iqc => *b"IQC",
-            Code::Iqn => *b"IQN",
-            Code::Isa => *b"ISA",
-            Code::Iss => *b"ISS",
-            Code::Mrp => *b"MRP",
-            Code::Nae => *b"NAE",
-            Code::Naq => *b"NAQ",
-            Code::Nau => *b"NAU",
-            Code::Ovf => *b"OVF",
-            Code::Dvz => *b"DVZ",
-            Code::Pdo => *b"PDO",
-            Code::Pop => *b"POP",
-            Code::Sni => *b"SNI",
-            Code::Srh => *b"SRH",
-            Code::Tag => *b"TAG",
-            Code::Utc => *b"UTC",
-            Code::Yca => *b"YCA",
-            Code::Big => *b"BIG",
-            Code::Lim => *b"LIM",
-            Code::Mem => *b"MEM",
-            Code::Tty => *b"TTY",
-            Code::Ntu => *b"NTU",
-            Code::Ntr => *b"NTR",
-            Code::End => *b"END",
-        }
+        let mut letters = [0; 3];
+        letters.copy_from_slice(self.name().as_bytes());
+        letters
     }
 
-    fn name(self) -> &'static str {
+    fn name(self) -> &'static str
+        ensures letters { result.now ≡ letters_of self }
+        ensures three { length result.now ≡ 3 }
+    {
         match self {
             Code::Arg => "ARG",
             Code::Bni => "BNI",
@@ -160,6 +132,8 @@ impl Code {
 }
 
 impl fmt::Display for Code {
+    ghost output = { λ code. Some (letters_of code) };
+
     fn fmt<W: fmt::Write>(&self, f: &mut fmt::Formatter<W>) -> Result<(), fmt::Error> {
         f.write_str(self.name())
     }

@@ -9,5 +9,4 @@ pub fn argument_facts()
     ensures sixteen { Sixteen }
     ensures commas { Commas }
     ensures unfinished { Unfinished }
-{
-}
+{}
