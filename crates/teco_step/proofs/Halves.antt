@@ -24,28 +24,28 @@ in_second xs ys n more =
 
 -- what lies in the first half, and what in the second
 pub cut : (xs ys : List ℕ) (low high p q u v : ℕ) → low ≤ high → p ≡ min low (length xs) → q ≡ min high (length xs) → u ≡ low - length xs → v ≡ high - length xs
-  → drop low (take high (xs ++ ys)) ≡ between p q xs ++ between u v ys
+    → drop low (take high (xs ++ ys)) ≡ between p q xs ++ between u v ys
 cut xs ys low high p q u v ordered ep eq eu ev =
     ⊎_elim
     (λ (h : length xs < high).
-        let to_middle : q ≡ length xs = omega arith in
-        let to_high : high ≡ length xs + v = omega arith in
-        ⊎_elim
-        (λ (k : length xs < low).
-            let from_middle : p ≡ length xs = omega arith in
-            let from_low : low ≡ length xs + u = omega arith in
-            rw (to_middle, to_high, from_middle, from_low) (in_second xs ys u v))
-        (λ (k : low ≤ length xs).
-            let from_low : p ≡ low = omega arith in
-            let from_0 : u ≡ 0 = omega arith in
-            rw (to_middle, to_high, from_low, from_0) (in_both xs ys low v k))
-        (cases_lt (length xs) low))
+    let to_middle : q ≡ length xs = omega arith in
+    let to_high : high ≡ length xs + v = omega arith in
+    ⊎_elim
+    (λ (k : length xs < low).
+    let from_middle : p ≡ length xs = omega arith in
+    let from_low : low ≡ length xs + u = omega arith in
+    rw (to_middle, to_high, from_middle, from_low) (in_second xs ys u v))
+    (λ (k : low ≤ length xs).
+    let from_low : p ≡ low = omega arith in
+    let from_0 : u ≡ 0 = omega arith in
+    rw (to_middle, to_high, from_low, from_0) (in_both xs ys low v k))
+    (cases_lt (length xs) low))
     (λ (h : high ≤ length xs).
-        let to_high : q ≡ high = omega arith in
-        let from_low : p ≡ low = omega arith in
-        let from_0 : u ≡ 0 = omega arith in
-        let to_0 : v ≡ 0 = omega arith in
-        rw (to_high, from_low, from_0, to_0) (in_first xs ys low high h))
+    let to_high : q ≡ high = omega arith in
+    let from_low : p ≡ low = omega arith in
+    let from_0 : u ≡ 0 = omega arith in
+    let to_0 : v ≡ 0 = omega arith in
+    rw (to_high, from_low, from_0, to_0) (in_first xs ys low high h))
     (cases_lt (length xs) high)
 
 pub nonempty_before : (xs ys : List ℕ) → xs ≢ [] → xs ++ ys ≢ []

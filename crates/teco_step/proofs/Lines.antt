@@ -1,5 +1,5 @@
 -- The places of line ends, seen as a walk finds them: one after another from a place on, or one before another back from it.
-use Rattle.std.proofs.Common.{◌≡◌, ◌∙◌, ap, sym, refl, ℕ, zero, suc, ◌+◌, ◌-◌, ◌<◌, ◌≤◌, Bool, true, false, cond, List, [], ◌∷◌, ◌++◌, length, get_or, take, drop, reverse, filter, slice_get, Option, Some, None, ℤ, pos, negsuc, nat_abs, nat_le, nat_lt, int_lt, arith, rules, tests, add-suc, add-zero, add-one, drop-cons}
+use Rattle.std.proofs.Common.{◌≡◌, ◌∙◌, ap, sym, refl, ℕ, zero, suc, ◌+◌, ◌-◌, ◌<◌, ◌≤◌, Bool, true, false, cond, List, [], ◌∷◌, ◌++◌, length, get_or, take, drop, reverse, filter, slice_get, ℤ, pos, negsuc, nat_abs, nat_le, nat_lt, int_lt, arith, rules, tests, add-zero, add-one, drop-cons}
 use Rattle.std.proofs.lemmas.List.{append-nil, length-take-le, reverse-append, take-append-drop, take_more}
 use Rattle.std.proofs.Math.ListN.{drop_of_length-le}
 use Rattle.std.proofs.lemmas.List.Elements.{filter-append}
@@ -10,9 +10,9 @@ unfolding line_ends_from
 line_ends_from-append p [] ys = rw add-zero refl
 line_ends_from-append p (x ∷ xs) ys =
     let rest : line_ends_from (suc p) (xs ++ ys) ≡ line_ends_from (suc p) xs ++ line_ends_from (p + suc (length xs)) ys =
-      line_ends_from-append (suc p) xs ys ∙ ap (λ q. line_ends_from (suc p) xs ++ line_ends_from q ys) (omega arith) in
+    line_ends_from-append (suc p) xs ys ∙ ap (λ q. line_ends_from (suc p) xs ++ line_ends_from q ys) (omega arith) in
     elim (is_line_end x) as (λ b. cond b (p ∷ line_ends_from (suc p) (xs ++ ys)) (line_ends_from (suc p) (xs ++ ys)) ≡ cond b (p ∷ line_ends_from (suc p) xs) (line_ends_from (suc p) xs) ++ line_ends_from (p + suc (length xs)) ys)
-      [ true ↦ ap (λ l. p ∷ l) rest | false ↦ rest ]
+    [ true ↦ ap (λ l. p ∷ l) rest | false ↦ rest ]
 
 -- a test that is the same at all places of the bytes
 keeps_all : (t : ℕ → Bool) (p : ℕ) (xs : List ℕ) → ((q : ℕ) → p ≤ q → q < p + length xs → t q ≡ true) → filter t (line_ends_from p xs) ≡ line_ends_from p xs
@@ -22,7 +22,7 @@ keeps_all t p (x ∷ xs) h =
     let rest : filter t (line_ends_from (suc p) xs) ≡ line_ends_from (suc p) xs = keeps_all t (suc p) xs (λ q a b. h q (omega arith) (omega arith)) in
     let here : t p ≡ true = h p (omega arith) (omega arith) in
     elim (is_line_end x) as (λ b. filter t (cond b (p ∷ line_ends_from (suc p) xs) (line_ends_from (suc p) xs)) ≡ cond b (p ∷ line_ends_from (suc p) xs) (line_ends_from (suc p) xs))
-      [ true ↦ rw here (ap (λ l. p ∷ l) rest) | false ↦ rest ]
+    [ true ↦ rw here (ap (λ l. p ∷ l) rest) | false ↦ rest ]
 
 drops_all : (t : ℕ → Bool) (p : ℕ) (xs : List ℕ) → ((q : ℕ) → p ≤ q → q < p + length xs → t q ≡ false) → filter t (line_ends_from p xs) ≡ []
 unfolding line_ends_from
@@ -31,7 +31,7 @@ drops_all t p (x ∷ xs) h =
     let rest : filter t (line_ends_from (suc p) xs) ≡ [] = drops_all t (suc p) xs (λ q a b. h q (omega arith) (omega arith)) in
     let here : t p ≡ false = h p (omega arith) (omega arith) in
     elim (is_line_end x) as (λ b. filter t (cond b (p ∷ line_ends_from (suc p) xs) (line_ends_from (suc p) xs)) ≡ [])
-      [ true ↦ rw here rest | false ↦ rest ]
+    [ true ↦ rw here rest | false ↦ rest ]
 
 -- the line ends before a place, and those from there on
 parted : (text : List ℕ) (from : ℕ) → from ≤ length text → line_ends text ≡ line_ends_from 0 (take from text) ++ line_ends_from from (drop from text)
@@ -85,7 +85,7 @@ back_more text p below =
     let xs = take p text in
     let long : 0 + length xs ≡ p = omega (arith, length-take-le p text (omega arith)) in
     let whole : line_ends_from 0 (take (p + 1) text) ≡ line_ends_from 0 xs ++ line_ends_from p (b ∷ []) =
-      ap (line_ends_from 0) (take_more text p 0 below) ∙ line_ends_from-append 0 xs (b ∷ []) ∙ ap (λ q. line_ends_from 0 xs ++ line_ends_from q (b ∷ [])) long in
+    ap (line_ends_from 0) (take_more text p 0 below) ∙ line_ends_from-append 0 xs (b ∷ []) ∙ ap (λ q. line_ends_from 0 xs ++ line_ends_from q (b ∷ [])) long in
     ap reverse whole ∙ reverse-append (line_ends_from 0 xs) (line_ends_from p (b ∷ []))
     ∙ elim (is_line_end b) as (λ v. reverse (cond v (p ∷ []) []) ++ reverse (line_ends_from 0 xs) ≡ cond v (p ∷ reverse (line_ends_from 0 xs)) (reverse (line_ends_from 0 xs))) [ true ↦ refl | false ↦ refl ]
 

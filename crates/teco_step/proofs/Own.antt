@@ -27,7 +27,7 @@ use Rattle.teco_scan.specs.declared.command.TextCommand.TheVariants as text_comm
 use Rattle.teco_scan.specs.Scan.{Item}
 use Rattle.teco_scan.specs.Scan as token
 use Rattle.teco_step.specs.Effect.{command_effect, bare_effect, text_effect, item_effect}
-use Rattle.teco_step.specs.Step.{Setting, Tried, changes, one_or, just_one, takes_one_or, takes_one, as_byte, place_or, reached, takes_reach}
+use Rattle.teco_step.specs.Step.{Setting, changes, one_or, just_one, takes_one_or, takes_one, as_byte, place_or, reached, takes_reach}
 use Rattle.teco_step.specs.Values.{number, give_quantity, build}
 use Rattle.teco_step.specs.Editing.{jump, forward, with_text_in_limit, inserts, inserted, insert}
 use Rattle.teco_step.specs.Typing.{type_out, print}

@@ -6,7 +6,7 @@ use Rattle.std.proofs.Math.Seq.{take-append_seam}
 use borrow.Rule.Slice.PartMut.{put_mid}
 
 pub one_behind_another : (first second xs ys rest : List ℕ) (k n : ℕ) → xs ≡ first → ys ≡ second → n ≡ length first + length second
-  → take n (put_mid (length first) k (xs ++ rest) ys) ≡ first ++ second
+    → take n (put_mid (length first) k (xs ++ rest) ys) ≡ first ++ second
 one_behind_another first second xs ys rest k n ex ey long =
     rw (ex, ey) (take-put_mid (length first) k (first ++ rest) second n long (omega (arith, length-append first rest))
     ∙ ap (λ l. l ++ second) (take-append_seam first rest))

@@ -1,5 +1,5 @@
 -- Moves and insertions.
-use Rattle.std.specs.Prelude.{ℕ, List, [], ◌∷◌, length, Option, None, Result, Ok, Err, ℤ, pos, ◌+ℤ◌, nat_le, if◌then◌else◌}
+use Rattle.std.specs.Prelude.{ℕ, List, [], ◌∷◌, length, None, Result, Ok, Err, pos, ◌+ℤ◌, nat_le, if◌then◌else◌}
 use Rattle.teco_core.specs.declared.code.Code.{Code}
 use Rattle.teco_core.specs.declared.code.Code.TheVariants.{Arg, Big, Iia, Pop}
 use Rattle.teco_core.specs.declared.arguments.Taken.{Taken}

@@ -1,5 +1,5 @@
 -- What a function for a family of tokens did, beside the step that is meant: done, or not done by the code that it answers.
-use Rattle.std.specs.Prelude.{◌≡◌, ◌≢◌, ℕ, List, [], Option, Bool, true, false, ◌⊎◌, Result, Ok, Err}
+use Rattle.std.specs.Prelude.{◌≡◌, ◌≢◌, ℕ, List, [], Option, true, false, ◌⊎◌, Result, Ok, Err}
 use Rattle.std.specs.declared.ops.Range.{Range as Places}
 use Rattle.teco_core.specs.declared.code.Code.{Code}
 use Rattle.teco_core.specs.declared.code.Code.TheVariants.{Mem, Tty}

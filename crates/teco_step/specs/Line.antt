@@ -1,5 +1,5 @@
 -- Lines: a line ends at a line feed, a vertical tab or a form feed.
-use Rattle.std.specs.Prelude.{if◌then◌else◌, ℕ, zero, suc, ◌+◌, Bool, ◌||◌, List, [], ◌∷◌, length, reverse, filter, slice_get, Option, Some, None, ℤ, pos, negsuc, nat_abs, nat_le, nat_lt, ◌==◌}
+use Rattle.std.specs.Prelude.{if◌then◌else◌, ℕ, suc, ◌+◌, Bool, ◌||◌, List, [], ◌∷◌, length, reverse, filter, slice_get, Option, Some, None, ℤ, pos, nat_abs, nat_le, nat_lt, ◌==◌}
 
 abbrev pub is_line_end : ℕ → Bool
 is_line_end b = b == 10 || b == 11 || b == 12

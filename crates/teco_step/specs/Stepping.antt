@@ -1,5 +1,5 @@
 -- What a step may do on a desk and a terminal: what its effect says; or, with nothing changed, want of memory; or a failed put.
-use Rattle.std.specs.Prelude.{◌≡◌, ◌≢◌, ℕ, List, [], Option, Some, None, length, Bool, true, false, ◌⊎◌}
+use Rattle.std.specs.Prelude.{◌≡◌, ◌≢◌, ℕ, List, [], Option, length, Bool, true, false, ◌⊎◌}
 use Rattle.teco_core.specs.declared.code.Code.{Code}
 use Rattle.teco_core.specs.declared.code.Code.TheVariants.{Mem, Tty}
 use Rattle.teco_core.specs.Arguments.{Arguments}

@@ -1,6 +1,5 @@
 -- Values, and what builds arguments.
-use Rattle.std.specs.Prelude.{ℕ, List, length, Result, Err, ℤ, pos}
-use Rattle.teco_core.specs.declared.code.Code.{Code}
+use Rattle.std.specs.Prelude.{ℕ, List, length, pos}
 use Rattle.teco_core.specs.Refusal.{◌>>=◌}
 use Rattle.teco_core.specs.Number.{decimal_value}
 use Rattle.teco_core.specs.Arguments.{Arguments, operate}

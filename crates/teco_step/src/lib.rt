@@ -8,6 +8,8 @@ mod next;
 mod step;
 mod taking;
 mod terminal;
+#[cfg(test)]
+mod tests;
 mod typing;
 mod value;
 mod writer_terminal;

@@ -26,19 +26,34 @@ fn put_some<T: Terminal>(bytes: &[u8], term: &mut T) -> Result<(), TerminalFault
 }
 
 /// Shows a range of a text in two halves.
-fn put_range<T: Terminal>(before: &[u8], after: &[u8], range: Range<usize>, term: &mut T) -> Result<(), TerminalFault>
+fn put_range<T: Terminal>(
+    before: &[u8],
+    after: &[u8],
+    range: Range<usize>,
+    term: &mut T,
+) -> Result<(), TerminalFault>
     requires ordered { range.start ≤ range.end }
     requires within { range.end ≤ length (before.now ++ after.now) }
     ensures puts { Puts T.shown T.failures term.old term.new (drop range.start (take range.end (before.now ++ after.now))) result }
     ensures some { OnErr result (drop range.start (take range.end (before.now ++ after.now)) ≢ []) }
 {
     let middle = before.len();
-    put_some(&before[range.start.min(middle)..range.end.min(middle)], term)?;
-    put_some(&after[range.start.saturating_sub(middle)..range.end.saturating_sub(middle)], term)
+    put_some(
+        &before[range.start.min(middle)..range.end.min(middle)],
+        term,
+    )?;
+    put_some(
+        &after[range.start.saturating_sub(middle)..range.end.saturating_sub(middle)],
+        term,
+    )
 }
 
 /// `nT` types what n lines reach, and `m,nT` the range.
-pub(crate) fn type_out<D: Desk, T: Terminal>(desk: &D, args: &mut Args, term: &mut T) -> Result<(), Code>
+pub(crate) fn type_out<D: Desk, T: Terminal>(
+    desk: &D,
+    args: &mut Args,
+    term: &mut T,
+) -> Result<(), Code>
     ensures { let s = D.state desk.now in Types T.shown T.failures (typing.type_out s (arguments args.old)) s
         (arguments args.old) (arguments args.new) term.old term.new result }
 {

@@ -1,4 +1,4 @@
-use Rattle.std.proofs.Common.{◌≡◌, ◌∙◌, ◌++◌, ◌<◌, ◌≤◌, ap, arith, false, get_or, length, length-append, slice_get, subst, sym, true}
+use Rattle.std.proofs.Common.{◌≡◌, ◌∙◌, ◌++◌, ◌<◌, ap, arith, false, get_or, length, length-append, slice_get, sym, true}
 use Rattle.teco_step.specs.Line.{behind, is_line_end}
 use Rattle.teco_step.proofs.Lines.{ahead_end, ahead_found, ahead_passed, ahead_plain}
 use Rattle.teco_step.proofs.line.line_ahead.Goals as goal
@@ -17,13 +17,14 @@ loop-place-preserved c =
     let text = c.args.before.now ++ c.args.after.now in
     let p = c.loop-place.place in
     let within : p < length text = omega (arith, length-append c.args.before.now c.args.after.now) in
-    elim c.if-is_line_end.branch
-      [ then-is_line_end+else-left-eq0 w ↦
+    elim c.if-is_line_end.branch [
+      | then-is_line_end+else-left-eq0 w ↦
           let is : is_line_end (get_or text p 0) ≡ true = ap is_line_end (sym c.byte_at.ensures) ∙ sym w.if-is_line_end.ensures in
           rw w.left-is (ahead_passed text p c.loop-place.left within is (omega arith) ∙ c.loop-place.invariant)
       | else-is_line_end w ↦
           let is : is_line_end (get_or text p 0) ≡ false = ap is_line_end (sym c.byte_at.ensures) ∙ sym w.if-is_line_end.ensures in
-          rw w.left-is (ahead_plain text p c.loop-place.left within is ∙ c.loop-place.invariant) ]
+          rw w.left-is (ahead_plain text p c.loop-place.left within is ∙ c.loop-place.invariant)
+    ]
 
 pub returns-clause-value : goal.returns-clause-value
 returns-clause-value c =

@@ -1,4 +1,4 @@
-use Rattle.std.proofs.Common.{◌≡◌, ◌∙◌, ◌+◌, ◌-◌, ◌++◌, ◌<◌, ◌≤◌, ap, arith, false, get_or, length, reverse, slice_get, sym, take, true}
+use Rattle.std.proofs.Common.{◌≡◌, ◌∙◌, ◌+◌, ◌-◌, ◌++◌, ◌<◌, ap, arith, false, get_or, length, reverse, slice_get, sym, take, true}
 use Rattle.teco_step.specs.Line.{behind, is_line_end, line_ends_from}
 use Rattle.teco_step.proofs.Lines.{back_end, back_found, back_passed, back_plain}
 use Rattle.teco_step.proofs.line.line_back.Goals as goal
@@ -21,16 +21,17 @@ loop-place-preserved c =
     let next : p + 1 ≡ c.loop-place.place = omega arith in
     let within : p < length text = omega (arith, c.loop-place.invariant.within) in
     let here : slice_get (reverse (line_ends_from 0 (take (p + 1) text))) c.loop-place.left ≡ slice_get (reverse (line_ends_from 0 (take c.args.from text))) c.args.skip =
-      ap (λ q. slice_get (reverse (line_ends_from 0 (take q text))) c.loop-place.left) next ∙ c.loop-place.invariant.same in
+    ap (λ q. slice_get (reverse (line_ends_from 0 (take q text))) c.loop-place.left) next ∙ c.loop-place.invariant.same in
     record {
       within = omega arith;
-      same = elim c.if-is_line_end.branch
-        [ then-is_line_end+else-left-eq0 w ↦
+      same = elim c.if-is_line_end.branch [
+        | then-is_line_end+else-left-eq0 w ↦
             let is : is_line_end (get_or text p 0) ≡ true = ap is_line_end (sym c.byte_at.ensures) ∙ sym w.if-is_line_end.ensures in
             rw w.left-is (back_passed text p c.loop-place.left within is (omega arith) ∙ here)
         | else-is_line_end w ↦
             let is : is_line_end (get_or text p 0) ≡ false = ap is_line_end (sym c.byte_at.ensures) ∙ sym w.if-is_line_end.ensures in
-            rw w.left-is (back_plain text p c.loop-place.left within is ∙ here) ];
+            rw w.left-is (back_plain text p c.loop-place.left within is ∙ here)
+      ];
     }
 
 pub returns-clause-value : goal.returns-clause-value

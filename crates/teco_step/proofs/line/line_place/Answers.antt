@@ -1,4 +1,4 @@
-use Rattle.std.proofs.Common.{◌≡◌, ◌∙◌, ◌-◌, ◌++◌, ap, arith, length, nat_abs, reverse, rules, slice_get, sym, take, drop, w32}
+use Rattle.std.proofs.Common.{◌∙◌, ◌-◌, ◌++◌, ap, length, nat_abs, reverse, slice_get, sym, take, drop, w32}
 use Rattle.std.proofs.lemmas.Int.{to_z-of_z}
 use Rattle.teco_step.specs.Line.{behind, line_ends_from}
 use Rattle.teco_step.proofs.Lines.{line_above, line_not_above}

@@ -1,8 +1,7 @@
-use Rattle.std.proofs.Common.{◌≡◌, ap, subst, sym}
+use Rattle.std.proofs.Common.{ap, subst, sym}
 use Rattle.teco_core.specs.ArgumentsView.{arguments}
-use Rattle.teco_scan.specs.Seen.{item_in}
-use Rattle.teco_step.specs.Effect.{effect, item_effect}
-use Rattle.teco_step.specs.Step.{Setting, Step, settled}
+use Rattle.teco_step.specs.Effect.{effect}
+use Rattle.teco_step.specs.Step.{Setting, Step}
 use Rattle.teco_step.specs.Stepping.{Steps, kind_effect, name_in, trail_after}
 use Rattle.teco_step.specs.declared.next.Next.TheVariants.{Error, On}
 use Rattle.teco_step.proofs.step.step_token.Goals as goal

@@ -1,4 +1,4 @@
-use Rattle.std.proofs.Common.{◌++◌, ◌-◌, Err, arith, refl, drop, length, rules, subst, sym, take}
+use Rattle.std.proofs.Common.{◌-◌, refl, length, rules, subst, sym}
 use Rattle.std.specs.List.{between}
 use Rattle.std.proofs.lemmas.Result.{MatchResult-from_err, MatchResult-weaker}
 use Rattle.teco_step.proofs.Halves.{cut, nonempty_before, nonempty_behind}
@@ -11,7 +11,7 @@ returns-clause-puts g c =
     let xs = c.args.before.now in
     let ys = c.args.after.now in
     let whole = cut xs ys c.args.range.start c.args.range.end c.min.result c.min-2.result c.saturating_sub.result c.saturating_sub-2.result c.requires.ordered
-        (search rules) (search rules) (search rules) (search rules) in
+    (search rules) (search rules) (search rules) (search rules) in
     subst (λ bs. Puts g.T.Terminal.shown g.T.Terminal.failures c.args.term.now c.put_some-2.new.term bs c.put_some-2.result) (sym whole)
     (Puts-after _ _ c.put_some-2.result c.in_ok-put_some.ensures.puts c.put_some-2.ensures.puts)
 
@@ -20,7 +20,7 @@ returns-clause-some g c =
     let xs = c.args.before.now in
     let ys = c.args.after.now in
     let whole = cut xs ys c.args.range.start c.args.range.end c.min.result c.min-2.result c.saturating_sub.result c.saturating_sub-2.result c.requires.ordered
-        (search rules) (search rules) (search rules) (search rules) in
+    (search rules) (search rules) (search rules) (search rules) in
     MatchResult-weaker c.put_some-2.result c.put_some-2.ensures.some (λ _ h. h) (λ _ some. rw whole (nonempty_behind _ _ some))
 
 pub returns-in_err-put_some-clause-puts : goal.returns-in_err-put_some-clause-puts
