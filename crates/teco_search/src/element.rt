@@ -1,5 +1,5 @@
 //! The elements of a search text, and which bytes they admit.
-ghost use Rattle.std.specs.Prelude.{◌≡◌};
+ghost use Rattle.std.specs.Prelude.{◌≡◌, ◌↔◌, IsTrue};
 ghost use Rattle.std.specs.List.{list_any};
 ghost use Rattle.teco_search.specs.Element.{is_lower, is_upper, is_letter, is_digit, is_blank, is_line_end, upper, is_in, item_admits, admits};
 ghost use Rattle.teco_search.specs.Literal.{is_exact};
@@ -177,6 +177,18 @@ impl OneByte {
         match self {
             OneByte::Single(item) => item.admits(mode, byte),
             OneByte::Listed(items) => items.admit(mode, byte),
+        }
+    }
+}
+
+impl Element {
+    /// Whether it is a run of spaces and tabs.
+    pub fn is_run(&self) -> bool
+        ensures { IsTrue result ↔ (self.now ≡ Element.Blanks) }
+    {
+        match self {
+            Element::Blanks => true,
+            Element::Among(_) | Element::Except(_) => false,
         }
     }
 }
