@@ -27,8 +27,8 @@ first_at f zero from = inl (λ k low high. absurd (omega arith))
 first_at f (suc n) from = by (first_at f n (from + 1)) (f from) refl
   where
     by :
-      ((k : ℕ) → from + 1 ≤ k → k < from + 1 + n → f k ≡ None) ⊎ FirstAt f (from + 1) (from + 1 + n)
-      → (o : Option ℕ) → f from ≡ o → ((k : ℕ) → from ≤ k → k < from + suc n → f k ≡ None) ⊎ FirstAt f from (from + suc n)
+        ((k : ℕ) → from + 1 ≤ k → k < from + 1 + n → f k ≡ None) ⊎ FirstAt f (from + 1) (from + 1 + n)
+        → (o : Option ℕ) → f from ≡ o → ((k : ℕ) → from ≤ k → k < from + suc n → f k ≡ None) ⊎ FirstAt f from (from + suc n)
     by later (Some q) is = inr (record { place = from; value = q; low = omega arith; high = omega arith; is = is; none = λ j low high. absurd (omega arith) })
     by later None is =
         ⊎_elim
@@ -69,6 +69,7 @@ last_at f passes (suc n) = by (last_at f passes n) (f n) refl
           none = λ j q above high is. ⊎_elim (λ same. subst (λ i. passes i q ≡ false) (sym same) (fails q (ap f (sym same) ∙ is))) (λ other. last.none j q above (omega arith) is) (cases_eq j n);
         }))
         earlier
+
     by : ((k q : ℕ) → k < n → f k ≡ Some q → passes k q ≡ false) ⊎ LastAt f passes n → (o : Option ℕ) → f n ≡ o → ((k q : ℕ) → k < suc n → f k ≡ Some q → passes k q ≡ false) ⊎ LastAt f passes (suc n)
     by earlier None is = below earlier (λ q here. absurd (none-some q (sym is ∙ here)))
     by earlier (Some q) is =
@@ -88,17 +89,17 @@ module _ (sought : Sought) (text : List ℕ) (some : 0 < length sought.elements)
   are_forward (suc n) from room =
       ⊎_elim
       (λ none. rw (forward-none sought text some from (λ k low high. none k low (omega arith))) (λ k q low is.
-        let ends = long k q is in absurd (none-some q (sym (none k low (omega (arith, ends.0, ends.1))) ∙ is))))
+      let ends = long k q is in absurd (none-some q (sym (none k low (omega (arith, ends.0, ends.1))) ∙ is))))
       (λ first.
-        let ends = long first.place first.value first.is in
-        rw (forward-some sought text some from first.place first.value first.low first.is first.none) (
-          record {
-            matches = first.is;
-            behind = first.low;
-            least = λ k q low is. ⊎_elim (λ early. absurd (none-some q (sym (first.none k low early) ∙ is))) (λ late. late) (cases_lt k first.place);
-          },
-          are_forward n first.value (omega (arith, ends.0, first.low)),
-        ))
+      let ends = long first.place first.value first.is in
+      rw (forward-some sought text some from first.place first.value first.low first.is first.none) (
+        record {
+          matches = first.is;
+          behind = first.low;
+          least = λ k q low is. ⊎_elim (λ early. absurd (none-some q (sym (first.none k low early) ∙ is))) (λ late. late) (cases_lt k first.place);
+        },
+        are_forward n first.value (omega (arith, ends.0, first.low)),
+      ))
       (first_at (match_end sought.mode sought.elements text) (suc n) from)
 
   only_forward : (from : ℕ) (ms : List Span) → AreForward sought text from ms → ms ≡ forward sought text from
@@ -108,7 +109,7 @@ module _ (sought : Sought) (text : List ℕ) (some : 0 < length sought.elements)
       let first = are.0 in
       ap (λ os. m ∷ os) (only_forward m.1 ms are.1)
       ∙ sym (forward-some sought text some from m.0 m.1 first.behind first.matches (λ j low below.
-        none_from (match_end sought.mode sought.elements text j) (λ q is. let least = first.least j q low is in absurd (omega arith))))
+      none_from (match_end sought.mode sought.elements text j) (λ q is. let least = first.least j q low is in absurd (omega arith))))
 
   pub forward_law : (from : ℕ) (ms : List Span) → (AreForward sought text from ms → ms ≡ forward sought text from) × (ms ≡ forward sought text from → AreForward sought text from ms)
   forward_law from ms = (only_forward from ms, λ same. subst (AreForward sought text from) (sym same) (are_forward (length text) from (omega arith)))
@@ -120,20 +121,20 @@ module _ (sought : Sought) (text : List ℕ) (some : 0 < length sought.elements)
   are_before (suc n) to room =
       ⊎_elim
       (λ none. rw (before-none sought text some to (λ k q high is. let ends = long k q is in leb-false q to (none k q (omega (arith, ends.0, ends.1)) is))) (λ k q by is.
-        let ends = long k q is in absurd (both_ways (nat_le q to) (none k q (omega (arith, ends.0, ends.1)) is) (le-leb q to by))))
+      let ends = long k q is in absurd (both_ways (nat_le q to) (none k q (omega (arith, ends.0, ends.1)) is) (le-leb q to by))))
       (λ (last : LastAt (match_end sought.mode sought.elements text) (λ k q. nat_le q to) (length text)).
-        let ends = long last.place last.value last.is in
-        let by : last.value ≤ to = leb-true last.value to last.here in
-        rw (before-some sought text some to last.place last.value last.is by (λ j q above high is. let later = long j q is in leb-false q to (last.none j q above (omega (arith, later.0, later.1)) is))) (
-          record {
-            matches = last.is;
-            ends = by;
-            highest = λ k q within is. ⊎_elim
+      let ends = long last.place last.value last.is in
+      let by : last.value ≤ to = leb-true last.value to last.here in
+      rw (before-some sought text some to last.place last.value last.is by (λ j q above high is. let later = long j q is in leb-false q to (last.none j q above (omega (arith, later.0, later.1)) is))) (
+        record {
+          matches = last.is;
+          ends = by;
+          highest = λ k q within is. ⊎_elim
               (λ beyond. let later = long k q is in absurd (both_ways (nat_le q to) (last.none k q beyond (omega (arith, later.0, later.1)) is) (le-leb q to within)))
               (λ early. early) (cases_lt last.place k);
-          },
-          are_before n last.place (omega (arith, ends.0)),
-        ))
+        },
+        are_before n last.place (omega (arith, ends.0)),
+      ))
       (last_at (match_end sought.mode sought.elements text) (λ k q. nat_le q to) (length text))
 
   only_before : (to : ℕ) (ms : List Span) → AreBefore sought text to ms → ms ≡ before sought text to
@@ -143,27 +144,27 @@ module _ (sought : Sought) (text : List ℕ) (some : 0 < length sought.elements)
       let last = are.0 in
       ap (λ os. m ∷ os) (only_before m.0 ms are.1)
       ∙ sym (before-some sought text some to m.0 m.1 last.matches last.ends (λ j q above high is.
-        ⊎_elim (λ beyond. beyond) (λ by. let highest = last.highest j q by is in absurd (omega arith)) (cases_lt to q)))
+      ⊎_elim (λ beyond. beyond) (λ by. let highest = last.highest j q by is in absurd (omega arith)) (cases_lt to q)))
 
   are_backward : (from : ℕ) → AreBackward sought text from (backward sought text from)
   unfolding AreBackward
   are_backward from =
       ⊎_elim
       (λ none. rw (backward-none sought text some from (λ k by high. none_from (match_end sought.mode sought.elements text k) (λ q is. both_ways (nat_le k from) (none k q high is) (le-leb k from by)))) (λ k q by is.
-        let ends = long k q is in absurd (both_ways (nat_le k from) (none k q (omega (arith, ends.0, ends.1)) is) (le-leb k from by))))
+      let ends = long k q is in absurd (both_ways (nat_le k from) (none k q (omega (arith, ends.0, ends.1)) is) (le-leb k from by))))
       (λ (last : LastAt (match_end sought.mode sought.elements text) (λ k q. nat_le k from) (length text)).
-        let by : last.place ≤ from = leb-true last.place from last.here in
-        rw (backward-some sought text some from last.place last.value by last.is (λ j above within high.
-          none_from (match_end sought.mode sought.elements text j) (λ q is. both_ways (nat_le j from) (last.none j q above high is) (le-leb j from within)))) (
-          record {
-            matches = last.is;
-            by = by;
-            highest = λ k q within is. ⊎_elim
+      let by : last.place ≤ from = leb-true last.place from last.here in
+      rw (backward-some sought text some from last.place last.value by last.is (λ j above within high.
+      none_from (match_end sought.mode sought.elements text j) (λ q is. both_ways (nat_le j from) (last.none j q above high is) (le-leb j from within)))) (
+        record {
+          matches = last.is;
+          by = by;
+          highest = λ k q within is. ⊎_elim
               (λ beyond. let later = long k q is in absurd (both_ways (nat_le k from) (last.none k q beyond (omega (arith, later.0, later.1)) is) (le-leb k from within)))
               (λ early. early) (cases_lt last.place k);
-          },
-          are_before last.place last.place (omega arith),
-        ))
+        },
+        are_before last.place last.place (omega arith),
+      ))
       (last_at (match_end sought.mode sought.elements text) (λ k q. nat_le k from) (length text))
 
   only_backward : (from : ℕ) (ms : List Span) → AreBackward sought text from ms → ms ≡ backward sought text from
@@ -173,7 +174,7 @@ module _ (sought : Sought) (text : List ℕ) (some : 0 < length sought.elements)
       let last = are.0 in
       ap (λ os. m ∷ os) (only_before m.0 ms are.1)
       ∙ sym (backward-some sought text some from m.0 m.1 last.by last.matches (λ j above within high.
-        none_from (match_end sought.mode sought.elements text j) (λ q is. let highest = last.highest j q within is in absurd (omega arith))))
+      none_from (match_end sought.mode sought.elements text j) (λ q is. let highest = last.highest j q within is in absurd (omega arith))))
 
   pub backward_law : (from : ℕ) (ms : List Span) → (AreBackward sought text from ms → ms ≡ backward sought text from) × (ms ≡ backward sought text from → AreBackward sought text from ms)
   backward_law from ms = (only_backward from ms, λ same. subst (AreBackward sought text from) (sym same) (are_backward from))

@@ -15,5 +15,4 @@ pub fn occurrences()
     ensures backward { (sought : Sought) (text : List ℕ) (from : ℕ) (ms : List Span) → 0 < length sought.elements → AreBackward sought text from ms ↔ (ms ≡ backward sought text from) }
     ensures rising { (sought : Sought) (text : List ℕ) (from : ℕ) → 0 < length sought.elements → AreRising (forward sought text from) }
     ensures falling { (sought : Sought) (text : List ℕ) (from : ℕ) → 0 < length sought.elements → AreFalling (backward sought text from) }
-{
-}
+{}

@@ -18,6 +18,6 @@ blanks-preserved c =
       past = omega arith;
       short = λ low. omega arith;
       run = λ k low high. ⊎_elim
-        (λ same. ap (λ i. i + blanks_at c.args.text.now i) same ∙ omega (arith, more, here))
-        (λ other. c.blanks.invariant.run k low (omega arith)) (cases_eq k (c.blanks.end + 1));
+          (λ same. ap (λ i. i + blanks_at c.args.text.now i) same ∙ omega (arith, more, here))
+          (λ other. c.blanks.invariant.run k low (omega arith)) (cases_eq k (c.blanks.end + 1));
     }

@@ -26,7 +26,7 @@ returns-then-is_run-clause-remembers c =
 pub returns-in_err-place-clause-value : goal.returns-in_err-place-clause-value
 returns-in_err-place-clause-value c =
     rw c.from_residual.ensures (sym (match_stop c.args.mode c.args.elements.now c.elements.i c.index-elements-i.result c.args.text.now c.elements.place (omega arith) c.index-elements-i.is (sym c.in_err-place.ensures))
-      ∙ c.elements.invariant.matches)
+    ∙ c.elements.invariant.matches)
 
 pub elements-preserved : goal.elements-preserved
 elements-preserved c = record {

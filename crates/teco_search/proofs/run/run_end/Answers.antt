@@ -7,12 +7,12 @@ use Rattle.teco_search.proofs.run.run_end.Goals as goal
 
 -- a look that stops at its stop has come to the end of the run, unless the run that is remembered begins there
 ends_here :
-  (text : List ℕ) (at end stop len from to : ℕ) → at ≤ end → (at ≤ stop → end ≤ stop) → (end < stop → blanks_at text end ≡ 0)
-  → len ≡ length text → (stop ≡ len) ⊎ ((stop ≡ from) × (at < from) × (from < to)) → ((end ≡ from) × (at < from) × (from < to) → ⊥) → blanks_at text end ≡ 0
+    (text : List ℕ) (at end stop len from to : ℕ) → at ≤ end → (at ≤ stop → end ≤ stop) → (end < stop → blanks_at text end ≡ 0)
+    → len ≡ length text → (stop ≡ len) ⊎ ((stop ≡ from) × (at < from) × (from < to)) → ((end ≡ from) × (at < from) × (from < to) → ⊥) → blanks_at text end ≡ 0
 ends_here text at end stop len from to past short stops whole where_stop other =
     ⊎_elim (λ early. stops early)
     (λ late. ⊎_elim (λ at_end. blanks_past text end (omega arith))
-      (λ known. let top = short (omega (arith, known.0, known.1)) in absurd (other (omega (arith, known.0), known.1, known.2))) where_stop)
+    (λ known. let top = short (omega (arith, known.0, known.1)) in absurd (other (omega (arith, known.0), known.1, known.2))) where_stop)
     (cases_lt end stop)
 
 pub returns-then-holds-clause-value : goal.returns-then-holds-clause-value
@@ -37,7 +37,7 @@ pub returns-clause-value : goal.returns-clause-value
 returns-clause-value c =
     let run = c.blanks_until-end.ensures in
     let none = ends_here c.args.text.now c.args.at c.blanks_until-end.result c.stop.result c.len.result c.args.run.now.from c.args.run.now.end run.past run.short run.stops c.len.ensures c.stop.ensures
-        (λ known. both_ways c.goes_on.result c.if-goes_on.false (c.goes_on.ensures.1 known)) in
+    (λ known. both_ways c.goes_on.result c.if-goes_on.false (c.goes_on.ensures.1 known)) in
     let whole = run.run c.blanks_until-end.result run.past (omega arith) in
     c.match_end-outcome.ensures ∙ sym (match_run c.args.mode c.args.rest.now c.args.text.now c.args.at c.blanks_until-end.result (omega (arith, whole, none)) (omega arith))
 
@@ -45,6 +45,6 @@ pub returns-clause-remembers : goal.returns-clause-remembers
 returns-clause-remembers c =
     let run = c.blanks_until-end.ensures in
     let none = ends_here c.args.text.now c.args.at c.blanks_until-end.result c.stop.result c.len.result c.args.run.now.from c.args.run.now.end run.past run.short run.stops c.len.ensures c.stop.ensures
-        (λ known. both_ways c.goes_on.result c.if-goes_on.false (c.goes_on.ensures.1 known)) in
+    (λ known. both_ways c.goes_on.result c.if-goes_on.false (c.goes_on.ensures.1 known)) in
     let whole = run.run c.blanks_until-end.result run.past (omega arith) in
     record { blanks = λ k low high. omega (arith, run.run k low (omega arith), whole, none); outcome = λ some. c.match_end-outcome.ensures }
