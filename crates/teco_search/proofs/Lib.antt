@@ -9,3 +9,4 @@ pub mod Literals
 pub mod Halves
 pub mod Begins
 pub mod Numbered
+pub mod Laws

@@ -4,3 +4,5 @@ pub mod Occurrence
 pub mod Literal
 pub mod Pattern
 pub mod Search
+pub mod Law
+pub mod Run

@@ -1,9 +1,10 @@
 //! The elements of a search text, and which bytes they admit.
-ghost use Rattle.std.specs.Prelude.{◌≡◌};
+ghost use Rattle.std.specs.Prelude.{◌≡◌, ◌↔◌, IsTrue};
 ghost use Rattle.std.specs.List.{list_any};
 ghost use Rattle.teco_search.specs.Element.{is_lower, is_upper, is_letter, is_digit, is_blank, is_line_end, upper, is_in, item_admits, admits};
 ghost use Rattle.teco_search.specs.Literal.{is_exact};
 
+use std::fmt;
 use std::marker::Model;
 use teco_core::CaseMode;
 
@@ -120,7 +121,7 @@ pub(crate) fn is_exact(mode: CaseMode, byte: u8) -> bool
 impl Class {
     /// Whether a byte is of this kind.
     #[tactic(auto, unfolding(crate::specs::Element::is_in))]
-    pub fn contains(self, byte: u8) -> bool
+    pub(crate) fn contains(self, byte: u8) -> bool
         ensures { result ≡ is_in self byte }
     {
         match self {
@@ -139,7 +140,7 @@ impl Class {
 impl Item {
     /// Whether a byte may stand here. With either case a letter admits both its cases.
     #[tactic(auto, unfolding(crate::specs::Element::item_admits))]
-    pub fn admits(self, mode: CaseMode, byte: u8) -> bool
+    pub(crate) fn admits(self, mode: CaseMode, byte: u8) -> bool
         ensures { result ≡ item_admits mode self byte }
     {
         match self {
@@ -161,7 +162,7 @@ impl Items {
     }
 
     /// Whether one of the items admits a byte.
-    pub fn admit(&self, mode: CaseMode, byte: u8) -> bool
+    pub(crate) fn admit(&self, mode: CaseMode, byte: u8) -> bool
         ensures { result ≡ list_any (λ i. item_admits mode i byte) self.now }
     {
         self.items.iter().any(|item| item.admits(mode, byte))
@@ -171,12 +172,87 @@ impl Items {
 impl OneByte {
     /// Whether a byte may stand here.
     #[tactic(auto, unfolding(crate::specs::Element::admits))]
-    pub fn admits(&self, mode: CaseMode, byte: u8) -> bool
+    pub(crate) fn admits(&self, mode: CaseMode, byte: u8) -> bool
         ensures { result ≡ admits mode self.now byte }
     {
         match self {
             OneByte::Single(item) => item.admits(mode, byte),
             OneByte::Listed(items) => items.admit(mode, byte),
+        }
+    }
+}
+
+impl Element {
+    /// Whether it is a run of spaces and tabs.
+    pub(crate) fn is_run(&self) -> bool
+        ensures { IsTrue result ↔ (self.now ≡ Element.Blanks) }
+    {
+        match self {
+            Element::Blanks => true,
+            Element::Among(_) | Element::Except(_) => false,
+        }
+    }
+}
+
+impl fmt::Display for Class {
+    fn fmt<W: fmt::Write>(&self, f: &mut fmt::Formatter<W>) -> fmt::Result {
+        f.write_str(match self {
+            Class::Any => "^EX",
+            Class::Other => "^EB",
+            Class::Letter => "^EA",
+            Class::Digit => "^ED",
+            Class::LineEnd => "^EL",
+            Class::LetterOrDigit => "^ER",
+            Class::LowerCase => "^EV",
+            Class::UpperCase => "^EW",
+        })
+    }
+}
+
+/// A byte stands as itself, or by its code where it is no ASCII character that shows.
+pub(crate) fn show_byte<W: fmt::Write>(byte: u8, f: &mut fmt::Formatter<W>) -> fmt::Result {
+    if b' ' <= byte && byte <= b'~' {
+        f.write_char(char::from(byte))
+    } else {
+        write!(f, "<{byte}>")
+    }
+}
+
+impl fmt::Display for Item {
+    fn fmt<W: fmt::Write>(&self, f: &mut fmt::Formatter<W>) -> fmt::Result {
+        match self {
+            Item::Byte(byte) => show_byte(*byte, f),
+            Item::Class(class) => write!(f, "{class}"),
+        }
+    }
+}
+
+impl fmt::Display for Items {
+    fn fmt<W: fmt::Write>(&self, f: &mut fmt::Formatter<W>) -> fmt::Result {
+        let mut comma = "";
+        for item in &self.items {
+            write!(f, "{comma}{item}")?;
+            comma = ",";
+        }
+        Ok(())
+    }
+}
+
+impl fmt::Display for OneByte {
+    fn fmt<W: fmt::Write>(&self, f: &mut fmt::Formatter<W>) -> fmt::Result {
+        match self {
+            OneByte::Single(item) => write!(f, "{item}"),
+            OneByte::Listed(items) => write!(f, "^E[{items}]"),
+        }
+    }
+}
+
+impl fmt::Display for Element {
+    fn fmt<W: fmt::Write>(&self, f: &mut fmt::Formatter<W>) -> fmt::Result {
+        match self {
+            Element::Among(one) => write!(f, "{one}"),
+            Element::Except(one) => write!(f, "^N{one}"),
+            Element::Blanks => f.write_str("^ES"),
         }
     }
 }

@@ -3,14 +3,17 @@
 
 mod element;
 mod joined;
+mod law;
 mod literal;
 mod matching;
 mod pattern;
 mod places;
 mod reading;
+mod run;
 mod search;
 #[cfg(test)]
 mod tests;
 
 pub use element::{Class, Element, Item, Items, OneByte};
+pub use law::occurrences;
 pub use pattern::{Pattern, count, find, matches_at};

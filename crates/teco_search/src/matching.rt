@@ -22,7 +22,12 @@ fn blanks_end(text: &Joined, at: usize) -> usize
 
 /// The end of an element's match at a place.
 #[tactic(auto, unfolding(crate::specs::Occurrence::element_end))]
-fn element_end(mode: CaseMode, element: &Element, text: &Joined, at: usize) -> Option<usize>
+pub(crate) fn element_end(
+    mode: CaseMode,
+    element: &Element,
+    text: &Joined,
+    at: usize,
+) -> Option<usize>
     ensures { result ≡ element_end mode element.now text.now at }
 {
     match element {

@@ -4,13 +4,14 @@ ghost use Rattle.teco_search.specs.Occurrence.{match_end, forward, occurrence};
 ghost use Rattle.teco_search.specs.Search.{sought_forward, sought_backward, is_ready_forward, is_ready_backward};
 ghost use Rattle.teco_search.specs.Reading.{read};
 
-use crate::element::Element;
+use crate::element::{Element, show_byte};
 use crate::joined::Joined;
 use crate::matching::match_end;
 use crate::reading::{literal, read};
 use crate::search::{Backward, Forward, count_forward, nth_backward, nth_forward};
 use memchr::memmem::{Finder, FinderRev};
 use std::alloc::Global;
+use std::fmt;
 use std::marker::Model;
 use teco_core::{CaseMode, Code};
 
@@ -60,6 +61,25 @@ impl Pattern {
                 form: Form::Elements(read(alloc, text)?),
             }),
         }
+    }
+}
+
+impl fmt::Display for Pattern {
+    /// The search text, its controls as `^E` and a letter, a byte that doesn't show by its code in angle brackets.
+    fn fmt<W: fmt::Write>(&self, f: &mut fmt::Formatter<W>) -> fmt::Result {
+        match &self.form {
+            Form::Literal(bytes) => {
+                for byte in bytes {
+                    show_byte(*byte, f)?;
+                }
+            }
+            Form::Elements(elements) => {
+                for element in elements {
+                    write!(f, "{element}")?;
+                }
+            }
+        }
+        Ok(())
     }
 }
 

@@ -1,10 +1,12 @@
 //! The occurrences of a pattern, one after the other.
 ghost use Rattle.std.specs.Prelude.{◌≡◌, ◌-◌, ◌<◌, ◌≤◌, length, IsTrue, IfSome, slice_get};
 ghost use Rattle.teco_search.specs.Occurrence.{BeginsForward, BeginsBackward, forward, before, backward};
+ghost use Rattle.teco_search.specs.Run.{Knows};
 ghost use Rattle.teco_search.specs.Search.{sought_forward, sought_backward, is_ready_forward, is_ready_backward};
 
 use crate::element::Element;
 use crate::joined::Joined;
+use crate::run::Run;
 use crate::{literal, places};
 use memchr::memmem::{Finder, FinderRev};
 use teco_core::CaseMode;
@@ -24,18 +26,20 @@ pub(crate) enum Backward<'p> {
 }
 
 /// The occurrence of least start at or after a place.
-fn first_from(search: &Forward, text: &Joined, from: usize) -> Option<(usize, usize)>
+fn first_from(search: &Forward, run: &mut Run, text: &Joined, from: usize) -> Option<(usize, usize)>
     requires ready { IsTrue (is_ready_forward search.now) }
     requires within { from ≤ length text.now }
+    requires knows { Knows (sought_forward search.now) text.now run.old }
     ensures value { BeginsForward (sought_forward search.now) text.now from result }
     ensures within { IfSome result (λ m. (from ≤ m.0) × (m.0 < m.1) × (m.1 ≤ length text.now)) }
+    ensures knows { Knows (sought_forward search.now) text.now run.new }
 {
     match search {
         Forward::Literal(_, finder) => {
             let start = literal::first_from(finder, text, from)?;
             Some((start, start + finder.needle().len()))
         }
-        Forward::Elements(mode, elements) => places::first_from(*mode, elements, text, from),
+        Forward::Elements(mode, elements) => places::first_from(*mode, elements, run, text, from),
     }
 }
 
@@ -51,12 +55,13 @@ pub(crate) fn nth_forward(
     requires some { 0 < n }
     ensures { result ≡ slice_get (forward (sought_forward search.now) text.now from) (n - 1) }
 {
+    let mut run = Run::none();
     let mut at = from;
     'skipped: for _passed in 1..n {
-        let (_, end) = first_from(search, text, at)?;
+        let (_, end) = first_from(search, &mut run, text, at)?;
         at = end;
     }
-    first_from(search, text, at)
+    first_from(search, &mut run, text, at)
 }
 
 /// How many occurrences there are forward.
@@ -65,9 +70,10 @@ pub(crate) fn count_forward(search: &Forward, text: &Joined, from: usize) -> usi
     requires within { from ≤ length text.now }
     ensures { result ≡ length (forward (sought_forward search.now) text.now from) }
 {
+    let mut run = Run::none();
     let mut at = from;
     let mut count = 0usize;
-    'counted: while let Some((_, end)) = first_from(search, text, at) {
+    'counted: while let Some((_, end)) = first_from(search, &mut run, text, at) {
         count += 1;
         at = end;
     }
@@ -75,11 +81,18 @@ pub(crate) fn count_forward(search: &Forward, text: &Joined, from: usize) -> usi
 }
 
 /// The occurrence of highest start at or before a place.
-fn last_by_start(search: &Backward, text: &Joined, from: usize) -> Option<(usize, usize)>
+fn last_by_start(
+    search: &Backward,
+    run: &mut Run,
+    text: &Joined,
+    from: usize,
+) -> Option<(usize, usize)>
     requires ready { IsTrue (is_ready_backward search.now) }
     requires within { from ≤ length text.now }
+    requires knows { Knows (sought_backward search.now) text.now run.old }
     ensures value { let sought = sought_backward search.now in BeginsBackward sought text.now (backward sought text.now from) result }
     ensures within { IfSome result (λ m. (m.0 < m.1) × (m.1 ≤ length text.now)) }
+    ensures knows { Knows (sought_backward search.now) text.now run.new }
 {
     match search {
         Backward::Literal(_, finder) => {
@@ -89,23 +102,27 @@ fn last_by_start(search: &Backward, text: &Joined, from: usize) -> Option<(usize
             let start = literal::last_by(finder, text, to)?;
             Some((start, start + len))
         }
-        Backward::Elements(mode, elements) => places::last_by_start(*mode, elements, text, from),
+        Backward::Elements(mode, elements) => places::last_by_start(
+            *mode, elements, run, text, from,
+        ),
     }
 }
 
 /// The occurrence of highest start among those that end at or before a place.
-fn last_by_end(search: &Backward, text: &Joined, to: usize) -> Option<(usize, usize)>
+fn last_by_end(search: &Backward, run: &mut Run, text: &Joined, to: usize) -> Option<(usize, usize)>
     requires ready { IsTrue (is_ready_backward search.now) }
     requires within { to ≤ length text.now }
+    requires knows { Knows (sought_backward search.now) text.now run.old }
     ensures value { let sought = sought_backward search.now in BeginsBackward sought text.now (before sought text.now to) result }
     ensures within { IfSome result (λ m. (m.0 < m.1) × (m.1 ≤ to)) }
+    ensures knows { Knows (sought_backward search.now) text.now run.new }
 {
     match search {
         Backward::Literal(_, finder) => {
             let start = literal::last_by(finder, text, to)?;
             Some((start, start + finder.needle().len()))
         }
-        Backward::Elements(mode, elements) => places::last_by_end(*mode, elements, text, to),
+        Backward::Elements(mode, elements) => places::last_by_end(*mode, elements, run, text, to),
     }
 }
 
@@ -121,9 +138,10 @@ pub(crate) fn nth_backward(
     requires some { 0 < n }
     ensures { result ≡ slice_get (backward (sought_backward search.now) text.now from) (n - 1) }
 {
-    let mut last = last_by_start(search, text, from)?;
+    let mut run = Run::none();
+    let mut last = last_by_start(search, &mut run, text, from)?;
     'skipped: for _passed in 1..n {
-        last = last_by_end(search, text, last.0)?;
+        last = last_by_end(search, &mut run, text, last.0)?;
     }
     Some(last)
 }

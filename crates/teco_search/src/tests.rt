@@ -162,6 +162,22 @@ fn either_case(rt: HostRuntime) -> Result<(), Fail> {
     Ok(())
 }
 
+#[test]
+fn shown(rt: HostRuntime) -> Result<(), Fail> {
+    let rows: [(&[u8], &str); 4] = [
+        (b"ab\x11\x0e", "ab<14>"),
+        (b"\x0e\x05[a,\x05d,\x18]\x05S", "^N^E[a,^ED,^EX]^ES"),
+        (b"\x13\x05L\x05V", "^EB^EL^EV"),
+        (b"x\x05R\x05A\x05W", "x^ER^EA^EW"),
+    ];
+    for (search, text) in rows {
+        let pattern = pattern(&rt, rt.alloc(), search, CaseMode::Exact).ok_or("read")?;
+        let written = format!(in rt.alloc(); "{pattern}")?;
+        assert_eq!(rt; written.as_str(), text);
+    }
+    Ok(())
+}
+
 // What a plain slow search looks for.
 #[derive(Clone, Copy)]
 enum Want {

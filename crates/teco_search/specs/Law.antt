@@ -1,0 +1,50 @@
+-- What holds of all occurrences.
+use Rattle.std.specs.Prelude.{◌≡◌, ℕ, ◌<◌, ◌≤◌, List, [], ◌∷◌, length, Option, Some, None, AllPairs}
+use Rattle.teco_search.specs.Occurrence.{Sought, Span, match_end, forward, before, backward}
+
+abbrev pub MatchesTo : Sought → List ℕ → ℕ → ℕ → Type 0
+MatchesTo sought text p q = match_end sought.mode sought.elements text p ≡ Some q
+
+-- Every match is at least one byte long, and within the text.
+abbrev pub MatchesAreLong : Sought → List ℕ → Type 0
+MatchesAreLong sought text = (p q : ℕ) → MatchesTo sought text p q → (p < q) × (q ≤ length text)
+
+-- the match of least start at or after a place
+pub record IsNext (sought : Sought) (text : List ℕ) (from : ℕ) (m : Span) : Type 0 where
+  pub matches : MatchesTo sought text m.0 m.1
+  pub behind : from ≤ m.0
+  pub least : (k q : ℕ) → from ≤ k → MatchesTo sought text k q → m.0 ≤ k
+
+-- the match of highest start among those that end at or before a place
+pub record IsLastBefore (sought : Sought) (text : List ℕ) (to : ℕ) (m : Span) : Type 0 where
+  pub matches : MatchesTo sought text m.0 m.1
+  pub ends : m.1 ≤ to
+  pub highest : (k q : ℕ) → q ≤ to → MatchesTo sought text k q → k ≤ m.0
+
+-- the match of highest start at or before a place
+pub record IsLastBy (sought : Sought) (text : List ℕ) (from : ℕ) (m : Span) : Type 0 where
+  pub matches : MatchesTo sought text m.0 m.1
+  pub by : m.0 ≤ from
+  pub highest : (k q : ℕ) → k ≤ from → MatchesTo sought text k q → k ≤ m.0
+
+-- Forward: each has the least start at or after the end of the one before it, the first at or after a place; and then there is none.
+unfoldable pub AreForward : Sought → List ℕ → ℕ → List Span → Type 0
+AreForward sought text from [] = (k q : ℕ) → from ≤ k → MatchesTo sought text k q → ⊥
+AreForward sought text from (m ∷ ms) = IsNext sought text from m × AreForward sought text m.1 ms
+
+-- Backward: each has the highest start of those that end no later than the one before it begins; and then there is none.
+unfoldable pub AreBefore : Sought → List ℕ → ℕ → List Span → Type 0
+AreBefore sought text to [] = (k q : ℕ) → q ≤ to → MatchesTo sought text k q → ⊥
+AreBefore sought text to (m ∷ ms) = IsLastBefore sought text to m × AreBefore sought text m.0 ms
+
+-- The first has the highest start at or before a place.
+unfoldable pub AreBackward : Sought → List ℕ → ℕ → List Span → Type 0
+AreBackward sought text from [] = (k q : ℕ) → k ≤ from → MatchesTo sought text k q → ⊥
+AreBackward sought text from (m ∷ ms) = IsLastBy sought text from m × AreBefore sought text m.0 ms
+
+-- They don't overlap, and rise or fall.
+abbrev pub AreRising : List Span → Type 0
+AreRising ms = AllPairs (λ m o. m.1 ≤ o.0) ms
+
+abbrev pub AreFalling : List Span → Type 0
+AreFalling ms = AllPairs (λ m o. o.1 ≤ m.0) ms
