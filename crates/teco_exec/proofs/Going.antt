@@ -195,3 +195,8 @@ module _ {T : Type 0} (shown : T → Option (List ℕ)) (failures : T → ℕ) (
         again = same ∙ sym w.state_is;
         follows = λ floor p. keeps _ (follows_now shown failures (run_of old text) first now s P F steps rest h floor p);
       }
+
+-- the outcome may be said otherwise
+pub told : {T : Type 0} {shown : T → Option (List ℕ)} {failures : T → ℕ} {old : State} {text : List ℕ} {limit : ℕ} {first now : T} {new : State} {P : ℕ → Type 0} {F : Trail → Type 0} {outcome : Outcome} (o : Outcome) → o ≡ outcome
+    → Ended shown failures old text limit first now new P F outcome → Ended shown failures old text limit first now new P F o
+told {shown} {failures} {old} {text} {limit} {first} {now} {new} {P} {F} o e w = subst (Ended shown failures old text limit first now new P F) (sym e) w

@@ -10,3 +10,5 @@ pub mod Straight
 pub mod Plain
 pub mod Tokens
 pub mod Quiet
+pub mod Texts
+pub mod RowsStraight

@@ -96,7 +96,7 @@ module _ (j f : ℕ) (h : RaisesBelow j f) where
       let r : Ran = meaning.list (tree text) (tree text) w (depth + 1) false in
       let s : Ran = meaning.list (tree text) (tree text) (raised j w) (depth + 1) false in
       if_raises j (depth == 32) (w, stop Pdo) (returned r.0 r.1) (raised j w, stop Pdo) (returned s.0 s.1) (same refl)
-        (then_raises j r s returned (λ v. refl) returned_fuel (returned_raises j r.0 r.1) (h.list (tree text) (tree text) w (depth + 1) false lt))
+      (then_raises j r s returned (λ v. refl) returned_fuel (returned_raises j r.0 r.1) (h.list (tree text) (tree text) w (depth + 1) false lt))
 
   carries_raises : (i : Item) (setting : Setting) (depth : ℕ) (w : World) (e : End) → w.fuel < f → Raises j (carries meaning i setting depth w e) (carries meaning i setting depth (raised j w) e)
   carries_raises i setting depth w on lt = same refl
@@ -145,17 +145,17 @@ module _ (j f : ℕ) (h : RaisesBelow j f) where
       let node : World → Ran = λ v. steps meaning i setting v depth in
       let falls : (v : World) → (node v).0.fuel ≤ v.fuel = λ v. steps_fuel meaning meaning_falls i setting v depth in
       pay_raises j w _ (λ v. follow_falls whole rest depth inside v.fuel (node v) (falls v))
-        (λ v l. follow whole rest depth inside (node v) (node (raised j v)) (omega (arith, falls v)) (steps_raises i setting v depth (omega arith)))
+      (λ v l. follow whole rest depth inside (node v) (node (raised j v)) (omega (arith, falls v)) (steps_raises i setting v depth (omega arith)))
   list_by_raises whole (iter body rest) w depth inside lt =
       let node : World → Ran = λ v. iterates meaning body v depth (taken_from v.arguments) in
       let falls : (v : World) → (node v).0.fuel ≤ v.fuel = λ v. iterates_fuel meaning meaning_falls body v depth (taken_from v.arguments) in
       pay_raises j w _ (λ v. follow_falls whole rest depth inside v.fuel (node v) (falls v))
-        (λ v l. follow whole rest depth inside (node v) (node (raised j v)) (omega (arith, falls v)) (iterates_raises body v depth (taken_from v.arguments) (omega arith)))
+      (λ v l. follow whole rest depth inside (node v) (node (raised j v)) (omega (arith, falls v)) (iterates_raises body v depth (taken_from v.arguments) (omega arith)))
   list_by_raises whole (cond t first second rest) w depth inside lt =
       let node : World → Ran = λ v. chooses meaning t first second v depth inside (takes_one Naq v.arguments) in
       let falls : (v : World) → (node v).0.fuel ≤ v.fuel = λ v. chooses_fuel meaning meaning_falls t first second v depth inside (takes_one Naq v.arguments) in
       pay_raises j w _ (λ v. follow_falls whole rest depth inside v.fuel (node v) (falls v))
-        (λ v l. follow whole rest depth inside (node v) (node (raised j v)) (omega (arith, falls v)) (chooses_raises t first second v depth inside (takes_one Naq v.arguments) (omega arith)))
+      (λ v l. follow whole rest depth inside (node v) (node (raised j v)) (omega (arith, falls v)) (chooses_raises t first second v depth inside (takes_one Naq v.arguments) (omega arith)))
 
   turn_end_raises : (left : Option ℕ) (body : Nodes) (depth : ℕ) (w : World) (e : End) → w.fuel < suc f → Raises j (turn_end meaning left body depth w e) (turn_end meaning left body depth (raised j w) e)
   turn_end_raises left body depth w on lt = pay_raises j w _ (λ v. meaning_falls.turns left body (cleared v) depth) (λ v l. h.turns left body (cleared v) depth (omega arith))
@@ -171,7 +171,7 @@ module _ (j f : ℕ) (h : RaisesBelow j f) where
       let r : Ran = list_by meaning body body w depth true in
       let s : Ran = list_by meaning body body (raised j w) depth true in
       then_raises j r s (turn_end meaning left body depth) (λ v. refl) (turn_end_fuel meaning meaning_falls left body depth)
-        (turn_end_raises left body depth r.0 r.1 (omega (arith, list_by_fuel meaning meaning_falls body body w depth true))) (list_by_raises body body w depth true lt)
+      (turn_end_raises left body depth r.0 r.1 (omega (arith, list_by_fuel meaning meaning_falls body body w depth true))) (list_by_raises body body w depth true lt)
 
   turns_by_raises : (left : Option ℕ) (body : Nodes) (w : World) (depth : ℕ) → w.fuel < suc f → Raises j (turns_by meaning left body w depth) (turns_by meaning left body (raised j w) depth)
   unfolding turns_by
@@ -186,11 +186,11 @@ module _ (j f : ℕ) (h : RaisesBelow j f) where
   raises_more : RaisesBelow j (suc f)
   raises_more = record {
     list = λ whole rest w depth inside lt. subst (λ (s : Ran). Raises j (meaning.list whole rest w depth inside) s) (sym (list_is whole rest (raised j w) depth inside))
-      (subst (λ (r : Ran). Raises j r (list_by meaning whole rest (raised j w) depth inside)) (sym (list_is whole rest w depth inside)) (list_by_raises whole rest w depth inside lt));
+        (subst (λ (r : Ran). Raises j r (list_by meaning whole rest (raised j w) depth inside)) (sym (list_is whole rest w depth inside)) (list_by_raises whole rest w depth inside lt));
     turns = λ left body w depth lt. subst (λ (s : Ran). Raises j (meaning.turns left body w depth) s) (sym (turns_is left body (raised j w) depth))
-      (subst (λ (r : Ran). Raises j r (turns_by meaning left body (raised j w) depth)) (sym (turns_is left body w depth)) (turns_by_raises left body w depth lt));
+        (subst (λ (r : Ran). Raises j r (turns_by meaning left body (raised j w) depth)) (sym (turns_is left body w depth)) (turns_by_raises left body w depth lt));
     further = λ i setting w depth lt. subst (λ (s : Ran). Raises j (meaning.further i setting w depth) s) (sym (further_is i setting (raised j w) depth))
-      (subst (λ (r : Ran). Raises j r (further_by meaning i setting (raised j w) depth)) (sym (further_is i setting w depth)) (further_by_raises i setting w depth lt));
+        (subst (λ (r : Ran). Raises j r (further_by meaning i setting (raised j w) depth)) (sym (further_is i setting w depth)) (further_by_raises i setting w depth lt));
   }
 
 raises_below : (j f : ℕ) → RaisesBelow j f

@@ -51,7 +51,7 @@ item_costs text m i nodes a s = record {
       let w = world d.state d.arguments (typed ++ d.typed) (load + d.load) fuel in
       let r : Ran = carries meaning i (setting_of m nodes) 0 w d.end in
       subst (λ (x : Ran). x.0.fuel ≤ fuel) (sym ((item_leads text m i nodes a s).leads typed load fuel))
-        (trans_le _ _ _ (then_rest_fuel meaning meaning_falls (tree text) nodes 0 false r.0 r.1) (carries_fuel meaning meaning_falls i (setting_of m nodes) 0 w d.end));
+      (trans_le _ _ _ (then_rest_fuel meaning meaning_falls (tree text) nodes 0 false r.0 r.1) (carries_fuel meaning meaning_falls i (setting_of m nodes) 0 w d.end));
 }
 
 pub item_halts : (text : List ℕ) (m : Modifiers) (i : Item) (nodes : Nodes) (a : Arguments) (s : State) → Ends s 0 (Some Lim) (rest_of text (item m i nodes) a s)

@@ -69,7 +69,7 @@ pub follows_step : (F G H : Trail → Type 0) (n : Next) (load steps k : ℕ) (s
     → (u : Trail) → F u → u.changes ≡ 0 → u.steps ≡ steps → u.states (steps + 1) ≡ s → u.load + load ≤ u.loads (steps + 1) → H (stepped (moved u load))
 follows_step F G H n load steps k s f count took done u h none at state within =
     done (moved u load) (follows_finished G n u load f (took u h)) (omega arith) (omega arith)
-      (ap u.states count ∙ state) (let same : u.loads k ≡ u.loads (steps + 1) = ap u.loads count in omega arith)
+    (ap u.states count ∙ state) (let same : u.loads k ≡ u.loads (steps + 1) = ap u.loads count in omega arith)
 
 module _ {T : Type 0} (shown : T → Option (List ℕ)) (failures : T → ℕ) (old : State) (text : List ℕ) (limit : ℕ) (first now : T) (s : State) (P : ℕ → Type 0) (F : Trail → Type 0) (steps : ℕ)
     (a : Arguments) (t : Token) (after : Found) (h : Going shown failures (run_of old text) first now s P F steps (rest_of text (nodes_of text (places.Token t)) a s))
@@ -82,7 +82,7 @@ module _ {T : Type 0} (shown : T → Option (List ℕ)) (failures : T → ℕ) (
   halts same =
       let none : 0 ≡ limit - steps = omega arith in
       over shown failures old text limit first now s P F steps _ at_item (Some Lim) refl (omega arith)
-        (subst (λ left. Ends s left (Some Lim) (rest_of text (item t.modifiers (item_in text i) (nodes_of text after)) a s)) none (item_halts text t.modifiers (item_in text i) (nodes_of text after) a s))
+      (subst (λ left. Ends s left (Some Lim) (rest_of text (item t.modifiers (item_in text i) (nodes_of text after)) a s)) none (item_halts text t.modifiers (item_in text i) (nodes_of text after) a s))
 
   module _ (before : Bool) (peeked : before ≡ leave_comes (nodes_of text after)) where
     effect_is : token_effect text t None false before s a ≡ effect (item_in text i) (setting_of t.modifiers (nodes_of text after)) s a
@@ -102,9 +102,9 @@ module _ {T : Type 0} (shown : T → Option (List ℕ)) (failures : T → ℕ) (
         let d : Step = token_effect text t None false before s a in
         let to : Arguments → End → State → Rest = λ x y z. after_step text (nodes_of text after) (item_in text i) (setting_of t.modifiers (nodes_of text after)) x y z in
         let g : Going shown failures (run_of old text) first later d.state P G (steps + 1) (to d.arguments d.end d.state) =
-          running.next shown failures (run_of old text) first now s P F steps _ at_item (to d.arguments d.end d.state) d.typed d.load leads d.state
-            (after_rests text (nodes_of text after) (item_in text i) (setting_of t.modifiers (nodes_of text after)) d.arguments d.end d.state) later G done.shows
-            (λ u p x y z. follows u p x y (z ∙ sym done.state)) in
+        running.next shown failures (run_of old text) first now s P F steps _ at_item (to d.arguments d.end d.state) d.typed d.load leads d.state
+        (after_rests text (nodes_of text after) (item_in text i) (setting_of t.modifiers (nodes_of text after)) d.arguments d.end d.state) later G done.shows
+        (λ u p x y z. follows u p x y (z ∙ sym done.state)) in
         subst (λ z. Going shown failures (run_of old text) first later z P G (steps + 1) (to left (end_of name n) z)) (sym (e ∙ done.state))
         (subst (λ y. Going shown failures (run_of old text) first later d.state P G (steps + 1) (to left y d.state)) (sym done.end)
         (subst (λ x. Going shown failures (run_of old text) first later d.state P G (steps + 1) (to x d.end d.state)) (sym done.arguments) g))
@@ -117,7 +117,7 @@ module _ {T : Type 0} (shown : T → Option (List ℕ)) (failures : T → ℕ) (
         → Going shown failures (run_of old text) first later same P H (steps + 1) (after_step text (nodes_of text after) (item_in text i) (setting_of t.modifiers (nodes_of text after)) left (end_of name n) same)
     counts name new same left later n G H stepping f e took marks =
         does name new same left later n H (finished_done (token_effect text t None false before s a) name s new left now later n f stepping) e
-          (follows_step F G H n (token_effect text t None false before s a).load steps (steps + 1) new f refl took marks)
+        (follows_step F G H n (token_effect text t None false before s a).load steps (steps + 1) new f refl took marks)
 
     -- it was begun and not done
     pub fails : (name : List ℕ) (new : State) (left : Arguments) (later : T) (n : Next) (code : Code) (G : Trail → Type 0)
@@ -133,8 +133,8 @@ module _ {T : Type 0} (shown : T → Option (List ℕ)) (failures : T → ℕ) (
         let same : Tty ≡ code = let both : next.Error Tty ≡ next.Error code = sym lacks.code ∙ e in cc in
         subst (λ k. Ended shown failures old text limit first later new P G (record { code = Some k; steps = steps })) same
         (running.no_terminal shown failures old text limit first now s P F steps _ at_item later new G _ d.typed lacks.front d.load d.state lt
-          (item_costs text t.modifiers (item_in text i) (nodes_of text after) a s) leads (after_rests text (nodes_of text after) (item_in text i) (setting_of t.modifiers (nodes_of text after)) d.arguments d.end d.state)
-          lacks.state lacks.types lacks.beginning lacks.shows keeps)
+        (item_costs text t.modifiers (item_in text i) (nodes_of text after) a s) leads (after_rests text (nodes_of text after) (item_in text i) (setting_of t.modifiers (nodes_of text after)) d.arguments d.end d.state)
+        lacks.state lacks.types lacks.beginning lacks.shows keeps)
 
     -- neither a jump, nor a call, nor a further step
     pub ends_plainly : (name : List ℕ) (new : State) (left : Arguments) (later : T) (n : Next) → Steps shown failures (token_effect text t None false before s a) name s new left now later n → is_unfinished n ≡ false → is_plain (end_of name n) ≡ true
@@ -189,7 +189,7 @@ module _ {T : Type 0} (shown : T → Option (List ℕ)) (failures : T → ℕ) (
       → Going shown failures (run_of old text) first now s P F steps (rest_of text (nodes_of text after) b s)
   at_escape t after b e kind here none =
       let at_node : Going shown failures (run_of old text) first now s P F steps (rest_of text (escape (nodes_of text after)) a s) =
-        subst (λ n. Going shown failures (run_of old text) first now s P F steps (rest_of text n a s)) (nodes_escape text t after kind here) (at_token t e) in
+      subst (λ n. Going shown failures (run_of old text) first now s P F steps (rest_of text n a s)) (nodes_escape text t after kind here) (at_token t e) in
       subst (λ x. Going shown failures (run_of old text) first now s P F steps (rest_of text (nodes_of text after) x s)) (sym none)
       (running.settled shown failures (run_of old text) first now s P F steps _ at_node _ (rest_rests text (nodes_of text after) no_arguments s) (escape_settles text (nodes_of text after) a s))
 

@@ -41,6 +41,15 @@ fn unfinished(next: &Next) -> Option<Code>
     }
 }
 
+fn ended_by(code: Code, steps: u64) -> Outcome
+    ensures { result ≡ record { code = Some code; steps = steps } }
+{
+    Outcome {
+        code: Some(code),
+        steps,
+    }
+}
+
 /// Runs a command string on a desk and a terminal, for at most `limit` steps.
 ///
 /// It ends as the recursive meaning of the string says, with its state, its typed bytes, its code and its steps; or by [`Code::Mem`]
@@ -61,12 +70,7 @@ pub fn run<D: Desk, T: Terminal>(desk: &mut D, text: &[u8], limit: u64, term: &m
     'tokens: loop {
         let token = match found {
             Found::End => return Outcome { code: None, steps },
-            Found::Fault(code) => {
-                return Outcome {
-                    code: Some(code),
-                    steps,
-                };
-            }
+            Found::Fault(code) => return ended_by(code, steps),
             Found::Token(token) => token,
         };
         found = token_at(text, token.span.to);
@@ -75,20 +79,12 @@ pub fn run<D: Desk, T: Terminal>(desk: &mut D, text: &[u8], limit: u64, term: &m
             continue 'tokens;
         }
         if steps == limit {
-            return Outcome {
-                code: Some(Code::Lim),
-                steps,
-            };
+            return ended_by(Code::Lim, steps);
         }
         let before = is_plain_leave(&found);
-        let next = step_token(
-            desk, text, &token, None, &mut args, false, before, term,
-        );
+        let next = step_token(desk, text, &token, None, &mut args, false, before, term);
         if let Some(code) = unfinished(&next) {
-            return Outcome {
-                code: Some(code),
-                steps,
-            };
+            return ended_by(code, steps);
         }
         steps += 1;
         desk.step_done(steps);
@@ -96,12 +92,7 @@ pub fn run<D: Desk, T: Terminal>(desk: &mut D, text: &[u8], limit: u64, term: &m
             Next::On => continue 'tokens,
             Next::Leave => return Outcome { code: None, steps },
             Next::Out => return Outcome { code: None, steps },
-            Next::Error(code) => {
-                return Outcome {
-                    code: Some(code),
-                    steps,
-                };
-            }
+            Next::Error(code) => return ended_by(code, steps),
             Next::Go => unreachable!(),
             Next::Call(_) => unreachable!(),
             Next::Again(_) => unreachable!(),

@@ -3,6 +3,7 @@ use Rattle.teco_core.specs.ArgumentsView.{arguments}
 use Rattle.teco_exec.proofs.Tokens.{begins, at_end, at_fault, at_escape, at_token, halts, counts, fails, goes_on, stops, leaves, exits, item_of, found_step, follows_unfinished, ends_plainly}
 use Rattle.teco_step.specs.Stepping.{end_of, is_unfinished, name_in}
 use Rattle.teco_exec.proofs.Found.{nodes_of}
+use Rattle.teco_exec.proofs.Going.{told}
 use Rattle.teco_exec.proofs.Straight.{setting_of}
 use Rattle.teco_exec.proofs.Plain.{is_plain}
 use Rattle.teco_exec.proofs.Quiet.{quiet_begins, quiet_escape, quiet_item}
@@ -24,7 +25,8 @@ returns-in-End g c =
 pub returns-in-Fault : goal.returns-in-Fault
 returns-in-Fault g c =
     let w = at_fault _ _ _ _ c.args.limit _ _ _ _ _ _ _ _ c.tokens.invariant.going c.in-Fault.code c.in-Fault.is c.tokens.invariant.placed c.tokens.invariant.within in
-    record { run = (w.typed, w.runs, w.shows); again = w.again; follows = w.follows }
+    let v = told c.ended_by.result c.ended_by.ensures w in
+    record { run = (v.typed, v.runs, v.shows); again = v.again; follows = v.follows }
 
 pub tokens-preserved-in-Escape : goal.tokens-preserved-in-Escape
 tokens-preserved-in-Escape g c = record {
@@ -41,7 +43,8 @@ returns-then-steps-limit g c =
     let h = at_token _ _ _ _ c.args.limit _ _ _ _ _ _ _ c.tokens.found c.tokens.invariant.going t c.in-Token.is in
     let it = item_of c.args.text.now t (found_step c.args.text.now c.tokens.found t c.tokens.invariant.placed c.in-Token.is c.in_default.not-Escape) in
     let w = halts _ _ _ _ c.args.limit _ _ _ _ _ _ _ t after h c.token_at-found-in-tokens.ensures.read it.0 it.1 c.if-steps-limit.true in
-    record { run = (w.typed, w.runs, w.shows); again = w.again; follows = w.follows }
+    let v = told c.ended_by-then-steps-limit.result c.ended_by-then-steps-limit.ensures w in
+    record { run = (v.typed, v.runs, v.shows); again = v.again; follows = v.follows }
 
 pub step_token-next-requires : goal.step_token-next-requires
 step_token-next-requires g c = found_step c.args.text.now c.tokens.found c.in-Token.token c.tokens.invariant.placed c.in-Token.is c.in_default.not-Escape
@@ -55,10 +58,11 @@ returns-in-Some g c =
     let name = name_in c.args.text.now t in
     let n = c.step_token-next.result in
     let w = fails _ _ _ _ c.args.limit _ _ _ _ _ _ _ t after h c.token_at-found-in-tokens.ensures.read it.0 it.1 c.is_plain_leave-before.result (c.is_plain_leave-before.ensures c.args.text.now)
-      name (g.D.Desk.state c.step_token-next.new.desk) (arguments c.step_token-next.new.args) c.step_token-next.new.term n c.in-Some.code (g.D.Desk.follows c.step_token-next.new.desk)
-      c.step_token-next.ensures.steps c.in-Some.ensures.0 c.in-Some.ensures.1 (omega (arith, c.tokens.invariant.within, c.if-steps-limit.false))
-      (λ u f. follows_unfinished (g.D.Desk.follows c.step_token-next.new.desk) n u _ (ap is_unfinished c.in-Some.ensures.0 ∙ c.in-Some.ensures.1) (c.step_token-next.ensures.follows u f)) in
-    record { run = (w.typed, w.runs, w.shows); again = w.again; follows = w.follows }
+    name (g.D.Desk.state c.step_token-next.new.desk) (arguments c.step_token-next.new.args) c.step_token-next.new.term n c.in-Some.code (g.D.Desk.follows c.step_token-next.new.desk)
+    c.step_token-next.ensures.steps c.in-Some.ensures.0 c.in-Some.ensures.1 (omega (arith, c.tokens.invariant.within, c.if-steps-limit.false))
+    (λ u f. follows_unfinished (g.D.Desk.follows c.step_token-next.new.desk) n u _ (ap is_unfinished c.in-Some.ensures.0 ∙ c.in-Some.ensures.1) (c.step_token-next.ensures.follows u f)) in
+    let v = told c.ended_by-in-Some.result c.ended_by-in-Some.ensures w in
+    record { run = (v.typed, v.runs, v.shows); again = v.again; follows = v.follows }
 
 pub tokens-preserved : goal.tokens-preserved
 tokens-preserved g c =
@@ -69,9 +73,9 @@ tokens-preserved g c =
     let name = name_in c.args.text.now t in
     let n = c.step_token-next.result in
     let going = counts _ _ _ _ c.args.limit _ _ _ _ _ _ _ t after h c.token_at-found-in-tokens.ensures.read it.0 it.1 c.is_plain_leave-before.result (c.is_plain_leave-before.ensures c.args.text.now)
-      name (g.D.Desk.state c.step_token-next.new.desk) (g.D.Desk.state c.step_done.new.self) (arguments c.step_token-next.new.args) c.step_token-next.new.term n
-      (g.D.Desk.follows c.step_token-next.new.desk) (g.D.Desk.follows c.step_done.new.self) c.step_token-next.ensures.steps c.in_default-unfinished.ensures c.step_done.ensures.state
-      c.step_token-next.ensures.follows c.step_done.ensures.follows in
+    name (g.D.Desk.state c.step_token-next.new.desk) (g.D.Desk.state c.step_done.new.self) (arguments c.step_token-next.new.args) c.step_token-next.new.term n
+    (g.D.Desk.follows c.step_token-next.new.desk) (g.D.Desk.follows c.step_done.new.self) c.step_token-next.ensures.steps c.in_default-unfinished.ensures c.step_done.ensures.state
+    c.step_token-next.ensures.follows c.step_done.ensures.follows in
     record {
       within = (omega (arith, c.tokens.invariant.within, c.if-steps-limit.false));
       placed = record { at = t.span.to; read = c.token_at-found-in-tokens.ensures.read; stands = c.token_at-found-in-tokens.ensures.place };
@@ -88,9 +92,9 @@ returns-in-Leave g c =
     let name = name_in c.args.text.now t in
     let n = c.step_token-next.result in
     let going = counts _ _ _ _ c.args.limit _ _ _ _ _ _ _ t after h c.token_at-found-in-tokens.ensures.read it.0 it.1 c.is_plain_leave-before.result (c.is_plain_leave-before.ensures c.args.text.now)
-      name (g.D.Desk.state c.step_token-next.new.desk) (g.D.Desk.state c.step_done.new.self) (arguments c.step_token-next.new.args) c.step_token-next.new.term n
-      (g.D.Desk.follows c.step_token-next.new.desk) (g.D.Desk.follows c.step_done.new.self) c.step_token-next.ensures.steps c.in_default-unfinished.ensures c.step_done.ensures.state
-      c.step_token-next.ensures.follows c.step_done.ensures.follows in
+    name (g.D.Desk.state c.step_token-next.new.desk) (g.D.Desk.state c.step_done.new.self) (arguments c.step_token-next.new.args) c.step_token-next.new.term n
+    (g.D.Desk.follows c.step_token-next.new.desk) (g.D.Desk.follows c.step_done.new.self) c.step_token-next.ensures.steps c.in_default-unfinished.ensures c.step_done.ensures.state
+    c.step_token-next.ensures.follows c.step_done.ensures.follows in
     let w = leaves _ _ _ _ c.args.limit _ _ _ _ _ _ _ _ (setting_of t.modifiers (nodes_of c.args.text.now after)) _ (end_of name n) going (ap (end_of name) c.in-Leave.is) (omega (arith, c.tokens.invariant.within, c.if-steps-limit.false)) in
     record { run = (w.typed, w.runs, w.shows); again = w.again; follows = w.follows }
 
@@ -103,9 +107,9 @@ returns-in-Out g c =
     let name = name_in c.args.text.now t in
     let n = c.step_token-next.result in
     let going = counts _ _ _ _ c.args.limit _ _ _ _ _ _ _ t after h c.token_at-found-in-tokens.ensures.read it.0 it.1 c.is_plain_leave-before.result (c.is_plain_leave-before.ensures c.args.text.now)
-      name (g.D.Desk.state c.step_token-next.new.desk) (g.D.Desk.state c.step_done.new.self) (arguments c.step_token-next.new.args) c.step_token-next.new.term n
-      (g.D.Desk.follows c.step_token-next.new.desk) (g.D.Desk.follows c.step_done.new.self) c.step_token-next.ensures.steps c.in_default-unfinished.ensures c.step_done.ensures.state
-      c.step_token-next.ensures.follows c.step_done.ensures.follows in
+    name (g.D.Desk.state c.step_token-next.new.desk) (g.D.Desk.state c.step_done.new.self) (arguments c.step_token-next.new.args) c.step_token-next.new.term n
+    (g.D.Desk.follows c.step_token-next.new.desk) (g.D.Desk.follows c.step_done.new.self) c.step_token-next.ensures.steps c.in_default-unfinished.ensures c.step_done.ensures.state
+    c.step_token-next.ensures.follows c.step_done.ensures.follows in
     let w = exits _ _ _ _ c.args.limit _ _ _ _ _ _ _ _ (setting_of t.modifiers (nodes_of c.args.text.now after)) _ (end_of name n) going (ap (end_of name) c.in-Out.is) (omega (arith, c.tokens.invariant.within, c.if-steps-limit.false)) in
     record { run = (w.typed, w.runs, w.shows); again = w.again; follows = w.follows }
 
@@ -118,11 +122,12 @@ returns-in-Error g c =
     let name = name_in c.args.text.now t in
     let n = c.step_token-next.result in
     let going = counts _ _ _ _ c.args.limit _ _ _ _ _ _ _ t after h c.token_at-found-in-tokens.ensures.read it.0 it.1 c.is_plain_leave-before.result (c.is_plain_leave-before.ensures c.args.text.now)
-      name (g.D.Desk.state c.step_token-next.new.desk) (g.D.Desk.state c.step_done.new.self) (arguments c.step_token-next.new.args) c.step_token-next.new.term n
-      (g.D.Desk.follows c.step_token-next.new.desk) (g.D.Desk.follows c.step_done.new.self) c.step_token-next.ensures.steps c.in_default-unfinished.ensures c.step_done.ensures.state
-      c.step_token-next.ensures.follows c.step_done.ensures.follows in
+    name (g.D.Desk.state c.step_token-next.new.desk) (g.D.Desk.state c.step_done.new.self) (arguments c.step_token-next.new.args) c.step_token-next.new.term n
+    (g.D.Desk.follows c.step_token-next.new.desk) (g.D.Desk.follows c.step_done.new.self) c.step_token-next.ensures.steps c.in_default-unfinished.ensures c.step_done.ensures.state
+    c.step_token-next.ensures.follows c.step_done.ensures.follows in
     let w = stops _ _ _ _ c.args.limit _ _ _ _ _ _ _ _ (setting_of t.modifiers (nodes_of c.args.text.now after)) _ (end_of name n) going c.in-Error.code (ap (end_of name) c.in-Error.is) (sym (ap is_unfinished c.in-Error.is) ∙ c.in_default-unfinished.ensures) (omega (arith, c.tokens.invariant.within, c.if-steps-limit.false)) in
-    record { run = (w.typed, w.runs, w.shows); again = w.again; follows = w.follows }
+    let v = told c.ended_by-in-Error.result c.ended_by-in-Error.ensures w in
+    record { run = (v.typed, v.runs, v.shows); again = v.again; follows = v.follows }
 
 pub unreachable-requires : goal.unreachable-requires
 unreachable-requires g c =
@@ -133,7 +138,7 @@ unreachable-requires g c =
     let name = name_in c.args.text.now t in
     let n = c.step_token-next.result in
     let plain = ends_plainly _ _ _ _ c.args.limit _ _ _ _ _ _ _ t after h c.token_at-found-in-tokens.ensures.read it.0 it.1 c.is_plain_leave-before.result (c.is_plain_leave-before.ensures c.args.text.now)
-      name (g.D.Desk.state c.step_token-next.new.desk) (arguments c.step_token-next.new.args) c.step_token-next.new.term n c.step_token-next.ensures.steps c.in_default-unfinished.ensures in
+    name (g.D.Desk.state c.step_token-next.new.desk) (arguments c.step_token-next.new.args) c.step_token-next.new.term n c.step_token-next.ensures.steps c.in_default-unfinished.ensures in
     let not_so : false ≡ true = sym (ap (λ x. is_plain (end_of name x)) c.in-Go.is) ∙ plain in
     absurd cc
 
@@ -146,7 +151,7 @@ unreachable-requires-in-Call g c =
     let name = name_in c.args.text.now t in
     let n = c.step_token-next.result in
     let plain = ends_plainly _ _ _ _ c.args.limit _ _ _ _ _ _ _ t after h c.token_at-found-in-tokens.ensures.read it.0 it.1 c.is_plain_leave-before.result (c.is_plain_leave-before.ensures c.args.text.now)
-      name (g.D.Desk.state c.step_token-next.new.desk) (arguments c.step_token-next.new.args) c.step_token-next.new.term n c.step_token-next.ensures.steps c.in_default-unfinished.ensures in
+    name (g.D.Desk.state c.step_token-next.new.desk) (arguments c.step_token-next.new.args) c.step_token-next.new.term n c.step_token-next.ensures.steps c.in_default-unfinished.ensures in
     let not_so : false ≡ true = sym (ap (λ x. is_plain (end_of name x)) c.in-Call.is) ∙ plain in
     absurd cc
 
@@ -159,6 +164,6 @@ unreachable-requires-in-Again g c =
     let name = name_in c.args.text.now t in
     let n = c.step_token-next.result in
     let plain = ends_plainly _ _ _ _ c.args.limit _ _ _ _ _ _ _ t after h c.token_at-found-in-tokens.ensures.read it.0 it.1 c.is_plain_leave-before.result (c.is_plain_leave-before.ensures c.args.text.now)
-      name (g.D.Desk.state c.step_token-next.new.desk) (arguments c.step_token-next.new.args) c.step_token-next.new.term n c.step_token-next.ensures.steps c.in_default-unfinished.ensures in
+    name (g.D.Desk.state c.step_token-next.new.desk) (arguments c.step_token-next.new.args) c.step_token-next.new.term n c.step_token-next.ensures.steps c.in_default-unfinished.ensures in
     let not_so : false ≡ true = sym (ap (λ x. is_plain (end_of name x)) c.in-Again.is) ∙ plain in
     absurd cc

@@ -14,8 +14,8 @@ invariant-tokens g l = record {
   placed : Placed l.text l.found;
   quiet : IsQuiet l.text l.found;
   going : Going g.T.Terminal.shown g.T.Terminal.failures (run_of (g.D.Desk.state l.fn.desk) l.text) l.fn.term l.term (g.D.Desk.state l.desk)
-    (λ floor. g.D.Desk.follows l.fn.desk (trail_of (g.D.Desk.state l.fn.desk) l.text floor 0)) (g.D.Desk.follows l.desk) l.steps
-    (rest_of l.text (nodes_of l.text l.found) (arguments l.args) (g.D.Desk.state l.desk));
+      (λ floor. g.D.Desk.follows l.fn.desk (trail_of (g.D.Desk.state l.fn.desk) l.text floor 0)) (g.D.Desk.follows l.desk) l.steps
+      (rest_of l.text (nodes_of l.text l.found) (arguments l.args) (g.D.Desk.state l.desk));
 }
 
 abbrev pub decreases-tokens : goal.decreases-tokens
