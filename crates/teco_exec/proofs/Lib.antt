@@ -1,6 +1,7 @@
 pub mod Fuel
 pub mod Limits
 pub mod Strings
+pub mod Sentences
 pub mod Idle
 pub mod Sound
 pub mod Trees

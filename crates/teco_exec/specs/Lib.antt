@@ -4,3 +4,4 @@ pub mod Meaning
 pub mod StringMeaning
 pub mod Runs
 pub mod Quiet
+pub mod Laws

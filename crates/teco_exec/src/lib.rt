@@ -1,8 +1,10 @@
-//! The run of a command string.
+//! The recursive meaning of command strings, and their run.
 #![tactic(auto)]
 
+mod laws;
 mod outcome;
 mod running;
 
+pub use laws::meaning_laws;
 pub use outcome::Outcome;
 pub use running::run;
