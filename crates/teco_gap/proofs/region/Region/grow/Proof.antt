@@ -1,11 +1,11 @@
 -- `grow` hands the bytes to the allocator, and has them in what comes back. Assumes `Logic`.
-use Rattle.std.proofs.Common.{◌≡◌, ◌^◌, ◌<◌, ◌≤◌, ℕ, Bool, true, false, List, [], ◌∷◌, ◌++◌, refl, sym, ap, ◌∙◌, arith, w64}
+use Rattle.std.proofs.Common.{◌≡◌, ◌^◌, ◌<◌, ◌≤◌, ℕ, true, false, List, [], ◌∷◌, ◌++◌, refl, sym, ap, ◌∙◌, arith, w64}
 use mir.Syntax.{Fn, Args, a_type, dcons, dnil, place}
 use mir.Val.{Val, vbool, vint, vptr}
 use mir.MapTy.{inst_fn}
 use base.Fraction.{full_share}
 use base.Logic.{SProp, ex, never, emp, id⊢}
-use base.Fml.{Lft, Share, Fml, ftrue, flft}
+use base.Fml.{Lft, Share, ftrue, flft}
 use prog.Wp.{Env, WpFn}
 use contract.BorrowLft.{◌⊑◌, ⊑_trans, ⊑_static}
 use contract.Monad.{fact, fact_i}
@@ -32,7 +32,7 @@ use denote.Triple.Table.{framed}
 use denote.Triple.Walked.{Stays, stay_dropped, stay_ref, walk_of, Goes-dropped, Goes-ref}
 use Rattle.std.specs.Allocator.{block_with_items}
 use Rattle.std.specs.Prelude.{if◌then◌else◌}
-use Rattle.std.proofs.alloc.Calls.{Al, seen, Answer, Answer-typed}
+use Rattle.std.proofs.alloc.Calls.{Al, seen, Answer-typed}
 use Rattle.std.proofs.alloc.Resizes.{Grows, Resizes, at_resizes, left_by, Resizes-goes, Resizes-gives, Flagged, flagged}
 use Rattle.std.proofs.alloc.Shapes.{after, head, arm_body}
 use Rattle.std.proofs.raw_atomic.Walks.{proved_at, leaves}
