@@ -162,6 +162,21 @@ fn either_case(rt: HostRuntime) -> Result<(), Fail> {
     Ok(())
 }
 
+// Each growth refused in turn is one answer, and no other comes in its place.
+#[test]
+fn wants_memory(rt: HostRuntime) {
+    for text in [
+        b"abcdefghi".as_slice(),
+        b"a\x05[a,b,c,d,e]\x18\x18\x18\x18",
+        b"\x0e\x05[a]",
+    ] {
+        match Pattern::read(rt.alloc(), text, CaseMode::Exact) {
+            Ok(pattern) => assert_eq!(rt; matches_at(&pattern, (text, b"abcdefghi"), 99), None),
+            Err(code) => assert_eq!(rt; code, Code::Mem),
+        }
+    }
+}
+
 #[test]
 fn shown(rt: HostRuntime) -> Result<(), Fail> {
     let rows: [(&[u8], &str); 4] = [
@@ -311,8 +326,8 @@ fn beside_a_slow_search(rt: HostRuntime) -> Result<(), Fail> {
                 compare(&rt, &pattern, wants, &text[..len]);
             }
         }
-        for number in 0..64usize {
-            let mut text = [0u8; 6];
+        for number in 0..32usize {
+            let mut text = [0u8; 5];
             let mut rest = number;
             for byte in text.iter_mut() {
                 *byte = if rest % 2 == 0 { b'a' } else { b' ' };
