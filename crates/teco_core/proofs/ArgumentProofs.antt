@@ -1,12 +1,8 @@
 -- What the rules of the arguments come to.
-use Rattle.std.proofs.Common.{◌≡◌, ◌<◌, List, [], ◌∷◌, length, Result, Ok, Err, ℤ, neg_ℤ, IsOk, refl, arith}
-use Rattle.teco_core.specs.declared.code.Code.{Code}
+use Rattle.std.proofs.Common.{◌≡◌, ◌<◌, List, [], ◌∷◌, length, Result, Ok, Err, refl, arith}
 use Rattle.teco_core.specs.declared.code.Code.TheVariants.{Mrp}
 use Rattle.teco_core.specs.declared.arguments.Expression.{Expression}
-use Rattle.teco_core.specs.declared.arguments.Taken.{Taken}
-use Rattle.teco_core.specs.declared.arguments.Taken.TheVariants.{One}
 use Rattle.teco_core.specs.Refusal.{◌>>=◌}
-use Rattle.teco_core.specs.Number.{operation, fitted}
 use Rattle.teco_core.specs.Arguments.{Arguments, give, operate, open_level, close_level, comma, taken_from, taken_on}
 use Rattle.teco_core.specs.Pieces.{built, taken_after}
 use Rattle.teco_core.specs.ArgumentFacts.{LeftToRight, ParenthesesFirst, Signs, Sixteen, Commas, Unfinished}

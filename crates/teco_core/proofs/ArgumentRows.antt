@@ -1,13 +1,12 @@
 -- Worked rows: what is typed, and what a command takes after it. They guard the definitions against later edits.
-use Rattle.std.proofs.Common.{◌≡◌, ◌-◌, ◌^◌, List, [], ◌∷◌, replicate, Some, None, Result, Ok, Err, ℕ, pos, negsuc, refl}
+use Rattle.std.proofs.Common.{◌≡◌, ◌-◌, ◌^◌, [], ◌∷◌, replicate, Some, None, Ok, Err, ℕ, pos, negsuc, refl}
 use Rattle.std.specs.Prelude.{codes}
-use Rattle.teco_core.specs.declared.code.Code.{Code}
 use Rattle.teco_core.specs.declared.code.Code.TheVariants.{Arg, Dvz, Mrp, Ovf, Pdo}
 use Rattle.teco_core.specs.declared.number.Op.TheVariants.{Plus, Minus, Times, Over, And, Or}
 use Rattle.teco_core.specs.declared.arguments.Taken.TheVariants as taken
 use Rattle.teco_core.specs.Refusal.{◌>>=◌}
 use Rattle.teco_core.specs.Number.{decimal_value, digits_value}
-use Rattle.teco_core.specs.Arguments.{Arguments, no_arguments, give, give_pair, operate, open_level, close_level, comma, taken_from}
+use Rattle.teco_core.specs.Arguments.{no_arguments, give, give_pair, operate, open_level, close_level, comma, taken_from}
 use Rattle.teco_core.specs.Pieces.{Piece, number, sign, opening, closing, dividing, built, taken_after}
 use Rattle.teco_core.specs.Register.{register_of}
 

@@ -1,5 +1,5 @@
 -- The levels of the arguments, kept outermost first and seen innermost first.
-use Rattle.std.proofs.Common.{◌≡◌, ◌∙◌, ℕ, ◌+◌, ◌-◌, ◌<◌, ◌≤◌, List, [], ◌∷◌, ◌++◌, length, take, reverse, get_or, Option, Result, Ok, Err, ℤ, ap, sym, refl, arith}
+use Rattle.std.proofs.Common.{◌≡◌, ◌∙◌, ℕ, ◌+◌, ◌-◌, ◌<◌, ◌≤◌, List, ◌∷◌, length, take, reverse, get_or, Option, Ok, Err, ℤ, ap, arith}
 use Rattle.std.proofs.lemmas.List.{take_more, reverse-append}
 use Rattle.teco_core.specs.declared.code.Code.{Code}
 use Rattle.teco_core.specs.declared.arguments.Expression.{Expression}
