@@ -24,8 +24,9 @@ use Rattle.teco_scan.specs.Seen.{item_in, instruction_in, order_in, found_in, Is
 use Rattle.teco_scan.specs.Spelling.{SpellsOperand, bare_spelled, mark_spelled, escape_spelled, register_spelled, byte_spelled, test_spelled, text_spelled, tag_spelled, set_text_spelled, replace_spelled, Among, Spells, run_spelled, command_spelled}
 use Rattle.teco_scan.specs.Tree.{Nodes, done, item, escape, faulty, tree, Levels, last, level, first, put, after_scan, levels}
 use Rattle.teco_step.specs.Stepping.{is_unfinished_code, IsStepIn}
-use Rattle.teco_exec.proofs.Sound.{Takes, token_takes}
-use Rattle.teco_exec.proofs.Trees.{levels_step}
+use Rattle.teco_scan.proofs.Faults.{four}
+use Rattle.teco_scan.proofs.Sound.{Takes, token_takes}
+use Rattle.teco_scan.proofs.Trees.{levels_step}
 
 -- the nodes of the text from what was found on, where no block is open
 abbrev pub nodes_of : List ℕ → Found → Nodes
@@ -146,101 +147,19 @@ token_is_step text at t e within other = here t.kind refl within
     here (kinds.Tag c) is h = absurd (not_so (kinds.Tag c) is refl)
 
 -- Faults that are read are of the text, and not of memory or the terminal.
-abbrev Faults : {A : Type 0} → Reading A → Type 0
-Faults (Ok x) = Unit {0}
-Faults (Err c) = is_unfinished_code c ≡ false
+read_fault : (bs : List ℕ) (c : Code) (r : Reading Order) → token_from ROWS bs ≡ r → scanned r ≡ fault c → token_from ROWS bs ≡ Err c
+read_fault bs c (Ok x) is e = absurd cc
+read_fault bs c (Err d) is e = let same : d ≡ c = cc in is ∙ ap Err same
 
-then_faults : {A B : Type 0} (r : Reading A) (f : A × List ℕ → Reading B) → Faults r → ((x : A × List ℕ) → Faults (f x)) → Faults (r >>= f)
-then_faults (Ok x) f h next = next x
-then_faults (Err c) f h next = h
-
-byte_faults : (bs : List ℕ) → Faults (byte_at bs)
-unfolding byte_at
-byte_faults [] = refl
-byte_faults (b ∷ bs) = tt
-
-delimiter_faults : (a : Bool) (n usual : ℕ) (bs : List ℕ) → Faults (delimiter_at (record { at = a; colons = n }) usual bs)
-unfolding delimiter_at
-delimiter_faults true n usual bs = byte_faults bs
-delimiter_faults false n usual bs = tt
-
-text_faults : (d : ℕ) (bs : List ℕ) → Faults (text_at d bs)
-unfolding text_at
-text_faults d [] = refl
-text_faults d (b ∷ bs) = elim (eqb b d) as (λ v. Faults (choose v (Ok ([], bs)) (text_at d bs >>= (λ t. Ok (b ∷ t.0, t.1))))) [
-  | true ↦ tt
-  | false ↦ then_faults (text_at d bs) (λ t. Ok (b ∷ t.0, t.1)) (text_faults d bs) (λ x. tt)
-]
-
-or_else_faults : {A : Type 0} (o : Option A) (c : Code) (bs : List ℕ) → is_unfinished_code c ≡ false → Faults (or_else o c >>= (λ q. Ok (q, bs)))
-or_else_faults None c bs e = e
-or_else_faults (Some q) c bs e = tt
-
-register_faults : (bs : List ℕ) → Faults (register_at bs)
-unfolding register_at byte_at
-register_faults [] = refl
-register_faults (b ∷ bs) = or_else_faults (register_of b) Iqn bs refl
-
-test_faults : (bs : List ℕ) → Faults (test_at bs)
-unfolding test_at byte_at
-test_faults [] = refl
-test_faults (b ∷ bs) = or_else_faults (test_of b) Iqc bs refl
-
-operand_faults : (f : Form) (m : Modifiers) (bs : List ℕ) → Faults (operand_at f m bs)
-unfolding operand_at
-operand_faults (form.Bare c) m bs = tt
-operand_faults (form.Mark c) m bs = tt
-operand_faults form.Escape m bs = tt
-operand_faults (form.Register c) m bs = then_faults (register_at bs) _ (register_faults bs) (λ x. tt)
-operand_faults form.Byte m bs = then_faults (byte_at bs) _ (byte_faults bs) (λ x. tt)
-operand_faults form.Test m bs = then_faults (test_at bs) _ (test_faults bs) (λ x. tt)
-operand_faults (form.Text c usual) m bs = then_faults (delimiter_at m usual bs) _ (delimiter_faults m.at m.colons usual bs) (λ d. then_faults (text_at d.0 d.1) _ (text_faults d.0 d.1) (λ t. tt))
-operand_faults form.Tag m bs = then_faults (text_at 33 bs) _ (text_faults 33 bs) (λ t. tt)
-operand_faults form.SetText m bs = then_faults (register_at bs) _ (register_faults bs) (λ q. then_faults (delimiter_at m 27 q.1) _ (delimiter_faults m.at m.colons 27 q.1) (λ d. then_faults (text_at d.0 d.1) _ (text_faults d.0 d.1) (λ t. tt)))
-operand_faults form.Replace m bs = then_faults (delimiter_at m 27 bs) _ (delimiter_faults m.at m.colons 27 bs) (λ d. then_faults (text_at d.0 d.1) _ (text_faults d.0 d.1) (λ t. then_faults (text_at d.0 t.1) _ (text_faults d.0 t.1) (λ u. tt)))
-operand_faults form.Refused m bs = refl
-
-marks_faults : (m : Modifiers) (bs : List ℕ) → Faults (modifiers_at m bs)
-unfolding modifiers_at
-marks_faults m [] = tt
-marks_faults m (b ∷ bs) = here (eqb b 64) m.at (eqb b 58) (eqb m.colons 2) (modifiers_at (record m { at = true }) bs) (modifiers_at (record m { colons = m.colons + 1 }) bs) (marks_faults (record m { at = true }) bs) (marks_faults (record m { colons = m.colons + 1 }) bs)
-  where
-    here : (u v w x : Bool) (p q : Reading Modifiers) → Faults p → Faults q → Faults (choose u (choose v (Err Ill) p) (choose w (choose x (Err Ill) q) (Ok (m, b ∷ bs))))
-    here true true w x p q h k = refl
-    here true false w x p q h k = h
-    here false v true true p q h k = refl
-    here false v true false p q h k = k
-    here false v false x p q h k = tt
-
-cut_faults : (v : Bool) → Faults {A = Instruction} (choose v (Err Utc) (Err Ill))
-cut_faults true = refl
-cut_faults false = refl
-
-row_faults : (rows : List Row) (m : Modifiers) (bs : List ℕ) (o : Option (Row × List ℕ)) → Faults (of_row rows m bs o)
-row_faults rows m bs None = cut_faults (is_cut rows m bs)
-row_faults rows m bs (Some x) = operand_faults x.0.form m x.1
-
-command_faults : (rows : List Row) (m : Modifiers) (bs : List ℕ) → Faults (command_at rows m bs)
-unfolding command_at
-command_faults rows m bs = row_faults rows m bs (row_at rows m bs)
-
-abbrev finished : Modifiers → Instruction × List ℕ → Reading Order
-finished m i = Ok (record { modifiers = m; instruction = i.0 }, i.1)
-
-token_faults : (rows : List Row) (bs : List ℕ) → Faults (token_from rows bs)
-unfolding token_from
-token_faults rows bs = elim (begins_run bs) as (λ v. Faults (choose v (Ok (record { modifiers = no_modifiers; instruction = step (digits (run_of bs)) }, after_run bs)) (modifiers_at no_modifiers bs >>= (λ m. command_at rows m.0 m.1 >>= finished m.0)))) [
-  | true ↦ tt
-  | false ↦ then_faults (modifiers_at no_modifiers bs) _ (marks_faults no_modifiers bs) (λ m. then_faults (command_at rows m.0 m.1) (finished m.0) (command_faults rows m.0 m.1) (λ i. tt))
-]
-
-fault_of_reading : (r : Reading Order) (c : Code) → Faults r → scanned r ≡ fault c → is_unfinished_code c ≡ false
-fault_of_reading (Ok x) c h e = absurd cc
-fault_of_reading (Err d) c h e = let same : d ≡ c = cc in ap is_unfinished_code (sym same) ∙ h
+of_four : (c : Code) → (c ≡ Ill) ⊎ (c ≡ Iqn) ⊎ (c ≡ Iqc) ⊎ (c ≡ Utc) → is_unfinished_code c ≡ false
+of_four c (inl e) = ap is_unfinished_code e
+of_four c (inr (inl e)) = ap is_unfinished_code e
+of_four c (inr (inr (inl e))) = ap is_unfinished_code e
+of_four c (inr (inr (inr e))) = ap is_unfinished_code e
 
 fault_here : (bs : List ℕ) (c : Code) → scan_here bs ≡ fault c → is_unfinished_code c ≡ false
 fault_here [] c e = absurd cc
-fault_here (b ∷ bs) c e = fault_of_reading (token_from ROWS (b ∷ bs)) c (token_faults ROWS (b ∷ bs)) e
+fault_here (b ∷ bs) c e = of_four c (four ROWS (b ∷ bs) c (read_fault (b ∷ bs) c (token_from ROWS (b ∷ bs)) refl e))
 
 pub fault_is_finished : (bs : List ℕ) (c : Code) → scan bs ≡ fault c → is_unfinished_code c ≡ false
 unfolding scan

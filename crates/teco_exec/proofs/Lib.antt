@@ -3,8 +3,6 @@ pub mod Limits
 pub mod Strings
 pub mod Sentences
 pub mod Idle
-pub mod Sound
-pub mod Trees
 pub mod Found
 pub mod Going
 pub mod Straight

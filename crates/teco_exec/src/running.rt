@@ -1,11 +1,13 @@
 //! The run of a command string.
-ghost use Rattle.std.specs.Prelude.{◌≡◌, ℕ, List, [], false, true, MatchOption};
+ghost use Rattle.std.specs.Prelude.{◌≡◌, ℕ, List, [], false, true, MatchOption, Some};
+ghost use Rattle.teco_core.specs.declared.code.Code.TheVariants.{Mem};
 ghost use Rattle.teco_scan.specs.Seen.{found_in};
-ghost use Rattle.teco_scan.specs.Tree.{after_scan, first, levels};
+ghost use Rattle.teco_scan.specs.Tree.{after_scan, first, levels, tree};
 ghost use Rattle.teco_step.specs.Stepping.{is_unfinished, is_unfinished_code};
 ghost use Rattle.teco_step.specs.Terminal.{Shows};
 ghost use Rattle.teco_step.specs.declared.next.Next.TheVariants.{Error};
 ghost use Rattle.teco_exec.specs.Meaning.{leave_comes};
+ghost use Rattle.teco_exec.specs.Quiet.{takes_no_memory};
 ghost use Rattle.teco_exec.specs.Runs.{Runs, is_tty, trail_of};
 ghost use Rattle.teco_exec.specs.StringMeaning.{string_meaning};
 
@@ -56,13 +58,14 @@ fn ended_by(code: Code, steps: u64) -> Outcome
 /// or [`Code::Tty`] after some whole steps, with the state and the typed bytes of just these. By [`Code::Tty`] it ends only where a
 /// put failed, and then the terminal may show a beginning of what the next step types. A step that is reached when `limit` steps are
 /// taken isn't begun, and the string ends by [`Code::Lim`]. After each step that counts, a failing one too, the desk is told so.
-/// It takes no memory itself: its steps do.
+/// It takes no memory itself, though its steps may: a string of values and arithmetic alone never ends by [`Code::Mem`].
 pub fn run<D: Desk, T: Terminal>(desk: &mut D, text: &[u8], limit: u64, term: &mut T) -> Outcome
     ensures run { (typed : List ℕ) × Runs (D.state desk.old) text.now limit result typed (D.state desk.new)
         × Shows T.shown T.failures term.old term.new typed (is_tty result) }
     ensures again { D.state desk.new ≡ (string_meaning (D.state desk.old) text.now result.steps).state }
     ensures follows { (floor : ℕ) → D.follows desk.old (trail_of (D.state desk.old) text.now floor 0)
         → D.follows desk.new (trail_of (D.state desk.old) text.now floor result.steps) }
+    ensures no_memory { takes_no_memory (tree text.now) ≡ true → result.code ≡ Some Mem → ⊥ }
 {
     let mut args = Args::new();
     let mut steps = 0;

@@ -1,12 +1,15 @@
-use Rattle.std.proofs.Common.{rules, ◌≡◌, ◌<◌, ◌≤◌, ◌+◌, ◌∙◌, sym, ap, subst, arith, refl, ℕ, true, false}
+use Rattle.std.proofs.Common.{◌≡◌, ◌+◌, ◌∙◌, sym, ap, arith, refl, true, false, drop, Some, None}
 use Rattle.teco_core.specs.ArgumentsView.{arguments}
 use Rattle.teco_exec.proofs.Tokens.{begins, at_end, at_fault, at_escape, at_token, halts, counts, fails, goes_on, stops, leaves, exits, item_of, found_step, follows_unfinished, ends_plainly}
 use Rattle.teco_step.specs.Stepping.{end_of, is_unfinished, name_in}
-use Rattle.teco_exec.proofs.Found.{nodes_of}
+use Rattle.teco_core.specs.declared.code.Code.TheVariants.{Lim}
+use Rattle.teco_scan.specs.Seen.{found_in}
+use Rattle.teco_exec.specs.declared.outcome.Outcome.{Outcome}
+use Rattle.teco_exec.proofs.Found.{nodes_of, fault_is_finished}
 use Rattle.teco_exec.proofs.Going.{told}
 use Rattle.teco_exec.proofs.Straight.{setting_of}
 use Rattle.teco_exec.proofs.Plain.{is_plain}
-use Rattle.teco_exec.proofs.Quiet.{quiet_begins, quiet_escape, quiet_item}
+use Rattle.teco_exec.proofs.Quiet.{quiet_begins, quiet_escape, quiet_item, item_takes_nothing, finished_not_memory, unfinished_not_memory}
 use Rattle.teco_exec.proofs.running.run.Goals as goal
 
 pub tokens-init : goal.tokens-init
@@ -20,13 +23,13 @@ tokens-init g c = record {
 pub returns-in-End : goal.returns-in-End
 returns-in-End g c =
     let w = at_end _ _ _ _ c.args.limit _ _ _ _ _ _ _ _ c.tokens.invariant.going c.in-End.is c.tokens.invariant.within in
-    record { run = (w.typed, w.runs, w.shows); again = w.again; follows = w.follows }
+    record { run = (w.typed, w.runs, w.shows); again = w.again; follows = w.follows; no_memory = λ q e. finished_not_memory None tt e }
 
 pub returns-in-Fault : goal.returns-in-Fault
 returns-in-Fault g c =
     let w = at_fault _ _ _ _ c.args.limit _ _ _ _ _ _ _ _ c.tokens.invariant.going c.in-Fault.code c.in-Fault.is c.tokens.invariant.placed c.tokens.invariant.within in
     let v = told c.ended_by.result c.ended_by.ensures w in
-    record { run = (v.typed, v.runs, v.shows); again = v.again; follows = v.follows }
+    record { run = (v.typed, v.runs, v.shows); again = v.again; follows = v.follows; no_memory = λ q e. finished_not_memory (Some c.in-Fault.code) (fault_is_finished (drop c.tokens.invariant.placed.at c.args.text.now) c.in-Fault.code (sym c.tokens.invariant.placed.read ∙ ap (found_in c.args.text.now) c.in-Fault.is)) (sym (ap (λ (o : Outcome). o.code) c.ended_by.ensures) ∙ e) }
 
 pub tokens-preserved-in-Escape : goal.tokens-preserved-in-Escape
 tokens-preserved-in-Escape g c = record {
@@ -44,7 +47,7 @@ returns-then-steps-limit g c =
     let it = item_of c.args.text.now t (found_step c.args.text.now c.tokens.found t c.tokens.invariant.placed c.in-Token.is c.in_default.not-Escape) in
     let w = halts _ _ _ _ c.args.limit _ _ _ _ _ _ _ t after h c.token_at-found-in-tokens.ensures.read it.0 it.1 c.if-steps-limit.true in
     let v = told c.ended_by-then-steps-limit.result c.ended_by-then-steps-limit.ensures w in
-    record { run = (v.typed, v.runs, v.shows); again = v.again; follows = v.follows }
+    record { run = (v.typed, v.runs, v.shows); again = v.again; follows = v.follows; no_memory = λ q e. finished_not_memory (Some Lim) refl (sym (ap (λ (o : Outcome). o.code) c.ended_by-then-steps-limit.ensures) ∙ e) }
 
 pub step_token-next-requires : goal.step_token-next-requires
 step_token-next-requires g c = found_step c.args.text.now c.tokens.found c.in-Token.token c.tokens.invariant.placed c.in-Token.is c.in_default.not-Escape
@@ -62,7 +65,7 @@ returns-in-Some g c =
     c.step_token-next.ensures.steps c.in-Some.ensures.0 c.in-Some.ensures.1 (omega (arith, c.tokens.invariant.within, c.if-steps-limit.false))
     (λ u f. follows_unfinished (g.D.Desk.follows c.step_token-next.new.desk) n u _ (ap is_unfinished c.in-Some.ensures.0 ∙ c.in-Some.ensures.1) (c.step_token-next.ensures.follows u f)) in
     let v = told c.ended_by-in-Some.result c.ended_by-in-Some.ensures w in
-    record { run = (v.typed, v.runs, v.shows); again = v.again; follows = v.follows }
+    record { run = (v.typed, v.runs, v.shows); again = v.again; follows = v.follows; no_memory = λ q e. unfinished_not_memory n c.in-Some.code c.in-Some.ensures.0 (c.step_token-next.ensures.no_memory (item_takes_nothing c.args.text.now c.tokens.found t it.0 after c.tokens.invariant.quiet c.in-Token.is it.1 c.token_at-found-in-tokens.ensures.read q)) (sym (ap (λ (o : Outcome). o.code) c.ended_by-in-Some.ensures) ∙ e) }
 
 pub tokens-preserved : goal.tokens-preserved
 tokens-preserved g c =
@@ -96,7 +99,7 @@ returns-in-Leave g c =
     (g.D.Desk.follows c.step_token-next.new.desk) (g.D.Desk.follows c.step_done.new.self) c.step_token-next.ensures.steps c.in_default-unfinished.ensures c.step_done.ensures.state
     c.step_token-next.ensures.follows c.step_done.ensures.follows in
     let w = leaves _ _ _ _ c.args.limit _ _ _ _ _ _ _ _ (setting_of t.modifiers (nodes_of c.args.text.now after)) _ (end_of name n) going (ap (end_of name) c.in-Leave.is) (omega (arith, c.tokens.invariant.within, c.if-steps-limit.false)) in
-    record { run = (w.typed, w.runs, w.shows); again = w.again; follows = w.follows }
+    record { run = (w.typed, w.runs, w.shows); again = w.again; follows = w.follows; no_memory = λ q e. finished_not_memory None tt e }
 
 pub returns-in-Out : goal.returns-in-Out
 returns-in-Out g c =
@@ -111,7 +114,7 @@ returns-in-Out g c =
     (g.D.Desk.follows c.step_token-next.new.desk) (g.D.Desk.follows c.step_done.new.self) c.step_token-next.ensures.steps c.in_default-unfinished.ensures c.step_done.ensures.state
     c.step_token-next.ensures.follows c.step_done.ensures.follows in
     let w = exits _ _ _ _ c.args.limit _ _ _ _ _ _ _ _ (setting_of t.modifiers (nodes_of c.args.text.now after)) _ (end_of name n) going (ap (end_of name) c.in-Out.is) (omega (arith, c.tokens.invariant.within, c.if-steps-limit.false)) in
-    record { run = (w.typed, w.runs, w.shows); again = w.again; follows = w.follows }
+    record { run = (w.typed, w.runs, w.shows); again = w.again; follows = w.follows; no_memory = λ q e. finished_not_memory None tt e }
 
 pub returns-in-Error : goal.returns-in-Error
 returns-in-Error g c =
@@ -127,7 +130,7 @@ returns-in-Error g c =
     c.step_token-next.ensures.follows c.step_done.ensures.follows in
     let w = stops _ _ _ _ c.args.limit _ _ _ _ _ _ _ _ (setting_of t.modifiers (nodes_of c.args.text.now after)) _ (end_of name n) going c.in-Error.code (ap (end_of name) c.in-Error.is) (sym (ap is_unfinished c.in-Error.is) ∙ c.in_default-unfinished.ensures) (omega (arith, c.tokens.invariant.within, c.if-steps-limit.false)) in
     let v = told c.ended_by-in-Error.result c.ended_by-in-Error.ensures w in
-    record { run = (v.typed, v.runs, v.shows); again = v.again; follows = v.follows }
+    record { run = (v.typed, v.runs, v.shows); again = v.again; follows = v.follows; no_memory = λ q e. finished_not_memory (Some c.in-Error.code) (sym (ap is_unfinished c.in-Error.is) ∙ c.in_default-unfinished.ensures) (sym (ap (λ (o : Outcome). o.code) c.ended_by-in-Error.ensures) ∙ e) }
 
 pub unreachable-requires : goal.unreachable-requires
 unreachable-requires g c =
