@@ -43,7 +43,8 @@ fn with_digit(value: i32, digit: u8) -> Result<i32, Code>
     ensures { result ≡ fitted ((value *ℤ pos 10) +ℤ pos (digit - 48)) }
 {
     let tens = value.checked_mul(10).ok_or(Code::Ovf)?;
-    tens.checked_add(i32::from(digit.saturating_sub(b'0'))).ok_or(Code::Ovf)
+    tens.checked_add(i32::from(digit.saturating_sub(b'0')))
+        .ok_or(Code::Ovf)
 }
 
 /// The value of a run of decimal digits: [`Code::Ovf`] where it is above 2147483647. Takes no memory.

@@ -55,7 +55,7 @@ module _ (whole rest : Nodes) (m : Modifiers) (i : Item) (w : World) (depth n : 
   -- a step, by its end
   stepped : (e : End) → (first_effect m i rest w inside).end ≡ e
       → meaning.list whole (item m i rest) w depth inside
-        ≡ (let r : Ran = carries meaning i (first_setting m inside (leave_comes rest)) depth (stepped_world m i rest w inside n) e in then_rest meaning whole rest depth inside r.0 r.1)
+      ≡ (let r : Ran = carries meaning i (first_setting m inside (leave_comes rest)) depth (stepped_world m i rest w inside n) e in then_rest meaning whole rest depth inside r.0 r.1)
   unfolding list_by
   stepped e is =
       list_is whole (item m i rest) w depth inside ∙ paid w n _ fuel
@@ -66,7 +66,7 @@ module _ (whole rest : Nodes) (m : Modifiers) (i : Item) (w : World) (depth n : 
 
   called : (text : List ℕ) (b : Bool) → (first_effect m i rest w inside).end ≡ call text → (depth == 32) ≡ b
       → meaning.list whole (item m i rest) w depth inside
-        ≡ (let u : World = stepped_world m i rest w inside n in let r : Ran = if b then (u, stop Pdo) else (let q : Ran = meaning.list (tree text) (tree text) u (depth + 1) false in returned q.0 q.1) in then_rest meaning whole rest depth inside r.0 r.1)
+      ≡ (let u : World = stepped_world m i rest w inside n in let r : Ran = if b then (u, stop Pdo) else (let q : Ran = meaning.list (tree text) (tree text) u (depth + 1) false in returned q.0 q.1) in then_rest meaning whole rest depth inside r.0 r.1)
   called text b is deep =
       let u : World = stepped_world m i rest w inside n in
       stepped (call text) is ∙ ap (λ x. let r : Ran = if x then (u, stop Pdo) else (let q : Ran = meaning.list (tree text) (tree text) u (depth + 1) false in returned q.0 q.1) in then_rest meaning whole rest depth inside r.0 r.1) deep

@@ -23,5 +23,4 @@ pub fn meaning_laws()
     ensures within_limit { StepsWithinLimit }
     ensures more_limit { MoreLimitChangesNothing }
     ensures enough { EnoughIsEnough }
-{
-}
+{}
