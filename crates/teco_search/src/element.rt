@@ -64,30 +64,35 @@ pub enum Element {
     Blanks,
 }
 
+#[inline]
 fn is_lower(byte: u8) -> bool
     ensures { result ≡ is_lower byte }
 {
     b'a' <= byte && byte <= b'z'
 }
 
+#[inline]
 fn is_upper(byte: u8) -> bool
     ensures { result ≡ is_upper byte }
 {
     b'A' <= byte && byte <= b'Z'
 }
 
+#[inline]
 fn is_letter(byte: u8) -> bool
     ensures { result ≡ is_letter byte }
 {
     is_lower(byte) || is_upper(byte)
 }
 
+#[inline]
 fn is_digit(byte: u8) -> bool
     ensures { result ≡ is_digit byte }
 {
     b'0' <= byte && byte <= b'9'
 }
 
+#[inline]
 fn is_line_end(byte: u8) -> bool
     ensures { result ≡ is_line_end byte }
 {
@@ -95,6 +100,7 @@ fn is_line_end(byte: u8) -> bool
 }
 
 /// Whether a byte is a space or a tab.
+#[inline]
 pub(crate) fn is_blank(byte: u8) -> bool
     ensures { result ≡ is_blank byte }
 {
@@ -102,6 +108,7 @@ pub(crate) fn is_blank(byte: u8) -> bool
 }
 
 /// The byte, a small letter as its capital.
+#[inline]
 pub(crate) fn upper(byte: u8) -> u8
     ensures { result ≡ upper byte }
 {
@@ -121,6 +128,7 @@ pub(crate) fn is_exact(mode: CaseMode, byte: u8) -> bool
 impl Class {
     /// Whether a byte is of this kind.
     #[tactic(auto, unfolding(crate::specs::Element::is_in))]
+    #[inline]
     pub(crate) fn contains(self, byte: u8) -> bool
         ensures { result ≡ is_in self byte }
     {
@@ -140,6 +148,7 @@ impl Class {
 impl Item {
     /// Whether a byte may stand here. With either case a letter admits both its cases.
     #[tactic(auto, unfolding(crate::specs::Element::item_admits))]
+    #[inline]
     pub(crate) fn admits(self, mode: CaseMode, byte: u8) -> bool
         ensures { result ≡ item_admits mode self byte }
     {
@@ -172,6 +181,7 @@ impl Items {
 impl OneByte {
     /// Whether a byte may stand here.
     #[tactic(auto, unfolding(crate::specs::Element::admits))]
+    #[inline]
     pub(crate) fn admits(&self, mode: CaseMode, byte: u8) -> bool
         ensures { result ≡ admits mode self.now byte }
     {
@@ -184,6 +194,7 @@ impl OneByte {
 
 impl Element {
     /// Whether it is a run of spaces and tabs.
+    #[inline]
     pub(crate) fn is_run(&self) -> bool
         ensures { IsTrue result ↔ (self.now ≡ Element.Blanks) }
     {

@@ -25,6 +25,7 @@ impl<'t> Joined<'t> {
     }
 
     /// How many bytes the text has.
+    #[inline]
     pub(crate) fn len(&self) -> usize
         ensures { result ≡ length self.now }
     {
@@ -32,6 +33,7 @@ impl<'t> Joined<'t> {
     }
 
     /// The byte at a place, if the text reaches it.
+    #[inline]
     pub(crate) fn get(&self, at: usize) -> Option<u8>
         ensures value { result ≡ slice_get self.now at }
         ensures within { IfSome result (λ _. (at < length self.now) × (at + 1 < 2 ^ 64)) }

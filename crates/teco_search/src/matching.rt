@@ -22,6 +22,7 @@ fn blanks_end(text: &Joined, at: usize) -> usize
 
 /// The end of an element's match at a place.
 #[tactic(auto, unfolding(crate::specs::Occurrence::element_end))]
+#[inline]
 pub(crate) fn element_end(
     mode: CaseMode,
     element: &Element,

@@ -109,6 +109,7 @@ fn run_end(
 }
 
 /// The end of the elements' match at a place, with what is remembered of the last run.
+#[inline]
 pub(crate) fn match_end_by(
     mode: CaseMode,
     elements: &[Element],
