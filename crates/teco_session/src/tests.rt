@@ -82,3 +82,40 @@ fn plays_in_order(rt: HostRuntime) {
         );
     }
 }
+
+/// The code of the last answer, and whether the text is this one, after strings that each insert a letter, undos and redos.
+fn after_letters(alloc: Global, letters: &str, text: &str) -> (Option<Code>, bool) {
+    let mut session = Session::new(Vec::new(alloc));
+    let mut term = MemoryTerminal::new(alloc);
+    let mut code = None;
+    for letter in letters.bytes() {
+        let answer = match letter {
+            b'{' => session.answer(&Request::Undo, 100, &mut term),
+            b'}' => session.answer(&Request::Redo, 100, &mut term),
+            _ => session.run(&[b'I', letter, 27], 100, &mut term),
+        };
+        code = answer.code();
+    }
+    let (before, after) = session.editor().halves();
+    let same = before.iter().chain(after.iter()).eq(text.as_bytes().iter());
+    (code, same)
+}
+
+// Where memory was refused once, the letters go through the second time.
+#[test]
+fn letters_come_back(rt: HostRuntime) {
+    for (letters, code, text) in [
+        ("ab", None, "ab"),
+        ("ab{", None, "a"),
+        ("ab{{{", Some(Code::Ntu), ""),
+        ("ab{{}", None, "a"),
+        ("a{}}", Some(Code::Ntr), "a"),
+        ("a{b}", Some(Code::Ntr), "b"),
+        ("abc{{d{}}", Some(Code::Ntr), "ad"),
+    ] {
+        let wanted = (code, true);
+        let held = after_letters(rt.alloc(), letters, text) == wanted
+            || after_letters(rt.alloc(), letters, text) == wanted;
+        assert!(rt; held, "after {letters}");
+    }
+}

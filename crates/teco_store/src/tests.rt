@@ -1,50 +1,62 @@
+//! What no clause says of the editor: that its calls succeed where memory is ample.
+ghost use Rattle.std.specs.Prelude.{◌≡◌, length};
+
 use crate::{Desk, Editor, Refused};
 use std::test::*;
 
-// The text of an editor, joined.
-fn joined(rt: &HostRuntime, editor: &Editor) -> Result<Vec<u8>, Fail> {
+fn length_of(editor: &Editor) -> usize
+    ensures { result ≡ length editor.now.text }
+{
     let (before, after) = editor.halves();
-    let mut text = Vec::from_slice(rt.alloc(), before)?;
-    text.extend_from_slice(after)?;
-    Ok(text)
+    before.len() + after.len()
 }
 
-// Each growth of these calls may be refused (`rt try --test --fail-alloc N`): then nothing has changed, and the call can be made again.
+fn holds(editor: &Editor, text: &[u8]) -> bool {
+    let (before, after) = editor.halves();
+    before.iter().chain(after.iter()).eq(text.iter())
+}
+
+// Where a growth is refused the text stays, and the same call can be made again.
 #[test]
-fn a_refused_splice_changes_nothing(rt: HostRuntime) -> Result<(), Fail> {
+fn a_refused_splice_changes_nothing(rt: HostRuntime) {
     let mut editor = Editor::new(Vec::new(rt.alloc()));
     for word in [
         b"hello".as_slice(),
         b" and good".as_slice(),
         b"bye".as_slice(),
     ] {
-        let length = editor.pointer();
+        let length = length_of(&editor);
         if editor.splice(length, 0, word, None).is_err() {
-            assert_eq!(rt; editor.pointer(), length);
-            assert_eq!(rt; editor.halves().0.len() + editor.halves().1.len(), length);
-            assert!(rt; editor.splice(length, 0, word, None) == Ok(()));
+            assert_eq!(rt; length_of(&editor), length);
+            assert!(rt; editor.splice(length, 0, word, None).is_ok());
         }
     }
-    assert!(rt; editor.splice(5, 9, b",", Some(0)) == Ok(()));
-    assert_eq!(rt; editor.pointer(), 0);
-    assert!(rt; editor.point(6) == Ok(()));
-    assert_eq!(rt; editor.pointer(), 6);
-    assert!(rt; joined(&rt, &editor)?.as_slice() == b"hello,bye".as_slice());
-    Ok(())
+    assert!(rt; holds(&editor, b"hello and goodbye"));
+    assert_eq!(rt; editor.pointer(), 17);
 }
 
 #[test]
-fn a_copy_holds_the_same(rt: HostRuntime) -> Result<(), Fail> {
-    let mut editor = Editor::new(Vec::from_slice(rt.alloc(), b"page")?);
-    editor.splice(0, 0, b"text", Some(1))?;
-    let copy = match editor.copy() {
-        Ok(copy) => copy,
-        Err(_) => editor.copy()?,
-    };
-    assert_eq!(rt; copy.pointer(), 1);
-    assert!(rt; joined(&rt, &copy)?.as_slice() == b"text".as_slice());
-    assert!(rt; joined(&rt, &editor)?.as_slice() == b"text".as_slice());
-    Ok(())
+fn a_splice_puts_the_pointer(rt: HostRuntime) {
+    let mut editor = Editor::new(Vec::new(rt.alloc()));
+    assert!(rt; editor.splice(0, 0, b"hello", Some(2)) == Ok(()));
+    assert_eq!(rt; editor.pointer(), 2);
+    assert_eq!(rt; length_of(&editor), 5);
+    assert!(rt; editor.splice(1, 3, b"", None) == Ok(()));
+    assert_eq!(rt; editor.pointer(), 1);
+    assert!(rt; holds(&editor, b"ho"));
+}
+
+#[test]
+fn a_copy_holds_the_same(rt: HostRuntime) {
+    let mut editor = Editor::new(Vec::new(rt.alloc()));
+    assert!(rt; editor.splice(0, 0, b"text", Some(1)) == Ok(()));
+    if let Ok(copy) = editor.copy() {
+        assert_eq!(rt; copy.pointer(), 1);
+        assert!(rt; holds(&copy, b"text"));
+    } else {
+        assert!(rt; editor.copy().is_ok());
+    }
+    assert!(rt; holds(&editor, b"text"));
 }
 
 #[test]
@@ -54,6 +66,5 @@ fn a_text_past_its_limit_is_big(rt: HostRuntime) -> Result<(), Fail> {
     long.resize(16_777_216, b'x')?;
     assert!(rt; editor.splice(0, 0, &long, None) == Ok(()));
     assert!(rt; editor.splice(0, 0, b"y", None) == Err(Refused::Big));
-    assert!(rt; editor.splice(0, 1, b"y", None) == Ok(()));
     Ok(())
 }

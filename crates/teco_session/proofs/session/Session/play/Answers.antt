@@ -1,7 +1,7 @@
-use Rattle.std.proofs.Common.{rules, ◌≡◌, ℕ, ◌+◌, List, [], ◌<◌, ◌++◌, ◌∷◌, take, length, arith, sym, ap, ◌∙◌, subst}
+use Rattle.std.proofs.Common.{◌≡◌, ◌+◌, [], ◌++◌, ◌∷◌, take, sym, ap, ◌∙◌, subst}
 use Rattle.std.proofs.lemmas.List.{take_more}
 use Rattle.teco_session.specs.Step.{Reply}
-use Rattle.teco_session.specs.Play.{Play, answers_of}
+use Rattle.teco_session.specs.Play.{Play}
 use Rattle.teco_session.proofs.Histories.{Play-more, answers_of-more, ShowsAll-more}
 use Rattle.teco_session.proofs.session.Session.play.Goals as goal
 

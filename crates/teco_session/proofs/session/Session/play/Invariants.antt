@@ -1,4 +1,4 @@
-use Rattle.std.proofs.Common.{◌≡◌, ◌≤◌, ◌+◌, ◌-◌, List, take, drop, length, vec_len}
+use Rattle.std.proofs.Common.{◌≡◌, List, take, length, vec_len}
 use Rattle.std.specs.Vec.{vec_capacity}
 use Rattle.teco_session.specs.Step.{Reply}
 use Rattle.teco_session.specs.Play.{Play, ShowsAll, answers_of}

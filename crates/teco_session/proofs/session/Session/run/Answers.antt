@@ -1,4 +1,4 @@
-use Rattle.std.proofs.Common.{◌≡◌, ℕ, List, [], ◌≤◌, ◌++◌, ◌∷◌, take, length, arith, sym, ap, ◌∙◌, subst, false}
+use Rattle.std.proofs.Common.{◌≡◌, [], ◌≤◌, ◌++◌, ◌∷◌, take, length, arith, sym, ap, ◌∙◌, subst, false}
 use Rattle.std.proofs.lemmas.List.{length-map}
 use Rattle.teco_exec.specs.StringMeaning.{string_meaning}
 use Rattle.teco_exec.specs.Runs.{Runs}
