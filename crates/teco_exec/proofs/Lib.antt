@@ -11,3 +11,4 @@ pub mod Tokens
 pub mod Quiet
 pub mod Texts
 pub mod RowsStraight
+pub mod RowsBlocks

@@ -16,7 +16,7 @@ use Rattle.teco_step.specs.declared.next.Next.{Next}
 use Rattle.teco_step.specs.declared.next.Next.TheVariants as next
 use Rattle.teco_step.specs.Stepping.{takes_nothing, takes_nothing_in}
 use Rattle.teco_exec.specs.Quiet.{takes_no_memory}
-use Rattle.teco_exec.proofs.Found.{nodes_of, nodes_whole, nodes_item, nodes_escape}
+use Rattle.teco_exec.proofs.Found.{and_left, and_right, nodes_of, nodes_whole, nodes_item, nodes_escape}
 use Rattle.teco_exec.proofs.Going.{IsFinished}
 
 -- where the whole text takes no memory, what is left of it takes none
@@ -25,14 +25,6 @@ IsQuiet text f = takes_no_memory (tree text) ≡ true → takes_no_memory (nodes
 
 pub quiet_begins : (text : List ℕ) (f : Found) → found_in text f ≡ scan text → IsQuiet text f
 quiet_begins text f e h = ap takes_no_memory (sym (nodes_whole text f e)) ∙ h
-
-both_left : (a b : Bool) → (a && b) ≡ true → a ≡ true
-both_left true b e = refl
-both_left false b e = cc
-
-both_right : (a b : Bool) → (a && b) ≡ true → b ≡ true
-both_right true b e = e
-both_right false b e = cc
 
 quiet_token : (text : List ℕ) (f : Found) (t : Token) → IsQuiet text f → f ≡ places.Token t → IsQuiet text (places.Token t)
 quiet_token text f t h e q = ap (λ x. takes_no_memory (nodes_of text x)) (sym e) ∙ h q
@@ -45,10 +37,10 @@ module _ (text : List ℕ) (f : Found) (t : Token) (i : SpannedItem) (after : Fo
   quiet_both q = ap takes_no_memory (sym (nodes_item text t i after kind here)) ∙ quiet_token text f t h e q
 
   pub quiet_item : IsQuiet text after
-  quiet_item q = both_right (takes_nothing (item_in text i)) (takes_no_memory (nodes_of text after)) (quiet_both q)
+  quiet_item q = and_right (takes_nothing (item_in text i)) (takes_no_memory (nodes_of text after)) (quiet_both q)
 
   pub item_takes_nothing : takes_no_memory (tree text) ≡ true → takes_nothing_in text t ≡ true
-  item_takes_nothing q = ap (λ k. takes_nothing_in text (record t { kind = k })) kind ∙ both_left (takes_nothing (item_in text i)) (takes_no_memory (nodes_of text after)) (quiet_both q)
+  item_takes_nothing q = ap (λ k. takes_nothing_in text (record t { kind = k })) kind ∙ and_left (takes_nothing (item_in text i)) (takes_no_memory (nodes_of text after)) (quiet_both q)
 
 -- a string that was finished didn't want memory
 pub finished_not_memory : (code : Option Code) → IsFinished code → code ≡ Some Mem → ⊥

@@ -4,6 +4,8 @@
 mod laws;
 mod outcome;
 mod running;
+#[cfg(test)]
+mod tests;
 
 pub use laws::meaning_laws;
 pub use outcome::Outcome;
