@@ -9,11 +9,11 @@ use Rattle.teco_core.specs.Arguments.{taken_from}
 use Rattle.teco_scan.specs.declared.command.Test.{Test}
 use Rattle.teco_scan.specs.Scan.{Item}
 use Rattle.teco_scan.specs.Tree.{Nodes, done, item, escape, iter, cond, tag, faulty, tree, after_tag}
-use Rattle.teco_step.specs.declared.next.Work.{Work}
-use Rattle.teco_step.specs.Step.{Step, Setting, End, on, leave, go, call, out, again, stop, takes_one}
+use Rattle.teco_step.specs.declared.next.Setting.{Setting}
+use Rattle.teco_step.specs.Step.{Step, End, on, leave, go, call, out, again, stop, takes_one}
 use Rattle.teco_step.specs.Effect.{effect}
 use Rattle.teco_exec.specs.Test.{holds}
-use Rattle.teco_exec.specs.World.{World, Ran, cleared, after, pay_from, pay}
+use Rattle.teco_exec.specs.World.{World, Ran, cleared, after, pay_from}
 use Rattle.teco_exec.specs.Meaning.{Meaning, lands, then_rest, returned, calls, carries, steps, turns_of, iterates, part_end, part, chooses, leave_comes, first_setting, list_by, turn_end, turn, turns_by, further_by, layer, layers, meaning}
 
 -- no part of a meaning raises the fuel
@@ -41,11 +41,6 @@ if_fuel false x y k p q = q
 pub pay_fuel : (n : ℕ) (w : World) (act : World → Ran) → n ≡ w.fuel → ((v : World) → (act v).0.fuel ≤ v.fuel) → (pay_from n w act).0.fuel ≤ w.fuel
 pay_fuel zero w act e h = le_same w.fuel
 pay_fuel (suc n) w act e h = omega (arith, h (record w { fuel = n }))
-
--- where there is fuel, one is paid
-pub pay_costs : (n k : ℕ) (w : World) (act : World → Ran) → n ≡ w.fuel → w.fuel ≡ suc k → ((v : World) → (act v).0.fuel ≤ v.fuel) → (pay_from n w act).0.fuel ≤ k
-pay_costs zero k w act e z h = absurd (omega arith)
-pay_costs (suc n) k w act e z h = omega (arith, h (record w { fuel = n }))
 
 pub returned_fuel : (w : World) (e : End) → (returned w e).0.fuel ≤ w.fuel
 returned_fuel w (go name) = le_same w.fuel

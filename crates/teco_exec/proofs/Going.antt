@@ -1,72 +1,17 @@
 -- A run of a string that has come so far, and how it ends.
-use Rattle.std.proofs.Common.{◌≡◌, ◌≢◌, ℕ, zero, suc, ◌+◌, ◌-◌, ◌<◌, ◌≤◌, List, [], ◌∷◌, ◌++◌, length, Option, Some, None, Bool, true, false, refl, sym, ap, subst, ◌∙◌, inl, inr, arith, append_assoc, append-nil, length-append}
+use Rattle.std.proofs.Common.{◌≡◌, ◌≢◌, ℕ, suc, ◌+◌, ◌-◌, ◌<◌, ◌≤◌, List, [], ◌∷◌, ◌++◌, length, Option, Some, None, true, false, refl, sym, ap, subst, ◌∙◌, arith, append_assoc, append-nil, length-append}
 use Rattle.teco_core.specs.declared.code.Code.{Code}
 use Rattle.teco_core.specs.declared.code.Code.TheVariants.{Mem, Tty}
-use Rattle.teco_core.specs.Arguments.{Arguments}
 use Rattle.teco_store.specs.State.{State}
 use Rattle.teco_store.specs.Trail.{Trail, moved, stepped}
 use Rattle.teco_step.specs.Stepping.{is_unfinished_code}
 use Rattle.teco_step.specs.Terminal.{Shows, IsFrontOf}
 use Rattle.teco_step.proofs.Shown.{Shows-trans}
-use Rattle.teco_exec.specs.World.{World, Ran}
+use Rattle.teco_exec.specs.World.{Ran}
 use Rattle.teco_exec.specs.StringMeaning.{code_of, run_of, string_meaning}
-use Rattle.teco_exec.specs.Runs.{Runs, EndsWell, EndsByMemory, EndsByTerminal, is_tty, trail_of}
-use Rattle.teco_exec.specs.declared.outcome.Outcome.{Outcome}
-use Rattle.teco_exec.proofs.Idle.{Stays}
-
--- what is left of a run, of the bytes typed so far, the load so far and the fuel that is left
-abbrev pub Rest : Type 0
-Rest = List ℕ → ℕ → ℕ → Ran
-
-abbrev pub world : State → Arguments → List ℕ → ℕ → ℕ → World
-world s a typed load fuel = record { state = s; arguments = a; typed = typed; load = load; fuel = fuel }
-
--- without fuel this state stays
-pub record Rests (s : State) (rest : Rest) : Type 0 where
-  pub stays : (typed : List ℕ) (load : ℕ) → Stays s typed load (rest typed load 0).0
-
--- with fuel one is paid
-pub record Costs (rest : Rest) : Type 0 where
-  pub costs : (typed : List ℕ) (load fuel : ℕ) → (rest typed load (suc fuel)).0.fuel ≤ fuel
-
--- a step that types these bytes and has this load leads to another rest
-pub record Leads (rest further : Rest) (bytes : List ℕ) (n : ℕ) : Type 0 where
-  pub leads : (typed : List ℕ) (load fuel : ℕ) → rest typed load (suc fuel) ≡ further (typed ++ bytes) (load + n) fuel
-
--- what uses no step
-pub record Settles (rest further : Rest) : Type 0 where
-  pub settles : (typed : List ℕ) (load fuel : ℕ) → rest typed load fuel ≡ further typed load fuel
-
-pub record EndsWith (s : State) (bytes : List ℕ) (fuel : ℕ) (code : Option Code) (r : Ran) : Type 0 where
-  pub state_is : r.0.state ≡ s
-  pub typed_is : r.0.typed ≡ bytes
-  pub fuel_is : r.0.fuel ≡ fuel
-  pub code_is : code_of r.1 ≡ code
-
--- with this much fuel the run ends here
-pub record Ends (s : State) (fuel : ℕ) (code : Option Code) (rest : Rest) : Type 0 where
-  pub ends : (typed : List ℕ) (load : ℕ) → EndsWith s typed fuel code (rest typed load fuel)
-
--- what a desk has come through at the end of a step
-abbrev pub trail : (ℕ → Ran) → ℕ → ℕ → ℕ → Trail
-trail runs floor steps load = record { states = λ i. (runs i).0.state; loads = λ i. (runs i).0.load; steps = steps; load = load; changes = 0; floor = floor }
-
--- After these steps the run is in this state, and does what is left, whatever its limit. P says what the desk followed at first, and F what it follows now.
-pub record Going {T : Type 0} (shown : T → Option (List ℕ)) (failures : T → ℕ) (runs : ℕ → Ran) (first now : T) (s : State) (P : ℕ → Type 0) (F : Trail → Type 0) (steps : ℕ) (rest : Rest) : Type 0 where
-  pub typed : List ℕ
-  pub load : ℕ
-  pub shows : Shows shown failures first now typed false
-  pub means : (fuel : ℕ) → runs (steps + fuel) ≡ rest typed load fuel
-  pub rests : Rests s rest
-  pub follows : (floor : ℕ) → P floor → F (trail runs floor steps load)
-
--- the string has ended by this outcome
-pub record Ended {T : Type 0} (shown : T → Option (List ℕ)) (failures : T → ℕ) (old : State) (text : List ℕ) (limit : ℕ) (first now : T) (new : State) (P : ℕ → Type 0) (F : Trail → Type 0) (outcome : Outcome) : Type 0 where
-  pub typed : List ℕ
-  pub runs : Runs old text limit outcome typed new
-  pub shows : Shows shown failures first now typed (is_tty outcome)
-  pub again : new ≡ (string_meaning old text outcome.steps).state
-  pub follows : (floor : ℕ) → P floor → F (trail_of old text floor outcome.steps)
+use Rattle.teco_exec.specs.Runs.{Runs, EndsWell, is_tty}
+use Rattle.teco_exec.specs.Rest.{Rest, Stays, Rests, Costs, Leads, Settles, Ends}
+use Rattle.teco_exec.specs.Running.{trail, Going, Ended}
 
 -- neither want of memory nor a failed terminal
 abbrev pub IsFinished : Option Code → Type 0
@@ -195,8 +140,3 @@ module _ {T : Type 0} (shown : T → Option (List ℕ)) (failures : T → ℕ) (
         again = same ∙ sym w.state_is;
         follows = λ floor p. keeps _ (follows_now shown failures (run_of old text) first now s P F steps rest h floor p);
       }
-
--- the outcome may be said otherwise
-pub told : {T : Type 0} {shown : T → Option (List ℕ)} {failures : T → ℕ} {old : State} {text : List ℕ} {limit : ℕ} {first now : T} {new : State} {P : ℕ → Type 0} {F : Trail → Type 0} {outcome : Outcome} (o : Outcome) → o ≡ outcome
-    → Ended shown failures old text limit first now new P F outcome → Ended shown failures old text limit first now new P F o
-told {shown} {failures} {old} {text} {limit} {first} {now} {new} {P} {F} o e w = subst (Ended shown failures old text limit first now new P F) (sym e) w

@@ -1,21 +1,15 @@
 -- Where fuel is out, only the arguments may still change.
-use Rattle.std.proofs.Common.{◌≡◌, ℕ, zero, suc, ◌+◌, List, Option, Some, None, Bool, true, false, refl, sym, ap, ◌∙◌, subst, arith}
+use Rattle.std.proofs.Common.{◌≡◌, ℕ, zero, suc, ◌+◌, List, Option, Some, None, Bool, true, false, refl, sym, ◌∙◌, subst, arith}
 use Rattle.std.specs.Prelude.{◌==◌, if◌then◌else◌}
-use Rattle.teco_core.specs.declared.code.Code.TheVariants.{Pdo}
 use Rattle.teco_scan.specs.Scan.{Item}
 use Rattle.teco_scan.specs.Tree.{Nodes, done, item, escape, iter, cond, tag, faulty, tree, after_tag}
 use Rattle.teco_store.specs.State.{State}
-use Rattle.teco_step.specs.Step.{Setting, End, on, leave, go, call, out, again, stop}
+use Rattle.teco_step.specs.declared.next.Setting.{Setting}
+use Rattle.teco_step.specs.Step.{End, on, leave, go, call, out, again, stop}
 use Rattle.teco_exec.specs.World.{World, Ran, cleared, pay_from}
+use Rattle.teco_exec.specs.Rest.{Stays}
 use Rattle.teco_exec.specs.Meaning.{lands, then_rest, returned, calls, carries, list_by, further_by, meaning}
 use Rattle.teco_exec.proofs.Fuel.{list_is, further_is}
-
--- this state, these bytes typed and this load; and no fuel
-pub record Stays (s : State) (typed : List ℕ) (load : ℕ) (w : World) : Type 0 where
-  pub state_is : w.state ≡ s
-  pub typed_is : w.typed ≡ typed
-  pub load_is : w.load ≡ load
-  pub fuel_is : w.fuel ≡ 0
 
 pub stays_here : (w : World) → w.fuel ≡ 0 → Stays w.state w.typed w.load w
 stays_here w z = record { state_is = refl; typed_is = refl; load_is = refl; fuel_is = z }
@@ -53,7 +47,7 @@ then_rest_stays whole rest depth inside w out z = stays_here w z
 then_rest_stays whole rest depth inside w (again work) z = stays_here w z
 then_rest_stays whole rest depth inside w (stop c) z = stays_here w z
 
-returned_stays : (w : World) (e : End) → w.fuel ≡ 0 → Stays w.state w.typed w.load (returned w e).0
+pub returned_stays : (w : World) (e : End) → w.fuel ≡ 0 → Stays w.state w.typed w.load (returned w e).0
 returned_stays w on z = stays_here w z
 returned_stays w leave z = stays_here w z
 returned_stays w (go name) z = stays_here w z
@@ -66,7 +60,7 @@ if_stays : (b : Bool) (w : World) (x y : Ran) → Stays w.state w.typed w.load x
 if_stays true w x y p q = p
 if_stays false w x y p q = q
 
-calls_stays : (text : List ℕ) (w : World) (depth : ℕ) → w.fuel ≡ 0 → Stays w.state w.typed w.load (calls meaning text w depth).0
+pub calls_stays : (text : List ℕ) (w : World) (depth : ℕ) → w.fuel ≡ 0 → Stays w.state w.typed w.load (calls meaning text w depth).0
 calls_stays text w depth z =
     let r : Ran = meaning.list (tree text) (tree text) w (depth + 1) false in
     let s = list_stays (tree text) (tree text) w (depth + 1) false z in

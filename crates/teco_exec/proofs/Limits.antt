@@ -1,5 +1,5 @@
 -- More fuel: it changes nothing once a run has ended, but where the run ended because its fuel was out.
-use Rattle.std.proofs.Common.{◌≡◌, ◌≢◌, ℕ, zero, suc, ◌+◌, ◌-◌, ◌<◌, ◌≤◌, ◌⊎◌, inl, inr, List, Option, Some, None, Bool, true, false, Result, Ok, Err, refl, sym, ap, subst, ◌∙◌, arith}
+use Rattle.std.proofs.Common.{◌≡◌, ℕ, zero, suc, ◌+◌, ◌<◌, ◌≤◌, List, Option, Some, None, Bool, true, false, Result, Ok, Err, refl, sym, ap, subst, ◌∙◌, arith}
 use Rattle.std.specs.Prelude.{◌==◌, ℤ, if◌then◌else◌}
 use Rattle.teco_core.specs.declared.code.Code.{Code}
 use Rattle.teco_core.specs.declared.code.Code.TheVariants.{Naq, Pdo, Lim}
@@ -9,13 +9,13 @@ use Rattle.teco_core.specs.Arguments.{taken_from}
 use Rattle.teco_scan.specs.declared.command.Test.{Test}
 use Rattle.teco_scan.specs.Scan.{Item}
 use Rattle.teco_scan.specs.Tree.{Nodes, done, item, escape, iter, cond, tag, faulty, tree, after_tag}
-use Rattle.teco_step.specs.declared.next.Work.{Work}
-use Rattle.teco_step.specs.Step.{Step, Setting, End, on, leave, go, call, out, again, stop, takes_one}
+use Rattle.teco_step.specs.declared.next.Setting.{Setting}
+use Rattle.teco_step.specs.Step.{Step, End, on, leave, go, call, out, again, stop, takes_one}
 use Rattle.teco_step.specs.Effect.{effect}
 use Rattle.teco_exec.specs.Test.{holds}
 use Rattle.teco_exec.specs.World.{World, Ran, cleared, after, pay_from, pay}
-use Rattle.teco_exec.specs.Meaning.{Meaning, lands, then_rest, returned, calls, carries, steps, turns_of, iterates, part_end, part, chooses, leave_comes, first_setting, list_by, turn_end, turn, turns_by, further_by, meaning}
-use Rattle.teco_exec.proofs.Fuel.{meaning_falls, then_rest_fuel, carries_fuel, steps_fuel, iterates_fuel, chooses_fuel, turn_end_fuel, list_by_fuel, returned_fuel, part_end_fuel, list_is, turns_is, further_is, trans_le}
+use Rattle.teco_exec.specs.Meaning.{lands, then_rest, returned, calls, carries, steps, turns_of, iterates, part_end, chooses, leave_comes, first_setting, list_by, turn_end, turn, turns_by, further_by, meaning}
+use Rattle.teco_exec.proofs.Fuel.{meaning_falls, then_rest_fuel, steps_fuel, iterates_fuel, chooses_fuel, turn_end_fuel, list_by_fuel, returned_fuel, part_end_fuel, list_is, turns_is, further_is, trans_le}
 
 -- with j more of the fuel
 abbrev pub raised : ℕ → World → World

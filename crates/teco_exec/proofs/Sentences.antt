@@ -1,22 +1,16 @@
 -- The meaning's sentences, proved.
-use Rattle.std.proofs.Common.{◌≡◌, ◌≢◌, ℕ, zero, suc, ◌+◌, ◌<◌, ◌≤◌, List, Option, Some, None, Bool, true, false, Result, Ok, Err, refl, sym, ap, subst, ◌∙◌}
-use Rattle.std.specs.Prelude.{ℤ, ◌==◌, if◌then◌else◌}
+use Rattle.std.proofs.Common.{◌≡◌, ◌≢◌, ℕ, suc, ◌+◌, List, Option, Some, None, Bool, true, false, sym, ap, ◌∙◌}
+use Rattle.std.specs.Prelude.{◌==◌, if◌then◌else◌}
 use Rattle.std.proofs.lemmas.Bool.Decides.{nat_tests}
 use Rattle.std.proofs.Common.{arith}
-use Rattle.teco_core.specs.declared.code.Code.{Code}
-use Rattle.teco_core.specs.declared.code.Code.TheVariants.{Naq, Pdo}
-use Rattle.teco_core.specs.declared.arguments.Taken.{Taken}
-use Rattle.teco_core.specs.declared.arguments.Taken.TheVariants as taken
-use Rattle.teco_core.specs.Arguments.{taken_from}
+use Rattle.teco_core.specs.declared.code.Code.TheVariants.{Pdo}
 use Rattle.teco_scan.specs.declared.command.Modifiers.{Modifiers}
-use Rattle.teco_scan.specs.declared.command.Test.{Test}
 use Rattle.teco_scan.specs.Scan.{Item}
 use Rattle.teco_scan.specs.Tree.{Nodes, done, item, escape, iter, cond, tag, faulty, tree, after_tag}
-use Rattle.teco_step.specs.Step.{Step, Setting, End, on, leave, go, call, again, stop, takes_one}
+use Rattle.teco_step.specs.Step.{End, on, leave, go, call, stop}
 use Rattle.teco_step.specs.Effect.{effect}
-use Rattle.teco_exec.specs.Test.{holds}
 use Rattle.teco_exec.specs.World.{World, Ran, cleared, after, pay_from, pay}
-use Rattle.teco_exec.specs.Meaning.{lands, then_rest, returned, calls, carries, steps, turns_of, iterates, part_end, part, chooses, leave_comes, first_setting, list_by, turn_end, turn, turns_by, further_by, meaning}
+use Rattle.teco_exec.specs.Meaning.{lands, then_rest, returned, carries, iterates, part_end, chooses, leave_comes, first_setting, list_by, turn_end, turn, turns_by, further_by, meaning}
 use Rattle.teco_exec.specs.Laws.{with_fuel, first_effect, stepped_world, EmptyListEnds, FaultStops, TagIsPassed, EscapeDrops, NothingWithoutFuel, StepGoesOn, StepStops, JumpLands, JumpLeaves, CallReturns, CallTooDeep, FurtherStep, IterationCounts, IterationGoesOn, TurnEnds, LeavingEnds, ConditionalChooses}
 use Rattle.teco_exec.proofs.Fuel.{list_is, turns_is, further_is}
 

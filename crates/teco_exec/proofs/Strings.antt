@@ -1,15 +1,12 @@
 -- The meaning of a string under more and under less of a limit.
-use Rattle.std.proofs.Common.{◌≡◌, ◌≢◌, ℕ, zero, suc, ◌+◌, ◌-◌, ◌<◌, ◌≤◌, List, [], Option, Some, None, Bool, false, refl, sym, ap, subst, ◌∙◌, arith}
-use Rattle.teco_core.specs.declared.code.Code.{Code}
+use Rattle.std.proofs.Common.{◌≡◌, ◌≢◌, ℕ, ◌+◌, ◌-◌, ◌≤◌, List, Some, false, refl, sym, ap, subst, ◌∙◌, arith}
 use Rattle.teco_core.specs.declared.code.Code.TheVariants.{Lim}
 use Rattle.teco_scan.specs.Tree.{tree}
 use Rattle.teco_store.specs.State.{State}
-use Rattle.teco_step.specs.Step.{End, stop}
-use Rattle.teco_exec.specs.World.{World, Ran}
-use Rattle.teco_exec.specs.Meaning.{meaning}
+use Rattle.teco_exec.specs.World.{Ran}
 use Rattle.teco_exec.specs.StringMeaning.{Meant, code_of, start, run_of, meant, string_meaning}
 use Rattle.teco_exec.proofs.Fuel.{meaning_falls}
-use Rattle.teco_exec.proofs.Limits.{raised, raised_ran, Raises, same, spent, list_raises}
+use Rattle.teco_exec.proofs.Limits.{raised_ran, Raises, same, spent, list_raises}
 
 pub run_of_fuel : (s : State) (text : List ℕ) (n : ℕ) → (run_of s text n).0.fuel ≤ n
 unfolding run_of

@@ -1,5 +1,5 @@
 -- What the meaning says, sentence by sentence.
-use Rattle.std.specs.Prelude.{◌≡◌, ◌≢◌, ℕ, zero, suc, ◌+◌, ◌<◌, ◌≤◌, List, Option, Some, None, Bool, true, false, Result, Ok, Err, ℤ, if◌then◌else◌}
+use Rattle.std.specs.Prelude.{◌≡◌, ◌≢◌, ℕ, suc, ◌+◌, ◌≤◌, List, Some, None, Bool, true, false, Ok, ℤ, if◌then◌else◌}
 use Rattle.teco_core.specs.declared.code.Code.{Code}
 use Rattle.teco_core.specs.declared.code.Code.TheVariants as code
 use Rattle.teco_core.specs.declared.arguments.Taken.TheVariants as taken
@@ -8,12 +8,12 @@ use Rattle.teco_scan.specs.declared.command.Modifiers.{Modifiers}
 use Rattle.teco_scan.specs.declared.command.Test.{Test}
 use Rattle.teco_scan.specs.Scan.{Item}
 use Rattle.teco_scan.specs.Tree.{Nodes, done, item, escape, iter, cond, tag, faulty, tree, after_tag}
-use Rattle.teco_step.specs.declared.next.Work.{Work}
-use Rattle.teco_step.specs.Step.{Step, Setting, End, on, leave, go, call, again, stop, takes_one}
+use Rattle.teco_step.specs.declared.next.Setting.{Setting}
+use Rattle.teco_step.specs.Step.{Step, on, leave, go, call, stop, takes_one}
 use Rattle.teco_step.specs.Effect.{effect}
 use Rattle.teco_store.specs.State.{State}
 use Rattle.teco_exec.specs.Test.{holds}
-use Rattle.teco_exec.specs.World.{World, Ran, cleared, after}
+use Rattle.teco_exec.specs.World.{World, cleared, after}
 use Rattle.teco_exec.specs.Meaning.{meaning, turns_of, leave_comes, first_setting}
 use Rattle.teco_exec.specs.StringMeaning.{string_meaning}
 

@@ -5,3 +5,7 @@ pub mod StringMeaning
 pub mod Runs
 pub mod Quiet
 pub mod Laws
+pub mod Rest
+pub mod Place
+pub mod Moves
+pub mod Running

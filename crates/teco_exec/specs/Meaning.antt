@@ -11,8 +11,8 @@ use Rattle.teco_scan.specs.declared.command.Bare.TheVariants as bare_command
 use Rattle.teco_scan.specs.declared.command.Command.TheVariants as command
 use Rattle.teco_scan.specs.Scan.{Item, bare}
 use Rattle.teco_scan.specs.Tree.{Nodes, done, item, escape, iter, cond, tag, faulty, tree, after_tag}
-use Rattle.teco_step.specs.declared.next.Work.{Work}
-use Rattle.teco_step.specs.Step.{Step, Setting, End, on, leave, go, call, again, stop, takes_one}
+use Rattle.teco_step.specs.declared.next.Setting.{Setting}
+use Rattle.teco_step.specs.Step.{Step, End, on, leave, go, call, again, stop, takes_one}
 use Rattle.teco_step.specs.Effect.{effect}
 use Rattle.teco_exec.specs.Test.{holds}
 use Rattle.teco_exec.specs.World.{World, Ran, cleared, after, pay}

@@ -1,11 +1,10 @@
 -- How a run may end: as its meaning says, or by want of memory or a failed terminal after some whole steps.
-use Rattle.std.specs.Prelude.{◌≡◌, ◌≢◌, ℕ, ◌+◌, ◌<◌, List, Bool, true, false, Option, Some, None}
-use Rattle.teco_core.specs.declared.code.Code.{Code}
+use Rattle.std.specs.Prelude.{◌≡◌, ◌≢◌, ℕ, ◌+◌, ◌<◌, List, Bool, true, false, Some}
 use Rattle.teco_core.specs.declared.code.Code.TheVariants.{Mem, Tty}
 use Rattle.teco_store.specs.State.{State}
 use Rattle.teco_store.specs.Trail.{Trail}
 use Rattle.teco_step.specs.Terminal.{IsFrontOf}
-use Rattle.teco_exec.specs.StringMeaning.{Meant, string_meaning}
+use Rattle.teco_exec.specs.StringMeaning.{string_meaning}
 use Rattle.teco_exec.specs.declared.outcome.Outcome.{Outcome}
 
 -- the string ended by itself

@@ -1,8 +1,13 @@
 //! The recursive meaning of command strings, and their run.
 #![tactic(auto)]
 
+mod blocks;
+mod conditions;
+mod jumps;
 mod laws;
+mod moves;
 mod outcome;
+mod place;
 mod running;
 #[cfg(test)]
 mod tests;

@@ -3,8 +3,12 @@ pub mod Sound
 pub mod Again
 pub mod Longest
 pub mod Faults
+pub mod Textual
 pub mod Cut
 pub mod Fronts
 pub mod Exactly
 pub mod Trees
+pub mod Skips
+pub mod LastBytes
 pub mod Rows
+pub mod BlockRows

@@ -3,13 +3,16 @@ use Rattle.std.specs.Prelude.{◌≡◌, ℕ, zero, suc, Bool, true, false, List
 use Rattle.std.proofs.Common.{refl}
 use Prim.Native.String.{String}
 use Rattle.teco_core.specs.declared.number.Op.TheVariants.{Plus, Over}
-use Rattle.teco_core.specs.declared.code.Code.TheVariants.{Ill, Utc}
+use Rattle.teco_core.specs.declared.code.Code.TheVariants.{Ill, Iqc, Iqn, Utc}
 use Rattle.teco_scan.specs.declared.command.Bare.TheVariants as group
 use Rattle.teco_scan.specs.declared.command.Quantity.TheVariants.{Pointer, End}
 use Rattle.teco_scan.specs.declared.command.Arithmetic.TheVariants.{Operator}
-use Rattle.teco_scan.specs.declared.command.Command.TheVariants.{Jump, TypeOut, Print}
-use Rattle.teco_scan.specs.declared.command.TextCommand.TheVariants.{Insert}
-use Rattle.teco_scan.specs.Scan.{digits, bare, text, Instruction, step, Scanned, found, ended, fault, no_modifiers, test_of, byte_at, register_at, test_at, delimiter_at, text_at, operand_at, modifiers_at, after_letter, after_name, ends_inside, row_at, is_cut, command_at, run_of, after_run, token_from, after_fillers, scan}
+use Rattle.teco_scan.specs.declared.command.Command.TheVariants.{Jump, TypeOut, Print, Leave}
+use Rattle.teco_scan.specs.declared.command.RegisterCommand.TheVariants.{Number, Increment, Set, Macro}
+use Rattle.teco_scan.specs.declared.command.TextCommand.TheVariants.{Insert, Go}
+use Rattle.teco_scan.specs.declared.command.BlockMark.TheVariants.{Iterate, EndIteration, Otherwise, EndTest}
+use Rattle.teco_scan.specs.declared.command.Test.TheVariants.{Zero, NotZero, Above, Below, Letter, Digit, LetterOrDigit, Lower, Upper}
+use Rattle.teco_scan.specs.Scan.{digits, bare, register, text, set_text, Instruction, step, mark, decide, tag, Scanned, found, ended, fault, no_modifiers, test_of, byte_at, register_at, test_at, delimiter_at, text_at, operand_at, modifiers_at, after_letter, after_name, ends_inside, row_at, is_cut, command_at, run_of, after_run, token_from, after_fillers, scan}
 use Rattle.teco_scan.specs.Scan as token
 use Rattle.teco_scan.specs.Tree.{done, item, escape, faulty, levels_within, levels, tree}
 
@@ -25,6 +28,13 @@ keys written = map (λ b. if b == 36 then 27 else b) (codes written)
 -- a token without modifiers, and the text behind it
 abbrev plain : Instruction → String → Scanned
 plain i rest = found (record { modifiers = no_modifiers; instruction = i }) (keys rest)
+
+-- a token behind @, and one behind a colon
+abbrev at_sign : Instruction → String → Scanned
+at_sign i rest = found (record { modifiers = record { at = true; colons = 0 }; instruction = i }) (keys rest)
+
+abbrev colon : Instruction → String → Scanned
+colon i rest = found (record { modifiers = record { at = false; colons = 1 }; instruction = i }) (keys rest)
 
 abbrev scans : String → Scanned → Type 0
 scans written s = scan (keys written) ≡ s
@@ -43,6 +53,119 @@ found_tokens : scans "20+3" (plain (step (digits (codes "20"))) "+3")
 unfolding computing
 found_tokens = (refl, refl, refl, refl, refl, refl, refl, refl, refl, refl, refl)
 
+-- marks of blocks, tags, jumps and macros; @ before I and O names the delimiter
+found_marks : scans "<J" (plain (mark Iterate) "J")
+    × scans " > " (plain (mark EndIteration) " ")
+    × scans "|2" (plain (mark Otherwise) "2")
+    × scans "''" (plain (mark EndTest) "'")
+    × scans ";>" (plain (step (bare (group.Command Leave))) ">")
+    × scans "Ma" (plain (step (register Macro 0)) "")
+    × scans "m9=" (plain (step (register Macro 35)) "=")
+    × scans "!x!2" (plain (tag (codes "x")) "2")
+    × scans "!!!" (plain (tag []) "!")
+    × scans "! a>|$!" (plain (tag (keys " a>|$")) "")
+    × scans "Ox y$2" (plain (step (text Go (codes "x y"))) "2")
+    × scans "@o/x/2" (at_sign (step (text Go (codes "x"))) "2")
+    × scans "@I/a$/2" (at_sign (step (text Insert (keys "a$"))) "2")
+    × scans "@I$$" (at_sign (step (text Insert [])) "")
+    × scans "@i>a>$" (at_sign (step (text Insert (codes "a"))) "$")
+unfolding computing
+found_marks = (refl, refl, refl, refl, refl, refl, refl, refl, refl, refl, refl, refl, refl, refl, refl)
+
+-- each test, in either case
+found_tests : scans "\"EJ" (plain (decide Zero) "J")
+    × scans "\"FJ" (plain (decide Zero) "J")
+    × scans "\"UJ" (plain (decide Zero) "J")
+    × scans "\"NJ" (plain (decide NotZero) "J")
+    × scans "\"GJ" (plain (decide Above) "J")
+    × scans "\"LJ" (plain (decide Below) "J")
+    × scans "\"SJ" (plain (decide Below) "J")
+    × scans "\"TJ" (plain (decide Below) "J")
+    × scans "\"AJ" (plain (decide Letter) "J")
+    × scans "\"DJ" (plain (decide Digit) "J")
+    × scans "\"RJ" (plain (decide LetterOrDigit) "J")
+    × scans "\"VJ" (plain (decide Lower) "J")
+    × scans "\"WJ" (plain (decide Upper) "J")
+    × scans "\"eJ" (plain (decide Zero) "J")
+    × scans "\"gJ" (plain (decide Above) "J")
+    × scans "\"wJ" (plain (decide Upper) "J")
+unfolding computing
+found_tests = (refl, refl, refl, refl, refl, refl, refl, refl, refl, refl, refl, refl, refl, refl, refl, refl)
+
+-- IQC where a byte names no test, UTC where the text ends inside the token, ILL at other modifiers
+found_no_marks : scans "\"Z" (fault Iqc)
+    × scans "\" E" (fault Iqc)
+    × scans "\"" (fault Utc)
+    × scans "\"\"" (fault Iqc)
+    × scans "@\"E" (fault Ill)
+    × scans "!x" (fault Utc)
+    × scans "!" (fault Utc)
+    × scans "@!x!" (fault Ill)
+    × scans ":!x!" (fault Ill)
+    × scans "O" (fault Utc)
+    × scans "Ox" (fault Utc)
+    × scans ":Ox$" (fault Ill)
+    × scans "@O" (fault Utc)
+    × scans "@O/x" (fault Utc)
+    × scans "@I" (fault Utc)
+    × scans "@I/a" (fault Utc)
+    × scans "@:I/a/" (fault Ill)
+    × scans "M" (fault Utc)
+    × scans "M?" (fault Iqn)
+    × scans "@Ma" (fault Ill)
+    × scans ":<" (fault Ill)
+    × scans "@>" (fault Ill)
+    × scans ":|" (fault Ill)
+    × scans "@'" (fault Ill)
+    × scans ":;" (fault Ill)
+unfolding computing
+found_no_marks = (refl, refl, refl, refl, refl, refl, refl, refl, refl, refl, refl, refl, refl, refl, refl, refl, refl, refl, refl, refl, refl, refl, refl, refl, refl)
+
+-- registers, in either case; ^U is its byte, or a caret and its letter
+found_registers : scans "Qa3" (plain (step (register Number 0)) "3")
+    × scans "qZ" (plain (step (register Number 25)) "")
+    × scans "Q9$" (plain (step (register Number 35)) "$")
+    × scans ":Q0" (colon (step (register Number 26)) "")
+    × scans "%b" (plain (step (register Increment 1)) "")
+    × scans "3Uc" (plain (step (digits (codes "3"))) "Uc")
+    × scans "uC=" (plain (step (register Set 2)) "=")
+    × scans "^Uaa word$=" (plain (step (set_text 0 (codes "a word"))) "=")
+    × scans "^ua$$" (plain (step (set_text 0 [])) "$")
+    × (scan (21 ∷ keys "a2$=") ≡ plain (step (set_text 0 (codes "2"))) "=")
+    × scans "@^UA/x$$y/2" (at_sign (step (set_text 0 (keys "x$$y"))) "2")
+    × (scan (64 ∷ 21 ∷ keys "1|x|2") ≡ at_sign (step (set_text 27 (codes "x"))) "2")
+unfolding computing
+found_registers = (refl, refl, refl, refl, refl, refl, refl, refl, refl, refl, refl, refl)
+
+-- UTC where the text ends inside the token, IQN where a byte names no register, and ILL at other modifiers and behind a caret
+found_no_registers : scans "Q" (fault Utc)
+    × scans ":Q" (fault Utc)
+    × scans "Q?" (fault Iqn)
+    × scans "Q a" (fault Iqn)
+    × scans "::Qa" (fault Ill)
+    × scans "@Qa" (fault Ill)
+    × scans "%" (fault Utc)
+    × scans "%?" (fault Iqn)
+    × scans ":%a" (fault Ill)
+    × scans "U$" (fault Iqn)
+    × scans "^U" (fault Utc)
+    × scans "^U?" (fault Iqn)
+    × scans "^Ua" (fault Utc)
+    × scans "^Uax" (fault Utc)
+    × scans "@^Ua" (fault Utc)
+    × scans "@^Ua/x" (fault Utc)
+    × scans "@^U?" (fault Iqn)
+    × scans ":^Uax$" (fault Ill)
+    × (scan (21 ∷ []) ≡ fault Utc)
+    × scans "^" (fault Utc)
+    × scans "@^" (fault Utc)
+    × scans ":^" (fault Ill)
+    × scans "^?" (fault Ill)
+    × scans ":" (fault Utc)
+    × scans "::" (fault Ill)
+unfolding computing
+found_no_registers = (refl, refl, refl, refl, refl, refl, refl, refl, refl, refl, refl, refl, refl, refl, refl, refl, refl, refl, refl, refl, refl, refl, refl, refl, refl)
+
 found_none : scans "" ended
     × scans "   " ended
     × scans "I" (fault Utc)
@@ -52,15 +175,13 @@ found_none : scans "" ended
     × scans "==3" (fault Ill)
     × scans ":=" (fault Ill)
     × scans ":===" (fault Ill)
-    × scans "@I/a/" (fault Ill)
     × scans "@@I" (fault Ill)
     × scans ":::=" (fault Ill)
-    × scans "@" (fault Ill)
-    × scans "^" (fault Ill)
+    × scans "@" (fault Utc)
     × scans "?" (fault Ill)
     × scans "I ? " (fault Utc)
 unfolding computing
-found_none = (refl, refl, refl, refl, refl, refl, refl, refl, refl, refl, refl, refl, refl, refl, refl, refl)
+found_none = (refl, refl, refl, refl, refl, refl, refl, refl, refl, refl, refl, refl, refl, refl)
 
 up_to : ℕ → List ℕ
 up_to zero = []
@@ -71,7 +192,7 @@ is_token (found t bs) = true
 is_token _ = false
 
 -- the bytes that are a token alone
-single_bytes : filter (λ b. is_token (scan (b ∷ []))) (up_to 256) ≡ 27 ∷ codes "*+-./0123456789=BCJTZbcjtz"
+single_bytes : filter (λ b. is_token (scan (b ∷ []))) (up_to 256) ≡ 27 ∷ codes "'*+-./0123456789;<=>BCJTZbcjtz|"
 unfolding computing up_to is_token
 single_bytes = refl
 

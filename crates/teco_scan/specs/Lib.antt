@@ -3,3 +3,4 @@ pub mod Table
 pub mod Spelling
 pub mod Seen
 pub mod Tree
+pub mod Skip

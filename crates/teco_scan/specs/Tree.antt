@@ -1,8 +1,8 @@
 -- The tree of a text: which nodes are left in each open block.
-use Rattle.std.specs.Prelude.{ℕ, zero, suc, List, [], ◌∷◌, length, Option, Some, None, ◌==◌, if◌then◌else◌}
+use Rattle.std.specs.Prelude.{Bool, true, false, ℕ, zero, suc, List, [], ◌∷◌, length, Option, Some, None, ◌==◌, if◌then◌else◌}
 use Rattle.std.specs.Str.{bytes_eq}
 use Rattle.teco_core.specs.declared.code.Code.{Code}
-use Rattle.teco_core.specs.declared.code.Code.TheVariants.{Bni, Ill, Pdo, Utc}
+use Rattle.teco_core.specs.declared.code.Code.TheVariants.{Bni, Ill, Iqc, Iqn, Pdo, Utc}
 use Rattle.teco_scan.specs.declared.command.Modifiers.{Modifiers}
 use Rattle.teco_scan.specs.declared.command.Test.{Test}
 use Rattle.teco_scan.specs.declared.command.BlockMark.{BlockMark}
@@ -11,6 +11,16 @@ use Rattle.teco_scan.specs.declared.blocks.Kind.{Kind}
 use Rattle.teco_scan.specs.declared.blocks.Kind.TheVariants.{Iter, Then, Else}
 use Rattle.teco_scan.specs.Scan.{Item, Instruction, Order, Scanned, found, ended, fault, scan}
 use Rattle.teco_scan.specs.Scan as token
+
+-- the codes of a text's own faults
+abbrev pub is_fault : Code → Bool
+is_fault Ill = true
+is_fault Iqn = true
+is_fault Iqc = true
+is_fault Utc = true
+is_fault Bni = true
+is_fault Pdo = true
+is_fault c = false
 
 -- A list of nodes: steps, ESC, iterations with their body, conditionals with their test and both parts, and tags. A fault is the last.
 pub data Nodes : Type 0 where

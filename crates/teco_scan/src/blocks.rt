@@ -1,4 +1,13 @@
-//! The nesting of blocks.
+//! The nesting of blocks: skipping one, and finding a tag directly in one.
+ghost use Rattle.std.specs.Prelude.{◌≡◌, ◌≢◌, ◌+◌, ◌-◌, ◌<◌, ◌≤◌, ℕ, true, false, List, ◌∷◌, length, drop, IfOk, IfErr, IfSome, Some, None};
+ghost use Rattle.teco_scan.specs.Tree.{is_fault, levels, rest, after_mark, after_instruction};
+ghost use Rattle.teco_scan.specs.Skip.{remaining, after_block, whole_remaining, byte_of, IsClosed, IsWholeClosed, IsBehindTag, closing_mark, opened_kind, is_tag, tag_in, GivesTag};
+ghost use Rattle.teco_scan.specs.Seen.{instruction_in, IsKindIn};
+
+use crate::command::BlockMark;
+use crate::scan::token_at;
+use crate::token::{Found, Token, TokenKind};
+use teco_core::Code;
 
 /// The kinds of open blocks: an iteration's body, a conditional's first part and its second.
 #[derive(Clone, Copy, Debug, PartialEq, Eq)]
@@ -6,4 +15,268 @@ pub enum Kind {
     Iter,
     Then,
     Else,
+}
+
+/// Where a skip stopped: the place one past the block's closing byte or, where it is divided, one past its `|`.
+#[derive(Clone, Copy, Debug, PartialEq, Eq)]
+pub struct Stop {
+    pub to: usize,
+    pub divided: bool,
+}
+
+/// The most blocks that may be open.
+const MOST_OPEN: usize = 64;
+
+/// The mark by which a block ends or is divided, if the token is one.
+fn closing_mark(kind: TokenKind) -> Option<BlockMark>
+    ensures { (text : List ℕ) → result ≡ closing_mark (instruction_in text kind) }
+{
+    match kind {
+        TokenKind::Mark(BlockMark::EndIteration) => Some(BlockMark::EndIteration),
+        TokenKind::Mark(BlockMark::Otherwise) => Some(BlockMark::Otherwise),
+        TokenKind::Mark(BlockMark::EndTest) => Some(BlockMark::EndTest),
+        _ => None,
+    }
+}
+
+/// The kind of block that a token opens.
+fn opened_kind(kind: TokenKind) -> Option<Kind>
+    ensures { (text : List ℕ) → result ≡ opened_kind (instruction_in text kind) }
+{
+    match kind {
+        TokenKind::Mark(BlockMark::Iterate) => Some(Kind::Iter),
+        TokenKind::Test(_) => Some(Kind::Then),
+        _ => None,
+    }
+}
+
+/// Whether the token is the tag of this name.
+fn is_tag(text: &[u8], kind: TokenKind, name: &[u8]) -> bool
+    requires { IsKindIn (length text.now) kind }
+    ensures { result ≡ is_tag name.now (instruction_in text.now kind) }
+{
+    match kind {
+        TokenKind::Tag(span) => &text[span.from..span.to] == name,
+        _ => false,
+    }
+}
+
+/// What a closing mark does to the innermost block, where the mark ends at this place.
+fn end_of_block(kind: Kind, mark: BlockMark, to: usize) -> Result<Stop, Code>
+    requires { mark ≢ BlockMark.Iterate }
+    ensures ended { (text : List ℕ) (outer : List Kind) → rest (after_mark mark (levels (drop to text)) (kind ∷ outer)) ≡ remaining text kind outer result }
+    ensures place { IfOk result (λ stop. stop.to ≡ to) }
+    ensures divided { IfOk result (λ stop. stop.divided ≡ true → kind ≡ Kind.Then) }
+    ensures ends { (text : List ℕ) → drop (to - 1) text ≡ byte_of mark ∷ drop to text → IfOk result (λ stop. IsClosed text kind stop) }
+    ensures fault { IfErr result (λ code. is_fault code ≡ true) }
+{
+    let whole = Stop { to, divided: false };
+    match (mark, kind) {
+        (BlockMark::EndIteration, Kind::Iter) => Ok(whole),
+        (BlockMark::EndIteration, _) => Err(Code::Bni),
+        (BlockMark::Otherwise, Kind::Then) => Ok(Stop { to, divided: true }),
+        (BlockMark::EndTest, Kind::Then) => Ok(whole),
+        (BlockMark::EndTest, Kind::Else) => Ok(whole),
+        _ => Err(Code::Ill),
+    }
+}
+
+/// The place behind a token and, where it opens a block, behind the whole of that.
+#[cycle(skip)]
+fn skip_node(text: &[u8], token: Token, depth: usize) -> Result<usize, Code>
+    requires inside { token.span.to ≤ length text.now }
+    requires few { depth ≤ 64 }
+    requires node { closing_mark (instruction_in text.now token.kind) ≡ None }
+    ensures skipped { (kinds : List Kind) → length kinds ≡ depth → rest (after_instruction (instruction_in text.now token.kind) token.modifiers (levels (drop token.span.to text.now)) kinds) ≡ rest (whole_remaining text.now kinds result) }
+    ensures tags { (kinds : List Kind) (name : List ℕ) → length kinds ≡ depth → is_tag name (instruction_in text.now token.kind) ≡ false → tag_in name (after_instruction (instruction_in text.now token.kind) token.modifiers (levels (drop token.span.to text.now)) kinds) ≡ tag_in name (whole_remaining text.now kinds result) }
+    ensures within { IfOk result (λ to. (token.span.to ≤ to) × (to ≤ length text.now)) }
+    ensures fault { IfErr result (λ code. is_fault code ≡ true) }
+{
+    match opened_kind(token.kind) {
+        None => Ok(token.span.to),
+        Some(kind) => {
+            if depth == MOST_OPEN {
+                return Err(Code::Pdo);
+            }
+            skip_whole_block(text, token.span.to, kind, depth + 1)
+        }
+    }
+}
+
+/// From a place directly in a block, to the block's end or its `|`.
+///
+/// Places count the bytes before them; the depth counts the open blocks, this one too. Blocks in it are passed whole. A fault
+/// is that of the first token that is none, else UTC where the text ends inside a block, BNI or ILL at a mark that ends
+/// or divides no such block, and PDO at the 65th open block. It takes no memory.
+#[cycle(skip)]
+pub fn skip_block(text: &[u8], at: usize, kind: Kind, depth: usize) -> Result<Stop, Code>
+    requires inside { at ≤ length text.now }
+    requires open { 1 ≤ depth }
+    requires few { depth ≤ 64 }
+    ensures skipped { (outer : List Kind) → length outer + 1 ≡ depth → rest (levels (drop at text.now) (kind ∷ outer)) ≡ remaining text.now kind outer result }
+    ensures within { IfOk result (λ stop. (at < stop.to) × (stop.to ≤ length text.now)) }
+    ensures divided { IfOk result (λ stop. stop.divided ≡ true → kind ≡ Kind.Then) }
+    ensures ends { IfOk result (λ stop. IsClosed text.now kind stop) }
+    ensures fault { IfErr result (λ code. is_fault code ≡ true) }
+{
+    let mut next = at;
+    loop {
+        match token_at(text, next) {
+            Found::End => return Err(Code::Utc),
+            Found::Fault(code) => return Err(code),
+            Found::Token(token) => match closing_mark(token.kind) {
+                Some(mark) => return end_of_block(kind, mark, token.span.to),
+                None => next = skip_node(text, token, depth)?,
+            },
+        }
+    }
+}
+
+/// From a place directly in a block, to the place behind the whole of it: behind the end of a conditional's second part, if it
+/// has one.
+///
+/// Places count the bytes before them; the depth counts the open blocks, this one too. The faults are those of `skip_block`. It
+/// takes no memory.
+#[cycle(skip)]
+pub fn skip_whole_block(text: &[u8], at: usize, kind: Kind, depth: usize) -> Result<usize, Code>
+    requires inside { at ≤ length text.now }
+    requires open { 1 ≤ depth }
+    requires few { depth ≤ 64 }
+    ensures skipped { (outer : List Kind) → length outer + 1 ≡ depth → after_block kind (levels (drop at text.now) (kind ∷ outer)) ≡ whole_remaining text.now outer result }
+    ensures within { IfOk result (λ to. (at < to) × (to ≤ length text.now)) }
+    ensures fault { IfErr result (λ code. is_fault code ≡ true) }
+    ensures ends { IfOk result (λ to. IsWholeClosed text.now kind to) }
+{
+    let stop = skip_block(text, at, kind, depth)?;
+    if stop.divided {
+        let end = skip_block(text, stop.to, Kind::Else, depth)?;
+        return Ok(end.to);
+    }
+    Ok(stop.to)
+}
+
+/// The place behind the first tag of this name that stands directly in the block which goes on from a place.
+///
+/// Places count the bytes before them; the depth counts the open blocks, so that 0 stands for the text itself. There is none
+/// where the block ends, is divided or has a fault before such a tag. It takes no memory.
+pub fn find_tag(text: &[u8], block_start: usize, depth: usize, name: &[u8]) -> Option<usize>
+    requires inside { block_start ≤ length text.now }
+    requires few { depth ≤ 64 }
+    ensures found { (kinds : List Kind) → length kinds ≡ depth → GivesTag text.now kinds result (tag_in name.now (levels (drop block_start text.now) kinds)) }
+    ensures within { IfSome result (λ to. (block_start < to) × (to ≤ length text.now)) }
+    ensures ends { IfSome result (λ to. IsBehindTag text.now to) }
+{
+    let mut next = block_start;
+    loop {
+        match token_at(text, next) {
+            Found::End => return None,
+            Found::Fault(_) => return None,
+            Found::Token(token) => {
+                if is_tag(text, token.kind, name) {
+                    return Some(token.span.to);
+                }
+                if closing_mark(token.kind).is_some() {
+                    return None;
+                }
+                match skip_node(text, token, depth) {
+                    Ok(to) => next = to,
+                    Err(_) => return None,
+                }
+            }
+        }
+    }
+}
+
+#[cfg(test)]
+mod tests {
+    use super::*;
+
+    #[test]
+    fn skips_to_end_or_bar(rt: HostRuntime) {
+        let rows: [(&[u8], usize, Kind, usize, bool); 11] = [
+            (b"J>2", 0, Kind::Iter, 2, false),
+            (b"<J> >2", 1, Kind::Iter, 3, false),
+            (b"<<J>2>J", 1, Kind::Iter, 6, false),
+            (b"Ia>b'\x1b>J", 0, Kind::Iter, 7, false),
+            (b"@I/>/!>!>J", 0, Kind::Iter, 9, false),
+            (b"1\"E<>|>'", 3, Kind::Then, 6, true),
+            (b"2|3'4", 0, Kind::Then, 2, true),
+            (b"2'4", 0, Kind::Then, 2, false),
+            (b"3'4", 0, Kind::Else, 2, false),
+            (b"1\"E2|3'<;>|4'", 0, Kind::Then, 11, true),
+            (b"1\"E2'I|\x1b'4", 0, Kind::Else, 9, false),
+        ];
+        for (text, at, kind, to, divided) in rows {
+            assert!(rt; at <= text.len());
+            assert_eq!(rt; skip_block(text, at, kind, 1), Ok(Stop { to, divided }));
+        }
+    }
+
+    #[test]
+    fn names_fault_of_block(rt: HostRuntime) {
+        let rows: [(&[u8], Kind, Code); 13] = [
+            (b"J ", Kind::Iter, Code::Utc),
+            (b"I>", Kind::Iter, Code::Utc),
+            (b"<J>", Kind::Iter, Code::Utc),
+            (b"?>", Kind::Iter, Code::Ill),
+            (b"J|>", Kind::Iter, Code::Ill),
+            (b"'>", Kind::Iter, Code::Ill),
+            (b">'", Kind::Then, Code::Bni),
+            (b">'", Kind::Else, Code::Bni),
+            (b"|'", Kind::Else, Code::Ill),
+            (b"<?>>", Kind::Iter, Code::Ill),
+            (b"Q?>", Kind::Iter, Code::Iqn),
+            (b"<1\"?", Kind::Iter, Code::Iqc),
+            (b"<1\"E>'>", Kind::Iter, Code::Bni),
+        ];
+        for (text, kind, code) in rows {
+            assert_eq!(rt; skip_block(text, 0, kind, 1), Err(code));
+            assert_eq!(rt; skip_whole_block(text, 0, kind, 1), Err(code));
+        }
+        let deep = [b'<'; 64];
+        assert_eq!(rt; skip_block(&deep, 0, Kind::Iter, 1), Err(Code::Pdo));
+        assert_eq!(rt; skip_block(&deep, 1, Kind::Iter, 1), Err(Code::Utc));
+        assert_eq!(rt; skip_block(&deep, 63, Kind::Else, 64), Err(Code::Pdo));
+    }
+
+    #[test]
+    fn skips_whole_blocks(rt: HostRuntime) {
+        let rows: [(&[u8], Kind, Result<usize, Code>); 7] = [
+            (b"J>2", Kind::Iter, Ok(2)),
+            (b"2|3'4", Kind::Then, Ok(4)),
+            (b"2'4", Kind::Then, Ok(2)),
+            (b"3'4", Kind::Else, Ok(2)),
+            (b"|1\"E|''4", Kind::Then, Ok(7)),
+            (b"2|3|4'", Kind::Then, Err(Code::Ill)),
+            (b"2|3", Kind::Then, Err(Code::Utc)),
+        ];
+        for (text, kind, found) in rows {
+            assert_eq!(rt; skip_whole_block(text, 0, kind, 63), found);
+        }
+    }
+
+    #[test]
+    fn finds_tags(rt: HostRuntime) {
+        let rows: [(&[u8], usize, usize, Option<usize>); 14] = [
+            (b"1!x!2", 0, 0, Some(4)),
+            (b"1!x!2!x!", 4, 0, Some(8)),
+            (b"<!x!>!x!", 0, 0, Some(8)),
+            (b"<!x!>!x!", 1, 1, Some(4)),
+            (b"1\"E!x!|!x!'!x!3", 0, 0, Some(14)),
+            (b"1\"E!x!|2!x!'", 7, 1, Some(11)),
+            (b"I!x!\x1b!x!", 0, 0, Some(8)),
+            (b"<!x!>", 0, 0, None),
+            (b"<!x!", 0, 0, None),
+            (b"?!x!", 0, 0, None),
+            (b"2>!x!", 0, 1, None),
+            (b"2|!x!'", 0, 1, None),
+            (b"!xx!!!!X!", 0, 0, None),
+            (b"<>!x!", 0, 64, None),
+        ];
+        for (text, at, depth, place) in rows {
+            assert!(rt; at <= text.len());
+            assert_eq!(rt; find_tag(text, at, depth, b"x"), place);
+        }
+        assert_eq!(rt; find_tag(b"!x!!!2", 0, 0, b""), Some(5));
+    }
 }

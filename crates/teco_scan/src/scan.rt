@@ -465,7 +465,9 @@ pub fn spelling()
 #[cfg(test)]
 mod tests {
     use super::*;
-    use crate::command::{Arithmetic, Bare, Command, Quantity, TextCommand};
+    use crate::command::{
+        Arithmetic, Bare, BlockMark, Command, Quantity, RegisterCommand, TextCommand,
+    };
     use teco_core::Op;
 
     #[test]
@@ -515,16 +517,85 @@ mod tests {
     }
 
     #[test]
+    fn finds_registers(rt: HostRuntime) {
+        let mut marked = Modifiers {
+            at: false,
+            colons: 1,
+        };
+        let Some(register) = Reg::of(b'9') else {
+            return;
+        };
+        let number = Token {
+            span: Span { from: 1, to: 4 },
+            modifiers: marked,
+            kind: TokenKind::Item(Item::Register(RegisterCommand::Number, register)),
+        };
+        assert_eq!(rt; token_at(b" :q9", 0), Found::Token(number));
+        marked.at = true;
+        marked.colons = 0;
+        let set = Token {
+            span: Span { from: 0, to: 8 },
+            modifiers: marked,
+            kind: TokenKind::Item(Item::SetText(register, Span { from: 5, to: 7 })),
+        };
+        assert_eq!(rt; token_at(b"@^U9/ab/", 0), Found::Token(set));
+    }
+
+    #[test]
+    fn finds_control_structure(rt: HostRuntime) {
+        let none = Modifiers {
+            at: false,
+            colons: 0,
+        };
+        let at = Modifiers {
+            at: true,
+            colons: 0,
+        };
+        let leave = TokenKind::Item(Item::Bare(Bare::Command(Command::Leave)));
+        let tag = TokenKind::Tag(Span { from: 5, to: 8 });
+        let go = TokenKind::Item(Item::Text(TextCommand::Go, Span { from: 12, to: 15 }));
+        let text = b"<;\"g!a>b!@O/a>b/|'>";
+        let want = [
+            (0, 1, none, TokenKind::Mark(BlockMark::Iterate)),
+            (1, 2, none, leave),
+            (2, 4, none, TokenKind::Test(Test::Above)),
+            (4, 9, none, tag),
+            (9, 16, at, go),
+            (16, 17, none, TokenKind::Mark(BlockMark::Otherwise)),
+            (17, 18, none, TokenKind::Mark(BlockMark::EndTest)),
+            (18, 19, none, TokenKind::Mark(BlockMark::EndIteration)),
+        ];
+        for (from, to, modifiers, kind) in want {
+            let span = Span { from, to };
+            let token = Token {
+                span,
+                modifiers,
+                kind,
+            };
+            assert!(rt; from <= text.len());
+            assert_eq!(rt; token_at(text, from), Found::Token(token));
+        }
+    }
+
+    #[test]
     fn names_each_fault(rt: HostRuntime) {
-        let faults: [(&[u8], Code); 9] = [
+        let faults: [(&[u8], Code); 17] = [
             (b"I", Code::Utc),
             (b"Iab", Code::Utc),
             (b"==", Code::Ill),
             (b"===", Code::Ill),
             (b":=", Code::Ill),
             (b":::=", Code::Ill),
-            (b"@I/a/", Code::Ill),
-            (b"^", Code::Ill),
+            (b"@I/a", Code::Utc),
+            (b"\"?", Code::Iqc),
+            (b"!a", Code::Utc),
+            (b"@O", Code::Utc),
+            (b"^", Code::Utc),
+            (b"^?", Code::Ill),
+            (b"Q?", Code::Iqn),
+            (b"Q", Code::Utc),
+            (b"::Qa", Code::Ill),
+            (b"\x15a", Code::Utc),
             (b"?", Code::Ill),
         ];
         for (text, code) in faults {

@@ -1,6 +1,7 @@
 //! The table of commands.
 use crate::command::{
-    Arithmetic, Bare, Command, Form, Modifiers, Name, Quantity, Row, TextCommand,
+    Arithmetic, Bare, BlockMark, Command, Form, Modifiers, Name, Quantity, RegisterCommand, Row,
+    TextCommand,
 };
 use teco_core::Op;
 
@@ -9,6 +10,16 @@ const ESCAPE: u8 = 27;
 const NONE: Modifiers = Modifiers {
     at: false,
     colons: 0,
+};
+
+const AT: Modifiers = Modifiers {
+    at: true,
+    colons: 0,
+};
+
+const COLON: Modifiers = Modifiers {
+    at: false,
+    colons: 1,
 };
 
 const ANY: Modifiers = Modifiers {
@@ -23,7 +34,7 @@ macro_rules! rows {
 }
 
 /// Every command but the run of digits. A longer name comes before one that begins it.
-pub const ROWS: [Row; 15] = rows! {
+pub const ROWS: [Row; 28] = rows! {
     Name::Three(b'=', b'=', b'='), ANY, Form::Refused;
     Name::Two(b'=', b'='), NONE, Form::Refused;
     Name::One(b'B'), NONE, Form::Bare(Bare::Quantity(Quantity::Beginning));
@@ -38,5 +49,18 @@ pub const ROWS: [Row; 15] = rows! {
     Name::One(b'T'), NONE, Form::Bare(Bare::Command(Command::TypeOut));
     Name::One(b'='), NONE, Form::Bare(Bare::Command(Command::Print));
     Name::One(ESCAPE), NONE, Form::Escape;
-    Name::One(b'I'), NONE, Form::Text(TextCommand::Insert, ESCAPE);
+    Name::One(b'Q'), COLON, Form::Register(RegisterCommand::Number);
+    Name::One(b'%'), NONE, Form::Register(RegisterCommand::Increment);
+    Name::One(b'U'), NONE, Form::Register(RegisterCommand::Set);
+    Name::Control(b'U'), AT, Form::SetText;
+    Name::One(b'M'), NONE, Form::Register(RegisterCommand::Macro);
+    Name::One(b'<'), NONE, Form::Mark(BlockMark::Iterate);
+    Name::One(b'>'), NONE, Form::Mark(BlockMark::EndIteration);
+    Name::One(b';'), NONE, Form::Bare(Bare::Command(Command::Leave));
+    Name::One(b'"'), NONE, Form::Test;
+    Name::One(b'|'), NONE, Form::Mark(BlockMark::Otherwise);
+    Name::One(b'\''), NONE, Form::Mark(BlockMark::EndTest);
+    Name::One(b'!'), NONE, Form::Tag;
+    Name::One(b'O'), AT, Form::Text(TextCommand::Go, ESCAPE);
+    Name::One(b'I'), AT, Form::Text(TextCommand::Insert, ESCAPE);
 };

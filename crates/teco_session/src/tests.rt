@@ -1,7 +1,8 @@
 //! What no clause says of sessions: that a request is refused only where memory is.
 use super::*;
 use std::alloc::Global;
-use teco_core::Code;
+use std::process::Abort;
+use teco_core::{Code, Reg};
 use teco_step::MemoryTerminal;
 use teco_store::Desk;
 
@@ -29,7 +30,38 @@ fn begins_again_after_a_refusal(rt: HostRuntime) {
     assert_eq!(rt; session.cursor(), 4);
 }
 
-// One answer a request; where memory is refused for the answers, none is begun.
+/// Whether all the requests, of which the second runs a string and is undone and redone, are answered on a new session with none
+/// refused. Where memory is refused for the answers none is begun, and where it is for the string there is none to undo.
+fn plays(rt: &impl Abort, alloc: Global, requests: &[Request]) -> bool {
+    let mut session = Session::new(Vec::new(alloc));
+    let mut term = MemoryTerminal::new(alloc);
+    let Ok(answers) = session.play(alloc, requests, 100, &mut term) else {
+        assert_eq!(rt; session.strings(), 0);
+        return false;
+    };
+    assert_eq!(rt; answers.len(), 6);
+    assert_eq!(rt; answers[0], Answer::NothingToRedo);
+    let begun = answers[1] != Answer::NotBegun;
+    let wanted = if begun {
+        [
+            Answer::Undone,
+            Answer::NothingToUndo,
+            Answer::Redone,
+            Answer::NothingToRedo,
+        ]
+    } else {
+        [
+            Answer::NothingToUndo,
+            Answer::NothingToUndo,
+            Answer::NothingToRedo,
+            Answer::NothingToRedo,
+        ]
+    };
+    assert_eq!(rt; &answers[2..], wanted.as_slice());
+    begun
+}
+
+// One answer a request; where memory was refused, all are answered the second time.
 #[test]
 fn plays_in_order(rt: HostRuntime) {
     let Ok(text) = Vec::from_slice(rt.alloc(), b"1=\x1b") else {
@@ -43,44 +75,8 @@ fn plays_in_order(rt: HostRuntime) {
         Request::Redo,
         Request::Redo,
     ];
-    let mut session = Session::new(Vec::new(rt.alloc()));
-    let mut term = MemoryTerminal::new(rt.alloc());
-    let played = match session.play(rt.alloc(), &requests, 100, &mut term) {
-        Ok(answers) => Ok(answers),
-        Err(NoMemory) => {
-            assert_eq!(rt; session.strings(), 0);
-            session.play(rt.alloc(), &requests, 100, &mut term)
-        }
-    };
-    let Ok(answers) = played else {
-        assert!(rt; false, "refused twice");
-        return;
-    };
-    assert_eq!(rt; answers.len(), 6);
-    assert_eq!(rt; answers[0], Answer::NothingToRedo);
-    if answers[1] == Answer::NotBegun {
-        assert_eq!(rt;
-            &answers[2..],
-            [
-                Answer::NothingToUndo,
-                Answer::NothingToUndo,
-                Answer::NothingToRedo,
-                Answer::NothingToRedo
-            ]
-            .as_slice()
-        );
-    } else {
-        assert_eq!(rt;
-            &answers[2..],
-            [
-                Answer::Undone,
-                Answer::NothingToUndo,
-                Answer::Redone,
-                Answer::NothingToRedo
-            ]
-            .as_slice()
-        );
-    }
+    let played = plays(&rt, rt.alloc(), &requests) || plays(&rt, rt.alloc(), &requests);
+    assert!(rt; played, "refused twice");
 }
 
 /// The code of the last answer, and whether the text is this one, after strings that each insert a letter, undos and redos.
@@ -117,5 +113,46 @@ fn letters_come_back(rt: HostRuntime) {
         let held = after_letters(rt.alloc(), letters, text) == wanted
             || after_letters(rt.alloc(), letters, text) == wanted;
         assert!(rt; held, "after {letters}");
+    }
+}
+
+/// Whether a string, cut after so many bytes, is undone to the beginning, and redone to what it left.
+fn comes_back(alloc: Global, text: &[u8], bytes: usize) -> bool {
+    let mut session = Session::new(Vec::new(alloc));
+    let mut term = MemoryTerminal::new(alloc);
+    if session.run(&text[..bytes], 100, &mut term) == Answer::NotBegun {
+        return false;
+    }
+    let Some(a) = Reg::of(b'A') else {
+        return false;
+    };
+    let pointer = session.editor().pointer();
+    let number = session.editor().registers().number(a);
+    let undone = session.undo().is_ok()
+        && session.editor().pointer() == 0
+        && session.editor().halves() == (&[], &[])
+        && session.editor().registers().number(a) == 0
+        && session.editor().registers().text(a).is_empty();
+    undone
+        && session.redo().is_ok()
+        && session.editor().pointer() == pointer
+        && session.editor().registers().number(a) == number
+}
+
+// However a string ends, at whatever byte it is cut, it can be undone and redone; where memory was refused, a second time.
+#[test]
+fn each_beginning_comes_back(rt: HostRuntime) {
+    for text in [
+        b"@^UA/^UAy\x1bIx\x1b/MA\x1b".as_slice(),
+        b"0UA<!x!%A-3\"LOx\x1b'1;>QA=\x1b".as_slice(),
+        b"0<Ia>b\x1b>Iok\x1b".as_slice(),
+        b"@^UA/MA/MA\x1b".as_slice(),
+        b"1\"G2=|3='4=Ia\x1b5J".as_slice(),
+        b"3<Ix\x1b>!x!Ox\x1b".as_slice(),
+    ] {
+        for bytes in 0..=text.len() {
+            let held = comes_back(rt.alloc(), text, bytes) || comes_back(rt.alloc(), text, bytes);
+            assert!(rt; held, "cut after {bytes} bytes");
+        }
     }
 }

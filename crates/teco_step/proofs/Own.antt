@@ -1,6 +1,6 @@
 -- The codes by which steps are refused as they mean: none of them says that a step was begun and not done.
-use Rattle.std.proofs.Common.{◌≡◌, ℕ, zero, suc, List, [], ◌∷◌, length, Result, Ok, Err, Option, Some, None, ℤ, pos, negsuc, neg_ℤ, ◌+ℤ◌, ◌-ℤ◌, ◌*ℤ◌, Bool, true, false, cond, nat_le, refl}
-use Rattle.std.specs.Prelude.{int_div}
+use Rattle.std.proofs.Common.{◌≡◌, ℕ, ◌+◌, zero, suc, List, [], ◌∷◌, length, Result, Ok, Err, Option, Some, None, ℤ, pos, negsuc, neg_ℤ, ◌+ℤ◌, ◌-ℤ◌, ◌*ℤ◌, Bool, true, false, cond, nat_le, refl}
+use Rattle.std.specs.Prelude.{int_div, int_le, ◌==◌, if◌then◌else◌}
 use Rattle.teco_core.specs.declared.code.Code.{Code}
 use Rattle.teco_core.specs.declared.code.Code.TheVariants as code
 use Rattle.teco_core.specs.declared.number.Op.{Op}
@@ -11,26 +11,32 @@ use Rattle.teco_core.specs.declared.arguments.Expression.TheVariants.{Nothing, N
 use Rattle.teco_core.specs.declared.arguments.Taken.{Taken}
 use Rattle.teco_core.specs.declared.arguments.Taken.TheVariants as taken
 use Rattle.teco_core.specs.Refusal.{◌>>=◌}
-use Rattle.teco_core.specs.Number.{fitted, quotient, operation, decimal_value, digits_value}
-use Rattle.teco_core.specs.Arguments.{Arguments, given, give, waiting, operate, ground_value, with_first, taken_on, taken_from}
-use Rattle.teco_store.specs.State.{State, spliced, text_limit}
+use Rattle.teco_core.specs.Number.{fitted, quotient, operation, decimal_value, digits_value, truth}
+use Rattle.teco_core.specs.Arguments.{Arguments, no_arguments, given, give, waiting, operate, ground_value, with_first, taken_on, taken_from, level_of}
+use Rattle.teco_core.specs.Register.{content}
+use Rattle.teco_store.specs.State.{State, spliced, text_limit, with_register_number, with_register_text}
 use Rattle.teco_scan.specs.declared.command.Arithmetic.{Arithmetic}
 use Rattle.teco_scan.specs.declared.command.Arithmetic.TheVariants as arithmetic
+use Rattle.teco_scan.specs.declared.command.Modifiers.{Modifiers}
 use Rattle.teco_scan.specs.declared.command.Quantity.{Quantity}
 use Rattle.teco_scan.specs.declared.command.Quantity.TheVariants as quantity
 use Rattle.teco_scan.specs.declared.command.Bare.{Bare}
 use Rattle.teco_scan.specs.declared.command.Bare.TheVariants as bare
 use Rattle.teco_scan.specs.declared.command.Command.{Command}
 use Rattle.teco_scan.specs.declared.command.Command.TheVariants as command
+use Rattle.teco_scan.specs.declared.command.RegisterCommand.{RegisterCommand}
+use Rattle.teco_scan.specs.declared.command.RegisterCommand.TheVariants as register_command
 use Rattle.teco_scan.specs.declared.command.TextCommand.{TextCommand}
 use Rattle.teco_scan.specs.declared.command.TextCommand.TheVariants as text_command
 use Rattle.teco_scan.specs.Scan.{Item}
 use Rattle.teco_scan.specs.Scan as token
-use Rattle.teco_step.specs.Effect.{command_effect, bare_effect, text_effect, item_effect}
-use Rattle.teco_step.specs.Step.{Setting, changes, one_or, just_one, takes_one_or, takes_one, as_byte, place_or, reached, takes_reach}
+use Rattle.teco_step.specs.Effect.{command_effect, bare_effect, register_effect, text_effect, item_effect}
+use Rattle.teco_step.specs.Step.{Setting, leave, on, changes, edits, gives, ends, just_none, one_or, just_one, takes_none, takes_one_or, takes_one, as_byte, place_or, reached, takes_reach}
 use Rattle.teco_step.specs.Values.{number, give_quantity, build}
 use Rattle.teco_step.specs.Editing.{jump, forward, with_text_in_limit, inserts, inserted, insert}
 use Rattle.teco_step.specs.Typing.{type_out, print}
+use Rattle.teco_step.specs.Registers.{register_value, set_number, summand, without_summand, increment, sets_text, set_text}
+use Rattle.teco_step.specs.Control.{leave_or_not, jump_to}
 use Rattle.teco_step.specs.Stepping.{is_unfinished_code}
 
 -- where it is refused, the code is one of its own
@@ -115,6 +121,14 @@ own_taken : (a : Arguments) → IsOwn (taken_from a)
 unfolding taken_from
 own_taken a = own_taken_on a.outer a
 
+own_just_none : (t : Taken) → IsOwn (just_none t)
+own_just_none taken.None = tt
+own_just_none (taken.One n) = refl
+own_just_none (taken.Two m n) = refl
+
+own_takes_none : (a : Arguments) → IsOwn (takes_none a)
+own_takes_none a = own_then (taken_from a) _ (own_taken a) (λ t. own_just_none t)
+
 own_one_or : (n : ℤ) (t : Taken) → IsOwn (one_or n t)
 own_one_or n taken.None = tt
 own_one_or n (taken.One m) = tt
@@ -127,6 +141,9 @@ own_just_one : (c : Code) (t : Taken) → is_unfinished_code c ≡ false → IsO
 own_just_one c taken.None own = own
 own_just_one c (taken.One n) own = tt
 own_just_one c (taken.Two m n) own = refl
+
+own_takes_one : (c : Code) (a : Arguments) → is_unfinished_code c ≡ false → IsOwn (takes_one c a)
+own_takes_one c a own = own_then (taken_from a) _ (own_taken a) (λ t. own_just_one c t own)
 
 own_as_byte : (n : ℤ) → IsOwn (as_byte n)
 own_as_byte (pos n) = own_if _ (Ok n) (Err code.Arg) tt refl
@@ -187,7 +204,35 @@ pub own_type_out : (s : State) (a : Arguments) → IsOwn (type_out s a)
 own_type_out s a = own_then (takes_reach s a) _ (own_then (taken_from a) _ (own_taken a) (λ t. own_reached s t)) (λ r. tt)
 
 pub own_print : (s : State) (a : Arguments) → IsOwn (print s a)
-own_print s a = own_then (takes_one code.Nae a) _ (own_then (taken_from a) _ (own_taken a) (λ t. own_just_one code.Nae t refl)) (λ n. tt)
+own_print s a = own_then (takes_one code.Nae a) _ (own_takes_one code.Nae a refl) (λ n. tt)
+
+own_gives : (s : State) (a : Arguments) (v : ℤ) → IsOwn (gives s a v)
+own_gives s a v = own_then (give v a) _ (own_give v a) (λ b. tt)
+
+pub own_register_value : (m : Modifiers) (q : ℕ) (s : State) (a : Arguments) → IsOwn (register_value m q s a)
+own_register_value m q s a = own_gives s a (if m.colons == 1 then pos (length (content s.registers q).text) else (content s.registers q).number)
+
+pub own_set_number : (q : ℕ) (s : State) (a : Arguments) → IsOwn (set_number q s a)
+own_set_number q s a = own_then (takes_one code.Nau a) _ (own_takes_one code.Nau a refl) (λ n. tt)
+
+pub own_increment : (q : ℕ) (s : State) (a : Arguments) → IsOwn (increment q s a)
+own_increment q s a =
+    let sum : ℤ = (content s.registers q).number +ℤ summand (level_of a.expression) in
+    let rest : Arguments = without_summand (level_of a.expression) a in
+    own_then (fitted sum) _ (own_fitted sum) (λ n. own_then (give n rest) (λ b. edits (with_register_number s q n) b 0) (own_give n rest) (λ b. tt))
+
+pub own_set_text : (q : ℕ) (text : List ℕ) (s : State) (a : Arguments) → IsOwn (set_text q text s a)
+own_set_text q text s a =
+    own_then (takes_none a) (λ none. sets_text q text s) (own_takes_none a) (λ none.
+    own_if (nat_le (length text) text_limit) (changes (with_register_text s q text) (length (content s.registers q).text + length text)) (Err code.Big) tt refl)
+
+pub own_leave_or_not : (inside : Bool) (s : State) (a : Arguments) → IsOwn (leave_or_not inside s a)
+own_leave_or_not inside s a =
+    own_then (takes_one_or (truth s.last_found) a) _ (own_takes_one_or (truth s.last_found) a) (λ n.
+    own_if inside (ends s no_arguments (if int_le (pos 0) n then leave else on)) (Err code.Sni) tt refl)
+
+pub own_jump_to : (name : List ℕ) (s : State) (a : Arguments) → IsOwn (jump_to name s a)
+own_jump_to name s a = own_then (takes_none a) _ (own_takes_none a) (λ none. tt)
 
 -- the steps of all commands, as the effect dispatches them
 pub own_command : (c : Command) (w : Setting) (s : State) (a : Arguments) → IsOwn (command_effect c w s a)
@@ -195,6 +240,7 @@ own_command command.Jump w s a = own_jump s a
 own_command command.Forward w s a = own_forward s a
 own_command command.TypeOut w s a = own_type_out s a
 own_command command.Print w s a = own_print s a
+own_command command.Leave w s a = own_leave_or_not w.inside s a
 own_command _ w s a = refl
 
 pub own_bare : (b : Bare) (w : Setting) (s : State) (a : Arguments) → IsOwn (bare_effect b w s a)
@@ -203,12 +249,22 @@ own_bare (bare.Arithmetic b) w s a = own_build b s a
 own_bare (bare.Command c) w s a = own_command c w s a
 own_bare (bare.Level l) w s a = refl
 
+pub own_register : (c : RegisterCommand) (q : ℕ) (w : Setting) (s : State) (a : Arguments) → IsOwn (register_effect c q w s a)
+own_register register_command.Number q w s a = own_register_value w.modifiers q s a
+own_register register_command.Increment q w s a = own_increment q s a
+own_register register_command.Set q w s a = own_set_number q s a
+own_register register_command.Macro q w s a = tt
+own_register _ q w s a = refl
+
 pub own_text : (c : TextCommand) (text : List ℕ) (w : Setting) (s : State) (a : Arguments) → IsOwn (text_effect c text w s a)
 own_text text_command.Insert text w s a = own_insert text s a
+own_text text_command.Go text w s a = own_jump_to text s a
 own_text _ text w s a = refl
 
 pub own_item : (i : Item) (w : Setting) (s : State) (a : Arguments) → IsOwn (item_effect i w s a)
 own_item (token.digits ds) w s a = own_number ds s a
 own_item (token.bare b) w s a = own_bare b w s a
+own_item (token.register c q) w s a = own_register c q w s a
 own_item (token.text c text) w s a = own_text c text w s a
+own_item (token.set_text q text) w s a = own_set_text q text s a
 own_item _ w s a = refl

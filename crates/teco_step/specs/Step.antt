@@ -1,13 +1,13 @@
 -- One step of a command string, and what commands have in common.
-use Rattle.std.specs.Prelude.{ℕ, min, max, List, [], length, Option, Result, Ok, Err, ℤ, pos, negsuc, Bool, nat_le, if◌then◌else◌}
+use Rattle.std.specs.Prelude.{ℕ, min, max, List, [], length, Result, Ok, Err, ℤ, pos, negsuc, nat_le, if◌then◌else◌}
 use Rattle.teco_core.specs.declared.code.Code.{Code}
 use Rattle.teco_core.specs.declared.code.Code.TheVariants.{Arg, Ill, Pop}
 use Rattle.teco_core.specs.declared.arguments.Taken.{Taken}
 use Rattle.teco_core.specs.declared.arguments.Taken.TheVariants as taken
 use Rattle.teco_core.specs.Refusal.{◌>>=◌}
 use Rattle.teco_core.specs.Arguments.{Arguments, no_arguments, give, taken_from}
-use Rattle.teco_scan.specs.declared.command.Modifiers.{Modifiers}
 use Rattle.teco_store.specs.State.{State}
+pub use Rattle.teco_step.specs.declared.next.Setting.{Setting}
 use Rattle.teco_step.specs.declared.next.Work.{Work}
 use Rattle.teco_step.specs.Line.{line}
 
@@ -29,14 +29,6 @@ pub record Step : Type 0 where
   pub load : ℕ
   pub end : End
 
--- What surrounds a step: the token's modifiers; what is left of it after an earlier step; whether an iteration of the same text
--- is open; and whether a `;` without modifiers comes next.
-pub record Setting : Type 0 where
-  pub modifiers : Modifiers
-  pub work : Option Work
-  pub inside : Bool
-  pub before : Bool
-
 -- a step, or the code by which it is refused with nothing changed
 abbrev pub Tried : Type 0
 Tried = Result Step Code
@@ -46,9 +38,13 @@ abbrev pub settled : State → Arguments → Tried → Step
 settled s a (Ok step) = step
 settled s a (Err c) = record { state = s; arguments = a; typed = []; load = 0; end = stop c }
 
--- What a command does that has taken its arguments: a new state, with the load of the change.
+-- An edit: a new state, with the load of the change, and these arguments;
+abbrev pub edits : State → Arguments → ℕ → Tried
+edits s a load = Ok (record { state = s; arguments = a; typed = []; load = load; end = on })
+
+-- of a command that has taken its arguments.
 abbrev pub changes : State → ℕ → Tried
-changes s load = Ok (record { state = s; arguments = no_arguments; typed = []; load = load; end = on })
+changes s load = edits s no_arguments load
 
 -- It types bytes.
 abbrev pub types : State → List ℕ → Tried
@@ -56,7 +52,11 @@ types s bytes = Ok (record { state = s; arguments = no_arguments; typed = bytes;
 
 -- It leaves these arguments.
 abbrev pub leaves : State → Arguments → Tried
-leaves s a = Ok (record { state = s; arguments = a; typed = []; load = 0; end = on })
+leaves s a = edits s a 0
+
+-- It leaves these arguments, and ends so.
+abbrev pub ends : State → Arguments → End → Tried
+ends s a end = Ok (record { state = s; arguments = a; typed = []; load = 0; end = end })
 
 -- It gives a value.
 abbrev pub gives : State → Arguments → ℤ → Tried
@@ -68,7 +68,18 @@ gives s a v = do
 abbrev pub unbuilt : Tried
 unbuilt = Err Ill
 
--- What a command takes: one number, or this one where there is none;
+-- What a command takes: nothing;
+abbrev pub just_none : Taken → Result (Unit {0}) Code
+just_none taken.None = Ok tt
+just_none (taken.One n) = Err Arg
+just_none (taken.Two m n) = Err Arg
+
+abbrev pub takes_none : Arguments → Result (Unit {0}) Code
+takes_none a = do
+  t ← taken_from a
+  just_none t
+
+-- one number, or this one where there is none;
 abbrev pub one_or : ℤ → Taken → Result ℤ Code
 one_or default taken.None = Ok default
 one_or default (taken.One n) = Ok n

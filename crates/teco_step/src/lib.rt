@@ -1,10 +1,12 @@
 //! One step of a token, line places, and terminals.
 #![tactic(auto)]
 
+mod control;
 mod edit;
 mod line;
 mod memory_terminal;
 mod next;
+mod registers;
 mod step;
 mod taking;
 mod terminal;
@@ -16,7 +18,7 @@ mod writer_terminal;
 
 pub use line::line_place;
 pub use memory_terminal::MemoryTerminal;
-pub use next::{Next, Work};
+pub use next::{Next, Setting, Work};
 pub use step::step_token;
 pub use terminal::{Terminal, TerminalFault};
 pub use writer_terminal::WriterTerminal;

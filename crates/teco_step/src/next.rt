@@ -1,11 +1,22 @@
 //! What a step leads to.
 use teco_core::Code;
+use teco_scan::Modifiers;
 
 /// What is left of a token that takes several steps: the pages to turn or the occurrences to find, and whether a search is next.
 #[derive(Clone, Copy, Debug, PartialEq, Eq)]
 pub struct Work {
     pub left: i32,
     pub search: bool,
+}
+
+/// What surrounds a step: the modifiers of the token; what is left of it after an earlier step; whether an iteration of the same text
+/// is open; and whether a `;` without modifiers comes next.
+#[derive(Clone, Copy, Debug, PartialEq, Eq)]
+pub struct Setting {
+    pub modifiers: Modifiers,
+    pub work: Option<Work>,
+    pub inside: bool,
+    pub before: bool,
 }
 
 /// What a step leads to.

@@ -12,6 +12,17 @@ use std::ops::Range;
 use teco_core::{Code, Taken};
 use teco_store::Desk;
 
+/// Of a command that takes nothing: anything taken is [`Code::Arg`].
+pub(crate) fn just_none(taken: Taken) -> Result<(), Code>
+    ensures { result ≡ step.just_none taken }
+{
+    match taken {
+        Taken::None => Ok(()),
+        Taken::One(_) => Err(Code::Arg),
+        Taken::Two(..) => Err(Code::Arg),
+    }
+}
+
 /// The number that a command takes, or this one where it takes none. A pair is [`Code::Arg`].
 pub(crate) fn one_or(default: i32, taken: Taken) -> Result<i32, Code>
     ensures { result ≡ step.one_or default taken }

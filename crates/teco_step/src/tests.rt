@@ -1,8 +1,15 @@
-//! Command strings without blocks, run token by token.
+//! Command strings without blocks, run token by token, and steps of single tokens.
+ghost use Rattle.std.specs.Prelude.{length};
+ghost use Rattle.teco_scan.specs.Seen.{IsItemIn};
+
 use crate::{MemoryTerminal, Next, step_token};
 use std::process::Abort;
-use teco_core::{Args, Code};
-use teco_scan::{Found, TokenKind, token_at};
+use std::test::*;
+use teco_core::{Args, Code, Reg, Taken};
+use teco_scan::{
+    Bare, Command, Found, Item, Modifiers, RegisterCommand, Span, TextCommand, Token, TokenKind,
+    token_at,
+};
 use teco_store::{Desk, Editor};
 
 /// An editor and a terminal at the beginning.
@@ -13,7 +20,8 @@ struct Seat {
     args: Args,
 }
 
-/// Runs the tokens of a text. A step that lacks memory, or whose put failed, has changed nothing, and is tried again.
+/// Runs the tokens of a text. A step that lacks memory, or whose put failed, has changed nothing. One that lacks memory is tried
+/// again, and a failed put ends the run, since it may have shown a beginning of what the step types.
 fn run(rt: &impl Abort, seat: &mut Seat, text: &[u8]) -> Option<Code> {
     let mut at = 0;
     for _ in 0..text.len() {
@@ -50,6 +58,9 @@ fn run(rt: &impl Abort, seat: &mut Seat, text: &[u8]) -> Option<Code> {
             seat.editor.pointer(),
         );
         assert_eq!(rt; before, after);
+        if code == Code::Tty {
+            return Some(code);
+        }
         let again = step_token(
             &mut seat.editor,
             text,
@@ -85,12 +96,179 @@ fn does_what_the_commands_say(rt: HostRuntime) {
         (b"3Ix\x1b", b"", Some(Code::Iia)),
     ];
     for (text, typed, code) in rows {
-        let mut seat = Seat {
-            editor: Editor::new(Vec::new(rt.alloc())),
-            terminal: MemoryTerminal::new(rt.alloc()),
-            args: Args::new(),
-        };
-        assert_eq!(rt; run(&rt, &mut seat, text), code);
+        let mut seat = new_seat(&rt);
+        let mut ended = run(&rt, &mut seat, text);
+        if ended == Some(Code::Tty) {
+            assert!(rt; typed.starts_with(seat.terminal.bytes()));
+            seat = new_seat(&rt);
+            ended = run(&rt, &mut seat, text);
+        }
+        assert_eq!(rt; ended, code);
         assert_eq!(rt; seat.terminal.bytes(), typed);
     }
+}
+
+/// An editor and a terminal at the beginning.
+fn new_seat(rt: &HostRuntime) -> Seat {
+    Seat {
+        editor: Editor::new(Vec::new(rt.alloc())),
+        terminal: MemoryTerminal::new(rt.alloc()),
+        args: Args::new(),
+    }
+}
+
+/// The number of a register, and its text.
+fn holds(seat: &Seat, q: Reg, number: i32, text: &[u8]) -> bool {
+    let registers = seat.editor.registers();
+    registers.number(q) == number && registers.text(q) == text
+}
+
+/// A step of what stands in the whole of a text. One that lacks memory has changed nothing, and is tried again.
+fn step(rt: &impl Abort, seat: &mut Seat, text: &[u8], item: Item, colons: u8, inside: bool) -> Next
+    requires { IsItemIn (length text.now) item }
+{
+    let token = Token {
+        span: Span {
+            from: 0,
+            to: text.len(),
+        },
+        modifiers: Modifiers { at: false, colons },
+        kind: TokenKind::Item(item),
+    };
+    let q = Reg::of(b'A').expect(rt, "a register");
+    let held = (
+        seat.editor.registers().number(q),
+        seat.editor.registers().text(q).len(),
+    );
+    let level = seat.args.level();
+    let next = step_token(
+        &mut seat.editor,
+        text,
+        &token,
+        None,
+        &mut seat.args,
+        inside,
+        false,
+        &mut seat.terminal,
+    );
+    if !matches!(next, Next::Error(Code::Mem)) {
+        return next;
+    }
+    let registers = seat.editor.registers();
+    assert_eq!(rt; held, (registers.number(q), registers.text(q).len()));
+    assert_eq!(rt; level, seat.args.level());
+    step_token(
+        &mut seat.editor,
+        text,
+        &token,
+        None,
+        &mut seat.args,
+        inside,
+        false,
+        &mut seat.terminal,
+    )
+}
+
+#[test]
+fn registers_hold_what_they_are_set_to(rt: HostRuntime) {
+    let mut seat = new_seat(&rt);
+    let q = Reg::of(b'A').expect(&rt, "a register");
+    let whole = Item::SetText(q, Span { from: 0, to: 3 });
+    let number = Item::Register(RegisterCommand::Number, q);
+    let set = Item::Register(RegisterCommand::Set, q);
+    let increment = Item::Register(RegisterCommand::Increment, q);
+    assert!(rt; matches!(step(&rt, &mut seat, b"abc", whole, 0, false), Next::On));
+    assert!(rt; holds(&seat, q, 0, b"abc"));
+    assert!(rt;
+        matches!(
+            step(&rt, &mut seat, b"UA", set, 0, false),
+            Next::Error(Code::Nau)
+        )
+    );
+    assert!(rt; seat.args.give(41).is_ok());
+    assert!(rt; matches!(step(&rt, &mut seat, b"UA", set, 0, false), Next::On));
+    assert!(rt; holds(&seat, q, 41, b"abc"));
+    assert!(rt; matches!(step(&rt, &mut seat, b"%A", increment, 0, false), Next::On));
+    assert!(rt; holds(&seat, q, 42, b"abc"));
+    assert!(rt; seat.args.take() == Ok(Taken::One(42)));
+    assert!(rt; matches!(step(&rt, &mut seat, b":QA", number, 1, false), Next::On));
+    assert!(rt; seat.args.take() == Ok(Taken::One(3)));
+    assert!(rt; matches!(step(&rt, &mut seat, b"QA", number, 0, false), Next::On));
+    assert!(rt; seat.args.take() == Ok(Taken::One(42)));
+    assert!(rt; seat.args.give(2_147_483_647).is_ok());
+    let past = step(&rt, &mut seat, b"%A", increment, 0, false);
+    assert!(rt; matches!(past, Next::Error(Code::Ovf)));
+    assert!(rt; holds(&seat, q, 42, b"abc"));
+    assert!(rt; seat.args.take() == Ok(Taken::One(2_147_483_647)));
+}
+
+#[test]
+fn a_register_text_past_its_limit_is_big(rt: HostRuntime) -> Result<(), Fail> {
+    let mut seat = new_seat(&rt);
+    let q = Reg::of(b'A').expect(&rt, "a register");
+    let mut long = Vec::new(rt.alloc());
+    if long.resize(16_777_217, b'x').is_err() {
+        long.resize(16_777_217, b'x')?;
+    }
+    let all = Span {
+        from: 0,
+        to: long.len(),
+    };
+    let whole = Item::SetText(q, all);
+    assert!(rt;
+        matches!(
+            step(&rt, &mut seat, &long, whole, 0, false),
+            Next::Error(Code::Big)
+        )
+    );
+    assert!(rt; holds(&seat, q, 0, b""));
+    Ok(())
+}
+
+#[test]
+fn iterations_are_left_inside_them(rt: HostRuntime) {
+    let mut seat = new_seat(&rt);
+    let leave = Item::Bare(Bare::Command(Command::Leave));
+    assert!(rt;
+        matches!(
+            step(&rt, &mut seat, b";", leave, 0, false),
+            Next::Error(Code::Sni)
+        )
+    );
+    assert!(rt; matches!(step(&rt, &mut seat, b";", leave, 0, true), Next::Leave));
+    assert!(rt; seat.args.give(-1).is_ok());
+    assert!(rt; matches!(step(&rt, &mut seat, b";", leave, 0, true), Next::On));
+    assert!(rt; seat.args.give(0).is_ok());
+    assert!(rt; matches!(step(&rt, &mut seat, b";", leave, 0, true), Next::Leave));
+    assert!(rt; seat.args.take() == Ok(Taken::None));
+}
+
+#[test]
+fn tags_are_gone_to_without_arguments(rt: HostRuntime) {
+    let mut seat = new_seat(&rt);
+    let go = Item::Text(TextCommand::Go, Span { from: 0, to: 3 });
+    assert!(rt; matches!(step(&rt, &mut seat, b"end", go, 0, false), Next::Go));
+    assert!(rt; seat.args.give(1).is_ok());
+    assert!(rt;
+        matches!(
+            step(&rt, &mut seat, b"end", go, 0, false),
+            Next::Error(Code::Arg)
+        )
+    );
+    assert!(rt; seat.args.take() == Ok(Taken::One(1)));
+}
+
+#[test]
+fn registers_are_run_with_the_arguments(rt: HostRuntime) {
+    let mut seat = new_seat(&rt);
+    let q = Reg::of(b'A').expect(&rt, "a register");
+    let whole = Item::SetText(q, Span { from: 0, to: 3 });
+    let call = Item::Register(RegisterCommand::Macro, q);
+    assert!(rt; matches!(step(&rt, &mut seat, b"1+=", whole, 0, false), Next::On));
+    assert!(rt; seat.args.give(2).is_ok());
+    match step(&rt, &mut seat, b"MA", call, 0, false) {
+        Next::Call(text) => assert_eq!(rt; text.as_slice(), b"1+=".as_slice()),
+        _ => assert!(rt; false),
+    }
+    assert!(rt; seat.args.take() == Ok(Taken::One(2)));
 }

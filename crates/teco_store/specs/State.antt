@@ -1,8 +1,9 @@
 -- The editing state, its beginning, and its limits.
-use Rattle.std.specs.Prelude.{ℕ, ◌^◌, ◌≤◌, Bool, false, List, [], ◌++◌, ◌+◌, length, take, drop, Option, Some, None}
+use Rattle.std.specs.Prelude.{ℕ, ◌^◌, ◌≤◌, Bool, false, List, [], ◌++◌, ◌+◌, length, take, drop, Option, Some, None, ℤ}
+use Rattle.std.specs.List.{All}
 use Rattle.teco_core.specs.declared.case_mode.CaseMode.{CaseMode}
 use Rattle.teco_core.specs.declared.case_mode.CaseMode.TheVariants.{Exact}
-use Rattle.teco_core.specs.Register.{Content, blank_registers}
+use Rattle.teco_core.specs.Register.{Content, blank_registers, with_number, with_text}
 
 pub record State : Type 0 where
   pub text : List ℕ  -- of the buffer
@@ -43,10 +44,16 @@ text_limit = 2 ^ 24
 abbrev pub file_limit : ℕ
 file_limit = 2 ^ 30
 
--- The pointer is in the text and the place in the input, and the text is within its limit.
+-- each of these texts is within its limit
+abbrev pub AreSmall : List Content → Type 0
+AreSmall contents = All (λ c. length c.text ≤ text_limit) contents
+
+-- The pointer is in the text and the place in the input, and each text is within its limit.
 pub record IsSound (s : State) : Type 0 where
   pub pointer : s.pointer ≤ length s.text
   pub text : length s.text ≤ text_limit
+  pub registers : AreSmall s.registers
+  pub pushed : AreSmall s.pushed
   pub place : s.place ≤ length s.input
   pub input : length s.input ≤ file_limit
 
@@ -65,3 +72,10 @@ spliced s at deleted put point = record s { text = replaced s.text at (at + dele
 
 abbrev pub pointed : State → ℕ → State
 pointed s place = record s { pointer = place }
+
+-- another number in the register q, or another text
+abbrev pub with_register_number : State → ℕ → ℤ → State
+with_register_number s q n = record s { registers = with_number s.registers q n }
+
+abbrev pub with_register_text : State → ℕ → List ℕ → State
+with_register_text s q text = record s { registers = with_text s.registers q text }

@@ -1,5 +1,5 @@
 -- What contracts see of an editor.
-use Rattle.std.specs.Prelude.{◌≤◌, List, length, option_map}
+use Rattle.std.specs.Prelude.{option_map}
 use Rattle.teco_gap.specs.Gap.{text}
 use Rattle.teco_store.specs.State.{State}
 use Rattle.teco_store.specs.declared.editor.Editor.TheInside.{Inside}

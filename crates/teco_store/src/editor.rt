@@ -6,10 +6,10 @@ ghost use Rattle.teco_store.specs.State.{beginning, file_limit};
 use crate::desk::{Desk, Refused};
 use std::alloc::Global;
 use std::marker::Model;
-use teco_core::{CaseMode, NoMemory, PushList, Registers};
+use teco_core::{CaseMode, NoMemory, PushList, Reg, Registers};
 use teco_gap::GapBuffer;
 
-/// The most bytes of the buffer.
+/// The most bytes of the buffer, and of each register's text.
 const TEXT_LIMIT: usize = 1 << 24;
 
 /// The editing state: the buffer with its pointer, the registers and the push-down list, the input and the output, and what the last
@@ -181,6 +181,19 @@ impl Desk for Editor {
 
     fn point(&mut self, place: usize) -> Result<(), Refused> {
         self.pointer = place;
+        Ok(())
+    }
+
+    fn set_number(&mut self, q: Reg, number: i32) -> Result<(), Refused> {
+        self.registers.set_number(q, number);
+        Ok(())
+    }
+
+    fn set_text(&mut self, q: Reg, text: Vec<u8>) -> Result<(), Refused> {
+        if text.len() > TEXT_LIMIT {
+            return Err(Refused::Big);
+        }
+        self.registers.set_text(q, text);
         Ok(())
     }
 

@@ -2,11 +2,12 @@
 use super::*;
 use crate::memory_source::MemorySource;
 use std::process::Abort;
-use teco_core::NoMemory;
+use teco_core::{NoMemory, Reg};
 use teco_step::MemoryTerminal;
 use teco_store::Desk;
 
-/// A stream, where `$` is ESC, and what serving it over an empty input gives.
+/// A stream, where `$` is ESC, and what serving it over an empty input gives: what is typed, how it ends, the text, and the number
+/// and the text of register A.
 #[derive(Clone, Copy)]
 struct Row {
     stream: &'static str,
@@ -16,6 +17,8 @@ struct Row {
     typed: &'static str,
     served: Served,
     text: &'static str,
+    number: i32,
+    register: &'static str,
 }
 
 /// A row without a prompt, under a limit of 1000 steps, that ends at the end of the stream.
@@ -28,6 +31,8 @@ fn plain_row(stream: &'static str, typed: &'static str, text: &'static str) -> R
         typed,
         served: Served::EndOfCommands,
         text,
+        number: 0,
+        register: "",
     }
 }
 
@@ -61,7 +66,11 @@ fn holds_once(alloc: Global, row: Row, single: bool) -> Result<bool, NoMemory> {
         .iter()
         .chain(after.iter())
         .eq(row.text.as_bytes().iter());
-    Ok(served == row.served && term.bytes() == row.typed.as_bytes() && text)
+    let register = Reg::of(b'A').is_some_and(|a| {
+        let registers = session.editor().registers();
+        registers.number(a) == row.number && registers.text(a) == row.register.as_bytes()
+    });
+    Ok(served == row.served && term.bytes() == row.typed.as_bytes() && text && register)
 }
 
 /// The row holds however the stream is cut; where memory was refused, a second time.
@@ -127,5 +136,117 @@ fn serves_strings(rt: HostRuntime) {
         },
     ] {
         holds(&rt, rt.alloc(), row);
+    }
+}
+
+#[test]
+fn serves_programs(rt: HostRuntime) {
+    for row in [
+        Row {
+            register: "y",
+            ..plain_row("@^UA/^UAy$Ix$/MA$$", "", "x")
+        },
+        Row {
+            number: 3,
+            ..plain_row("0UA<!x!%A-3\"LOx$'1;>QA=$$", "3\r\n", "")
+        },
+        plain_row("0<Ia>b$>Iok$$", "", "ok"),
+        plain_row("3<Ix$$", "?UTC\r\n", "x"),
+        plain_row("3<Ix$${$$", "?UTC\r\n", ""),
+        Row {
+            register: "MA",
+            ..plain_row("@^UA/MA/MA$$", "?PDO\r\n", "")
+        },
+        plain_row("@^UA/MA/MA$${$$", "?PDO\r\n", ""),
+        plain_row("Ox$0<!x!>$$", "?TAG\r\n", ""),
+        plain_row("0<?>1=$$", "?ILL\r\n", ""),
+        plain_row("1=>2=$$", "1\r\n?BNI\r\n", ""),
+        plain_row("1\"G2=|3='4=$$", "2\r\n4\r\n", ""),
+        plain_row("0\"G2=|3='4=$$", "3\r\n4\r\n", ""),
+        plain_row("3<Ix$>$$", "", "xxx"),
+        plain_row("0\"Z1='$$", "?IQC\r\n", ""),
+        Row {
+            limit: 5,
+            ..plain_row("!x!Ox$$", "?LIM\r\n", "")
+        },
+        Row {
+            register: ";",
+            ..plain_row("@^UA/;/<MA>$$", "?SNI\r\n", "")
+        },
+        Row {
+            register: "+1",
+            ..plain_row("@^UA/+1/2MA=$$", "3\r\n", "")
+        },
+        plain_row("Ox$?!x!$$", "?TAG\r\n", ""),
+    ] {
+        holds(&rt, rt.alloc(), row);
+    }
+}
+
+#[test]
+fn serves_registers(rt: HostRuntime) {
+    for row in [
+        Row {
+            number: 7,
+            ..plain_row("7UAQA=$$", "7\r\n", "")
+        },
+        Row {
+            number: 7,
+            register: "abc",
+            ..plain_row("^UAabc$7UA:QA=$$", "3\r\n", "")
+        },
+        Row {
+            number: 10,
+            ..plain_row("2%A%A+2%A=$$", "10\r\n", "")
+        },
+        plain_row("UA$$", "?NAU\r\n", ""),
+        plain_row("Q?$$", "?IQN\r\n", ""),
+        plain_row("1^UAx$$", "?ARG\r\n", ""),
+        plain_row("1\"", "", ""),
+        plain_row("\"E1='$$", "?NAQ\r\n", ""),
+        plain_row(";$$", "?SNI\r\n", ""),
+        plain_row("3<1;Ix$>Iy$$", "", "y"),
+        plain_row("3<-1;Ix$>$$", "", "xxx"),
+        plain_row("<0\"E1;'>Iy$$", "", "y"),
+    ] {
+        holds(&rt, rt.alloc(), row);
+    }
+}
+
+/// What a source gives before it fails is served as if it had ended there.
+fn fails_alike(alloc: Global, stream: &'static str, read: usize) -> Result<bool, NoMemory> {
+    let mut typed = [Vec::new(alloc), Vec::new(alloc)];
+    for (fails, typed) in [false, true].into_iter().zip(typed.iter_mut()) {
+        let mut bytes = Vec::new(alloc);
+        let mut cuts = Vec::new(alloc);
+        for byte in stream.bytes().take(read) {
+            bytes.push(if byte == b'$' { 27 } else { byte })?;
+            cuts.push(bytes.len())?;
+        }
+        let mut source = MemorySource::new(bytes, cuts, fails);
+        let mut session = Session::new(Vec::new(alloc));
+        let mut term = MemoryTerminal::new(alloc);
+        let served = serve(alloc, &mut source, &mut session, 1000, false, &mut term);
+        let wanted = if fails {
+            Served::ReadFault
+        } else {
+            Served::EndOfCommands
+        };
+        if served != wanted {
+            return Ok(false);
+        }
+        typed.extend_from_slice(term.bytes())?;
+        typed.push(session.strings() as u8)?;
+    }
+    Ok(typed[0] == typed[1])
+}
+
+#[test]
+fn serves_up_to_the_failed_read(rt: HostRuntime) {
+    let stream = "1=$${$$3<Ix$>$$}$$.=$$2{$$";
+    for read in 0..=stream.len() {
+        let held = matches!(fails_alike(rt.alloc(), stream, read), Ok(true))
+            || matches!(fails_alike(rt.alloc(), stream, read), Ok(true));
+        assert!(rt; held, "after {read} bytes");
     }
 }

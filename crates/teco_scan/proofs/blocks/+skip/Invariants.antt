@@ -1,0 +1,24 @@
+use Rattle.std.proofs.Common.{◌≡◌, ◌+◌, ◌≤◌, List, ◌∷◌, length, drop, ◌-◌, ◌*◌}
+use Rattle.teco_scan.specs.declared.blocks.Kind.{Kind}
+use Rattle.teco_scan.specs.Tree.{levels, rest}
+use Rattle.teco_scan.proofs.blocks.+skip.Given as goal
+
+abbrev pub decreases-skip_block : goal.decreases-skip_block
+decreases-skip_block l = 3 * (length l.text.now - l.at)
+
+abbrev pub decreases-skip_node : goal.decreases-skip_node
+decreases-skip_node l = 3 * (length l.text.now - l.token.span.to) + 2
+
+abbrev pub decreases-skip_whole_block : goal.decreases-skip_whole_block
+decreases-skip_whole_block l = 3 * (length l.text.now - l.at) + 1
+
+-- the block goes on as from its beginning: what is left behind it is the same
+abbrev pub invariant-skip_block-loop-code : goal.invariant-skip_block-loop-code
+invariant-skip_block-loop-code l = record {
+  past : l.fn.at ≤ l.next;
+  inside : l.next ≤ length l.text;
+  same : (outer : List Kind) → length outer + 1 ≡ l.depth → rest (levels (drop l.next l.text) (l.kind ∷ outer)) ≡ rest (levels (drop l.fn.at l.text) (l.kind ∷ outer));
+}
+
+abbrev pub decreases-skip_block-loop-code : goal.decreases-skip_block-loop-code
+decreases-skip_block-loop-code l = length l.text - l.next

@@ -1,0 +1,16 @@
+use Rattle.std.proofs.Common.{◌≡◌, ◌≤◌, List, length, drop, ◌-◌}
+use Rattle.teco_scan.specs.declared.blocks.Kind.{Kind}
+use Rattle.teco_scan.specs.Tree.{levels}
+use Rattle.teco_scan.specs.Skip.{tag_in}
+use Rattle.teco_scan.proofs.blocks.find_tag.Given as goal
+
+-- no such tag so far
+abbrev pub invariant-loop-token : goal.invariant-loop-token
+invariant-loop-token l = record {
+  past : l.fn.block_start ≤ l.next;
+  inside : l.next ≤ length l.text;
+  same : (kinds : List Kind) → length kinds ≡ l.depth → tag_in l.name (levels (drop l.next l.text) kinds) ≡ tag_in l.name (levels (drop l.fn.block_start l.text) kinds);
+}
+
+abbrev pub decreases-loop-token : goal.decreases-loop-token
+decreases-loop-token l = length l.text - l.next

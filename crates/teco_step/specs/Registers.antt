@@ -1,0 +1,54 @@
+-- Registers.
+use Rattle.std.specs.Prelude.{ℕ, ◌+◌, List, length, Err, ℤ, pos, ◌+ℤ◌, nat_le, ◌==◌, if◌then◌else◌}
+use Rattle.teco_core.specs.declared.code.Code.TheVariants.{Big, Nau}
+use Rattle.teco_core.specs.declared.arguments.Level.{Level}
+use Rattle.teco_core.specs.declared.arguments.Level.TheVariants as level
+use Rattle.teco_core.specs.Refusal.{◌>>=◌}
+use Rattle.teco_core.specs.Number.{fitted}
+use Rattle.teco_core.specs.Arguments.{Arguments, give, level_of, emptied}
+use Rattle.teco_core.specs.Register.{content}
+use Rattle.teco_scan.specs.declared.command.Modifiers.{Modifiers}
+use Rattle.teco_store.specs.State.{State, text_limit, with_register_number, with_register_text}
+use Rattle.teco_step.specs.Step.{Tried, changes, edits, gives, takes_none, takes_one}
+
+-- Qq gives the number of q; with a colon the length of its text.
+abbrev pub register_value : Modifiers → ℕ → State → Arguments → Tried
+register_value m q s a = gives s a (if m.colons == 1 then pos (length (content s.registers q).text) else (content s.registers q).number)
+
+-- nUq: the number of q becomes n.
+abbrev pub set_number : ℕ → State → Arguments → Tried
+set_number q s a = do
+  n ← takes_one Nau a
+  changes (with_register_number s q n) 0
+
+-- What % adds: the value or the lone sign at the level, and else 1.
+abbrev pub summand : Level → ℤ
+summand (level.Value n) = n
+summand (level.Sign n) = n
+summand level.Empty = pos 1
+summand level.Waits = pos 1
+
+-- A value or a lone sign that is added leaves the level.
+abbrev pub without_summand : Level → Arguments → Arguments
+without_summand (level.Value n) a = emptied a
+without_summand (level.Sign n) a = emptied a
+without_summand level.Empty a = a
+without_summand level.Waits a = a
+
+-- n%q: the sum becomes the number of q, and is given.
+abbrev pub increment : ℕ → State → Arguments → Tried
+increment q s a = do
+  sum ← fitted ((content s.registers q).number +ℤ summand (level_of a.expression))
+  given ← give sum (without_summand (level_of a.expression) a)
+  edits (with_register_number s q sum) given 0
+
+-- The text of q becomes this one, which must be within its limit, else BIG. The load is that of the old and the new one.
+abbrev pub sets_text : ℕ → List ℕ → State → Tried
+sets_text q text s =
+    if nat_le (length text) text_limit then changes (with_register_text s q text) (length (content s.registers q).text + length text) else Err Big
+
+-- ^Uqtext$: the text of q becomes this one.
+abbrev pub set_text : ℕ → List ℕ → State → Arguments → Tried
+set_text q text s a = do
+  none ← takes_none a
+  sets_text q text s
