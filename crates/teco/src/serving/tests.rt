@@ -213,32 +213,37 @@ fn serves_registers(rt: HostRuntime) {
     }
 }
 
+/// How serving the first bytes of a stream ends, how many strings it notes, and what it types.
+fn serve_front(
+    alloc: Global,
+    stream: &'static str,
+    read: usize,
+    fails: bool,
+) -> Result<(Served, usize, Vec<u8>), NoMemory> {
+    let mut bytes = Vec::new(alloc);
+    let mut cuts = Vec::new(alloc);
+    for byte in stream.bytes().take(read) {
+        bytes.push(if byte == b'$' { 27 } else { byte })?;
+        cuts.push(bytes.len())?;
+    }
+    let mut source = MemorySource::new(bytes, cuts, fails);
+    let mut session = Session::new(Vec::new(alloc));
+    let mut term = MemoryTerminal::new(alloc);
+    let served = serve(alloc, &mut source, &mut session, 1000, false, &mut term);
+    let typed = Vec::from_slice(alloc, term.bytes())?;
+    Ok((served, session.strings(), typed))
+}
+
 /// What a source gives before it fails is served as if it had ended there.
 fn fails_alike(alloc: Global, stream: &'static str, read: usize) -> Result<bool, NoMemory> {
-    let mut typed = [Vec::new(alloc), Vec::new(alloc)];
-    for (fails, typed) in [false, true].into_iter().zip(typed.iter_mut()) {
-        let mut bytes = Vec::new(alloc);
-        let mut cuts = Vec::new(alloc);
-        for byte in stream.bytes().take(read) {
-            bytes.push(if byte == b'$' { 27 } else { byte })?;
-            cuts.push(bytes.len())?;
-        }
-        let mut source = MemorySource::new(bytes, cuts, fails);
-        let mut session = Session::new(Vec::new(alloc));
-        let mut term = MemoryTerminal::new(alloc);
-        let served = serve(alloc, &mut source, &mut session, 1000, false, &mut term);
-        let wanted = if fails {
-            Served::ReadFault
-        } else {
-            Served::EndOfCommands
-        };
-        if served != wanted {
-            return Ok(false);
-        }
-        typed.extend_from_slice(term.bytes())?;
-        typed.push(session.strings() as u8)?;
-    }
-    Ok(typed[0] == typed[1])
+    let (ended, strings, typed) = serve_front(alloc, stream, read, false)?;
+    let (failed, others, shown) = serve_front(alloc, stream, read, true)?;
+    Ok(
+        ended == Served::EndOfCommands
+            && failed == Served::ReadFault
+            && strings == others
+            && typed == shown,
+    )
 }
 
 #[test]
