@@ -1,4 +1,7 @@
 pub mod Counts
 pub mod Readings
+pub mod Pieces
 pub mod Servings
 pub mod Texts
+pub mod CommandLines
+mod CommandRows

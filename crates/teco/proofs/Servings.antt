@@ -1,16 +1,16 @@
 -- Lemmas on turns and on servings.
-use Rattle.std.proofs.Common.{◌≡◌, ℕ, zero, suc, ◌+◌, ◌-◌, ◌<◌, ◌≤◌, List, [], ◌∷◌, ◌++◌, map, Bool, true, false, ◌&&◌, not, if◌then◌else◌, Option, Some, None, refl, sym, ap, ◌∙◌, arith, subst, append-nil, append_assoc, length-append, length}
+use Rattle.std.proofs.Common.{◌≡◌, ℕ, suc, ◌+◌, ◌-◌, ◌<◌, List, [], ◌∷◌, ◌++◌, map, Bool, true, false, ◌&&◌, not, if◌then◌else◌, Option, Some, refl, sym, ap, ◌∙◌, arith, subst, append-nil, append_assoc, length-append}
 use Rattle.std.specs.Bool.{MatchBool}
 use Rattle.std.proofs.KnownBytes.{Consumes-nil, Consumes-trans}
 use Rattle.teco_step.specs.Terminal.{Shows, IsFrontOf, counted}
-use Rattle.teco_step.proofs.Shown.{Shows-nil, Shows-trans}
+use Rattle.teco_step.proofs.Shown.{Shows-trans}
 use Rattle.teco_session.specs.History.{History, present}
 use Rattle.teco_session.specs.Step.{Reply}
 use Rattle.teco.specs.Source.{Gives}
 use Rattle.teco.specs.Message.{replies_shown, message, star}
 use Rattle.teco.specs.Turn.{MoveStep, Moves, is_refused, is_run, Turn, turn_shown, exits}
 use Rattle.teco.specs.Stream.{Asks, asks_of, requests, texts_of}
-use Rattle.teco.specs.Serving.{Turns, GoOn, asked_in, turns_shown, all_shown, EndsBy, is_read_fault, AreFirstOf, AllDone, Ends}
+use Rattle.teco.specs.Serving.{Turns, GoOn, asked_in, turns_shown, is_read_fault, AreFirstOf, Ends}
 use Rattle.teco.specs.Held.{IsTurn, TurnEnds, HeldEnds, CutsOff}
 use Rattle.teco.specs.Cut.{AsksFirst, value_of}
 use Rattle.teco.specs.declared.splitter.Asked.{Asked}

@@ -6,7 +6,7 @@ use Rattle.teco.specs.Stream.{Asks, requests, texts_of}
 use Rattle.teco.specs.Turn.{Turn, Does, exits, turn_shown}
 use Rattle.teco.specs.Serving.{EndsBy, GoOn, asked_in, turns_shown}
 use Rattle.teco.specs.declared.served.Served.{Served}
-use Rattle.teco.specs.declared.served.Served.TheVariants.{Exit, EndOfCommands, ReadFault, ShowFault, NoMemory}
+use Rattle.teco.specs.declared.served.Served.TheVariants.{Exit, EndOfCommands, ReadFault, ShowFault}
 
 -- a turn that did what was asked, from the old history to the new one
 pub record IsTurn (limit : ℕ) (asked : Asks) (old new : History) (turn : Turn) : Type 0 where

@@ -1,8 +1,10 @@
 pub mod Stream
 pub mod Cut
 pub mod Source
+pub mod Pieces
 pub mod Message
 pub mod Turn
 pub mod Serving
 pub mod Held
 pub mod Ending
+pub mod CommandLine

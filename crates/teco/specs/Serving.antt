@@ -1,9 +1,9 @@
 -- Serving a stream: a turn for each text, and how it ends.
-use Rattle.std.specs.Prelude.{◌≡◌, ℕ, List, [], ◌∷◌, ◌++◌, ◌≤◌, length, map, Option, Some, None, Bool, true, false}
+use Rattle.std.specs.Prelude.{◌≡◌, ℕ, List, [], ◌∷◌, ◌++◌, ◌≤◌, length, map, Option, Bool, true, false}
 use Rattle.std.specs.List.{flat_map}
 use Rattle.teco_step.specs.Terminal.{Shows, IsFrontOf}
 use Rattle.teco_session.specs.History.{History}
-use Rattle.teco.specs.Stream.{Asks, requests, texts_of}
+use Rattle.teco.specs.Stream.{Asks, requests}
 use Rattle.teco.specs.Message.{star}
 use Rattle.teco.specs.Turn.{Turn, Does, exits, turn_shown}
 use Rattle.teco.specs.declared.served.Served.{Served}

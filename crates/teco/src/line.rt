@@ -1,6 +1,8 @@
 //! The program's command line.
-ghost use Rattle.std.specs.Prelude.{◌≡◌, ◌≤◌, IfOk};
+ghost use Rattle.std.specs.Prelude.{◌≡◌, ◌≤◌, IfErr, IfOk, false, map};
 ghost use Rattle.std.specs.String.{string_bytes};
+ghost use Rattle.clap.specs.Words.{app_of, rule_of};
+ghost use Rattle.teco.specs.CommandLine.{IsLine, IsLineFault, limit_rule, teco_app};
 ghost use Rattle.teco.specs.Ending.{output_of};
 
 use clap::error::ErrorKind;
@@ -10,9 +12,6 @@ use teco_core::NoMemory;
 
 /// The most steps that a command string may be given.
 pub const MOST_STEPS: u64 = 1_000_000_000_000;
-
-// The most steps where the line does not say them.
-const USUAL_STEPS: u64 = 1_000_000;
 
 /// What the command line says.
 #[derive(Debug, Drop)]
@@ -37,12 +36,20 @@ pub enum LineFault {
 }
 
 impl From<NoMemory> for LineFault {
+    ghost use Rattle.teco.specs.declared.line.LineFault.TheVariants.{NoMemory as no_memory};
+
+    ghost from_gives = { λ _ fault. fault ≡ no_memory };
+
     fn from(_: NoMemory) -> LineFault {
         LineFault::NoMemory
     }
 }
 
 impl From<clap::Error> for LineFault {
+    ghost use Rattle.teco.specs.CommandLine.{line_fault_of};
+
+    ghost from_gives = { λ error fault. fault ≡ line_fault_of error };
+
     fn from(error: clap::Error) -> LineFault {
         match error.kind() {
             ErrorKind::OutOfMemory => LineFault::NoMemory,
@@ -51,13 +58,22 @@ impl From<clap::Error> for LineFault {
     }
 }
 
-fn command<'a>(alloc: Global) -> Result<Command<'a>, NoMemory> {
-    let limit = Arg::new(alloc, "limit")
+fn limit_arg<'a>(alloc: Global) -> Arg<'a>
+    ensures rule { rule_of result ≡ limit_rule }
+    ensures local { result.global ≡ false }
+{
+    Arg::new(alloc, "limit")
         .long("limit")
         .value_name("N")
         .action(ArgAction::Set)
         .value_parser(clap::value_parser!(u64).range(0..=MOST_STEPS as i64))
-        .default_value("1000000");
+        .default_value("1000000")
+}
+
+// The command that the words are read by.
+fn command<'a>(alloc: Global) -> Result<Command<'a>, NoMemory>
+    ensures { IfOk result (λ command. app_of command ≡ teco_app) }
+{
     let output = Arg::new(alloc, "output")
         .long("output")
         .value_name("FILE")
@@ -70,7 +86,7 @@ fn command<'a>(alloc: Global) -> Result<Command<'a>, NoMemory> {
         .required(true)
         .action(ArgAction::Set);
     Command::new(alloc, "teco")
-        .arg(limit)?
+        .arg(limit_arg(alloc))?
         .arg(output)?
         .arg(prompt)?
         .arg(input)
@@ -78,24 +94,22 @@ fn command<'a>(alloc: Global) -> Result<Command<'a>, NoMemory> {
 
 /// What the words say, the program's name first: `teco [--limit N] [--output FILE] [--prompt] INPUT`.
 pub fn line_of(alloc: Global, words: &[String]) -> Result<Line, LineFault>
-    ensures { IfOk result (λ line. line.limit ≤ 1000000000000) }
+    ensures line { IfOk result (IsLine (map string_bytes words.now)) }
+    ensures range { IfOk result (λ line. line.limit ≤ 1000000000000) }
+    ensures refused { IfErr result (IsLineFault (map string_bytes words.now)) }
 {
     let matches = command(alloc)?.try_get_matches_from(words)?;
-    let input = String::from_str(alloc, matches.get_str("input").unwrap_or(""))?;
+    let input = String::from_str(alloc, matches.get_str("input").unwrap())?;
     let output = match matches.get_str("output") {
         Some(name) => Some(String::from_str(alloc, name)?),
         None => None,
     };
-    // The parser keeps the range too; the minimum is what the clause rests on.
-    let limit = matches
-        .get_one::<u64>("limit")
-        .unwrap_or(USUAL_STEPS)
-        .min(MOST_STEPS);
+    let limit = matches.get_one::<u64>("limit").unwrap();
     Ok(Line {
         input,
         output,
         limit,
-        prompt: matches.get_flag("prompt"),
+        prompt: matches.get_one::<bool>("prompt").unwrap_or(false),
     })
 }
 

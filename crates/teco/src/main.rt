@@ -1,7 +1,8 @@
 //! The editor: a stream of commands, served.
 #![tactic(auto)]
 
-ghost use Rattle.std.specs.Prelude.{◌≤◌, IfOk, vec_len};
+ghost use Rattle.std.specs.IoError.{error_kind};
+ghost use Rattle.std.specs.Prelude.{◌≡◌, ◌≢◌, ◌≤◌, IfOk, vec_len};
 ghost use Rattle.teco_store.specs.State.{file_limit};
 
 mod ending;
@@ -32,7 +33,10 @@ use teco_store::Desk;
 const INPUT_LIMIT: usize = 1 << 30;
 
 /// How the program ends at an error of the system: where it lacked memory, without it, and else so.
-fn fate_of(error: io::Error, other: Fate) -> Fate {
+fn fate_of(error: io::Error, other: Fate) -> Fate
+    ensures memory { error_kind error ≡ ErrorKind.OutOfMemory → result ≡ Fate.NoMemory }
+    ensures other { error_kind error ≢ ErrorKind.OutOfMemory → result ≡ other }
+{
     match error.kind() {
         ErrorKind::OutOfMemory => Fate::NoMemory,
         _ => other,

@@ -9,7 +9,7 @@ pub mod Leaves
 pub mod Departing
 pub mod Faulty
 pub mod Fitting
-pub mod Found
+pub mod Both
 pub mod Going
 pub mod Behind
 pub mod Steps

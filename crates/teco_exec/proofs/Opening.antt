@@ -22,7 +22,7 @@ use Rattle.teco_scan.specs.declared.token.Found.TheVariants as places
 use Rattle.teco_scan.specs.declared.token.Token.{Token}
 use Rattle.teco_scan.specs.declared.token.TokenKind.TheVariants as kind
 use Rattle.teco_scan.specs.Skip.{after_block, behind, remaining}
-use Rattle.teco_scan.specs.Tree.{Nodes, done, iter, cond, faulty, Levels, last, level, first, rest, every, iter_of, cond_of, levels}
+use Rattle.teco_scan.specs.Tree.{Nodes, done, iter, cond, faulty, Levels, level, first, rest, every, iter_of, cond_of, levels}
 use Rattle.teco_store.specs.State.{State}
 use Rattle.teco_step.specs.Step.{on, stop, just_one, takes_one}
 use Rattle.teco_step.specs.Stepping.{is_unfinished_code}

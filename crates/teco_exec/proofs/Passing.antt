@@ -37,7 +37,8 @@ use Rattle.teco_exec.specs.declared.moves.Coming.TheVariants as coming
 use Rattle.teco_exec.specs.declared.place.Place.{Place}
 use Rattle.teco_exec.proofs.Closing.{first_put, rest_put, first_every, close_stop, close_escape, close_tag, close_faulty, close_item, close_iter, close_cond}
 use Rattle.teco_exec.proofs.Fitting.{kinds_length, fits_same, fits_behind, IsHere, place_here, run_here, left_here}
-use Rattle.teco_exec.proofs.Found.{and_left, and_right, fault_is_finished}
+use Rattle.teco_exec.proofs.Both.{and_left, and_right}
+use Rattle.teco_exec.proofs.Faulty.{fault_is_finished}
 use Rattle.teco_exec.proofs.Fuel.{list_is}
 use Rattle.std.proofs.lemmas.Bool.Decides.{nat_tests}
 use Rattle.teco_scan.proofs.Trees.{levels_step}

@@ -1,8 +1,7 @@
 -- Where bytes that admit themselves alone stand, as the occurrences of the pattern that they are.
-use Rattle.std.proofs.Common.{◌≡◌, ℕ, ◌+◌, ◌-◌, ◌<◌, ◌≤◌, List, [], ◌∷◌, length, map, true, Option, Some, None, nat_lt, sym, ap, subst, ◌∙◌, arith, ⊎_elim}
+use Rattle.std.proofs.Common.{◌≡◌, ℕ, ◌+◌, ◌-◌, ◌<◌, List, [], ◌∷◌, length, map, true, Some, None, nat_lt, sym, ap, ◌∙◌, arith, ⊎_elim}
 use Rattle.std.specs.Prelude.{min}
 use Rattle.std.specs.List.{list_all}
-use Rattle.std.specs.Option.{option_map}
 use Rattle.std.proofs.lemmas.Bool.{cases_lt, and_parts, ltb-true}
 use Rattle.std.proofs.lemmas.List.{length-map}
 use Rattle.memchr.specs.Find.{OccursAt, FindsNeedle, FindsLastNeedleBy}
@@ -12,7 +11,7 @@ use Rattle.teco_search.specs.declared.search.Forward.TheVariants as forwards
 use Rattle.teco_search.specs.declared.search.Backward.{Backward}
 use Rattle.teco_search.specs.declared.search.Backward.TheVariants as backwards
 use Rattle.teco_search.specs.Literal.{plain, is_exact}
-use Rattle.teco_search.specs.Occurrence.{Sought, Span, looked_for, match_end, forward, before, backward, BeginsForward, BeginsBackward}
+use Rattle.teco_search.specs.Occurrence.{looked_for, match_end, forward, before, backward}
 use Rattle.teco_search.specs.Search.{is_ready_forward, is_ready_backward}
 use Rattle.teco_search.proofs.Past.{match_past}
 use Rattle.teco_search.proofs.Occurring.{forward-none, forward-some, before-none, before-some, backward-none, backward-some}

@@ -1,9 +1,9 @@
 -- Where bytes stand in a text of two halves, from where they stand in each.
-use Rattle.std.proofs.Common.{◌≡◌, ℕ, ◌+◌, ◌-◌, ◌<◌, ◌≤◌, List, ◌++◌, length, get_or, take, drop, Option, Some, None, refl, sym, ap, subst, ◌∙◌, arith, ⊎_elim, length-append, length-drop, length-take}
+use Rattle.std.proofs.Common.{◌≡◌, ℕ, ◌+◌, ◌-◌, ◌<◌, ◌≤◌, List, ◌++◌, length, get_or, take, drop, Option, Some, refl, sym, ap, subst, ◌∙◌, arith, ⊎_elim, length-append, length-drop, length-take}
 use Rattle.std.specs.Prelude.{min, max}
 use Rattle.std.proofs.lemmas.Bool.{cases_lt}
 use Rattle.std.proofs.lemmas.List.{take_rest, get_or_append_left, get_or-append_right, get_or-take, get_or-drop}
-use Rattle.memchr.specs.Find.{FindsNeedle, OccursAt, Nowhere, NoneBefore, NoneAfter, IsFirst, IsLast}
+use Rattle.memchr.specs.Find.{FindsNeedle, OccursAt, Nowhere, IsFirst, IsLast}
 
 module _ (bytes : List ℕ) where
   dropped_to : (xs : List ℕ) (a k : ℕ) → a ≤ length xs → OccursAt (drop a xs) bytes k → OccursAt xs bytes (a + k)

@@ -1,12 +1,12 @@
 -- The occurrences are what their words say.
-use Rattle.std.proofs.Common.{◌≡◌, ◌⊎◌, ℕ, zero, suc, ◌+◌, ◌-◌, ◌<◌, ◌≤◌, Bool, true, false, List, [], ◌∷◌, length, Option, Some, None, nat_le, refl, sym, ap, subst, ◌∙◌, arith, inl, inr, ⊎_elim}
+use Rattle.std.proofs.Common.{◌≡◌, ◌⊎◌, ℕ, zero, suc, ◌+◌, ◌<◌, ◌≤◌, Bool, true, false, List, [], ◌∷◌, length, Option, Some, None, nat_le, refl, sym, ap, subst, ◌∙◌, arith, inl, inr, ⊎_elim}
 use Rattle.std.specs.Prelude.{AllPairs, All}
 use Rattle.std.proofs.lemmas.Bool.{cases_Bool, cases_eq, cases_lt, leb-true, leb-false, both_ways, le-leb}
 use Rattle.std.proofs.lemmas.List.Elements.{All-nil, All-cons, All-weaker}
 use Rattle.std.proofs.lemmas.List.Kept.{AllPairs-cons}
 use Rattle.std.proofs.lemmas.Option.{none-some, same_Some}
 use Rattle.teco_search.specs.Occurrence.{Sought, Span, match_end, forward, before, backward}
-use Rattle.teco_search.specs.Law.{MatchesTo, IsNext, IsLastBefore, IsLastBy, AreForward, AreBefore, AreBackward}
+use Rattle.teco_search.specs.Law.{MatchesTo, AreForward, AreBefore, AreBackward}
 use Rattle.teco_search.proofs.Occurring.{ends_past, forward-none, forward-some, before-none, before-some, backward-none, backward-some}
 
 none_from : (o : Option ℕ) → ((q : ℕ) → o ≡ Some q → ⊥) → o ≡ None

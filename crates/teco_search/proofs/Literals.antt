@@ -1,11 +1,11 @@
 -- Search texts of bytes that admit themselves alone: they match where they stand.
-use Rattle.std.proofs.Common.{◌≡◌, ℕ, zero, suc, ◌+◌, ◌-◌, ◌<◌, ◌≤◌, Bool, true, false, cond, eqb, leb, not, ◌&&◌, ◌||◌, List, [], ◌∷◌, ◌++◌, length, get_or, map, Result, Option, Some, None, Ok, Err, refl, sym, ap, subst, ◌∙◌, arith, inl, inr, ⊎_elim, slice_index, nat_lt}
-use Rattle.std.specs.Prelude.{slice_get, option_and_then}
+use Rattle.std.proofs.Common.{◌≡◌, ℕ, zero, suc, ◌+◌, ◌-◌, ◌<◌, ◌≤◌, Bool, true, false, eqb, leb, List, [], ◌∷◌, ◌++◌, length, get_or, map, Result, Option, Some, None, Ok, Err, refl, sym, ap, subst, ◌∙◌, arith, ⊎_elim, nat_lt}
+use Rattle.std.specs.Prelude.{slice_get}
 use Rattle.std.specs.Global.{Vec}
 use Rattle.std.specs.List.{list_all}
-use Rattle.std.proofs.lemmas.Bool.{ltb-true, eqb-true, eq-eqb, ne_eqb, false≢true, le-leb, and_from, cases_Bool, or_parts, and_parts, and_cases, leb-true, leb-false, not-true, cases_eq}
+use Rattle.std.proofs.lemmas.Bool.{ltb-true, eqb-true, eq-eqb, ne_eqb, false≢true, le-leb, and_from, cases_Bool, or_parts, and_parts, leb-true, not-true}
 use Rattle.std.proofs.lemmas.List.{length-map}
-use Rattle.std.proofs.lemmas.Option.{none-some, same_Some, slice_get-get_or, slice_get_within, get_or_from_slice_get, option_and_then_some, cond_some}
+use Rattle.std.proofs.lemmas.Option.{same_Some, slice_get-get_or, slice_get_within, get_or_from_slice_get, option_and_then_some, cond_some}
 use Rattle.memchr.specs.Find.{OccursAt}
 use Rattle.teco_core.specs.declared.code.Code.{Code}
 use Rattle.teco_core.specs.declared.code.Code.TheVariants.{Ice}
@@ -18,15 +18,13 @@ use Rattle.teco_search.specs.declared.element.Item.{Item}
 use Rattle.teco_search.specs.declared.element.Item.TheVariants as item
 use Rattle.teco_search.specs.declared.element.Item.TheVariants.{Byte}
 use Rattle.teco_search.specs.declared.element.OneByte.TheVariants.{Single}
-use Rattle.teco_search.specs.declared.element.Element.{Element}
-use Rattle.teco_search.specs.declared.element.Element.TheVariants.{Among}
-use Rattle.teco_search.specs.Element.{is_lower, is_upper, is_letter, upper, is_same, item_admits, admits}
-use Rattle.teco_search.specs.Reading.{Reading, class_named, stands_at, byte_at, item_by, item_at, one_byte_at, element_at}
+use Rattle.teco_search.specs.Element.{is_lower, is_upper, is_letter, upper, item_admits, admits}
+use Rattle.teco_search.specs.Reading.{Reading, class_named, byte_at, item_by, item_at, one_byte_at, element_at}
 use Rattle.teco_search.specs.Literal.{plain, is_exact}
 use Rattle.teco_search.specs.declared.pattern.Form.{Form}
 use Rattle.teco_search.specs.declared.pattern.Form.TheVariants.{Literal}
 use Rattle.teco_search.specs.Pattern.{elements_of, is_sound}
-use Rattle.teco_search.specs.Occurrence.{Sought, looked_for, end_of_byte, element_end, match_end}
+use Rattle.teco_search.specs.Occurrence.{Sought, looked_for, element_end, match_end}
 
 -- A byte that is no small letter is its own capital.
 upper_of_other : (x : ℕ) → is_lower x ≡ false → upper x ≡ x

@@ -1,5 +1,5 @@
 -- The nth occurrence, by the number's sign.
-use Rattle.std.proofs.Common.{◌≡◌, ◌≢◌, ℕ, zero, suc, ◌+◌, ◌-◌, List, true, false, sym, ap, ◌∙◌, refl, arith, pos, negsuc}
+use Rattle.std.proofs.Common.{◌≡◌, ◌≢◌, ℕ, zero, suc, ◌-◌, List, true, false, sym, ap, ◌∙◌, refl, arith, pos, negsuc}
 use Rattle.std.specs.Prelude.{ℤ, slice_get}
 use Rattle.std.proofs.lemmas.Bool.{true≢false, false≢true, lt-ltb}
 use Rattle.teco_search.specs.Occurrence.{Sought, forward, backward, occurrence}

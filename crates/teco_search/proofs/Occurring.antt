@@ -1,8 +1,8 @@
 -- What a search place by place knows, as what the occurrences are.
-use Rattle.std.proofs.Common.{◌≡◌, ℕ, ◌<◌, ◌≤◌, Bool, true, false, List, [], ◌∷◌, length, Option, Some, None, sym, ap, ◌∙◌, arith, ⊎_elim}
+use Rattle.std.proofs.Common.{◌≡◌, ℕ, ◌<◌, ◌≤◌, List, [], ◌∷◌, length, Option, Some, None, sym, ◌∙◌, arith, ⊎_elim}
 use Rattle.std.proofs.lemmas.Bool.{lt-leb, le-leb, cases_lt}
 use Rattle.std.proofs.lemmas.Option.{none-some}
-use Rattle.teco_search.specs.Occurrence.{Sought, Span, starts_from, starts_by, ends_by, match_end, match_at, matches, chosen, forward, before, backward}
+use Rattle.teco_search.specs.Occurrence.{Sought, starts_by, ends_by, match_end, match_at, matches, forward, before, backward}
 use Rattle.teco_search.proofs.Choosing.{forward_none, forward_hit, backward_none, backward_hit}
 use Rattle.teco_search.proofs.Past.{EndsPast, match_past, match_at-hit, match_at-none, match_at-start, placed}
 

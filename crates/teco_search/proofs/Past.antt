@@ -1,7 +1,6 @@
 -- A match ends behind its start and within the text.
-use Rattle.std.proofs.Common.{◌≡◌, ℕ, zero, suc, cond, eqb, drop, ◌+◌, ◌<◌, ◌≤◌, Bool, not, List, [], ◌∷◌, length, Option, Some, None, refl, sym, ap, ⊎_elim, ◌∙◌, arith, length-drop}
-use Rattle.std.specs.Prelude.{option_and_then, slice_get}
-use Rattle.std.specs.List.{prefix_len}
+use Rattle.std.proofs.Common.{◌≡◌, ℕ, zero, suc, cond, eqb, drop, ◌+◌, ◌<◌, ◌≤◌, Bool, not, List, [], ◌∷◌, length, Option, Some, None, refl, sym, ap, ⊎_elim, arith, length-drop}
+use Rattle.std.specs.Prelude.{slice_get}
 use Rattle.std.specs.Option.{option_map}
 use Rattle.std.proofs.lemmas.Bool.{cases_eq, ne_eqb}
 use Rattle.std.proofs.lemmas.Option.{option_and_then_some, cond_some, slice_get_within, same_Some, none-some}

@@ -1,6 +1,5 @@
 -- Worked rows of the definitions.
-use Rattle.std.proofs.Common.{◌≡◌, ℕ, suc, ◌+◌, ◌∷◌, [], ◌++◌, List, Option, Some, None, Result, Ok, Err, pos, negsuc, refl, codes}
-use Rattle.teco_core.specs.declared.code.Code.{Code}
+use Rattle.std.proofs.Common.{◌≡◌, ℕ, ◌∷◌, [], Some, None, Ok, Err, pos, negsuc, refl, codes}
 use Rattle.teco_core.specs.declared.code.Code.TheVariants.{Ice}
 use Rattle.teco_core.specs.declared.case_mode.CaseMode.{CaseMode}
 use Rattle.teco_core.specs.declared.case_mode.CaseMode.TheVariants.{Exact, Either}
@@ -11,7 +10,7 @@ use Rattle.teco_search.specs.declared.element.Element.{Element}
 use Rattle.teco_search.specs.declared.element.Element.TheVariants.{Among, Except, Blanks}
 use Rattle.teco_search.specs.Reading.{byte_at, item_at, listed_at, items_at, one_byte_at, element_at, elements_at, read}
 use Rattle.teco_search.specs.Element.{is_in, item_admits, admits}
-use Rattle.teco_search.specs.Occurrence.{Sought, Span, element_end, match_end, match_at, matches, chosen, forward, before, backward, occurrence}
+use Rattle.teco_search.specs.Occurrence.{Sought, element_end, match_end, match_at, matches, chosen, forward, backward, occurrence}
 
 abbrev plain : ℕ → Element
 plain b = Among (Single (item.Byte b))

@@ -1,5 +1,5 @@
 -- Runs of spaces and tabs from a place on.
-use Rattle.std.proofs.Common.{◌≡◌, ℕ, ◌+◌, ◌<◌, ◌≤◌, inl, inr, true, false, List, length, Option, Some, None, refl, subst, sym, ap, ◌∙◌, arith, [], ◌∷◌, get_or, drop}
+use Rattle.std.proofs.Common.{◌≡◌, ℕ, ◌+◌, ◌<◌, ◌≤◌, inl, inr, true, false, List, length, Some, None, refl, sym, ap, ◌∙◌, arith, ◌∷◌, get_or, drop}
 use Rattle.std.specs.List.{slice_get}
 use Rattle.std.proofs.lemmas.Option.{slice_get_within, slice_get_cases, none-some, get_or_from_slice_get}
 use Rattle.std.proofs.lemmas.List.{at_drop_more}

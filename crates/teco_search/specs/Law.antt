@@ -1,6 +1,6 @@
 -- What holds of all occurrences.
-use Rattle.std.specs.Prelude.{◌≡◌, ℕ, ◌<◌, ◌≤◌, List, [], ◌∷◌, length, Option, Some, None, AllPairs}
-use Rattle.teco_search.specs.Occurrence.{Sought, Span, match_end, forward, before, backward}
+use Rattle.std.specs.Prelude.{◌≡◌, ℕ, ◌<◌, ◌≤◌, List, [], ◌∷◌, length, Some, AllPairs}
+use Rattle.teco_search.specs.Occurrence.{Sought, Span, match_end}
 
 abbrev pub MatchesTo : Sought → List ℕ → ℕ → ℕ → Type 0
 MatchesTo sought text p q = match_end sought.mode sought.elements text p ≡ Some q

@@ -6,3 +6,4 @@ pub mod Pattern
 pub mod Search
 pub mod Law
 pub mod Run
+pub mod Shown

@@ -1,5 +1,5 @@
 -- How a search text that has been read is kept.
-use Rattle.std.specs.Prelude.{ℕ, Bool, ◌&&◌, List, length, map, nat_lt}
+use Rattle.std.specs.Prelude.{Bool, ◌&&◌, List, length, map, nat_lt}
 use Rattle.std.specs.List.{list_all}
 use Rattle.teco_core.specs.declared.case_mode.CaseMode.{CaseMode}
 use Rattle.teco_search.specs.declared.element.Element.{Element}

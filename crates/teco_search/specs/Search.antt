@@ -1,5 +1,5 @@
 -- A pattern made ready for a search.
-use Rattle.std.specs.Prelude.{ℕ, Bool, ◌&&◌, List, length, map, nat_lt}
+use Rattle.std.specs.Prelude.{Bool, ◌&&◌, length, map, nat_lt}
 use Rattle.std.specs.List.{list_all}
 use Rattle.teco_search.specs.declared.search.Forward.{Forward}
 use Rattle.teco_search.specs.declared.search.Forward.TheVariants as forward

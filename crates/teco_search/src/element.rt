@@ -1,8 +1,9 @@
 //! The elements of a search text, and which bytes they admit.
-ghost use Rattle.std.specs.Prelude.{◌≡◌, ◌↔◌, IsTrue};
+ghost use Rattle.std.specs.Prelude.{◌≡◌, ◌↔◌, IsTrue, Some};
 ghost use Rattle.std.specs.List.{list_any};
 ghost use Rattle.teco_search.specs.Element.{is_lower, is_upper, is_letter, is_digit, is_blank, is_line_end, upper, is_in, item_admits, admits};
 ghost use Rattle.teco_search.specs.Literal.{is_exact};
+ghost use Rattle.teco_search.specs.Shown.{shown_byte, shown_class, shown_element, shown_item, shown_items, shown_one};
 
 use std::fmt;
 use std::marker::Model;
@@ -206,6 +207,8 @@ impl Element {
 }
 
 impl fmt::Display for Class {
+    ghost output = { λ class. Some (shown_class class) };
+
     fn fmt<W: fmt::Write>(&self, f: &mut fmt::Formatter<W>) -> fmt::Result {
         f.write_str(match self {
             Class::Any => "^EX",
@@ -220,36 +223,51 @@ impl fmt::Display for Class {
     }
 }
 
-/// A byte stands as itself, or by its code where it is no ASCII character that shows.
-pub(crate) fn show_byte<W: fmt::Write>(byte: u8, f: &mut fmt::Formatter<W>) -> fmt::Result {
-    if b' ' <= byte && byte <= b'~' {
-        f.write_char(char::from(byte))
-    } else {
-        write!(f, "<{byte}>")
+/// A byte that stands as itself, or by its code where it is no ASCII character that shows.
+#[derive(Clone, Copy, Debug)]
+pub(crate) struct Shown(pub u8);
+
+impl fmt::Display for Shown {
+    ghost output = { λ shown. Some (shown_byte shown.0) };
+
+    fn fmt<W: fmt::Write>(&self, f: &mut fmt::Formatter<W>) -> fmt::Result {
+        let byte = self.0;
+        if b' ' <= byte && byte <= b'~' {
+            f.write_char(char::from(byte))
+        } else {
+            write!(f, "<{byte}>")
+        }
     }
 }
 
 impl fmt::Display for Item {
+    ghost output = { λ item. Some (shown_item item) };
+
     fn fmt<W: fmt::Write>(&self, f: &mut fmt::Formatter<W>) -> fmt::Result {
         match self {
-            Item::Byte(byte) => show_byte(*byte, f),
+            Item::Byte(byte) => write!(f, "{}", Shown(*byte)),
             Item::Class(class) => write!(f, "{class}"),
         }
     }
 }
 
 impl fmt::Display for Items {
+    ghost output = { λ items. Some (shown_items items) };
+
     fn fmt<W: fmt::Write>(&self, f: &mut fmt::Formatter<W>) -> fmt::Result {
-        let mut comma = "";
-        for item in &self.items {
-            write!(f, "{comma}{item}")?;
-            comma = ",";
+        if let [first, others @ ..] = self.items.as_slice() {
+            write!(f, "{first}")?;
+            for item in others {
+                write!(f, ",{item}")?;
+            }
         }
         Ok(())
     }
 }
 
 impl fmt::Display for OneByte {
+    ghost output = { λ one. Some (shown_one one) };
+
     fn fmt<W: fmt::Write>(&self, f: &mut fmt::Formatter<W>) -> fmt::Result {
         match self {
             OneByte::Single(item) => write!(f, "{item}"),
@@ -259,6 +277,8 @@ impl fmt::Display for OneByte {
 }
 
 impl fmt::Display for Element {
+    ghost output = { λ element. Some (shown_element element) };
+
     fn fmt<W: fmt::Write>(&self, f: &mut fmt::Formatter<W>) -> fmt::Result {
         match self {
             Element::Among(one) => write!(f, "{one}"),

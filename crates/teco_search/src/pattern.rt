@@ -1,10 +1,13 @@
 //! Search texts that have been read.
-ghost use Rattle.std.specs.Prelude.{◌≡◌, ◌⊎◌, ◌++◌, ◌<◌, ◌≤◌, length, IfOk, IfErr, Ok, Err, IsTrue, ◌≢◌, pos};
+ghost use Rattle.std.specs.Prelude.{◌≡◌, ◌⊎◌, ◌++◌, ◌<◌, ◌≤◌, length, IfOk, IfErr, Ok, Err, IsTrue, ◌≢◌, pos, Some};
+ghost use Rattle.std.specs.Fmt.{WritesOnOk};
+ghost use Rattle.std.specs.List.{flat_map};
 ghost use Rattle.teco_search.specs.Occurrence.{match_end, forward, occurrence};
 ghost use Rattle.teco_search.specs.Search.{sought_forward, sought_backward, is_ready_forward, is_ready_backward};
 ghost use Rattle.teco_search.specs.Reading.{read};
+ghost use Rattle.teco_search.specs.Shown.{shown, shown_byte};
 
-use crate::element::{Element, show_byte};
+use crate::element::{Element, Shown};
 use crate::joined::Joined;
 use crate::matching::match_end;
 use crate::reading::{literal, read};
@@ -64,22 +67,34 @@ impl Pattern {
     }
 }
 
+/// Shows bytes that stand for themselves.
+fn show_bytes<W: fmt::Write>(bytes: &[u8], f: &mut fmt::Formatter<W>) -> fmt::Result
+    ensures { WritesOnOk W.write_str_gives f.old result (flat_map shown_byte bytes.now) f.new }
+{
+    'bytes: for byte in bytes {
+        write!(f, "{}", Shown(*byte))?;
+    }
+    Ok(())
+}
+
+fn show_elements<W: fmt::Write>(elements: &[Element], f: &mut fmt::Formatter<W>) -> fmt::Result
+    ensures { WritesOnOk W.write_str_gives f.old result (shown elements.now) f.new }
+{
+    'elements: for element in elements {
+        write!(f, "{element}")?;
+    }
+    Ok(())
+}
+
 impl fmt::Display for Pattern {
+    ghost output = { λ pattern. Some (shown pattern.elements) };
+
     /// The search text, its controls as `^E` and a letter, a byte that doesn't show by its code in angle brackets.
     fn fmt<W: fmt::Write>(&self, f: &mut fmt::Formatter<W>) -> fmt::Result {
         match &self.form {
-            Form::Literal(bytes) => {
-                for byte in bytes {
-                    show_byte(*byte, f)?;
-                }
-            }
-            Form::Elements(elements) => {
-                for element in elements {
-                    write!(f, "{element}")?;
-                }
-            }
+            Form::Literal(bytes) => show_bytes(bytes, f),
+            Form::Elements(elements) => show_elements(elements, f),
         }
-        Ok(())
     }
 }
 

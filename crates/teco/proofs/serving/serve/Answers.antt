@@ -1,4 +1,4 @@
-use Rattle.std.proofs.Common.{◌≡◌, ℕ, List, [], ◌∷◌, ◌++◌, take, Bool, true, false, refl, sym, ap, subst, ◌∙◌, append-nil, arith, rules}
+use Rattle.std.proofs.Common.{◌≡◌, [], ◌++◌, take, true, false, refl, sym, ap, subst, append-nil, arith, rules}
 use Rattle.std.proofs.lemmas.Grind.{common_steps}
 use Rattle.teco_step.specs.Terminal.{Shows}
 use Rattle.teco.specs.Source.{Gives}

@@ -1,9 +1,7 @@
-use Rattle.std.proofs.Common.{◌≡◌, ℕ, List, [], ◌∷◌, ◌++◌, false, Some, refl, sym, subst, ◌∙◌}
+use Rattle.std.proofs.Common.{[], ◌∷◌, ◌++◌, false, Some, sym, subst}
 use Rattle.teco_step.specs.Terminal.{Shows}
 use Rattle.teco_step.proofs.Shown.{Shows-trans}
 use Rattle.teco.specs.Cut.{AsksFirst}
-use Rattle.teco.specs.Turn.{Turn}
-use Rattle.teco.specs.Serving.{turns_shown}
 use Rattle.teco.proofs.Servings.{turn_more, HeldEnds-one, GoOn-append, turns_shown-one}
 use Rattle.teco.proofs.serving.serve_held.Goals as goal
 

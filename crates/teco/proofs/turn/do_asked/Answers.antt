@@ -1,7 +1,7 @@
-use Rattle.std.proofs.Common.{◌≡◌, ℕ, List, [], ◌∷◌, ◌++◌, true, false, refl, sym, ap, ◌∙◌, subst, append-nil, append_assoc, arith}
+use Rattle.std.proofs.Common.{◌≡◌, [], ◌∷◌, ◌++◌, true, false, refl, sym, ◌∙◌, subst, append-nil}
 use Rattle.teco_step.specs.Terminal.{Shows, Puts}
 use Rattle.teco_session.specs.Step.{Reply, RunStep, is_terminal_failure}
-use Rattle.teco.specs.Message.{replies_shown, message}
+use Rattle.teco.specs.Message.{message}
 use Rattle.teco_step.proofs.Shown.{Puts-after}
 use Rattle.teco.proofs.turn.do_asked.Goals as goal
 

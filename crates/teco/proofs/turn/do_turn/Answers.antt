@@ -1,10 +1,10 @@
-use Rattle.std.proofs.Common.{◌≡◌, ℕ, List, [], ◌∷◌, ◌++◌, Bool, ◌&&◌, not, true, false, refl, sym, ap, ◌∙◌, subst, append-nil, if◌then◌else◌}
+use Rattle.std.proofs.Common.{◌≡◌, [], ◌++◌, true, false, refl, sym, ap, ◌∙◌, subst, if◌then◌else◌}
 use Rattle.teco_step.specs.Terminal.{Shows, IsFrontOf}
 use Rattle.teco_step.proofs.Shown.{Shows-trans}
 use Rattle.teco_session.specs.History.{present}
 use Rattle.teco.specs.Cut.{value_of}
-use Rattle.teco.specs.Message.{replies_shown, message, star}
-use Rattle.teco.specs.Turn.{Turn, turn_shown, exits, is_run}
+use Rattle.teco.specs.Message.{replies_shown, star}
+use Rattle.teco.specs.Turn.{Turn, exits}
 use Rattle.teco.proofs.Servings.{exits_from, front-longer, front-after, shown_exit, shown_on}
 use Rattle.teco.proofs.turn.do_turn.Goals as goal
 

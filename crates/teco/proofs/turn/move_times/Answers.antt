@@ -1,9 +1,8 @@
-use Rattle.std.proofs.Common.{◌≡◌, ℕ, zero, ◌+◌, ◌-◌, List, [], ◌∷◌, ◌++◌, true, false, refl, sym, ap, ◌∙◌, subst, append-nil, append_assoc, arith}
+use Rattle.std.proofs.Common.{◌≡◌, ◌+◌, ◌-◌, [], ◌∷◌, ◌++◌, true, false, refl, sym, ◌∙◌, subst, append-nil, append_assoc, arith}
 use Rattle.teco_step.specs.Terminal.{Shows, Puts}
 use Rattle.teco_step.proofs.Shown.{Shows-nil}
-use Rattle.teco_session.specs.History.{History}
 use Rattle.teco_session.specs.Step.{Reply}
-use Rattle.teco.specs.Message.{replies_shown, message}
+use Rattle.teco.specs.Message.{message}
 use Rattle.teco.specs.Turn.{Moves, is_refused}
 use Rattle.teco.proofs.Servings.{Moves-on, Moves-refused, replies_shown-one, less_one}
 use Rattle.teco.proofs.turn.move_times.Goals as goal

@@ -1,4 +1,4 @@
-use Rattle.std.proofs.Common.{◌≡◌, ◌-◌, ◌≤◌, List, [], ◌++◌}
+use Rattle.std.proofs.Common.{◌≡◌, ◌-◌, List, [], ◌++◌}
 use Rattle.teco_session.specs.History.{History}
 use Rattle.teco_session.specs.Step.{Reply}
 use Rattle.teco.specs.Message.{replies_shown}

@@ -1,4 +1,4 @@
-use Rattle.std.proofs.Common.{sym, subst, ap, ◌∙◌, false}
+use Rattle.std.proofs.Common.{subst, ap, ◌∙◌, false}
 use Rattle.teco_step.specs.Terminal.{Shows, Puts}
 use Rattle.teco_step.proofs.Shown.{Shows-nil}
 use Rattle.teco.specs.Message.{line_of, message}

@@ -1,4 +1,4 @@
-use Rattle.std.proofs.Common.{◌≡◌, ◌+◌, ◌<◌, ◌≤◌, arith}
+use Rattle.std.proofs.Common.{arith}
 use Rattle.std.proofs.lemmas.Bool.{both_ways}
 use Rattle.memchr.proofs.lemmas.FindLemmas.{Nowhere-more}
 use Rattle.teco_search.proofs.literal.first_across.Goals as goal

@@ -1,4 +1,3 @@
-use Rattle.std.proofs.Common.{◌≤◌}
 use Rattle.memchr.specs.Find.{Nowhere, OccursAt}
 use Rattle.teco_search.proofs.literal.first_across.Given as goal
 

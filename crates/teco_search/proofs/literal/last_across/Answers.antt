@@ -1,4 +1,4 @@
-use Rattle.std.proofs.Common.{◌≡◌, ◌+◌, ◌-◌, ◌<◌, ◌≤◌, subst, sym, arith, ⊎_elim}
+use Rattle.std.proofs.Common.{◌-◌, subst, arith, ⊎_elim}
 use Rattle.std.proofs.lemmas.Bool.{both_ways, cases_eq}
 use Rattle.memchr.specs.Find.{OccursAt}
 use Rattle.teco_search.proofs.literal.last_across.Goals as goal

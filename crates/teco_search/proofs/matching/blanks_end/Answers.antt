@@ -1,5 +1,4 @@
-use Rattle.std.proofs.Common.{◌≡◌, ◌+◌, None, rules, sym, arith}
-use Rattle.teco_search.specs.Occurrence.{blanks_at}
+use Rattle.std.proofs.Common.{rules, sym, arith}
 use Rattle.teco_search.proofs.Runs.{blanks_more, blanks_stop, blanks_none}
 use Rattle.teco_search.proofs.matching.blanks_end.Goals as goal
 

@@ -1,5 +1,4 @@
-use Rattle.std.proofs.Common.{◌≡◌, ◌+◌, sym, ap, ◌∙◌, arith}
-use Rattle.teco_search.specs.Occurrence.{match_end}
+use Rattle.std.proofs.Common.{sym, ◌∙◌, arith}
 use Rattle.teco_search.proofs.Ends.{match_more, match_stop, match_done}
 use Rattle.teco_search.proofs.matching.match_end.Goals as goal
 

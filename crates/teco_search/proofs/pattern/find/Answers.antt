@@ -1,4 +1,4 @@
-use Rattle.std.proofs.Common.{◌≡◌, ◌++◌, w32, sym, ap, ◌∙◌}
+use Rattle.std.proofs.Common.{◌++◌, w32}
 use Rattle.std.proofs.lemmas.Int.{to_z-of_z}
 use Rattle.teco_search.proofs.Numbered.{occurrence_forward, occurrence_backward}
 use Rattle.teco_search.proofs.pattern.find.Goals as goal

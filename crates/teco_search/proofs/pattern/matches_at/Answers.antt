@@ -1,7 +1,6 @@
-use Rattle.std.proofs.Common.{◌≡◌, ◌<◌, ◌+◌, ◌++◌, Some, None, map, length, true, false, refl, sym, ap, subst, ◌∙◌, arith}
+use Rattle.std.proofs.Common.{◌+◌, ◌++◌, Some, length, sym, ap, subst, ◌∙◌}
 use Rattle.std.proofs.lemmas.Bool.{both_ways}
 use Rattle.memchr.specs.Find.{OccursAt}
-use Rattle.teco_search.specs.Occurrence.{looked_for, match_end}
 use Rattle.teco_search.proofs.Literals.{kept_literal, literal_hit, literal_none}
 use Rattle.teco_search.proofs.pattern.matches_at.Goals as goal
 

@@ -1,4 +1,4 @@
-use Rattle.std.proofs.Common.{◌≡◌, ◌<◌, ◌≤◌, sym, arith}
+use Rattle.std.proofs.Common.{sym, arith}
 use Rattle.teco_search.specs.Occurrence.{looked_for}
 use Rattle.teco_search.proofs.Occurring.{ends_past, forward-none, forward-some}
 use Rattle.teco_search.proofs.places.first_from.Goals as goal

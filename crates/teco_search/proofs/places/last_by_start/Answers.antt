@@ -1,4 +1,4 @@
-use Rattle.std.proofs.Common.{◌≡◌, ◌-◌, ◌<◌, ◌≤◌, sym, arith}
+use Rattle.std.proofs.Common.{◌-◌, sym, arith}
 use Rattle.teco_search.specs.Occurrence.{looked_for}
 use Rattle.teco_search.proofs.Occurring.{ends_past, backward-none, backward-some}
 use Rattle.teco_search.proofs.places.last_by_start.Goals as goal

@@ -1,9 +1,8 @@
-use Rattle.std.proofs.Common.{◌≡◌, ◌≢◌, ◌+◌, ◌<◌, ◌≤◌, ◌∷◌, [], ◌++◌, List, length, Ok, Err, sym, ap, ◌∙◌, subst, inl, inr, refl, arith}
+use Rattle.std.proofs.Common.{◌≡◌, ◌<◌, ◌∷◌, [], ◌++◌, Ok, Err, sym, ◌∙◌, inr, refl, arith}
 use Rattle.std.proofs.lemmas.Result.{err_from_is_err_and}
 use Rattle.teco_core.specs.declared.code.Code.TheVariants.{Ice}
-use Rattle.teco_search.specs.declared.element.Item.{Item}
-use Rattle.teco_search.specs.Reading.{Reads, byte_at, listed_at, items_at}
-use Rattle.teco_search.proofs.Lists.{ItemsSoFar, items_begin, items_refused, items_cut, items_other, items_done, items_more}
+use Rattle.teco_search.specs.Reading.{byte_at, listed_at}
+use Rattle.teco_search.proofs.Lists.{items_begin, items_refused, items_cut, items_other, items_done, items_more}
 use Rattle.teco_search.proofs.reading.items_at.Goals as goal
 
 pub items-init : goal.items-init

@@ -1,10 +1,9 @@
-use Rattle.std.proofs.Common.{◌≡◌, ◌+◌, ◌<◌, ◌≤◌, ◌∷◌, [], ◌++◌, List, map, length, Ok, Err, sym, ap, ◌∙◌, subst, refl, arith}
+use Rattle.std.proofs.Common.{◌≡◌, ◌<◌, map, length, Ok, sym, refl, arith}
 use Rattle.std.proofs.lemmas.List.{map_push, length_push}
-use Rattle.teco_search.specs.declared.element.Item.{Item}
 use Rattle.teco_search.specs.declared.element.Item.TheVariants.{Byte}
 use Rattle.teco_search.specs.Literal.{plain}
-use Rattle.teco_search.specs.Reading.{item_at, element_at, read}
-use Rattle.teco_search.proofs.Lists.{ElementsSoFar, elements_begin, elements_done, elements_more}
+use Rattle.teco_search.specs.Reading.{item_at}
+use Rattle.teco_search.proofs.Lists.{elements_begin, elements_done, elements_more}
 use Rattle.teco_search.proofs.Literals.{literal_element, all_more}
 use Rattle.teco_search.proofs.reading.literal.Goals as goal
 

@@ -1,10 +1,7 @@
-use Rattle.std.proofs.Common.{◌≡◌, ◌+◌, ◌<◌, ◌≤◌, ◌∷◌, [], ◌++◌, List, length, Ok, Err, sym, ap, ◌∙◌, subst, ⊎_elim, inl, inr, refl, arith}
+use Rattle.std.proofs.Common.{◌<◌, length, ap, ⊎_elim, inl, inr, arith}
 use Rattle.std.proofs.lemmas.List.{length_push}
 use Rattle.std.proofs.lemmas.Result.{err_from_is_err_and}
-use Rattle.teco_core.specs.declared.code.Code.TheVariants.{Ice}
-use Rattle.teco_search.specs.declared.element.Element.{Element}
-use Rattle.teco_search.specs.Reading.{Reads, element_at, read}
-use Rattle.teco_search.proofs.Lists.{ElementsSoFar, elements_begin, elements_done, elements_refused, elements_more}
+use Rattle.teco_search.proofs.Lists.{elements_begin, elements_done, elements_refused, elements_more}
 use Rattle.teco_search.proofs.reading.read.Goals as goal
 
 pub elements-init : goal.elements-init

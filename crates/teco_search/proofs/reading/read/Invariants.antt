@@ -1,4 +1,4 @@
-use Rattle.std.proofs.Common.{length, ◌-◌, ◌≡◌, ◌≤◌, ◌<◌}
+use Rattle.std.proofs.Common.{length, ◌-◌, ◌≤◌, ◌<◌}
 use Rattle.teco_search.proofs.Lists.{ElementsSoFar}
 use Rattle.teco_search.proofs.reading.read.Given as goal
 

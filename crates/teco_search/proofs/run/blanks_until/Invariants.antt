@@ -1,4 +1,4 @@
-use Rattle.std.proofs.Common.{◌≡◌, ◌+◌, ◌-◌, ◌≤◌, ℕ, length}
+use Rattle.std.proofs.Common.{◌≡◌, ◌+◌, ◌-◌, ◌≤◌, ℕ}
 use Rattle.teco_search.specs.Occurrence.{blanks_at}
 use Rattle.teco_search.proofs.run.blanks_until.Given as goal
 

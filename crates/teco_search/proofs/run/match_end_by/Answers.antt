@@ -1,9 +1,8 @@
-use Rattle.std.proofs.Common.{◌≡◌, ℕ, ◌+◌, ◌-◌, ◌<◌, ◌≤◌, ◌∷◌, List, drop, take, get_or, length, None, sym, ap, ◌∙◌, subst, arith}
+use Rattle.std.proofs.Common.{◌≡◌, ℕ, ◌+◌, ◌-◌, ◌<◌, List, drop, take, get_or, length, sym, ◌∙◌, subst, arith}
 use Rattle.std.proofs.lemmas.Bool.{both_ways}
 use Rattle.std.proofs.lemmas.List.{take_rest}
 use Rattle.teco_search.specs.declared.element.Element.{Element}
 use Rattle.teco_search.specs.declared.element.Element.TheVariants.{Blanks}
-use Rattle.teco_search.specs.Occurrence.{match_end}
 use Rattle.teco_search.specs.Run.{Remembers, behind_run}
 use Rattle.teco_search.proofs.Ends.{match_more, match_stop, match_done}
 use Rattle.teco_search.proofs.Runs.{behind_at, behind_next}

@@ -1,7 +1,6 @@
-use Rattle.std.proofs.Common.{◌≡◌, ◌⊎◌, ℕ, ◌+◌, ◌<◌, ◌≤◌, List, length, None, true, false, refl, sym, ap, ◌∙◌, arith, ⊎_elim}
+use Rattle.std.proofs.Common.{◌≡◌, ◌⊎◌, ℕ, ◌<◌, ◌≤◌, List, length, sym, ap, ◌∙◌, arith, ⊎_elim}
 use Rattle.std.proofs.lemmas.Bool.{cases_lt, both_ways}
-use Rattle.teco_search.specs.Occurrence.{blanks_at, match_end}
-use Rattle.teco_search.specs.Run.{Remembers}
+use Rattle.teco_search.specs.Occurrence.{blanks_at}
 use Rattle.teco_search.proofs.Runs.{blanks_past, match_run, match_no_run}
 use Rattle.teco_search.proofs.run.run_end.Goals as goal
 

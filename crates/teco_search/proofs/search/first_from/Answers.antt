@@ -1,5 +1,3 @@
-use Rattle.std.proofs.Common.{◌≡◌, ℕ, ◌+◌, ◌<◌, ◌≤◌, length, sym, ap, ◌∙◌, subst, arith}
-use Rattle.memchr.specs.Find.{OccursAt}
 use Rattle.teco_search.proofs.Begins.{ready_forward, literal_forward-none, literal_forward-some}
 use Rattle.teco_search.proofs.search.first_from.Goals as goal
 

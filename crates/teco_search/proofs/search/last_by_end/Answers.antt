@@ -1,5 +1,3 @@
-use Rattle.std.proofs.Common.{◌≡◌, ℕ, ◌+◌, ◌<◌, ◌≤◌, length, sym, ap, ◌∙◌, subst, arith}
-use Rattle.memchr.specs.Find.{OccursAt}
 use Rattle.teco_search.proofs.Begins.{ready_backward, literal_before-none, literal_before-some}
 use Rattle.teco_search.proofs.search.last_by_end.Goals as goal
 

@@ -1,6 +1,5 @@
-use Rattle.std.proofs.Common.{◌≡◌, ℕ, ◌+◌, ◌-◌, ◌<◌, ◌≤◌, length, sym, ap, ◌∙◌, subst, arith}
+use Rattle.std.proofs.Common.{◌≡◌, ◌+◌, ◌-◌, length, ap, ◌∙◌}
 use Rattle.std.specs.Prelude.{min}
-use Rattle.memchr.specs.Find.{OccursAt}
 use Rattle.teco_search.proofs.Begins.{ready_backward, literal_backward-none, literal_backward-some}
 use Rattle.teco_search.proofs.search.last_by_start.Goals as goal
 

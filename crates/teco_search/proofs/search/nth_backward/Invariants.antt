@@ -1,4 +1,4 @@
-use Rattle.std.proofs.Common.{◌≡◌, ◌≤◌, ◌-◌, ◌∷◌, Some, length}
+use Rattle.std.proofs.Common.{◌≡◌, ◌≤◌, ◌-◌, ◌∷◌, length}
 use Rattle.std.specs.Prelude.{slice_get}
 use Rattle.teco_search.specs.Occurrence.{backward, before}
 use Rattle.teco_search.specs.Run.{Knows}

@@ -1,14 +1,9 @@
-use Rattle.std.proofs.Common.{◌≡◌, ◌+◌, ◌≤◌, take, drop, length, refl, arith}
-use Rattle.std.proofs.lemmas.Grind.{common_steps}
-use Rattle.teco.proofs.Readings.{Consumes-copied}
+use Rattle.std.proofs.Common.{length}
+use Rattle.teco.proofs.Pieces.{gives_ok, gives_err}
 use Rattle.teco.proofs.memory_source.MemorySourceSource.read.Goals as goal
 
 pub returns-clause-ok : goal.returns-clause-ok
-returns-clause-ok c =
-    let bs = c.args.self.now.bytes.items in
-    let at = c.args.self.now.at in
-    let n = c.min-n.result in
-    let copied : c.copy_from_slice.new.self ≡ take n (drop at bs) = grind (arith, common_steps) in
-    let within : at + n ≤ length bs = grind (arith, common_steps, c.args.self.now.bytes.ok.0) in
-    let given = Consumes-copied bs c.copy_from_slice.new.self c.args.piece.now at n copied within in
-    record { given = given.0; less = grind (arith, common_steps, given.1, c.args.self.now.bytes.ok.0); count = refl }
+returns-clause-ok c = gives_ok c.args.self.now c.give.new.self (length c.args.piece.now) c.give.new.room c.give.ensures.leaves c.give.result c.give.ensures.gives c.give.ensures.count
+
+pub returns-clause-err : goal.returns-clause-err
+returns-clause-err c = gives_err c.args.self.now c.give.new.self (length c.args.piece.now) c.give.new.room c.give.ensures.leaves c.give.result (λ e. (c.give.ensures.fails.0 e).1) c.give.ensures.count c.give.ensures.err

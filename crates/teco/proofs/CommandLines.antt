@@ -1,0 +1,379 @@
+-- What a parse by the program's command gives.
+use Rattle.std.proofs.Common.{◌≡◌, ◌∙◌, ◌<◌, ◌≤◌, ℕ, Bool, true, false, zero, suc, refl, sym, ap, subst, arith, List, [], ◌∷◌, length, is_some, codes, Option, Some, None, Result, Ok, Err, inl, inr, true≢false}
+use Rattle.std.specs.Prelude.{find, map, option_map, slice_get, unwrap_or, IfErr, IsErrAnd, IsTrue, ◌↔◌}
+use Rattle.std.specs.List.{All, list_all, slice_index_or}
+use Rattle.std.specs.Str.{bytes_eq}
+use Rattle.std.specs.Str.Parse.{ParsesBool, ParsesUnsigned, digits_value, without_leading_plus}
+use Rattle.std.specs.Borrow.{Bor}
+use Rattle.std.specs.String.{string_bytes}
+use Rattle.std.proofs.lemmas.List.{get_or-map, length-map}
+use Rattle.std.proofs.lemmas.List.Elements.{All-get_or}
+use Rattle.std.proofs.lemmas.Slice.Eq.{bytes_eq-Decides}
+use Rattle.clap.specs.Texts.{items_of}
+use Rattle.clap.specs.Takes.{takes}
+use Rattle.clap.specs.Kinds.{HasKind, IsAmong}
+use Rattle.clap.specs.Facts.{Entry, EntryPasses, HasIn, HasReading, IsParsed, PassesArg, WantsDefault, args_of, groups_of, least_values, parser_of, parser_of_value, unwrap_or_range}
+use Rattle.clap.specs.Built.{IsAuto, IsParsedFrom, IsPlain}
+use Rattle.clap.specs.Values.{Accepts, IsUnsignedIn, kind_of, read_as, reading_of}
+use Rattle.clap.specs.Matches.{ReadsOne, first_value, found_of, has_subcommand, matched_of, one_text}
+use Rattle.clap.specs.Walk.{Rule, Text, first_of, one_of, rows_of, rule_of}
+use Rattle.clap.specs.Simple.{HasMatchesOf, IsSimple, app_of, is_ready, is_ready_leaf, is_simple, matches_of}
+use Rattle.clap.specs.Faults.{fault_of, has_free_rules, is_simple_and_free}
+use Rattle.clap.specs.declared.builder.action.ArgAction.TheVariants.{Count, Set}
+use Rattle.clap.specs.declared.builder.arg.Arg.{Arg}
+use Rattle.clap.specs.declared.builder.command.Command.{Command}
+use Rattle.clap.specs.declared.builder.command.Command.TheViews.{out-Command}
+use Rattle.clap.specs.declared.builder.value_parser.Reading.{Reading}
+use Rattle.clap.specs.declared.builder.value_parser.ValueParser.{ValueParser}
+use Rattle.clap.specs.declared.builder.value_parser.ValueParser.TheVariants as parser
+use Rattle.clap.specs.declared.error.Error.{Error}
+use Rattle.clap.specs.declared.error.kind.ErrorKind.{ErrorKind}
+use Rattle.clap.specs.declared.error.kind.ErrorKind.TheVariants as kind
+use Rattle.clap.specs.declared.parser.matches.ArgMatches.{ArgMatches}
+use Rattle.clap.specs.declared.parser.matches.Found.{Found}
+use Rattle.clap.specs.declared.parser.matches.MatchedArg.{MatchedArg}
+use Rattle.clap.proofs.CallerLemmas.{default_present, entry_by_id, required_has_value, same_rules_by_id}
+use Rattle.clap.proofs.FaultLemmas.{free_args}
+use Rattle.clap.proofs.SimpleLemmas.{all_simple, plain_fields, ready_simple, simple_groups}
+use Rattle.clap.proofs.WalkLemmas.{first_value-rows, one_text-rows}
+use Rattle.teco.specs.CommandLine.{IsLine, IsLineFault, input_rule, limit_rule, line_fault_at, line_fault_of, teco_app}
+use Rattle.teco.specs.declared.line.Line.{Line}
+use Rattle.teco.specs.declared.line.LineFault.{LineFault}
+
+-- the command is one whose matches the parser's contract says, and no argument has a rule on another
+pub teco_is_simple : is_simple teco_app ≡ true
+teco_is_simple = refl
+
+pub teco_is_free : is_simple_and_free teco_app ≡ true
+teco_is_free = refl
+
+some_arg : (xs : List Arg) → length xs ≡ 4 → Arg
+some_arg [] e = absurd (omega arith)
+some_arg (x ∷ xs) e = x
+
+-- ---- the arguments of the program's command
+
+module _ (c : Command) (is : app_of c ≡ teco_app) where
+  rules_are : map rule_of (args_of c) ≡ teco_app.top.rules
+  rules_are = ap (λ a. a.top.rules) is
+
+  pub count_is : length (args_of c) ≡ 4
+  count_is = sym (length-map (args_of c) rule_of) ∙ ap length rules_are
+
+  rule_at : (k : ℕ) (d : Arg) → k < length (args_of c) → rule_of (slice_index_or (args_of c) k d) ≡ slice_index_or teco_app.top.rules k (rule_of d)
+  rule_at k d lt = sym (get_or-map rule_of (args_of c) k d (rule_of d) lt) ∙ ap (λ xs. slice_index_or xs k (rule_of d)) rules_are
+
+  id_at : (k : ℕ) (d : Arg) → k < length (args_of c) → (slice_index_or (args_of c) k d).id.now ≡ (slice_index_or teco_app.top.rules k (rule_of d)).id
+  id_at k d lt = ap (λ r. r.id) (rule_at k d lt)
+
+  simple_is : IsSimple c
+  simple_is = ready_simple c (ap (λ a. is_ready a.top) is) (ap (λ a. list_all is_ready_leaf a.subs) is)
+
+  plain_is : IsPlain c
+  plain_is =
+      let free = free_args c simple_is (ap (λ a. has_free_rules a.top) is) in
+      let groups = simple_groups c (ap (λ a. all_simple a.top.rules) is) in
+      (λ k d lt. ((free k d lt).exclusive, (free k d lt).conflicts, (free k d lt).overrides, groups k d lt), simple_is.groups)
+
+-- ---- entries
+
+first_some : (xs : List (Bor (List ℕ))) → 0 < length xs → is_some (option_map (λ s. s.now) (slice_get xs 0)) ≡ true
+first_some [] lt = absurd (omega arith)
+first_some (x ∷ xs) lt = refl
+
+-- an id that is had is found
+found_in : (xs : List Entry) (id : List ℕ) → HasIn xs id → is_some (option_map (λ e. e.1) (find (λ e. bytes_eq e.0.now id) xs)) ≡ true
+found_in [] id h = absurd (omega (arith, h.1))
+found_in (x ∷ xs) id h = go (bytes_eq x.0.now id) refl (found_in xs id) h
+  where
+    go : (t : Bool) → bytes_eq x.0.now id ≡ t → (HasIn xs id → is_some (option_map (λ e. e.1) (find (λ e. bytes_eq e.0.now id) xs)) ≡ true) → HasIn (x ∷ xs) id
+        → is_some (option_map (λ e. e.1) (find (λ e. bytes_eq e.0.now id) (x ∷ xs))) ≡ true
+    go true t rest h = rw t refl
+    go false t rest (zero, lt, at) =
+        let hit : bytes_eq x.0.now id ≡ true = at x in
+        cc
+    go false t rest (suc i, lt, at) = rw t (rest (i, omega arith, at))
+
+module _ (old : Command) (m : ArgMatches) (p : IsParsedFrom old m) (plain : IsPlain old) (globals : (out-Command old).has_globals ≡ false)
+    (k : ℕ) (d : Arg) (lt : k < length (args_of old))
+    (unique : (j : ℕ) (e : Arg) → j < length (args_of old) → bytes_eq (slice_index_or (args_of old) j e).id.now (slice_index_or (args_of old) k d).id.now ≡ true → j ≡ k)
+    (own : IsAuto (slice_index_or (args_of old) k d) → ⊥) where
+  -- the argument that the caller gave, its id, and what was found
+  abbrev arg : Arg
+  arg = slice_index_or (args_of old) k d
+
+  abbrev id : List ℕ
+  id = arg.id.now
+
+  abbrev found : Found
+  found = found_of m
+
+  -- an argument that takes one value has a value where it has an entry
+  entry_has_value : arg.action ≡ Some Set → arg.val_delim ≡ None → 1 ≤ least_values arg → (id ≡ [] → ⊥) → is_some (matched_of found id) ≡ true → is_some (first_value found id) ≡ true
+  entry_has_value set delim least named some = go (matched_of found id) refl (p.parsed (p.from.globals ∙ globals))
+    where
+      go : (o : Option MatchedArg) → matched_of found id ≡ o → IsParsed p.built found (has_subcommand m) → is_some (first_value found id) ≡ true
+      go None e parsed =
+          let none : is_some (matched_of found id) ≡ false = rw e refl in
+          cc
+      go (Some x) e parsed =
+          let got = entry_by_id (EntryPasses p.built) found.entries.items id x parsed.values e in
+          let same_x : got.0.1 ≡ x = got.1 in
+          let key : bytes_eq got.0.0.now id ≡ true = got.2 in
+          let key_id : got.0.0.now ≡ id = (bytes_eq-Decides _ _).0 key in
+          let no_groups : groups_of p.built ≡ [] = (p.from.plain plain).1 in
+          elim got.3.1 [
+            | inl h ↦ elim h.1 [
+              | inl empty ↦ absurd (named (sym key_id ∙ empty))
+              | inr has ↦
+                  let bad : 0 < 0 = rw no_groups at has in
+                  absurd (omega arith)
+            ]
+            | inr (inl v) ↦ rw e (first_some x.vals.items (rw same_x at v))
+            | inr (inr (inl h)) ↦
+                let any = h.1 in
+                let s = same_rules_by_id old m p k d lt unique own any.0 any.1 any.2 any.3 (rw key_id at any.4.0) in
+                let is_set : any.1.action ≡ Some Set = s.action Set set in
+                let bad : Set ≡ Count = rw is_set at any.4.1 in
+                cc
+            | inr (inr (inr h)) ↦
+                let s = same_rules_by_id old m p k d lt unique own h.0 h.1 h.2 h.3 (rw key_id at h.4.0) in
+                elim h.4.1 [
+                  | inl none ↦
+                      let one = s.least set least in
+                      absurd (omega arith)
+                  | inr has ↦
+                      let bad : false ≡ true = rw (s.val_delim, delim) at has in
+                      cc
+                ]
+          ]
+
+  -- an argument with its id is read as its parser says
+  only_reading : (q : ValueParser) → arg.value_parser ≡ Some q → (r : Reading) → HasReading p.built id r → r ≡ reading_of q
+  only_reading q parser r any =
+      let s = same_rules_by_id old m p k d lt unique own any.0 any.1 any.2 any.3 any.4.0 in
+      let is_q : parser_of any.1 ≡ q = ap parser_of_value (s.parser q parser) in
+      sym any.4.1 ∙ ap reading_of is_q
+
+  -- a value that passed an argument with its id passed its parser
+  passes_read : (q : ValueParser) → arg.value_parser ≡ Some q → (w : List ℕ) (v : Bor (List ℕ)) → w ≡ id → PassesArg p.built w v.now → Accepts arg.ignore_case q v.now
+  passes_read q parser w v key pass =
+      let same : bytes_eq pass.1.id.now id ≡ true = subst (λ (u : List ℕ). bytes_eq pass.1.id.now u ≡ true) key pass.4.0 in
+      let s = same_rules_by_id old m p k d lt unique own pass.0 pass.1 pass.2 pass.3 same in
+      let is_q : parser_of pass.1 ≡ q = ap parser_of_value (s.parser q parser) in
+      let as_q : Accepts pass.1.ignore_case q v.now = subst (λ (w : ValueParser). Accepts pass.1.ignore_case w v.now) is_q pass.4.1 in
+      subst (λ (b : Bool). Accepts b q v.now) s.ignore_case as_q
+
+  head_passes : (P : Bor (List ℕ) → Type 0) (how : Reading) (vs : List (Bor (List ℕ))) → All P vs → is_some (option_map (λ s. s.now) (slice_get vs 0)) ≡ true
+      → (v : Bor (List ℕ)) × (option_map (λ s. read_as how s.now) (slice_get vs 0) ≡ Some (read_as how v.now)) × P v
+  head_passes P how [] h some = cc
+  head_passes P how (v ∷ vs) h some = (v, refl, All-get_or P (v ∷ vs) 0 v (omega arith) h)
+
+  one_text_at_entry : (x : MatchedArg) (how : Reading) (t : List ℕ) → matched_of found id ≡ Some x → x.reading ≡ how
+      → option_map (λ s. read_as how s.now) (slice_get x.vals.items 0) ≡ Some t → one_text found id ≡ Some t
+  one_text_at_entry x how t at how_is v = rw (at, how_is) v
+
+  -- what one entry gives
+  read_of : (q : ValueParser) → arg.value_parser ≡ Some q → (id ≡ [] → ⊥) → (x : MatchedArg) (e : Entry) → matched_of found id ≡ Some x
+      → is_some (option_map (λ s. s.now) (slice_get x.vals.items 0)) ≡ true → e.1 ≡ x → e.0.now ≡ id → EntryPasses p.built e
+      → (t : List ℕ) × (one_text found id ≡ Some (read_as (reading_of q) t)) × Accepts arg.ignore_case q t
+  read_of q parser named x e at first same_x key_id pass =
+      let no_groups : groups_of p.built ≡ [] = (p.from.plain plain).1 in
+      let no_group : e.1.is_group ≡ true → ⊥ = λ g. elim (pass.3 g) [
+        | inl empty ↦ named (sym key_id ∙ empty)
+        | inr lots ↦
+            let bad : 0 < 0 = rw no_groups at lots in
+            absurd (omega arith)
+      ] in
+      let all : All (λ v. PassesArg p.built id v.now) x.vals.items = elim pass.0 [
+        | inl g ↦ absurd (no_group g)
+        | inr vals ↦ subst (λ (w : List ℕ). All (λ v. PassesArg p.built w v.now) x.vals.items) key_id (rw same_x at vals)
+      ] in
+      let reads : e.1.reading ≡ reading_of q = elim pass.4 [
+        | inl g ↦ absurd (no_group g)
+        | inr h ↦ only_reading q parser e.1.reading (subst (λ (w : List ℕ). HasReading p.built w e.1.reading) key_id h)
+      ] in
+      let head = head_passes (λ v. PassesArg p.built id v.now) (reading_of q) x.vals.items all first in (
+        head.0.now,
+        one_text_at_entry x (reading_of q) (read_as (reading_of q) head.0.now) at (ap (λ (y : MatchedArg). y.reading) (sym same_x) ∙ reads) head.1,
+        passes_read q parser id head.0 refl head.2,
+      )
+
+  -- an argument with a first value has a text that passed its parser, and is read as that parser says
+  entry_read : (q : ValueParser) → arg.value_parser ≡ Some q → (id ≡ [] → ⊥) → is_some (first_value found id) ≡ true
+      → (t : List ℕ) × (one_text found id ≡ Some (read_as (reading_of q) t)) × Accepts arg.ignore_case q t
+  entry_read q parser named has = go (matched_of found id) refl has
+    where
+      step : (x : MatchedArg) → matched_of found id ≡ Some x → is_some (option_map (λ s. s.now) (slice_get x.vals.items 0)) ≡ true
+          → ((e : Entry) × (e.1 ≡ x) × (bytes_eq e.0.now id ≡ true) × EntryPasses p.built e)
+          → (t : List ℕ) × (one_text found id ≡ Some (read_as (reading_of q) t)) × Accepts arg.ignore_case q t
+      step x at first got = read_of q parser named x got.0 at first got.1 ((bytes_eq-Decides got.0.0.now id).0 got.2) got.3
+
+      go : (o : Option MatchedArg) → matched_of found id ≡ o → is_some (first_value found id) ≡ true
+          → (t : List ℕ) × (one_text found id ≡ Some (read_as (reading_of q) t)) × Accepts arg.ignore_case q t
+      go None e h =
+          let bad : false ≡ true = rw e at h in
+          cc
+      go (Some x) e h = step x e (rw e at h) (entry_by_id (EntryPasses p.built) found.entries.items id x (p.parsed (p.from.globals ∙ globals)).values e)
+
+-- ---- what the parse gives
+
+-- no other argument of the program's command has the id of the limit, and none that of the input
+limit_alone : (j : ℕ) (r : Rule) → j < 4 → bytes_eq (slice_index_or teco_app.top.rules j r).id (codes "limit") ≡ true → j ≡ 0
+limit_alone zero r lt e = refl
+limit_alone (suc zero) r lt e = absurd (true≢false (sym e))
+limit_alone (suc (suc zero)) r lt e = absurd (true≢false (sym e))
+limit_alone (suc (suc (suc zero))) r lt e = absurd (true≢false (sym e))
+limit_alone (suc (suc (suc (suc j)))) r lt e = absurd (omega arith)
+
+input_alone : (j : ℕ) (r : Rule) → j < 4 → bytes_eq (slice_index_or teco_app.top.rules j r).id (codes "input") ≡ true → j ≡ 3
+input_alone zero r lt e = absurd (true≢false (sym e))
+input_alone (suc zero) r lt e = absurd (true≢false (sym e))
+input_alone (suc (suc zero)) r lt e = absurd (true≢false (sym e))
+input_alone (suc (suc (suc zero))) r lt e = refl
+input_alone (suc (suc (suc (suc j)))) r lt e = absurd (omega arith)
+
+module _ (c : Command) (is : app_of c ≡ teco_app) (m : ArgMatches) (p : IsParsedFrom c m) where
+  globals_is : (out-Command c).has_globals ≡ false
+  globals_is = (plain_fields c (ap (λ a. a.top.is_plain) is)).globals
+
+  negates_is : (out-Command c).subcommand_negates_reqs ≡ false
+  negates_is = ap (λ a. a.top.subcommand_negates_reqs) is
+
+  some : Arg
+  some = some_arg (args_of c) (count_is c is)
+
+  -- the limit has a text that passed its parser
+  limit_text : (t : Text) × (one_text (found_of m) (codes "limit") ≡ Some t) × IsUnsignedIn 0 1000000000000 t
+  limit_text =
+      let count = count_is c is in
+      let lt : 0 < length (args_of c) = omega arith in
+      let arg = slice_index_or (args_of c) 0 some in
+      let rule : rule_of arg ≡ limit_rule = rule_at c is 0 some lt in
+      let id_is : arg.id.now ≡ codes "limit" = ap (λ r. r.id) rule in
+      let apart : (t : Text) → arg.id.now ≡ t → true ≡ bytes_eq t (codes "limit") = λ t e. ap (λ u. bytes_eq u (codes "limit")) (sym id_is ∙ e) in
+      let own : IsAuto arg → ⊥ = λ auto. elim auto [ inl h ↦ true≢false (apart (codes "help") h) | inr h ↦ true≢false (apart (codes "version") h) ] in
+      let named : arg.id.now ≡ [] → ⊥ = λ e. true≢false (apart [] e) in
+      let unique : (j : ℕ) (e : Arg) → j < length (args_of c) → bytes_eq (slice_index_or (args_of c) j e).id.now arg.id.now ≡ true → j ≡ 0 =
+      λ j e low same. limit_alone j (rule_of e) (omega arith) (rw (← id_at c is j e low, ← id_is) same) in
+      let one : least_values arg ≡ 1 = ap (λ r. (unwrap_or_range r.range).start_inclusive) rule in
+      let least : 1 ≤ least_values arg = rw one (omega arith) in
+      let many : length (items_of arg.default_vals) ≡ 1 = sym (length-map (items_of arg.default_vals) (λ s. s.now)) ∙ ap (λ r. length r.defaults) rule in
+      let wants : WantsDefault arg = (((simple_is c is).args 0 some lt).default_ifs, omega arith) in
+      let entry = default_present c m p globals_is 0 some lt wants in
+      let plain = plain_is c is in
+      let value = entry_has_value c m p plain globals_is 0 some lt unique own (ap (λ r. r.action) rule) ((simple_is c is).args 0 some lt).delimiter least named (found_in _ _ entry) in
+      let read = entry_read c m p plain globals_is 0 some lt unique own (parser.Unsigned 0 1000000000000) (ap (λ r. r.parser) rule) named value in
+      (read.0, subst (λ t. one_text (found_of m) t ≡ Some read.0) id_is read.1, read.2)
+
+  -- the input has a text
+  pub input_text : is_some (first_value (found_of m) (codes "input")) ≡ true
+  input_text =
+      let count = count_is c is in
+      let lt : 3 < length (args_of c) = omega arith in
+      let arg = slice_index_or (args_of c) 3 some in
+      let rule : rule_of arg ≡ input_rule = rule_at c is 3 some lt in
+      let id_is : arg.id.now ≡ codes "input" = ap (λ r. r.id) rule in
+      let apart : (t : Text) → arg.id.now ≡ t → true ≡ bytes_eq t (codes "input") = λ t e. ap (λ u. bytes_eq u (codes "input")) (sym id_is ∙ e) in
+      let own : IsAuto arg → ⊥ = λ auto. elim auto [ inl h ↦ true≢false (apart (codes "help") h) | inr h ↦ true≢false (apart (codes "version") h) ] in
+      let named : arg.id.now ≡ [] → ⊥ = λ e. true≢false (apart [] e) in
+      let unique : (j : ℕ) (e : Arg) → j < length (args_of c) → bytes_eq (slice_index_or (args_of c) j e).id.now arg.id.now ≡ true → j ≡ 3 =
+      λ j e low same. input_alone j (rule_of e) (omega arith) (rw (← id_at c is j e low, ← id_is) same) in
+      let one : least_values arg ≡ 1 = ap (λ r. (unwrap_or_range r.range).start_inclusive) rule in
+      let least : 1 ≤ least_values arg = rw one (omega arith) in
+      let has = required_has_value c m p (plain_is c is) globals_is negates_is 3 some lt (ap (λ r. r.required) rule) (ap (λ r. r.action) rule)
+      ((simple_is c is).args 3 some lt).delimiter least unique named own in
+      subst (λ t. is_some (first_value (found_of m) t) ≡ true) id_is has
+
+-- ---- what the getters give
+
+-- a text that passed the limit's parser reads as its number
+number_read : {E : Type 0} (G : List ℕ → Result ℕ E → Type 0) → ((u : List ℕ) (x : Result ℕ E) → G u x → ParsesUnsigned 64 10 u x)
+    → (t : Text) (r : Option ℕ) → IsUnsignedIn 0 1000000000000 t → ReadsOne G t r → r ≡ Some (digits_value 10 (without_leading_plus t))
+number_read G only t (Some n) fits read = ap Some (only t (Ok n) read).1
+number_read G only t None fits read = absurd (only t (Err read.0) read.1 (fits.0, fits.1))
+
+-- what is read of the limit is the number that its text spells, in its range
+pub limit_read : {E : Type 0} (G : List ℕ → Result ℕ E → Type 0) → ((u : List ℕ) (x : Result ℕ E) → G u x → ParsesUnsigned 64 10 u x)
+    → (c : Command) → app_of c ≡ teco_app → (m : ArgMatches) → IsParsedFrom c m → (r : Option ℕ) → ((t : Text) → one_text (found_of m) (codes "limit") ≡ Some t → ReadsOne G t r)
+    → (t : Text) × (one_text (found_of m) (codes "limit") ≡ Some t) × (r ≡ Some (digits_value 10 (without_leading_plus t))) × (digits_value 10 (without_leading_plus t) ≤ 1000000000000)
+limit_read G only c is m p r reads =
+    let text = limit_text c is m p in
+    (text.0, text.1, number_read G only text.0 r text.2 (reads text.0 text.1), text.2.3)
+
+-- the flag is up where its text is "true"
+pub flag_read : {E : Type 0} (G : List ℕ → Result Bool E → Type 0) → ((u : List ℕ) (x : Result Bool E) → G u x → ParsesBool u x)
+    → (o : Option Text) (r : Option Bool) → (o ≡ None → r ≡ None) → ((t : Text) → o ≡ Some t → ReadsOne G t r)
+    → IsTrue (unwrap_or r false) ↔ (o ≡ Some (codes "true"))
+flag_read G only None r none some =
+    let no : r ≡ None = none refl in
+    (λ up. absurd (true≢false (sym up ∙ ap (λ x. unwrap_or x false) no)), λ e. cc)
+flag_read G only (Some t) (Some true) none some = (λ up. ap Some (only t (Ok true) (some t refl)), λ e. refl)
+flag_read G only (Some t) (Some false) none some =
+    let text : t ≡ codes "false" = only t (Ok false) (some t refl) in (
+      λ up. absurd (true≢false (sym up)),
+      λ e.
+          let same : codes "false" ≡ codes "true" = sym text ∙ ap (λ x. unwrap_or x t) e in
+          let bad : 102 ≡ 116 = ap (λ (x : List ℕ). slice_index_or x 0 0) same in
+          absurd (omega arith),
+    )
+flag_read G only (Some t) None none some =
+    let err = some t refl in
+    let not_it = (only t (Err err.0) err.1).0 in
+    (λ up. absurd (true≢false (sym up)), λ e. absurd (not_it (ap (λ x. unwrap_or x t) e)))
+
+-- what is taken of a value that is there
+pub taken_is : {X : Type 0} (o : Option X) (x y : X) → o ≡ Some x → o ≡ Some y → x ≡ y
+taken_is o x y is at = ap (λ p. unwrap_or p x) (sym is ∙ at)
+
+-- ---- the line, and why there is none
+
+pub line_is : (c : Command) (m : ArgMatches) (words : List Text) (line : Line) → app_of c ≡ teco_app → HasMatchesOf (app_of c) words m
+    → (is_simple_and_free (app_of c) ≡ true → fault_of (app_of c) words ≡ [])
+    → first_value (found_of m) (codes "input") ≡ Some (string_bytes line.input)
+    → first_value (found_of m) (codes "output") ≡ option_map string_bytes line.output
+    → ((text : Text) × (one_text (found_of m) (codes "limit") ≡ Some text) × (line.limit ≡ digits_value 10 (without_leading_plus text)))
+    → (IsTrue line.prompt ↔ (one_text (found_of m) (codes "prompt") ≡ Some (codes "true")))
+    → IsLine words line
+line_is c m words line is matches fault input output limit prompt =
+    let rows : rows_of (found_of m) ≡ matches_of teco_app words = (matches (ap is_simple is ∙ teco_is_simple)).0 ∙ ap (λ a. matches_of a words) is in
+    let first : (id : Text) → first_of id (matches_of teco_app words) ≡ first_value (found_of m) id = λ id. ap (first_of id) (sym rows) ∙ sym (first_value-rows (found_of m) id) in
+    let one : (id : Text) → one_of id (matches_of teco_app words) ≡ one_text (found_of m) id = λ id. ap (one_of id) (sym rows) ∙ sym (one_text-rows (found_of m) id) in
+    record {
+      taken = ap (λ a. fault_of a words) (sym is) ∙ fault (ap is_simple_and_free is ∙ teco_is_free);
+      input = first (codes "input") ∙ input;
+      output = first (codes "output") ∙ output;
+      limit = (limit.0, one (codes "limit") ∙ limit.1, limit.2);
+      prompt = (λ up. one (codes "prompt") ∙ prompt.0 up, λ e. prompt.1 (sym (one (codes "prompt")) ∙ e));
+    }
+
+abbrev is_memory : ErrorKind → Bool
+is_memory kind.OutOfMemory = true
+is_memory _ = false
+
+at_kind : (k : ErrorKind) (words : List Text) (error : Error)
+    → (is_memory k ≡ false → (takes teco_app words ≡ false) × IsAmong (kind_of error) (fault_of teco_app words)) → IsLineFault words (line_fault_at k error)
+at_kind kind.OutOfMemory words error h = tt
+at_kind _ words error h = h refl
+
+not_taken : (b : Bool) (error : Error) → (b ≡ true → kind_of error ≡ kind.OutOfMemory) → is_memory (kind_of error) ≡ false → b ≡ false
+not_taken true error h other = absurd (true≢false (sym (ap is_memory (h refl)) ∙ other))
+not_taken false error h other = refl
+
+among : (kinds : List ErrorKind) (error : Error) → HasKind kinds error → is_memory (kind_of error) ≡ false → IsAmong (kind_of error) kinds
+among kinds error (inl h) other = absurd (true≢false (sym (ap is_memory h) ∙ other))
+among kinds error (inr h) other = h
+
+pub fault_is : (c : Command) (words : List Text) (error : Error) → app_of c ≡ teco_app
+    → (takes (app_of c) words ≡ true → kind_of error ≡ kind.OutOfMemory) → (is_simple_and_free (app_of c) ≡ true → HasKind (fault_of (app_of c) words) error)
+    → IsLineFault words (line_fault_of error)
+fault_is c words error is passes kinds =
+    let kinds_are : HasKind (fault_of teco_app words) error = subst (λ a. HasKind (fault_of a words) error) is (kinds (ap is_simple_and_free is ∙ teco_is_free)) in
+    at_kind (kind_of error) words error (λ other. (
+      not_taken (takes teco_app words) error (λ e. passes (ap (λ a. takes a words) is ∙ e)) other,
+      among (fault_of teco_app words) error kinds_are other,
+    ))
+
+pub same_fault : {T : Type 0} (r : Result T LineFault) (words : List Text) (fault : LineFault) → IsErrAnd r (λ x. x ≡ fault) → IsLineFault words fault → IfErr r (IsLineFault words)
+same_fault (Ok x) words fault same h = tt
+same_fault (Err x) words fault same h = subst (IsLineFault words) (sym same) h

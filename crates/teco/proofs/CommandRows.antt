@@ -1,0 +1,68 @@
+-- Command lines that are written out, and what the parse gives for each.
+use Rattle.std.proofs.Common.{◌≡◌, refl, true, codes, map, List, [], ◌∷◌, Option, Some, None}
+use Rattle.clap.specs.Words.{Text, fault_of, first_of, matches_of, one_of, takes}
+use Rattle.clap.specs.declared.error.kind.ErrorKind.TheVariants.{ArgumentConflict, DisplayHelp, InvalidValue, MissingRequiredArgument, TooManyValues, UnknownArgument, ValueValidation}
+use Rattle.clap.proofs.OnLiterals.{clap_on_literals}
+use Rattle.teco.specs.CommandLine.{teco_app}
+
+-- what the words give for the input, the output, the limit and the flag
+pub record Row : Type 0 where
+  pub input : Option Text
+  pub output : Option Text
+  pub limit : Option Text
+  pub prompt : Option Text
+
+abbrev row_of : List Text → Row
+row_of words = record {
+  input = first_of (codes "input") (matches_of teco_app words);
+  output = first_of (codes "output") (matches_of teco_app words);
+  limit = one_of (codes "limit") (matches_of teco_app words);
+  prompt = one_of (codes "prompt") (matches_of teco_app words);
+}
+
+abbrev row : Text → Option Text → Text → Text → Row
+row input output limit prompt = record { input = Some input; output = output; limit = Some limit; prompt = Some prompt }
+
+-- teco a
+alone : row_of (codes "teco" ∷ codes "a" ∷ []) ≡ row (codes "a") None (codes "1000000") (codes "false")
+unfolding clap_on_literals
+alone = refl
+
+-- teco --limit 5 a
+limited : row_of (codes "teco" ∷ codes "--limit" ∷ codes "5" ∷ codes "a" ∷ []) ≡ row (codes "a") None (codes "5") (codes "false")
+unfolding clap_on_literals
+limited = refl
+
+-- teco a --prompt --output=b --limit=0
+all_given : row_of (codes "teco" ∷ codes "a" ∷ codes "--prompt" ∷ codes "--output=b" ∷ codes "--limit=0" ∷ []) ≡ row (codes "a") (Some (codes "b")) (codes "0") (codes "true")
+unfolding clap_on_literals
+all_given = refl
+
+-- teco -- --prompt
+after_dashes : row_of (codes "teco" ∷ codes "--" ∷ codes "--prompt" ∷ []) ≡ row (codes "--prompt") None (codes "1000000") (codes "false")
+unfolding clap_on_literals
+after_dashes = refl
+
+all_taken : map (takes teco_app) (
+    (codes "teco" ∷ codes "a" ∷ [])
+    ∷ (codes "teco" ∷ codes "--limit" ∷ codes "5" ∷ codes "a" ∷ [])
+    ∷ (codes "teco" ∷ codes "a" ∷ codes "--prompt" ∷ codes "--output=b" ∷ codes "--limit=1000000000000" ∷ [])
+    ∷ []) ≡ true ∷ true ∷ true ∷ []
+unfolding clap_on_literals
+all_taken = refl
+
+-- each of these lines has one fault
+faults : map (fault_of teco_app) (
+    (codes "teco" ∷ [])
+    ∷ (codes "teco" ∷ codes "a" ∷ codes "b" ∷ [])
+    ∷ (codes "teco" ∷ codes "a" ∷ codes "--limit" ∷ [])
+    ∷ (codes "teco" ∷ codes "a" ∷ codes "--limit=x" ∷ [])
+    ∷ (codes "teco" ∷ codes "a" ∷ codes "--limit=1000000000001" ∷ [])
+    ∷ (codes "teco" ∷ codes "a" ∷ codes "--prompt=true" ∷ [])
+    ∷ (codes "teco" ∷ codes "a" ∷ codes "--prompt" ∷ codes "--prompt" ∷ [])
+    ∷ (codes "teco" ∷ codes "a" ∷ codes "--what" ∷ [])
+    ∷ (codes "teco" ∷ codes "--help" ∷ [])
+    ∷ []) ≡ (MissingRequiredArgument ∷ []) ∷ (UnknownArgument ∷ []) ∷ (InvalidValue ∷ []) ∷ (ValueValidation ∷ []) ∷ (ValueValidation ∷ [])
+    ∷ (TooManyValues ∷ []) ∷ (ArgumentConflict ∷ []) ∷ (UnknownArgument ∷ []) ∷ (DisplayHelp ∷ []) ∷ []
+unfolding clap_on_literals
+faults = refl

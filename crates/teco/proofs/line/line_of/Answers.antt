@@ -1,0 +1,54 @@
+use Rattle.std.proofs.Common.{◌≡◌, ◌∙◌, sym, ap, refl, rules, map, Some, codes}
+use Rattle.std.specs.Prelude.{option_map}
+use Rattle.std.specs.String.{string_bytes}
+use Rattle.std.specs.Str.Parse.{ParsesBool, ParsesUnsigned, ExplainsUnsignedError, HasUnsignedDigitsIfOk}
+use Rattle.clap.proofs.CallerLemmas.{some_of_text}
+use Rattle.clap.specs.Words.{first_value, found_of, one_text}
+use Rattle.teco.specs.CommandLine.{line_fault_of}
+use Rattle.teco.proofs.CommandLines.{fault_is, flag_read, input_text, limit_read, line_is, same_fault, taken_is}
+use Rattle.teco.proofs.line.line_of.Goals as goal
+use Rattle.teco.proofs.line.line_of.Goals.{in-Some+in_ok-from_str-in-Some, in-None}
+
+-- the parser's error is told as it is
+pub returns-in_err-matches-clause-refused : goal.returns-in_err-matches-clause-refused
+returns-in_err-matches-clause-refused c =
+    let error = c.in_err-matches.field-0.0 in
+    let words = map (λ x. string_bytes x) c.args.words.now in
+    same_fault c.from_residual-in_err-matches.result words (line_fault_of error) c.from_residual-in_err-matches.ensures.1
+    (fault_is c.in_ok-command.field-0 words error c.in_ok-command.ensures c.in_err-matches.ensures.passes c.in_err-matches.ensures.kinds)
+
+-- the input is required
+pub unwrap-requires : goal.unwrap-requires
+unwrap-requires c = some_of_text _ c.get_str.result _ c.get_str.ensures
+    (input_text c.in_ok-command.field-0 c.in_ok-command.ensures c.in_ok-matches.matches c.in_ok-matches.ensures.parsed)
+
+-- the limit has a default
+pub unwrap-limit-requires : goal.unwrap-limit-requires
+unwrap-limit-requires c =
+    let limit = limit_read (λ bs r. ParsesUnsigned 64 10 bs r × ExplainsUnsignedError 10 bs r × HasUnsignedDigitsIfOk bs r) (λ u x g. g.0)
+    c.in_ok-command.field-0 c.in_ok-command.ensures c.in_ok-matches.matches c.in_ok-matches.ensures.parsed c.get_one.result c.get_one.ensures.value in
+    rw limit.2 refl
+
+pub returns-clause-line : goal.returns-clause-line
+returns-clause-line c =
+    let m = c.in_ok-matches.matches in
+    let parse = c.in_ok-matches.ensures in
+    let limit = limit_read (λ bs r. ParsesUnsigned 64 10 bs r × ExplainsUnsignedError 10 bs r × HasUnsignedDigitsIfOk bs r) (λ u x g. g.0)
+    c.in_ok-command.field-0 c.in_ok-command.ensures m parse.parsed c.get_one.result c.get_one.ensures.value in
+    let flag = flag_read ParsesBool (λ u x g. g) (one_text (found_of m) (codes "prompt")) c.get_one-2.result c.get_one-2.ensures.none c.get_one-2.ensures.value in
+    let input : first_value (found_of m) (codes "input") ≡ Some (string_bytes c.in_ok-input.input) =
+    sym c.get_str.ensures ∙ ap (option_map (λ s. s.now)) c.unwrap.ensures ∙ ap Some (sym c.in_ok-input.ensures.ok) in
+    let output : first_value (found_of m) (codes "output") ≡ option_map string_bytes c.match-get_str.output = elim c.match-get_str.branch [
+      | in-Some+in_ok-from_str-in-Some w ↦
+          sym c.get_str-2.ensures ∙ ap (option_map (λ s. s.now)) w.in-Some.is ∙ ap Some (sym w.in_ok-from_str-in-Some.ensures.ok)
+          ∙ sym (ap (option_map string_bytes) w.output-is)
+      | in-None w ↦ search rules
+    ] in
+    line_is c.in_ok-command.field-0 m (map (λ x. string_bytes x) c.args.words.now) _ c.in_ok-command.ensures parse.matches parse.kinds input output
+    (limit.0, limit.1, taken_is c.get_one.result _ _ c.unwrap-limit.ensures limit.2) (rw c.unwrap_or.ensures flag)
+
+pub returns-clause-range : goal.returns-clause-range
+returns-clause-range c =
+    let limit = limit_read (λ bs r. ParsesUnsigned 64 10 bs r × ExplainsUnsignedError 10 bs r × HasUnsignedDigitsIfOk bs r) (λ u x g. g.0)
+    c.in_ok-command.field-0 c.in_ok-command.ensures c.in_ok-matches.matches c.in_ok-matches.ensures.parsed c.get_one.result c.get_one.ensures.value in
+    rw (taken_is c.get_one.result _ _ c.unwrap-limit.ensures limit.2) limit.3

@@ -1,0 +1,77 @@
+-- What the command line says: teco [--limit N] [--output FILE] [--prompt] INPUT.
+use Rattle.std.specs.Prelude.{◌≡◌, List, [], ◌∷◌, Some, IsTrue, ◌↔◌, codes, true, false, option_map, ⊤}
+use Rattle.std.specs.String.{string_bytes}
+use Rattle.std.specs.Str.Parse.{digits_value, without_leading_plus}
+use Rattle.clap.specs.Words.{App, IsAmong, Rule, Text, fault_of, first_of, kind_of, matches_of, new_app, new_rule, one_of, takes, with_rule}
+use Rattle.clap.specs.declared.builder.action.ArgAction.TheVariants.{Set, SetTrue}
+use Rattle.clap.specs.declared.builder.value_parser.ValueParser.TheVariants as parser
+use Rattle.clap.specs.declared.error.Error.{Error}
+use Rattle.clap.specs.declared.error.kind.ErrorKind.{ErrorKind}
+use Rattle.clap.specs.declared.error.kind.ErrorKind.TheVariants as kind
+use Rattle.teco.specs.declared.line.Line.{Line}
+use Rattle.teco.specs.declared.line.LineFault.{LineFault}
+use Rattle.teco.specs.declared.line.LineFault.TheVariants.{Refused, NoMemory}
+
+-- --limit N: a number from 0 to 1000000000000; where it is not given, 1000000
+abbrev pub limit_rule : Rule
+limit_rule = record (new_rule (codes "limit")) {
+  long = Some (codes "limit");
+  value_names = 1;
+  action = Some Set;
+  parser = Some (parser.Unsigned 0 1000000000000);
+  defaults = codes "1000000" ∷ [];
+}
+
+-- --output FILE: any text
+abbrev pub output_rule : Rule
+output_rule = record (new_rule (codes "output")) {
+  long = Some (codes "output");
+  value_names = 1;
+  action = Some Set;
+}
+
+-- --prompt: a flag, with no value
+abbrev pub prompt_rule : Rule
+prompt_rule = record (new_rule (codes "prompt")) {
+  long = Some (codes "prompt");
+  action = Some SetTrue;
+}
+
+-- INPUT: any text, and it has to be there
+abbrev pub input_rule : Rule
+input_rule = record (new_rule (codes "input")) {
+  value_names = 1;
+  required = true;
+  action = Some Set;
+}
+
+-- The command that the words are read by: the parser's rules for a command with these arguments and no others of its own.
+abbrev pub teco_app : App
+teco_app = with_rule (with_rule (with_rule (with_rule (new_app (codes "teco")) limit_rule) output_rule) prompt_rule) input_rule
+
+-- The line has what the parse of these words gives for each argument. `first_of` is an argument's value as text; `one_of` is its text where it is read as a number or as a flag.
+pub record IsLine (words : List Text) (line : Line) : Type 0 where
+  -- the parser takes the words
+  pub taken : fault_of teco_app words ≡ []
+  -- the input is there
+  pub input : first_of (codes "input") (matches_of teco_app words) ≡ Some (string_bytes line.input)
+  -- the output, if there is one
+  pub output : first_of (codes "output") (matches_of teco_app words) ≡ option_map string_bytes line.output
+  -- the limit is the number that its text spells in decimal digits, after a plus sign or none
+  pub limit : (text : Text) × (one_of (codes "limit") (matches_of teco_app words) ≡ Some text)
+      × (line.limit ≡ digits_value 10 (without_leading_plus text))
+  -- the flag
+  pub prompt : IsTrue line.prompt ↔ (one_of (codes "prompt") (matches_of teco_app words) ≡ Some (codes "true"))
+
+-- Why the words gave no line: there was no memory; or the parser does not take them, and its error is of a kind that these words have.
+abbrev pub IsLineFault : List Text → LineFault → Type 0
+IsLineFault words NoMemory = ⊤
+IsLineFault words (Refused error) = (takes teco_app words ≡ false) × IsAmong (kind_of error) (fault_of teco_app words)
+
+-- An error for want of memory is told as that, and each other as it is.
+abbrev pub line_fault_at : ErrorKind → Error → LineFault
+line_fault_at kind.OutOfMemory error = NoMemory
+line_fault_at _ error = Refused error
+
+abbrev pub line_fault_of : Error → LineFault
+line_fault_of error = line_fault_at (kind_of error) error
