@@ -245,18 +245,25 @@ impl Args {
         }
     }
 
-    /// Takes the arguments for a command and leaves none: [`Code::Mrp`] where a parenthesis is open, [`Code::Arg`] where an
-    /// operator waits after a value, or nothing follows a comma.
-    pub fn take(&mut self) -> Result<Taken, Code>
-        ensures value { result ≡ taken_from (arguments self.old) }
-        ensures empty { OnOk result (arguments self.new ≡ no_arguments) }
-        ensures unchanged { OnErr result (self.new ≡ self.old) }
+    /// What a command takes: [`Code::Mrp`] where a parenthesis is open, [`Code::Arg`] where an operator waits after a value, or
+    /// nothing follows a comma.
+    pub fn taken(&self) -> Result<Taken, Code>
+        ensures { result ≡ taken_from (arguments self.now) }
     {
         if self.depth > 0 {
             return Err(Code::Mrp);
         }
         let value = self.expression.ground_value()?;
-        let taken = with_first(self.first, value)?;
+        with_first(self.first, value)
+    }
+
+    /// Takes the arguments for a command and leaves none. What is refused, as for [`Args::taken`], leaves them.
+    pub fn take(&mut self) -> Result<Taken, Code>
+        ensures value { result ≡ taken_from (arguments self.old) }
+        ensures empty { OnOk result (arguments self.new ≡ no_arguments) }
+        ensures unchanged { OnErr result (self.new ≡ self.old) }
+    {
+        let taken = self.taken()?;
         self.clear();
         Ok(taken)
     }

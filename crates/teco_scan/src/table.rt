@@ -34,7 +34,7 @@ macro_rules! rows {
 }
 
 /// Every command but the run of digits. A longer name comes before one that begins it.
-pub const ROWS: [Row; 28] = rows! {
+pub const ROWS: [Row; 33] = rows! {
     Name::Three(b'=', b'=', b'='), ANY, Form::Refused;
     Name::Two(b'=', b'='), NONE, Form::Refused;
     Name::One(b'B'), NONE, Form::Bare(Bare::Quantity(Quantity::Beginning));
@@ -46,12 +46,16 @@ pub const ROWS: [Row; 28] = rows! {
     Name::One(b'/'), NONE, Form::Bare(Bare::Arithmetic(Arithmetic::Operator(Op::Over)));
     Name::One(b'J'), NONE, Form::Bare(Bare::Command(Command::Jump));
     Name::One(b'C'), NONE, Form::Bare(Bare::Command(Command::Forward));
+    Name::One(b'R'), NONE, Form::Bare(Bare::Command(Command::Back));
+    Name::One(b'L'), NONE, Form::Bare(Bare::Command(Command::Line));
+    Name::One(b'D'), NONE, Form::Bare(Bare::Command(Command::Delete));
     Name::One(b'T'), NONE, Form::Bare(Bare::Command(Command::TypeOut));
     Name::One(b'='), NONE, Form::Bare(Bare::Command(Command::Print));
     Name::One(ESCAPE), NONE, Form::Escape;
     Name::One(b'Q'), COLON, Form::Register(RegisterCommand::Number);
     Name::One(b'%'), NONE, Form::Register(RegisterCommand::Increment);
     Name::One(b'U'), NONE, Form::Register(RegisterCommand::Set);
+    Name::One(b'G'), COLON, Form::Register(RegisterCommand::Get);
     Name::Control(b'U'), AT, Form::SetText;
     Name::One(b'M'), NONE, Form::Register(RegisterCommand::Macro);
     Name::One(b'<'), NONE, Form::Mark(BlockMark::Iterate);
@@ -63,4 +67,5 @@ pub const ROWS: [Row; 28] = rows! {
     Name::One(b'!'), NONE, Form::Tag;
     Name::One(b'O'), AT, Form::Text(TextCommand::Go, ESCAPE);
     Name::One(b'I'), AT, Form::Text(TextCommand::Insert, ESCAPE);
+    Name::Control(b'A'), AT, Form::Text(TextCommand::TypeOut, 1);
 };

@@ -222,7 +222,7 @@ row_print_nothing : does (token.bare (bare.Command command.Print)) (holds (codes
 unfolding effect give operate taken_from digits_value line_ends_from
 row_print_nothing = refl
 
-row_not_built : does (token.bare (bare.Command command.Delete)) (holds (codes "abc") 1) (no_arguments) ≡ refused (holds (codes "abc") 1) no_arguments Ill
+row_not_built : does (token.bare (bare.Command command.Kill)) (holds (codes "abc") 1) (no_arguments) ≡ refused (holds (codes "abc") 1) no_arguments Ill
 unfolding effect give operate taken_from digits_value line_ends_from
 row_not_built = refl
 

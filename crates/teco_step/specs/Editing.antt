@@ -1,37 +1,66 @@
 -- Moves and insertions.
-use Rattle.std.specs.Prelude.{ℕ, List, [], ◌∷◌, length, None, Result, Ok, Err, pos, ◌+ℤ◌, nat_le, if◌then◌else◌}
+use Rattle.std.specs.Prelude.{ℕ, List, [], ◌∷◌, length, min, max, Option, None, Some, Result, Ok, Err, pos, ◌+◌, ◌-◌, ◌+ℤ◌, ◌-ℤ◌, nat_le, if◌then◌else◌}
 use Rattle.teco_core.specs.declared.code.Code.{Code}
-use Rattle.teco_core.specs.declared.code.Code.TheVariants.{Arg, Big, Iia, Pop}
+use Rattle.teco_core.specs.declared.code.Code.TheVariants.{Arg, Big, Dtb, Iia, Pop}
 use Rattle.teco_core.specs.declared.arguments.Taken.{Taken}
 use Rattle.teco_core.specs.declared.arguments.Taken.TheVariants as taken
 use Rattle.teco_core.specs.Refusal.{◌>>=◌}
 use Rattle.teco_core.specs.Arguments.{Arguments, taken_from}
 use Rattle.teco_store.specs.State.{State, spliced, pointed, text_limit}
-use Rattle.teco_step.specs.Step.{Tried, changes, takes_one_or, as_byte, place_or}
+use Rattle.teco_step.specs.Step.{Made, changes, takes_one_or, as_byte, place_or}
+use Rattle.teco_step.specs.Line.{line}
+
+-- The pointer goes to a place.
+abbrev pub moves : ℕ → State → Arguments → Made
+moves place s a = changes (pointed s place) 0
 
 -- nJ: the pointer to n, or to 0.
-abbrev pub jump : State → Arguments → Tried
+abbrev pub jump : State → Arguments → Made
 jump s a = do
   n ← takes_one_or (pos 0) a
   place ← place_or Pop s n
-  changes (pointed s place) 0
+  moves place s a
 
 -- nC: the pointer forward by n, or by 1.
-abbrev pub forward : State → Arguments → Tried
+abbrev pub forward : State → Arguments → Made
 forward s a = do
   n ← takes_one_or (pos 1) a
   place ← place_or Pop s (pos s.pointer +ℤ n)
-  changes (pointed s place) 0
+  moves place s a
+
+-- nR: the pointer back by n, or by 1.
+abbrev pub back : State → Arguments → Made
+back s a = do
+  n ← takes_one_or (pos 1) a
+  place ← place_or Pop s (pos s.pointer -ℤ n)
+  moves place s a
+
+-- nL: the pointer to line n, or to the next one.
+abbrev pub to_line : State → Arguments → Made
+to_line s a = do
+  n ← takes_one_or (pos 1) a
+  moves (line s.text s.pointer n) s a
 
 -- A state whose text is within its limit; else BIG.
 abbrev pub with_text_in_limit : State → Result State Code
 with_text_in_limit s = if nat_le (length s.text) text_limit then Ok s else Err Big
 
+-- These bytes come in for so many at a place, and the pointer goes behind them.
+abbrev pub puts : ℕ → ℕ → List ℕ → State → Arguments → Made
+puts at deleted bytes s a = do
+  t ← with_text_in_limit (spliced s at deleted bytes None)
+  changes t (deleted + length bytes)
+
 -- The bytes come in at the pointer, which goes behind them.
-abbrev pub inserts : State → List ℕ → Tried
-inserts s bytes = do
-  t ← with_text_in_limit (spliced s s.pointer 0 bytes None)
-  changes t (length bytes)
+abbrev pub inserts : List ℕ → State → Arguments → Made
+inserts bytes s a = puts s.pointer 0 bytes s a
+
+-- nD: n characters after the pointer are deleted, or -n before it; one where it takes none.
+abbrev pub delete : State → Arguments → Made
+delete s a = do
+  n ← takes_one_or (pos 1) a
+  place ← place_or Dtb s (pos s.pointer +ℤ n)
+  puts (min s.pointer place) (max s.pointer place - min s.pointer place) [] s a
 
 -- What I inserts: its text; or with n and no text the byte n.
 abbrev pub inserted : List ℕ → Taken → Result (List ℕ) Code
@@ -42,12 +71,13 @@ inserted [] (taken.One n) = do
 inserted (b ∷ text) (taken.One n) = Err Iia
 inserted text (taken.Two m n) = Err Arg
 
-abbrev pub insert_taken : List ℕ → State → Taken → Tried
-insert_taken text s t = do
-  bytes ← inserted text t
-  inserts s bytes
+-- the text, or the byte that comes for it
+abbrev pub or_byte : List ℕ → Option ℕ → List ℕ
+or_byte text None = text
+or_byte text (Some b) = b ∷ []
 
-abbrev pub insert : List ℕ → State → Arguments → Tried
+abbrev pub insert : List ℕ → State → Arguments → Made
 insert text s a = do
   t ← taken_from a
-  insert_taken text s t
+  bytes ← inserted text t
+  inserts bytes s a

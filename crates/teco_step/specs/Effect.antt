@@ -12,49 +12,54 @@ use Rattle.teco_scan.specs.Scan.{Item}
 use Rattle.teco_scan.specs.Scan as token
 use Rattle.teco_core.specs.Arguments.{Arguments}
 use Rattle.teco_store.specs.State.{State}
-use Rattle.teco_step.specs.Step.{Setting, Step, Tried, settled, unbuilt}
+use Rattle.teco_step.specs.Step.{Setting, Step, Action, goes, turns, done_by, settled, none_such}
 use Rattle.teco_step.specs.Values.{number, give_quantity, build}
-use Rattle.teco_step.specs.Editing.{jump, forward, insert}
-use Rattle.teco_step.specs.Typing.{type_out, print}
-use Rattle.teco_step.specs.Registers.{register_value, set_number, increment, set_text}
+use Rattle.teco_step.specs.Editing.{jump, forward, back, to_line, delete, insert}
+use Rattle.teco_step.specs.Typing.{type_out, type_text, print}
+use Rattle.teco_step.specs.Registers.{register_value, set_number, increment, set_text, get}
 use Rattle.teco_step.specs.Control.{leave_or_not, jump_to, run_register}
 
 -- Commands without an operand.
-abbrev pub command_effect : Command → Setting → State → Arguments → Tried
-command_effect command.Jump w = jump
-command_effect command.Forward w = forward
-command_effect command.TypeOut w = type_out
-command_effect command.Print w = print
-command_effect command.Leave w = leave_or_not w.inside
-command_effect c w = λ s a. unbuilt
+abbrev pub command_effect : Command → Setting → Action
+command_effect command.Jump w = goes jump
+command_effect command.Forward w = goes forward
+command_effect command.Back w = goes back
+command_effect command.Line w = goes to_line
+command_effect command.Delete w = goes delete
+command_effect command.TypeOut w = goes type_out
+command_effect command.Print w = goes print
+command_effect command.Leave w = turns (leave_or_not w.inside)
+command_effect c w = none_such
 
-abbrev pub bare_effect : Bare → Setting → State → Arguments → Tried
-bare_effect (bare.Quantity q) w = give_quantity q
-bare_effect (bare.Arithmetic b) w = build b
+abbrev pub bare_effect : Bare → Setting → Action
+bare_effect (bare.Quantity q) w = goes (give_quantity q)
+bare_effect (bare.Arithmetic b) w = goes (build b)
 bare_effect (bare.Command c) w = command_effect c w
-bare_effect (bare.Level l) w = λ s a. unbuilt
+bare_effect (bare.Level l) w = none_such
 
 -- Commands on a register.
-abbrev pub register_effect : RegisterCommand → ℕ → Setting → State → Arguments → Tried
-register_effect register_command.Number q w = register_value w.modifiers q
-register_effect register_command.Increment q w = increment q
-register_effect register_command.Set q w = set_number q
-register_effect register_command.Macro q w = run_register q
-register_effect c q w = λ s a. unbuilt
+abbrev pub register_effect : RegisterCommand → ℕ → Setting → Action
+register_effect register_command.Number q w = goes (register_value w.modifiers q)
+register_effect register_command.Increment q w = goes (increment q)
+register_effect register_command.Set q w = goes (set_number q)
+register_effect register_command.Get q w = goes (get w.modifiers q)
+register_effect register_command.Macro q w = turns (run_register q)
+register_effect c q w = none_such
 
-abbrev pub text_effect : TextCommand → List ℕ → Setting → State → Arguments → Tried
-text_effect text_command.Insert text w = insert text
-text_effect text_command.Go text w = jump_to text
-text_effect c text w = λ s a. unbuilt
+abbrev pub text_effect : TextCommand → List ℕ → Setting → Action
+text_effect text_command.Insert text w = goes (insert text)
+text_effect text_command.TypeOut text w = goes (type_text text)
+text_effect text_command.Go text w = turns (jump_to text)
+text_effect c text w = none_such
 
-abbrev pub item_effect : Item → Setting → State → Arguments → Tried
-item_effect (token.digits ds) w = number ds
+abbrev pub item_effect : Item → Setting → Action
+item_effect (token.digits ds) w = goes (number ds)
 item_effect (token.bare b) w = bare_effect b w
 item_effect (token.register c q) w = register_effect c q w
 item_effect (token.text c text) w = text_effect c text w
-item_effect (token.set_text q text) w = set_text q text
-item_effect i w = λ s a. unbuilt
+item_effect (token.set_text q text) w = goes (set_text q text)
+item_effect i w = none_such
 
 -- One step of a token, its first or a further one.
 unfoldable pub effect : Item → Setting → State → Arguments → Step
-effect i w s a = settled s a (item_effect i w s a)
+effect i w s a = settled s a (done_by (item_effect i w) s a)

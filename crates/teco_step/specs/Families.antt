@@ -1,109 +1,113 @@
--- What a function for a family of tokens did, beside the step that is meant: done, or not done by the code that it answers.
-use Rattle.std.specs.Prelude.{◌≡◌, ◌≢◌, ℕ, List, [], Option, true, false, ◌⊎◌, Result, Ok, Err}
+-- What a function for a token did, beside the step that is meant.
+use Rattle.std.specs.Prelude.{◌≡◌, ◌≢◌, ℕ, List, [], true, false, ◌⊎◌, Result, Ok, Err}
 use Rattle.std.specs.declared.ops.Range.{Range as Places}
 use Rattle.teco_core.specs.declared.code.Code.{Code}
-use Rattle.teco_core.specs.declared.code.Code.TheVariants.{Mem, Tty}
+use Rattle.teco_core.specs.declared.code.Code.TheVariants as code
 use Rattle.teco_core.specs.Arguments.{Arguments, no_arguments}
 use Rattle.teco_store.specs.State.{State}
 use Rattle.teco_store.specs.Trail.{Trail, moved}
+use Rattle.teco_store.specs.declared.desk.Refused.{Refused}
+use Rattle.teco_store.specs.declared.desk.Refused.TheVariants.{Big, NoMemory}
+use Rattle.teco_step.specs.declared.failure.Failure.{Failure}
+use Rattle.teco_step.specs.declared.failure.Failure.TheVariants as failure
 use Rattle.teco_step.specs.declared.next.Next.{Next}
 use Rattle.teco_step.specs.declared.next.Next.TheVariants as next
-use Rattle.teco_step.specs.Step.{Tried, Step, Range, edits, leaves, ends, types}
-use Rattle.teco_step.specs.Stepping.{end_of, is_unfinished}
-use Rattle.teco_step.specs.Terminal.{Shows, IsFrontOf}
+use Rattle.teco_step.specs.Step.{Tried, Action, done_by, goes_on, End, go, types, Moment, Range}
+use Rattle.teco_step.specs.Stepping.{end_of, is_unfinished, is_unfinished_code}
+use Rattle.teco_step.specs.Terminal.{Screen, Shows, IsFrontOf}
 
--- what an answer leads to that says it itself;
-abbrev pub next_of : Result Next Code → Next
+-- failures and their codes
+abbrev pub code_of : Failure → Code
+code_of (failure.Command c) = c
+code_of failure.Memory = code.Mem
+code_of failure.Terminal = code.Tty
+
+abbrev pub failure_of : Refused → Failure
+failure_of Big = failure.Command code.Big
+failure_of NoMemory = failure.Memory
+
+-- what an answer leads to
+abbrev pub next_of : Result Next Failure → Next
 next_of (Ok n) = n
-next_of (Err c) = next.Error c
-
--- what one leads to after which the string goes on
-abbrev pub next_after : {A : Type 0} → Result A Code → Next
-next_after (Ok done) = next.On
-next_after (Err c) = next.Error c
+next_of (Err f) = next.Error (code_of f)
 
 abbrev pub range_of : Places ℕ → Range
 range_of r = record { low = r.start; high = r.end }
 
--- What builds arguments leaves those of its step, or is refused and keeps them.
-abbrev pub Builds : {A : Type 0} → Tried → State → Arguments → Arguments → Result A Code → Type 0
-Builds tried s a left (Ok done) = tried ≡ leaves s left
-Builds tried s a left (Err c) = (tried ≡ Err c) × (left ≡ a)
+-- A failure is a refusal, by a code that says no failure of the host.
+pub record IsRefusal {A : Type 0} (f : Failure) (tried : Result A Code) : Type 0 where
+  pub code : Code
+  pub is : f ≡ failure.Command code
+  pub refused : tried ≡ Err code
+  pub own : is_unfinished_code code ≡ false
 
--- An edit was done. What the desk followed it follows on, by the load.
-pub record IsEdited (tried : Tried) (new : State) (left : Arguments) (before after : Trail → Type 0) : Type 0 where
+-- What was taken is what is to be taken, or is refused so.
+abbrev pub Takes : {A B : Type 0} → (A → B) → Result A Failure → Result B Code → Type 0
+Takes view (Ok x) tried = tried ≡ Ok (view x)
+Takes view (Err f) tried = IsRefusal f tried
+
+-- the name that an end goes to
+abbrev pub tag_of : End → List ℕ
+tag_of (go name) = name
+tag_of e = []
+
+-- what a desk follows it follows on, by the load; or there is none, and it follows the same
+abbrev pub Carries : (Trail → Type 0) → (Trail → Type 0) → ℕ → Type 0
+Carries before after load = ((t : Trail) → before t → after (moved t load)) ⊎ ((load ≡ 0) × ((t : Trail) → before t → after t))
+
+-- A step that types nothing was done.
+pub record IsActed (tried : Tried) (new : State) (left : Arguments) (before after : Trail → Type 0) (n : Next) : Type 0 where
   pub load : ℕ
-  pub step : tried ≡ edits new left load
-  pub follows : (t : Trail) → before t → after (moved t load)
+  pub end : End
+  pub step : tried ≡ Ok (record { state = new; arguments = left; typed = []; load = load; end = end })
+  pub leads : end_of (tag_of end) n ≡ end
+  pub finished : is_unfinished n ≡ false
+  pub carries : Carries before after load
 
--- An edit was refused, or memory was, and nothing changed.
-pub record IsUnedited (tried : Tried) (old new : State) (a left : Arguments) (before after : Trail → Type 0) (c : Code) : Type 0 where
-  pub code : (tried ≡ Err c) ⊎ (c ≡ Mem)
-  pub state : new ≡ old
+-- It was refused, or memory was, and nothing changed.
+pub record IsUnacted (tried : Tried) (s new : State) (a left : Arguments) (before after : Trail → Type 0) (f : Failure) : Type 0 where
+  pub why : IsRefusal f tried ⊎ (f ≡ failure.Memory)
+  pub state : new ≡ s
   pub arguments : left ≡ a
   pub follows : (t : Trail) → before t → after t
 
-abbrev pub Edits : {A : Type 0} → Tried → State → State → Arguments → Arguments → (Trail → Type 0) → (Trail → Type 0) → Result A Code → Type 0
-Edits tried old new a left before after (Ok done) = IsEdited tried new left before after
-Edits tried old new a left before after (Err c) = IsUnedited tried old new a left before after c
-
--- What changes no state leads to an end.
-pub record IsLed (tried : Tried) (name : List ℕ) (s : State) (left : Arguments) (n : Next) : Type 0 where
-  pub step : tried ≡ ends s left (end_of name n)
-  pub finished : is_unfinished n ≡ false
-
--- It was refused, or memory was.
-pub record IsUnled (tried : Tried) (a left : Arguments) (c : Code) : Type 0 where
-  pub code : (tried ≡ Err c) ⊎ (c ≡ Mem)
-  pub arguments : left ≡ a
-
-abbrev pub Leads : Tried → List ℕ → State → Arguments → Arguments → Result Next Code → Type 0
-Leads tried name s a left (Ok n) = IsLed tried name s left n
-Leads tried name s a left (Err c) = IsUnled tried a left c
-
--- A step was done that types nothing. What the desk followed it follows on, by the load.
-pub record IsActed (e : Step) (name : List ℕ) (new : State) (left : Arguments) (before after : Trail → Type 0) (n : Next) : Type 0 where
-  pub state : new ≡ e.state
-  pub arguments : left ≡ e.arguments
-  pub typed : e.typed ≡ []
-  pub end : end_of name n ≡ e.end
-  pub finished : is_unfinished n ≡ false
-  pub follows : (t : Trail) → before t → after (moved t e.load)
-
--- Memory was refused, and nothing changed.
-pub record IsUnacted (old new : State) (before after : Trail → Type 0) (n : Next) : Type 0 where
-  pub code : n ≡ next.Error Mem
-  pub state : new ≡ old
-  pub follows : (t : Trail) → before t → after t
-
-abbrev pub Acts : Step → List ℕ → State → State → Arguments → (Trail → Type 0) → (Trail → Type 0) → Next → Type 0
-Acts e name old new left before after n = IsActed e name new left before after n ⊎ IsUnacted old new before after n
+-- What a function that types nothing did, which is to do this, to a state and arguments and what a desk follows.
+abbrev pub Acts : Action → State → State → Arguments → Arguments → (Trail → Type 0) → (Trail → Type 0) → Result Next Failure → Type 0
+Acts f s new a left before after (Ok n) = IsActed (done_by f s a) new left before after n
+Acts f s new a left before after (Err e) = IsUnacted (done_by f s a) s new a left before after e
 
 -- Bytes were typed.
-pub record IsTyped {T : Type 0} (shown : T → Option (List ℕ)) (failures : T → ℕ) (tried : Tried) (s : State) (left : Arguments) (before after : T) : Type 0 where
+pub record IsTyped (tried : Tried) (s : State) (left : Arguments) (before after : Screen) (n : Next) : Type 0 where
   pub bytes : List ℕ
-  pub step : tried ≡ types s bytes
+  pub step : tried ≡ goes_on (types s bytes)
   pub arguments : left ≡ no_arguments
-  pub shows : Shows shown failures before after bytes false
+  pub goes_on : n ≡ next.On
+  pub shows : Shows before after bytes false
 
 -- Typing was refused, and nothing shown.
-pub record IsUntyped {T : Type 0} (shown : T → Option (List ℕ)) (failures : T → ℕ) (tried : Tried) (a left : Arguments) (before after : T) (c : Code) : Type 0 where
-  pub code : tried ≡ Err c
+pub record IsUntyped (tried : Tried) (a left : Arguments) (before after : Screen) (f : Failure) : Type 0 where
+  pub why : IsRefusal f tried
   pub arguments : left ≡ a
-  pub shows : Shows shown failures before after [] false
+  pub screen : after ≡ before
 
 -- A put failed: of the bytes, of which there are some, a beginning is shown.
-pub record FailsToType {T : Type 0} (shown : T → Option (List ℕ)) (failures : T → ℕ) (tried : Tried) (s : State) (a left : Arguments) (before after : T) (c : Code) : Type 0 where
-  pub code : c ≡ Tty
+pub record IsCutShort (tried : Tried) (s : State) (a left : Arguments) (before after : Screen) (f : Failure) : Type 0 where
+  pub is : f ≡ failure.Terminal
   pub bytes : List ℕ
-  pub step : tried ≡ types s bytes
+  pub step : tried ≡ goes_on (types s bytes)
   pub some : bytes ≢ []
   pub arguments : left ≡ a
   pub front : List ℕ
   pub beginning : IsFrontOf front bytes
-  pub shows : Shows shown failures before after front true
+  pub shows : Shows before after front true
 
-abbrev pub Types : {T A : Type 0} → (T → Option (List ℕ)) → (T → ℕ) → Tried → State → Arguments → Arguments → T → T → Result A Code → Type 0
-Types shown failures tried s a left before after (Ok done) = IsTyped shown failures tried s left before after
-Types shown failures tried s a left before after (Err c) =
-    IsUntyped shown failures tried a left before after c ⊎ FailsToType shown failures tried s a left before after c
+-- What a function that types did, which is to do this, to arguments and a screen.
+abbrev pub Types : Action → State → Arguments → Arguments → Screen → Screen → Result Next Failure → Type 0
+Types f s a left before after (Ok n) = IsTyped (done_by f s a) s left before after n
+Types f s a left before after (Err e) = IsUntyped (done_by f s a) a left before after e ⊎ IsCutShort (done_by f s a) s a left before after e
+
+-- What a function for any token did: it acted and left the screen, or typed and left the state.
+abbrev pub Does : Action → Moment → Moment → (Trail → Type 0) → (Trail → Type 0) → Result Next Failure → Type 0
+Does f old new before after r =
+    ((new.screen ≡ old.screen) × Acts f old.state new.state old.arguments new.arguments before after r)
+    ⊎ ((new.state ≡ old.state) × ((t : Trail) → before t → after t) × Types f old.state old.arguments new.arguments old.screen new.screen r)

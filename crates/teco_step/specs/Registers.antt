@@ -9,14 +9,15 @@ use Rattle.teco_core.specs.Arguments.{Arguments, give, level_of, emptied}
 use Rattle.teco_core.specs.Register.{content}
 use Rattle.teco_scan.specs.declared.command.Modifiers.{Modifiers}
 use Rattle.teco_store.specs.State.{State, text_limit, with_register_number, with_register_text}
-use Rattle.teco_step.specs.Step.{Tried, changes, edits, gives, takes_none, takes_one}
+use Rattle.teco_step.specs.Step.{Made, changes, edits, gives, types, takes_none, takes_one}
+use Rattle.teco_step.specs.Editing.{inserts}
 
 -- Qq gives the number of q; with a colon the length of its text.
-abbrev pub register_value : Modifiers → ℕ → State → Arguments → Tried
+abbrev pub register_value : Modifiers → ℕ → State → Arguments → Made
 register_value m q s a = gives s a (if m.colons == 1 then pos (length (content s.registers q).text) else (content s.registers q).number)
 
 -- nUq: the number of q becomes n.
-abbrev pub set_number : ℕ → State → Arguments → Tried
+abbrev pub set_number : ℕ → State → Arguments → Made
 set_number q s a = do
   n ← takes_one Nau a
   changes (with_register_number s q n) 0
@@ -36,19 +37,35 @@ without_summand level.Empty a = a
 without_summand level.Waits a = a
 
 -- n%q: the sum becomes the number of q, and is given.
-abbrev pub increment : ℕ → State → Arguments → Tried
+abbrev pub increment : ℕ → State → Arguments → Made
 increment q s a = do
   sum ← fitted ((content s.registers q).number +ℤ summand (level_of a.expression))
   given ← give sum (without_summand (level_of a.expression) a)
   edits (with_register_number s q sum) given 0
 
 -- The text of q becomes this one, which must be within its limit, else BIG. The load is that of the old and the new one.
-abbrev pub sets_text : ℕ → List ℕ → State → Tried
+abbrev pub sets_text : ℕ → List ℕ → State → Made
 sets_text q text s =
     if nat_le (length text) text_limit then changes (with_register_text s q text) (length (content s.registers q).text + length text) else Err Big
 
 -- ^Uqtext$: the text of q becomes this one.
-abbrev pub set_text : ℕ → List ℕ → State → Arguments → Tried
+abbrev pub set_text : ℕ → List ℕ → State → Arguments → Made
 set_text q text s a = do
   none ← takes_none a
   sets_text q text s
+
+-- :Gq: types the text of q.
+abbrev pub type_text : ℕ → State → Arguments → Made
+type_text q s a = do
+  none ← takes_none a
+  types s (content s.registers q).text
+
+-- Gq: the text of q comes in at the pointer.
+abbrev pub insert_text : ℕ → State → Arguments → Made
+insert_text q s a = do
+  none ← takes_none a
+  inserts (content s.registers q).text s a
+
+-- Gq, and with a colon :Gq
+abbrev pub get : Modifiers → ℕ → State → Arguments → Made
+get m q s a = if m.colons == 1 then type_text q s a else insert_text q s a

@@ -10,6 +10,7 @@ use Rattle.teco_store.specs.State.{State}
 pub use Rattle.teco_step.specs.declared.next.Setting.{Setting}
 use Rattle.teco_step.specs.declared.next.Work.{Work}
 use Rattle.teco_step.specs.Line.{line}
+use Rattle.teco_step.specs.Terminal.{Screen}
 
 -- How a step ends.
 pub data End : Type 0 where
@@ -29,6 +30,15 @@ pub record Step : Type 0 where
   pub load : ℕ
   pub end : End
 
+-- what is seen around a step: the editing state, the arguments, and the terminal's screen
+pub record Moment : Type 0 where
+  pub state : State
+  pub arguments : Arguments
+  pub screen : Screen
+
+abbrev pub at : State → Arguments → Screen → Moment
+at s a w = record { state = s; arguments = a; screen = w }
+
 -- a step, or the code by which it is refused with nothing changed
 abbrev pub Tried : Type 0
 Tried = Result Step Code
@@ -38,35 +48,62 @@ abbrev pub settled : State → Arguments → Tried → Step
 settled s a (Ok step) = step
 settled s a (Err c) = record { state = s; arguments = a; typed = []; load = 0; end = stop c }
 
+-- What a step does after which the string goes on: the new state and arguments, the bytes that it types, and the load of its change;
+pub record Change : Type 0 where
+  pub state : State
+  pub arguments : Arguments
+  pub typed : List ℕ
+  pub load : ℕ
+
+-- or the code by which it is refused.
+abbrev pub Made : Type 0
+Made = Result Change Code
+
+abbrev pub goes_on : Made → Tried
+goes_on (Ok c) = Ok (record { state = c.state; arguments = c.arguments; typed = c.typed; load = c.load; end = on })
+goes_on (Err c) = Err c
+
+-- What a token is to do: a change, after which the string goes on; or a step that ends as it says.
+pub data Action : Type 0 where
+  goes : (make : State → Arguments → Made) → Action
+  turns : (try : State → Arguments → Tried) → Action
+
+abbrev pub done_by : Action → State → Arguments → Tried
+done_by (goes make) s a = goes_on (make s a)
+done_by (turns try) s a = try s a
+
 -- An edit: a new state, with the load of the change, and these arguments;
-abbrev pub edits : State → Arguments → ℕ → Tried
-edits s a load = Ok (record { state = s; arguments = a; typed = []; load = load; end = on })
+abbrev pub edits : State → Arguments → ℕ → Made
+edits s a load = Ok (record { state = s; arguments = a; typed = []; load = load })
 
 -- of a command that has taken its arguments.
-abbrev pub changes : State → ℕ → Tried
+abbrev pub changes : State → ℕ → Made
 changes s load = edits s no_arguments load
 
 -- It types bytes.
-abbrev pub types : State → List ℕ → Tried
-types s bytes = Ok (record { state = s; arguments = no_arguments; typed = bytes; load = 0; end = on })
+abbrev pub types : State → List ℕ → Made
+types s bytes = Ok (record { state = s; arguments = no_arguments; typed = bytes; load = 0 })
 
 -- It leaves these arguments.
-abbrev pub leaves : State → Arguments → Tried
+abbrev pub leaves : State → Arguments → Made
 leaves s a = edits s a 0
+
+-- It gives a value.
+abbrev pub gives : State → Arguments → ℤ → Made
+gives s a v = do
+  given ← give v a
+  leaves s given
 
 -- It leaves these arguments, and ends so.
 abbrev pub ends : State → Arguments → End → Tried
 ends s a end = Ok (record { state = s; arguments = a; typed = []; load = 0; end = end })
 
--- It gives a value.
-abbrev pub gives : State → Arguments → ℤ → Tried
-gives s a v = do
-  given ← give v a
-  leaves s given
-
 -- A command that isn't built is none.
-abbrev pub unbuilt : Tried
+abbrev pub unbuilt : {A : Type 0} → Result A Code
 unbuilt = Err Ill
+
+abbrev pub none_such : Action
+none_such = goes (λ s a. unbuilt)
 
 -- What a command takes: nothing;
 abbrev pub just_none : Taken → Result (Unit {0}) Code

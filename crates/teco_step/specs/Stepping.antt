@@ -16,7 +16,7 @@ use Rattle.teco_scan.specs.declared.token.TokenKind.TheVariants as kind
 use Rattle.teco_scan.specs.Seen.{item_in, IsItemIn}
 use Rattle.teco_step.specs.declared.next.Work.{Work}
 use Rattle.teco_step.specs.Effect.{effect}
-use Rattle.teco_step.specs.Step.{Step, Setting, settled, unbuilt, End, on, leave, go, call, out, again, stop}
+use Rattle.teco_step.specs.Step.{Step, Moment, Setting, settled, unbuilt, End, on, leave, go, call, out, again, stop}
 use Rattle.teco_step.specs.declared.next.Next.{Next}
 use Rattle.teco_step.specs.declared.next.Next.TheVariants as next
 
@@ -40,33 +40,33 @@ abbrev pub is_unfinished : Next → Bool
 is_unfinished (next.Error c) = is_unfinished_code c
 is_unfinished n = false
 
--- what is seen of a desk and a terminal around a step: the states, and what a step shows is said of the terminals
-pub record IsDone {T : Type 0} (shown : T → Option (List ℕ)) (failures : T → ℕ) (e : Step) (name : List ℕ) (new : State) (left : Arguments) (before after : T) (n : Next) : Type 0 where
-  pub state : new ≡ e.state
-  pub arguments : left ≡ e.arguments
+-- the step was done, or refused as it means
+pub record IsDone (e : Step) (name : List ℕ) (old new : Moment) (n : Next) : Type 0 where
+  pub state : new.state ≡ e.state
+  pub arguments : new.arguments ≡ e.arguments
   pub end : end_of name n ≡ e.end
   pub finished : is_unfinished n ≡ false
-  pub shows : Shows shown failures before after e.typed false
+  pub shows : Shows old.screen new.screen e.typed false
 
 -- memory was refused, and nothing changed
-pub record LacksMemory {T : Type 0} (shown : T → Option (List ℕ)) (failures : T → ℕ) (old new : State) (before after : T) (n : Next) : Type 0 where
+pub record LacksMemory (old new : Moment) (n : Next) : Type 0 where
   pub code : n ≡ next.Error Mem
-  pub state : new ≡ old
-  pub shows : Shows shown failures before after [] false
+  pub state : new.state ≡ old.state
+  pub arguments : new.arguments ≡ old.arguments
+  pub shows : Shows old.screen new.screen [] false
 
--- a put failed: of the step's bytes, of which there are some, a beginning is shown, and nothing changed
-pub record LacksTerminal {T : Type 0} (shown : T → Option (List ℕ)) (failures : T → ℕ) (e : Step) (old new : State) (before after : T) (n : Next) : Type 0 where
+-- a put failed: of the step's bytes, of which there are some, a beginning is shown, and nothing else changed
+pub record LacksTerminal (e : Step) (old new : Moment) (n : Next) : Type 0 where
   pub code : n ≡ next.Error Tty
-  pub state : new ≡ old
+  pub state : new.state ≡ old.state
+  pub arguments : new.arguments ≡ old.arguments
   pub types : e.typed ≢ []
   pub front : List ℕ
   pub beginning : IsFrontOf front e.typed
-  pub shows : Shows shown failures before after front true
+  pub shows : Shows old.screen new.screen front true
 
-abbrev pub Steps : {T : Type 0} → (T → Option (List ℕ)) → (T → ℕ) → Step → List ℕ → State → State → Arguments → T → T → Next → Type 0
-Steps shown failures e name old new left before after n =
-    IsDone shown failures e name new left before after n
-    ⊎ (LacksMemory shown failures old new before after n ⊎ LacksTerminal shown failures e old new before after n)
+abbrev pub Steps : Step → List ℕ → Moment → Moment → Next → Type 0
+Steps e name old new n = IsDone e name old new n ⊎ (LacksMemory old new n ⊎ LacksTerminal e old new n)
 
 -- what a desk follows after a step of this load
 abbrev pub trail_after : Next → Trail → ℕ → Trail

@@ -1,77 +1,121 @@
 //! Commands that move the pointer or change the text. One that is not done keeps the arguments and the state.
+ghost use Rattle.std.specs.Prelude.{◌+◌, ◌≤◌, length};
 ghost use Rattle.teco_core.specs.ArgumentsView.{arguments};
-ghost use Rattle.teco_core.specs.Arguments.{no_arguments};
 ghost use Rattle.teco_step.specs.Editing as editing;
-ghost use Rattle.teco_step.specs.Families.{Edits};
+ghost use Rattle.teco_step.specs.Families.{Acts, Takes};
+ghost use Rattle.teco_step.specs.Step.{goes};
 
-use crate::taking::{as_byte, one_or, place_in};
+use crate::failure::Failure;
+use crate::next::Next;
+use crate::taking::{as_byte, line_from, place_in, taken, takes_one_or};
 use teco_core::{Args, Code, Taken};
 use teco_store::Desk;
 
-/// `nJ`: the pointer to n, or to 0.
-pub(crate) fn jump<D: Desk>(desk: &mut D, args: &mut Args) -> Result<(), Code>
-    ensures { Edits (editing.jump (D.state desk.old) (arguments args.old)) (D.state desk.old) (D.state desk.new)
-        (arguments args.old) (arguments args.new) (D.follows desk.old) (D.follows desk.new) result }
+/// Puts the pointer at a place. The command is then done, and its arguments gone.
+fn move_to<D: Desk>(desk: &mut D, place: usize, args: &mut Args) -> Result<Next, Failure>
+    requires { place ≤ length (D.state desk.old).text }
+    ensures { Acts (goes (editing.moves place)) (D.state desk.old) (D.state desk.new) (arguments args.old) (arguments args.new)
+        (D.follows desk.old) (D.follows desk.new) result }
 {
-    let mut left = *args;
-    let taken = left.take()?;
-    let n = one_or(0, taken)?;
-    let place = place_in(desk, i64::from(n))?;
     desk.point(place)?;
-    *args = left;
-    Ok(())
+    args.clear();
+    Ok(Next::On)
+}
+
+/// `nJ`: the pointer to n, or to 0.
+pub(crate) fn jump<D: Desk>(desk: &mut D, args: &mut Args) -> Result<Next, Failure>
+    ensures { Acts (goes editing.jump) (D.state desk.old) (D.state desk.new) (arguments args.old) (arguments args.new)
+        (D.follows desk.old) (D.follows desk.new) result }
+{
+    let n = takes_one_or(args, 0)?;
+    let place = place_in(desk, Code::Pop, i64::from(n))?;
+    move_to(desk, place, args)
 }
 
 /// `nC`: the pointer forward by n, or by 1.
-pub(crate) fn forward<D: Desk>(desk: &mut D, args: &mut Args) -> Result<(), Code>
-    ensures { Edits (editing.forward (D.state desk.old) (arguments args.old)) (D.state desk.old) (D.state desk.new)
-        (arguments args.old) (arguments args.new) (D.follows desk.old) (D.follows desk.new) result }
+pub(crate) fn forward<D: Desk>(desk: &mut D, args: &mut Args) -> Result<Next, Failure>
+    ensures { Acts (goes editing.forward) (D.state desk.old) (D.state desk.new) (arguments args.old) (arguments args.new)
+        (D.follows desk.old) (D.follows desk.new) result }
 {
-    let mut left = *args;
-    let taken = left.take()?;
-    let n = one_or(1, taken)?;
-    let place = place_in(desk, desk.pointer() as i64 + i64::from(n))?;
-    desk.point(place)?;
-    *args = left;
-    Ok(())
+    let n = takes_one_or(args, 1)?;
+    let place = place_in(desk, Code::Pop, desk.pointer() as i64 + i64::from(n))?;
+    move_to(desk, place, args)
 }
 
-/// The bytes come in at the pointer, which goes behind them. A text past its limit is [`Code::Big`].
-fn insert_bytes<D: Desk>(desk: &mut D, bytes: &[u8]) -> Result<(), Code>
-    ensures { Edits (editing.inserts (D.state desk.old) bytes.now) (D.state desk.old) (D.state desk.new)
-        no_arguments no_arguments (D.follows desk.old) (D.follows desk.new) result }
+/// `nR`: the pointer back by n, or by 1.
+pub(crate) fn back<D: Desk>(desk: &mut D, args: &mut Args) -> Result<Next, Failure>
+    ensures { Acts (goes editing.back) (D.state desk.old) (D.state desk.new) (arguments args.old) (arguments args.new)
+        (D.follows desk.old) (D.follows desk.new) result }
 {
+    let n = takes_one_or(args, 1)?;
+    let place = place_in(desk, Code::Pop, desk.pointer() as i64 - i64::from(n))?;
+    move_to(desk, place, args)
+}
+
+/// `nL`: the pointer to line n, or to the next one.
+pub(crate) fn to_line<D: Desk>(desk: &mut D, args: &mut Args) -> Result<Next, Failure>
+    ensures { Acts (goes editing.to_line) (D.state desk.old) (D.state desk.new) (arguments args.old) (arguments args.new)
+        (D.follows desk.old) (D.follows desk.new) result }
+{
+    let n = takes_one_or(args, 1)?;
+    let place = line_from(desk, n);
+    move_to(desk, place, args)
+}
+
+/// Puts bytes for so many at a place, and the pointer behind them. The command is then done, and its arguments gone. A text past its
+/// limit is [`Code::Big`].
+pub(crate) fn put<D: Desk>(
+    desk: &mut D,
+    at: usize,
+    deleted: usize,
+    bytes: &[u8],
+    args: &mut Args,
+) -> Result<Next, Failure>
+    requires { at + deleted ≤ length (D.state desk.old).text }
+    ensures { Acts (goes (editing.puts at deleted bytes.now)) (D.state desk.old) (D.state desk.new) (arguments args.old) (arguments args.new)
+        (D.follows desk.old) (D.follows desk.new) result }
+{
+    desk.splice(at, deleted, bytes, None)?;
+    args.clear();
+    Ok(Next::On)
+}
+
+/// `nD`: deletes n characters after the pointer, or -n before it; one where it takes none.
+pub(crate) fn delete<D: Desk>(desk: &mut D, args: &mut Args) -> Result<Next, Failure>
+    ensures { Acts (goes editing.delete) (D.state desk.old) (D.state desk.new) (arguments args.old) (arguments args.new)
+        (D.follows desk.old) (D.follows desk.new) result }
+{
+    let n = takes_one_or(args, 1)?;
     let pointer = desk.pointer();
-    desk.splice(pointer, 0, bytes, None)?;
-    Ok(())
+    let place = place_in(desk, Code::Dtb, pointer as i64 + i64::from(n))?;
+    let low = pointer.min(place);
+    put(desk, low, pointer.max(place) - low, &[], args)
 }
 
-/// What `I` inserts: its text, or where it takes a number and has no text the byte of that number.
-fn insert_taken<D: Desk>(desk: &mut D, text: &[u8], taken: Taken) -> Result<(), Code>
-    ensures { Edits (editing.insert_taken text.now (D.state desk.old) taken) (D.state desk.old) (D.state desk.new)
-        no_arguments no_arguments (D.follows desk.old) (D.follows desk.new) result }
+/// What `I` inserts where it has no text: the byte of the number that it takes.
+fn inserted_byte(text: &[u8], taken: Taken) -> Result<Option<u8>, Failure>
+    ensures { Takes (editing.or_byte text.now) result (editing.inserted text.now taken) }
 {
     match taken {
-        Taken::None => insert_bytes(desk, text),
+        Taken::None => Ok(None),
         Taken::One(n) => {
             if !text.is_empty() {
-                return Err(Code::Iia);
+                return Err(Failure::Command(Code::Iia));
             }
-            let byte = as_byte(n)?;
-            insert_bytes(desk, &[byte])
+            Ok(Some(as_byte(n)?))
         }
-        Taken::Two(..) => Err(Code::Arg),
+        Taken::Two(..) => Err(Failure::Command(Code::Arg)),
     }
 }
 
 /// `Itext$` and `nI$`.
-pub(crate) fn insert<D: Desk>(desk: &mut D, text: &[u8], args: &mut Args) -> Result<(), Code>
-    ensures { Edits (editing.insert text.now (D.state desk.old) (arguments args.old)) (D.state desk.old) (D.state desk.new)
-        (arguments args.old) (arguments args.new) (D.follows desk.old) (D.follows desk.new) result }
+pub(crate) fn insert<D: Desk>(desk: &mut D, text: &[u8], args: &mut Args) -> Result<Next, Failure>
+    ensures { Acts (goes (editing.insert text.now)) (D.state desk.old) (D.state desk.new) (arguments args.old) (arguments args.new)
+        (D.follows desk.old) (D.follows desk.new) result }
 {
-    let mut left = *args;
-    let taken = left.take()?;
-    insert_taken(desk, text, taken)?;
-    *args = left;
-    Ok(())
+    let pointer = desk.pointer();
+    match inserted_byte(text, taken(args)?)? {
+        None => put(desk, pointer, 0, text, args),
+        Some(byte) => put(desk, pointer, 0, &[byte], args),
+    }
 }

@@ -3,6 +3,7 @@
 
 mod control;
 mod edit;
+mod failure;
 mod line;
 mod memory_terminal;
 mod next;

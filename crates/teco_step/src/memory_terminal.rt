@@ -15,8 +15,8 @@ pub struct MemoryTerminal {
 impl MemoryTerminal {
     /// A terminal that has shown nothing. Takes no memory.
     pub fn new(alloc: Global) -> MemoryTerminal
-        ensures shown { ⟦<MemoryTerminal as Terminal>⟧.shown result ≡ Some [] }
-        ensures failures { ⟦<MemoryTerminal as Terminal>⟧.failures result ≡ 0 }
+        ensures shown { (⟦<MemoryTerminal as Terminal>⟧.screen result).shown ≡ Some [] }
+        ensures failures { (⟦<MemoryTerminal as Terminal>⟧.screen result).failures ≡ 0 }
     {
         MemoryTerminal {
             bytes: Vec::new(alloc),
@@ -26,20 +26,18 @@ impl MemoryTerminal {
 
     /// All that it has shown.
     pub fn bytes(&self) -> &[u8]
-        ensures { ⟦<MemoryTerminal as Terminal>⟧.shown self.now ≡ Some result.now }
+        ensures { (⟦<MemoryTerminal as Terminal>⟧.screen self.now).shown ≡ Some result.now }
     {
         self.bytes.as_slice()
     }
 }
 
 impl Terminal for MemoryTerminal {
-    ghost shown = { λ terminal. Some terminal.bytes.items };
-
-    ghost failures = { λ terminal. terminal.failures };
+    ghost screen = { λ terminal. record { shown = Some terminal.bytes.items; failures = terminal.failures } };
 
     fn put(&mut self, bytes: &[u8]) -> Result<(), TerminalFault>
-        ensures puts { Puts ⟦<MemoryTerminal as Terminal>⟧.shown ⟦<MemoryTerminal as Terminal>⟧.failures self.old self.new bytes.now result }
-        ensures nothing_added { OnErr result (⟦<MemoryTerminal as Terminal>⟧.shown self.new ≡ ⟦<MemoryTerminal as Terminal>⟧.shown self.old) }
+        ensures puts { Puts (⟦<MemoryTerminal as Terminal>⟧.screen self.old) (⟦<MemoryTerminal as Terminal>⟧.screen self.new) bytes.now result }
+        ensures nothing_added { OnErr result ((⟦<MemoryTerminal as Terminal>⟧.screen self.new).shown ≡ (⟦<MemoryTerminal as Terminal>⟧.screen self.old).shown) }
     {
         if self.bytes.extend_from_slice(bytes).is_err() {
             self.failures = self.failures.wrapping_add(1);

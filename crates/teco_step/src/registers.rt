@@ -1,15 +1,21 @@
 //! Commands on the number and the text of a register. One that is not done keeps the arguments and the state.
-ghost use Rattle.std.specs.Prelude.{◌≡◌, ◌≤◌, length, IfErr, IfOk};
+ghost use Rattle.std.specs.Prelude.{◌≡◌, ◌≤◌, length, Err, IfErr, IfOk};
 ghost use Rattle.teco_core.specs.ArgumentsView.{arguments};
 ghost use Rattle.teco_core.specs.Arguments.{level_of};
 ghost use Rattle.teco_core.specs.Register.{content};
-ghost use Rattle.teco_core.specs.declared.code.Code.TheVariants.{Mem};
 ghost use Rattle.teco_store.specs.State.{text_limit};
-ghost use Rattle.teco_step.specs.Families.{Builds, Edits};
+ghost use Rattle.teco_step.specs.Families.{Acts, Does, Types};
 ghost use Rattle.teco_step.specs.Registers as registers;
+ghost use Rattle.teco_step.specs.Step.{at, goes};
+ghost use Rattle.teco_step.specs.declared.failure.Failure.TheVariants.{Memory};
 
-use crate::taking::{just_none, just_one};
-use teco_core::{Args, Code, Level, Op, Reg, operation};
+use crate::edit::put;
+use crate::failure::Failure;
+use crate::next::Next;
+use crate::taking::{give, sum, takes_none, takes_one};
+use crate::terminal::Terminal;
+use crate::typing::show;
+use teco_core::{Args, Code, Level, Reg};
 use teco_scan::Modifiers;
 use teco_store::Desk;
 
@@ -27,28 +33,28 @@ pub(crate) fn register_value<D: Desk>(
     modifiers: Modifiers,
     q: Reg,
     args: &mut Args,
-) -> Result<(), Code>
-    ensures { let s = D.state desk.now in Builds (registers.register_value modifiers q s (arguments args.old)) s
-        (arguments args.old) (arguments args.new) result }
+) -> Result<Next, Failure>
+    ensures does { Acts (goes (registers.register_value modifiers q)) (D.state desk.now) (D.state desk.now) (arguments args.old) (arguments args.new)
+        (D.follows desk.now) (D.follows desk.now) result }
+    ensures no_memory { result ≡ Err Memory → ⊥ }
 {
     if modifiers.colons == 1 {
-        args.give(length_of(desk, q) as i32)
+        give(args, length_of(desk, q) as i32)?;
     } else {
-        args.give(desk.registers().number(q))
+        give(args, desk.registers().number(q))?;
     }
+    Ok(Next::On)
 }
 
 /// `nUq`: the number of q becomes n.
-pub(crate) fn set_number<D: Desk>(desk: &mut D, q: Reg, args: &mut Args) -> Result<(), Code>
-    ensures { Edits (registers.set_number q (D.state desk.old) (arguments args.old)) (D.state desk.old) (D.state desk.new)
-        (arguments args.old) (arguments args.new) (D.follows desk.old) (D.follows desk.new) result }
+pub(crate) fn set_number<D: Desk>(desk: &mut D, q: Reg, args: &mut Args) -> Result<Next, Failure>
+    ensures { Acts (goes (registers.set_number q)) (D.state desk.old) (D.state desk.new) (arguments args.old) (arguments args.new)
+        (D.follows desk.old) (D.follows desk.new) result }
 {
-    let mut left = *args;
-    let taken = left.take()?;
-    let n = just_one(Code::Nau, taken)?;
+    let n = takes_one(args, Code::Nau)?;
     desk.set_number(q, n)?;
-    *args = left;
-    Ok(())
+    args.clear();
+    Ok(Next::On)
 }
 
 /// What `%` adds: the value or the lone sign at the level, which it leaves empty, and else 1.
@@ -71,27 +77,27 @@ fn summand(args: &mut Args) -> i32
 }
 
 /// `n%q`: the sum becomes the number of q, and is given.
-pub(crate) fn increment<D: Desk>(desk: &mut D, q: Reg, args: &mut Args) -> Result<(), Code>
-    ensures { Edits (registers.increment q (D.state desk.old) (arguments args.old)) (D.state desk.old) (D.state desk.new)
-        (arguments args.old) (arguments args.new) (D.follows desk.old) (D.follows desk.new) result }
+pub(crate) fn increment<D: Desk>(desk: &mut D, q: Reg, args: &mut Args) -> Result<Next, Failure>
+    ensures { Acts (goes (registers.increment q)) (D.state desk.old) (D.state desk.new) (arguments args.old) (arguments args.new)
+        (D.follows desk.old) (D.follows desk.new) result }
 {
     let mut left = *args;
     let n = summand(&mut left);
-    let sum = operation(Op::Plus, desk.registers().number(q), n)?;
-    left.give(sum)?;
+    let sum = sum(desk.registers().number(q), n)?;
+    give(&mut left, sum)?;
     desk.set_number(q, sum)?;
     *args = left;
-    Ok(())
+    Ok(Next::On)
 }
 
-/// A copy of the bytes, in memory of its own. Want of memory is [`Code::Mem`].
-pub(crate) fn copy<D: Desk>(desk: &D, q: Reg, bytes: &[u8]) -> Result<Vec<u8>, Code>
+/// A copy of the bytes, in memory of its own.
+pub(crate) fn copy<D: Desk>(desk: &D, q: Reg, bytes: &[u8]) -> Result<Vec<u8>, Failure>
     ensures ok { IfOk result (λ copy. copy.items ≡ bytes.now) }
-    ensures err { IfErr result (λ code. code ≡ Mem) }
+    ensures err { IfErr result (λ failure. failure ≡ Memory) }
 {
     match Vec::from_slice(*desk.registers().value(q).text.allocator(), bytes) {
         Ok(copy) => Ok(copy),
-        Err(_) => Err(Code::Mem),
+        Err(_) => Err(Failure::Memory),
     }
 }
 
@@ -101,15 +107,54 @@ pub(crate) fn set_text<D: Desk>(
     q: Reg,
     text: &[u8],
     args: &mut Args,
-) -> Result<(), Code>
-    ensures { Edits (registers.set_text q text.now (D.state desk.old) (arguments args.old)) (D.state desk.old) (D.state desk.new)
-        (arguments args.old) (arguments args.new) (D.follows desk.old) (D.follows desk.new) result }
+) -> Result<Next, Failure>
+    ensures { Acts (goes (registers.set_text q text.now)) (D.state desk.old) (D.state desk.new) (arguments args.old) (arguments args.new)
+        (D.follows desk.old) (D.follows desk.new) result }
 {
-    let mut left = *args;
-    let taken = left.take()?;
-    just_none(taken)?;
+    takes_none(args)?;
     let text = copy(desk, q, text)?;
     desk.set_text(q, text)?;
-    *args = left;
-    Ok(())
+    args.clear();
+    Ok(Next::On)
+}
+
+/// `:Gq` types the text of q.
+fn type_text<D: Desk, T: Terminal>(
+    desk: &D,
+    q: Reg,
+    args: &mut Args,
+    term: &mut T,
+) -> Result<Next, Failure>
+    ensures { Types (goes (registers.type_text q)) (D.state desk.now) (arguments args.old) (arguments args.new) (T.screen term.old) (T.screen term.new) result }
+{
+    takes_none(args)?;
+    show(desk, desk.registers().text(q), args, term)
+}
+
+/// `Gq` inserts the text of q.
+fn insert_text<D: Desk>(desk: &mut D, q: Reg, args: &mut Args) -> Result<Next, Failure>
+    ensures { Acts (goes (registers.insert_text q)) (D.state desk.old) (D.state desk.new) (arguments args.old) (arguments args.new)
+        (D.follows desk.old) (D.follows desk.new) result }
+{
+    takes_none(args)?;
+    let text = copy(desk, q, desk.registers().text(q))?;
+    let pointer = desk.pointer();
+    put(desk, pointer, 0, &text, args)
+}
+
+/// `Gq` inserts the text of q, and with a colon types it.
+pub(crate) fn get<D: Desk, T: Terminal>(
+    desk: &mut D,
+    modifiers: Modifiers,
+    q: Reg,
+    args: &mut Args,
+    term: &mut T,
+) -> Result<Next, Failure>
+    ensures { Does (goes (registers.get modifiers q)) (at (D.state desk.old) (arguments args.old) (T.screen term.old))
+        (at (D.state desk.new) (arguments args.new) (T.screen term.new)) (D.follows desk.old) (D.follows desk.new) result }
+{
+    if modifiers.colons == 1 {
+        return type_text(desk, q, args, term);
+    }
+    insert_text(desk, q, args)
 }

@@ -1,56 +1,114 @@
 //! What commands take: a number, a byte, a place, or a range of the text.
-ghost use Rattle.std.specs.Prelude.{◌≡◌, ◌≤◌, ◌^◌, length, IfOk};
-ghost use Rattle.teco_core.specs.declared.code.Code.TheVariants.{Pop};
-ghost use Rattle.teco_scan.specs.Seen.{Gives};
+ghost use Rattle.std.specs.Prelude.{◌≡◌, ◌<◌, ◌≤◌, ◌^◌, ◌+ℤ◌, false, length, IfErr, IfOk, Ok, OnErr, OnOk};
+ghost use Rattle.teco_core.specs.Arguments.{give, give_pair, operate, taken_from};
+ghost use Rattle.teco_core.specs.ArgumentsView.{arguments};
+ghost use Rattle.teco_core.specs.Number.{decimal_value, fitted};
 ghost use Rattle.teco_store.specs.State.{text_limit};
-ghost use Rattle.teco_step.specs.Families.{range_of};
+ghost use Rattle.teco_step.specs.Families.{IsRefusal, Takes, range_of};
 ghost use Rattle.teco_step.specs.Line.{line};
 ghost use Rattle.teco_step.specs.Step as step;
+ghost use Rattle.teco_step.specs.Stepping.{is_unfinished_code};
 
+use crate::failure::Failure;
 use crate::line::line_place;
 use std::ops::Range;
-use teco_core::{Code, Taken};
+use teco_core::{Args, Code, Op, Taken};
 use teco_store::Desk;
 
-/// Of a command that takes nothing: anything taken is [`Code::Arg`].
-pub(crate) fn just_none(taken: Taken) -> Result<(), Code>
-    ensures { result ≡ step.just_none taken }
+/// The value of a run of decimal digits.
+#[tactic(auto, using(crate::proofs::Own::own_decimal))]
+pub(crate) fn decimal(digits: &[u8]) -> Result<i32, Failure>
+    ensures { Takes (λ n. n) result (decimal_value digits.now) }
 {
-    match taken {
+    Ok(teco_core::decimal(digits)?)
+}
+
+/// The sum of two numbers.
+#[tactic(auto, using(crate::proofs::Own::own_sum))]
+pub(crate) fn sum(m: i32, n: i32) -> Result<i32, Failure>
+    ensures { Takes (λ n. n) result (fitted (m +ℤ n)) }
+{
+    Ok(teco_core::operation(Op::Plus, m, n)?)
+}
+
+/// Gives a value.
+pub(crate) fn give(args: &mut Args, value: i32) -> Result<(), Failure>
+    ensures ok { OnOk result (give value (arguments args.old) ≡ Ok (arguments args.new)) }
+    ensures err { IfErr result (λ failure. IsRefusal failure (give value (arguments args.old))) }
+    ensures unchanged { OnErr result (args.new ≡ args.old) }
+{
+    Ok(args.give(value)?)
+}
+
+/// Lets an operator wait.
+#[tactic(auto, using(crate::proofs::Own::own_operator))]
+pub(crate) fn operator(args: &mut Args, op: Op) -> Result<(), Failure>
+    ensures ok { OnOk result (operate op (arguments args.old) ≡ Ok (arguments args.new)) }
+    ensures err { IfErr result (λ failure. IsRefusal failure (operate op (arguments args.old))) }
+    ensures unchanged { OnErr result (args.new ≡ args.old) }
+{
+    Ok(args.operator(op)?)
+}
+
+/// Gives 0 and a length.
+#[tactic(auto, using(crate::proofs::Own::own_pair))]
+pub(crate) fn pair(args: &mut Args, length: usize) -> Result<(), Failure>
+    requires { length < 2 ^ 31 }
+    ensures ok { OnOk result (give_pair length (arguments args.old) ≡ Ok (arguments args.new)) }
+    ensures err { IfErr result (λ failure. IsRefusal failure (give_pair length (arguments args.old))) }
+    ensures unchanged { OnErr result (args.new ≡ args.old) }
+{
+    Ok(args.pair(length)?)
+}
+
+/// What a command takes. The arguments stay until it is done.
+#[tactic(auto, using(crate::proofs::Own::own_taken))]
+pub(crate) fn taken(args: &Args) -> Result<Taken, Failure>
+    ensures { Takes (λ t. t) result (taken_from (arguments args.now)) }
+{
+    Ok(args.taken()?)
+}
+
+/// Of a command that takes nothing: anything taken is [`Code::Arg`].
+pub(crate) fn takes_none(args: &Args) -> Result<(), Failure>
+    ensures { Takes (λ u. u) result (step.takes_none (arguments args.now)) }
+{
+    match taken(args)? {
         Taken::None => Ok(()),
-        Taken::One(_) => Err(Code::Arg),
-        Taken::Two(..) => Err(Code::Arg),
+        Taken::One(_) => Err(Failure::Command(Code::Arg)),
+        Taken::Two(..) => Err(Failure::Command(Code::Arg)),
     }
 }
 
 /// The number that a command takes, or this one where it takes none. A pair is [`Code::Arg`].
-pub(crate) fn one_or(default: i32, taken: Taken) -> Result<i32, Code>
-    ensures { result ≡ step.one_or default taken }
+pub(crate) fn takes_one_or(args: &Args, default: i32) -> Result<i32, Failure>
+    ensures { Takes (λ n. n) result (step.takes_one_or default (arguments args.now)) }
 {
-    match taken {
+    match taken(args)? {
         Taken::None => Ok(default),
         Taken::One(n) => Ok(n),
-        Taken::Two(..) => Err(Code::Arg),
+        Taken::Two(..) => Err(Failure::Command(Code::Arg)),
     }
 }
 
 /// The number that a command takes; this code where it takes none. A pair is [`Code::Arg`].
-pub(crate) fn just_one(code: Code, taken: Taken) -> Result<i32, Code>
-    ensures { result ≡ step.just_one code taken }
+pub(crate) fn takes_one(args: &Args, code: Code) -> Result<i32, Failure>
+    requires { is_unfinished_code code ≡ false }
+    ensures { Takes (λ n. n) result (step.takes_one code (arguments args.now)) }
 {
-    match taken {
-        Taken::None => Err(code),
+    match taken(args)? {
+        Taken::None => Err(Failure::Command(code)),
         Taken::One(n) => Ok(n),
-        Taken::Two(..) => Err(Code::Arg),
+        Taken::Two(..) => Err(Failure::Command(Code::Arg)),
     }
 }
 
 /// The byte of this number. One that no byte has is [`Code::Arg`].
-pub(crate) fn as_byte(n: i32) -> Result<u8, Code>
-    ensures { result ≡ step.as_byte n }
+pub(crate) fn as_byte(n: i32) -> Result<u8, Failure>
+    ensures { Takes (λ b. b) result (step.as_byte n) }
 {
     if n < 0 || n > 255 {
-        return Err(Code::Arg);
+        return Err(Failure::Command(Code::Arg));
     }
     Ok(n as u8)
 }
@@ -64,15 +122,25 @@ pub(crate) fn text_length<D: Desk>(desk: &D) -> usize
     before.len() + after.len()
 }
 
-/// A place in the text. One outside it is [`Code::Pop`].
-pub(crate) fn place_in<D: Desk>(desk: &D, place: i64) -> Result<usize, Code>
-    ensures value { result ≡ step.place_or Pop (D.state desk.now) place }
+/// A place in the text. One outside it is refused by this code.
+pub(crate) fn place_in<D: Desk>(desk: &D, code: Code, place: i64) -> Result<usize, Failure>
+    requires { is_unfinished_code code ≡ false }
+    ensures value { Takes (λ p. p) result (step.place_or code (D.state desk.now) place) }
     ensures within { IfOk result (λ place. place ≤ length (D.state desk.now).text) }
 {
     if place < 0 || place > text_length(desk) as i64 {
-        return Err(Code::Pop);
+        return Err(Failure::Command(code));
     }
     Ok(place as usize)
+}
+
+/// The place of line `n`, as seen from the pointer.
+pub(crate) fn line_from<D: Desk>(desk: &D, n: i32) -> usize
+    ensures value { let s = D.state desk.now in result ≡ line s.text s.pointer n }
+    ensures within { result ≤ length (D.state desk.now).text }
+{
+    let (before, after) = desk.halves();
+    line_place(before, after, desk.pointer(), n)
 }
 
 /// From one place up to another.
@@ -89,24 +157,22 @@ fn lines<D: Desk>(desk: &D, n: i32) -> Range<usize>
     ensures ordered { result.start ≤ result.end }
     ensures within { result.end ≤ length (D.state desk.now).text }
 {
-    let (before, after) = desk.halves();
-    let pointer = desk.pointer();
-    rising(pointer, line_place(before, after, pointer, n))
+    rising(desk.pointer(), line_from(desk, n))
 }
 
 /// What a command reaches: `n` lines from the pointer, one where it takes nothing; or the range `m,n`, where an end outside the text
 /// is [`Code::Pop`].
-pub(crate) fn reached<D: Desk>(desk: &D, taken: Taken) -> Result<Range<usize>, Code>
-    ensures value { Gives range_of result (step.reached (D.state desk.now) taken) }
+pub(crate) fn takes_reach<D: Desk>(desk: &D, args: &Args) -> Result<Range<usize>, Failure>
+    ensures value { Takes range_of result (step.takes_reach (D.state desk.now) (arguments args.now)) }
     ensures ordered { IfOk result (λ range. range.start ≤ range.end) }
     ensures within { IfOk result (λ range. range.end ≤ length (D.state desk.now).text) }
 {
-    match taken {
+    match taken(args)? {
         Taken::None => Ok(lines(desk, 1)),
         Taken::One(n) => Ok(lines(desk, n)),
         Taken::Two(m, n) => {
-            let one = place_in(desk, i64::from(m))?;
-            let other = place_in(desk, i64::from(n))?;
+            let one = place_in(desk, Code::Pop, i64::from(m))?;
+            let other = place_in(desk, Code::Pop, i64::from(n))?;
             Ok(rising(one, other))
         }
     }

@@ -1,6 +1,5 @@
 //! Terminals.
-ghost use Rattle.std.specs.Prelude.{ℕ, List, Option};
-ghost use Rattle.teco_step.specs.Terminal.{Puts};
+ghost use Rattle.teco_step.specs.Terminal.{Puts, Screen};
 
 use teco_core::Code;
 use thiserror::Error;
@@ -23,13 +22,10 @@ impl From<TerminalFault> for Code {
 
 /// What the typed bytes are put on.
 pub trait Terminal {
-    // the bytes shown so far, where the terminal tells them
-    ghost shown: { Self → Option (List ℕ) };
-
-    // how often a put has failed, modulo 2^64
-    ghost failures: { Self → ℕ };
+    // what is seen of it
+    ghost screen: { Self → Screen };
 
     /// Shows the bytes. Where it fails, a beginning of them is shown, and the count of failures rises by one.
     fn put(&mut self, bytes: &[u8]) -> Result<(), TerminalFault>
-        ensures { Puts shown failures self.old self.new bytes.now result };
+        ensures { Puts (screen self.old) (screen self.new) bytes.now result };
 }

@@ -78,7 +78,7 @@ fn run(rt: &impl Abort, seat: &mut Seat, text: &[u8]) -> Option<Code> {
 
 #[test]
 fn does_what_the_commands_say(rt: HostRuntime) {
-    let rows: [(&[u8], &[u8], Option<Code>); 15] = [
+    let rows: [(&[u8], &[u8], Option<Code>); 27] = [
         (b"Ihello\x1b0J3C.=", b"3\r\n", None),
         (b"2+3*4=", b"20\r\n", None),
         (b"7-9/2=", b"-1\r\n", None),
@@ -94,6 +94,22 @@ fn does_what_the_commands_say(rt: HostRuntime) {
         (b"65I\x1b66I\x1b-2CT", b"AB", None),
         (b"256I\x1b", b"", Some(Code::Arg)),
         (b"3Ix\x1b", b"", Some(Code::Iia)),
+        (b"Ihello\x1bR.=2R.=-1r.=", b"4\r\n2\r\n3\r\n", None),
+        (b"Ia\x1b2R", b"", Some(Code::Pop)),
+        (
+            b"Ione\ntwo\nthree\x1bJL.=L.=L.=-L.=0L.=",
+            b"4\r\n8\r\n13\r\n4\r\n4\r\n",
+            None,
+        ),
+        (b"Ihello\x1b2J2DJT", b"heo", None),
+        (b"Ihello\x1b-2D.=JTDT", b"3\r\nhelel", None),
+        (b"Ihello\x1bD", b"", Some(Code::Dtb)),
+        (b"Ihello\x1b-6D", b"", Some(Code::Dtb)),
+        (b"^Uahello\x1bGaGaJT:Ga", b"hellohellohello", None),
+        (b"^Uahello\x1b3Ga", b"", Some(Code::Arg)),
+        (b"^Uahello\x1b3:Ga", b"", Some(Code::Arg)),
+        (b"^Ahello\x01@^A/x/", b"hellox", None),
+        (b"1^Ahello\x01", b"", Some(Code::Arg)),
     ];
     for (text, typed, code) in rows {
         let mut seat = new_seat(&rt);

@@ -2,12 +2,14 @@
 ghost use Rattle.std.specs.Prelude.{◌≡◌, ◌≢◌, ◌≤◌, ◌++◌, ◌∷◌, [], length, drop, take, OnErr};
 ghost use Rattle.std.specs.Fmt.{signed_decimal};
 ghost use Rattle.teco_core.specs.ArgumentsView.{arguments};
-ghost use Rattle.teco_store.specs.State.{State};
-ghost use Rattle.teco_step.specs.Families.{Types, range_of};
+ghost use Rattle.teco_step.specs.Families.{Types};
+ghost use Rattle.teco_step.specs.Step.{goes};
 ghost use Rattle.teco_step.specs.Terminal.{Puts};
 ghost use Rattle.teco_step.specs.Typing as typing;
 
-use crate::taking::{just_one, reached};
+use crate::failure::Failure;
+use crate::next::Next;
+use crate::taking::{takes_none, takes_one, takes_reach};
 use crate::terminal::{Terminal, TerminalFault};
 use itoa::Buffer;
 use std::ops::Range;
@@ -16,7 +18,7 @@ use teco_store::Desk;
 
 /// Shows the bytes, and puts nothing where there are none.
 fn put_some<T: Terminal>(bytes: &[u8], term: &mut T) -> Result<(), TerminalFault>
-    ensures puts { Puts T.shown T.failures term.old term.new bytes.now result }
+    ensures puts { Puts (T.screen term.old) (T.screen term.new) bytes.now result }
     ensures some { OnErr result (bytes.now ≢ []) }
 {
     if bytes.is_empty() {
@@ -34,7 +36,7 @@ fn put_range<T: Terminal>(
 ) -> Result<(), TerminalFault>
     requires ordered { range.start ≤ range.end }
     requires within { range.end ≤ length (before.now ++ after.now) }
-    ensures puts { Puts T.shown T.failures term.old term.new (drop range.start (take range.end (before.now ++ after.now))) result }
+    ensures puts { Puts (T.screen term.old) (T.screen term.new) (drop range.start (take range.end (before.now ++ after.now))) result }
     ensures some { OnErr result (drop range.start (take range.end (before.now ++ after.now)) ≢ []) }
 {
     let middle = before.len();
@@ -48,27 +50,51 @@ fn put_range<T: Terminal>(
     )
 }
 
+/// Shows the bytes. The command is then done, and its arguments gone.
+pub(crate) fn show<D: Desk, T: Terminal>(
+    desk: &D,
+    bytes: &[u8],
+    args: &mut Args,
+    term: &mut T,
+) -> Result<Next, Failure>
+    ensures { Types (goes (typing.shows bytes.now)) (D.state desk.now) (arguments args.old) (arguments args.new) (T.screen term.old) (T.screen term.new) result }
+{
+    put_some(bytes, term)?;
+    args.clear();
+    Ok(Next::On)
+}
+
 /// `nT` types what n lines reach, and `m,nT` the range.
 pub(crate) fn type_out<D: Desk, T: Terminal>(
     desk: &D,
     args: &mut Args,
     term: &mut T,
-) -> Result<(), Code>
-    ensures { let s = D.state desk.now in Types T.shown T.failures (typing.type_out s (arguments args.old)) s
-        (arguments args.old) (arguments args.new) term.old term.new result }
+) -> Result<Next, Failure>
+    ensures { Types (goes typing.type_out) (D.state desk.now) (arguments args.old) (arguments args.new) (T.screen term.old) (T.screen term.new) result }
 {
-    let mut left = *args;
-    let taken = left.take()?;
-    let range = reached(desk, taken)?;
+    let range = takes_reach(desk, args)?;
     let (before, after) = desk.halves();
     put_range(before, after, range, term)?;
-    *args = left;
-    Ok(())
+    args.clear();
+    Ok(Next::On)
+}
+
+/// `^Atext^A` types its text.
+pub(crate) fn type_text<D: Desk, T: Terminal>(
+    desk: &D,
+    text: &[u8],
+    args: &mut Args,
+    term: &mut T,
+) -> Result<Next, Failure>
+    ensures { Types (goes (typing.type_text text.now)) (D.state desk.now) (arguments args.old) (arguments args.new) (T.screen term.old) (T.screen term.new) result }
+{
+    takes_none(args)?;
+    show(desk, text, args, term)
 }
 
 /// Shows a number in decimal, and then CR LF.
 fn put_number<T: Terminal>(n: i32, term: &mut T) -> Result<(), TerminalFault>
-    ensures { Puts T.shown T.failures term.old term.new (signed_decimal n ++ 13 ∷ 10 ∷ []) result }
+    ensures { Puts (T.screen term.old) (T.screen term.new) (signed_decimal n ++ 13 ∷ 10 ∷ []) result }
 {
     let mut buffer = Buffer::new();
     let digits = buffer.format(n).as_bytes();
@@ -80,14 +106,15 @@ fn put_number<T: Terminal>(n: i32, term: &mut T) -> Result<(), TerminalFault>
 }
 
 /// `n=` types n in decimal, and then CR LF.
-pub(crate) fn print<T: Terminal>(args: &mut Args, term: &mut T) -> Result<(), Code>
-    ensures { (s : State) → Types T.shown T.failures (typing.print s (arguments args.old)) s
-        (arguments args.old) (arguments args.new) term.old term.new result }
+pub(crate) fn print<D: Desk, T: Terminal>(
+    desk: &D,
+    args: &mut Args,
+    term: &mut T,
+) -> Result<Next, Failure>
+    ensures { Types (goes typing.print) (D.state desk.now) (arguments args.old) (arguments args.new) (T.screen term.old) (T.screen term.new) result }
 {
-    let mut left = *args;
-    let taken = left.take()?;
-    let n = just_one(Code::Nae, taken)?;
+    let n = takes_one(args, Code::Nae)?;
     put_number(n, term)?;
-    *args = left;
-    Ok(())
+    args.clear();
+    Ok(Next::On)
 }

@@ -18,8 +18,8 @@ pub struct WriterTerminal<W: Write + Drop> {
 impl<W: Write + Drop> WriterTerminal<W> {
     /// A terminal that goes on after what the writer has.
     pub fn new(writer: W) -> WriterTerminal<W>
-        ensures shown { ⟦<WriterTerminal<W> as Terminal>⟧.shown result ≡ W.contents writer }
-        ensures failures { ⟦<WriterTerminal<W> as Terminal>⟧.failures result ≡ 0 }
+        ensures shown { (⟦<WriterTerminal<W> as Terminal>⟧.screen result).shown ≡ W.contents writer }
+        ensures failures { (⟦<WriterTerminal<W> as Terminal>⟧.screen result).failures ≡ 0 }
     {
         WriterTerminal {
             writer,
@@ -48,9 +48,7 @@ fn write_flushed<W: Write>(writer: &mut W, bytes: &[u8]) -> Result<(), TerminalF
 }
 
 impl<W: Write + Drop> Terminal for WriterTerminal<W> {
-    ghost shown = { λ terminal. W.contents terminal.writer };
-
-    ghost failures = { λ terminal. terminal.failures };
+    ghost screen = { λ terminal. record { shown = W.contents terminal.writer; failures = terminal.failures } };
 
     fn put(&mut self, bytes: &[u8]) -> Result<(), TerminalFault> {
         let written = write_flushed(&mut self.writer, bytes);

@@ -10,8 +10,8 @@ returns-in_err-put_number g c =
     let p = err_from_is_err_and c.from_residual-in_err-put_number.result c.from_residual-in_err-put_number.ensures.1 in
     let fits : FitsSigned w32 c.in_ok-n.n = search rules in
     let puts = rw (to_z-of_z w32 c.in_ok-n.n fits) at c.in_err-put_number.ensures in
-    λ s. rw (p.1, p.2) (inr (record {
-      code = refl;
+    rw (p.1, p.2) (inr (record {
+      is = refl;
       bytes = signed_decimal c.in_ok-n.n ++ 13 ∷ 10 ∷ [];
       step = search rules;
       some = nonempty_behind (signed_decimal c.in_ok-n.n) (13 ∷ 10 ∷ []) (λ e. cc);

@@ -10,5 +10,5 @@ returns g c =
     let text : digits ≡ signed_decimal c.args.n = search rules in
     let whole = one_behind_another digits (13 ∷ 10 ∷ []) c.copy_from_slice.new.self c.copy_from_slice-2.new.self _ (length digits + 2 - length digits) (length digits + 2)
     c.copy_from_slice.ensures.after c.copy_from_slice-2.ensures.after refl in
-    subst (λ bs. Puts g.T.Terminal.shown g.T.Terminal.failures c.args.term.now c.put.new.self bs c.put.result)
+    subst (λ bs. Puts (g.T.Terminal.screen c.args.term.now) (g.T.Terminal.screen c.put.new.self) bs c.put.result)
     (whole ∙ ap (λ l. l ++ 13 ∷ 10 ∷ []) text) c.put.ensures

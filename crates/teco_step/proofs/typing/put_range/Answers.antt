@@ -12,7 +12,7 @@ returns-clause-puts g c =
     let ys = c.args.after.now in
     let whole = cut xs ys c.args.range.start c.args.range.end c.min.result c.min-2.result c.saturating_sub.result c.saturating_sub-2.result c.requires.ordered
     (search rules) (search rules) (search rules) (search rules) in
-    subst (λ bs. Puts g.T.Terminal.shown g.T.Terminal.failures c.args.term.now c.put_some-2.new.term bs c.put_some-2.result) (sym whole)
+    subst (λ bs. Puts (g.T.Terminal.screen c.args.term.now) (g.T.Terminal.screen c.put_some-2.new.term) bs c.put_some-2.result) (sym whole)
     (Puts-after _ _ c.put_some-2.result c.in_ok-put_some.ensures.puts c.put_some-2.ensures.puts)
 
 pub returns-clause-some : goal.returns-clause-some
@@ -31,7 +31,7 @@ returns-in_err-put_some-clause-puts g c =
     let high = c.args.range.end in
     let whole = cut xs ys low high c.min.result c.min-2.result (low - length xs) (high - length xs) c.requires.ordered (search rules) (search rules) refl refl in
     let failed = c.in_err-put_some.ensures.puts in
-    subst (λ bs. Puts g.T.Terminal.shown g.T.Terminal.failures c.args.term.now c.put_some.new.term bs c.from_residual.result) (sym whole)
+    subst (λ bs. Puts (g.T.Terminal.screen c.args.term.now) (g.T.Terminal.screen c.put_some.new.term) bs c.from_residual.result) (sym whole)
     (Puts-front failed.0 (between (low - length xs) (high - length xs) ys) c.from_residual.result failed.1 failed.2 c.from_residual.ensures.0)
 
 pub returns-in_err-put_some-clause-some : goal.returns-in_err-put_some-clause-some

@@ -1,0 +1,68 @@
+//! Why a step was not done.
+ghost use Rattle.std.specs.Prelude.{◌≡◌};
+ghost use Rattle.teco_step.specs.Families as family;
+ghost use Rattle.teco_step.specs.declared.failure.Failure.TheVariants as failure;
+
+use crate::next::Next;
+use crate::terminal::TerminalFault;
+use std::alloc::AllocError;
+use teco_core::Code;
+use teco_store::Refused;
+
+/// Why a step was not done.
+#[derive(Clone, Copy, Debug, PartialEq, Eq)]
+pub(crate) enum Failure {
+    /// The command is refused, by a code of the language.
+    Command(Code),
+    /// Memory was refused.
+    Memory,
+    /// A put failed.
+    Terminal,
+}
+
+impl From<Code> for Failure {
+    ghost from_gives = { λ code result. result ≡ failure.Command code };
+
+    fn from(code: Code) -> Self {
+        Failure::Command(code)
+    }
+}
+
+impl From<Refused> for Failure {
+    ghost from_gives = { λ refused result. result ≡ family.failure_of refused };
+
+    fn from(refused: Refused) -> Self {
+        match refused {
+            Refused::Big => Failure::Command(Code::Big),
+            Refused::NoMemory => Failure::Memory,
+        }
+    }
+}
+
+impl From<AllocError> for Failure {
+    ghost from_gives = { λ _ result. result ≡ failure.Memory };
+
+    fn from(_: AllocError) -> Self {
+        Failure::Memory
+    }
+}
+
+impl From<TerminalFault> for Failure {
+    ghost from_gives = { λ _ result. result ≡ failure.Terminal };
+
+    fn from(_: TerminalFault) -> Self {
+        Failure::Terminal
+    }
+}
+
+/// What an answer leads to.
+pub(crate) fn next_of(answer: Result<Next, Failure>) -> Next
+    ensures { result ≡ family.next_of answer }
+{
+    match answer {
+        Ok(next) => next,
+        Err(Failure::Command(code)) => Next::Error(code),
+        Err(Failure::Memory) => Next::Error(Code::Mem),
+        Err(Failure::Terminal) => Next::Error(Code::Tty),
+    }
+}
