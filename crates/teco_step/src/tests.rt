@@ -78,7 +78,7 @@ fn run(rt: &impl Abort, seat: &mut Seat, text: &[u8]) -> Option<Code> {
 
 #[test]
 fn does_what_the_commands_say(rt: HostRuntime) {
-    let rows: [(&[u8], &[u8], Option<Code>); 27] = [
+    let rows: [(&[u8], &[u8], Option<Code>); 35] = [
         (b"Ihello\x1b0J3C.=", b"3\r\n", None),
         (b"2+3*4=", b"20\r\n", None),
         (b"7-9/2=", b"-1\r\n", None),
@@ -110,6 +110,14 @@ fn does_what_the_commands_say(rt: HostRuntime) {
         (b"^Uahello\x1b3:Ga", b"", Some(Code::Arg)),
         (b"^Ahello\x01@^A/x/", b"hellox", None),
         (b"1^Ahello\x01", b"", Some(Code::Arg)),
+        (b"^Uahello\x1bIab\x1bRGa.=JT", b"6\r\nahellob", None),
+        (b"Ihello\x1b2JHT.=", b"hello2\r\n", None),
+        (b"HT", b"", None),
+        (b"Ihello\x1bH=", b"", Some(Code::Arg)),
+        (b"Ihello\x1bHJ", b"", Some(Code::Arg)),
+        (b"Ihello\x1b1H", b"", Some(Code::Arg)),
+        (b"Ihello\x1b-H", b"", Some(Code::Arg)),
+        (b"Ihello\x1bHH", b"", Some(Code::Arg)),
     ];
     for (text, typed, code) in rows {
         let mut seat = new_seat(&rt);
