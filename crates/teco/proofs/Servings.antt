@@ -2,7 +2,7 @@
 use Rattle.std.proofs.Common.{◌≡◌, ℕ, suc, ◌+◌, ◌-◌, ◌<◌, List, [], ◌∷◌, ◌++◌, map, Bool, true, false, ◌&&◌, not, if◌then◌else◌, Option, Some, refl, sym, ap, ◌∙◌, arith, subst, append-nil, append_assoc, length-append}
 use Rattle.std.specs.Bool.{MatchBool}
 use Rattle.std.proofs.KnownBytes.{Consumes-nil, Consumes-trans}
-use Rattle.teco_step.specs.Terminal.{Screen, Shows, IsFrontOf, counted}
+use Rattle.teco_step.specs.Terminal.{Screen, Shows, IsFrontOf, count_after}
 use Rattle.teco_step.proofs.Shown.{Shows-trans}
 use Rattle.teco_session.specs.History.{History, present}
 use Rattle.teco_session.specs.Step.{Reply}
@@ -141,7 +141,7 @@ pub Gives-more : {S : Type 0} {coming : S → Option (List ℕ)} {bound failures
 Gives-more {xs} {ys} {failed} p q = record {
   given = Consumes-trans _ _ _ _ _ p.given q.given;
   less = simp length-append (let e = p.less in let f = q.less in omega arith);
-  count = q.count ∙ ap (counted failed) p.count;
+  count = q.count ∙ ap (count_after failed) p.count;
 }
 
 joined : (prompt : Bool) (xs ys : List Turn) → (star prompt ++ turns_shown prompt xs) ++ turns_shown prompt ys ≡ star prompt ++ turns_shown prompt (xs ++ ys)
