@@ -1,5 +1,6 @@
 -- Arguments: what stands before a command, and the rules by which it is built and taken.
 use Rattle.std.specs.Prelude.{ℕ, List, [], ◌∷◌, length, Option, Some, None, Result, Ok, Err, ℤ, pos, negsuc, neg_ℤ, ◌==◌, if◌then◌else◌}
+use Rattle.teco_core.specs.declared.limits.TheConstants.{PARENTHESIS_LIMIT}
 use Rattle.teco_core.specs.declared.code.Code.{Code}
 use Rattle.teco_core.specs.declared.code.Code.TheVariants.{Arg, Mrp, Pdo}
 use Rattle.teco_core.specs.declared.number.Op.{Op}
@@ -55,7 +56,7 @@ operate o a = do
 -- ( opens a level, not after a value alone; at most 16 may be open.
 abbrev pub opened_after : Expression → Arguments → Result Arguments Code
 opened_after (Number v) a = Err Arg
-opened_after e a = if length a.outer == 16 then Err Pdo else Ok (record a { expression = Nothing; outer = e ∷ a.outer })
+opened_after e a = if length a.outer == PARENTHESIS_LIMIT then Err Pdo else Ok (record a { expression = Nothing; outer = e ∷ a.outer })
 
 unfoldable pub open_level : Arguments → Result Arguments Code
 open_level a = opened_after a.expression a

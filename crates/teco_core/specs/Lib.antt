@@ -1,3 +1,4 @@
+pub mod Ascii
 pub mod Code
 pub mod Refusal
 pub mod Number

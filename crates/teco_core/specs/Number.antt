@@ -1,5 +1,6 @@
 -- Numbers: whole, from -2147483648 to 2147483647.
-use Rattle.std.specs.Prelude.{ℕ, zero, ◌+◌, ◌-◌, ◌*◌, ◌^◌, ◌&&◌, List, [], ◌∷◌, Result, Ok, Err, ℤ, pos, negsuc, ◌+ℤ◌, ◌-ℤ◌, ◌*ℤ◌, Bool, true, false, nat_le, nat_lt, int_le, int_div, bit_and, bit_or, if◌then◌else◌}
+use Rattle.std.specs.Prelude.{ℕ, zero, ◌+◌, ◌-◌, ◌*◌, ◌^◌, ◌&&◌, List, [], ◌∷◌, Result, Ok, Err, ℤ, pos, negsuc, ◌+ℤ◌, ◌-ℤ◌, ◌*ℤ◌, Bool, true, false, nat_lt, int_le, int_div, bit_and, bit_or, if◌then◌else◌}
+pub use Rattle.teco_core.specs.Ascii.{is_digit}
 use Rattle.teco_core.specs.declared.code.Code.{Code}
 use Rattle.teco_core.specs.declared.code.Code.TheVariants.{Ovf, Dvz}
 use Rattle.teco_core.specs.declared.number.Op.{Op}
@@ -36,9 +37,6 @@ operation Times a b = fitted (a *ℤ b)
 operation Over a b = quotient a b
 operation And a b = Ok (of_word (bit_and (to_word a) (to_word b)))
 operation Or a b = Ok (of_word (bit_or (to_word a) (to_word b)))
-
-abbrev pub is_digit : ℕ → Bool
-is_digit b = nat_le 48 b && nat_le b 57
 
 -- the value of decimal digits that are read on from n
 unfoldable pub digits_value : ℕ → List ℕ → ℕ

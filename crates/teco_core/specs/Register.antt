@@ -1,14 +1,11 @@
 -- Registers: 36 of them, A to Z and 0 to 9, each with a number and a text.
-use Rattle.std.specs.Prelude.{ℕ, ◌+◌, ◌-◌, ◌&&◌, List, [], Option, Some, None, ℤ, pos, nat_le, replicate, slice_index_or, slice_set, if◌then◌else◌}
-use Rattle.teco_core.specs.Number.{is_digit}
-
--- a byte, with a small letter as its capital
-abbrev pub upper : ℕ → ℕ
-upper b = if nat_le 97 b && nat_le b 122 then b - 32 else b
+use Rattle.std.specs.Prelude.{ℕ, ◌+◌, ◌-◌, List, [], Option, Some, None, ℤ, pos, replicate, slice_index_or, slice_set, if◌then◌else◌}
+use Rattle.teco_core.specs.Ascii.{is_digit, is_upper}
+pub use Rattle.teco_core.specs.Ascii.{upper}
 
 -- A to Z are the registers 0 to 25, 0 to 9 the registers 26 to 35
 abbrev pub register_named : ℕ → Option ℕ
-register_named b = if nat_le 65 b && nat_le b 90 then Some (b - 65) else if is_digit b then Some (b - 48 + 26) else None
+register_named b = if is_upper b then Some (b - 65) else if is_digit b then Some (b - 48 + 26) else None
 
 -- the register that a byte names, a letter in either case
 abbrev pub register_of : ℕ → Option ℕ

@@ -1,8 +1,10 @@
 //! Arguments: what stands before a command.
 ghost use Rattle.std.specs.Prelude.{◌≡◌, ◌≤◌, ◌<◌, ◌^◌, Ok, Err, OnOk, OnErr, IfErr};
 ghost use Rattle.teco_core.specs.Arguments.{no_arguments, given, waiting, sign_value, ground_value, level_of, emptied, give, operate, open_level, close_level, comma, give_pair, taken_from, with_first};
+ghost use Rattle.teco_core.specs.declared.limits.TheConstants.{PARENTHESIS_LIMIT};
 
 use crate::code::Code;
+use crate::limits::PARENTHESIS_LIMIT;
 use crate::number::{Op, operation};
 use std::mem;
 
@@ -118,10 +120,22 @@ pub struct Args {
     /// At the level in use.
     expression: Expression,
     /// Around the open parentheses, the outermost first.
-    outer: [Expression; 16],
+    outer: [Expression; PARENTHESIS_LIMIT],
     /// How many parentheses are open.
     depth: usize,
-    ghost at_most_16: { depth ≤ 16 },
+    ghost within_limit: { depth ≤ PARENTHESIS_LIMIT },
+}
+
+impl Default for Args {
+    ghost use Rattle.std.specs.Prelude.{◌≡◌};
+    ghost use Rattle.teco_core.specs.Arguments.{no_arguments};
+    ghost use Rattle.teco_core.specs.ArgumentsView.{arguments};
+
+    ghost is_default = { λ a. arguments a ≡ no_arguments };
+
+    fn default() -> Args {
+        Args::new()
+    }
 }
 
 #[tactic(auto, unfolding(crate::specs::ArgumentsView::arguments, crate::specs::Arguments::give, crate::specs::Arguments::operate, crate::specs::Arguments::open_level, crate::specs::Arguments::close_level, crate::specs::Arguments::comma, crate::specs::Arguments::give_pair, crate::specs::Arguments::taken_from))]
@@ -135,7 +149,7 @@ impl Args {
         Args {
             first: None,
             expression: Expression::Nothing,
-            outer: [Expression::Nothing; 16],
+            outer: [Expression::Nothing; PARENTHESIS_LIMIT],
             depth: 0,
         }
     }
@@ -144,7 +158,9 @@ impl Args {
     pub fn clear(&mut self)
         ensures { arguments self.new ≡ no_arguments }
     {
-        *self = Args::new();
+        self.first = None;
+        self.expression = Expression::Nothing;
+        self.depth = 0;
     }
 
     /// Gives a value to the level in use: [`Code::Arg`] after a value alone, [`Code::Ovf`] and [`Code::Dvz`] by the operator that waits.
@@ -178,7 +194,7 @@ impl Args {
         if let Expression::Number(_) = self.expression {
             return Err(Code::Arg);
         }
-        if self.depth == 16 {
+        if self.depth == PARENTHESIS_LIMIT {
             return Err(Code::Pdo);
         }
         self.outer[self.depth] = mem::replace(&mut self.expression, Expression::Nothing);

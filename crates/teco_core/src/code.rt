@@ -1,11 +1,14 @@
 //! The codes by which a command string, or an answer, ends.
 ghost use Rattle.std.specs.Prelude.{◌≡◌, Some, length};
 ghost use Rattle.teco_core.specs.Code.{letters_of, number_of};
+ghost use Rattle.teco_core.specs.declared.code.Code.TheVariants.{Mem};
 
+use crate::NoMemory;
 use std::fmt;
+use thiserror::Error;
 
 /// Why a command string ended before its end, or why a request was refused.
-#[derive(Clone, Copy, Debug, PartialEq, Eq)]
+#[derive(Clone, Copy, Debug, PartialEq, Eq, Error)]
 pub enum Code {
     /// Wrong argument, or wrong arithmetic.
     Arg,
@@ -128,6 +131,14 @@ impl Code {
             Code::Ntr => "NTR",
             Code::End => "END",
         }
+    }
+}
+
+impl From<NoMemory> for Code {
+    ghost from_gives = { λ _ code. code ≡ Mem };
+
+    fn from(_: NoMemory) -> Self {
+        Self::Mem
     }
 }
 

@@ -2,9 +2,11 @@
 #![tactic(auto)]
 
 mod arguments;
+mod ascii;
 mod case_mode;
 mod code;
 mod facts;
+mod limits;
 mod number;
 mod push_down;
 mod register;
@@ -12,9 +14,13 @@ mod register;
 mod tests;
 
 pub use arguments::{Args, Expression, Level, Sign, Taken};
+pub use ascii::{ESC, is_filler, is_line_end};
 pub use case_mode::CaseMode;
 pub use code::Code;
 pub use facts::argument_facts;
+pub use limits::{
+    BLOCK_LIMIT, CALL_LIMIT, FILE_LIMIT, PARENTHESIS_LIMIT, PUSHED_LIMIT, TEXT_LIMIT,
+};
 pub use number::{Op, decimal, operation};
 pub use push_down::PushList;
 pub use register::{Reg, Registers, Value};

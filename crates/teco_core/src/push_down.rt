@@ -4,6 +4,7 @@ ghost use Rattle.teco_core.specs.Contents.{content_of};
 ghost use Rattle.teco_core.specs.Register.{blank};
 
 use crate::NoMemory;
+use crate::limits::PUSHED_LIMIT;
 use crate::register::Value;
 use arrayvec::ArrayVec;
 use std::alloc::Global;
@@ -23,19 +24,20 @@ impl MadeWith<Global> for Value {
 /// A clause sees it as the list of what the values hold, the last pushed first.
 #[derive(Debug, Drop)]
 pub struct PushList {
-    places: ArrayVec<Value, 64, Global>,
+    places: ArrayVec<Value, PUSHED_LIMIT, Global>,
 }
 
 impl Model for PushList {
     ghost use Rattle.std.specs.Prelude.{◌≤◌, List, map, reverse, length};
     ghost use Rattle.teco_core.specs.Register.{Content};
     ghost use Rattle.teco_core.specs.Contents.{content_of};
+    ghost use Rattle.teco_core.specs.declared.limits.TheConstants.{PUSHED_LIMIT};
 
     ghost Value = { List Content };
 
     ghost view = { λ p. reverse (map content_of p.places.items) };
 
-    ghost invariant = { λ p. length p.places.items ≤ 64 };
+    ghost invariant = { λ p. length p.places.items ≤ PUSHED_LIMIT };
 }
 
 impl PushList {
@@ -51,7 +53,7 @@ impl PushList {
     /// The number of values, from 0 to 64.
     pub fn len(&self) -> usize
         ensures value { result ≡ length self.now }
-        ensures small { length self.now ≤ 64 }
+        ensures small { length self.now ≤ PUSHED_LIMIT }
     {
         self.places.len()
     }
@@ -64,15 +66,15 @@ impl PushList {
 
     /// Whether it has 64 values.
     pub fn is_full(&self) -> bool
-        ensures value { result ≡ (length self.now == 64) }
-        ensures small { length self.now ≤ 64 }
+        ensures value { result ≡ (length self.now == PUSHED_LIMIT) }
+        ensures small { length self.now ≤ PUSHED_LIMIT }
     {
         self.places.is_full()
     }
 
     /// Pushes a value. Takes no memory.
     pub fn push(&mut self, value: Value)
-        requires { length self.old < 64 }
+        requires { length self.old < PUSHED_LIMIT }
         ensures { self.new ≡ content_of value ∷ self.old }
     {
         self.places.push(value);

@@ -1,6 +1,6 @@
 //! Registers.
 ghost use Rattle.std.specs.Prelude.{◌≡◌, ◌<◌, IfOk, length};
-ghost use Rattle.teco_core.specs.Register.{register_of, upper, blank, blank_registers, content, with_content, with_number, with_text};
+ghost use Rattle.teco_core.specs.Register.{register_of, blank, blank_registers, content, with_content, with_number, with_text};
 ghost use Rattle.teco_core.specs.Contents.{content_of};
 
 use crate::NoMemory;
@@ -28,25 +28,15 @@ impl Model for Reg {
     ghost inverse = { λ n. record { index = n } };
 }
 
-fn upper(byte: u8) -> u8
-    ensures { result ≡ upper byte }
-{
-    if b'a' <= byte && byte <= b'z' {
-        byte - 32
-    } else {
-        byte
-    }
-}
-
 impl Reg {
     /// The register that a byte names, a letter in either case; none where it names no register.
     pub fn of(byte: u8) -> Option<Reg>
         ensures { result ≡ register_of byte }
     {
-        let name = upper(byte);
-        if b'A' <= name && name <= b'Z' {
+        let name = byte.to_ascii_uppercase();
+        if name.is_ascii_uppercase() {
             Some(Reg { index: name - b'A' })
-        } else if b'0' <= name && name <= b'9' {
+        } else if name.is_ascii_digit() {
             Some(Reg {
                 index: name - b'0' + 26,
             })

@@ -1,0 +1,19 @@
+//! The limits of the language, in one place.
+
+/// The most parentheses that may be open.
+pub const PARENTHESIS_LIMIT: usize = 16;
+
+/// The most macro calls that may be open.
+pub const CALL_LIMIT: usize = 32;
+
+/// The most blocks that may be open in one text.
+pub const BLOCK_LIMIT: usize = 64;
+
+/// The most values on the push-down list.
+pub const PUSHED_LIMIT: usize = 64;
+
+/// The most bytes of the buffer, of each register's text and of the last search text.
+pub const TEXT_LIMIT: usize = 1 << 24;
+
+/// The most bytes of the input, and of the output.
+pub const FILE_LIMIT: usize = 1 << 30;
