@@ -1,5 +1,5 @@
-pub mod ArgumentProofs
+pub mod ArgumentLaws
 pub mod ArgumentRows
 pub mod Digits
-pub mod Holdings
+pub mod Contents
 pub mod Levels

@@ -1,4 +1,4 @@
--- Arguments: what stands before a command, and the rules by which it is built and taken.
+-- Arguments: the numbers before a command, and the rules by which they are built and taken.
 use Rattle.std.specs.Prelude.{ℕ, List, [], ◌∷◌, length, Option, Some, None, Result, Ok, Err, ℤ, pos, negsuc, neg_ℤ, ◌==◌, if◌then◌else◌}
 use Rattle.teco_core.specs.declared.limits.TheConstants.{PARENTHESIS_LIMIT}
 use Rattle.teco_core.specs.declared.code.Code.{Code}
@@ -53,7 +53,7 @@ operate o a = do
   e ← waiting o a.expression
   Ok (record a { expression = e })
 
--- ( opens a level, not after a value alone; at most 16 may be open.
+-- ( opens a level, not after a value alone; past the limit of open ones it is PDO.
 abbrev pub opened_after : Expression → Arguments → Result Arguments Code
 opened_after (Number v) a = Err Arg
 opened_after e a = if length a.outer == PARENTHESIS_LIMIT then Err Pdo else Ok (record a { expression = Nothing; outer = e ∷ a.outer })

@@ -5,6 +5,6 @@ pub mod Number
 pub mod Arguments
 pub mod ArgumentsView
 pub mod Pieces
-pub mod ArgumentFacts
+pub mod ArgumentLaws
 pub mod Register
 pub mod Contents

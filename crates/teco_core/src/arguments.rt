@@ -1,4 +1,4 @@
-//! Arguments: what stands before a command.
+//! Arguments: the numbers before a command.
 ghost use Rattle.std.specs.Prelude.{◌≡◌, ◌≤◌, ◌<◌, ◌^◌, Ok, Err, OnOk, OnErr, IfErr};
 ghost use Rattle.teco_core.specs.Arguments.{no_arguments, given, waiting, sign_value, ground_value, level_of, emptied, give, operate, open_level, close_level, comma, give_pair, taken_from, with_first};
 ghost use Rattle.teco_core.specs.declared.limits.TheConstants.{PARENTHESIS_LIMIT};
@@ -15,7 +15,7 @@ pub enum Sign {
     Negative,
 }
 
-/// What stands at a level of the arguments, which is the ground or an open parenthesis.
+/// What a level of the arguments has so far. A level is the ground or an open parenthesis.
 #[derive(Clone, Copy, Debug, PartialEq, Eq)]
 pub enum Expression {
     Nothing,
@@ -26,7 +26,7 @@ pub enum Expression {
     Operation(i32, Op),
 }
 
-/// What the level in use has, for the commands that look at it.
+/// What the level in use has, for the commands that look at it without taking it.
 #[derive(Clone, Copy, Debug, PartialEq, Eq)]
 pub enum Level {
     Empty,
@@ -111,7 +111,7 @@ fn with_first(first: Option<i32>, value: Option<i32>) -> Result<Taken, Code>
     }
 }
 
-/// The arguments as they are built, with at most 16 open parentheses. They take no memory.
+/// The arguments as they are built, with at most [`PARENTHESIS_LIMIT`] open parentheses. They take no memory.
 ///
 /// A call that is refused changes nothing.
 #[derive(Clone, Copy, Debug)]
@@ -163,7 +163,9 @@ impl Args {
         self.depth = 0;
     }
 
-    /// Gives a value to the level in use: [`Code::Arg`] after a value alone, [`Code::Ovf`] and [`Code::Dvz`] by the operator that waits.
+    /// Gives a value to the level in use, to which a waiting operator or sign is applied.
+    ///
+    /// Answers [`Code::Arg`] after a value alone, and [`Code::Ovf`] or [`Code::Dvz`] where the operator or sign has no result.
     pub fn give(&mut self, value: i32) -> Result<(), Code>
         ensures ok { OnOk result (give value (arguments self.old) ≡ Ok (arguments self.new)) }
         ensures err { IfErr result (λ code. give value (arguments self.old) ≡ Err code) }
@@ -174,7 +176,9 @@ impl Args {
         Ok(())
     }
 
-    /// Lets an operator wait, or a sign where there is nothing: else [`Code::Arg`].
+    /// Lets an operator wait after a value, or a sign where there is nothing.
+    ///
+    /// Anywhere else, and for an operator that is no sign, it answers [`Code::Arg`].
     pub fn operator(&mut self, op: Op) -> Result<(), Code>
         ensures ok { OnOk result (operate op (arguments self.old) ≡ Ok (arguments self.new)) }
         ensures err { IfErr result (λ code. operate op (arguments self.old) ≡ Err code) }
@@ -185,7 +189,9 @@ impl Args {
         Ok(())
     }
 
-    /// Opens a parenthesis: [`Code::Arg`] after a value alone, [`Code::Pdo`] where 16 are open.
+    /// Opens a parenthesis.
+    ///
+    /// Answers [`Code::Arg`] after a value alone, and [`Code::Pdo`] where [`PARENTHESIS_LIMIT`] are open.
     pub fn open(&mut self) -> Result<(), Code>
         ensures ok { OnOk result (open_level (arguments self.old) ≡ Ok (arguments self.new)) }
         ensures err { IfErr result (λ code. open_level (arguments self.old) ≡ Err code) }
@@ -202,8 +208,9 @@ impl Args {
         Ok(())
     }
 
-    /// Closes a parenthesis and gives its value to the level around it: [`Code::Arg`] where none is open or it has no finished
-    /// value, else as for [`Args::give`].
+    /// Closes a parenthesis and gives its value to the level around it.
+    ///
+    /// Answers [`Code::Arg`] where none is open or its value isn't finished, and otherwise as [`Args::give`] does.
     pub fn close(&mut self) -> Result<(), Code>
         ensures ok { OnOk result (close_level (arguments self.old) ≡ Ok (arguments self.new)) }
         ensures err { IfErr result (λ code. close_level (arguments self.old) ≡ Err code) }
@@ -222,7 +229,9 @@ impl Args {
         Ok(())
     }
 
-    /// Makes a value alone the first of two: else, or where there is a first one or an open parenthesis, [`Code::Arg`].
+    /// Makes a value alone the first of two.
+    ///
+    /// Answers [`Code::Arg`] where there is no value alone, a first one already, or an open parenthesis.
     pub fn comma(&mut self) -> Result<(), Code>
         ensures ok { OnOk result (comma (arguments self.old) ≡ Ok (arguments self.new)) }
         ensures err { IfErr result (λ code. comma (arguments self.old) ≡ Err code) }
@@ -241,7 +250,9 @@ impl Args {
         }
     }
 
-    /// Makes the arguments 0 and `length`, a text's length in bytes: [`Code::Arg`] where there are any.
+    /// Makes the arguments 0 and `length`, a text's length in bytes.
+    ///
+    /// Answers [`Code::Arg`] where there are arguments already.
     pub fn pair(&mut self, length: usize) -> Result<(), Code>
         requires { length < 2 ^ 31 }
         ensures ok { OnOk result (give_pair length (arguments self.old) ≡ Ok (arguments self.new)) }
@@ -261,8 +272,10 @@ impl Args {
         }
     }
 
-    /// What a command takes: [`Code::Mrp`] where a parenthesis is open, [`Code::Arg`] where an operator waits after a value, or
-    /// nothing follows a comma.
+    /// What a command takes.
+    ///
+    /// Answers [`Code::Mrp`] where a parenthesis is open, and [`Code::Arg`] where an operator waits after a value or nothing
+    /// follows a comma.
     pub fn taken(&self) -> Result<Taken, Code>
         ensures { result ≡ taken_from (arguments self.now) }
     {
@@ -273,7 +286,9 @@ impl Args {
         with_first(self.first, value)
     }
 
-    /// Takes the arguments for a command and leaves none. What is refused, as for [`Args::taken`], leaves them.
+    /// Takes the arguments for a command and leaves none.
+    ///
+    /// Answers what [`Args::taken`] does. Where it refuses, the arguments stay.
     pub fn take(&mut self) -> Result<Taken, Code>
         ensures value { result ≡ taken_from (arguments self.old) }
         ensures empty { OnOk result (arguments self.new ≡ no_arguments) }

@@ -5,7 +5,7 @@ mod arguments;
 mod ascii;
 mod case_mode;
 mod code;
-mod facts;
+mod laws;
 mod limits;
 mod number;
 mod push_down;
@@ -17,7 +17,7 @@ pub use arguments::{Args, Expression, Level, Sign, Taken};
 pub use ascii::{ESC, is_filler, is_line_end};
 pub use case_mode::CaseMode;
 pub use code::Code;
-pub use facts::argument_facts;
+pub use laws::argument_laws;
 pub use limits::{
     BLOCK_LIMIT, CALL_LIMIT, FILE_LIMIT, PARENTHESIS_LIMIT, PUSHED_LIMIT, TEXT_LIMIT,
 };

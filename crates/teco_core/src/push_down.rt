@@ -19,7 +19,7 @@ impl MadeWith<Global> for Value {
     }
 }
 
-/// The push-down list, of at most 64 values.
+/// The push-down list, of at most [`PUSHED_LIMIT`] values.
 ///
 /// A clause sees it as the list of what the values hold, the last pushed first.
 #[derive(Debug, Drop)]
@@ -50,7 +50,7 @@ impl PushList {
         }
     }
 
-    /// The number of values, from 0 to 64.
+    /// The number of values, from 0 to [`PUSHED_LIMIT`].
     pub fn len(&self) -> usize
         ensures value { result ≡ length self.now }
         ensures small { length self.now ≤ PUSHED_LIMIT }
@@ -58,13 +58,14 @@ impl PushList {
         self.places.len()
     }
 
+    /// Whether it has no values.
     pub fn is_empty(&self) -> bool
         ensures { result ≡ (length self.now == 0) }
     {
         self.places.is_empty()
     }
 
-    /// Whether it has 64 values.
+    /// Whether it has [`PUSHED_LIMIT`] values, so that no further one can be pushed.
     pub fn is_full(&self) -> bool
         ensures value { result ≡ (length self.now == PUSHED_LIMIT) }
         ensures small { length self.now ≤ PUSHED_LIMIT }

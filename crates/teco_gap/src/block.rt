@@ -55,7 +55,7 @@ impl Block {
         Ok(())
     }
 
-    // Writes `n` zeros behind the bytes that are written.
+    // Writes `n` zeros after the bytes that are written.
     fn with_zeros(self, n: usize) -> Block
         requires { length self.region.bytes + n ≤ self.cap }
         ensures bytes { result.region.bytes ≡ self.region.bytes ++ replicate n 0 }
@@ -89,7 +89,7 @@ impl Block {
         (block, tail)
     }
 
-    // Moves the gap from `gap..tail` to `at`, puts `ins` for the `del` bytes there, and returns the gap behind it.
+    // Moves the gap from `gap..tail` to `at`, puts `ins` in place of the `del` bytes there, and returns the gap after it.
     #[tactic(auto, using(crate::proofs::Around::after_splice))]
     pub(crate) fn splice(
         &mut self,

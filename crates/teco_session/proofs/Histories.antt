@@ -1,7 +1,7 @@
 -- Lemmas on histories and on lists of requests.
 use Rattle.std.proofs.Common.{◌≡◌, ℕ, zero, suc, ◌+◌, ◌<◌, ◌≤◌, List, [], ◌∷◌, ◌++◌, length, take, get_or, Option, refl, sym, ap, ◌∙◌, arith, subst, append-nil, append_assoc, length-append, length-take}
 use Rattle.std.proofs.KnownBytes.{Appends-trans, Appends-nil}
-use Rattle.teco_store.specs.State.{State}
+use Rattle.teco_store.specs.State.{State, state_of}
 use Rattle.teco_exec.specs.StringMeaning.{string_meaning}
 use Rattle.teco_step.specs.Terminal.{Screen, Shows, count_after}
 use Rattle.teco_session.specs.History.{History, Note, state_after, present, AreMeant, IsHistory, noted}
@@ -13,10 +13,10 @@ use Rattle.teco_session.specs.declared.request.Request.{Request}
 use Rattle.teco_session.specs.declared.request.Answer.{Answer}
 
 -- the state after a string is the one that its entry holds
-pub state_after-entry : (first : State) (entries : List Entry) (i : ℕ) (d : Entry) → i < length entries → state_after first (notes_of entries) (suc i) ≡ (get_or entries i d).state
+pub state_after-entry : (first : State) (entries : List Entry) (i : ℕ) (d : Entry) → i < length entries → state_after first (notes_of entries) (suc i) ≡ state_of (get_or entries i d).state
 state_after-entry first [] i d h = absurd (omega arith)
 state_after-entry first (e ∷ entries) zero d h = refl
-state_after-entry first (e ∷ entries) (suc i) d h = state_after-entry e.state entries i d (omega arith)
+state_after-entry first (e ∷ entries) (suc i) d h = state_after-entry (state_of e.state) entries i d (omega arith)
 
 -- a note put where it is meant
 pub AreMeant-noted : (s : State) (notes : List Note) (i : ℕ) (note : Note) → AreMeant s notes → i ≤ length notes

@@ -1,6 +1,6 @@
 //! A session: command strings, undo and redo, with every whole state kept.
 ghost use Rattle.std.specs.Prelude.{◌≡◌, ℕ, List, [], ◌<◌, ◌≤◌, length, vec_len, IfOk, OnErr, OnOk, IsOk, ◌↔◌, false};
-ghost use Rattle.teco_store.specs.State.{file_limit};
+ghost use Rattle.teco_store.specs.State.{state_of};
 ghost use Rattle.teco_step.specs.Terminal.{Shows};
 ghost use Rattle.teco_session.specs.History.{IsHistory, new_history, present, undone, redone};
 ghost use Rattle.teco_session.specs.Step.{Step, RunStep, Reply, is_terminal_failure};
@@ -10,7 +10,7 @@ use crate::entry::{Entry, add_entry};
 use crate::request::{Answer, NothingToRedo, NothingToUndo, Request};
 use std::alloc::Global;
 use std::marker::Model;
-use teco_core::NoMemory;
+use teco_core::{FILE_LIMIT, NoMemory};
 use teco_exec::run;
 use teco_step::Terminal;
 use teco_store::{Desk, Editor};
@@ -32,16 +32,17 @@ impl Model for Session {
     ghost Value = { History };
 
     ghost use Rattle.teco_session.specs.Entries.{notes_of};
+    ghost use Rattle.teco_store.specs.State.{state_of};
 
-    ghost view = { λ s. record { first = s.first; notes = notes_of s.entries.items; cursor = s.cursor } };
+    ghost view = { λ s. record { first = state_of s.first; notes = notes_of s.entries.items; cursor = s.cursor } };
 
-    ghost invariant = { λ s. IsHistory (record { first = s.first; notes = notes_of s.entries.items; cursor = s.cursor }) };
+    ghost invariant = { λ s. IsHistory (record { first = state_of s.first; notes = notes_of s.entries.items; cursor = s.cursor }) };
 }
 
 impl Session {
     /// A new session over this input, of at most 2^30 bytes. Takes no memory.
     pub fn new(input: Vec<u8>) -> Session
-        requires { vec_len input ≤ file_limit }
+        requires { vec_len input ≤ FILE_LIMIT }
         ensures { result ≡ new_history input.items }
     {
         let alloc = *input.allocator();
@@ -54,7 +55,7 @@ impl Session {
 
     /// The editing state. Takes no memory.
     pub fn editor(&self) -> &Editor
-        ensures present { result.now ≡ present self.now }
+        ensures present { state_of result.now ≡ present self.now }
         ensures history { IsHistory self.now }
     {
         if self.cursor == 0 {

@@ -1,9 +1,11 @@
 -- The editing state, its beginning, and its limits.
-use Rattle.std.specs.Prelude.{ℕ, ◌^◌, ◌≤◌, Bool, false, List, [], ◌++◌, ◌+◌, length, take, drop, Option, Some, None, ℤ}
+use Rattle.std.specs.Prelude.{◌≡◌, ℕ, ◌≤◌, Bool, false, List, [], ◌++◌, ◌+◌, length, take, drop, Option, Some, None, ℤ}
 use Rattle.std.specs.List.{All}
+use Rattle.std.specs.Option.{ForSome}
 use Rattle.teco_core.specs.declared.case_mode.CaseMode.{CaseMode}
 use Rattle.teco_core.specs.declared.case_mode.CaseMode.TheVariants.{Exact}
 use Rattle.teco_core.specs.Register.{Content, blank_registers, with_number, with_text}
+use Rattle.teco_core.specs.declared.limits.TheConstants.{FILE_LIMIT, PUSHED_LIMIT, TEXT_LIMIT}
 
 pub record State : Type 0 where
   pub text : List ℕ  -- of the buffer
@@ -36,37 +38,40 @@ beginning input = record {
   case_mode = Exact;
 }
 
--- the most bytes of the buffer, of each register's text and of the last search text
+-- two of the limits, for specs that do not name the constants
 abbrev pub text_limit : ℕ
-text_limit = 2 ^ 24
+text_limit = TEXT_LIMIT
 
--- the most bytes of the input, and of the output
 abbrev pub file_limit : ℕ
-file_limit = 2 ^ 30
+file_limit = FILE_LIMIT
 
 -- each of these texts is within its limit
 abbrev pub AreSmall : List Content → Type 0
-AreSmall contents = All (λ c. length c.text ≤ text_limit) contents
+AreSmall contents = All (λ c. length c.text ≤ TEXT_LIMIT) contents
 
--- The pointer is in the text and the place in the input, and each text is within its limit.
+-- The pointer is in the text and the place in the input, the registers are all there, and each part is within its limit.
 pub record IsSound (s : State) : Type 0 where
   pub pointer : s.pointer ≤ length s.text
-  pub text : length s.text ≤ text_limit
+  pub text : length s.text ≤ TEXT_LIMIT
+  pub all : length s.registers ≡ 36
   pub registers : AreSmall s.registers
+  pub few : length s.pushed ≤ PUSHED_LIMIT
   pub pushed : AreSmall s.pushed
   pub place : s.place ≤ length s.input
-  pub input : length s.input ≤ file_limit
+  pub input : length s.input ≤ FILE_LIMIT
+  pub output : length s.output ≤ FILE_LIMIT
+  pub last_search : ForSome s.last_search (λ text. length text ≤ TEXT_LIMIT)
 
 -- a text with these bytes for those between two places
 abbrev pub replaced : List ℕ → ℕ → ℕ → List ℕ → List ℕ
 replaced text low high put = take low text ++ (put ++ drop high text)
 
--- the pointer is put at a place, or behind the bytes that were put in
+-- the pointer is put at a place, or after the bytes that were put in
 abbrev pub pointer_after : ℕ → List ℕ → Option ℕ → ℕ
 pointer_after at put (Some place) = place
 pointer_after at put None = at + length put
 
--- these bytes for so many at a place
+-- these bytes in place of so many at a place
 abbrev pub spliced : State → ℕ → ℕ → List ℕ → Option ℕ → State
 spliced s at deleted put point = record s { text = replaced s.text at (at + deleted) put; pointer = pointer_after at put point }
 
@@ -79,3 +84,10 @@ with_register_number s q n = record s { registers = with_number s.registers q n 
 
 abbrev pub with_register_text : State → ℕ → List ℕ → State
 with_register_text s q text = record s { registers = with_text s.registers q text }
+
+-- What contracts see of an editor. Clauses name its state by `state_of`, and nothing else of it.
+pub record EditorView : Type 0 where
+  pub state : State
+
+abbrev pub state_of : EditorView → State
+state_of editor = editor.state

@@ -1,7 +1,7 @@
 -- What contracts see of an editor.
 use Rattle.std.specs.Prelude.{option_map}
 use Rattle.teco_gap.specs.Gap.{text}
-use Rattle.teco_store.specs.State.{State}
+use Rattle.teco_store.specs.State.{EditorView, State}
 use Rattle.teco_store.specs.declared.editor.Editor.TheInside.{Inside}
 
 abbrev pub state_in : Inside → State
@@ -19,3 +19,6 @@ state_in e = record {
   is_done = e.done;
   case_mode = e.case_mode;
 }
+
+abbrev pub view_in : Inside → EditorView
+view_in e = record { state = state_in e }

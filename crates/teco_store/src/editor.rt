@@ -1,16 +1,13 @@
 //! The editor: one editing state.
 ghost use Rattle.std.specs.Prelude.{◌≡◌, ◌≤◌, [], vec_len, IfOk, OnOk};
 ghost use Rattle.teco_gap.specs.Gap.{text};
-ghost use Rattle.teco_store.specs.State.{beginning, file_limit};
+ghost use Rattle.teco_store.specs.State.{beginning, state_of};
 
 use crate::desk::{Desk, Refused};
 use std::alloc::Global;
 use std::marker::Model;
-use teco_core::{CaseMode, NoMemory, PushList, Reg, Registers};
+use teco_core::{CaseMode, FILE_LIMIT, NoMemory, PushList, Reg, Registers, TEXT_LIMIT};
 use teco_gap::GapBuffer;
-
-/// The most bytes of the buffer, and of each register's text.
-const TEXT_LIMIT: usize = 1 << 24;
 
 /// The editing state: the buffer with its pointer, the registers and the push-down list, the input and the output, and what the last
 /// search left.
@@ -31,13 +28,12 @@ pub struct Editor {
 }
 
 impl Model for Editor {
-    ghost use Rattle.teco_store.specs.State.{State, IsSound};
+    ghost use Rattle.teco_store.specs.State.{EditorView, IsSound};
+    ghost use Rattle.teco_store.specs.View.{state_in, view_in};
 
-    ghost Value = { State };
+    ghost Value = { EditorView };
 
-    ghost use Rattle.teco_store.specs.View.{state_in};
-
-    ghost view = { state_in };
+    ghost view = { view_in };
 
     ghost invariant = { λ e. IsSound (state_in e) };
 }
@@ -45,8 +41,8 @@ impl Model for Editor {
 impl Editor {
     /// The beginning of a session with this input. Takes no memory.
     pub fn new(input: Vec<u8>) -> Editor
-        requires { vec_len input ≤ file_limit }
-        ensures { result ≡ beginning input.items }
+        requires { vec_len input ≤ FILE_LIMIT }
+        ensures { state_of result ≡ beginning input.items }
     {
         let alloc = *input.allocator();
         Editor {
@@ -67,7 +63,7 @@ impl Editor {
 
     /// The same state again, in memory of its own.
     pub fn copy(&self) -> Result<Editor, NoMemory>
-        ensures { IfOk result (λ editor. editor ≡ self.now) }
+        ensures { IfOk result (λ editor. state_of editor ≡ state_of self.now) }
     {
         let last_search = match &self.last_search {
             None => None,
@@ -105,7 +101,7 @@ fn copy_text(alloc: Global, from: &GapBuffer, to: &mut GapBuffer) -> Result<(), 
 }
 
 impl Desk for Editor {
-    ghost state = { λ e. e };
+    ghost state = { state_of };
 
     ghost follows = { λ _ _. Unit {0} };
 

@@ -1,6 +1,7 @@
 //! What no clause says of the editor: that its calls succeed where memory is ample. A call that is refused changes nothing, and the
 //! same call succeeds the next time.
 ghost use Rattle.std.specs.Prelude.{◌≡◌, length};
+ghost use Rattle.teco_store.specs.State.{state_of};
 
 use crate::{Desk, Editor, Refused};
 use std::alloc::Global;
@@ -8,7 +9,7 @@ use std::test::*;
 use teco_core::{NoMemory, Reg};
 
 fn length_of(editor: &Editor) -> usize
-    ensures { result ≡ length editor.now.text }
+    ensures { result ≡ length (state_of editor.now).text }
 {
     let (before, after) = editor.halves();
     before.len() + after.len()

@@ -1,7 +1,7 @@
 use Rattle.std.proofs.Common.{◌∙◌, ap, map, reverse, arith}
 use Rattle.std.proofs.lemmas.List.{take_all}
 use Rattle.teco_core.specs.Contents.{content_of}
-use Rattle.teco_core.proofs.Holdings.{map-copied_on}
+use Rattle.teco_core.proofs.Contents.{map-copied_on}
 use Rattle.teco_core.proofs.push_down.PushList.copy.Goals as goal
 
 pub loop-value-preserved : goal.loop-value-preserved

@@ -1,7 +1,7 @@
 use Rattle.std.proofs.Common.{◌∙◌, ap, map, sym, arith}
 use Rattle.std.proofs.lemmas.List.{length-set, take_all}
 use Rattle.teco_core.specs.Contents.{content_of}
-use Rattle.teco_core.proofs.Holdings.{map-copied}
+use Rattle.teco_core.proofs.Contents.{map-copied}
 use Rattle.teco_core.proofs.register.Registers.copy.Goals as goal
 
 pub loop-i-preserved : goal.loop-i-preserved

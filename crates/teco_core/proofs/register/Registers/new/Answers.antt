@@ -1,6 +1,6 @@
 use Rattle.std.proofs.Common.{◌∙◌, ap, replicate, arith}
 use Rattle.teco_core.specs.Register.{blank}
-use Rattle.teco_core.proofs.Holdings.{map-blank}
+use Rattle.teco_core.proofs.Contents.{map-blank}
 use Rattle.teco_core.proofs.register.Registers.new.Goals as goal
 
 pub returns : goal.returns

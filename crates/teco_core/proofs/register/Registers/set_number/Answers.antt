@@ -1,7 +1,7 @@
 use Rattle.std.proofs.Common.{rules, FitsSigned, w32, arith}
 use Rattle.std.proofs.lemmas.Int.{to_z-of_z}
 use Rattle.teco_core.specs.Register.{numbered}
-use Rattle.teco_core.proofs.Holdings.{map-changed}
+use Rattle.teco_core.proofs.Contents.{map-changed}
 use Rattle.teco_core.proofs.register.Registers.set_number.Goals as goal
 
 pub returns-clause-put : goal.returns-clause-put

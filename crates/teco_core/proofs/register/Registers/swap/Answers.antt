@@ -1,6 +1,6 @@
 use Rattle.std.proofs.Common.{ap, arith}
 use Rattle.teco_core.specs.Contents.{content_of}
-use Rattle.teco_core.proofs.Holdings.{map-changed}
+use Rattle.teco_core.proofs.Contents.{map-changed}
 use Rattle.teco_core.proofs.register.Registers.swap.Goals as goal
 
 pub returns-clause-put : goal.returns-clause-put

@@ -1,6 +1,6 @@
 use Rattle.std.proofs.Common.{arith}
 use Rattle.teco_core.specs.Register.{texted}
-use Rattle.teco_core.proofs.Holdings.{map-changed}
+use Rattle.teco_core.proofs.Contents.{map-changed}
 use Rattle.teco_core.proofs.register.Registers.swap_text.Goals as goal
 
 pub returns-clause-put : goal.returns-clause-put

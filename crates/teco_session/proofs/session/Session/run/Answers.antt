@@ -2,6 +2,7 @@ use Rattle.std.proofs.Common.{◌≡◌, [], ◌≤◌, ◌++◌, ◌∷◌, tak
 use Rattle.std.proofs.lemmas.List.{length-map}
 use Rattle.teco_exec.specs.StringMeaning.{string_meaning}
 use Rattle.teco_exec.specs.Runs.{Runs}
+use Rattle.teco_store.specs.State.{state_of}
 use Rattle.teco_session.specs.History.{History, IsHistory, present, noted}
 use Rattle.teco_session.specs.Entries.{note_of, notes_of}
 use Rattle.teco_session.specs.declared.entry.Entry.{Entry}
@@ -14,10 +15,10 @@ entry_now : (g : given.Over) (c : goal.After-self-1 g) → Entry
 entry_now g c = record { text = c.in-Ok.kept; steps = c.run-outcome.result.steps; state = c.run-outcome.new.desk }
 
 before : (g : given.Over) (c : goal.After-self-1 g) → History
-before g c = record { first = c.self.inside.first; notes = notes_of c.self.inside.entries.items; cursor = c.self.inside.cursor }
+before g c = record { first = state_of c.self.inside.first; notes = notes_of c.self.inside.entries.items; cursor = c.self.inside.cursor }
 
 added : (g : given.Over) (c : goal.After-self-1 g)
-    → (let h : History = record { first = c.self.inside.first; notes = notes_of c.add_entry.new.entries.items; cursor = c.len-self-inside.result } in h)
+    → (let h : History = record { first = state_of c.self.inside.first; notes = notes_of c.add_entry.new.entries.items; cursor = c.len-self-inside.result } in h)
     ≡ noted (before g c) (note_of (entry_now g c))
 unfolding before entry_now
 added g c =
@@ -26,14 +27,14 @@ added g c =
     let items : c.add_entry.new.entries.items ≡ take c.self.inside.cursor old ++ entry_now g c ∷ [] =
     c.add_entry.ensures ∙ ap (λ l. take c.self.inside.cursor l ++ entry_now g c ∷ []) c.reserve.ensures.items in
     let count : c.len-self-inside.result ≡ length c.add_entry.new.entries.items = omega (arith, c.len-self-inside.ensures, c.add_entry.new.entries.ok.0) in
-    noted-added c.self.inside.first old _ _ _ _ within items count
+    noted-added (state_of c.self.inside.first) old _ _ _ _ within items count
 
 pub invariant_of-self-2 : goal.invariant_of-self-2
 unfolding before entry_now
 invariant_of-self-2 g c =
     let steps = c.run-outcome.result.steps in
-    let from : c.in-Ok-copy.state ≡ present (before g c) = c.in-Ok-copy.ensures ∙ c.editor-2.ensures.present ∙ ap present (sym c.self.view_is) in
-    let state : c.run-outcome.new.desk ≡ (string_meaning (present (before g c)) c.in-Ok.kept.items steps).state =
+    let from : state_of c.in-Ok-copy.state ≡ present (before g c) = c.in-Ok-copy.ensures ∙ c.editor-2.ensures.present ∙ ap present (sym c.self.view_is) in
+    let state : state_of c.run-outcome.new.desk ≡ (string_meaning (present (before g c)) c.in-Ok.kept.items steps).state =
     c.run-outcome.ensures.again ∙ ap (λ s. (string_meaning s c.args.text.now steps).state) from ∙ ap (λ t. (string_meaning (present (before g c)) t steps).state) (sym c.in-Ok.ensures.items) in
     subst IsHistory (sym (added g c)) (IsHistory-noted (before g c) (note_of (entry_now g c)) c.self.invariant state)
 
@@ -43,6 +44,6 @@ returns g c =
     let ran = c.run-outcome.ensures.run in
     let old = c.args.self.now in
     let going : (present old).is_done ≡ false = ap (λ s. s.is_done) (sym c.editor.ensures.present) ∙ sym c.done.ensures ∙ c.if-done.false in
-    let run = subst (λ s. Runs s c.args.text.now c.args.limit c.run-outcome.result ran.0 c.run-outcome.new.desk) (c.in-Ok-copy.ensures ∙ c.editor-2.ensures.present) ran.1 in
-    let text = ap (λ t. noted old (record { text = t; steps = c.run-outcome.result.steps; state = c.run-outcome.new.desk })) c.in-Ok.ensures.items in
-    (ran.0, (c.run-outcome.new.desk, going, run, added g c ∙ ap (λ h. noted h (note_of (entry_now g c))) c.self.view_is ∙ text), ran.2)
+    let run = subst (λ s. Runs s c.args.text.now c.args.limit c.run-outcome.result ran.0 (state_of c.run-outcome.new.desk)) (c.in-Ok-copy.ensures ∙ c.editor-2.ensures.present) ran.1 in
+    let text = ap (λ t. noted old (record { text = t; steps = c.run-outcome.result.steps; state = state_of c.run-outcome.new.desk })) c.in-Ok.ensures.items in
+    (ran.0, (state_of c.run-outcome.new.desk, going, run, added g c ∙ ap (λ h. noted h (note_of (entry_now g c))) c.self.view_is ∙ text), ran.2)

@@ -1,15 +1,20 @@
 use Rattle.std.proofs.Common.{◌≤◌, length, arith, rules, subst, sym}
 use Rattle.std.proofs.lemmas.List.Elements.{All-replicate}
 use Rattle.teco_core.specs.Register.{Content, blank}
-use Rattle.teco_store.specs.State.{AreSmall, text_limit}
+use Rattle.teco_core.specs.declared.limits.TheConstants.{TEXT_LIMIT}
+use Rattle.teco_store.specs.State.{AreSmall}
 use Rattle.teco_store.proofs.editor.Editor.new.Goals as goal
 
 pub invariant_of-result : goal.invariant_of-result
 invariant_of-result c = record {
   pointer = search rules;
   text = search rules;
-  registers = subst AreSmall (sym c.new-2.ensures) (All-replicate (λ (c : Content). length c.text ≤ text_limit) 36 blank (omega arith));
-  pushed = subst AreSmall (sym c.new-3.ensures) (All-replicate (λ (c : Content). length c.text ≤ text_limit) 0 blank (omega arith));
+  all = search rules;
+  registers = subst AreSmall (sym c.new-2.ensures) (All-replicate (λ (c : Content). length c.text ≤ TEXT_LIMIT) 36 blank (omega arith));
+  few = search rules;
+  pushed = subst AreSmall (sym c.new-3.ensures) (All-replicate (λ (c : Content). length c.text ≤ TEXT_LIMIT) 0 blank (omega arith));
   place = search rules;
   input = search rules;
+  output = search rules;
+  last_search = search rules;
 }

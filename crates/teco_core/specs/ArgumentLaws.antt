@@ -14,7 +14,7 @@ abbrev pub LeftToRight : Type 0
 LeftToRight = (a b c : ℤ) (o p : Op) → taken_after (number a ∷ sign o ∷ number b ∷ sign p ∷ number c ∷ [])
     ≡ (operation o a b >>= (λ n. operation p n c >>= (λ r. Ok (One r))))
 
--- What stands in parentheses is worked out first.
+-- What is in parentheses is worked out first.
 abbrev pub ParenthesesFirst : Type 0
 ParenthesesFirst = (a b c : ℤ) (o p : Op)
     → taken_after (number a ∷ sign o ∷ opening ∷ number b ∷ sign p ∷ number c ∷ closing ∷ [])

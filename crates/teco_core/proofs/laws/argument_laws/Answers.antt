@@ -1,5 +1,5 @@
-use Rattle.teco_core.proofs.ArgumentProofs.{left_to_right, parentheses_first, signs, sixteen, commas, unfinished}
-use Rattle.teco_core.proofs.facts.argument_facts.Goals as goal
+use Rattle.teco_core.proofs.ArgumentLaws.{left_to_right, parentheses_first, signs, sixteen, commas, unfinished}
+use Rattle.teco_core.proofs.laws.argument_laws.Goals as goal
 
 pub returns : goal.returns
 returns c = record {

@@ -5,7 +5,7 @@ use Rattle.teco_core.specs.declared.arguments.Expression.{Expression}
 use Rattle.teco_core.specs.Refusal.{◌>>=◌}
 use Rattle.teco_core.specs.Arguments.{Arguments, give, operate, open_level, close_level, comma, taken_from, taken_on}
 use Rattle.teco_core.specs.Pieces.{built, taken_after}
-use Rattle.teco_core.specs.ArgumentFacts.{LeftToRight, ParenthesesFirst, Signs, Sixteen, Commas, Unfinished}
+use Rattle.teco_core.specs.ArgumentLaws.{LeftToRight, ParenthesesFirst, Signs, Sixteen, Commas, Unfinished}
 
 one_after_another : {A B C E : Type 0} → (r : Result A E) (f : A → Result B E) (g : B → Result C E)
     → ((r >>= f) >>= g) ≡ (r >>= (λ x. f x >>= g))
