@@ -75,11 +75,11 @@ unfolding by_name
 no_name b q at (Ok letter) e = no_class b q at (class_named (upper letter)) e
 no_name b q at (Err k) e = cc
 
-read_by : (text : List ℕ) (at c : ℕ) → slice_get text at ≡ Some c → item_at text at ≡ item_by c text (at + 1)
+pub read_by : (text : List ℕ) (at c : ℕ) → slice_get text at ≡ Some c → item_at text at ≡ item_by c text (at + 1)
 unfolding item_at byte_at
 read_by text at c here = rw here
 
-read_none : (text : List ℕ) (at : ℕ) → slice_get text at ≡ None → item_at text at ≡ Err Ice
+pub read_none : (text : List ℕ) (at : ℕ) → slice_get text at ≡ None → item_at text at ≡ Err Ice
 unfolding item_at byte_at
 read_none text at none = rw none
 
