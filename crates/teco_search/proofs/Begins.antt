@@ -12,7 +12,7 @@ use Rattle.teco_search.specs.declared.search.Backward.{Backward}
 use Rattle.teco_search.specs.declared.search.Backward.TheVariants as backwards
 use Rattle.teco_search.specs.Literal.{plain, is_exact}
 use Rattle.teco_search.specs.Occurrence.{looked_for, match_end, forward, before, backward}
-use Rattle.teco_search.specs.Search.{is_ready_forward, is_ready_backward}
+use Rattle.teco_search.specs.Search.{sought_forward, sought_backward, is_ready_forward, is_ready_backward}
 use Rattle.teco_search.proofs.Past.{match_past}
 use Rattle.teco_search.proofs.Occurring.{forward-none, forward-some, before-none, before-some, backward-none, backward-some}
 use Rattle.teco_search.proofs.Literals.{literal_hit, literal_only, literal_none}
@@ -27,6 +27,14 @@ pub ready_backward : (mode : CaseMode) (bytes : List ℕ) (search : Backward) �
 ready_backward mode bytes search is ready =
     let parts = and_parts (nat_lt 0 (length bytes)) (list_all (is_exact mode) bytes) (sym (ap is_ready_backward is) ∙ ready) in
     (ltb-true 0 (length bytes) parts.0, parts.1)
+
+pub ready_some : (search : Forward) → is_ready_forward search ≡ true → 0 < length (sought_forward search).elements
+ready_some (forwards.Literal mode bytes) ready = omega (arith, ltb-true 0 (length bytes) (and_parts (nat_lt 0 (length bytes)) (list_all (is_exact mode) bytes) ready).0, length-map bytes plain)
+ready_some (forwards.Elements mode es) ready = ltb-true 0 (length es.now) ready
+
+pub ready_some_backward : (search : Backward) → is_ready_backward search ≡ true → 0 < length (sought_backward search).elements
+ready_some_backward (backwards.Literal mode bytes) ready = omega (arith, ltb-true 0 (length bytes) (and_parts (nat_lt 0 (length bytes)) (list_all (is_exact mode) bytes) ready).0, length-map bytes plain)
+ready_some_backward (backwards.Elements mode es) ready = ltb-true 0 (length es.now) ready
 
 module _ (mode : CaseMode) (bytes text : List ℕ) (some : 0 < length bytes) (exact : list_all (is_exact mode) bytes ≡ true) where
   several : 0 < length (map plain bytes)

@@ -1,12 +1,12 @@
 -- The occurrences are what their words say.
 use Rattle.std.proofs.Common.{◌≡◌, ◌⊎◌, ℕ, zero, suc, ◌+◌, ◌<◌, ◌≤◌, Bool, true, false, List, [], ◌∷◌, length, Option, Some, None, nat_le, refl, sym, ap, subst, ◌∙◌, arith, inl, inr, ⊎_elim}
-use Rattle.std.specs.Prelude.{AllPairs, All}
+use Rattle.std.specs.Prelude.{AllPairs, All, IfSome, slice_get}
 use Rattle.std.proofs.lemmas.Bool.{cases_Bool, cases_eq, cases_lt, leb-true, leb-false, both_ways, le-leb}
 use Rattle.std.proofs.lemmas.List.Elements.{All-nil, All-cons, All-weaker}
 use Rattle.std.proofs.lemmas.List.Kept.{AllPairs-cons}
 use Rattle.std.proofs.lemmas.Option.{none-some, same_Some}
 use Rattle.teco_search.specs.Occurrence.{Sought, Span, match_end, forward, before, backward}
-use Rattle.teco_search.specs.Law.{MatchesTo, AreForward, AreBefore, AreBackward}
+use Rattle.teco_search.specs.Law.{MatchesTo, FindsNext, FindsLastBy, AreForward, AreBefore, AreBackward}
 use Rattle.teco_search.proofs.Occurring.{ends_past, forward-none, forward-some, before-none, before-some, backward-none, backward-some}
 
 none_from : (o : Option ℕ) → ((q : ℕ) → o ≡ Some q → ⊥) → o ≡ None
@@ -217,3 +217,45 @@ module _ (sought : Sought) (text : List ℕ) (some : 0 < length sought.elements)
 
   pub falling : (from : ℕ) → AllPairs (λ m o. o.1 ≤ m.0) (backward sought text from)
   falling from = fall_backward from (backward sought text from) (are_backward from)
+
+  -- The first of them by itself.
+  next_first : (from : ℕ) (ms : List Span) → AreForward sought text from ms → FindsNext sought text from (slice_get ms 0)
+  unfolding AreForward
+  next_first from [] are = are
+  next_first from (m ∷ ms) are = are.0
+
+  pub finds_next : (from : ℕ) → FindsNext sought text from (slice_get (forward sought text from) 0)
+  finds_next from = next_first from (forward sought text from) (are_forward (length text) from (omega arith))
+
+  last_first : (from : ℕ) (ms : List Span) → AreBackward sought text from ms → FindsLastBy sought text from (slice_get ms 0)
+  unfolding AreBackward
+  last_first from [] are = are
+  last_first from (m ∷ ms) are = are.0
+
+  pub finds_last : (from : ℕ) → FindsLastBy sought text from (slice_get (backward sought text from) 0)
+  finds_last from = last_first from (backward sought text from) (are_backward from)
+
+  -- Each of them is at least one byte long, and within the text.
+  long_forward : (n from : ℕ) (ms : List Span) → AreForward sought text from ms → IfSome (slice_get ms n) (λ m. (m.0 < m.1) × (m.1 ≤ length text))
+  unfolding AreForward
+  long_forward n from [] are = tt
+  long_forward zero from (m ∷ ms) are = long m.0 m.1 are.0.matches
+  long_forward (suc n) from (m ∷ ms) are = long_forward n m.1 ms are.1
+
+  long_before : (n to : ℕ) (ms : List Span) → AreBefore sought text to ms → IfSome (slice_get ms n) (λ m. (m.0 < m.1) × (m.1 ≤ length text))
+  unfolding AreBefore
+  long_before n to [] are = tt
+  long_before zero to (m ∷ ms) are = long m.0 m.1 are.0.matches
+  long_before (suc n) to (m ∷ ms) are = long_before n m.0 ms are.1
+
+  long_backward : (n from : ℕ) (ms : List Span) → AreBackward sought text from ms → IfSome (slice_get ms n) (λ m. (m.0 < m.1) × (m.1 ≤ length text))
+  unfolding AreBackward
+  long_backward n from [] are = tt
+  long_backward zero from (m ∷ ms) are = long m.0 m.1 are.0.matches
+  long_backward (suc n) from (m ∷ ms) are = long_before n m.0 ms are.1
+
+  pub nth_forward_long : (n from : ℕ) → IfSome (slice_get (forward sought text from) n) (λ m. (m.0 < m.1) × (m.1 ≤ length text))
+  nth_forward_long n from = long_forward n from (forward sought text from) (are_forward (length text) from (omega arith))
+
+  pub nth_backward_long : (n from : ℕ) → IfSome (slice_get (backward sought text from) n) (λ m. (m.0 < m.1) × (m.1 ≤ length text))
+  nth_backward_long n from = long_backward n from (backward sought text from) (are_backward from)

@@ -10,3 +10,7 @@ pub mod Halves
 pub mod Begins
 pub mod Numbered
 pub mod Laws
+pub mod Fronts
+pub mod ReadIsSpelled
+pub mod SpelledIsRead
+pub mod OnlyIce

@@ -37,7 +37,7 @@ unfolding items_at
 step_cut zero text at i behind e f = refl
 step_cut (suc n) text at i behind e f = rw (e, f)
 
-step_read : (n : ℕ) (text : List ℕ) (at : ℕ) (i : Item) (behind b : ℕ) → listed_at text at ≡ Ok (i, behind) → byte_at text behind ≡ Ok b → items_at (suc n) text at ≡ behind_item b i (items_at n text (behind + 1)) (behind + 1)
+pub step_read : (n : ℕ) (text : List ℕ) (at : ℕ) (i : Item) (behind b : ℕ) → listed_at text at ≡ Ok (i, behind) → byte_at text behind ≡ Ok b → items_at (suc n) text at ≡ behind_item b i (items_at n text (behind + 1)) (behind + 1)
 unfolding items_at
 step_read n text at i behind b e f = rw (e, f)
 
@@ -111,7 +111,7 @@ elements_last : (es : List Element) (e : Element) (r : Result (List Element) Cod
 elements_last es e (Ok x) = ap (λ js. let whole : Result (List Element) Code = Ok js in whole) (sym (append_assoc es (e ∷ []) x))
 elements_last es e (Err c) = refl
 
-element_step : (n : ℕ) (text : List ℕ) (at : ℕ) (e : Element) (behind : ℕ) → at < length text → element_at text at ≡ Ok (e, behind) → elements_at (suc n) text at ≡ with_elements (e ∷ []) (elements_at n text behind)
+pub element_step : (n : ℕ) (text : List ℕ) (at : ℕ) (e : Element) (behind : ℕ) → at < length text → element_at text at ≡ Ok (e, behind) → elements_at (suc n) text at ≡ with_elements (e ∷ []) (elements_at n text behind)
 unfolding elements_at
 element_step n text at e behind inside is = rw (lt-leb (length text) at inside, is) (by (elements_at n text behind))
   where
@@ -121,7 +121,7 @@ element_step n text at e behind inside is = rw (lt-leb (length text) at inside, 
     by (Ok x) = refl
     by (Err c) = refl
 
-elements_end : (n : ℕ) (text : List ℕ) (at : ℕ) → length text ≤ at → elements_at n text at ≡ Ok []
+pub elements_end : (n : ℕ) (text : List ℕ) (at : ℕ) → length text ≤ at → elements_at n text at ≡ Ok []
 unfolding elements_at
 elements_end zero text at past = refl
 elements_end (suc n) text at past = rw (le-leb (length text) at past)

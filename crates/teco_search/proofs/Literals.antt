@@ -22,7 +22,7 @@ use Rattle.teco_search.specs.Element.{is_lower, is_upper, is_letter, upper, item
 use Rattle.teco_search.specs.Reading.{Reading, class_named, byte_at, item_by, item_at, one_byte_at, element_at}
 use Rattle.teco_search.specs.Literal.{plain, is_exact}
 use Rattle.teco_search.specs.declared.pattern.Form.{Form}
-use Rattle.teco_search.specs.declared.pattern.Form.TheVariants.{Literal}
+use Rattle.teco_search.specs.declared.pattern.Form.TheVariants.{Literal, Elements}
 use Rattle.teco_search.specs.Pattern.{elements_of, is_sound}
 use Rattle.teco_search.specs.Occurrence.{Sought, looked_for, element_end, match_end}
 
@@ -75,11 +75,11 @@ unfolding by_name
 no_name b q at (Ok letter) e = no_class b q at (class_named (upper letter)) e
 no_name b q at (Err k) e = cc
 
-read_by : (text : List ℕ) (at c : ℕ) → slice_get text at ≡ Some c → item_at text at ≡ item_by c text (at + 1)
+pub read_by : (text : List ℕ) (at c : ℕ) → slice_get text at ≡ Some c → item_at text at ≡ item_by c text (at + 1)
 unfolding item_at byte_at
 read_by text at c here = rw here
 
-read_none : (text : List ℕ) (at : ℕ) → slice_get text at ≡ None → item_at text at ≡ Err Ice
+pub read_none : (text : List ℕ) (at : ℕ) → slice_get text at ≡ None → item_at text at ≡ Err Ice
 unfolding item_at byte_at
 read_none text at none = rw none
 
@@ -174,3 +174,11 @@ pub kept_literal :
 kept_literal mode form bytes value is view sound =
     let parts = and_parts (nat_lt 0 (length bytes.items)) (list_all (is_exact mode) bytes.items) (sym (ap (is_sound mode) is) ∙ sound) in
     (sym view ∙ ap (λ f. looked_for mode (elements_of f)) is, ltb-true 0 (length bytes.items) parts.0, parts.1)
+
+-- There is at least one element, however they are kept.
+pub kept_some : (mode : CaseMode) (form : Form) (value : Sought) → looked_for mode (elements_of form) ≡ value → is_sound mode form ≡ true → 0 < length value.elements
+kept_some mode form value view sound = subst (λ (s : Sought). 0 < length s.elements) view (by form sound)
+  where
+    by : (f : Form) → is_sound mode f ≡ true → 0 < length (elements_of f)
+    by (Literal bytes) is = omega (arith, ltb-true 0 (length bytes.items) (and_parts (nat_lt 0 (length bytes.items)) (list_all (is_exact mode) bytes.items) is).0, length-map bytes.items plain)
+    by (Elements es) is = ltb-true 0 (length es.items) is

@@ -1,6 +1,6 @@
 -- A match ends behind its start and within the text.
 use Rattle.std.proofs.Common.{◌≡◌, ℕ, zero, suc, cond, eqb, drop, ◌+◌, ◌<◌, ◌≤◌, Bool, not, List, [], ◌∷◌, length, Option, Some, None, refl, sym, ap, ⊎_elim, arith, length-drop}
-use Rattle.std.specs.Prelude.{slice_get}
+use Rattle.std.specs.Prelude.{slice_get, IfSome}
 use Rattle.std.specs.Option.{option_map}
 use Rattle.std.proofs.lemmas.Bool.{cases_eq, ne_eqb}
 use Rattle.std.proofs.lemmas.Option.{option_and_then_some, cond_some, slice_get_within, same_Some, none-some}
@@ -56,6 +56,10 @@ match_past mode (e ∷ es) text p q some is =
     let rest = match_from mode es text r q later in
     let past : p < q = omega (arith, first.past, rest.0) in
     record { past = past; within = ⊎_elim (λ same. omega (arith, first.within)) (λ other. rest.1 (omega (arith, rest.0))) (cases_eq r q) })
+
+pub match_within : (sought : Sought) (text : List ℕ) (p : ℕ) (r : Option ℕ) → 0 < length sought.elements → r ≡ match_end sought.mode sought.elements text p → IfSome r (λ q. (p < q) × (q ≤ length text))
+match_within sought text p None some is = tt
+match_within sought text p (Some q) some is = let ends = match_past sought.mode sought.elements text p q some (sym is) in (ends.past, ends.within)
 
 -- The match at a place, and where there is none.
 pub match_at-hit : (sought : Sought) (text : List ℕ) (p q : ℕ) → match_end sought.mode sought.elements text p ≡ Some q → match_at sought text p ≡ Some (p, q)

@@ -1,5 +1,5 @@
 -- What holds of all occurrences.
-use Rattle.std.specs.Prelude.{◌≡◌, ℕ, ◌<◌, ◌≤◌, List, [], ◌∷◌, length, Some, AllPairs}
+use Rattle.std.specs.Prelude.{◌≡◌, ℕ, ◌<◌, ◌≤◌, List, [], ◌∷◌, length, Option, None, Some, AllPairs}
 use Rattle.teco_search.specs.Occurrence.{Sought, Span, match_end}
 
 abbrev pub MatchesTo : Sought → List ℕ → ℕ → ℕ → Type 0
@@ -26,6 +26,16 @@ pub record IsLastBy (sought : Sought) (text : List ℕ) (from : ℕ) (m : Span) 
   pub matches : MatchesTo sought text m.0 m.1
   pub by : m.0 ≤ from
   pub highest : (k q : ℕ) → k ≤ from → MatchesTo sought text k q → k ≤ m.0
+
+-- the first match at or after a place, or none
+abbrev pub FindsNext : Sought → List ℕ → ℕ → Option Span → Type 0
+FindsNext sought text from None = (k q : ℕ) → from ≤ k → MatchesTo sought text k q → ⊥
+FindsNext sought text from (Some m) = IsNext sought text from m
+
+-- the match of highest start at or before a place, or none
+abbrev pub FindsLastBy : Sought → List ℕ → ℕ → Option Span → Type 0
+FindsLastBy sought text from None = (k q : ℕ) → k ≤ from → MatchesTo sought text k q → ⊥
+FindsLastBy sought text from (Some m) = IsLastBy sought text from m
 
 -- Forward: each has the least start at or after the end of the one before it, the first at or after a place; and then there is none.
 unfoldable pub AreForward : Sought → List ℕ → ℕ → List Span → Type 0

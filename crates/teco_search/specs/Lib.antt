@@ -1,4 +1,5 @@
 pub mod Element
+pub mod Spelling
 pub mod Reading
 pub mod Occurrence
 pub mod Literal

@@ -1,7 +1,11 @@
 //! What holds of all occurrences, whatever is looked for and wherever.
-ghost use Rattle.std.specs.Prelude.{◌↔◌, ◌≡◌, ◌<◌, ℕ, List, length};
+ghost use Rattle.std.specs.Prelude.{◌↔◌, ◌≡◌, ◌<◌, ℕ, List, length, Ok, Err};
 ghost use Rattle.teco_search.specs.Law.{MatchesAreLong, AreForward, AreBackward, AreRising, AreFalling};
 ghost use Rattle.teco_search.specs.Occurrence.{Sought, Span, forward, backward};
+ghost use Rattle.teco_search.specs.Reading.{read};
+ghost use Rattle.teco_search.specs.Spelling.{Spells, SpellsNothing};
+ghost use Rattle.teco_search.specs.declared.element.Element.{Element};
+ghost use Rattle.teco_core.specs.declared.code.Code.TheVariants.{Ice};
 
 /// The laws of occurrences, of a pattern of at least one element.
 ///
@@ -15,4 +19,12 @@ pub fn occurrences()
     ensures backward { (sought : Sought) (text : List ℕ) (from : ℕ) (ms : List Span) → 0 < length sought.elements → AreBackward sought text from ms ↔ (ms ≡ backward sought text from) }
     ensures rising { (sought : Sought) (text : List ℕ) (from : ℕ) → 0 < length sought.elements → AreRising (forward sought text from) }
     ensures falling { (sought : Sought) (text : List ℕ) (from : ℕ) → 0 < length sought.elements → AreFalling (backward sought text from) }
+{}
+
+/// The law of reading: what is read of a search text is what it spells, and it is refused exactly where it spells nothing.
+///
+/// So a search text spells one list of elements at most.
+pub fn search_texts()
+    ensures spelled { (text : List ℕ) (es : List Element) → (read text ≡ Ok es) ↔ Spells text es }
+    ensures refused { (text : List ℕ) → (read text ≡ Err Ice) ↔ SpellsNothing text }
 {}

@@ -15,5 +15,5 @@ mod search;
 mod tests;
 
 pub use element::{Class, Element, Item, Items, OneByte};
-pub use law::occurrences;
+pub use law::{occurrences, search_texts};
 pub use pattern::{Pattern, count, find, matches_at};

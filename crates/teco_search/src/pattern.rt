@@ -1,7 +1,8 @@
 //! Search texts that have been read.
-ghost use Rattle.std.specs.Prelude.{◌≡◌, ◌⊎◌, ◌++◌, ◌<◌, ◌≤◌, length, IfOk, IfErr, Ok, Err, IsTrue, ◌≢◌, pos, Some};
+ghost use Rattle.std.specs.Prelude.{◌≡◌, ◌⊎◌, ◌++◌, ◌<◌, ◌≤◌, length, IfOk, IfErr, IfSome, Ok, Err, IsTrue, ◌≢◌, pos, negsuc, Some};
 ghost use Rattle.std.specs.Fmt.{WritesOnOk};
 ghost use Rattle.std.specs.List.{flat_map};
+ghost use Rattle.teco_search.specs.Law.{FindsNext, FindsLastBy};
 ghost use Rattle.teco_search.specs.Occurrence.{match_end, forward, occurrence};
 ghost use Rattle.teco_search.specs.Search.{sought_forward, sought_backward, is_ready_forward, is_ready_backward};
 ghost use Rattle.teco_search.specs.Reading.{read};
@@ -51,6 +52,7 @@ impl Pattern {
     pub fn read(alloc: Global, text: &[u8], mode: CaseMode) -> Result<Pattern, Code>
         requires { 0 < length text.now }
         ensures elements { IfOk result (λ p. read text.now ≡ Ok p.elements) }
+        ensures some { IfOk result (λ p. 0 < length p.elements) }
         ensures mode { IfOk result (λ p. p.mode ≡ mode) }
         ensures err { IfErr result (λ e. (e ≡ Code.Mem) ⊎ ((e ≡ Code.Ice) × (read text.now ≡ Err Code.Ice))) }
     {
@@ -100,7 +102,8 @@ impl fmt::Display for Pattern {
 
 /// The end of the match at a place of the text that the two halves are together; none where the pattern doesn't match there. Takes no memory.
 pub fn matches_at(pattern: &Pattern, halves: (&[u8], &[u8]), at: usize) -> Option<usize>
-    ensures { result ≡ match_end pattern.now.mode pattern.now.elements (halves.entry.0.now ++ halves.entry.1.now) at }
+    ensures value { result ≡ match_end pattern.now.mode pattern.now.elements (halves.entry.0.now ++ halves.entry.1.now) at }
+    ensures within { IfSome result (λ end. (at < end) × (end ≤ length (halves.entry.0.now ++ halves.entry.1.now))) }
 {
     let text = Joined::new(halves.0, halves.1);
     match &pattern.form {
@@ -146,7 +149,10 @@ pub fn find(
 ) -> Option<(usize, usize)>
     requires within { from ≤ length (halves.0.now ++ halves.1.now) }
     requires some { n ≢ pos 0 }
-    ensures { result ≡ occurrence pattern.now (halves.entry.0.now ++ halves.entry.1.now) from n }
+    ensures value { result ≡ occurrence pattern.now (halves.entry.0.now ++ halves.entry.1.now) from n }
+    ensures within { IfSome result (λ m. (m.0 < m.1) × (m.1 ≤ length (halves.entry.0.now ++ halves.entry.1.now))) }
+    ensures next { n ≡ pos 1 → FindsNext pattern.now (halves.entry.0.now ++ halves.entry.1.now) from result }
+    ensures last { n ≡ negsuc 0 → FindsLastBy pattern.now (halves.entry.0.now ++ halves.entry.1.now) from result }
 {
     let text = Joined::new(halves.0, halves.1);
     if n > 0 {
@@ -156,10 +162,10 @@ pub fn find(
     }
 }
 
-/// How many occurrences there are forward from a place. Takes no memory.
+/// How many occurrences there are forward from a place, which may be after the end. Takes no memory.
 pub fn count(pattern: &Pattern, halves: (&[u8], &[u8]), from: usize) -> usize
-    requires { from ≤ length (halves.0.now ++ halves.1.now) }
-    ensures { result ≡ length (forward pattern.now (halves.entry.0.now ++ halves.entry.1.now) from) }
+    ensures value { result ≡ length (forward pattern.now (halves.entry.0.now ++ halves.entry.1.now) from) }
+    ensures past { length (halves.entry.0.now ++ halves.entry.1.now) ≤ from → result ≡ 0 }
 {
     let text = Joined::new(halves.0, halves.1);
     count_forward(&pattern.forward(), &text, from)

@@ -66,10 +66,13 @@ pub(crate) fn nth_forward(
 
 /// How many occurrences there are forward.
 pub(crate) fn count_forward(search: &Forward, text: &Joined, from: usize) -> usize
-    requires ready { IsTrue (is_ready_forward search.now) }
-    requires within { from ≤ length text.now }
-    ensures { result ≡ length (forward (sought_forward search.now) text.now from) }
+    requires { IsTrue (is_ready_forward search.now) }
+    ensures value { result ≡ length (forward (sought_forward search.now) text.now from) }
+    ensures past { length text.now ≤ from → result ≡ 0 }
 {
+    if from >= text.len() {
+        return 0;
+    }
     let mut run = Run::none();
     let mut at = from;
     let mut count = 0usize;

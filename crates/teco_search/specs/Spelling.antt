@@ -1,0 +1,65 @@
+-- What a search text spells, rule by rule.
+use Rattle.std.specs.Prelude.{◌≡◌, ◌≢◌, ℕ, Bool, false, ◌||◌, List, [], ◌∷◌, ◌++◌, ◌==◌}
+use Rattle.teco_search.specs.declared.element.Class.{Class}
+use Rattle.teco_search.specs.declared.element.Class.TheVariants as class
+use Rattle.teco_search.specs.declared.element.Item.{Item}
+use Rattle.teco_search.specs.declared.element.Item.TheVariants as item
+use Rattle.teco_search.specs.declared.element.OneByte.{OneByte}
+use Rattle.teco_search.specs.declared.element.OneByte.TheVariants as one
+use Rattle.teco_search.specs.declared.element.Element.{Element}
+use Rattle.teco_search.specs.declared.element.Element.TheVariants as element
+use Rattle.teco_search.specs.Element.{upper}
+
+-- the controls that mean something in a search text: ^Q, ^E, ^X, ^S, ^N, ^R, ^V and ^W
+abbrev pub is_control : ℕ → Bool
+is_control b = b == 17 || b == 5 || b == 24 || b == 19 || b == 14 || b == 18 || b == 22 || b == 23
+
+-- the letter of a kind of bytes
+abbrev pub letter_of : Class → ℕ
+letter_of class.Any = 88
+letter_of class.Other = 66
+letter_of class.Letter = 65
+letter_of class.Digit = 68
+letter_of class.LineEnd = 76
+letter_of class.LetterOrDigit = 82
+letter_of class.LowerCase = 86
+letter_of class.UpperCase = 87
+
+-- Another byte is itself, ^Q before a byte makes it itself, ^E and a letter in either case are a kind, ^X and ^S are two of the kinds.
+pub data SpellsItem : List ℕ → Item → Type 0 where
+  itself : (b : ℕ) → is_control b ≡ false → SpellsItem (b ∷ []) (item.Byte b)
+  quoted : (b : ℕ) → SpellsItem (17 ∷ b ∷ []) (item.Byte b)
+  named : (b : ℕ) (c : Class) → upper b ≡ letter_of c → SpellsItem (5 ∷ b ∷ []) (item.Class c)
+  any : SpellsItem (24 ∷ []) (item.Class class.Any)
+  other : SpellsItem (19 ∷ []) (item.Class class.Other)
+
+-- In a list a comma and ] are not themselves.
+pub record SpellsListed (t : List ℕ) (i : Item) : Type 0 where
+  pub spelled : SpellsItem t i
+  pub no_comma : t ≢ (44 ∷ [])
+  pub no_end : t ≢ (93 ∷ [])
+
+-- items with a comma between two, and ] after the last
+pub data SpellsItems : List ℕ → List Item → Type 0 where
+  last : (t : List ℕ) (i : Item) → SpellsListed t i → SpellsItems (t ++ 93 ∷ []) (i ∷ [])
+  more : (t u : List ℕ) (i : Item) (is : List Item) → SpellsListed t i → SpellsItems u is → SpellsItems (t ++ 44 ∷ u) (i ∷ is)
+
+-- an item, or a list after ^E[
+pub data SpellsOne : List ℕ → OneByte → Type 0 where
+  single : (t : List ℕ) (i : Item) → SpellsItem t i → SpellsOne t (one.Single i)
+  listed : (t : List ℕ) (is : List Item) → SpellsItems t is → SpellsOne (5 ∷ 91 ∷ t) (one.Listed is)
+
+-- ^E and S in either case is a run of blanks, and ^N before what one byte may be is its opposite.
+pub data SpellsElement : List ℕ → Element → Type 0 where
+  blanks : (b : ℕ) → upper b ≡ 83 → SpellsElement (5 ∷ b ∷ []) element.Blanks
+  among : (t : List ℕ) (c : OneByte) → SpellsOne t c → SpellsElement t (element.Among c)
+  except : (t : List ℕ) (c : OneByte) → SpellsOne t c → SpellsElement (14 ∷ t) (element.Except c)
+
+-- A search text spells its elements one after the other.
+pub data Spells : List ℕ → List Element → Type 0 where
+  nothing : Spells [] []
+  next : (t u : List ℕ) (e : Element) (es : List Element) → SpellsElement t e → Spells u es → Spells (t ++ u) (e ∷ es)
+
+-- no elements at all
+abbrev pub SpellsNothing : List ℕ → Type 0
+SpellsNothing text = (es : List Element) → Spells text es → ⊥
