@@ -1,0 +1,17 @@
+pub mod Fuel
+pub mod ListSteps
+pub mod Denoting
+pub mod Passes
+pub mod Pays
+pub mod Keeping
+pub mod Tags
+pub mod Resuming
+pub mod Shortens
+pub mod Correct
+pub mod Bridge
+pub mod Following
+pub mod Composing
+pub mod Going
+pub mod Unseen
+pub mod Stepped
+pub mod Seeking

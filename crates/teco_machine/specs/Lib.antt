@@ -1,0 +1,13 @@
+pub mod World
+pub mod Meaning
+pub mod StringMeaning
+pub mod Test
+pub mod Laws
+pub mod Lists
+pub mod Machine
+pub mod Frames
+pub mod View
+pub mod MachineLaws
+pub mod Runs
+pub mod Search
+pub mod Running

@@ -1,0 +1,15 @@
+//! The run of a command string.
+#![tactic(auto)]
+
+mod blocks;
+mod cursor;
+mod flow;
+mod laws;
+mod moves;
+mod outcome;
+mod running;
+mod stepping;
+
+pub use laws::machine_laws;
+pub use outcome::Outcome;
+pub use running::run;
