@@ -98,11 +98,14 @@ module _ (o : Origin) (h : Host) (next : Continuation) (g : Going o h next) wher
       ends_here (Some Lim) refl (omega arith) (subst (λ k. ready_run k (next (now_at o h.steps)) ≡ reached_run k (now_at o h.steps) (over (Some Lim))) none (e (now_at o h.steps)))
 
   -- what uses no step
-  pub settles : (d : Reached) → EndsByItself d → h.steps ≤ o.limit → Settles next d → Reaches o h h d
-  settles (goes further) f le e = record {
+  pub continues : (further : Continuation) → Settles next (goes further) → Comes o h h further
+  continues further e = record {
     going = record { state = g.state; shows = g.shows; leads = λ fuel. g.leads fuel ∙ e (now_at o h.steps) fuel };
     follows = λ floor p. p;
   }
+
+  pub settles : (d : Reached) → EndsByItself d → h.steps ≤ o.limit → Settles next d → Reaches o h h d
+  settles (goes further) f le e = continues further e
   settles (over code) f le e = ends_here code f le (e (now_at o h.steps) (o.limit - h.steps))
 
   -- a step

@@ -15,3 +15,4 @@ pub mod Going
 pub mod Unseen
 pub mod Stepped
 pub mod Seeking
+pub mod Calling

@@ -129,6 +129,10 @@ at_beginning a text callers now = arrives (runs (config text (beginning a text) 
 abbrev pub at_return : Arguments → List Caller → Continuation
 at_return a callers now = arrives (returned (config [] (beginning a []) None [] now) callers)
 
+-- a cursor after a call, with the arguments that it left
+abbrev pub in_return : Arguments → machine.Cursor → machine.Cursor
+in_return a c = record { args = a; left = c.left; blocks = c.blocks }
+
 -- where a flow leads
 abbrev pub flows : Cursor → Option Task → List Caller → Flow → Reached
 flows c pending callers flow.On = goes (at_cursor c pending callers)

@@ -3,7 +3,8 @@ ghost use Rattle.std.specs.Prelude.{◌≡◌, ◌≤◌, ℕ, List, length};
 ghost use Rattle.teco_core.specs.ArgumentsView.{arguments};
 ghost use Rattle.teco_step.specs.Terminal.{Shows};
 ghost use Rattle.teco_machine.specs.Machine.{Caller};
-ghost use Rattle.teco_machine.specs.Running.{Going, Origin, Reaches, at_beginning, exits, host};
+ghost use Rattle.teco_machine.specs.Running.{Going, Origin, Reaches, at_beginning, exits, host, in_return};
+ghost use Rattle.teco_machine.specs.View.{cursor as cursor_of};
 ghost use Rattle.teco_machine.specs.Runs.{Runs, is_tty, trail_of};
 ghost use Rattle.teco_machine.specs.StringMeaning.{string_meaning};
 
@@ -67,8 +68,12 @@ fn run_text<D: Desk, T: Terminal>(
                 if depth == MOST_CALLS {
                     return Exit::Over(Some(Code::Pdo));
                 }
-                match run_text(desk, &called, depth + 1, &mut cursor.args, steps, term) {
-                    Exit::Return => continue 'running,
+                let mut left = cursor.args;
+                match run_text(desk, &called, depth + 1, &mut left, steps, term) {
+                    Exit::Return => {
+                        go_on_with(&mut cursor, left);
+                        continue 'running;
+                    }
                     Exit::Over(code) => return Exit::Over(code),
                 }
             }
@@ -79,4 +84,13 @@ fn run_text<D: Desk, T: Terminal>(
             Flow::Over(code) => return Exit::Over(code),
         }
     }
+}
+
+/// The text goes on with the arguments that a call has left.
+#[inline]
+fn go_on_with(cursor: &mut Cursor, args: Args)
+    ensures text { cursor.new.text ≡ cursor.old.text }
+    ensures args { cursor_of cursor.new ≡ in_return (arguments args) (cursor_of cursor.old) }
+{
+    cursor.args = args;
 }
