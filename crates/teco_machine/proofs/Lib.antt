@@ -16,3 +16,4 @@ pub mod Unseen
 pub mod Stepped
 pub mod Seeking
 pub mod Calling
+pub mod Whole
