@@ -10,7 +10,7 @@ use Rattle.teco_scan.specs.Tree.{Nodes, done, item, escape, iter, cond, tag, fau
 use Rattle.teco_step.specs.declared.next.Setting.{Setting}
 use Rattle.teco_step.specs.Step.{End, on, leave, go, call, out, again, stop}
 use Rattle.teco_step.specs.Effect.{effect}
-use Rattle.teco_machine.specs.Lists.{nodes}
+use Rattle.teco_scan.specs.Lists.{nodes}
 use Rattle.teco_machine.specs.World.{World, Ran, cleared, after, pay_from, pay}
 use Rattle.teco_machine.specs.Meaning.{lands, then_rest, returned, carries, iterates, part_end, chooses, leave_comes, first_setting, list_by, turn_end, turn, turns_by, further_by, meaning}
 use Rattle.teco_machine.specs.Laws.{with_fuel, comes_to, MeaningUnrolls, StepEnds, first_effect, stepped_world, EmptyListEnds, FaultStops, TagIsPassed, EscapeDrops, NothingWithoutFuel, StepGoesOn, StepStops, JumpLands, JumpLeaves, CallReturns, CallTooDeep, FurtherStep, IterationCounts, IterationGoesOn, TurnEnds, LeavingEnds, ConditionalChooses}

@@ -24,7 +24,7 @@ returns c = record {
   leaving = sentences.leaving;
   conditional = sentences.conditional;
   within_limit = within_limit;
-  more_limit = more_limit;
-  enough = same_again;
-  limit_zero = limit_zero;
+  more_limit = more_limit c.block_laws.ensures;
+  enough = same_again c.block_laws.ensures;
+  limit_zero = limit_zero c.block_laws.ensures;
 }
