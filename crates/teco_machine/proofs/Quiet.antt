@@ -1,0 +1,125 @@
+-- A text of values and arithmetic alone comes to nothing but these.
+use Rattle.std.proofs.Common.{◌≡◌, ℕ, zero, suc, Bool, true, false, List, [], ◌∷◌, Option, Some, None, Ok, Err, refl, subst}
+use Rattle.std.specs.Prelude.{◌&&◌}
+use Rattle.teco_core.specs.Arguments.{Arguments}
+use Rattle.teco_scan.specs.declared.command.BlockMark.TheVariants.{Iterate}
+use Rattle.teco_scan.specs.declared.command.Bare.TheVariants as bare
+use Rattle.teco_scan.specs.declared.command.Modifiers.{Modifiers}
+use Rattle.teco_scan.specs.declared.command.RegisterCommand.TheVariants as register_command
+use Rattle.teco_scan.specs.ListLaws.{BlockLaws}
+use Rattle.teco_scan.specs.Lists.{Listed, at_scan, at_instruction, list_at}
+use Rattle.teco_scan.specs.Scan.{Item, Instruction, Scanned, found, ended, fault, scan}
+use Rattle.teco_scan.specs.Scan as token
+use Rattle.teco_store.specs.State.{State}
+use Rattle.teco_step.specs.declared.next.Setting.{Setting}
+use Rattle.teco_step.specs.Effect.{effect, item_effect}
+use Rattle.teco_step.specs.Step.{End, on, out, stop, Made, goes_on, done_by, settled}
+use Rattle.teco_step.specs.Stepping.{takes_nothing}
+use Rattle.teco_machine.specs.Machine.{Frame, Cursor, Caller, Coming, moved, comes, at_block, ends, breaks, pass_instruction, pass_scanned, pass, Further, Config, Machine, runs, halts, Ready, step, block, finished, setting_of, resumed, returned, coming, arriving, arrives_within, weight, arrives, pays, exec, start_config}
+use Rattle.teco_machine.specs.Quiet.{takes_no_memory, is_plain, IsQuiet, QuietComing, ArrivesQuietly, QuietTextsArriveQuietly}
+
+both : (a b : Bool) → (a && b) ≡ true → (a ≡ true) × (b ≡ true)
+both true b e = (refl, e)
+both false b e = absurd cc
+
+-- passing
+scanned_quiet : (s : Scanned) (c : Cursor) → c.blocks ≡ [] → takes_no_memory (at_scan list_at s None 0).0 ≡ true → QuietComing (pass_scanned s c)
+scanned_quiet s c none e = by c.blocks none s e
+  where
+    instruction : (m : Modifiers) (i : Instruction) (bs : List ℕ) → takes_no_memory (at_instruction list_at i m bs None 0).0 ≡ true → QuietComing (pass_instruction m i bs (record c { blocks = [] }))
+    instruction m (token.step i) bs e = let b = both (takes_nothing i) _ e in (b.0, record { blocks = refl; left = b.1 })
+    instruction m (token.mark Iterate) bs e = absurd cc
+    instruction m (token.mark b) bs e = tt
+    instruction m (token.decide t) bs e = absurd cc
+    instruction m (token.tag name) bs e = absurd cc
+    instruction m token.escape bs e = record { blocks = refl; left = e }
+
+    by : (blocks : List Frame) → blocks ≡ [] → (s : Scanned) → takes_no_memory (at_scan list_at s None 0).0 ≡ true → QuietComing (pass_scanned s (record c { blocks = blocks }))
+    by (b ∷ bs) none s e = absurd cc
+    by [] none ended e = tt
+    by [] none (fault x) e = tt
+    by [] none (found t bs) e = instruction t.modifiers t.instruction bs e
+
+pub pass_quiet : BlockLaws → (c : Cursor) → IsQuiet c → QuietComing (pass c)
+pass_quiet laws c q = scanned_quiet (scan c.left) c q.blocks (subst (λ (l : Listed). takes_no_memory l.0 ≡ true) (laws.list_unrolls None 0 c.left) q.left)
+
+-- Values and arithmetic: the string goes on, or it ends there.
+made_plain : (s : State) (a : Arguments) (m : Made) → is_plain (settled s a (goes_on m)).end ≡ true
+made_plain s a (Ok c) = refl
+made_plain s a (Err c) = refl
+
+item_plain : (i : Item) (w : Setting) (s : State) (a : Arguments) → takes_nothing i ≡ true → is_plain (settled s a (done_by (item_effect i w) s a)).end ≡ true
+item_plain (token.digits ds) w s a e = made_plain s a _
+item_plain (token.bare (bare.Quantity q)) w s a e = made_plain s a _
+item_plain (token.bare (bare.Arithmetic b)) w s a e = made_plain s a _
+item_plain (token.register register_command.Number q) w s a e = made_plain s a _
+item_plain (token.byte b) w s a e = refl
+item_plain i w s a e = absurd cc
+
+pub value_effect_is_plain : (i : Item) (w : Setting) (s : State) (a : Arguments) → takes_nothing i ≡ true → is_plain (effect i w s a).end ≡ true
+unfolding effect
+value_effect_is_plain i w s a e = item_plain i w s a e
+
+-- the run
+record IsQuietIn (c : Config) : Type 0 where
+  pub at : IsQuiet c.at
+  pub callers : c.callers ≡ []
+  pub further : c.further ≡ None
+
+abbrev QuietMachine : Machine → Type 0
+QuietMachine (runs c) = IsQuietIn c
+QuietMachine (halts c e) = Unit {0}
+
+abbrev QuietReady : Ready → Type 0
+QuietReady (step m i work c) = (takes_nothing i ≡ true) × IsQuiet c.at × (c.callers ≡ [])
+QuietReady (block b bs c) = ⊥
+QuietReady (finished c e) = Unit {0}
+
+module _ (next : Machine → Ready) (h : (m : Machine) → QuietMachine m → QuietReady (next m)) where
+  back_quiet : (c : Config) (cs : List Caller) → cs ≡ [] → QuietReady (next (returned c cs))
+  back_quiet c [] none = h (halts c None) tt
+  back_quiet c (b ∷ bs) none = absurd cc
+
+  coming_quiet : (c : Config) (k : Coming) → IsQuietIn c → QuietComing k → QuietReady (coming next c k)
+  coming_quiet c (moved cur) q k = h (runs (record c { at = cur })) (record { at = k; callers = q.callers; further = q.further })
+  coming_quiet c (comes m i cur) q k = (k.0, k.1, q.callers)
+  coming_quiet c (at_block b bs) q k = absurd k
+  coming_quiet c ends q k = back_quiet c c.callers q.callers
+  coming_quiet c (breaks e) q k = tt
+
+  arriving_quiet : BlockLaws → (c : Config) (f : Option Further) → f ≡ None → IsQuietIn c → QuietReady (arriving next c f)
+  arriving_quiet laws c (Some f) none q = absurd cc
+  arriving_quiet laws c None none q = coming_quiet c (pass c.at) q (pass_quiet laws c.at q.at)
+
+arrives_quiet : BlockLaws → (n : ℕ) (m : Machine) → QuietMachine m → QuietReady (arrives_within n m)
+unfolding arrives_within
+arrives_quiet laws zero (runs c) q = tt
+arrives_quiet laws zero (halts c e) q = tt
+arrives_quiet laws (suc n) (runs c) q = arriving_quiet (arrives_within n) (arrives_quiet laws n) laws c c.further q.further q
+arrives_quiet laws (suc n) (halts c e) q = tt
+
+resumed_quiet : (m : Modifiers) (i : Item) (e : End) (c : Config) → is_plain e ≡ true → IsQuietIn c → QuietMachine (resumed m i e c)
+resumed_quiet m i on c p q = q
+resumed_quiet m i out c p q = tt
+resumed_quiet m i (stop e) c p q = tt
+resumed_quiet m i e c p q = absurd cc
+
+pays_quiet : (r : Ready) → QuietReady r → QuietMachine (pays r)
+pays_quiet (step m i work c) q =
+    resumed_quiet m i (effect i (setting_of m work c.at) c.state c.at.args).end _ (value_effect_is_plain i (setting_of m work c.at) c.state c.at.args q.0)
+    (record { at = record { blocks = q.1.blocks; left = q.1.left }; callers = q.2; further = refl })
+pays_quiet (block b bs c) q = absurd q
+pays_quiet (finished c e) q = tt
+
+exec_quiet : BlockLaws → (n : ℕ) (m : Machine) → QuietMachine m → QuietReady (arrives (exec n m))
+unfolding exec arrives
+exec_quiet laws zero m q = arrives_quiet laws (suc (weight m)) m q
+exec_quiet laws (suc n) m q = exec_quiet laws n (pays (arrives m)) (pays_quiet (arrives m) (arrives_quiet laws (suc (weight m)) m q))
+
+quietly : (r : Ready) → QuietReady r → ArrivesQuietly r
+quietly (step m i work c) q = q.0
+quietly (block b bs c) q = q
+quietly (finished c e) q = tt
+
+pub quiet_texts : BlockLaws → QuietTextsArriveQuietly
+quiet_texts laws s text k e = quietly (arrives (exec k (runs (start_config s text)))) (exec_quiet laws k (runs (start_config s text)) (record { at = record { blocks = refl; left = e }; callers = refl; further = refl }))
