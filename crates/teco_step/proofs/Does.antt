@@ -4,8 +4,8 @@ use Rattle.teco_store.specs.Trail.{Trail, moved}
 use Rattle.teco_step.specs.declared.failure.Failure.{Failure}
 use Rattle.teco_step.specs.declared.next.Next.{Next}
 use Rattle.teco_step.specs.declared.next.Next.TheVariants as next
-use Rattle.teco_step.specs.Step.{Tried, Step, Action, done_by, End, go, Moment, settled}
-use Rattle.teco_step.specs.Families.{next_of, code_of, tag_of, IsRefusal, Acts, Types, Does, Carries}
+use Rattle.teco_step.specs.Step.{Attempt, Step, Action, done_by, End, go, Moment, settled}
+use Rattle.teco_step.specs.Families.{next_of, code_of_failure, tag_of, IsRefusal, Acts, Types, Does, Carries}
 use Rattle.teco_step.specs.Stepping.{Steps, end_of, is_unfinished, trail_after}
 use Rattle.teco_step.specs.Terminal.{Screen, Shows}
 use Rattle.teco_step.proofs.Ends.{MayEnd}
@@ -29,15 +29,15 @@ finished n t load is = ap (λ b. elim b as (λ _. Trail) [ true ↦ t | false �
 
 module _ (inside : Bool) (name : List ℕ) (old new : Moment) where
   -- the step of what is meant
-  abbrev pub meant : Tried → Step
-  meant tried = settled old.state old.arguments tried
+  abbrev pub meant : Attempt → Step
+  meant attempt = settled old.state old.arguments attempt
 
-  acts_steps : (tried : Tried) (F G : Trail → Type 0) (r : Result Next Failure) (f : Action) → tried ≡ done_by f old.state old.arguments → MayEnd inside name (meant tried).end
-      → new.screen ≡ old.screen → Acts f old.state new.state old.arguments new.arguments F G r → Steps (meant tried) name old new (next_of r)
-  acts_steps tried F G (Ok n) f is may same m =
+  acts_steps : (attempt : Attempt) (F G : Trail → Type 0) (r : Result Next Failure) (f : Action) → attempt ≡ done_by f old.state old.arguments → MayEnd inside name (meant attempt).end
+      → new.screen ≡ old.screen → Acts f old.state new.state old.arguments new.arguments F G r → Steps (meant attempt) name old new (next_of r)
+  acts_steps attempt F G (Ok n) f is may same m =
       let e = is ∙ m.step in
-      let may_here = subst (λ (u : Tried). MayEnd inside name (meant u).end) e may in
-      subst (λ (u : Tried). Steps (meant u) name old new n) (sym e)
+      let may_here = subst (λ (u : Attempt). MayEnd inside name (meant u).end) e may in
+      subst (λ (u : Attempt). Steps (meant u) name old new n) (sym e)
       (inl (record {
         state = refl;
         arguments = refl;
@@ -45,31 +45,31 @@ module _ (inside : Bool) (name : List ℕ) (old new : Moment) where
         finished = m.finished;
         shows = still_shows old.screen new.screen same;
       }))
-  acts_steps tried F G (Err h) f is may same u =
+  acts_steps attempt F G (Err h) f is may same u =
       elim u.why [
         | inl r ↦
-            subst (λ (g : Failure). Steps (meant tried) name old new (next.Error (code_of g))) (sym r.is)
-            (subst (λ (t : Tried). Steps (meant t) name old new (next.Error r.code)) (sym (is ∙ r.refused))
+            subst (λ (g : Failure). Steps (meant attempt) name old new (next.Error (code_of_failure g))) (sym r.is)
+            (subst (λ (t : Attempt). Steps (meant t) name old new (next.Error r.code)) (sym (is ∙ r.refused))
             (inl (record { state = u.state; arguments = u.arguments; end = refl; finished = r.own; shows = still_shows old.screen new.screen same })))
         | inr memory ↦
-            inr (inl (record { code = ap (λ (g : Failure). next.Error (code_of g)) memory; state = u.state; arguments = u.arguments; shows = still_shows old.screen new.screen same }))
+            inr (inl (record { code = ap (λ (g : Failure). next.Error (code_of_failure g)) memory; state = u.state; arguments = u.arguments; shows = still_shows old.screen new.screen same }))
       ]
 
-  types_steps : (tried : Tried) (r : Result Next Failure) (f : Action) → tried ≡ done_by f old.state old.arguments → new.state ≡ old.state
-      → Types f old.state old.arguments new.arguments old.screen new.screen r → Steps (meant tried) name old new (next_of r)
-  types_steps tried (Ok n) f is same m =
-      subst (λ (k : Next). Steps (meant tried) name old new k) (sym m.goes_on)
-      (subst (λ (u : Tried). Steps (meant u) name old new next.On) (sym (is ∙ m.step))
+  types_steps : (attempt : Attempt) (r : Result Next Failure) (f : Action) → attempt ≡ done_by f old.state old.arguments → new.state ≡ old.state
+      → Types f old.state old.arguments new.arguments old.screen new.screen r → Steps (meant attempt) name old new (next_of r)
+  types_steps attempt (Ok n) f is same m =
+      subst (λ (k : Next). Steps (meant attempt) name old new k) (sym m.goes_on)
+      (subst (λ (u : Attempt). Steps (meant u) name old new next.On) (sym (is ∙ m.step))
       (inl (record { state = same; arguments = m.arguments; end = refl; finished = refl; shows = m.shows })))
-  types_steps tried (Err h) f is same (inl u) =
+  types_steps attempt (Err h) f is same (inl u) =
       let r = u.why in
-      subst (λ (g : Failure). Steps (meant tried) name old new (next.Error (code_of g))) (sym r.is)
-      (subst (λ (t : Tried). Steps (meant t) name old new (next.Error r.code)) (sym (is ∙ r.refused))
+      subst (λ (g : Failure). Steps (meant attempt) name old new (next.Error (code_of_failure g))) (sym r.is)
+      (subst (λ (t : Attempt). Steps (meant t) name old new (next.Error r.code)) (sym (is ∙ r.refused))
       (inl (record { state = same; arguments = u.arguments; end = refl; finished = r.own; shows = still_shows old.screen new.screen u.screen })))
-  types_steps tried (Err h) f is same (inr u) =
-      subst (λ (t : Tried). Steps (meant t) name old new (next.Error (code_of h))) (sym (is ∙ u.step))
+  types_steps attempt (Err h) f is same (inr u) =
+      subst (λ (t : Attempt). Steps (meant t) name old new (next.Error (code_of_failure h))) (sym (is ∙ u.step))
       (inr (inr (record {
-        code = ap (λ (g : Failure). next.Error (code_of g)) u.is;
+        code = ap (λ (g : Failure). next.Error (code_of_failure g)) u.is;
         state = same;
         arguments = u.arguments;
         types = u.some;
@@ -87,26 +87,26 @@ module _ (inside : Bool) (name : List ℕ) (old new : Moment) where
   carries_on F G load (inl moves) eases t h = moves t h
   carries_on F G load (inr none) eases t h = subst (λ n. G (moved t n)) (sym none.0) (eases t (none.1 t h))
 
-  refusal_follows : (tried : Tried) (G : Trail → Type 0) (h : Failure) → IsRefusal h tried → ((t : Trail) → G t → G (moved t 0))
-      → (t : Trail) → G t → G (trail_after (next.Error (code_of h)) t (meant tried).load)
-  refusal_follows tried G h r eases t g =
-      subst (λ (k : Failure). G (trail_after (next.Error (code_of k)) t (meant tried).load)) (sym r.is)
-      (subst (λ (k : Tried). G (trail_after (next.Error r.code) t (meant k).load)) (sym r.refused)
+  refusal_follows : (attempt : Attempt) (G : Trail → Type 0) (h : Failure) → IsRefusal h attempt → ((t : Trail) → G t → G (moved t 0))
+      → (t : Trail) → G t → G (trail_after (next.Error (code_of_failure h)) t (meant attempt).load)
+  refusal_follows attempt G h r eases t g =
+      subst (λ (k : Failure). G (trail_after (next.Error (code_of_failure k)) t (meant attempt).load)) (sym r.is)
+      (subst (λ (k : Attempt). G (trail_after (next.Error r.code) t (meant k).load)) (sym r.refused)
       (subst G (sym (finished (next.Error r.code) t 0 r.own)) (eases t g)))
 
   pub does_follows : (f : Action) (F G : Trail → Type 0) (r : Result Next Failure) → Does f old new F G r → ((t : Trail) → G t → G (moved t 0))
       → (t : Trail) → F t → G (trail_after (next_of r) t (meant (done_by f old.state old.arguments)).load)
   does_follows f F G (Ok n) (inl (same, m)) eases t h =
-      subst (λ (u : Tried). G (trail_after n t (meant u).load)) (sym m.step) (subst G (sym (finished n t m.load m.finished)) (carries_on F G m.load m.carries eases t h))
+      subst (λ (u : Attempt). G (trail_after n t (meant u).load)) (sym m.step) (subst G (sym (finished n t m.load m.finished)) (carries_on F G m.load m.carries eases t h))
   does_follows f F G (Err e) (inl (same, u)) eases t h =
       elim u.why [
         | inl r ↦ refusal_follows (done_by f old.state old.arguments) G e r eases t (u.follows t h)
         | inr memory ↦
-            subst (λ (g : Failure). G (trail_after (next.Error (code_of g)) t (meant (done_by f old.state old.arguments)).load)) (sym memory) (u.follows t h)
+            subst (λ (g : Failure). G (trail_after (next.Error (code_of_failure g)) t (meant (done_by f old.state old.arguments)).load)) (sym memory) (u.follows t h)
       ]
   does_follows f F G (Ok n) (inr (same, keeps, m)) eases t h =
       subst (λ (k : Next). G (trail_after k t (meant (done_by f old.state old.arguments)).load)) (sym m.goes_on)
-      (subst (λ (u : Tried). G (moved t (meant u).load)) (sym m.step) (eases t (keeps t h)))
+      (subst (λ (u : Attempt). G (moved t (meant u).load)) (sym m.step) (eases t (keeps t h)))
   does_follows f F G (Err e) (inr (same, keeps, inl u)) eases t h = refusal_follows (done_by f old.state old.arguments) G e u.why eases t (keeps t h)
   does_follows f F G (Err e) (inr (same, keeps, inr u)) eases t h =
-      subst (λ (g : Failure). G (trail_after (next.Error (code_of g)) t (meant (done_by f old.state old.arguments)).load)) (sym u.is) (keeps t h)
+      subst (λ (g : Failure). G (trail_after (next.Error (code_of_failure g)) t (meant (done_by f old.state old.arguments)).load)) (sym u.is) (keeps t h)
