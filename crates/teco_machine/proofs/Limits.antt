@@ -5,10 +5,9 @@ use Rattle.teco_core.specs.declared.code.Code.{Code}
 use Rattle.teco_core.specs.declared.code.Code.TheVariants.{Lim}
 use Rattle.teco_store.specs.State.{State}
 use Rattle.teco_machine.specs.StringMeaning.{Meant, string_meaning}
-use Rattle.teco_scan.specs.ListLaws.{BlockLaws}
 use Rattle.teco_machine.specs.Machine.{Config, Machine, runs, Ready, step, block, finished, Final, final, arrives, pays, unpaid, paid, run_within, exec, start_config, Now, now_of}
 use Rattle.teco_machine.specs.Laws.{StepsWithinLimit, MoreLimitChangesNothing, EnoughIsEnough, ZeroLimitChangesNothing}
-use Rattle.teco_machine.proofs.Following.{machine_means, machine_follows}
+use Rattle.teco_machine.specs.MachineLaws.{MachineMeans, MachineFollows}
 
 abbrev raised : ℕ → Final → Final
 raised j f = record f { fuel = f.fuel + j }
@@ -66,18 +65,18 @@ meant_raised n k j f e le =
     let steps : k - (f.fuel + j) ≡ n - f.fuel = omega arith in
     ap (λ x. let m : Meant = record { state = f.state; typed = f.typed; code = f.code; steps = x; load = f.load } in m) steps
 
-module _ (laws : BlockLaws) (s : State) (text : List ℕ) where
+module _ (means : MachineMeans) (s : State) (text : List ℕ) where
   abbrev start : Machine
   start = runs (start_config s text)
 
   -- The string ends by LIM under a limit, or does the same under more.
   more : (j n k : ℕ) (g : Final) → run_within k start ≡ g → k ≡ n + j → Raises j (run_within n start) g → (((string_meaning s text n).code ≡ Some Lim) × (g.fuel < j)) ⊎ (string_meaning s text k ≡ string_meaning s text n)
-  more j n k g is e (same f) = inr (sym (machine_means laws s text k) ∙ ap (meant_by k) (is ∙ f) ∙ meant_raised n k j (run_within n start) e (falls n start) ∙ machine_means laws s text n)
-  more j n k g is e (spent lim none less) = inl (ap (λ (m : Meant). m.code) (sym (machine_means laws s text n)) ∙ lim, less)
+  more j n k g is e (same f) = inr (sym (means s text k) ∙ ap (meant_by k) (is ∙ f) ∙ meant_raised n k j (run_within n start) e (falls n start) ∙ means s text n)
+  more j n k g is e (spent lim none less) = inl (ap (λ (m : Meant). m.code) (sym (means s text n)) ∙ lim, less)
 
 -- More limit changes nothing once the string has ended.
-pub more_limit : BlockLaws → MoreLimitChangesNothing
-more_limit laws s text n j ended = by (more laws s text j n (n + j) _ refl refl (run_raises j n (n + j) (runs (start_config s text)) refl))
+pub more_limit : MachineMeans → MoreLimitChangesNothing
+more_limit means s text n j ended = by (more means s text j n (n + j) _ refl refl (run_raises j n (n + j) (runs (start_config s text)) refl))
   where
     by : (((string_meaning s text n).code ≡ Some Lim) × ((run_within (n + j) (runs (start_config s text))).fuel < j)) ⊎ (string_meaning s text (n + j) ≡ string_meaning s text n) → string_meaning s text (n + j) ≡ string_meaning s text n
     by (inl h) = absurd (ended h.0)
@@ -88,12 +87,12 @@ pub within_limit : StepsWithinLimit
 within_limit s text n = omega arith
 
 -- With as many steps as a string took it is the same.
-pub same_again : BlockLaws → EnoughIsEnough
-same_again laws s text n =
+pub same_again : MachineMeans → EnoughIsEnough
+same_again means s text n =
     let f : Final = run_within n (runs (start_config s text)) in
     let all : n ≡ (n - f.fuel) + f.fuel = omega (arith, falls n (runs (start_config s text))) in
-    let took : (string_meaning s text n).steps ≡ n - f.fuel = ap (λ (m : Meant). m.steps) (sym (machine_means laws s text n)) in
-    ap (string_meaning s text) took ∙ by (n - f.fuel) (more laws s text f.fuel (n - f.fuel) n f refl all (run_raises f.fuel (n - f.fuel) n (runs (start_config s text)) all))
+    let took : (string_meaning s text n).steps ≡ n - f.fuel = ap (λ (m : Meant). m.steps) (sym (means s text n)) in
+    ap (string_meaning s text) took ∙ by (n - f.fuel) (more means s text f.fuel (n - f.fuel) n f refl all (run_raises f.fuel (n - f.fuel) n (runs (start_config s text)) all))
   where
     by : (k : ℕ) → (let f : Final = run_within n (runs (start_config s text)) in (((string_meaning s text k).code ≡ Some Lim) × (f.fuel < f.fuel)) ⊎ (string_meaning s text n ≡ string_meaning s text k)) → string_meaning s text k ≡ string_meaning s text n
     by k (inl h) = absurd (omega arith)
@@ -103,8 +102,8 @@ abbrev now_meant : Meant → Now
 now_meant m = record { state = m.state; typed = m.typed; load = m.load }
 
 -- Under limit 0 nothing changes.
-pub limit_zero : BlockLaws → ZeroLimitChangesNothing
+pub limit_zero : MachineFollows → ZeroLimitChangesNothing
 unfolding exec
-limit_zero laws s text =
-    let now : now_of (runs (start_config s text)) ≡ now_meant (string_meaning s text 0) = machine_follows laws s text 0 in
+limit_zero follows s text =
+    let now : now_of (runs (start_config s text)) ≡ now_meant (string_meaning s text 0) = follows s text 0 in
     record { state = sym (ap (λ (x : Now). x.state) now); typed = sym (ap (λ (x : Now). x.typed) now); load = sym (ap (λ (x : Now). x.load) now); steps = omega arith }

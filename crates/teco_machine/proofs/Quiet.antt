@@ -1,19 +1,19 @@
 -- A text of values and arithmetic alone comes to nothing but these.
-use Rattle.std.proofs.Common.{◌≡◌, ℕ, zero, suc, Bool, true, false, List, [], ◌∷◌, Option, Some, None, Ok, Err, refl, subst}
-use Rattle.std.specs.Prelude.{◌&&◌}
+use Rattle.std.proofs.Common.{◌≡◌, ℕ, zero, suc, Bool, true, false, List, [], ◌∷◌, Option, Some, None, Ok, Err, inl, inr, refl, ap, subst}
+use Rattle.std.specs.Prelude.{◌&&◌, ◌⊎◌}
+use Rattle.teco_core.specs.declared.code.Code.{Code}
 use Rattle.teco_core.specs.Arguments.{Arguments}
 use Rattle.teco_scan.specs.declared.command.BlockMark.TheVariants.{Iterate}
-use Rattle.teco_scan.specs.declared.command.Bare.TheVariants as bare
 use Rattle.teco_scan.specs.declared.command.Modifiers.{Modifiers}
-use Rattle.teco_scan.specs.declared.command.RegisterCommand.TheVariants as register_command
 use Rattle.teco_scan.specs.ListLaws.{BlockLaws}
 use Rattle.teco_scan.specs.Lists.{Listed, at_scan, at_instruction, list_at}
 use Rattle.teco_scan.specs.Scan.{Item, Instruction, Scanned, found, ended, fault, scan}
 use Rattle.teco_scan.specs.Scan as token
 use Rattle.teco_store.specs.State.{State}
 use Rattle.teco_step.specs.declared.next.Setting.{Setting}
-use Rattle.teco_step.specs.Effect.{effect, item_effect}
-use Rattle.teco_step.specs.Step.{End, on, out, stop, Made, goes_on, done_by, settled}
+use Rattle.teco_step.specs.Effect.{effect}
+use Rattle.teco_step.specs.Laws.{ValueGoesOn}
+use Rattle.teco_step.specs.Step.{End, on, out, stop}
 use Rattle.teco_step.specs.Stepping.{takes_nothing}
 use Rattle.teco_machine.specs.Machine.{Frame, Cursor, Caller, Coming, moved, comes, at_block, ends, breaks, pass_instruction, pass_scanned, pass, Further, Config, Machine, runs, halts, Ready, step, block, finished, setting_of, resumed, returned, coming, arriving, arrives_within, weight, arrives, pays, exec, start_config}
 use Rattle.teco_machine.specs.Quiet.{takes_no_memory, is_plain, IsQuiet, QuietComing, ArrivesQuietly, QuietTextsArriveQuietly}
@@ -43,22 +43,13 @@ scanned_quiet s c none e = by c.blocks none s e
 pub pass_quiet : BlockLaws → (c : Cursor) → IsQuiet c → QuietComing (pass c)
 pass_quiet laws c q = scanned_quiet (scan c.left) c q.blocks (subst (λ (l : Listed). takes_no_memory l.0 ≡ true) (laws.list_unrolls None 0 c.left) q.left)
 
--- Values and arithmetic: the string goes on, or it ends there.
-made_plain : (s : State) (a : Arguments) (m : Made) → is_plain (settled s a (goes_on m)).end ≡ true
-made_plain s a (Ok c) = refl
-made_plain s a (Err c) = refl
-
-item_plain : (i : Item) (w : Setting) (s : State) (a : Arguments) → takes_nothing i ≡ true → is_plain (settled s a (done_by (item_effect i w) s a)).end ≡ true
-item_plain (token.digits ds) w s a e = made_plain s a _
-item_plain (token.bare (bare.Quantity q)) w s a e = made_plain s a _
-item_plain (token.bare (bare.Arithmetic b)) w s a e = made_plain s a _
-item_plain (token.register register_command.Number q) w s a e = made_plain s a _
-item_plain (token.byte b) w s a e = refl
-item_plain i w s a e = absurd cc
-
-pub value_effect_is_plain : (i : Item) (w : Setting) (s : State) (a : Arguments) → takes_nothing i ≡ true → is_plain (effect i w s a).end ≡ true
-unfolding effect
-value_effect_is_plain i w s a e = item_plain i w s a e
+-- After such a step the string goes on, or it ends there.
+plain_effect : ValueGoesOn → (i : Item) (w : Setting) (s : State) (a : Arguments) → takes_nothing i ≡ true → is_plain (effect i w s a).end ≡ true
+plain_effect values i w s a e = by (values i w s a e)
+  where
+    by : ((effect i w s a).end ≡ on) ⊎ ((c : Code) × ((effect i w s a).end ≡ stop c)) → is_plain (effect i w s a).end ≡ true
+    by (inl is) = ap is_plain is
+    by (inr r) = ap is_plain r.1
 
 -- the run
 record IsQuietIn (c : Config) : Type 0 where
@@ -104,22 +95,22 @@ resumed_quiet m i out c p q = tt
 resumed_quiet m i (stop e) c p q = tt
 resumed_quiet m i e c p q = absurd cc
 
-pays_quiet : (r : Ready) → QuietReady r → QuietMachine (pays r)
-pays_quiet (step m i work c) q =
-    resumed_quiet m i (effect i (setting_of m work c.at) c.state c.at.args).end _ (value_effect_is_plain i (setting_of m work c.at) c.state c.at.args q.0)
+pays_quiet : ValueGoesOn → (r : Ready) → QuietReady r → QuietMachine (pays r)
+pays_quiet values (step m i work c) q =
+    resumed_quiet m i (effect i (setting_of m work c.at) c.state c.at.args).end _ (plain_effect values i (setting_of m work c.at) c.state c.at.args q.0)
     (record { at = record { blocks = q.1.blocks; left = q.1.left }; callers = q.2; further = refl })
-pays_quiet (block b bs c) q = absurd q
-pays_quiet (finished c e) q = tt
+pays_quiet values (block b bs c) q = absurd q
+pays_quiet values (finished c e) q = tt
 
-exec_quiet : BlockLaws → (n : ℕ) (m : Machine) → QuietMachine m → QuietReady (arrives (exec n m))
+exec_quiet : BlockLaws → ValueGoesOn → (n : ℕ) (m : Machine) → QuietMachine m → QuietReady (arrives (exec n m))
 unfolding exec arrives
-exec_quiet laws zero m q = arrives_quiet laws (suc (weight m)) m q
-exec_quiet laws (suc n) m q = exec_quiet laws n (pays (arrives m)) (pays_quiet (arrives m) (arrives_quiet laws (suc (weight m)) m q))
+exec_quiet laws values zero m q = arrives_quiet laws (suc (weight m)) m q
+exec_quiet laws values (suc n) m q = exec_quiet laws values n (pays (arrives m)) (pays_quiet values (arrives m) (arrives_quiet laws (suc (weight m)) m q))
 
 quietly : (r : Ready) → QuietReady r → ArrivesQuietly r
 quietly (step m i work c) q = q.0
 quietly (block b bs c) q = q
 quietly (finished c e) q = tt
 
-pub quiet_texts : BlockLaws → QuietTextsArriveQuietly
-quiet_texts laws s text k e = quietly (arrives (exec k (runs (start_config s text)))) (exec_quiet laws k (runs (start_config s text)) (record { at = record { blocks = refl; left = e }; callers = refl; further = refl }))
+pub quiet_texts : BlockLaws → ValueGoesOn → QuietTextsArriveQuietly
+quiet_texts laws values s text k e = quietly (arrives (exec k (runs (start_config s text)))) (exec_quiet laws values k (runs (start_config s text)) (record { at = record { blocks = refl; left = e }; callers = refl; further = refl }))

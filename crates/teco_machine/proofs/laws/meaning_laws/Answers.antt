@@ -24,7 +24,7 @@ returns c = record {
   leaving = sentences.leaving;
   conditional = sentences.conditional;
   within_limit = within_limit;
-  more_limit = more_limit c.block_laws.ensures;
-  enough = same_again c.block_laws.ensures;
-  limit_zero = limit_zero c.block_laws.ensures;
+  more_limit = more_limit c.machine_laws.ensures.means;
+  enough = same_again c.machine_laws.ensures.means;
+  limit_zero = limit_zero c.machine_laws.ensures.follows;
 }
