@@ -14,7 +14,7 @@ use Rattle.teco_scan.specs.declared.blocks.Kind.TheVariants.{Iter, Then, Else}
 use Rattle.teco_scan.specs.declared.command.BlockMark.TheVariants.{Iterate, EndIteration, Otherwise, EndTest}
 use Rattle.teco_scan.specs.declared.command.Test.{Test}
 use Rattle.teco_scan.specs.ListLaws.{BlockLaws}
-use Rattle.teco_scan.specs.Lists.{Close, closed, broken, Past, past, second, behind_block, list_at, tag_at}
+use Rattle.teco_scan.specs.Lists.{Close, closed, broken, Past, past, Listed, second, behind_block, list_at, tag_at}
 use Rattle.teco_scan.specs.Scan.{Instruction, Scanned, found, ended, fault, scan}
 use Rattle.teco_scan.specs.Scan as token
 use Rattle.teco_scan.specs.Tree.{is_fault}
@@ -24,6 +24,7 @@ use Rattle.teco_machine.specs.Test.{holds}
 use Rattle.teco_machine.specs.Meaning.{turns_of}
 use Rattle.teco_machine.specs.Machine.{BlockStep, Frame, Cursor, Moved, Coming, moved, comes, at_block, ends, breaks, closes, passing, skipped, pass_scanned, pass_instruction, pass, turn_ends, divides, part_ends, iterates, ends_turn, decides, counted, iterated, end_turn, second_part, decided, block_step, leaving, left_block, landed, jumping}
 use Rattle.teco_machine.specs.Machine as machine
+use Rattle.teco_machine.proofs.Passing.{Passes, faults, part_faults, passes}
 
 -- what is refused is refused by another code
 abbrev pub Fin : {A : Type 0} → Result A Code → Type 0
@@ -139,37 +140,14 @@ module _ (laws : BlockLaws) where
   block_step_fin ends_turn bs c = end_turn_fin bs c.args c.left c.blocks
   block_step_fin (decides t) bs c = decided_fin t (takes_one Naq c.args) bs c (then_fin (taken_from c.args) (just_one Naq) (taken_fin c.args) one_fin)
 
-  -- passing
-  passing_fin : (m : Moved) → Fin m → FinComing (passing m)
-  passing_fin (Ok c) f = tt
-  passing_fin (Err e) f = f
+-- passing
+passed_fin : {c : Cursor} {l : Listed} {k : Coming} → Passes c l k → FinComing k
+passed_fin (faults c e f) = fault_fin e f
+passed_fin (part_faults a left b outer l e part is f) = fault_fin e f
+passed_fin p = tt
 
-  open_fin : (b : Bool) (o : BlockStep) (bs : List ℕ) → FinComing (if b then breaks Pdo else at_block o bs)
-  open_fin true o bs = refl
-  open_fin false o bs = tt
-
-  marks_fin : (bs : List ℕ) (b : Frame) (outer : List Frame) (k : Kind) → (let blocks : List Frame = record b { kind = k } ∷ outer in FinComing (turn_ends bs blocks) × FinComing (divides bs blocks) × FinComing (part_ends bs blocks))
-  marks_fin bs b outer Iter = (tt, refl, refl)
-  marks_fin bs b outer Then = let p : Past = past (list_at (Some Else) (suc (length outer)) bs).1 in (refl, passing_fin (skipped p (closes bs outer)) (skip_fin p (closes bs outer) (list_fin (Some Else) (suc (length outer)) bs)), tt)
-  marks_fin bs b outer Else = (refl, refl, tt)
-
-  scanned_fin : (a : Arguments) (left : List ℕ) (s : Scanned) (blocks : List Frame) → ((c : Code) → s ≡ fault c → is_fault c ≡ true) → FinComing (pass_scanned s (record { args = a; left = left; blocks = blocks }))
-  scanned_fin a left ended [] f = tt
-  scanned_fin a left ended (b ∷ bs) f = refl
-  scanned_fin a left (fault c) blocks f = fault_fin c (f c refl)
-  scanned_fin a left (found t bs) blocks f = by t.instruction blocks
-    where
-      by : (i : Instruction) (blocks : List Frame) → FinComing (pass_instruction t.modifiers i bs (record { args = a; left = left; blocks = blocks }))
-      by (token.mark Iterate) blocks = open_fin (length blocks == 64) iterates bs
-      by (token.mark m) [] = refl
-      by (token.mark EndIteration) (b ∷ outer) = (marks_fin bs b outer b.kind).0
-      by (token.mark Otherwise) (b ∷ outer) = (marks_fin bs b outer b.kind).1
-      by (token.mark EndTest) (b ∷ outer) = (marks_fin bs b outer b.kind).2
-      by (token.decide t) blocks = open_fin (length blocks == 64) (decides t) bs
-      by i blocks = tt
-
-  pub pass_fin : (c : Cursor) → FinComing (pass c)
-  pass_fin c = scanned_fin c.args c.left (scan c.left) c.blocks (laws.scan_faults c.left)
+pub pass_fin : BlockLaws → (c : Cursor) → FinComing (pass c)
+pass_fin laws c = passed_fin (passes laws c)
 
 -- a jump
 pub jumping_fin : (name text : List ℕ) (blocks : List Frame) (a : Arguments) → Fin (jumping name text blocks a)

@@ -47,10 +47,10 @@ opened false c l o bs h = h
 
 module _ (laws : BlockLaws) (a : Arguments) (left : List ℕ) where
   -- a first part ends, and the second, whose list closes so, is passed over
-  divided : (b : Frame) (outer : List Frame) (bs : List ℕ) (l : Close) → length bs < length left → b.kind ≡ Then → behind_block list_at b.kind (suc (length outer)) (closed true bs) ≡ past l
+  divided : (b : Frame) (outer : List Frame) (bs : List ℕ) (l : Close) → length bs < length left → IsPart b.kind → behind_block list_at b.kind (suc (length outer)) (closed true bs) ≡ past l
       → Within (length bs) l → ((e : Code) → l ≡ broken e → is_fault e ≡ true) → Passes (at a left (b ∷ outer)) (done, closed true bs) (passing (skipped (past l) (closes bs outer)))
-  divided b outer bs (closed d more) lt k is within faulty = part_ends a left b outer (closed true bs) more (subst IsPart (sym k) tt) is (omega arith)
-  divided b outer bs (broken e) lt k is within faulty = part_faults a left b outer (closed true bs) e (subst IsPart (sym k) tt) is (faulty e refl)
+  divided b outer bs (closed d more) lt part is within faulty = part_ends a left b outer (closed true bs) more part is (omega arith)
+  divided b outer bs (broken e) lt part is within faulty = part_faults a left b outer (closed true bs) e part is (faulty e refl)
 
   marked : (m : BlockMark) (bs : List ℕ) (blocks : List Frame) → length bs < length left → Passes (at a left blocks) (at_mark list_at m bs (kind_of blocks) (length blocks)) (pass_mark m bs (at a left blocks))
   marked Iterate bs blocks lt = opened (length blocks == 64) (at a left blocks) _ iterates bs (iteration_opens (at a left blocks) bs)
@@ -62,7 +62,7 @@ module _ (laws : BlockLaws) (a : Arguments) (left : List ℕ) where
       by Iterate k = let c : Cursor = at a left (record b { kind = k } ∷ outer) in opened (suc (length outer) == 64) c _ iterates bs (iteration_opens c bs)
       by EndIteration Iter = turn_ends a left b.start b.left outer bs
       by EndIteration k = faults _ Bni refl
-      by Otherwise Then = let d : ℕ = suc (length outer) in divided (record b { kind = Then }) outer bs (list_at (Some Else) d bs).1 lt refl refl (laws.list_shortens (Some Else) d bs) (laws.list_faults (Some Else) d bs)
+      by Otherwise Then = let d : ℕ = suc (length outer) in divided (record b { kind = Then }) outer bs (list_at (Some Else) d bs).1 lt tt refl (laws.list_shortens (Some Else) d bs) (laws.list_faults (Some Else) d bs)
       by EndTest Then = part_ends a left (record b { kind = Then }) outer (closed false bs) bs tt refl lt
       by EndTest Else = part_ends a left (record b { kind = Else }) outer (closed false bs) bs tt refl lt
       by m k = faults _ Ill refl

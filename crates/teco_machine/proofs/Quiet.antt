@@ -1,8 +1,8 @@
 -- A text of values and arithmetic alone comes to nothing but these.
-use Rattle.std.proofs.Common.{◌≡◌, ℕ, zero, suc, Bool, true, false, List, [], ◌∷◌, Option, Some, None, Ok, Err, inl, inr, refl, ap, subst}
+use Rattle.std.proofs.Common.{◌≡◌, ℕ, zero, suc, Bool, true, false, List, [], ◌∷◌, Option, Some, None, Ok, Err, inl, inr, refl, sym, ap, subst}
 use Rattle.std.specs.Prelude.{◌&&◌, ◌⊎◌}
 use Rattle.teco_core.specs.declared.code.Code.{Code}
-use Rattle.teco_core.specs.Arguments.{Arguments}
+use Rattle.teco_core.specs.Arguments.{Arguments, no_arguments}
 use Rattle.teco_scan.specs.declared.command.BlockMark.TheVariants.{Iterate}
 use Rattle.teco_scan.specs.declared.command.Modifiers.{Modifiers}
 use Rattle.teco_scan.specs.ListLaws.{BlockLaws}
@@ -16,6 +16,8 @@ use Rattle.teco_step.specs.Laws.{ValueGoesOn}
 use Rattle.teco_step.specs.Step.{End, on, out, stop}
 use Rattle.teco_step.specs.Stepping.{takes_nothing}
 use Rattle.teco_machine.specs.Machine.{Frame, Cursor, Caller, Coming, moved, comes, at_block, ends, breaks, pass_instruction, pass_scanned, pass, Further, Config, Machine, runs, halts, Ready, step, block, finished, setting_of, resumed, returned, coming, arriving, arrives_within, weight, arrives, pays, exec, start_config}
+use Rattle.teco_machine.proofs.Denoting.{here}
+use Rattle.teco_machine.proofs.Passing.{Passes, item_comes, tag_passes, escape_passes, iteration_opens, conditional_opens, turn_ends, part_ends, passes}
 use Rattle.teco_machine.specs.Quiet.{takes_no_memory, is_plain, IsQuiet, QuietComing, ArrivesQuietly, QuietTextsArriveQuietly}
 
 both : (a b : Bool) → (a && b) ≡ true → (a ≡ true) × (b ≡ true)
@@ -23,25 +25,21 @@ both true b e = (refl, e)
 both false b e = absurd cc
 
 -- passing
-scanned_quiet : (s : Scanned) (c : Cursor) → c.blocks ≡ [] → takes_no_memory (at_scan list_at s None 0).0 ≡ true → QuietComing (pass_scanned s c)
-scanned_quiet s c none e = by c.blocks none s e
-  where
-    instruction : (m : Modifiers) (i : Instruction) (bs : List ℕ) → takes_no_memory (at_instruction list_at i m bs None 0).0 ≡ true → QuietComing (pass_instruction m i bs (record c { blocks = [] }))
-    instruction m (token.step i) bs e = let b = both (takes_nothing i) _ e in (b.0, record { blocks = refl; left = b.1 })
-    instruction m (token.mark Iterate) bs e = absurd cc
-    instruction m (token.mark b) bs e = tt
-    instruction m (token.decide t) bs e = absurd cc
-    instruction m (token.tag name) bs e = absurd cc
-    instruction m token.escape bs e = record { blocks = refl; left = e }
+quiet_here : (c : Cursor) (bs : List ℕ) (a : Arguments) → c.blocks ≡ [] → takes_no_memory (here c.blocks bs).0 ≡ true → IsQuiet (record c { args = a; left = bs })
+quiet_here c bs a none e = record { blocks = none; left = subst (λ (blocks : List Frame). takes_no_memory (here blocks bs).0 ≡ true) none e }
 
-    by : (blocks : List Frame) → blocks ≡ [] → (s : Scanned) → takes_no_memory (at_scan list_at s None 0).0 ≡ true → QuietComing (pass_scanned s (record c { blocks = blocks }))
-    by (b ∷ bs) none s e = absurd cc
-    by [] none ended e = tt
-    by [] none (fault x) e = tt
-    by [] none (found t bs) e = instruction t.modifiers t.instruction bs e
+quiet : {c : Cursor} {l : Listed} {k : Coming} → Passes c l k → c.blocks ≡ [] → takes_no_memory l.0 ≡ true → QuietComing k
+quiet (item_comes c m i bs) none e = let b = both (takes_nothing i) _ e in (b.0, quiet_here c bs c.args none b.1)
+quiet (tag_passes c name bs lt) none e = absurd cc
+quiet (escape_passes c bs lt) none e = quiet_here c bs no_arguments none e
+quiet (iteration_opens c bs) none e = absurd cc
+quiet (conditional_opens c t bs) none e = absurd cc
+quiet (turn_ends a left start turns outer bs) none e = absurd cc
+quiet (part_ends a left b outer l bs part is lt) none e = absurd cc
+quiet p none e = tt
 
 pub pass_quiet : BlockLaws → (c : Cursor) → IsQuiet c → QuietComing (pass c)
-pass_quiet laws c q = scanned_quiet (scan c.left) c q.blocks (subst (λ (l : Listed). takes_no_memory l.0 ≡ true) (laws.list_unrolls None 0 c.left) q.left)
+pass_quiet laws c q = quiet (passes laws c) q.blocks (subst (λ (blocks : List Frame). takes_no_memory (here blocks c.left).0 ≡ true) (sym q.blocks) q.left)
 
 -- After such a step the string goes on, or it ends there.
 plain_effect : ValueGoesOn → (i : Item) (w : Setting) (s : State) (a : Arguments) → takes_nothing i ≡ true → is_plain (effect i w s a).end ≡ true
