@@ -1,22 +1,19 @@
 -- No move of the machine ends for want of memory or by a failed terminal.
 use Rattle.std.proofs.Common.{◌≡◌, ℕ, zero, suc, Bool, true, false, List, [], ◌∷◌, length, Option, Some, None, Result, Ok, Err, refl}
-use Rattle.std.specs.Prelude.{◌==◌, ℤ, if◌then◌else◌}
+use Rattle.std.specs.Prelude.{ℤ, if◌then◌else◌}
 use Rattle.teco_core.specs.declared.arguments.Expression.{Expression}
 use Rattle.teco_core.specs.declared.arguments.Expression.TheVariants.{Operation}
 use Rattle.teco_core.specs.declared.arguments.Taken.{Taken}
 use Rattle.teco_core.specs.declared.arguments.Taken.TheVariants as taken
 use Rattle.teco_core.specs.declared.code.Code.{Code}
-use Rattle.teco_core.specs.declared.code.Code.TheVariants.{Mem, Naq, Pdo, Tag, Tty}
+use Rattle.teco_core.specs.declared.code.Code.TheVariants.{Mem, Naq, Tag, Tty}
 use Rattle.teco_core.specs.Arguments.{Arguments, no_arguments, ground_value, with_first, taken_on, taken_from}
 use Rattle.teco_core.specs.Refusal.{◌>>=◌}
 use Rattle.teco_scan.specs.declared.blocks.Kind.{Kind}
 use Rattle.teco_scan.specs.declared.blocks.Kind.TheVariants.{Iter, Then, Else}
-use Rattle.teco_scan.specs.declared.command.BlockMark.TheVariants.{Iterate, EndIteration, Otherwise, EndTest}
 use Rattle.teco_scan.specs.declared.command.Test.{Test}
 use Rattle.teco_scan.specs.ListLaws.{BlockLaws}
 use Rattle.teco_scan.specs.Lists.{Close, closed, broken, Past, past, Listed, second, behind_block, list_at, tag_at}
-use Rattle.teco_scan.specs.Scan.{Instruction, Scanned, found, ended, fault, scan}
-use Rattle.teco_scan.specs.Scan as token
 use Rattle.teco_scan.specs.Tree.{is_fault}
 use Rattle.teco_step.specs.Step.{just_one, takes_one}
 use Rattle.teco_step.specs.Stepping.{is_unfinished_code}

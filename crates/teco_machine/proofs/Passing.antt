@@ -1,5 +1,5 @@
 -- What a cursor passes, told once: the list from there on, and what comes.
-use Rattle.std.proofs.Common.{◌≡◌, ℕ, suc, ◌<◌, ◌≤◌, Bool, true, false, List, [], ◌∷◌, length, Option, Some, None, Result, Ok, Err, refl, sym, subst, arith}
+use Rattle.std.proofs.Common.{◌≡◌, ℕ, suc, ◌<◌, Bool, true, false, List, [], ◌∷◌, length, Option, Some, Ok, Err, refl, sym, subst, arith}
 use Rattle.std.specs.Prelude.{◌==◌, if◌then◌else◌}
 use Rattle.teco_core.specs.Arguments.{Arguments, no_arguments}
 use Rattle.teco_core.specs.declared.code.Code.{Code}
@@ -11,7 +11,7 @@ use Rattle.teco_scan.specs.declared.command.BlockMark.TheVariants.{Iterate, EndI
 use Rattle.teco_scan.specs.declared.command.Modifiers.{Modifiers}
 use Rattle.teco_scan.specs.declared.command.Test.{Test}
 use Rattle.teco_scan.specs.ListLaws.{BlockLaws, Within}
-use Rattle.teco_scan.specs.Lists.{Close, closed, broken, Past, past, Listed, wrong, put, behind_block, iter_at, cond_at, at_mark, at_instruction, at_scan, list_at}
+use Rattle.teco_scan.specs.Lists.{Close, closed, broken, past, Listed, wrong, put, behind_block, iter_at, cond_at, at_mark, at_instruction, at_scan, list_at}
 use Rattle.teco_scan.specs.Scan.{Item, Instruction, Order, Scanned, found, ended, fault, scan}
 use Rattle.teco_scan.specs.Scan as token
 use Rattle.teco_scan.specs.Tree.{is_fault, done, item, escape, tag}

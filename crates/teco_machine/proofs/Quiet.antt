@@ -1,21 +1,19 @@
 -- A text of values and arithmetic alone comes to nothing but these.
-use Rattle.std.proofs.Common.{◌≡◌, ℕ, zero, suc, Bool, true, false, List, [], ◌∷◌, Option, Some, None, Ok, Err, inl, inr, refl, sym, ap, subst}
+use Rattle.std.proofs.Common.{◌≡◌, ℕ, zero, suc, Bool, true, false, List, [], ◌∷◌, Option, Some, None, inl, inr, refl, sym, ap, subst}
 use Rattle.std.specs.Prelude.{◌&&◌, ◌⊎◌}
 use Rattle.teco_core.specs.declared.code.Code.{Code}
 use Rattle.teco_core.specs.Arguments.{Arguments, no_arguments}
-use Rattle.teco_scan.specs.declared.command.BlockMark.TheVariants.{Iterate}
 use Rattle.teco_scan.specs.declared.command.Modifiers.{Modifiers}
 use Rattle.teco_scan.specs.ListLaws.{BlockLaws}
-use Rattle.teco_scan.specs.Lists.{Listed, at_scan, at_instruction, list_at}
-use Rattle.teco_scan.specs.Scan.{Item, Instruction, Scanned, found, ended, fault, scan}
-use Rattle.teco_scan.specs.Scan as token
+use Rattle.teco_scan.specs.Lists.{Listed}
+use Rattle.teco_scan.specs.Scan.{Item}
 use Rattle.teco_store.specs.State.{State}
 use Rattle.teco_step.specs.declared.next.Setting.{Setting}
 use Rattle.teco_step.specs.Effect.{effect}
 use Rattle.teco_step.specs.Laws.{ValueGoesOn}
 use Rattle.teco_step.specs.Step.{End, on, out, stop}
 use Rattle.teco_step.specs.Stepping.{takes_nothing}
-use Rattle.teco_machine.specs.Machine.{Frame, Cursor, Caller, Coming, moved, comes, at_block, ends, breaks, pass_instruction, pass_scanned, pass, Further, Config, Machine, runs, halts, Ready, step, block, finished, setting_of, resumed, returned, coming, arriving, arrives_within, weight, arrives, pays, exec, start_config}
+use Rattle.teco_machine.specs.Machine.{Frame, Cursor, Caller, Coming, moved, comes, at_block, ends, breaks, pass, Further, Config, Machine, runs, halts, Ready, step, block, finished, setting_of, resumed, returned, coming, arriving, arrives_within, weight, arrives, pays, exec, start_config}
 use Rattle.teco_machine.proofs.Denoting.{here}
 use Rattle.teco_machine.proofs.Passing.{Passes, item_comes, tag_passes, escape_passes, iteration_opens, conditional_opens, turn_ends, part_ends, passes}
 use Rattle.teco_machine.specs.Quiet.{takes_no_memory, is_plain, IsQuiet, QuietComing, ArrivesQuietly, QuietTextsArriveQuietly}

@@ -8,7 +8,7 @@ use Rattle.teco_scan.specs.declared.command.Modifiers.{Modifiers}
 use Rattle.teco_scan.specs.Scan.{Item}
 use Rattle.teco_scan.specs.Tree.{Nodes, done, item, escape, iter, cond, tag, faulty}
 use Rattle.teco_step.specs.declared.next.Setting.{Setting}
-use Rattle.teco_step.specs.Step.{End, on, leave, go, call, out, again, stop}
+use Rattle.teco_step.specs.Step.{End, on, leave, go, call, stop}
 use Rattle.teco_step.specs.Effect.{effect}
 use Rattle.teco_scan.specs.Lists.{nodes}
 use Rattle.teco_machine.specs.World.{World, Ran, cleared, after, pay_from, pay}

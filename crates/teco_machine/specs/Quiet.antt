@@ -1,11 +1,11 @@
 -- Texts that take no memory.
-use Rattle.std.specs.Prelude.{◌≡◌, ℕ, List, [], Option, Some, None, Bool, true, false, ◌&&◌}
-use Rattle.teco_scan.specs.Lists.{list_at, nodes}
+use Rattle.std.specs.Prelude.{◌≡◌, ℕ, List, [], Bool, true, false, ◌&&◌}
+use Rattle.teco_scan.specs.Lists.{nodes}
 use Rattle.teco_scan.specs.Tree.{Nodes, done, item, escape, iter, cond, tag, faulty}
 use Rattle.teco_step.specs.Step.{End, on, leave, go, call, out, again, stop}
 use Rattle.teco_step.specs.Stepping.{takes_nothing}
 use Rattle.teco_store.specs.State.{State}
-use Rattle.teco_machine.specs.Machine.{Cursor, Coming, moved, comes, at_block, ends, breaks, Machine, runs, halts, Ready, step, block, finished, arrives, exec, start_config}
+use Rattle.teco_machine.specs.Machine.{Cursor, Coming, moved, comes, at_block, ends, breaks, runs, Ready, step, block, finished, arrives, exec, start_config}
 
 -- Values and arithmetic alone, with ESC between them, and perhaps a fault at the end.
 abbrev pub takes_no_memory : Nodes → Bool
