@@ -14,7 +14,7 @@ use Rattle.teco_scan.specs.Lists.{nodes}
 use Rattle.teco_machine.specs.World.{World, Ran, cleared, after, pay_from, pay}
 use Rattle.teco_machine.specs.Meaning.{lands, then_rest, returned, carries, iterates, part_end, chooses, leave_comes, first_setting, list_by, turn_end, turn, turns_by, further_by, meaning}
 use Rattle.teco_machine.specs.Laws.{with_fuel, comes_to, MeaningUnrolls, StepEnds, first_effect, stepped_world, EmptyListEnds, FaultStops, TagIsPassed, EscapeDrops, NothingWithoutFuel, StepGoesOn, StepStops, JumpLands, JumpLeaves, CallReturns, CallTooDeep, FurtherStep, IterationCounts, IterationGoesOn, TurnEnds, LeavingEnds, ConditionalChooses}
-use Rattle.teco_machine.proofs.Fuel.{list_is, turns_is, further_is}
+use Rattle.teco_machine.proofs.Unrolling.{list_is, turns_is, further_is}
 
 pub unrolls : MeaningUnrolls
 unrolls = record { list = list_is; turns = turns_is; further = further_is }

@@ -13,7 +13,7 @@ use Rattle.teco_step.specs.Line.{line_ends_from}
 use Rattle.teco_machine.specs.Meaning.{meaning, layers, list_by, turns_by, further_by}
 use Rattle.teco_machine.specs.StringMeaning.{Meant, run_of, string_meaning}
 
--- the bytes of a text, where $ stands for ESC
+-- the bytes of a text; $ is ESC
 abbrev pub keys : String → List ℕ
 keys text = map (λ b. if b == 36 then 27 else b) (codes text)
 
