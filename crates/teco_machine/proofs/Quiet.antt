@@ -40,7 +40,7 @@ pub pass_quiet : BlockLaws → (c : Cursor) → IsQuiet c → QuietComing (pass 
 pass_quiet laws c q = quiet (passes laws c) q.blocks (subst (λ (blocks : List Frame). takes_no_memory (here blocks c.left).0 ≡ true) (sym q.blocks) q.left)
 
 -- After such a step the string goes on, or it ends there.
-plain_effect : ValueGoesOn → (i : Item) (w : Setting) (s : State) (a : Arguments) → takes_nothing i ≡ true → is_plain (effect i w s a).end ≡ true
+pub plain_effect : ValueGoesOn → (i : Item) (w : Setting) (s : State) (a : Arguments) → takes_nothing i ≡ true → is_plain (effect i w s a).end ≡ true
 plain_effect values i w s a e = by (values i w s a e)
   where
     by : ((effect i w s a).end ≡ on) ⊎ ((c : Code) × ((effect i w s a).end ≡ stop c)) → is_plain (effect i w s a).end ≡ true
@@ -48,12 +48,12 @@ plain_effect values i w s a e = by (values i w s a e)
     by (inr r) = ap is_plain r.1
 
 -- the run
-record IsQuietIn (c : Config) : Type 0 where
+pub record IsQuietIn (c : Config) : Type 0 where
   pub at : IsQuiet c.at
   pub callers : c.callers ≡ []
   pub further : c.further ≡ None
 
-abbrev QuietMachine : Machine → Type 0
+abbrev pub QuietMachine : Machine → Type 0
 QuietMachine (runs c) = IsQuietIn c
 QuietMachine (halts c e) = Unit {0}
 
@@ -85,7 +85,7 @@ arrives_quiet laws zero (halts c e) q = tt
 arrives_quiet laws (suc n) (runs c) q = arriving_quiet (arrives_within n) (arrives_quiet laws n) laws c c.further q.further q
 arrives_quiet laws (suc n) (halts c e) q = tt
 
-resumed_quiet : (m : Modifiers) (i : Item) (e : End) (c : Config) → is_plain e ≡ true → IsQuietIn c → QuietMachine (resumed m i e c)
+pub resumed_quiet : (m : Modifiers) (i : Item) (e : End) (c : Config) → is_plain e ≡ true → IsQuietIn c → QuietMachine (resumed m i e c)
 resumed_quiet m i on c p q = q
 resumed_quiet m i out c p q = tt
 resumed_quiet m i (stop e) c p q = tt

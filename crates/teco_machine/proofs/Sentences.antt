@@ -35,19 +35,16 @@ pub escape_drops : EscapeDrops
 unfolding list_by
 escape_drops whole rest w depth inside = list_is whole (escape rest) w depth inside ∙ sym (list_is whole rest (cleared w) depth inside)
 
--- what is paid for, with fuel and without
-paid : (w : World) (n : ℕ) (act : World → Ran) → w.fuel ≡ suc n → pay w act ≡ act (with_fuel w n)
-paid w n act e = ap (λ k. pay_from k w act) e
-
-unpaid : (w : World) (act : World → Ran) → w.fuel ≡ 0 → pay w act ≡ pay_from 0 w act
-unpaid w act e = ap (λ k. pay_from k w act) e
+-- what is paid for, with this much fuel
+paying : (n : ℕ) (w : World) (act : World → Ran) → w.fuel ≡ n → pay w act ≡ pay_from n w act
+paying n w act e = ap (λ k. pay_from k w act) e
 
 pub no_fuel : NothingWithoutFuel
 unfolding list_by
 no_fuel = record {
-  step = λ whole rest m i w depth inside z. list_is whole (item m i rest) w depth inside ∙ unpaid w _ z;
-  iteration = λ whole body rest w depth inside z. list_is whole (iter body rest) w depth inside ∙ unpaid w _ z;
-  conditional = λ whole first second rest t w depth inside z. list_is whole (cond t first second rest) w depth inside ∙ unpaid w _ z;
+  step = λ whole rest m i w depth inside z. list_is whole (item m i rest) w depth inside ∙ paying 0 w _ z;
+  iteration = λ whole body rest w depth inside z. list_is whole (iter body rest) w depth inside ∙ paying 0 w _ z;
+  conditional = λ whole first second rest t w depth inside z. list_is whole (cond t first second rest) w depth inside ∙ paying 0 w _ z;
 }
 
 -- A step of an item, by its end.
@@ -64,7 +61,7 @@ module _ (whole rest : Nodes) (i : Item) (setting : Setting) (depth : ℕ) (u : 
 pub step_ends : StepEnds
 unfolding list_by
 step_ends whole rest m i w depth n inside fuel =
-    list_is whole (item m i rest) w depth inside ∙ paid w n _ fuel
+    list_is whole (item m i rest) w depth inside ∙ paying (suc n) w _ fuel
     ∙ carried whole rest i (first_setting m inside (leave_comes rest)) depth (stepped_world m i rest w inside n) (first_effect m i rest w inside).end
 
 module _ (whole rest : Nodes) (m : Modifiers) (i : Item) (w : World) (depth n : ℕ) (inside : Bool) (fuel : w.fuel ≡ suc n) where
@@ -83,12 +80,6 @@ jump_caught whole rest later m i name w depth n inside fuel is found = stepped w
 pub jump_not_caught : JumpLeaves
 jump_not_caught whole rest m i name w depth n inside fuel is found = stepped whole rest m i w depth n inside fuel (go name) is ∙ ap (lands meaning whole (stepped_world m i rest w inside n) depth inside name) found
 
-deep_enough : (depth : ℕ) → depth ≡ 32 → (depth == 32) ≡ true
-deep_enough depth e = grind (arith, nat_tests)
-
-not_so_deep : (depth : ℕ) → depth ≢ 32 → (depth == 32) ≡ false
-not_so_deep depth e = grind (arith, nat_tests)
-
 -- what a call comes to, by the test of its depth
 abbrev calls_by : Nodes → Nodes → Bool → ℕ → World → Ran → Bool → Ran
 calls_by whole rest inside depth u r deep = if deep then (u, stop Pdo) else (let q : Ran = returned r.0 r.1 in then_rest meaning whole rest depth inside q.0 q.1)
@@ -96,30 +87,32 @@ calls_by whole rest inside depth u r deep = if deep then (u, stop Pdo) else (let
 pub call_too_deep : CallTooDeep
 call_too_deep whole rest m i text w depth n inside fuel is deep =
     let u : World = stepped_world m i rest w inside n in
-    stepped whole rest m i w depth n inside fuel (call text) is ∙ ap (calls_by whole rest inside depth u (meaning.list (nodes text) (nodes text) u (depth + 1) false)) (deep_enough depth deep)
+    let test : (depth == 32) ≡ true = grind (arith, nat_tests) in
+    stepped whole rest m i w depth n inside fuel (call text) is ∙ ap (calls_by whole rest inside depth u (meaning.list (nodes text) (nodes text) u (depth + 1) false)) test
 
 pub macro_call : CallReturns
 macro_call whole rest m i text w v depth n inside fuel is shallow back =
     let u : World = stepped_world m i rest w inside n in
-    stepped whole rest m i w depth n inside fuel (call text) is ∙ ap (calls_by whole rest inside depth u (meaning.list (nodes text) (nodes text) u (depth + 1) false)) (not_so_deep depth shallow)
+    let test : (depth == 32) ≡ false = grind (arith, nat_tests) in
+    stepped whole rest m i w depth n inside fuel (call text) is ∙ ap (calls_by whole rest inside depth u (meaning.list (nodes text) (nodes text) u (depth + 1) false)) test
     ∙ ap (λ (r : Ran). calls_by whole rest inside depth u r false) back
 
 pub further_step : FurtherStep
 unfolding further_by
 further_step i setting w depth n fuel is =
-    further_is i setting w depth ∙ paid w n _ fuel ∙ ap (λ e. carries meaning i setting depth (after (with_fuel w n) (effect i setting w.state w.arguments)) e) is
+    further_is i setting w depth ∙ paying (suc n) w _ fuel ∙ ap (λ e. carries meaning i setting depth (after (with_fuel w n) (effect i setting w.state w.arguments)) e) is
 
 pub iteration : IterationCounts
 unfolding list_by
 iteration whole body rest k w v depth n inside fuel taken back =
-    list_is whole (iter body rest) w depth inside ∙ paid w n _ fuel
+    list_is whole (iter body rest) w depth inside ∙ paying (suc n) w _ fuel
     ∙ ap (λ t. let r : Ran = iterates meaning body (with_fuel w n) depth t in then_rest meaning whole rest depth inside r.0 r.1) taken
     ∙ ap (λ (r : Ran). then_rest meaning whole rest depth inside r.0 r.1) back
 
 pub endless_iteration : IterationGoesOn
 unfolding list_by
 endless_iteration whole body rest w v depth n inside fuel taken back =
-    list_is whole (iter body rest) w depth inside ∙ paid w n _ fuel
+    list_is whole (iter body rest) w depth inside ∙ paying (suc n) w _ fuel
     ∙ ap (λ t. let r : Ran = iterates meaning body (with_fuel w n) depth t in then_rest meaning whole rest depth inside r.0 r.1) taken
     ∙ ap (λ (r : Ran). then_rest meaning whole rest depth inside r.0 r.1) back
 
@@ -130,9 +123,9 @@ pub turn_ends : TurnEnds
 unfolding turns_by
 turn_ends = record {
   last = λ body w depth. turns_is (Some 0) body w depth;
-  counted = λ body w v depth left n e fuel. turns_is (Some (suc left)) body w depth ∙ turned (Some left) body w depth (v, on) e ∙ paid v n _ fuel;
-  endless = λ body w v depth n e fuel. turns_is None body w depth ∙ turned None body w depth (v, on) e ∙ paid v n _ fuel;
-  without_fuel = λ body w v depth left e fuel. turns_is (Some (suc left)) body w depth ∙ turned (Some left) body w depth (v, on) e ∙ unpaid v _ fuel;
+  counted = λ body w v depth left n e fuel. turns_is (Some (suc left)) body w depth ∙ turned (Some left) body w depth (v, on) e ∙ paying (suc n) v _ fuel;
+  endless = λ body w v depth n e fuel. turns_is None body w depth ∙ turned None body w depth (v, on) e ∙ paying (suc n) v _ fuel;
+  without_fuel = λ body w v depth left e fuel. turns_is (Some (suc left)) body w depth ∙ turned (Some left) body w depth (v, on) e ∙ paying 0 v _ fuel;
 }
 
 pub leaving : LeavingEnds
@@ -145,6 +138,6 @@ leaving = record {
 pub conditional : ConditionalChooses
 unfolding list_by
 conditional whole first second rest t k w v depth n inside fuel taken back =
-    list_is whole (cond t first second rest) w depth inside ∙ paid w n _ fuel
+    list_is whole (cond t first second rest) w depth inside ∙ paying (suc n) w _ fuel
     ∙ ap (λ x. let r : Ran = chooses meaning t first second (with_fuel w n) depth inside x in then_rest meaning whole rest depth inside r.0 r.1) taken
     ∙ ap (λ (q : Ran). let r : Ran = part_end q.0 q.1 in then_rest meaning whole rest depth inside r.0 r.1) back
