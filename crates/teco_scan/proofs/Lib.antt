@@ -18,3 +18,5 @@ pub mod TagLeads
 pub mod TreeLists
 pub mod SkipSteps
 pub mod ListFaults
+pub mod Written
+pub mod Determined

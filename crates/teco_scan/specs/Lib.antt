@@ -6,3 +6,4 @@ pub mod Tree
 pub mod Skip
 pub mod Lists
 pub mod ListLaws
+pub mod Written
