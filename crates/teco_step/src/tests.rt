@@ -4,6 +4,7 @@ ghost use Rattle.teco_scan.specs.Seen.{IsItemIn};
 ghost use Rattle.teco_step.specs.Stepping.{IsStepIn};
 
 use crate::{MemoryTerminal, Next, effect_laws, screen_laws, step_token};
+use std::alloc::Global;
 use std::process::Abort;
 use std::test::*;
 use teco_core::{Args, Code, Reg, Taken};
@@ -24,7 +25,10 @@ struct Seat {
 /// The length of the text, and the pointer.
 fn measures(seat: &Seat) -> (usize, usize) {
     let (before, after) = seat.editor.halves();
-    (before.len().saturating_add(after.len()), seat.editor.pointer())
+    (
+        before.len().saturating_add(after.len()),
+        seat.editor.pointer(),
+    )
 }
 
 /// A step of a token, inside an iteration or not.
@@ -73,12 +77,12 @@ fn run(rt: &impl Abort, seat: &mut Seat, text: &[u8]) -> Option<Code> {
 }
 
 /// Whether a text types this and ends by this code, from the beginning.
-fn check(rt: &HostRuntime, text: &[u8], typed: &[u8], code: Option<Code>) {
-    let mut seat = new_seat(rt);
+fn check(rt: &impl Abort, alloc: Global, text: &[u8], typed: &[u8], code: Option<Code>) {
+    let mut seat = new_seat(alloc);
     let mut ended = run(rt, &mut seat, text);
     if ended == Some(Code::Tty) {
         assert!(rt; typed.starts_with(seat.terminal.bytes()));
-        seat = new_seat(rt);
+        seat = new_seat(alloc);
         ended = run(rt, &mut seat, text);
     }
     assert_eq!(rt; ended, code);
@@ -103,7 +107,7 @@ fn values_are_typed(rt: HostRuntime) {
         (b"Ihello\x1bHH", b"", Some(Code::Arg)),
     ];
     for (text, typed, code) in rows {
-        check(&rt, text, typed, code);
+        check(&rt, rt.alloc(), text, typed, code);
     }
 }
 
@@ -125,7 +129,7 @@ fn the_pointer_is_moved(rt: HostRuntime) {
         ),
     ];
     for (text, typed, code) in rows {
-        check(&rt, text, typed, code);
+        check(&rt, rt.alloc(), text, typed, code);
     }
 }
 
@@ -145,7 +149,7 @@ fn texts_are_put_in_and_deleted(rt: HostRuntime) {
         (b"^Uahello\x1b3:Ga", b"", Some(Code::Arg)),
     ];
     for (text, typed, code) in rows {
-        check(&rt, text, typed, code);
+        check(&rt, rt.alloc(), text, typed, code);
     }
 }
 
@@ -160,15 +164,15 @@ fn texts_are_typed(rt: HostRuntime) {
         (b"1^Ahello\x01", b"", Some(Code::Arg)),
     ];
     for (text, typed, code) in rows {
-        check(&rt, text, typed, code);
+        check(&rt, rt.alloc(), text, typed, code);
     }
 }
 
 /// An editor and a terminal at the beginning.
-fn new_seat(rt: &HostRuntime) -> Seat {
+fn new_seat(alloc: Global) -> Seat {
     Seat {
-        editor: Editor::new(Vec::new(rt.alloc())),
-        terminal: MemoryTerminal::new(rt.alloc()),
+        editor: Editor::new(Vec::new(alloc)),
+        terminal: MemoryTerminal::new(alloc),
         args: Args::new(),
     }
 }
@@ -207,7 +211,7 @@ fn step(rt: &impl Abort, seat: &mut Seat, text: &[u8], item: Item, colons: u8, i
 
 #[test]
 fn registers_hold_what_they_are_set_to(rt: HostRuntime) {
-    let mut seat = new_seat(&rt);
+    let mut seat = new_seat(rt.alloc());
     let q = Reg::of(b'A').expect(&rt, "a register");
     let whole = Item::SetText(q, Span { from: 0, to: 3 });
     let number = Item::Register(RegisterCommand::Number, q);
@@ -240,7 +244,7 @@ fn registers_hold_what_they_are_set_to(rt: HostRuntime) {
 
 #[test]
 fn a_register_text_past_its_limit_is_big(rt: HostRuntime) -> Result<(), Fail> {
-    let mut seat = new_seat(&rt);
+    let mut seat = new_seat(rt.alloc());
     let q = Reg::of(b'A').expect(&rt, "a register");
     let mut long = Vec::new(rt.alloc());
     if long.resize(16_777_217, b'x').is_err() {
@@ -263,7 +267,7 @@ fn a_register_text_past_its_limit_is_big(rt: HostRuntime) -> Result<(), Fail> {
 
 #[test]
 fn iterations_are_left_inside_them(rt: HostRuntime) {
-    let mut seat = new_seat(&rt);
+    let mut seat = new_seat(rt.alloc());
     let leave = Item::Bare(Bare::Command(Command::Leave));
     assert!(rt;
         matches!(
@@ -281,7 +285,7 @@ fn iterations_are_left_inside_them(rt: HostRuntime) {
 
 #[test]
 fn tags_are_gone_to_without_arguments(rt: HostRuntime) {
-    let mut seat = new_seat(&rt);
+    let mut seat = new_seat(rt.alloc());
     let go = Item::Text(TextCommand::Go, Span { from: 0, to: 3 });
     assert!(rt; matches!(step(&rt, &mut seat, b"end", go, 0, false), Next::Go));
     assert!(rt; seat.args.give(1).is_ok());
@@ -296,7 +300,7 @@ fn tags_are_gone_to_without_arguments(rt: HostRuntime) {
 
 #[test]
 fn registers_are_run_with_the_arguments(rt: HostRuntime) {
-    let mut seat = new_seat(&rt);
+    let mut seat = new_seat(rt.alloc());
     let q = Reg::of(b'A').expect(&rt, "a register");
     let whole = Item::SetText(q, Span { from: 0, to: 3 });
     let call = Item::Register(RegisterCommand::Macro, q);
