@@ -5,7 +5,7 @@ use Rattle.std.proofs.lemmas.Bool.{le-leb, lt-leb, leb-true, leb-false}
 use Rattle.std.proofs.Math.ListN.{drop_of_length-le}
 use Rattle.std.proofs.Math.Seq.{drop-nil, take-nil}
 use Rattle.std.proofs.lemmas.List.{take-append-drop, take-append-le, append-nil, append_assoc, take_min, drop_more, drop_min, drop-take, drop-drop, length-take}
-use Rattle.teco_step.specs.Terminal.{counted}
+use Rattle.teco_step.specs.Terminal.{count_after}
 use Rattle.teco.specs.Source.{Gives}
 use Rattle.teco.specs.Pieces.{Pieces, before_others, given_by, left_by, pieces_at}
 
@@ -190,14 +190,14 @@ pub given_off : (room : ℕ) (old new : List (List ℕ)) (bytes : List ℕ) → 
 given_off room old new bytes g l = given_and_left room old ∙ ap (λ x. x ++ concat (left_by room old)) (sym g) ∙ ap (λ x. bytes ++ concat x) (sym l)
 
 module _ {E : Type 0} (old new : Pieces) (size : ℕ) (got : List ℕ) (left : new.pieces ≡ left_by size old.pieces) where
-  pub gives_ok : (r : Result ℕ E) → IfOk r (λ n. take n got ≡ given_by size old.pieces) → new.failures ≡ counted (is_err r) old.failures
+  pub gives_ok : (r : Result ℕ E) → IfOk r (λ n. take n got ≡ given_by size old.pieces) → new.failures ≡ count_after (is_err r) old.failures
       → IfOk r (λ n. Gives {S = Pieces} (λ s. Some (concat s.pieces)) (λ s. length (concat s.pieces)) (λ s. s.failures) old new (take n got) false)
   gives_ok (Ok n) given count =
       let off = given_off size old.pieces new.pieces (take n got) given left in
       record { given = off; less = sym (ap length off ∙ length-append (take n got) (concat new.pieces) ∙ add_comm (length (take n got)) (length (concat new.pieces))); count = count }
   gives_ok (Err e) given count = tt
 
-  pub gives_err : (r : Result ℕ E) → (IsErr r → old.pieces ≡ []) → new.failures ≡ counted (is_err r) old.failures → OnErr r (new.ended ≡ old.ended)
+  pub gives_err : (r : Result ℕ E) → (IsErr r → old.pieces ≡ []) → new.failures ≡ count_after (is_err r) old.failures → OnErr r (new.ended ≡ old.ended)
       → OnErr r (Gives {S = Pieces} (λ s. Some (concat s.pieces)) (λ s. length (concat s.pieces)) (λ s. s.failures) old new [] true × (new.ended ≡ old.ended))
   gives_err (Ok n) none count ended = tt
   gives_err (Err e) none count ended =

@@ -2,7 +2,7 @@
 use Rattle.std.proofs.Common.{◌≡◌, ℕ, suc, ◌+◌, ◌-◌, ◌<◌, List, [], ◌∷◌, ◌++◌, map, Bool, true, false, ◌&&◌, not, if◌then◌else◌, Option, Some, refl, sym, ap, ◌∙◌, arith, subst, append-nil, append_assoc, length-append}
 use Rattle.std.specs.Bool.{MatchBool}
 use Rattle.std.proofs.KnownBytes.{Consumes-nil, Consumes-trans}
-use Rattle.teco_step.specs.Terminal.{Shows, IsFrontOf, counted}
+use Rattle.teco_step.specs.Terminal.{Screen, Shows, IsFrontOf, count_after}
 use Rattle.teco_step.proofs.Shown.{Shows-trans}
 use Rattle.teco_session.specs.History.{History, present}
 use Rattle.teco_session.specs.Step.{Reply}
@@ -109,14 +109,14 @@ CutsOff-all bytes held turns p none =
     ap requests (sym (append-nil bytes)) ∙ p.asks [] ∙ ap (λ l. asked_in turns ++ requests l) (append-nil held) ∙ ap (λ l. asked_in turns ++ map asks_of l) none ∙ append-nil (asked_in turns)
 
 -- after turns that went on, one that did or didn't
-pub HeldEnds-one : {T : Type 0} (shown : T → Option (List ℕ)) (failures : T → ℕ) (old mid new : T) (prompt : Bool) (turns : List Turn) (turn : Turn) (served : Served)
-    → GoOn turns → Shows shown failures old mid (turns_shown prompt turns) false → TurnEnds shown failures mid new prompt turn (Some served)
-    → HeldEnds shown failures old new prompt (turns ++ turn ∷ []) (Some served)
-HeldEnds-one shown failures old mid new prompt turns turn Exit go p t =
-    (turns, turn, record { parts = refl; going = go }, t.0, subst (λ l. Shows shown failures old new l false) (sym (turns_shown-one prompt turns turn)) (Shows-trans p t.1))
-HeldEnds-one shown failures old mid new prompt turns turn EndOfCommands go p t = t
-HeldEnds-one shown failures old mid new prompt turns turn ReadFault go p t = t
-HeldEnds-one shown failures old mid new prompt turns turn ShowFault go p t = (
+pub HeldEnds-one : (old mid new : Screen) (prompt : Bool) (turns : List Turn) (turn : Turn) (served : Served)
+    → GoOn turns → Shows old mid (turns_shown prompt turns) false → TurnEnds mid new prompt turn (Some served)
+    → HeldEnds old new prompt (turns ++ turn ∷ []) (Some served)
+HeldEnds-one old mid new prompt turns turn Exit go p t =
+    (turns, turn, record { parts = refl; going = go }, t.0, subst (λ l. Shows old new l false) (sym (turns_shown-one prompt turns turn)) (Shows-trans p t.1))
+HeldEnds-one old mid new prompt turns turn EndOfCommands go p t = t
+HeldEnds-one old mid new prompt turns turn ReadFault go p t = t
+HeldEnds-one old mid new prompt turns turn ShowFault go p t = (
   turns,
   turn,
   record { parts = refl; going = go },
@@ -124,7 +124,7 @@ HeldEnds-one shown failures old mid new prompt turns turn ShowFault go p t = (
   subst (λ l. IsFrontOf (turns_shown prompt turns ++ t.0) l) (sym (turns_shown-one prompt turns turn)) (front-after (turns_shown prompt turns) t.0 (turn_shown prompt turn) t.1),
   Shows-trans p t.2,
 )
-HeldEnds-one shown failures old mid new prompt turns turn NoMemory go p t = absurd t
+HeldEnds-one old mid new prompt turns turn NoMemory go p t = absurd t
 
 -- a turn for a text that is cut off
 pub turn_more : (limit : ℕ) (start mid new : History) (h0 h1 h2 : List ℕ) (turns : List Turn) (turn : Turn) (asked : Asked)
@@ -141,34 +141,34 @@ pub Gives-more : {S : Type 0} {coming : S → Option (List ℕ)} {bound failures
 Gives-more {xs} {ys} {failed} p q = record {
   given = Consumes-trans _ _ _ _ _ p.given q.given;
   less = simp length-append (let e = p.less in let f = q.less in omega arith);
-  count = q.count ∙ ap (counted failed) p.count;
+  count = q.count ∙ ap (count_after failed) p.count;
 }
 
 joined : (prompt : Bool) (xs ys : List Turn) → (star prompt ++ turns_shown prompt xs) ++ turns_shown prompt ys ≡ star prompt ++ turns_shown prompt (xs ++ ys)
 joined prompt xs ys = append_assoc (star prompt) (turns_shown prompt xs) (turns_shown prompt ys) ∙ ap (λ l. star prompt ++ l) (sym (turns_shown-append prompt xs ys))
 
-pub shows_on : {T : Type 0} (shown : T → Option (List ℕ)) (failures : T → ℕ) (old mid new : T) (prompt : Bool) (xs ys : List Turn)
-    → Shows shown failures old mid (star prompt ++ turns_shown prompt xs) false → Shows shown failures mid new (turns_shown prompt ys) false
-    → Shows shown failures old new (star prompt ++ turns_shown prompt (xs ++ ys)) false
-shows_on shown failures old mid new prompt xs ys p q = subst (λ l. Shows shown failures old new l false) (joined prompt xs ys) (Shows-trans p q)
+pub shows_on : (old mid new : Screen) (prompt : Bool) (xs ys : List Turn)
+    → Shows old mid (star prompt ++ turns_shown prompt xs) false → Shows mid new (turns_shown prompt ys) false
+    → Shows old new (star prompt ++ turns_shown prompt (xs ++ ys)) false
+shows_on old mid new prompt xs ys p q = subst (λ l. Shows old new l false) (joined prompt xs ys) (Shows-trans p q)
 
 -- the serving ends as the turns of the last piece ended
-pub ends_from : {T : Type 0} (shown : T → Option (List ℕ)) (failures : T → ℕ) (old mid new : T) (ended prompt : Bool) (bytes : List ℕ) (xs ys : List Turn) (served : Served)
-    → GoOn xs → Shows shown failures old mid (star prompt ++ turns_shown prompt xs) false → HeldEnds shown failures mid new prompt ys (Some served)
-    → (is_read_fault served ≡ false) × Ends shown failures old new ended prompt bytes (xs ++ ys) served
-ends_from shown failures old mid new ended prompt bytes xs ys Exit go p s = (
+pub ends_from : (old mid new : Screen) (ended prompt : Bool) (bytes : List ℕ) (xs ys : List Turn) (served : Served)
+    → GoOn xs → Shows old mid (star prompt ++ turns_shown prompt xs) false → HeldEnds mid new prompt ys (Some served)
+    → (is_read_fault served ≡ false) × Ends old new ended prompt bytes (xs ++ ys) served
+ends_from old mid new ended prompt bytes xs ys Exit go p s = (
   refl,
   (
     xs ++ s.0,
     s.1,
     record { parts = ap (λ l. xs ++ l) s.2.parts ∙ sym (append_assoc xs s.0 (s.1 ∷ [])); going = GoOn-append xs s.0 go s.2.going },
     s.3,
-    shows_on shown failures old mid new prompt xs ys p s.4,
+    shows_on old mid new prompt xs ys p s.4,
   ),
 )
-ends_from shown failures old mid new ended prompt bytes xs ys EndOfCommands go p s = absurd s
-ends_from shown failures old mid new ended prompt bytes xs ys ReadFault go p s = absurd s
-ends_from shown failures old mid new ended prompt bytes xs ys ShowFault go p s = (
+ends_from old mid new ended prompt bytes xs ys EndOfCommands go p s = absurd s
+ends_from old mid new ended prompt bytes xs ys ReadFault go p s = absurd s
+ends_from old mid new ended prompt bytes xs ys ShowFault go p s = (
   refl,
   (
     xs ++ s.0,
@@ -181,4 +181,4 @@ ends_from shown failures old mid new ended prompt bytes xs ys ShowFault go p s =
     Shows-trans p s.5,
   ),
 )
-ends_from shown failures old mid new ended prompt bytes xs ys NoMemory go p s = (refl, (GoOn-append xs ys go s.0, shows_on shown failures old mid new prompt xs ys p s.1))
+ends_from old mid new ended prompt bytes xs ys NoMemory go p s = (refl, (GoOn-append xs ys go s.0, shows_on old mid new prompt xs ys p s.1))

@@ -1,7 +1,7 @@
 -- Serving a stream: a turn for each text, and how it ends.
 use Rattle.std.specs.Prelude.{◌≡◌, ℕ, List, [], ◌∷◌, ◌++◌, ◌≤◌, length, map, Option, Bool, true, false}
 use Rattle.std.specs.List.{flat_map}
-use Rattle.teco_step.specs.Terminal.{Shows, IsFrontOf}
+use Rattle.teco_step.specs.Terminal.{Screen, Shows, IsFrontOf}
 use Rattle.teco_session.specs.History.{History}
 use Rattle.teco.specs.Stream.{Asks, requests}
 use Rattle.teco.specs.Message.{star}
@@ -51,16 +51,16 @@ is_read_fault ShowFault = false
 is_read_fault NoMemory = false
 
 -- How a serving of these bytes may end after these turns: what the terminal showed, and whether it failed. `ended` says if the source has ended.
-abbrev pub Ends : {T : Type 0} → (T → Option (List ℕ)) → (T → ℕ) → T → T → Bool → Bool → List ℕ → List Turn → Served → Type 0
+abbrev pub Ends : Screen → Screen → Bool → Bool → List ℕ → List Turn → Served → Type 0
 -- The last turn made the session done.
-Ends shown failures old new ended prompt bytes turns Exit = (before : List Turn) × (last : Turn) × EndsBy turns before last × (exits last ≡ true)
-    × Shows shown failures old new (all_shown prompt turns) false
+Ends old new ended prompt bytes turns Exit = (before : List Turn) × (last : Turn) × EndsBy turns before last × (exits last ≡ true)
+    × Shows old new (all_shown prompt turns) false
 -- The source has ended.
-Ends shown failures old new ended prompt bytes turns EndOfCommands = AllDone turns bytes × (ended ≡ true) × Shows shown failures old new (all_shown prompt turns) false
+Ends old new ended prompt bytes turns EndOfCommands = AllDone turns bytes × (ended ≡ true) × Shows old new (all_shown prompt turns) false
 -- A read failed, after all that came before it was done.
-Ends shown failures old new ended prompt bytes turns ReadFault = AllDone turns bytes × Shows shown failures old new (all_shown prompt turns) false
+Ends old new ended prompt bytes turns ReadFault = AllDone turns bytes × Shows old new (all_shown prompt turns) false
 -- A put failed, of the first star or in the last turn; nothing was shown after it.
-Ends shown failures old new ended prompt bytes turns ShowFault = (before : List Turn) × (last : List Turn) × (turns ≡ before ++ last) × GoOn before × (length last ≤ 1)
-    × (front : List ℕ) × IsFrontOf front (all_shown prompt turns) × Shows shown failures old new front true
+Ends old new ended prompt bytes turns ShowFault = (before : List Turn) × (last : List Turn) × (turns ≡ before ++ last) × GoOn before × (length last ≤ 1)
+    × (front : List ℕ) × IsFrontOf front (all_shown prompt turns) × Shows old new front true
 -- The splitter was refused.
-Ends shown failures old new ended prompt bytes turns NoMemory = GoOn turns × Shows shown failures old new (all_shown prompt turns) false
+Ends old new ended prompt bytes turns NoMemory = GoOn turns × Shows old new (all_shown prompt turns) false

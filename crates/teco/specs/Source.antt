@@ -1,10 +1,10 @@
 -- What a read takes from a source.
 use Rattle.std.specs.Prelude.{◌≡◌, ℕ, ◌+◌, List, length, Option, Bool}
 use Rattle.std.specs.Io.KnownBytes.{Consumes}
-use Rattle.teco_step.specs.Terminal.{counted}
+use Rattle.teco_step.specs.Terminal.{count_after}
 
 -- These bytes were given, off the front of what was still to come, where the source tells it, and off the bound; and the count rose if and only if the read failed.
 pub record Gives {S : Type 0} (coming : S → Option (List ℕ)) (bound : S → ℕ) (failures : S → ℕ) (old new : S) (bytes : List ℕ) (failed : Bool) : Type 0 where
   pub given : Consumes (coming old) (coming new) bytes
   pub less : bound new + length bytes ≡ bound old
-  pub count : failures new ≡ counted failed (failures old)
+  pub count : failures new ≡ count_after failed (failures old)

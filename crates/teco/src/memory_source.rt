@@ -1,7 +1,7 @@
 //! A source over memory.
 ghost use Rattle.std.specs.Prelude.{◌≡◌, ◌≤◌, ◌<◌, ◌↔◌, ℕ, List, [], Some, drop, false, true, length, slice_index, min, take, vec_len, ◌⊎◌, IfOk, IsErr, OnErr, is_err};
 ghost use Rattle.std.specs.List.{concat};
-ghost use Rattle.teco_step.specs.Terminal.{counted};
+ghost use Rattle.teco_step.specs.Terminal.{count_after};
 ghost use Rattle.teco.specs.Pieces.{given_by, left_by, pieces_at};
 
 use crate::source::{Source, SourceFault};
@@ -92,7 +92,7 @@ impl MemorySource {
         ensures goes_on { IfOk result (λ n. (0 < n) ⊎ (length room.new ≡ 0) → self.new.ended ≡ self.old.ended) }
         ensures fails { IsErr result ↔ ((0 < length room.old) × (self.old.pieces ≡ []) × (self.old.fails ≡ true)) }
         ensures err { OnErr result (self.new.ended ≡ self.old.ended) }
-        ensures count { self.new.failures ≡ counted (is_err result) self.old.failures }
+        ensures count { self.new.failures ≡ count_after (is_err result) self.old.failures }
         ensures keeps { self.new.fails ≡ self.old.fails }
     {
         let left = self.bytes.len() - self.at;

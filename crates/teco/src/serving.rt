@@ -25,7 +25,7 @@ fn serve_held<T: Terminal>(
     term: &mut T,
 ) -> Option<Served>
     ensures { (turns : List Turn) × Turns limit session.old turns session.new × CutsOff splitter.old turns splitter.new
-        × Emptied result splitter.new × HeldEnds T.shown T.failures term.old term.new prompt turns result }
+        × Emptied result splitter.new × HeldEnds (T.screen term.old) (T.screen term.new) prompt turns result }
 {
     'held: loop {
         match splitter.next() {
@@ -57,7 +57,7 @@ pub fn serve<S: Source, T: Terminal>(
     ensures { (bytes : List ℕ) × (turns : List Turn)
         × Gives S.coming S.bound S.failures source.old source.new bytes (is_read_fault result)
         × AreFirstOf turns bytes × Turns limit session.old turns session.new
-        × Ends T.shown T.failures term.old term.new (S.ended source.new) prompt bytes turns result }
+        × Ends (T.screen term.old) (T.screen term.new) (S.ended source.new) prompt bytes turns result }
 {
     if let Err(TerminalFault) = show_prompt(prompt, term) {
         return Served::ShowFault;

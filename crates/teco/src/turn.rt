@@ -34,7 +34,7 @@ fn code_line(code: Code) -> [u8; 6]
 /// Shows the message of an answer, if it has one.
 #[tactic(auto, unfolding(crate::specs::Message::message))]
 fn show_message<T: Terminal>(answer: Answer, term: &mut T) -> Result<(), TerminalFault>
-    ensures { Puts T.shown T.failures term.old term.new (message answer) result }
+    ensures { Puts (T.screen term.old) (T.screen term.new) (message answer) result }
 {
     match answer.code() {
         None => Ok(()),
@@ -44,7 +44,7 @@ fn show_message<T: Terminal>(answer: Answer, term: &mut T) -> Result<(), Termina
 
 /// Shows a star, if one is wanted.
 pub fn show_prompt<T: Terminal>(prompt: bool, term: &mut T) -> Result<(), TerminalFault>
-    ensures { Puts T.shown T.failures term.old term.new (star prompt) result }
+    ensures { Puts (T.screen term.old) (T.screen term.new) (star prompt) result }
 {
     if prompt { term.put(b"*") } else { Ok(()) }
 }
@@ -80,7 +80,7 @@ fn move_times<T: Terminal>(
     term: &mut T,
 ) -> Result<(), TerminalFault>
     ensures { (replies : List Reply) × Moves kind n session.old replies session.new
-        × Puts T.shown T.failures term.old term.new (replies_shown replies) result }
+        × Puts (T.screen term.old) (T.screen term.new) (replies_shown replies) result }
 {
     'moves: for _i in 0..n {
         let answer = move_once(kind, session);
@@ -114,7 +114,7 @@ fn do_asked<T: Terminal>(
     term: &mut T,
 ) -> Result<(), TerminalFault>
     ensures { (replies : List Reply) × Does limit (value_of asked.now) session.old replies session.new
-        × Puts T.shown T.failures term.old term.new (replies_shown replies) result }
+        × Puts (T.screen term.old) (T.screen term.new) (replies_shown replies) result }
 {
     match asked {
         Asked::Run(text) => {
@@ -146,7 +146,7 @@ pub fn do_turn<T: Terminal>(
     term: &mut T,
 ) -> Option<Served>
     ensures { (turn : Turn) × IsTurn limit (value_of asked.now) session.old session.new turn
-        × TurnEnds T.shown T.failures term.old term.new prompt turn result }
+        × TurnEnds (T.screen term.old) (T.screen term.new) prompt turn result }
 {
     let was_done = session.editor().done();
     if let Err(TerminalFault) = do_asked(asked, session, limit, term) {

@@ -5,7 +5,7 @@ use Rattle.teco_core.specs.declared.code.Code.TheVariants.{Mem, Tty}
 use Rattle.teco_store.specs.State.{State}
 use Rattle.teco_store.specs.Trail.{Trail, moved, stepped}
 use Rattle.teco_step.specs.Stepping.{is_unfinished_code}
-use Rattle.teco_step.specs.Terminal.{Shows, IsFrontOf}
+use Rattle.teco_step.specs.Terminal.{Screen, Shows, IsFrontOf}
 use Rattle.teco_step.proofs.Shown.{Shows-trans}
 use Rattle.teco_exec.specs.World.{Ran}
 use Rattle.teco_exec.specs.StringMeaning.{code_of, run_of, string_meaning}
@@ -33,7 +33,7 @@ no_longer : (bytes more : List ℕ) → bytes ≡ bytes ++ more → more ≡ []
 no_longer bytes [] e = refl
 no_longer bytes (b ∷ more) e = let l : length bytes ≡ length (bytes ++ (b ∷ more)) = ap length e in absurd (omega (arith, simp length-append at l))
 
-module _ {T : Type 0} (shown : T → Option (List ℕ)) (failures : T → ℕ) (runs : ℕ → Ran) (first now : T) (s : State) (P : ℕ → Type 0) (F : Trail → Type 0) (steps : ℕ) (rest : Rest) (h : Going shown failures runs first now s P F steps rest) where
+module _ (runs : ℕ → Ran) (first now : Screen) (s : State) (P : ℕ → Type 0) (F : Trail → Type 0) (steps : ℕ) (rest : Rest) (h : Going runs first now s P F steps rest) where
   pub stays_now : Stays s h.typed h.load (runs steps).0
   stays_now =
       let none : steps ≡ steps + 0 = omega arith in
@@ -43,7 +43,7 @@ module _ {T : Type 0} (shown : T → Option (List ℕ)) (failures : T → ℕ) (
   follows_now floor p = subst (λ n. F (trail runs floor steps n)) (sym stays_now.load_is) (h.follows floor p)
 
   -- what uses no step
-  pub settled : (further : Rest) → Rests s further → Settles rest further → Going shown failures runs first now s P F steps further
+  pub settled : (further : Rest) → Rests s further → Settles rest further → Going runs first now s P F steps further
   settled further r e = record {
     typed = h.typed;
     load = h.load;
@@ -65,9 +65,9 @@ module _ {T : Type 0} (shown : T → Option (List ℕ)) (failures : T → ℕ) (
         subst (λ (x : Ran). Stays t (h.typed ++ bytes) (h.load + n) x.0) (sym (ap runs none ∙ means_next 0)) (r.stays (h.typed ++ bytes) (h.load + n))
 
     -- one step on
-    pub next : (later : T) (G : Trail → Type 0) → Shows shown failures now later bytes false
+    pub next : (later : Screen) (G : Trail → Type 0) → Shows now later bytes false
         → ((u : Trail) → F u → u.changes ≡ 0 → u.steps ≡ steps → u.states (steps + 1) ≡ t → u.load + n ≤ u.loads (steps + 1) → G (stepped (moved u n)))
-        → Going shown failures runs first later t P G (steps + 1) further
+        → Going runs first later t P G (steps + 1) further
     next later G q on = record {
       typed = h.typed ++ bytes;
       load = h.load + n;
@@ -77,9 +77,9 @@ module _ {T : Type 0} (shown : T → Option (List ℕ)) (failures : T → ℕ) (
       follows = λ floor p. on (trail runs floor steps h.load) (h.follows floor p) refl refl stays_next.state_is (let same : (runs (steps + 1)).0.load ≡ h.load + n = stays_next.load_is in omega arith);
     }
 
-module _ {T : Type 0} (shown : T → Option (List ℕ)) (failures : T → ℕ) (old : State) (text : List ℕ) (limit : ℕ) (first now : T) (s : State) (P : ℕ → Type 0) (F : Trail → Type 0) (steps : ℕ) (rest : Rest) (h : Going shown failures (run_of old text) first now s P F steps rest) where
+module _ (old : State) (text : List ℕ) (limit : ℕ) (first now : Screen) (s : State) (P : ℕ → Type 0) (F : Trail → Type 0) (steps : ℕ) (rest : Rest) (h : Going (run_of old text) first now s P F steps rest) where
   -- the string ends here by itself
-  pub over : (code : Option Code) → IsFinished code → steps ≤ limit → Ends s (limit - steps) code rest → Ended shown failures old text limit first now s P F (record { code = code; steps = steps })
+  pub over : (code : Option Code) → IsFinished code → steps ≤ limit → Ends s (limit - steps) code rest → Ended old text limit first now s P F (record { code = code; steps = steps })
   over code f le e =
       let left = limit - steps in
       let all : steps + left ≡ limit = omega arith in
@@ -94,9 +94,9 @@ module _ {T : Type 0} (shown : T → Option (List ℕ)) (failures : T → ℕ) (
           state = sym (ap (λ (x : Ran). x.0.state) r ∙ w.state_is);
           bytes = sym (ap (λ (x : Ran). x.0.typed) r ∙ w.typed_is);
         });
-        shows = subst (λ failed. Shows shown failures first now h.typed failed) (sym (well_shown code steps f)) h.shows;
-        again = sym (stays_now shown failures (run_of old text) first now s P F steps rest h).state_is;
-        follows = follows_now shown failures (run_of old text) first now s P F steps rest h;
+        shows = subst (λ failed. Shows first now h.typed failed) (sym (well_shown code steps f)) h.shows;
+        again = sym (stays_now (run_of old text) first now s P F steps rest h).state_is;
+        follows = follows_now (run_of old text) first now s P F steps rest h;
       }
 
   more_steps : Costs rest → steps < limit → steps < (string_meaning old text limit).steps
@@ -108,25 +108,25 @@ module _ {T : Type 0} (shown : T → Option (List ℕ)) (failures : T → ℕ) (
       omega arith
 
   -- memory was refused
-  pub no_memory : (later : T) (new : State) (G : Trail → Type 0) → steps < limit → Costs rest → new ≡ s → Shows shown failures now later [] false → ((u : Trail) → F u → G u)
-      → Ended shown failures old text limit first later new P G (record { code = Some Mem; steps = steps })
+  pub no_memory : (later : Screen) (new : State) (G : Trail → Type 0) → steps < limit → Costs rest → new ≡ s → Shows now later [] false → ((u : Trail) → F u → G u)
+      → Ended old text limit first later new P G (record { code = Some Mem; steps = steps })
   no_memory later new G lt c same q keeps =
-      let w = stays_now shown failures (run_of old text) first now s P F steps rest h in
+      let w = stays_now (run_of old text) first now s P F steps rest h in
       record {
         typed = h.typed;
         runs = record { before = more_steps c lt; state = same ∙ sym w.state_is; bytes = sym w.typed_is };
-        shows = subst (λ bytes. Shows shown failures first later bytes false) (append-nil h.typed) (Shows-trans h.shows q);
+        shows = subst (λ bytes. Shows first later bytes false) (append-nil h.typed) (Shows-trans h.shows q);
         again = same ∙ sym w.state_is;
-        follows = λ floor p. keeps _ (follows_now shown failures (run_of old text) first now s P F steps rest h floor p);
+        follows = λ floor p. keeps _ (follows_now (run_of old text) first now s P F steps rest h floor p);
       }
 
   -- the terminal failed in a step that types these bytes
-  pub no_terminal : (later : T) (new : State) (G : Trail → Type 0) (further : Rest) (bytes front : List ℕ) (n : ℕ) (t : State) → steps < limit → Costs rest → Leads rest further bytes n → Rests t further
-      → new ≡ s → bytes ≢ [] → IsFrontOf front bytes → Shows shown failures now later front true → ((u : Trail) → F u → G u)
-      → Ended shown failures old text limit first later new P G (record { code = Some Tty; steps = steps })
+  pub no_terminal : (later : Screen) (new : State) (G : Trail → Type 0) (further : Rest) (bytes front : List ℕ) (n : ℕ) (t : State) → steps < limit → Costs rest → Leads rest further bytes n → Rests t further
+      → new ≡ s → bytes ≢ [] → IsFrontOf front bytes → Shows now later front true → ((u : Trail) → F u → G u)
+      → Ended old text limit first later new P G (record { code = Some Tty; steps = steps })
   no_terminal later new G further bytes front n t lt c l r same some part q keeps =
-      let w = stays_now shown failures (run_of old text) first now s P F steps rest h in
-      let v = stays_next shown failures (run_of old text) first now s P F steps rest h further bytes n l t r in
+      let w = stays_now (run_of old text) first now s P F steps rest h in
+      let v = stays_next (run_of old text) first now s P F steps rest h further bytes n l t r in
       record {
         typed = h.typed ++ front;
         runs = record {
@@ -138,5 +138,5 @@ module _ {T : Type 0} (shown : T → Option (List ℕ)) (failures : T → ℕ) (
         };
         shows = Shows-trans h.shows q;
         again = same ∙ sym w.state_is;
-        follows = λ floor p. keeps _ (follows_now shown failures (run_of old text) first now s P F steps rest h floor p);
+        follows = λ floor p. keeps _ (follows_now (run_of old text) first now s P F steps rest h floor p);
       }

@@ -24,3 +24,4 @@ pub mod Texts
 pub mod RowsStraight
 pub mod RowsBlocks
 pub mod RowsMacros
+pub mod RowsCommands

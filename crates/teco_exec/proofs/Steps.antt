@@ -17,7 +17,7 @@ use Rattle.teco_store.specs.Trail.{Trail, moved, stepped}
 use Rattle.teco_step.specs.declared.next.Next.{Next}
 use Rattle.teco_step.specs.declared.next.Next.TheVariants as next
 use Rattle.teco_step.specs.declared.next.Work.{Work}
-use Rattle.teco_step.specs.Step.{Step, End, stop}
+use Rattle.teco_step.specs.Step.{Step, Moment, End, stop}
 use Rattle.teco_step.specs.Effect.{effect}
 use Rattle.teco_step.specs.Stepping.{end_of, is_unfinished, IsDone, Steps, trail_after, IsStepIn, kind_effect, kind_takes_nothing, takes_nothing_in, token_effect}
 use Rattle.teco_exec.specs.World.{Ran}
@@ -131,11 +131,10 @@ module _ (text : List ℕ) (depth : ℕ) (place : Place) (token : Token) (work :
       ∙ sym (ap (λ k. effect (item_at text k) (setting_at text place token work) s a) i.1)
 
 -- a step that is finished is done
-pub finished_done : {T : Type 0} {shown : T → Option (List ℕ)} {failures : T → ℕ} (e : Step) (name : List ℕ) (old new : State) (left : Arguments) (before after : T) (n : Next) → is_unfinished n ≡ false
-    → Steps shown failures e name old new left before after n → IsDone shown failures e name new left before after n
-finished_done e name old new left before after n f (inl done) = done
-finished_done e name old new left before after n f (inr (inl lacks)) = let x : true ≡ false = sym (ap is_unfinished lacks.code) ∙ f in absurd cc
-finished_done e name old new left before after n f (inr (inr lacks)) = let x : true ≡ false = sym (ap is_unfinished lacks.code) ∙ f in absurd cc
+pub finished_done : (e : Step) (name : List ℕ) (old new : Moment) (n : Next) → is_unfinished n ≡ false → Steps e name old new n → IsDone e name old new n
+finished_done e name old new n f (inl done) = done
+finished_done e name old new n f (inr (inl lacks)) = let x : true ≡ false = sym (ap is_unfinished lacks.code) ∙ f in absurd cc
+finished_done e name old new n f (inr (inr lacks)) = let x : true ≡ false = sym (ap is_unfinished lacks.code) ∙ f in absurd cc
 
 -- what is followed then
 pub follows_finished : (F : Trail → Type 0) (n : Next) (u : Trail) (load : ℕ) → is_unfinished n ≡ false → F (trail_after n u load) → F (moved u load)
@@ -157,22 +156,22 @@ pub effect_of_item : (text : List ℕ) (t : Token) (work : Option Work) (inside 
     → token_effect text t work inside before s a ≡ effect (item_in text i) (record { modifiers = t.modifiers; work = work; inside = inside; before = before }) s a
 effect_of_item text t work inside before s a i is = ap (λ k. kind_effect text k (record { modifiers = t.modifiers; work = work; inside = inside; before = before }) s a) is
 
-module _ {T : Type 0} {shown : T → Option (List ℕ)} {failures : T → ℕ} (text : List ℕ) (t : Token) (step : IsStepIn text t) (work : Option Work) (inside before : Bool) (old new : State) (a left : Arguments) (name : List ℕ) (was is : T) (n : Next)
-    (f : is_unfinished n ≡ false) (h : Steps shown failures (token_effect text t work inside before old a) name old new left was is n) where
-  ends_as : end_of name n ≡ (token_effect text t work inside before old a).end
-  ends_as = (finished_done (token_effect text t work inside before old a) name old new left was is n f h).end
+module _ (text : List ℕ) (t : Token) (step : IsStepIn text t) (work : Option Work) (inside before : Bool) (old new : Moment) (name : List ℕ) (n : Next)
+    (f : is_unfinished n ≡ false) (h : Steps (token_effect text t work inside before old.state old.arguments) name old new n) where
+  ends_as : end_of name n ≡ (token_effect text t work inside before old.state old.arguments).end
+  ends_as = (finished_done (token_effect text t work inside before old.state old.arguments) name old new n f h).end
 
   -- it leaves an iteration only inside one
   pub leaves_inside : n ≡ next.Leave → inside ≡ true
   leaves_inside e =
       let i = item_of text t step in
-      leave_is_inside (item_in text i.0) (record { modifiers = t.modifiers; work = work; inside = inside; before = before }) old a
-      (sym (ap (λ (d : Step). d.end) (effect_of_item text t work inside before old a i.0 i.1)) ∙ sym ends_as ∙ ap (end_of name) e)
+      leave_is_inside (item_in text i.0) (record { modifiers = t.modifiers; work = work; inside = inside; before = before }) old.state old.arguments
+      (sym (ap (λ (d : Step). d.end) (effect_of_item text t work inside before old.state old.arguments i.0 i.1)) ∙ sym ends_as ∙ ap (end_of name) e)
 
   -- where it takes nothing it ends plainly
   pub ends_plainly : takes_nothing_in text t ≡ true → is_plain (end_of name n) ≡ true
   ends_plainly e =
       let i = item_of text t step in
-      ap is_plain (ends_as ∙ ap (λ (d : Step). d.end) (effect_of_item text t work inside before old a i.0 i.1))
-      ∙ value_effect_is_plain (item_in text i.0) (record { modifiers = t.modifiers; work = work; inside = inside; before = before }) old a
+      ap is_plain (ends_as ∙ ap (λ (d : Step). d.end) (effect_of_item text t work inside before old.state old.arguments i.0 i.1))
+      ∙ value_effect_is_plain (item_in text i.0) (record { modifiers = t.modifiers; work = work; inside = inside; before = before }) old.state old.arguments
       (sym (ap (kind_takes_nothing text) i.1) ∙ e)

@@ -11,7 +11,7 @@ use Rattle.teco_store.specs.Trail.{Trail}
 use Rattle.teco_step.specs.declared.next.Work.{Work}
 use Rattle.teco_step.specs.Step.{End, on, go, out, stop}
 use Rattle.teco_step.specs.Stepping.{IsStepIn, is_unfinished_code}
-use Rattle.teco_step.specs.Terminal.{Shows}
+use Rattle.teco_step.specs.Terminal.{Screen, Shows}
 use Rattle.teco_exec.specs.World.{World, Ran}
 use Rattle.teco_exec.specs.Meaning.{calls, meaning}
 use Rattle.teco_exec.specs.Moves.{IsQuiet}
@@ -32,19 +32,19 @@ abbrev pub trail : (ℕ → Ran) → ℕ → ℕ → ℕ → Trail
 trail runs floor steps load = record { states = λ i. (runs i).0.state; loads = λ i. (runs i).0.load; steps = steps; load = load; changes = 0; floor = floor }
 
 -- After these steps the run is in this state, and does what is left, whatever its limit. P says what the desk followed at first, and F what it follows now.
-pub record Going {T : Type 0} (shown : T → Option (List ℕ)) (failures : T → ℕ) (runs : ℕ → Ran) (first now : T) (s : State) (P : ℕ → Type 0) (F : Trail → Type 0) (steps : ℕ) (rest : Rest) : Type 0 where
+pub record Going (runs : ℕ → Ran) (first now : Screen) (s : State) (P : ℕ → Type 0) (F : Trail → Type 0) (steps : ℕ) (rest : Rest) : Type 0 where
   pub typed : List ℕ
   pub load : ℕ
-  pub shows : Shows shown failures first now typed false
+  pub shows : Shows first now typed false
   pub means : (fuel : ℕ) → runs (steps + fuel) ≡ rest typed load fuel
   pub rests : Rests s rest
   pub follows : (floor : ℕ) → P floor → F (trail runs floor steps load)
 
 -- the string has ended by this outcome
-pub record Ended {T : Type 0} (shown : T → Option (List ℕ)) (failures : T → ℕ) (old : State) (text : List ℕ) (limit : ℕ) (first now : T) (new : State) (P : ℕ → Type 0) (F : Trail → Type 0) (outcome : Outcome) : Type 0 where
+pub record Ended (old : State) (text : List ℕ) (limit : ℕ) (first now : Screen) (new : State) (P : ℕ → Type 0) (F : Trail → Type 0) (outcome : Outcome) : Type 0 where
   pub typed : List ℕ
   pub runs : Runs old text limit outcome typed new
-  pub shows : Shows shown failures first now typed (is_tty outcome)
+  pub shows : Shows first now typed (is_tty outcome)
   pub again : new ≡ (string_meaning old text outcome.steps).state
   pub follows : (floor : ℕ) → P floor → F (trail_of old text floor outcome.steps)
 
@@ -69,14 +69,14 @@ abbrev pub returning : Arguments → State → Rest
 returning a s typed load fuel = (world s a typed load fuel, on)
 
 -- A text begins: the whole run has typed these bytes and has this load, and does the text and then what stands behind it.
-pub record Enters {T : Type 0} (shown : T → Option (List ℕ)) (failures : T → ℕ) (runs : ℕ → Ran) (first now : T) (steps : ℕ) (rest : Rest) (typed : List ℕ) (load : ℕ) : Type 0 where
-  pub shows : Shows shown failures first now typed false
+pub record Enters (runs : ℕ → Ran) (first now : Screen) (steps : ℕ) (rest : Rest) (typed : List ℕ) (load : ℕ) : Type 0 where
+  pub shows : Shows first now typed false
   pub means : (fuel : ℕ) → runs (steps + fuel) ≡ rest typed load fuel
 
 -- It has led back to what stands behind it, or the whole run is over.
-abbrev pub Reaches : {T : Type 0} → (T → Option (List ℕ)) → (T → ℕ) → State → List ℕ → ℕ → T → T → State → (ℕ → Type 0) → (Trail → Type 0) → (World → End → Ran) → ℕ → Way → Type 0
-Reaches shown failures old whole limit first now s P F behind steps (Back args) = Going shown failures (run_of old whole) first now s P F steps (through behind (returning (arguments args) s))
-Reaches shown failures old whole limit first now s P F behind steps (Over code) = Ended shown failures old whole limit first now s P F (record { code = code; steps = steps })
+abbrev pub Reaches : State → List ℕ → ℕ → Screen → Screen → State → (ℕ → Type 0) → (Trail → Type 0) → (World → End → Ran) → ℕ → Way → Type 0
+Reaches old whole limit first now s P F behind steps (Back args) = Going (run_of old whole) first now s P F steps (through behind (returning (arguments args) s))
+Reaches old whole limit first now s P F behind steps (Over code) = Ended old whole limit first now s P F (record { code = code; steps = steps })
 
 -- an exit
 abbrev pub exiting : Arguments → State → Rest
@@ -131,18 +131,18 @@ Resumes text old token e new (Done (Over (Some c))) = ResumesWrong text old toke
 Resumes text old token e new (Done (Back args)) = ⊥
 
 -- The run has come to where this is said.
-abbrev pub Comes : {T : Type 0} → (T → Option (List ℕ)) → (T → ℕ) → State → List ℕ → ℕ → T → T → State → (ℕ → Type 0) → (Trail → Type 0) → (World → End → Ran) → ℕ → List ℕ → ℕ → Place → Onward → Type 0
-Comes shown failures old whole limit first now s P F behind steps text depth place On = Going shown failures (run_of old whole) first now s P F steps (through behind (at_place text depth place s))
-Comes shown failures old whole limit first now s P F behind steps text depth place (Again task) = Going shown failures (run_of old whole) first now s P F steps (through behind (stepping text depth place task.token task.work s))
-Comes shown failures old whole limit first now s P F behind steps text depth place (Call called) = Going shown failures (run_of old whole) first now s P F steps (through behind (calling text depth place called.items s))
-Comes shown failures old whole limit first now s P F behind steps text depth place (Done way) = Reaches shown failures old whole limit first now s P F behind steps way
+abbrev pub Comes : State → List ℕ → ℕ → Screen → Screen → State → (ℕ → Type 0) → (Trail → Type 0) → (World → End → Ran) → ℕ → List ℕ → ℕ → Place → Onward → Type 0
+Comes old whole limit first now s P F behind steps text depth place On = Going (run_of old whole) first now s P F steps (through behind (at_place text depth place s))
+Comes old whole limit first now s P F behind steps text depth place (Again task) = Going (run_of old whole) first now s P F steps (through behind (stepping text depth place task.token task.work s))
+Comes old whole limit first now s P F behind steps text depth place (Call called) = Going (run_of old whole) first now s P F steps (through behind (calling text depth place called.items s))
+Comes old whole limit first now s P F behind steps text depth place (Done way) = Reaches old whole limit first now s P F behind steps way
 
 -- One step more of a text, whatever run comes to it: from what was left before the step to what is left now.
-pub record Onwards {T : Type 0} (shown : T → Option (List ℕ)) (failures : T → ℕ) (limit : ℕ) (before now : T) (s : State) (F G : Trail → Type 0) (steps later : ℕ) (text : List ℕ) (rest : ℕ → Rest) (place : Place) (onward : Onward) : Type 0 where
-  pub leads : (depth : ℕ) (old : State) (whole : List ℕ) (first : T) (behind : World → End → Ran) (typed : List ℕ) (load : ℕ)
+pub record Onwards (limit : ℕ) (before now : Screen) (s : State) (F G : Trail → Type 0) (steps later : ℕ) (text : List ℕ) (rest : ℕ → Rest) (place : Place) (onward : Onward) : Type 0 where
+  pub leads : (depth : ℕ) (old : State) (whole : List ℕ) (first : Screen) (behind : World → End → Ran) (typed : List ℕ) (load : ℕ)
       → IsBehind behind
-      → Enters shown failures (run_of old whole) first before steps (through behind (rest depth)) typed load
-      → Comes shown failures old whole limit first now s (λ floor. F (trail (run_of old whole) floor steps load)) G behind later text depth place onward
+      → Enters (run_of old whole) first before steps (through behind (rest depth)) typed load
+      → Comes old whole limit first now s (λ floor. F (trail (run_of old whole) floor steps load)) G behind later text depth place onward
 
 -- a step in a text that takes no memory
 abbrev pub LeadsQuietly : List ℕ → Place → Onward → Type 0

@@ -5,7 +5,7 @@ ghost use Rattle.teco_scan.specs.Seen.{found_in};
 ghost use Rattle.teco_scan.specs.Tree.{after_scan, first, levels, tree};
 ghost use Rattle.teco_scan.specs.declared.blocks.Kind.{Kind as kinds_of_blocks};
 ghost use Rattle.teco_step.specs.Stepping.{IsStepIn, end_of, is_unfinished, is_unfinished_code, name_in, takes_nothing_in};
-ghost use Rattle.teco_step.specs.Terminal.{Shows};
+ghost use Rattle.teco_step.specs.Terminal.{Screen, Shows};
 ghost use Rattle.teco_step.specs.declared.next.Next.TheVariants.{Error, Leave};
 ghost use Rattle.teco_core.specs.ArgumentsView.{arguments};
 ghost use Rattle.teco_store.specs.State.{State};
@@ -130,7 +130,7 @@ fn name_of<'a>(text: &'a [u8], token: &Token) -> &'a [u8]
 /// It takes no memory itself, though its steps may: a string of values and arithmetic alone never ends by [`Code::Mem`].
 pub fn run<D: Desk, T: Terminal>(desk: &mut D, text: &[u8], limit: u64, term: &mut T) -> Outcome
     ensures run { (typed : List ℕ) × Runs (D.state desk.old) text.now limit result typed (D.state desk.new)
-        × Shows T.shown T.failures term.old term.new typed (is_tty result) }
+        × Shows (T.screen term.old) (T.screen term.new) typed (is_tty result) }
     ensures again { D.state desk.new ≡ (string_meaning (D.state desk.old) text.now result.steps).state }
     ensures follows { (floor : ℕ) → D.follows desk.old (trail_of (D.state desk.old) text.now floor 0)
         → D.follows desk.new (trail_of (D.state desk.old) text.now floor result.steps) }
@@ -163,10 +163,10 @@ fn run_text<D: Desk, T: Terminal>(
     requires within { before ≤ limit }
     ensures within { result.steps ≤ limit }
     ensures after { before ≤ result.steps }
-    ensures comes { (old : State) (whole : List ℕ) (first : T) (behind : World → End → Ran) (typed : List ℕ) (load : ℕ)
+    ensures comes { (old : State) (whole : List ℕ) (first : Screen) (behind : World → End → Ran) (typed : List ℕ) (load : ℕ)
         → IsBehind behind
-        → Enters T.shown T.failures (run_of old whole) first term.old before (through behind (whole_text text.now depth (arguments args) (D.state desk.old))) typed load
-        → Reaches T.shown T.failures old whole limit first term.new (D.state desk.new)
+        → Enters (run_of old whole) first (T.screen term.old) before (through behind (whole_text text.now depth (arguments args) (D.state desk.old))) typed load
+        → Reaches old whole limit first (T.screen term.new) (D.state desk.new)
         (λ floor. D.follows desk.old (trail (run_of old whole) floor before load)) (D.follows desk.new) behind result.steps result.way }
     ensures no_memory { takes_no_memory (tree text.now) ≡ true → result.way ≡ way.Over (Some Mem) → ⊥ }
 {
@@ -222,7 +222,7 @@ fn take_step<D: Desk, T: Terminal>(
     ensures within { steps.new ≤ limit }
     ensures counts { Counts steps.old steps.new result }
     ensures place { StandsAt text.now place.new result }
-    ensures leads { Onwards T.shown T.failures limit term.old term.new (D.state desk.new) (D.follows desk.old) (D.follows desk.new)
+    ensures leads { Onwards limit (T.screen term.old) (T.screen term.new) (D.state desk.new) (D.follows desk.old) (D.follows desk.new)
         steps.old steps.new text.now (λ depth. at_moment text.now depth place.old pending (D.state desk.old)) place.new result }
     ensures quiet { IsQuiet text.now place.old → pending ≡ None → LeadsQuietly text.now place.new result }
 {
@@ -264,7 +264,7 @@ fn token_step<D: Desk, T: Terminal>(
     ensures within { steps.new ≤ limit }
     ensures counts { Counts steps.old steps.new result }
     ensures place { StandsAt text.now place.new result }
-    ensures leads { Onwards T.shown T.failures limit term.old term.new (D.state desk.new) (D.follows desk.old) (D.follows desk.new)
+    ensures leads { Onwards limit (T.screen term.old) (T.screen term.new) (D.state desk.new) (D.follows desk.old) (D.follows desk.new)
         steps.old steps.new text.now (λ depth. stepping text.now depth place.old task.token task.work (D.state desk.old)) place.new result }
     ensures quiet { IsQuiet text.now place.old → takes_nothing_in text.now task.token ≡ true → LeadsQuietly text.now place.new result }
 {

@@ -12,3 +12,11 @@ pub mod Skips
 pub mod LastBytes
 pub mod Rows
 pub mod BlockRows
+pub mod ListSteps
+pub mod TagSteps
+pub mod TagLeads
+pub mod TreeLists
+pub mod SkipSteps
+pub mod ListFaults
+pub mod Written
+pub mod Determined

@@ -192,7 +192,7 @@ is_token (found t bs) = true
 is_token _ = false
 
 -- the bytes that are a token alone
-single_bytes : filter (λ b. is_token (scan (b ∷ []))) (up_to 256) ≡ 27 ∷ codes "'*+-./0123456789;<=>BCDJLRTZbcdjlrtz|"
+single_bytes : filter (λ b. is_token (scan (b ∷ []))) (up_to 256) ≡ 27 ∷ codes "'*+-./0123456789;<=>BCDHJLRTZbcdhjlrtz|"
 unfolding computing up_to is_token
 single_bytes = refl
 

@@ -1,5 +1,5 @@
 -- What the code found, as what it means: spans as the bytes of the text, places as the bytes from there.
-use Rattle.std.specs.Prelude.{◌≡◌, ℕ, ◌-◌, ◌<◌, ◌≤◌, List, length, take, drop, Option, Some, None, Result, Ok, Err}
+use Rattle.std.specs.Prelude.{◌≡◌, ℕ, ◌+◌, ◌-◌, ◌<◌, ◌≤◌, List, length, take, drop, Option, Some, None, Result, Ok, Err}
 use Rattle.teco_core.specs.declared.code.Code.{Code}
 use Rattle.teco_scan.specs.declared.token.Span.{Span}
 use Rattle.teco_scan.specs.declared.token.Token.{Token}
@@ -9,6 +9,8 @@ use Rattle.teco_scan.specs.declared.token.TokenKind.{TokenKind}
 use Rattle.teco_scan.specs.declared.token.TokenKind.TheVariants as kinds
 use Rattle.teco_scan.specs.declared.token.Found.{Found}
 use Rattle.teco_scan.specs.declared.token.Found.TheVariants as places
+use Rattle.teco_scan.specs.declared.blocks.Stop.{Stop}
+use Rattle.teco_scan.specs.Lists.{Close, closed, broken, Past}
 use Rattle.teco_scan.specs.Scan.{Item, digits, bare, register, byte, text, set_text, replace, Instruction, step, mark, decide, tag, escape, Order, Scanned, found, ended, fault, after_fillers}
 
 -- what a function returned, seen by view, is what reading gives
@@ -69,6 +71,24 @@ IsKindIn n (kinds.Test t) = Unit {0}
 IsKindIn n (kinds.Tag s) = IsSpanIn n s
 IsKindIn n kinds.Escape = Unit {0}
 
+-- A run of digits is the whole token. A text is followed by its delimiter, which is the token's last byte; the first of two
+-- texts is followed by one too, and by the second.
+abbrev pub IsItemPlaced : Span → SpannedItem → Type 0
+IsItemPlaced whole (items.Digits s) = s ≡ whole
+IsItemPlaced whole (items.Bare c) = Unit {0}
+IsItemPlaced whole (items.Register c q) = Unit {0}
+IsItemPlaced whole (items.Byte b) = Unit {0}
+IsItemPlaced whole (items.Text c s) = s.to + 1 ≡ whole.to
+IsItemPlaced whole (items.SetText q s) = s.to + 1 ≡ whole.to
+IsItemPlaced whole (items.Replace s t) = (s.to + 1 ≡ t.from) × (t.to + 1 ≡ whole.to)
+
+abbrev pub IsKindPlaced : Span → TokenKind → Type 0
+IsKindPlaced whole (kinds.Item i) = IsItemPlaced whole i
+IsKindPlaced whole (kinds.Mark c) = Unit {0}
+IsKindPlaced whole (kinds.Test t) = Unit {0}
+IsKindPlaced whole (kinds.Tag s) = s.to + 1 ≡ whole.to
+IsKindPlaced whole kinds.Escape = Unit {0}
+
 -- The token's first byte is the first from the place on that is no filler; it has a byte, and it and its texts lie in the text.
 pub record IsTokenAt (bs : List ℕ) (at : ℕ) (t : Token) : Type 0 where
   pub begins : drop t.span.from bs ≡ after_fillers (drop at bs)
@@ -76,8 +96,28 @@ pub record IsTokenAt (bs : List ℕ) (at : ℕ) (t : Token) : Type 0 where
   pub long : t.span.from < t.span.to
   pub inside : t.span.to ≤ length bs
   pub spans : IsKindIn (length bs) t.kind
+  pub placed : IsKindPlaced t.span t.kind
 
 abbrev pub IsFoundAt : List ℕ → ℕ → Found → Type 0
 IsFoundAt bs at (places.Token t) = IsTokenAt bs at t
 IsFoundAt bs at places.End = Unit {0}
 IsFoundAt bs at (places.Fault e) = Unit {0}
+
+-- All this leaves one answer: what is found there, with each of its places.
+abbrev pub IsDetermined : Type 0
+IsDetermined = (bs : List ℕ) (at : ℕ) (f g : Found) → IsFoundAt bs at f → IsFoundAt bs at g → found_in bs f ≡ found_in bs g → f ≡ g
+
+-- how a skip closed
+abbrev pub close_of : List ℕ → Result Stop Code → Close
+close_of bs (Ok stop) = closed stop.divided (drop stop.to bs)
+close_of bs (Err c) = broken c
+
+-- the bytes after what was passed up to a place
+abbrev pub past_of : List ℕ → Result ℕ Code → Past
+past_of bs (Ok to) = Ok (drop to bs)
+past_of bs (Err c) = Err c
+
+-- the bytes after a tag that was found
+abbrev pub tag_of : List ℕ → Option ℕ → Option (List ℕ)
+tag_of bs (Some to) = Some (drop to bs)
+tag_of bs None = None

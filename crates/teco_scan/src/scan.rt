@@ -1,10 +1,11 @@
 //! Reading tokens.
-ghost use Rattle.std.specs.Prelude.{◌≡◌, ◌<◌, ◌≤◌, ℕ, length, drop, IfOk, IfSome, slice_index, true};
+ghost use Rattle.std.specs.Prelude.{◌≡◌, ◌+◌, ◌<◌, ◌≤◌, ℕ, length, drop, IfOk, IfSome, slice_index, true};
 ghost use Rattle.teco_core.specs.Number.{is_digit};
 ghost use Rattle.teco_core.specs.Register.{upper};
 ghost use Rattle.teco_scan.specs.Scan.{is_filler, admits, is_refused, after_name, ends_inside, row_at, is_cut, command_at, after_letter, token_from, scan, run_of, after_run, after_fillers, test_of, byte_at, register_at, test_at, delimiter_at, text_at, modifiers_at, operand_at};
 ghost use Rattle.teco_scan.specs.Spelling.{IsSpelled, IsLongest, IsCutExactly, LacksRegisterExactly, LacksTestExactly, IsIllExactly, IsFaultOfFour, PassesFillers};
-ghost use Rattle.teco_scan.specs.Seen.{Gives, GivesSome, IsSpanIn, IsKindIn, IsFoundAt, bytes_in, instruction_in, found_in};
+ghost use Rattle.teco_scan.specs.Written.{CommandsAreSpelled};
+ghost use Rattle.teco_scan.specs.Seen.{Gives, GivesSome, IsSpanIn, IsKindIn, IsKindPlaced, IsFoundAt, IsDetermined, bytes_in, instruction_in, found_in};
 
 use crate::command::{Form, Modifiers, Name, Row, Test};
 use crate::table::ROWS;
@@ -115,6 +116,7 @@ fn text_at(delimiter: u8, text: &[u8], at: usize) -> Result<(Span, usize), Code>
     ensures read { Gives (λ x. (bytes_in text.now x.0, drop x.1 text.now)) result (text_at delimiter (drop at text.now)) }
     ensures within { IfOk result (λ x. (at ≤ x.1) × (x.1 ≤ length text.now)) }
     ensures spans { IfOk result (λ x. IsSpanIn (length text.now) x.0) }
+    ensures placed { IfOk result (λ x. (x.0.from ≡ at) × (x.0.to + 1 ≡ x.1)) }
 {
     match memchr(delimiter, &text[at..]) {
         None => Err(Code::Utc),
@@ -135,6 +137,7 @@ fn set_text_at(modifiers: Modifiers, text: &[u8], at: usize) -> Result<(TokenKin
     ensures read { Gives (λ x. (instruction_in text.now x.0, drop x.1 text.now)) result (operand_at Form.SetText modifiers (drop at text.now)) }
     ensures within { IfOk result (λ x. (at ≤ x.1) × (x.1 ≤ length text.now)) }
     ensures spans { IfOk result (λ x. IsKindIn (length text.now) x.0) }
+    ensures placed { (from : ℕ) → IfOk result (λ x. IsKindPlaced (record { from = from; to = x.1 }) x.0) }
 {
     let (register, at) = register_at(text, at)?;
     let (delimiter, at) = delimiter_at(modifiers, ESCAPE, text, at)?;
@@ -149,6 +152,7 @@ fn replace_at(modifiers: Modifiers, text: &[u8], at: usize) -> Result<(TokenKind
     ensures read { Gives (λ x. (instruction_in text.now x.0, drop x.1 text.now)) result (operand_at Form.Replace modifiers (drop at text.now)) }
     ensures within { IfOk result (λ x. (at ≤ x.1) × (x.1 ≤ length text.now)) }
     ensures spans { IfOk result (λ x. IsKindIn (length text.now) x.0) }
+    ensures placed { (from : ℕ) → IfOk result (λ x. IsKindPlaced (record { from = from; to = x.1 }) x.0) }
 {
     let (delimiter, at) = delimiter_at(modifiers, ESCAPE, text, at)?;
     let (old, at) = text_at(delimiter, text, at)?;
@@ -168,6 +172,7 @@ fn operand_at(
     ensures read { Gives (λ x. (instruction_in text.now x.0, drop x.1 text.now)) result (operand_at form modifiers (drop at text.now)) }
     ensures within { IfOk result (λ x. (at ≤ x.1) × (x.1 ≤ length text.now)) }
     ensures spans { IfOk result (λ x. IsKindIn (length text.now) x.0) }
+    ensures placed { (from : ℕ) → IfOk result (λ x. IsKindPlaced (record { from = from; to = x.1 }) x.0) }
 {
     match form {
         Form::Bare(command) => Ok((TokenKind::Item(Item::Bare(command)), at)),
@@ -359,6 +364,7 @@ fn command_at(
     ensures read { Gives (λ x. (instruction_in text.now x.0, drop x.1 text.now)) result (command_at rows.now modifiers (drop at text.now)) }
     ensures within { IfOk result (λ x. (at < x.1) × (x.1 ≤ length text.now)) }
     ensures spans { IfOk result (λ x. IsKindIn (length text.now) x.0) }
+    ensures placed { (from : ℕ) → IfOk result (λ x. IsKindPlaced (record { from = from; to = x.1 }) x.0) }
 {
     match row_at(rows, modifiers, text, at) {
         Some((row, at)) => operand_at(row.form, modifiers, text, at),
@@ -407,6 +413,7 @@ fn token_from(rows: &[Row], text: &[u8], at: usize) -> Result<(Modifiers, TokenK
     ensures read { Gives (λ x. (record { modifiers = x.0; instruction = instruction_in text.now x.1 }, drop x.2 text.now)) result (token_from rows.now (drop at text.now)) }
     ensures within { IfOk result (λ x. (at < x.2) × (x.2 ≤ length text.now)) }
     ensures spans { IfOk result (λ x. IsKindIn (length text.now) x.1) }
+    ensures placed { IfOk result (λ x. IsKindPlaced (record { from = at; to = x.2 }) x.1) }
 {
     let none = Modifiers {
         at: false,
@@ -450,7 +457,8 @@ pub fn token_at(text: &[u8], at: usize) -> Found
 /// The token that is read is spelled by the bytes before the rest, and no token that they begin with is longer, but where a
 /// refused name stands. The fault is UTC exactly where no token stands and the bytes are a front of a spelling, IQN and IQC
 /// exactly where they fit a spelling up to its register or test, and ILL exactly where a refused name stands, or nothing
-/// of all this is so; no other fault is read. Fillers are passed.
+/// of all this is so; no other fault is read. Fillers are passed. The clauses of [`token_at`] leave one answer. The table says
+/// what commands there are, and here is how some of them are written.
 pub fn spelling()
     ensures spelled { IsSpelled ROWS }
     ensures longest { IsLongest ROWS }
@@ -460,6 +468,8 @@ pub fn spelling()
     ensures ill { IsIllExactly ROWS }
     ensures faults { IsFaultOfFour ROWS }
     ensures fillers { PassesFillers }
+    ensures determined { IsDetermined }
+    ensures commands { CommandsAreSpelled }
 {}
 
 #[cfg(test)]

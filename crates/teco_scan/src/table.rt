@@ -34,12 +34,13 @@ macro_rules! rows {
 }
 
 /// Every command but the run of digits. A longer name comes before one that begins it.
-pub const ROWS: [Row; 33] = rows! {
+pub const ROWS: [Row; 34] = rows! {
     Name::Three(b'=', b'=', b'='), ANY, Form::Refused;
     Name::Two(b'=', b'='), NONE, Form::Refused;
     Name::One(b'B'), NONE, Form::Bare(Bare::Quantity(Quantity::Beginning));
     Name::One(b'Z'), NONE, Form::Bare(Bare::Quantity(Quantity::End));
     Name::One(b'.'), NONE, Form::Bare(Bare::Quantity(Quantity::Pointer));
+    Name::One(b'H'), NONE, Form::Bare(Bare::Arithmetic(Arithmetic::Whole));
     Name::One(b'+'), NONE, Form::Bare(Bare::Arithmetic(Arithmetic::Operator(Op::Plus)));
     Name::One(b'-'), NONE, Form::Bare(Bare::Arithmetic(Arithmetic::Operator(Op::Minus)));
     Name::One(b'*'), NONE, Form::Bare(Bare::Arithmetic(Arithmetic::Operator(Op::Times)));

@@ -3,7 +3,7 @@ use Rattle.std.proofs.Common.{◌≡◌, ℕ, zero, suc, ◌+◌, ◌<◌, ◌�
 use Rattle.std.proofs.KnownBytes.{Appends-trans, Appends-nil}
 use Rattle.teco_store.specs.State.{State}
 use Rattle.teco_exec.specs.StringMeaning.{string_meaning}
-use Rattle.teco_step.specs.Terminal.{Shows, counted}
+use Rattle.teco_step.specs.Terminal.{Screen, Shows, count_after}
 use Rattle.teco_session.specs.History.{History, Note, state_after, present, AreMeant, IsHistory, noted}
 use Rattle.teco_session.specs.Entries.{note_of, notes_of}
 use Rattle.teco_session.specs.Step.{Step, Reply, is_terminal_failure}
@@ -63,17 +63,17 @@ typed_by-more : (replies : List Reply) (reply : Reply) → typed_by (replies ++ 
 typed_by-more [] reply = append-nil reply.typed
 typed_by-more (r ∷ rs) reply = ap (λ l. r.typed ++ l) (typed_by-more rs reply) ∙ sym (append_assoc r.typed (typed_by rs) reply.typed)
 
-failures_after-more : (answers : List Answer) (answer : Answer) (n : ℕ) → failures_after (answers ++ answer ∷ []) n ≡ counted (is_terminal_failure answer) (failures_after answers n)
+failures_after-more : (answers : List Answer) (answer : Answer) (n : ℕ) → failures_after (answers ++ answer ∷ []) n ≡ count_after (is_terminal_failure answer) (failures_after answers n)
 failures_after-more [] answer n = refl
-failures_after-more (a ∷ more) answer n = failures_after-more more answer (counted (is_terminal_failure a) n)
+failures_after-more (a ∷ more) answer n = failures_after-more more answer (count_after (is_terminal_failure a) n)
 
-pub ShowsAll-nil : {T : Type 0} (shown : T → Option (List ℕ)) (failures : T → ℕ) (t : T) → ShowsAll shown failures t t []
-ShowsAll-nil shown failures t = record { more = Appends-nil (shown t); count = refl }
+pub ShowsAll-nil : (t : Screen) → ShowsAll t t []
+ShowsAll-nil t = record { more = Appends-nil t.shown; count = refl }
 
-pub ShowsAll-more : {T : Type 0} {shown : T → Option (List ℕ)} {failures : T → ℕ} {a b c : T} (replies : List Reply) (reply : Reply)
-    → ShowsAll shown failures a b replies → Shows shown failures b c reply.typed (is_terminal_failure reply.answer) → ShowsAll shown failures a c (replies ++ reply ∷ [])
-ShowsAll-more {shown} {failures} {a} {b} {c} replies reply p q = record {
+pub ShowsAll-more : {a b c : Screen} (replies : List Reply) (reply : Reply)
+    → ShowsAll a b replies → Shows b c reply.typed (is_terminal_failure reply.answer) → ShowsAll a c (replies ++ reply ∷ [])
+ShowsAll-more {a} replies reply p q = record {
   more = rw (typed_by-more replies reply) (Appends-trans _ _ _ _ _ p.more q.more);
-  count = q.count ∙ ap (counted (is_terminal_failure reply.answer)) p.count
-      ∙ sym (ap (λ l. failures_after l (failures a)) (answers_of-more replies reply) ∙ failures_after-more (answers_of replies) reply.answer (failures a));
+  count = q.count ∙ ap (count_after (is_terminal_failure reply.answer)) p.count
+      ∙ sym (ap (λ l. failures_after l a.failures) (answers_of-more replies reply) ∙ failures_after-more (answers_of replies) reply.answer a.failures);
 }

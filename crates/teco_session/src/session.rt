@@ -112,7 +112,7 @@ impl Session {
     /// nothing has changed, and the undone strings are kept.
     pub fn run<T: Terminal>(&mut self, text: &[u8], limit: u64, term: &mut T) -> Answer
         ensures { (typed : List ℕ) × RunStep limit self.old text.now result typed self.new
-            × Shows T.shown T.failures term.old term.new typed (is_terminal_failure result) }
+            × Shows (T.screen term.old) (T.screen term.new) typed (is_terminal_failure result) }
     {
         if self.editor().done() {
             return Answer::AfterExit;
@@ -141,7 +141,7 @@ impl Session {
     /// Answers one request, whichever it is.
     pub fn answer<T: Terminal>(&mut self, request: &Request, limit: u64, term: &mut T) -> Answer
         ensures { (typed : List ℕ) × Step limit self.old request.now (record { answer = result; typed = typed }) self.new
-            × Shows T.shown T.failures term.old term.new typed (is_terminal_failure result) }
+            × Shows (T.screen term.old) (T.screen term.new) typed (is_terminal_failure result) }
     {
         match request {
             Request::Run(text) => self.run(text.as_slice(), limit, term),
@@ -168,7 +168,7 @@ impl Session {
     ) -> Result<Vec<Answer>, NoMemory>
         ensures play { IfOk result (λ answers. (replies : List Reply) × (answers.items ≡ answers_of replies)
             × Play limit self.old requests.now replies self.new
-            × ShowsAll T.shown T.failures term.old term.new replies) }
+            × ShowsAll (T.screen term.old) (T.screen term.new) replies) }
         ensures err { OnErr result ((self.new ≡ self.old) × (term.new ≡ term.old)) }
     {
         let mut answers = Vec::with_capacity(alloc, requests.len())?;

@@ -52,6 +52,6 @@ pub nonempty_before : (xs ys : List ℕ) → xs ≢ [] → xs ++ ys ≢ []
 nonempty_before [] ys some = λ _. some refl
 nonempty_before (x ∷ xs) ys some = λ e. cc
 
-pub nonempty_behind : (xs ys : List ℕ) → ys ≢ [] → xs ++ ys ≢ []
-nonempty_behind [] ys some = some
-nonempty_behind (x ∷ xs) ys some = λ e. cc
+pub nonempty_after : (xs ys : List ℕ) → ys ≢ [] → xs ++ ys ≢ []
+nonempty_after [] ys some = some
+nonempty_after (x ∷ xs) ys some = λ e. cc

@@ -3,7 +3,7 @@ use Rattle.std.proofs.Common.{◌≡◌, ◌∙◌, ap, sym, refl, ℕ, zero, su
 use Rattle.std.proofs.lemmas.List.{append-nil, length-take-le, reverse-append, take-append-drop, take_more}
 use Rattle.std.proofs.Math.ListN.{drop_of_length-le}
 use Rattle.std.proofs.lemmas.List.Elements.{filter-append}
-use Rattle.teco_step.specs.Line.{is_line_end, line_ends_from, line_ends, behind, line}
+use Rattle.teco_step.specs.Line.{is_line_end, line_ends_from, line_ends, one_past, line}
 
 pub line_ends_from-append : (p : ℕ) (xs ys : List ℕ) → line_ends_from p (xs ++ ys) ≡ line_ends_from p xs ++ line_ends_from (p + length xs) ys
 unfolding line_ends_from
@@ -57,17 +57,17 @@ ends_back text from within =
     ap (filter t) (parted text from within) ∙ filter-append t (line_ends_from 0 (take from text)) (line_ends_from from (drop from text)) ∙ rw (before, after) (append-nil _)
 
 -- line n, by its sign
-pub line_above : (text : List ℕ) (from : ℕ) (n : ℤ) → from ≤ length text → int_lt (pos 0) n ≡ true → line text from n ≡ behind (slice_get (line_ends_from from (drop from text)) (nat_abs n - 1)) (length text)
+pub line_above : (text : List ℕ) (from : ℕ) (n : ℤ) → from ≤ length text → int_lt (pos 0) n ≡ true → line text from n ≡ one_past (slice_get (line_ends_from from (drop from text)) (nat_abs n - 1)) (length text)
 line_above text from (pos zero) within above = cc
 line_above text from (pos (suc n)) within above =
     let e : suc n - 1 ≡ n = omega arith in
-    rw e (ap (λ l. behind (slice_get l n) (length text)) (ends_ahead text from within))
+    rw e (ap (λ l. one_past (slice_get l n) (length text)) (ends_ahead text from within))
 line_above text from (negsuc n) within above = cc
 
-pub line_not_above : (text : List ℕ) (from : ℕ) (n : ℤ) → from ≤ length text → int_lt (pos 0) n ≡ false → line text from n ≡ behind (slice_get (reverse (line_ends_from 0 (take from text))) (nat_abs n)) 0
-line_not_above text from (pos zero) within below = ap (λ l. behind (slice_get (reverse l) 0) 0) (ends_back text from within)
+pub line_not_above : (text : List ℕ) (from : ℕ) (n : ℤ) → from ≤ length text → int_lt (pos 0) n ≡ false → line text from n ≡ one_past (slice_get (reverse (line_ends_from 0 (take from text))) (nat_abs n)) 0
+line_not_above text from (pos zero) within below = ap (λ l. one_past (slice_get (reverse l) 0) 0) (ends_back text from within)
 line_not_above text from (pos (suc n)) within below = let above : nat_lt 0 (suc n) ≡ true = search (rules, tests) in cc
-line_not_above text from (negsuc n) within below = ap (λ l. behind (slice_get (reverse l) (suc n)) 0) (ends_back text from within)
+line_not_above text from (negsuc n) within below = ap (λ l. one_past (slice_get (reverse l) (suc n)) 0) (ends_back text from within)
 
 -- one byte of the walk
 get_next : (p : ℕ) (l : List ℕ) (k : ℕ) → 0 < k → slice_get (p ∷ l) k ≡ slice_get l (k - 1)
@@ -89,7 +89,7 @@ back_more text p below =
     ap reverse whole ∙ reverse-append (line_ends_from 0 xs) (line_ends_from p (b ∷ []))
     ∙ elim (is_line_end b) as (λ v. reverse (cond v (p ∷ []) []) ++ reverse (line_ends_from 0 xs) ≡ cond v (p ∷ reverse (line_ends_from 0 xs)) (reverse (line_ends_from 0 xs))) [ true ↦ refl | false ↦ refl ]
 
-pub ahead_found : (text : List ℕ) (p n : ℕ) → p < length text → is_line_end (get_or text p 0) ≡ true → behind (slice_get (line_ends_from p (drop p text)) 0) n ≡ p + 1
+pub ahead_found : (text : List ℕ) (p n : ℕ) → p < length text → is_line_end (get_or text p 0) ≡ true → one_past (slice_get (line_ends_from p (drop p text)) 0) n ≡ p + 1
 ahead_found text p n below is = rw (ahead_more text p below, is) refl
 
 pub ahead_passed : (text : List ℕ) (p k : ℕ) → p < length text → is_line_end (get_or text p 0) ≡ true → 0 < k → slice_get (line_ends_from (p + 1) (drop (p + 1) text)) (k - 1) ≡ slice_get (line_ends_from p (drop p text)) k
@@ -98,11 +98,11 @@ ahead_passed text p k below is above = sym (rw (ahead_more text p below, is) (ge
 pub ahead_plain : (text : List ℕ) (p k : ℕ) → p < length text → is_line_end (get_or text p 0) ≡ false → slice_get (line_ends_from (p + 1) (drop (p + 1) text)) k ≡ slice_get (line_ends_from p (drop p text)) k
 ahead_plain text p k below is = sym (rw (ahead_more text p below, is) refl)
 
-pub ahead_end : (text : List ℕ) (p k n : ℕ) → length text ≤ p → behind (slice_get (line_ends_from p (drop p text)) k) n ≡ n
+pub ahead_end : (text : List ℕ) (p k n : ℕ) → length text ≤ p → one_past (slice_get (line_ends_from p (drop p text)) k) n ≡ n
 unfolding line_ends_from
 ahead_end text p k n past = rw (drop_of_length-le text past) refl
 
-pub back_found : (text : List ℕ) (p n : ℕ) → p < length text → is_line_end (get_or text p 0) ≡ true → behind (slice_get (reverse (line_ends_from 0 (take (p + 1) text))) 0) n ≡ p + 1
+pub back_found : (text : List ℕ) (p n : ℕ) → p < length text → is_line_end (get_or text p 0) ≡ true → one_past (slice_get (reverse (line_ends_from 0 (take (p + 1) text))) 0) n ≡ p + 1
 back_found text p n below is = rw (back_more text p below, is) refl
 
 pub back_passed : (text : List ℕ) (p k : ℕ) → p < length text → is_line_end (get_or text p 0) ≡ true → 0 < k → slice_get (reverse (line_ends_from 0 (take p text))) (k - 1) ≡ slice_get (reverse (line_ends_from 0 (take (p + 1) text))) k
@@ -111,6 +111,6 @@ back_passed text p k below is above = sym (rw (back_more text p below, is) (get_
 pub back_plain : (text : List ℕ) (p k : ℕ) → p < length text → is_line_end (get_or text p 0) ≡ false → slice_get (reverse (line_ends_from 0 (take p text))) k ≡ slice_get (reverse (line_ends_from 0 (take (p + 1) text))) k
 back_plain text p k below is = sym (rw (back_more text p below, is) refl)
 
-pub back_end : (text : List ℕ) (k n : ℕ) → behind (slice_get (reverse (line_ends_from 0 (take 0 text))) k) n ≡ n
+pub back_end : (text : List ℕ) (k n : ℕ) → one_past (slice_get (reverse (line_ends_from 0 (take 0 text))) k) n ≡ n
 unfolding line_ends_from
 back_end text k n = refl

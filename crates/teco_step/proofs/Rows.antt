@@ -27,65 +27,23 @@ use Rattle.teco_step.specs.Step.{Setting, Step, End, on, leave, go, call, stop}
 abbrev lines : List ℕ
 lines = 97 ∷ 10 ∷ 98 ∷ 11 ∷ 12 ∷ 99 ∷ []
 
-row_line_1 : line lines 3 (pos 1) ≡ 4
+lines_are_at : (line lines 3 (pos 1) ≡ 4)
+    × (line lines 3 (pos 2) ≡ 5)
+    × (line lines 2 (pos 1) ≡ 4)
+    × (line lines 5 (pos 1) ≡ 6)
+    × (line lines 6 (pos 1) ≡ 6)
+    × (line lines 0 (pos 3) ≡ 5)
+    × (line lines 0 (pos 4) ≡ 6)
+    × (line lines 3 (pos 0) ≡ 2)
+    × (line lines 2 (pos 0) ≡ 2)
+    × (line lines 4 (pos 0) ≡ 4)
+    × (line lines 5 (negsuc 0) ≡ 4)
+    × (line lines 5 (negsuc 1) ≡ 2)
+    × (line lines 5 (negsuc 2) ≡ 0)
+    × (line lines 1 (pos 0) ≡ 0)
+    × (line lines 0 (negsuc 4) ≡ 0)
 unfolding line_ends_from
-row_line_1 = refl
-
-row_line_2 : line lines 3 (pos 2) ≡ 5
-unfolding line_ends_from
-row_line_2 = refl
-
-row_line_3 : line lines 2 (pos 1) ≡ 4
-unfolding line_ends_from
-row_line_3 = refl
-
-row_line_4 : line lines 5 (pos 1) ≡ 6
-unfolding line_ends_from
-row_line_4 = refl
-
-row_line_5 : line lines 6 (pos 1) ≡ 6
-unfolding line_ends_from
-row_line_5 = refl
-
-row_line_6 : line lines 0 (pos 3) ≡ 5
-unfolding line_ends_from
-row_line_6 = refl
-
-row_line_7 : line lines 0 (pos 4) ≡ 6
-unfolding line_ends_from
-row_line_7 = refl
-
-row_line_8 : line lines 3 (pos 0) ≡ 2
-unfolding line_ends_from
-row_line_8 = refl
-
-row_line_9 : line lines 2 (pos 0) ≡ 2
-unfolding line_ends_from
-row_line_9 = refl
-
-row_line_10 : line lines 4 (pos 0) ≡ 4
-unfolding line_ends_from
-row_line_10 = refl
-
-row_line_11 : line lines 5 (negsuc 0) ≡ 4
-unfolding line_ends_from
-row_line_11 = refl
-
-row_line_12 : line lines 5 (negsuc 1) ≡ 2
-unfolding line_ends_from
-row_line_12 = refl
-
-row_line_13 : line lines 5 (negsuc 2) ≡ 0
-unfolding line_ends_from
-row_line_13 = refl
-
-row_line_14 : line lines 1 (pos 0) ≡ 0
-unfolding line_ends_from
-row_line_14 = refl
-
-row_line_15 : line lines 0 (negsuc 4) ≡ 0
-unfolding line_ends_from
-row_line_15 = refl
+lines_are_at = (refl, refl, refl, refl, refl, refl, refl, refl, refl, refl, refl, refl, refl, refl, refl)
 
 abbrev alone : Setting
 alone = record { modifiers = no_modifiers; work = None; inside = false; before = false }
@@ -311,9 +269,9 @@ row_increment_by_a_sign : does (token.register register_command.Increment 0) sev
 unfolding effect give operate taken_from digits_value line_ends_from
 row_increment_by_a_sign = refl
 
-row_increment_behind_an_operator : does (token.register register_command.Increment 0) seven (waits (pos 2)) ≡ goes (keeps (pos 8) (codes "abc")) (value (pos 10)) [] 0
+row_increment_after_an_operator : does (token.register register_command.Increment 0) seven (waits (pos 2)) ≡ goes (keeps (pos 8) (codes "abc")) (value (pos 10)) [] 0
 unfolding effect give operate taken_from digits_value line_ends_from
-row_increment_behind_an_operator = refl
+row_increment_after_an_operator = refl
 
 row_increment_keeps_a_first_value : does (token.register register_command.Increment 0) seven (pair (pos 1) (pos 2)) ≡ goes (keeps (pos 9) (codes "abc")) (pair (pos 1) (pos 9)) [] 0
 unfolding effect give operate taken_from digits_value line_ends_from

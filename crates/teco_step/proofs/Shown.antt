@@ -2,13 +2,13 @@
 use Rattle.std.proofs.Common.{ℕ, List, [], ◌++◌, Bool, true, false, Result, Ok, Err, IsErr, refl, sym, ap, append_assoc, ◌∙◌}
 use Rattle.std.proofs.lemmas.Bool.{false≢true}
 use Rattle.std.proofs.KnownBytes.{Appends-trans, Appends-nil}
-use Rattle.teco_step.specs.Terminal.{IsFrontOf, Screen, Shows, Puts, counted}
+use Rattle.teco_step.specs.Terminal.{IsFrontOf, Screen, Shows, Puts, count_after}
 
 pub Shows-nil : (w : Screen) → Shows w w [] false
 Shows-nil w = record { more = Appends-nil w.shown; count = refl }
 
 pub Shows-trans : {a b c : Screen} {xs ys : List ℕ} {failed : Bool} → Shows a b xs false → Shows b c ys failed → Shows a c (xs ++ ys) failed
-Shows-trans {failed} p q = record { more = Appends-trans _ _ _ _ _ p.more q.more; count = q.count ∙ ap (counted failed) p.count }
+Shows-trans {failed} p q = record { more = Appends-trans _ _ _ _ _ p.more q.more; count = q.count ∙ ap (count_after failed) p.count }
 
 -- a put that comes after these bytes were shown
 pub Puts-after : {A E : Type 0} {a b : Screen} {xs : List ℕ} (c : Screen) (ys : List ℕ) (r : Result A E)

@@ -45,13 +45,13 @@ to_line s a = do
 abbrev pub with_text_in_limit : State → Result State Code
 with_text_in_limit s = if nat_le (length s.text) text_limit then Ok s else Err Big
 
--- These bytes come in for so many at a place, and the pointer goes behind them.
+-- These bytes come in for so many at a place, and the pointer goes after them.
 abbrev pub puts : ℕ → ℕ → List ℕ → State → Arguments → Made
 puts at deleted bytes s a = do
   t ← with_text_in_limit (spliced s at deleted bytes None)
   changes t (deleted + length bytes)
 
--- The bytes come in at the pointer, which goes behind them.
+-- The bytes come in at the pointer, which goes after them.
 abbrev pub inserts : List ℕ → State → Arguments → Made
 inserts bytes s a = puts s.pointer 0 bytes s a
 

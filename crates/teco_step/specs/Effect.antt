@@ -12,7 +12,7 @@ use Rattle.teco_scan.specs.Scan.{Item}
 use Rattle.teco_scan.specs.Scan as token
 use Rattle.teco_core.specs.Arguments.{Arguments}
 use Rattle.teco_store.specs.State.{State}
-use Rattle.teco_step.specs.Step.{Setting, Step, Action, goes, turns, done_by, settled, none_such}
+use Rattle.teco_step.specs.Step.{Setting, Step, Action, goes, steers, done_by, settled, none_such}
 use Rattle.teco_step.specs.Values.{number, give_quantity, build}
 use Rattle.teco_step.specs.Editing.{jump, forward, back, to_line, delete, insert}
 use Rattle.teco_step.specs.Typing.{type_out, type_text, print}
@@ -28,7 +28,7 @@ command_effect command.Line w = goes to_line
 command_effect command.Delete w = goes delete
 command_effect command.TypeOut w = goes type_out
 command_effect command.Print w = goes print
-command_effect command.Leave w = turns (leave_or_not w.inside)
+command_effect command.Leave w = steers (leave_or_not w.inside)
 command_effect c w = none_such
 
 abbrev pub bare_effect : Bare → Setting → Action
@@ -43,13 +43,13 @@ register_effect register_command.Number q w = goes (register_value w.modifiers q
 register_effect register_command.Increment q w = goes (increment q)
 register_effect register_command.Set q w = goes (set_number q)
 register_effect register_command.Get q w = goes (get w.modifiers q)
-register_effect register_command.Macro q w = turns (run_register q)
+register_effect register_command.Macro q w = steers (run_register q)
 register_effect c q w = none_such
 
 abbrev pub text_effect : TextCommand → List ℕ → Setting → Action
 text_effect text_command.Insert text w = goes (insert text)
 text_effect text_command.TypeOut text w = goes (type_text text)
-text_effect text_command.Go text w = turns (jump_to text)
+text_effect text_command.Go text w = steers (jump_to text)
 text_effect c text w = none_such
 
 abbrev pub item_effect : Item → Setting → Action

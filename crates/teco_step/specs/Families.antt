@@ -12,15 +12,15 @@ use Rattle.teco_step.specs.declared.failure.Failure.{Failure}
 use Rattle.teco_step.specs.declared.failure.Failure.TheVariants as failure
 use Rattle.teco_step.specs.declared.next.Next.{Next}
 use Rattle.teco_step.specs.declared.next.Next.TheVariants as next
-use Rattle.teco_step.specs.Step.{Tried, Action, done_by, goes_on, End, go, types, Moment, Range}
+use Rattle.teco_step.specs.Step.{Attempt, Action, done_by, goes_on, End, go, types, Moment, Range}
 use Rattle.teco_step.specs.Stepping.{end_of, is_unfinished, is_unfinished_code}
 use Rattle.teco_step.specs.Terminal.{Screen, Shows, IsFrontOf}
 
 -- failures and their codes
-abbrev pub code_of : Failure → Code
-code_of (failure.Command c) = c
-code_of failure.Memory = code.Mem
-code_of failure.Terminal = code.Tty
+abbrev pub code_of_failure : Failure → Code
+code_of_failure (failure.Command c) = c
+code_of_failure failure.Memory = code.Mem
+code_of_failure failure.Terminal = code.Tty
 
 abbrev pub failure_of : Refused → Failure
 failure_of Big = failure.Command code.Big
@@ -29,22 +29,22 @@ failure_of NoMemory = failure.Memory
 -- what an answer leads to
 abbrev pub next_of : Result Next Failure → Next
 next_of (Ok n) = n
-next_of (Err f) = next.Error (code_of f)
+next_of (Err f) = next.Error (code_of_failure f)
 
 abbrev pub range_of : Places ℕ → Range
 range_of r = record { low = r.start; high = r.end }
 
 -- A failure is a refusal, by a code that says no failure of the host.
-pub record IsRefusal {A : Type 0} (f : Failure) (tried : Result A Code) : Type 0 where
+pub record IsRefusal {A : Type 0} (f : Failure) (attempt : Result A Code) : Type 0 where
   pub code : Code
   pub is : f ≡ failure.Command code
-  pub refused : tried ≡ Err code
+  pub refused : attempt ≡ Err code
   pub own : is_unfinished_code code ≡ false
 
 -- What was taken is what is to be taken, or is refused so.
 abbrev pub Takes : {A B : Type 0} → (A → B) → Result A Failure → Result B Code → Type 0
-Takes view (Ok x) tried = tried ≡ Ok (view x)
-Takes view (Err f) tried = IsRefusal f tried
+Takes view (Ok x) attempt = attempt ≡ Ok (view x)
+Takes view (Err f) attempt = IsRefusal f attempt
 
 -- the name that an end goes to
 abbrev pub tag_of : End → List ℕ
@@ -56,17 +56,17 @@ abbrev pub Carries : (Trail → Type 0) → (Trail → Type 0) → ℕ → Type 
 Carries before after load = ((t : Trail) → before t → after (moved t load)) ⊎ ((load ≡ 0) × ((t : Trail) → before t → after t))
 
 -- A step that types nothing was done.
-pub record IsActed (tried : Tried) (new : State) (left : Arguments) (before after : Trail → Type 0) (n : Next) : Type 0 where
+pub record IsActed (attempt : Attempt) (new : State) (left : Arguments) (before after : Trail → Type 0) (n : Next) : Type 0 where
   pub load : ℕ
   pub end : End
-  pub step : tried ≡ Ok (record { state = new; arguments = left; typed = []; load = load; end = end })
+  pub step : attempt ≡ Ok (record { state = new; arguments = left; typed = []; load = load; end = end })
   pub leads : end_of (tag_of end) n ≡ end
   pub finished : is_unfinished n ≡ false
   pub carries : Carries before after load
 
 -- It was refused, or memory was, and nothing changed.
-pub record IsUnacted (tried : Tried) (s new : State) (a left : Arguments) (before after : Trail → Type 0) (f : Failure) : Type 0 where
-  pub why : IsRefusal f tried ⊎ (f ≡ failure.Memory)
+pub record IsUnacted (attempt : Attempt) (s new : State) (a left : Arguments) (before after : Trail → Type 0) (f : Failure) : Type 0 where
+  pub why : IsRefusal f attempt ⊎ (f ≡ failure.Memory)
   pub state : new ≡ s
   pub arguments : left ≡ a
   pub follows : (t : Trail) → before t → after t
@@ -77,24 +77,24 @@ Acts f s new a left before after (Ok n) = IsActed (done_by f s a) new left befor
 Acts f s new a left before after (Err e) = IsUnacted (done_by f s a) s new a left before after e
 
 -- Bytes were typed.
-pub record IsTyped (tried : Tried) (s : State) (left : Arguments) (before after : Screen) (n : Next) : Type 0 where
+pub record IsTyped (attempt : Attempt) (s : State) (left : Arguments) (before after : Screen) (n : Next) : Type 0 where
   pub bytes : List ℕ
-  pub step : tried ≡ goes_on (types s bytes)
+  pub step : attempt ≡ goes_on (types s bytes)
   pub arguments : left ≡ no_arguments
   pub goes_on : n ≡ next.On
   pub shows : Shows before after bytes false
 
 -- Typing was refused, and nothing shown.
-pub record IsUntyped (tried : Tried) (a left : Arguments) (before after : Screen) (f : Failure) : Type 0 where
-  pub why : IsRefusal f tried
+pub record IsUntyped (attempt : Attempt) (a left : Arguments) (before after : Screen) (f : Failure) : Type 0 where
+  pub why : IsRefusal f attempt
   pub arguments : left ≡ a
   pub screen : after ≡ before
 
 -- A put failed: of the bytes, of which there are some, a beginning is shown.
-pub record IsCutShort (tried : Tried) (s : State) (a left : Arguments) (before after : Screen) (f : Failure) : Type 0 where
+pub record IsCutShort (attempt : Attempt) (s : State) (a left : Arguments) (before after : Screen) (f : Failure) : Type 0 where
   pub is : f ≡ failure.Terminal
   pub bytes : List ℕ
-  pub step : tried ≡ goes_on (types s bytes)
+  pub step : attempt ≡ goes_on (types s bytes)
   pub some : bytes ≢ []
   pub arguments : left ≡ a
   pub front : List ℕ

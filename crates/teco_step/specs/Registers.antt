@@ -22,26 +22,27 @@ set_number q s a = do
   n ← takes_one Nau a
   changes (with_register_number s q n) 0
 
--- What % adds: the value or the lone sign at the level, and else 1.
-abbrev pub summand : Level → ℤ
-summand (level.Value n) = n
-summand (level.Sign n) = n
-summand level.Empty = pos 1
-summand level.Waits = pos 1
-
--- A value or a lone sign that is added leaves the level.
-abbrev pub without_summand : Level → Arguments → Arguments
-without_summand (level.Value n) a = emptied a
-without_summand (level.Sign n) a = emptied a
-without_summand level.Empty a = a
-without_summand level.Waits a = a
-
--- n%q: the sum becomes the number of q, and is given.
-abbrev pub increment : ℕ → State → Arguments → Made
-increment q s a = do
-  sum ← fitted ((content s.registers q).number +ℤ summand (level_of a.expression))
-  given ← give sum (without_summand (level_of a.expression) a)
+-- This is added to the number of q, and the sum is given.
+abbrev pub adds : ℕ → ℤ → State → Arguments → Made
+adds q n s a = do
+  sum ← fitted ((content s.registers q).number +ℤ n)
+  given ← give sum a
   edits (with_register_number s q sum) given 0
+
+-- Nothing at the level is kept.
+abbrev pub adds_alone : ℕ → ℤ → State → Arguments → Made
+adds_alone q n s a = adds q n s (emptied a)
+
+-- What % adds: the value or the lone sign at the level, and else 1. Only an operator that waits is kept there.
+abbrev pub increments : ℕ → Level → State → Arguments → Made
+increments q (level.Value n) s a = adds_alone q n s a
+increments q (level.Sign n) s a = adds_alone q n s a
+increments q level.Empty s a = adds_alone q (pos 1) s a
+increments q level.Waits s a = adds q (pos 1) s a
+
+-- n%q
+abbrev pub increment : ℕ → State → Arguments → Made
+increment q s a = increments q (level_of a.expression) s a
 
 -- The text of q becomes this one, which must be within its limit, else BIG. The load is that of the old and the new one.
 abbrev pub sets_text : ℕ → List ℕ → State → Made

@@ -40,11 +40,11 @@ abbrev pub at : State → Arguments → Screen → Moment
 at s a w = record { state = s; arguments = a; screen = w }
 
 -- a step, or the code by which it is refused with nothing changed
-abbrev pub Tried : Type 0
-Tried = Result Step Code
+abbrev pub Attempt : Type 0
+Attempt = Result Step Code
 
 -- A refused step leaves all as it was.
-abbrev pub settled : State → Arguments → Tried → Step
+abbrev pub settled : State → Arguments → Attempt → Step
 settled s a (Ok step) = step
 settled s a (Err c) = record { state = s; arguments = a; typed = []; load = 0; end = stop c }
 
@@ -59,18 +59,18 @@ pub record Change : Type 0 where
 abbrev pub Made : Type 0
 Made = Result Change Code
 
-abbrev pub goes_on : Made → Tried
+abbrev pub goes_on : Made → Attempt
 goes_on (Ok c) = Ok (record { state = c.state; arguments = c.arguments; typed = c.typed; load = c.load; end = on })
 goes_on (Err c) = Err c
 
 -- What a token is to do: a change, after which the string goes on; or a step that ends as it says.
 pub data Action : Type 0 where
   goes : (make : State → Arguments → Made) → Action
-  turns : (try : State → Arguments → Tried) → Action
+  steers : (attempt : State → Arguments → Attempt) → Action
 
-abbrev pub done_by : Action → State → Arguments → Tried
+abbrev pub done_by : Action → State → Arguments → Attempt
 done_by (goes make) s a = goes_on (make s a)
-done_by (turns try) s a = try s a
+done_by (steers attempt) s a = attempt s a
 
 -- An edit: a new state, with the load of the change, and these arguments;
 abbrev pub edits : State → Arguments → ℕ → Made
@@ -95,7 +95,7 @@ gives s a v = do
   leaves s given
 
 -- It leaves these arguments, and ends so.
-abbrev pub ends : State → Arguments → End → Tried
+abbrev pub ends : State → Arguments → End → Attempt
 ends s a end = Ok (record { state = s; arguments = a; typed = []; load = 0; end = end })
 
 -- A command that isn't built is none.

@@ -8,9 +8,9 @@ pub record Screen : Type 0 where
   pub failures : ℕ
 
 -- a count of failures, modulo 2^64, after a call that failed or did not
-abbrev pub counted : Bool → ℕ → ℕ
-counted true n = (n + 1) % 2 ^ 64
-counted false n = n
+abbrev pub count_after : Bool → ℕ → ℕ
+count_after true n = (n + 1) % 2 ^ 64
+count_after false n = n
 
 -- front is a beginning of the bytes
 abbrev pub IsFrontOf : List ℕ → List ℕ → Type 0
@@ -19,7 +19,7 @@ IsFrontOf front bytes = (rest : List ℕ) × (bytes ≡ front ++ rest)
 -- A terminal showed these bytes more, where it tells, and its count rose if and only if it failed.
 pub record Shows (old new : Screen) (bytes : List ℕ) (failed : Bool) : Type 0 where
   pub more : Appends old.shown new.shown bytes
-  pub count : new.failures ≡ counted failed old.failures
+  pub count : new.failures ≡ count_after failed old.failures
 
 -- A put that is Ok showed all the bytes and left the count. One that is Err showed a beginning of them and added one to the count.
 abbrev pub Puts : {A E : Type 0} → Screen → Screen → List ℕ → Result A E → Type 0

@@ -4,7 +4,7 @@ ghost use Rattle.teco_core.specs.ArgumentsView.{arguments};
 ghost use Rattle.teco_core.specs.Number as number;
 ghost use Rattle.teco_step.specs.Control as control;
 ghost use Rattle.teco_step.specs.Families.{Acts};
-ghost use Rattle.teco_step.specs.Step.{turns};
+ghost use Rattle.teco_step.specs.Step.{steers};
 
 use crate::failure::Failure;
 use crate::next::Next;
@@ -27,7 +27,7 @@ pub(crate) fn leave_or_not<D: Desk>(
     inside: bool,
     args: &mut Args,
 ) -> Result<Next, Failure>
-    ensures { Acts (turns (control.leave_or_not inside)) (D.state desk.now) (D.state desk.now) (arguments args.old) (arguments args.new)
+    ensures { Acts (steers (control.leave_or_not inside)) (D.state desk.now) (D.state desk.now) (arguments args.old) (arguments args.new)
         (D.follows desk.now) (D.follows desk.now) result }
 {
     let n = takes_one_or(args, truth(desk.last_result()))?;
@@ -43,7 +43,7 @@ pub(crate) fn leave_or_not<D: Desk>(
 
 /// `Oname$` goes on after the tag of the name that the token has. Takes no memory.
 pub(crate) fn jump_to<D: Desk>(desk: &D, name: &[u8], args: &mut Args) -> Result<Next, Failure>
-    ensures { Acts (turns (control.jump_to name.now)) (D.state desk.now) (D.state desk.now) (arguments args.old) (arguments args.new)
+    ensures { Acts (steers (control.jump_to name.now)) (D.state desk.now) (D.state desk.now) (arguments args.old) (arguments args.new)
         (D.follows desk.now) (D.follows desk.now) result }
 {
     takes_none(args)?;
@@ -54,7 +54,7 @@ pub(crate) fn jump_to<D: Desk>(desk: &D, name: &[u8], args: &mut Args) -> Result
 /// `Mq` runs a copy of the text of q. The arguments stay.
 pub(crate) fn run_register<D: Desk>(desk: &D, q: Reg, args: &Args) -> Result<Next, Failure>
     ensures { let s = D.state desk.now in let a = arguments args.now in
-        Acts (turns (control.run_register q)) s s a a (D.follows desk.now) (D.follows desk.now) result }
+        Acts (steers (control.run_register q)) s s a a (D.follows desk.now) (D.follows desk.now) result }
 {
     let text = copy(desk, q, desk.registers().text(q))?;
     Ok(Next::Call(text))

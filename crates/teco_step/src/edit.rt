@@ -62,7 +62,7 @@ pub(crate) fn to_line<D: Desk>(desk: &mut D, args: &mut Args) -> Result<Next, Fa
     move_to(desk, place, args)
 }
 
-/// Puts bytes for so many at a place, and the pointer behind them. The command is then done, and its arguments gone. A text past its
+/// Puts bytes for so many at a place, and the pointer after them. The command is then done, and its arguments gone. A text past its
 /// limit is [`Code::Big`].
 pub(crate) fn put<D: Desk>(
     desk: &mut D,

@@ -4,6 +4,7 @@
 mod control;
 mod edit;
 mod failure;
+mod laws;
 mod line;
 mod memory_terminal;
 mod next;
@@ -17,6 +18,7 @@ mod typing;
 mod value;
 mod writer_terminal;
 
+pub use laws::{effect_laws, screen_laws};
 pub use line::line_place;
 pub use memory_terminal::MemoryTerminal;
 pub use next::{Next, Setting, Work};

@@ -1,6 +1,6 @@
 //! Places of lines.
 ghost use Rattle.std.specs.Prelude.{◌≡◌, ◌<◌, ◌≤◌, ◌++◌, length, drop, take, reverse, slice_get, slice_index};
-ghost use Rattle.teco_step.specs.Line.{behind, line, line_ends_from};
+ghost use Rattle.teco_step.specs.Line.{one_past, line, line_ends_from};
 
 /// The byte at a place of a text in two halves.
 fn byte_at(before: &[u8], after: &[u8], place: usize) -> u8
@@ -24,7 +24,7 @@ fn is_line_end(byte: u8) -> bool
 fn line_ahead(before: &[u8], after: &[u8], from: usize, skip: u32) -> usize
     requires { from ≤ length (before.now ++ after.now) }
     ensures value { let text = before.now ++ after.now in
-        result ≡ behind (slice_get (line_ends_from from (drop from text)) skip) (length text) }
+        result ≡ one_past (slice_get (line_ends_from from (drop from text)) skip) (length text) }
     ensures within { result ≤ length (before.now ++ after.now) }
 {
     let end = before.len() + after.len();
@@ -44,7 +44,7 @@ fn line_ahead(before: &[u8], after: &[u8], from: usize, skip: u32) -> usize
 fn line_back(before: &[u8], after: &[u8], from: usize, skip: u32) -> usize
     requires { from ≤ length (before.now ++ after.now) }
     ensures value { let text = before.now ++ after.now in
-        result ≡ behind (slice_get (reverse (line_ends_from 0 (take from text))) skip) 0 }
+        result ≡ one_past (slice_get (reverse (line_ends_from 0 (take from text))) skip) 0 }
     ensures within { result ≤ length (before.now ++ after.now) }
 {
     let mut left = skip;

@@ -2,7 +2,7 @@
 use teco_core::Code;
 use teco_scan::Modifiers;
 
-/// What is left of a token that takes several steps: the pages to turn or the occurrences to find, and whether a search is next.
+/// What is left of a token that takes several steps: so many pages or occurrences, and whether a search is next.
 #[derive(Clone, Copy, Debug, PartialEq, Eq)]
 pub struct Work {
     pub left: i32,

@@ -1,7 +1,7 @@
 //! Commands on the number and the text of a register. One that is not done keeps the arguments and the state.
-ghost use Rattle.std.specs.Prelude.{◌≡◌, ◌≤◌, length, Err, IfErr, IfOk};
+ghost use Rattle.std.specs.Prelude.{◌≡◌, ◌≤◌, length, pos, Err, IfErr, IfOk, Ok};
 ghost use Rattle.teco_core.specs.ArgumentsView.{arguments};
-ghost use Rattle.teco_core.specs.Arguments.{level_of};
+ghost use Rattle.teco_core.specs.Arguments.{emptied, give};
 ghost use Rattle.teco_core.specs.Register.{content};
 ghost use Rattle.teco_store.specs.State.{text_limit};
 ghost use Rattle.teco_step.specs.Families.{Acts, Does, Types};
@@ -57,23 +57,40 @@ pub(crate) fn set_number<D: Desk>(desk: &mut D, q: Reg, args: &mut Args) -> Resu
     Ok(Next::On)
 }
 
-/// What `%` adds: the value or the lone sign at the level, which it leaves empty, and else 1.
-fn summand(args: &mut Args) -> i32
-    ensures value { result ≡ registers.summand (level_of (arguments args.old).expression) }
-    ensures left { arguments args.new ≡ registers.without_summand (level_of (arguments args.old).expression) (arguments args.old) }
+/// Gives a value in place of what the level has, which no level refuses.
+#[tactic(auto, unfolding(teco_core::specs::Arguments::give))]
+fn give_alone(args: &mut Args, value: i32)
+    ensures { give value (emptied (arguments args.old)) ≡ Ok (arguments args.new) }
 {
-    match args.level() {
-        Level::Value(n) => {
-            args.empty_level();
-            n
-        }
-        Level::Sign(n) => {
-            args.empty_level();
-            n
-        }
-        Level::Empty => 1,
-        Level::Waits => 1,
+    args.empty_level();
+    match args.give(value) {
+        Ok(()) => {}
+        Err(_) => {}
     }
+}
+
+/// Adds `n` to the number of q, and gives the sum in place of what the level has.
+fn add_alone<D: Desk>(desk: &mut D, q: Reg, n: i32, args: &mut Args) -> Result<Next, Failure>
+    ensures { Acts (goes (registers.adds_alone q n)) (D.state desk.old) (D.state desk.new) (arguments args.old) (arguments args.new)
+        (D.follows desk.old) (D.follows desk.new) result }
+{
+    let sum = sum(desk.registers().number(q), n)?;
+    desk.set_number(q, sum)?;
+    give_alone(args, sum);
+    Ok(Next::On)
+}
+
+/// Adds 1 to the number of q, and gives the sum to the operator that waits, which may refuse it.
+fn add_one<D: Desk>(desk: &mut D, q: Reg, args: &mut Args) -> Result<Next, Failure>
+    ensures { Acts (goes (registers.adds q (pos 1))) (D.state desk.old) (D.state desk.new) (arguments args.old) (arguments args.new)
+        (D.follows desk.old) (D.follows desk.new) result }
+{
+    let mut left = *args;
+    let sum = sum(desk.registers().number(q), 1)?;
+    give(&mut left, sum)?;
+    desk.set_number(q, sum)?;
+    *args = left;
+    Ok(Next::On)
 }
 
 /// `n%q`: the sum becomes the number of q, and is given.
@@ -81,13 +98,12 @@ pub(crate) fn increment<D: Desk>(desk: &mut D, q: Reg, args: &mut Args) -> Resul
     ensures { Acts (goes (registers.increment q)) (D.state desk.old) (D.state desk.new) (arguments args.old) (arguments args.new)
         (D.follows desk.old) (D.follows desk.new) result }
 {
-    let mut left = *args;
-    let n = summand(&mut left);
-    let sum = sum(desk.registers().number(q), n)?;
-    give(&mut left, sum)?;
-    desk.set_number(q, sum)?;
-    *args = left;
-    Ok(Next::On)
+    match args.level() {
+        Level::Value(n) => add_alone(desk, q, n, args),
+        Level::Sign(n) => add_alone(desk, q, n, args),
+        Level::Empty => add_alone(desk, q, 1, args),
+        Level::Waits => add_one(desk, q, args),
+    }
 }
 
 /// A copy of the bytes, in memory of its own.

@@ -158,7 +158,7 @@ fn item_step<D: Desk, T: Terminal>(
     }
 }
 
-/// One step of a token that stands in the text: its first, or a further one with this work left.
+/// One step of a token of the text: its first, or a further one with this work left.
 ///
 /// `inside` says that an iteration of the same text is open, and `before` that a `;` without modifiers comes next. The step does what
 /// it means; or it ends by [`Code::Mem`] or [`Code::Tty`], and then the state is unchanged.

@@ -140,6 +140,25 @@ fn serves_strings(rt: HostRuntime) {
 }
 
 #[test]
+fn serves_edits(rt: HostRuntime) {
+    for row in [
+        plain_row("Ihello$R.=$$", "4\r\n", "hello"),
+        plain_row("Ia$10I$Ib$0JL.=$$", "2\r\n", "a\nb"),
+        plain_row("Ihello$2J2DHT$$", "heo", "heo"),
+        plain_row("Ihello$D$$", "?DTB\r\n", "hello"),
+        Row {
+            register: "hi",
+            ..plain_row("^UAhi$GA:GA$$", "hi", "hi")
+        },
+        plain_row("@^A/hello/$$", "hello", ""),
+        plain_row("^Ahello\x01$$", "hello", ""),
+        plain_row("H=$$", "?ARG\r\n", ""),
+    ] {
+        holds(&rt, rt.alloc(), row);
+    }
+}
+
+#[test]
 fn serves_programs(rt: HostRuntime) {
     for row in [
         Row {

@@ -21,7 +21,7 @@ pieces-init g c = (
   CutsOff-none _ c.new-splitter.ensures,
   ap texts_of c.new-splitter.ensures,
   tt,
-  subst (λ l. Shows g.T.Terminal.shown g.T.Terminal.failures c.args.term.now c.show_prompt.new.term l false) (sym (append-nil (star c.args.prompt))) c.in_default.ensures,
+  subst (λ l. Shows (g.T.Terminal.screen c.args.term.now) (g.T.Terminal.screen c.show_prompt.new.term) l false) (sym (append-nil (star c.args.prompt))) c.in_default.ensures,
 )
 
 pub returns-in-Err-read : goal.returns-in-Err-read
@@ -61,7 +61,7 @@ returns-in-Some g c =
     let bytes = inv.0 ++ piece in
     let fed : c.feed.new.self ≡ c.pieces.splitter ++ piece = grind (arith, common_steps) in
     let cut = CutsOff-append bytes c.feed.new.self c.serve_held.new.splitter inv.1 d.0 (CutsOff-fed inv.0 c.pieces.splitter piece c.feed.new.self inv.1 inv.4 fed) d.2 in
-    let ends = ends_from g.T.Terminal.shown g.T.Terminal.failures c.args.term.now c.pieces.term c.serve_held.new.term (g.S.Source.ended c.read.new.self) c.args.prompt bytes inv.1 d.0 c.in-Some.served inv.6 inv.7 d.4 in (
+    let ends = ends_from (g.T.Terminal.screen c.args.term.now) (g.T.Terminal.screen c.pieces.term) (g.T.Terminal.screen c.serve_held.new.term) (g.S.Source.ended c.read.new.self) c.args.prompt bytes inv.1 d.0 c.in-Some.served inv.6 inv.7 d.4 in (
       bytes,
       inv.1 ++ d.0,
       subst (λ b. Gives g.S.Source.coming g.S.Source.bound g.S.Source.failures c.args.source.now c.read.new.self bytes b) (sym ends.0) (Gives-more inv.2 c.in-Ok.ensures.ok),
@@ -85,5 +85,5 @@ pieces-preserved g c =
       cut,
       d.3,
       GoOn-append inv.1 d.0 inv.6 d.4.0,
-      shows_on g.T.Terminal.shown g.T.Terminal.failures c.args.term.now c.pieces.term c.serve_held.new.term c.args.prompt inv.1 d.0 inv.7 d.4.1,
+      shows_on (g.T.Terminal.screen c.args.term.now) (g.T.Terminal.screen c.pieces.term) (g.T.Terminal.screen c.serve_held.new.term) c.args.prompt inv.1 d.0 inv.7 d.4.1,
     )

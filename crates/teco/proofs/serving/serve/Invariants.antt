@@ -12,7 +12,7 @@ abbrev pub invariant-pieces : goal.invariant-pieces
 invariant-pieces g l =
     (bytes : List ℕ) × (turns : List Turn) × Gives g.S.Source.coming g.S.Source.bound g.S.Source.failures l.fn.source l.source bytes false
     × Turns l.limit l.fn.session turns l.session × CutsOff bytes turns l.splitter × (texts_of l.splitter ≡ []) × GoOn turns
-    × Shows g.T.Terminal.shown g.T.Terminal.failures l.fn.term l.term (star l.prompt ++ turns_shown l.prompt turns) false
+    × Shows (g.T.Terminal.screen l.fn.term) (g.T.Terminal.screen l.term) (star l.prompt ++ turns_shown l.prompt turns) false
 
 abbrev pub decreases-pieces : goal.decreases-pieces
 decreases-pieces g l = g.S.Source.bound l.source

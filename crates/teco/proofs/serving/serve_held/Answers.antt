@@ -11,7 +11,7 @@ returns-in-Some g c =
     let d = c.in-Some.ensures in
     let first : AsksFirst c.held.splitter (Some c.in-Ok-Some.asked) c.next.new.self = rw c.in-Ok-Some.field-0-is at c.in-Ok-Some.ensures.first in
     let more = turn_more c.args.limit _ _ c.do_turn.new.session _ _ _ inv.0 d.0 c.in-Ok-Some.asked inv.1 inv.2 first d.1 in
-    (inv.0 ++ d.0 ∷ [], more.0, more.1, tt, HeldEnds-one g.T.Terminal.shown g.T.Terminal.failures _ c.held.term _ c.args.prompt inv.0 d.0 c.in-Some.served inv.3 inv.4 d.2)
+    (inv.0 ++ d.0 ∷ [], more.0, more.1, tt, HeldEnds-one _ (g.T.Terminal.screen c.held.term) _ c.args.prompt inv.0 d.0 c.in-Some.served inv.3 inv.4 d.2)
 
 pub held-preserved-in_default : goal.held-preserved-in_default
 held-preserved-in_default g c =
@@ -23,7 +23,7 @@ held-preserved-in_default g c =
       more.0,
       more.1,
       GoOn-append inv.0 (d.0 ∷ []) inv.3 (d.2.0, tt),
-      subst (λ l. Shows g.T.Terminal.shown g.T.Terminal.failures c.args.term.now c.do_turn.new.term l false) (sym (turns_shown-one c.args.prompt inv.0 d.0)) (Shows-trans inv.4 d.2.1),
+      subst (λ l. Shows (g.T.Terminal.screen c.args.term.now) (g.T.Terminal.screen c.do_turn.new.term) l false) (sym (turns_shown-one c.args.prompt inv.0 d.0)) (Shows-trans inv.4 d.2.1),
     )
 
 pub held-preserved : goal.held-preserved
@@ -36,5 +36,5 @@ held-preserved g c =
       more.0,
       more.1,
       GoOn-append inv.0 (d.0 ∷ []) inv.3 (d.2.0, tt),
-      subst (λ l. Shows g.T.Terminal.shown g.T.Terminal.failures c.args.term.now c.do_turn.new.term l false) (sym (turns_shown-one c.args.prompt inv.0 d.0)) (Shows-trans inv.4 d.2.1),
+      subst (λ l. Shows (g.T.Terminal.screen c.args.term.now) (g.T.Terminal.screen c.do_turn.new.term) l false) (sym (turns_shown-one c.args.prompt inv.0 d.0)) (Shows-trans inv.4 d.2.1),
     )

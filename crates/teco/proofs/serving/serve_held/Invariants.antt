@@ -8,7 +8,7 @@ use Rattle.teco.proofs.serving.serve_held.Given as goal
 abbrev pub invariant-held : goal.invariant-held
 invariant-held g l =
     (turns : List Turn) × Turns l.limit l.initial.session turns l.session × CutsOff l.initial.splitter turns l.splitter × GoOn turns
-    × Shows g.T.Terminal.shown g.T.Terminal.failures l.initial.term l.term (turns_shown l.prompt turns) false
+    × Shows (g.T.Terminal.screen l.initial.term) (g.T.Terminal.screen l.term) (turns_shown l.prompt turns) false
 
 abbrev pub decreases-held : goal.decreases-held
 decreases-held g l = length l.splitter

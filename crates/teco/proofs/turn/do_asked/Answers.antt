@@ -13,7 +13,7 @@ returns-then-is_unshown g c =
     rw c.in-Run.is (
       reply ∷ [],
       (reply, refl, subst (λ t. RunStep c.args.limit c.args.session.now t reply.answer reply.typed c.run-answer.new.self) c.as_slice.ensures.value ran.1),
-      (ran.0, (message reply.answer, append-nil (ran.0 ++ message reply.answer)), subst (λ b. Shows g.T.Terminal.shown g.T.Terminal.failures c.args.term.now c.run-answer.new.term ran.0 b) tty ran.2),
+      (ran.0, (message reply.answer, append-nil (ran.0 ++ message reply.answer)), subst (λ b. Shows (g.T.Terminal.screen c.args.term.now) (g.T.Terminal.screen c.run-answer.new.term) ran.0 b) tty ran.2),
     )
 
 pub returns-else-is_unshown : goal.returns-else-is_unshown
@@ -24,7 +24,7 @@ returns-else-is_unshown g c =
     rw c.in-Run.is (
       reply ∷ [],
       (reply, refl, subst (λ t. RunStep c.args.limit c.args.session.now t reply.answer reply.typed c.run-answer.new.self) c.as_slice.ensures.value ran.1),
-      subst (λ l. Puts g.T.Terminal.shown g.T.Terminal.failures c.args.term.now c.show_message.new.term l c.show_message.result) (sym (append-nil (ran.0 ++ message reply.answer)))
-          (Puts-after c.show_message.new.term (message reply.answer) c.show_message.result
-          (subst (λ b. Shows g.T.Terminal.shown g.T.Terminal.failures c.args.term.now c.run-answer.new.term ran.0 b) well ran.2) c.show_message.ensures),
+      subst (λ l. Puts (g.T.Terminal.screen c.args.term.now) (g.T.Terminal.screen c.show_message.new.term) l c.show_message.result) (sym (append-nil (ran.0 ++ message reply.answer)))
+          (Puts-after (g.T.Terminal.screen c.show_message.new.term) (message reply.answer) c.show_message.result
+          (subst (λ b. Shows (g.T.Terminal.screen c.args.term.now) (g.T.Terminal.screen c.run-answer.new.term) ran.0 b) well ran.2) c.show_message.ensures),
     )

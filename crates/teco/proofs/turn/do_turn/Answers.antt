@@ -26,7 +26,7 @@ returns-then-exits g c =
       record { asked_is = refl; before_is = refl; after_is = refl; does = d.1 },
       (
         ends,
-        subst (λ l. Shows g.T.Terminal.shown g.T.Terminal.failures c.args.term.now c.do_asked.new.term l false) (sym (shown_exit c.args.prompt turn ends)) d.2,
+        subst (λ l. Shows (g.T.Terminal.screen c.args.term.now) (g.T.Terminal.screen c.do_asked.new.term) l false) (sym (shown_exit c.args.prompt turn ends)) d.2,
       ),
     )
 
@@ -61,6 +61,6 @@ returns g c =
       record { asked_is = refl; before_is = refl; after_is = refl; does = d.1 },
       (
         on,
-        subst (λ l. Shows g.T.Terminal.shown g.T.Terminal.failures c.args.term.now c.show_prompt.new.term l false) (sym (shown_on c.args.prompt turn on)) (Shows-trans d.2 p),
+        subst (λ l. Shows (g.T.Terminal.screen c.args.term.now) (g.T.Terminal.screen c.show_prompt.new.term) l false) (sym (shown_on c.args.prompt turn on)) (Shows-trans d.2 p),
       ),
     )

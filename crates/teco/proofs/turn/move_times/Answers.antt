@@ -16,8 +16,8 @@ returns-then-is_refused g c =
     let last = Moves-refused c.args.kind (c.args.n - (c.moves._i + 1)) c.moves.session new reply c.move_once-answer.ensures.moves refused in (
       m.0 ++ reply ∷ [],
       m.2 (reply ∷ []) new (subst (λ k. Moves c.args.kind k c.moves.session (reply ∷ []) new) (sym (less_one c.args.n c.moves._i (omega arith))) last),
-      subst (λ l. Puts g.T.Terminal.shown g.T.Terminal.failures c.args.term.now c.show_message.new.term l c.show_message.result) (sym (replies_shown-one m.0 reply m.1 refl))
-          (subst (λ t. Puts g.T.Terminal.shown g.T.Terminal.failures t c.show_message.new.term (message reply.answer) c.show_message.result) c.moves.invariant.same c.show_message.ensures),
+      subst (λ l. Puts (g.T.Terminal.screen c.args.term.now) (g.T.Terminal.screen c.show_message.new.term) l c.show_message.result) (sym (replies_shown-one m.0 reply m.1 refl))
+          (subst (λ t. Puts (g.T.Terminal.screen t) (g.T.Terminal.screen c.show_message.new.term) (message reply.answer) c.show_message.result) c.moves.invariant.same c.show_message.ensures),
     )
 
 pub moves-preserved : goal.moves-preserved
@@ -44,6 +44,6 @@ returns g c =
       m.0,
       subst (λ l. Moves c.args.kind c.args.n c.args.session.now l c.moves.session) (append-nil m.0)
           (m.2 [] c.moves.session (subst (λ k. Moves c.args.kind k c.moves.session [] c.moves.session) none (refl, refl))),
-      subst (λ l. Shows g.T.Terminal.shown g.T.Terminal.failures c.args.term.now c.moves.term l false) (sym m.1)
-          (subst (λ t. Shows g.T.Terminal.shown g.T.Terminal.failures c.args.term.now t [] false) (sym c.moves.invariant.same) (Shows-nil _ _ _)),
+      subst (λ l. Shows (g.T.Terminal.screen c.args.term.now) (g.T.Terminal.screen c.moves.term) l false) (sym m.1)
+          (subst (λ t. Shows (g.T.Terminal.screen c.args.term.now) (g.T.Terminal.screen t) [] false) (sym c.moves.invariant.same) (Shows-nil _)),
     )

@@ -7,9 +7,9 @@ use Rattle.teco.proofs.turn.show_message.Goals as goal
 pub returns-in-None : goal.returns-in-None
 unfolding message
 returns-in-None g c =
-    subst (λ o. Shows g.T.Terminal.shown g.T.Terminal.failures c.args.term.now c.args.term.now (line_of o) false) c.in-None.ensures (Shows-nil _ _ _)
+    subst (λ o. Shows (g.T.Terminal.screen c.args.term.now) (g.T.Terminal.screen c.args.term.now) (line_of o) false) c.in-None.ensures (Shows-nil _)
 
 pub returns-in-Some : goal.returns-in-Some
 unfolding message
 returns-in-Some g c =
-    subst (λ l. Puts g.T.Terminal.shown g.T.Terminal.failures c.args.term.now c.put.new.self l c.put.result) (c.code_line.ensures ∙ ap line_of c.in-Some.ensures) c.put.ensures
+    subst (λ l. Puts (g.T.Terminal.screen c.args.term.now) (g.T.Terminal.screen c.put.new.self) l c.put.result) (c.code_line.ensures ∙ ap line_of c.in-Some.ensures) c.put.ensures

@@ -3,6 +3,7 @@ use Rattle.teco_core.specs.ArgumentsView.{arguments}
 use Rattle.teco_scan.specs.Tree.{tree}
 use Rattle.teco_store.specs.State.{State}
 use Rattle.teco_step.specs.Step.{End}
+use Rattle.teco_step.specs.Terminal.{Screen}
 use Rattle.teco_exec.specs.Moves.{IsQuiet}
 use Rattle.teco_exec.specs.Place.{IsPlace}
 use Rattle.teco_exec.specs.Quiet.{takes_no_memory}
@@ -21,10 +22,10 @@ invariant-steps g l = record {
   place : IsPlace l.text l.place;
   pending : IsPending l.text l.pending;
   quiet : takes_no_memory (tree l.text) ≡ true → IsQuiet l.text l.place × (l.pending ≡ None);
-  going : (old : State) (whole : List ℕ) (first : _) (behind : World → End → Ran) (typed : List ℕ) (load : ℕ)
+  going : (old : State) (whole : List ℕ) (first : Screen) (behind : World → End → Ran) (typed : List ℕ) (load : ℕ)
       → IsBehind behind
-      → Enters g.T.Terminal.shown g.T.Terminal.failures (run_of old whole) first l.fn.term l.fn.before (through behind (whole_text l.text l.depth (arguments l.fn.args) (g.D.Desk.state l.fn.desk))) typed load
-      → Going g.T.Terminal.shown g.T.Terminal.failures (run_of old whole) first l.term (g.D.Desk.state l.desk)
+      → Enters (run_of old whole) first (g.T.Terminal.screen l.fn.term) l.fn.before (through behind (whole_text l.text l.depth (arguments l.fn.args) (g.D.Desk.state l.fn.desk))) typed load
+      → Going (run_of old whole) first (g.T.Terminal.screen l.term) (g.D.Desk.state l.desk)
       (λ floor. g.D.Desk.follows l.fn.desk (trail (run_of old whole) floor l.fn.before load)) (g.D.Desk.follows l.desk) l.steps
       (through behind (at_moment l.text l.depth l.place l.pending (g.D.Desk.state l.desk)));
 }

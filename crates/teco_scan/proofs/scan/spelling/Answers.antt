@@ -5,6 +5,8 @@ use Rattle.teco_scan.proofs.Sound.{spelled}
 use Rattle.teco_scan.proofs.Longest.{longest}
 use Rattle.teco_scan.proofs.Faults.{four, register_exactly, test_exactly}
 use Rattle.teco_scan.proofs.Exactly.{cut_exactly, ill_exactly, passes_fillers}
+use Rattle.teco_scan.proofs.Determined.{determined}
+use Rattle.teco_scan.proofs.Written.{written}
 use Rattle.teco_scan.proofs.scan.spelling.Goals as goal
 
 -- all that the laws need of the commands
@@ -34,3 +36,9 @@ returns-clause-faults c = four ROWS
 
 pub returns-clause-fillers : goal.returns-clause-fillers
 returns-clause-fillers c = passes_fillers
+
+pub returns-clause-determined : goal.returns-clause-determined
+returns-clause-determined c = determined
+
+pub returns-clause-commands : goal.returns-clause-commands
+returns-clause-commands c = written

@@ -2,7 +2,7 @@ use Rattle.std.proofs.Common.{◌++◌, ◌∷◌, [], FitsSigned, inr, refl, ru
 use Rattle.std.proofs.lemmas.Int.{to_z-of_z}
 use Rattle.std.proofs.lemmas.Result.{err_from_is_err_and}
 use Rattle.std.specs.Fmt.{signed_decimal}
-use Rattle.teco_step.proofs.Halves.{nonempty_behind}
+use Rattle.teco_step.proofs.Halves.{nonempty_after}
 use Rattle.teco_step.proofs.typing.print.Goals as goal
 
 pub returns-in_err-put_number : goal.returns-in_err-put_number
@@ -14,7 +14,7 @@ returns-in_err-put_number g c =
       is = refl;
       bytes = signed_decimal c.in_ok-n.n ++ 13 ∷ 10 ∷ [];
       step = search rules;
-      some = nonempty_behind (signed_decimal c.in_ok-n.n) (13 ∷ 10 ∷ []) (λ e. cc);
+      some = nonempty_after (signed_decimal c.in_ok-n.n) (13 ∷ 10 ∷ []) (λ e. cc);
       arguments = refl;
       front = puts.0;
       beginning = puts.1;

@@ -10,5 +10,5 @@ invariant-loop-request g l = record {
   filled : vec_len l.answers ≡ l.request-index;
   played : (replies : List Reply) × (l.answers.items ≡ answers_of replies)
       × Play l.limit l.initial.self (take l.request-index l.requests) replies l.self
-      × ShowsAll g.T.Terminal.shown g.T.Terminal.failures l.initial.term l.term replies;
+      × ShowsAll (g.T.Terminal.screen l.initial.term) (g.T.Terminal.screen l.term) replies;
 }

@@ -1,0 +1,5 @@
+use Rattle.teco_step.proofs.Ends.{leave_is_inside, go_names, never_again, value_goes_on}
+use Rattle.teco_step.proofs.laws.effect_laws.Goals as goal
+
+pub returns : goal.returns
+returns c = record { leave = leave_is_inside; jump = go_names; further = never_again; value = value_goes_on }

@@ -1,0 +1,35 @@
+-- What the effect of a token and what a terminal shows always say.
+use Rattle.std.specs.Prelude.{◌≡◌, List, [], ◌++◌, ℕ, Bool, true, false, ◌⊎◌}
+use Rattle.teco_core.specs.declared.code.Code.{Code}
+use Rattle.teco_core.specs.Arguments.{Arguments}
+use Rattle.teco_scan.specs.Scan.{Item}
+use Rattle.teco_store.specs.State.{State}
+use Rattle.teco_step.specs.Effect.{effect}
+use Rattle.teco_step.specs.Step.{Setting, on, leave, go, again, stop}
+use Rattle.teco_step.specs.Stepping.{name_of, takes_nothing}
+use Rattle.teco_step.specs.Terminal.{Screen, Shows, IsFrontOf}
+use Rattle.teco_step.specs.declared.next.Work.{Work}
+
+-- An iteration is left only inside one.
+abbrev pub LeavesInside : Type 0
+LeavesInside = (i : Item) (w : Setting) (s : State) (a : Arguments) → (effect i w s a).end ≡ leave → w.inside ≡ true
+
+-- A jump goes to the name that the token has.
+abbrev pub JumpsToItsName : Type 0
+JumpsToItsName = (i : Item) (w : Setting) (s : State) (a : Arguments) (name : List ℕ) → (effect i w s a).end ≡ go name → name_of i ≡ name
+
+-- No token has a further step.
+abbrev pub HasNoFurtherStep : Type 0
+HasNoFurtherStep = (i : Item) (w : Setting) (s : State) (a : Arguments) (work : Work) → (effect i w s a).end ≡ again work → ⊥
+
+-- After a value or arithmetic the string goes on, or ends by an error.
+abbrev pub ValueGoesOn : Type 0
+ValueGoesOn = (i : Item) (w : Setting) (s : State) (a : Arguments) → takes_nothing i ≡ true → ((effect i w s a).end ≡ on) ⊎ ((c : Code) × ((effect i w s a).end ≡ stop c))
+
+-- A screen that is left alone shows nothing more.
+abbrev pub StillShows : Type 0
+StillShows = (w : Screen) → Shows w w [] false
+
+-- What is shown, and then more, is shown together.
+abbrev pub ShowsMore : Type 0
+ShowsMore = (a b c : Screen) (xs ys : List ℕ) (failed : Bool) → Shows a b xs false → Shows b c ys failed → Shows a c (xs ++ ys) failed

@@ -1,0 +1,16 @@
+//! What the effect of a token and what a terminal shows always say.
+ghost use Rattle.teco_step.specs.Laws.{HasNoFurtherStep, JumpsToItsName, LeavesInside, ShowsMore, StillShows, ValueGoesOn};
+
+/// How the step of a token may end. It does nothing: its clauses are laws.
+pub fn effect_laws()
+    ensures leave { LeavesInside }
+    ensures jump { JumpsToItsName }
+    ensures further { HasNoFurtherStep }
+    ensures value { ValueGoesOn }
+{}
+
+/// What a terminal shows, one put after another. It does nothing: its clauses are laws.
+pub fn screen_laws()
+    ensures nothing { StillShows }
+    ensures more { ShowsMore }
+{}
