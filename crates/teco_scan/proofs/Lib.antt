@@ -12,3 +12,9 @@ pub mod Skips
 pub mod LastBytes
 pub mod Rows
 pub mod BlockRows
+pub mod ListSteps
+pub mod TagSteps
+pub mod TagLeads
+pub mod TreeLists
+pub mod SkipSteps
+pub mod ListFaults

@@ -4,3 +4,5 @@ pub mod Spelling
 pub mod Seen
 pub mod Tree
 pub mod Skip
+pub mod Lists
+pub mod ListLaws

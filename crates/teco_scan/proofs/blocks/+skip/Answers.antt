@@ -1,11 +1,64 @@
-use Rattle.std.proofs.Common.{◌∷◌, drop, sym, ap, ◌∙◌, arith}
+use Rattle.std.proofs.Common.{◌≡◌, ℕ, ◌+◌, suc, List, Some, ◌∷◌, drop, sym, ap, ◌∙◌, arith}
 use Rattle.std.proofs.lemmas.Result.{err_from_is_err_and}
 use Rattle.teco_scan.specs.Tree.{rest, faulty}
 use Rattle.teco_scan.specs.Seen.{order_in, instruction_in}
 use Rattle.teco_scan.proofs.Skips.{rest_every, end_skipped, fault_skipped, mark_skipped, at_token, closing_is}
 use Rattle.teco_scan.proofs.Textual.{scan_fault}
 use Rattle.teco_scan.proofs.LastBytes.{mark_byte}
+use Rattle.teco_scan.specs.declared.blocks.Kind.{Kind}
+use Rattle.teco_scan.specs.declared.token.Token.{Token}
+use Rattle.teco_scan.specs.Scan.{Scanned, ended, fault, found, scan}
+use Rattle.teco_scan.specs.Lists.{Listed, at_scan, at_instruction, list_at, behind, behind_block, tag_at, tag_behind}
+use Rattle.teco_scan.proofs.SkipSteps.{list_found, node_open, tag_open}
 use Rattle.teco_scan.proofs.blocks.+skip.Goals as goal
+
+-- how the list closes, by what was scanned at this place
+at_close : (text : List ℕ) (next : ℕ) (kind : Kind) (depth : ℕ) (s : Scanned) → s ≡ scan (drop next text) → (list_at (Some kind) depth (drop next text)).1 ≡ (at_scan list_at s (Some kind) depth).1
+at_close text next kind depth s is = ap (λ (l : Listed). l.1) (list_found (Some kind) depth (drop next text) s is)
+
+at_node : (text : List ℕ) (next : ℕ) (kind : Kind) (depth : ℕ) (t : Token) → found (order_in text t) (drop t.span.to text) ≡ scan (drop next text)
+    → (list_at (Some kind) depth (drop next text)).1 ≡ (at_instruction list_at (instruction_in text t.kind) t.modifiers (drop t.span.to text) (Some kind) depth).1
+at_node text next kind depth t is = at_close text next kind depth (found (order_in text t) (drop t.span.to text)) is
+
+pub skip_block-returns-in-End-clause-closes : goal.skip_block-returns-in-End-clause-closes
+skip_block-returns-in-End-clause-closes t c = sym (at_close c.args.text.now c.loop-code.next c.args.kind c.args.depth ended c.in-End.ensures.read) ∙ c.loop-code.invariant.closes
+
+pub skip_block-returns-in-Fault-clause-closes : goal.skip_block-returns-in-Fault-clause-closes
+skip_block-returns-in-Fault-clause-closes t c = sym (at_close c.args.text.now c.loop-code.next c.args.kind c.args.depth (fault c.in-Fault.code) c.in-Fault.ensures.read) ∙ c.loop-code.invariant.closes
+
+pub skip_block-returns-in-Some-clause-closes : goal.skip_block-returns-in-Some-clause-closes
+skip_block-returns-in-Some-clause-closes t c =
+    let text = c.args.text.now in
+    let k = c.in-Token.token in
+    c.end_of_block.ensures.closes text c.args.depth
+    ∙ ap (λ i. (at_instruction list_at i k.modifiers (drop k.span.to text) (Some c.args.kind) c.args.depth).1) (sym (closing_is (instruction_in text k.kind) c.in-Some.mark (c.in-Some.ensures text)).0)
+    ∙ sym (at_node text c.loop-code.next c.args.kind c.args.depth k c.in-Token.ensures.read) ∙ c.loop-code.invariant.closes
+
+pub skip_block-returns-in_err-next-in-None-clause-closes : goal.skip_block-returns-in_err-next-in-None-clause-closes
+skip_block-returns-in_err-next-in-None-clause-closes t c =
+    let p = err_from_is_err_and c.from_residual.result c.from_residual.ensures.1 in
+    let text = c.args.text.now in
+    let k = c.in-Token.token in
+    rw (p.1, p.2)
+    (sym (c.in_err-next-in-None.ensures.closes (Some c.args.kind) k.modifiers) ∙ sym (at_node text c.loop-code.next c.args.kind c.args.depth k c.in-Token.ensures.read) ∙ c.loop-code.invariant.closes)
+
+pub skip_node-returns-else-depth-eq-MOST_OPEN-clause-closes : goal.skip_node-returns-else-depth-eq-MOST_OPEN-clause-closes
+skip_node-returns-else-depth-eq-MOST_OPEN-clause-closes t c k m =
+    let text = c.args.text.now in
+    let bs = drop c.args.token.span.to text in
+    let one : c.args.depth + 1 ≡ suc c.args.depth = omega arith in
+    node_open m bs k c.args.depth c.in-Some.kind (instruction_in text c.args.token.kind) (c.in-Some.ensures text) c.requires.few c.if-depth-eq-MOST_OPEN.false
+    ∙ ap (λ n. (behind list_at k c.args.depth (behind_block list_at c.in-Some.kind n (list_at (Some c.in-Some.kind) n bs).1)).1) (sym one)
+    ∙ ap (λ x. (behind list_at k c.args.depth x).1) (sym c.skip_whole_block.ensures.passes)
+
+pub skip_node-returns-else-depth-eq-MOST_OPEN-clause-finds : goal.skip_node-returns-else-depth-eq-MOST_OPEN-clause-finds
+skip_node-returns-else-depth-eq-MOST_OPEN-clause-finds t c name other =
+    let text = c.args.text.now in
+    let bs = drop c.args.token.span.to text in
+    let one : c.args.depth + 1 ≡ suc c.args.depth = omega arith in
+    tag_open name bs c.args.depth c.in-Some.kind (instruction_in text c.args.token.kind) (c.in-Some.ensures text) c.requires.few c.if-depth-eq-MOST_OPEN.false
+    ∙ ap (λ n. tag_behind (tag_at name) c.args.depth (behind_block list_at c.in-Some.kind n (list_at (Some c.in-Some.kind) n bs).1)) (sym one)
+    ∙ ap (λ x. tag_behind (tag_at name) c.args.depth x) (sym c.skip_whole_block.ensures.passes)
 
 pub skip_block-returns-in-End-clause-skipped : goal.skip_block-returns-in-End-clause-skipped
 skip_block-returns-in-End-clause-skipped t c = λ outer long. sym (c.loop-code.invariant.same outer long) ∙ end_skipped (drop c.loop-code.next c.args.text.now) c.args.kind outer c.in-End.ensures.read
@@ -41,6 +94,7 @@ pub skip_block-loop-code-preserved : goal.skip_block-loop-code-preserved
 skip_block-loop-code-preserved t c = record {
   past = omega (arith, c.in-Token.ensures.place.after, c.in-Token.ensures.place.long, c.in_ok-next-in-None.ensures.within.0);
   inside = c.in_ok-next-in-None.ensures.within.1;
+  closes = sym (c.in_ok-next-in-None.ensures.closes (Some c.args.kind) c.in-Token.token.modifiers) ∙ sym (at_node c.args.text.now c.loop-code.next c.args.kind c.args.depth c.in-Token.token c.in-Token.ensures.read) ∙ c.loop-code.invariant.closes;
   same = λ outer long.
       sym (ap rest (at_token (drop c.loop-code.next c.args.text.now) (drop c.in-Token.token.span.to c.args.text.now) (c.args.kind ∷ outer) (order_in c.args.text.now c.in-Token.token) c.in-Token.ensures.read)
       ∙ c.in_ok-next-in-None.ensures.skipped (c.args.kind ∷ outer) (omega arith))

@@ -1,6 +1,7 @@
-use Rattle.std.proofs.Common.{◌≡◌, ◌+◌, ◌≤◌, List, ◌∷◌, length, drop, ◌-◌, ◌*◌}
+use Rattle.std.proofs.Common.{◌≡◌, ◌+◌, ◌≤◌, List, Some, ◌∷◌, length, drop, ◌-◌, ◌*◌}
 use Rattle.teco_scan.specs.declared.blocks.Kind.{Kind}
 use Rattle.teco_scan.specs.Tree.{levels, rest}
+use Rattle.teco_scan.specs.Lists.{list_at}
 use Rattle.teco_scan.proofs.blocks.+skip.Given as goal
 
 abbrev pub decreases-skip_block : goal.decreases-skip_block
@@ -17,6 +18,7 @@ abbrev pub invariant-skip_block-loop-code : goal.invariant-skip_block-loop-code
 invariant-skip_block-loop-code l = record {
   past : l.fn.at ≤ l.next;
   inside : l.next ≤ length l.text;
+  closes : (list_at (Some l.kind) l.depth (drop l.next l.text)).1 ≡ (list_at (Some l.kind) l.depth (drop l.fn.at l.text)).1;
   same : (outer : List Kind) → length outer + 1 ≡ l.depth → rest (levels (drop l.next l.text) (l.kind ∷ outer)) ≡ rest (levels (drop l.fn.at l.text) (l.kind ∷ outer));
 }
 

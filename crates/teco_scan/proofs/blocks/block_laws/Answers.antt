@@ -1,0 +1,20 @@
+use Rattle.teco_scan.proofs.ListSteps.{list_step, list_short}
+use Rattle.teco_scan.proofs.TagSteps.{tag_step}
+use Rattle.teco_scan.proofs.TagLeads.{tag_leads}
+use Rattle.teco_scan.proofs.TreeLists.{tree_is}
+use Rattle.teco_scan.proofs.ListFaults.{list_fault}
+use Rattle.teco_scan.proofs.Trees.{scan_short}
+use Rattle.teco_scan.proofs.Textual.{scan_fault}
+use Rattle.teco_scan.proofs.blocks.block_laws.Goals as goal
+
+pub returns : goal.returns
+returns c = record {
+  list_unrolls = list_step;
+  search_unrolls = tag_step;
+  token_shortens = scan_short;
+  list_shortens = list_short;
+  search_finds = tag_leads;
+  scan_faults = scan_fault;
+  list_faults = list_fault;
+  tree_lists = tree_is;
+}
