@@ -1,14 +1,17 @@
 -- The open blocks, as the machine sees them.
-use Rattle.std.proofs.Common.{◌≡◌, ℕ, zero, suc, ◌+◌, List, [], ◌∷◌, length, drop, Option, Some, None, Ok, Err, refl, sym, ap, ◌∙◌, ◌⊎◌, inl, inr, arith}
-use Rattle.std.specs.Prelude.{slice_get}
+use Rattle.std.proofs.Common.{◌≡◌, reverse, take, get_or, true, false, ◌≤◌, ◌<◌, Bool, eqb, subst, ℕ, zero, suc, ◌+◌, List, [], ◌∷◌, length, drop, Option, Some, None, Ok, Err, refl, sym, ap, ◌∙◌, ◌⊎◌, inl, inr, arith}
+use Rattle.std.specs.Prelude.{All, MatchOption, slice_get, if◌then◌else◌}
+use Rattle.std.proofs.lemmas.Bool.{eq-eqb, false_from_ne_true, eqb-true}
+use Rattle.std.proofs.lemmas.List.{take_more, reverse-append}
+use Rattle.std.proofs.lemmas.List.Elements.{All-cons, All-tail}
 use Rattle.teco_core.specs.Arguments.{Arguments, no_arguments}
 use Rattle.teco_core.specs.declared.code.Code.{Code}
-use Rattle.teco_core.specs.declared.code.Code.TheVariants.{Bni, Ill, Sni}
+use Rattle.teco_core.specs.declared.code.Code.TheVariants.{Bni, Ill, Pdo, Sni, Tag, Utc}
 use Rattle.teco_scan.specs.declared.blocks.Kind.{Kind}
 use Rattle.teco_scan.specs.declared.blocks.Kind.TheVariants.{Iter, Then, Else}
 use Rattle.teco_machine.specs.Frames.{EndsTurn, frame, frames, has_iteration, in_turn, kind_of, list_start, next_body, next_turn}
-use Rattle.teco_machine.specs.Lists.{Close, Past, past, behind_block, list_at}
-use Rattle.teco_machine.specs.Machine.{Frame, Cursor, Coming, left_block, leaving, passing, skipped, second_part, moved, at_block, breaks, closes, inside}
+use Rattle.teco_scan.specs.Lists.{Close, Past, past, behind_block, list_at, tag_at}
+use Rattle.teco_machine.specs.Machine.{Frame, at_end, ends, Cursor, Coming, left_block, leaving, passing, skipped, second_part, moved, at_block, breaks, closes, inside, jumping, landed}
 use Rattle.teco_machine.specs.Machine as machine
 use Rattle.teco_machine.specs.declared.blocks.Block.{Block}
 use Rattle.teco_machine.specs.declared.blocks.Body.{Body}
@@ -44,6 +47,81 @@ inside_is text (b ∷ bs) = go b.body (inside_is text bs)
     go body.Then e = e
     go body.Else e = e
 
+-- The blocks are stored the outermost first.
+pub innermost : (bs : List Block) (n : ℕ) (d : Block) → n < length bs → reverse (take (n + 1) bs) ≡ get_or bs n d ∷ reverse (take n bs)
+innermost bs n d lt = ap reverse (take_more bs n d lt) ∙ reverse-append (take n bs) (get_or bs n d ∷ [])
+
+pub has_iteration-cons : (b : Block) (bs : List Block) (is : kind_of b.body ≡ Iter) → has_iteration (b ∷ bs) ≡ true
+unfolding has_iteration
+has_iteration-cons b bs is = ap (λ (k : Kind). elim k [ Iter ↦ true | Then ↦ has_iteration bs | Else ↦ has_iteration bs ]) is
+
+pub has_iteration-part : (b : Block) (bs : List Block) (is : (kind_of b.body ≡ Then) ⊎ (kind_of b.body ≡ Else)) → has_iteration (b ∷ bs) ≡ has_iteration bs
+unfolding has_iteration
+has_iteration-part b bs (inl is) = ap (λ (k : Kind). elim k [ Iter ↦ true | Then ↦ has_iteration bs | Else ↦ has_iteration bs ]) is
+has_iteration-part b bs (inr is) = ap (λ (k : Kind). elim k [ Iter ↦ true | Then ↦ has_iteration bs | Else ↦ has_iteration bs ]) is
+
+pub has_iteration-none : has_iteration [] ≡ false
+unfolding has_iteration
+has_iteration-none = refl
+
+-- the blocks outside the innermost begin in the text too
+pub begin_outer : {n : ℕ} {bs outer : List Block} {b : Block} → bs ≡ b ∷ outer → All (λ (x : Block). x.start ≤ n) bs → All (λ (x : Block). x.start ≤ n) outer
+begin_outer {n = n} {outer = outer} {b = b} e h = All-tail (λ (x : Block). x.start ≤ n) b outer (subst (λ bs. All (λ (x : Block). x.start ≤ n) bs) e h)
+
+pub begin_closed : {n : ℕ} (bs outer : List Block) (closed : Option Block) → MatchOption closed ((bs ≡ []) × (outer ≡ [])) (λ b. bs ≡ b ∷ outer)
+    → All (λ (x : Block). x.start ≤ n) bs → All (λ (x : Block). x.start ≤ n) outer
+begin_closed {n = n} bs outer None e h = subst (λ bs. All (λ (x : Block). x.start ≤ n) bs) (e.0 ∙ sym e.1) h
+begin_closed bs outer (Some b) e h = begin_outer e h
+
+-- the same block is closed
+pub closed_same : {mid old new : List Block} (closed : Option Block) → mid ≡ old → MatchOption closed ((mid ≡ []) × (new ≡ [])) (λ b. mid ≡ b ∷ new)
+    → MatchOption closed ((old ≡ []) × (new ≡ [])) (λ b. old ≡ b ∷ new)
+closed_same {new = new} closed e h = subst (λ (bs : List Block). MatchOption closed ((bs ≡ []) × (new ≡ [])) (λ b. bs ≡ b ∷ new)) e h
+
+-- and so do those in which the next turn begins
+turned_begin : {n : ℕ} (b : Block) (outer : List Block) (x : Body) (new : List Block) → in_turn b outer (next_body x) ≡ Some new
+    → All (λ (x : Block). x.start ≤ n) (b ∷ outer) → All (λ (x : Block). x.start ≤ n) new
+turned_begin {n = n} b outer x new e h = go (next_body x) e
+  where
+    go : (y : Option Body) → in_turn b outer y ≡ Some new → All (λ (x : Block). x.start ≤ n) new
+    go None e = absurd cc
+    go (Some y) e =
+        let same : (record b { body = y } ∷ outer) ≡ new = cc in
+        subst (λ bs. All (λ (x : Block). x.start ≤ n) bs) same
+        (All-cons (λ (x : Block). x.start ≤ n) (record b { body = y }) outer (h 0 b (omega arith)) (All-tail (λ (x : Block). x.start ≤ n) b outer h))
+
+pub begin_turned : {n : ℕ} {new : List Block} (bs : List Block) → next_turn bs ≡ Some new → All (λ (x : Block). x.start ≤ n) bs → All (λ (x : Block). x.start ≤ n) new
+begin_turned [] e h = absurd cc
+begin_turned {new = new} (b ∷ outer) e h = turned_begin b outer b.body new e h
+
+pub start_within : {n : ℕ} (bs : List Block) → All (λ (x : Block). x.start ≤ n) bs → list_start bs ≤ n
+start_within [] h = omega arith
+start_within (b ∷ bs) h = h 0 b (omega arith)
+
+pub or_kind : {j k one other : Kind} → j ≡ k → (j ≡ one) ⊎ (j ≡ other) → (k ≡ one) ⊎ (k ≡ other)
+or_kind e (inl is) = inl (sym e ∙ is)
+or_kind e (inr is) = inr (sym e ∙ is)
+
+-- a block more is opened, or 64 are open
+module _ (text more : List ℕ) (step : machine.BlockStep) (bs : List Block) (a : Arguments) (left : List ℕ) where
+  pub opening_full : length bs ≡ 64 → breaks Pdo ≡ machine.opening step more (record { args = a; left = left; blocks = frames text bs })
+  opening_full e = ap (λ (b : Bool). if b then breaks Pdo else at_block step more) (sym (eq-eqb (length (frames text bs)) 64 (frames_length text bs ∙ e)))
+
+  pub opening_free : (length bs ≡ 64 → ⊥) → at_block step more ≡ machine.opening step more (record { args = a; left = left; blocks = frames text bs })
+  opening_free ne = ap (λ (b : Bool). if b then breaks Pdo else at_block step more)
+      (sym (false_from_ne_true (eqb (length (frames text bs)) 64) (λ e. ne (sym (frames_length text bs) ∙ eqb-true (length (frames text bs)) 64 e))))
+
+-- the text ends, or it ends in a block
+pub no_block : (text : List ℕ) (bs : List Block) → length bs ≡ 0 → ends ≡ at_end (frames text bs)
+unfolding frames
+no_block text [] e = refl
+no_block text (b ∷ bs) e = absurd (omega arith)
+
+pub some_block : (text : List ℕ) (bs : List Block) → (length bs ≡ 0 → ⊥) → breaks Utc ≡ at_end (frames text bs)
+unfolding frames
+some_block text [] ne = absurd (ne refl)
+some_block text (b ∷ bs) ne = refl
+
 -- a part of a conditional ends
 pub part_ends : {bs outer : List Block} {b : Block} (text more : List ℕ) → bs ≡ b ∷ outer → (kind_of b.body ≡ Then) ⊎ (kind_of b.body ≡ Else)
     → machine.part_ends more (frames text bs) ≡ moved (closes more (frames text outer))
@@ -64,7 +142,7 @@ top_is text more (a ∷ bs) b k e is =
     ap (λ (x : Block). machine.turn_ends more (frame text x ∷ [])) same ∙ ap (λ k. machine.turn_ends more (record (frame text b) { kind = k } ∷ [])) is
 
 pub turn_ends_here : {b : Block} (text more : List ℕ) (bs : List Block) → slice_get bs 0 ≡ Some b → kind_of b.body ≡ Iter
-    → machine.turn_ends more (frames text bs) ≡ at_block machine.turns more
+    → machine.turn_ends more (frames text bs) ≡ at_block machine.ends_turn more
 turn_ends_here {b = b} text more bs e is = top_is text more bs b Iter e is
 
 pub no_turn_ends : {b : Block} (text more : List ℕ) (bs : List Block) → slice_get bs 0 ≡ Some b → (kind_of b.body ≡ Then) ⊎ (kind_of b.body ≡ Else)
@@ -135,10 +213,16 @@ module _ (text more left : List ℕ) (a : Arguments) where
   turned_off b outer body.Then is e = absurd cc
   turned_off b outer body.Else is e = absurd cc
 
-  pub turn_is_last : {bs outer : List Block} {b : Block} → bs ≡ b ∷ outer → EndsTurn bs → next_turn bs ≡ None
+  last_turned : (bs : List Block) → EndsTurn bs → next_turn bs ≡ None → {outer : List Block} {b : Block} → bs ≡ b ∷ outer
       → Ok (closes more (frames text outer)) ≡ machine.end_turn more (record { args = a; left = left; blocks = frames text bs })
-  turn_is_last {bs = []} e is last = absurd cc
-  turn_is_last {bs = x ∷ xs} {outer = outer} e is last = let same : xs ≡ outer = cc in ap (λ o. Ok (closes more (frames text o))) (sym same) ∙ turned_off x xs x.body is last
+  last_turned [] is last e = absurd is
+  last_turned (x ∷ xs) is last {outer = outer} e = let same : xs ≡ outer = cc in ap (λ o. Ok (closes more (frames text o))) (sym same) ∙ turned_off x xs x.body is last
+
+  -- the iteration is closed
+  pub turn_is_last : (bs outer : List Block) (closed : Option Block) → MatchOption closed ((bs ≡ []) × (outer ≡ [])) (λ b. bs ≡ b ∷ outer) → EndsTurn bs → next_turn bs ≡ None
+      → Ok (closes more (frames text outer)) ≡ machine.end_turn more (record { args = a; left = left; blocks = frames text bs })
+  turn_is_last bs outer None e is last = absurd (subst EndsTurn e.0 is)
+  turn_is_last bs outer (Some b) e is last = last_turned bs is last e
 
 -- blocks that are left
 pub leaving_none : {bs : List Block} (text : List ℕ) (a : Arguments) (left : List ℕ) → bs ≡ [] → Err Sni ≡ leaving (frames text bs) a left
@@ -173,3 +257,27 @@ module _ {bs outer : List Block} {b : Block} {n : ℕ} (text left : List ℕ) (a
   unfolding left_so
   leaving_goes_on more passed (inl part) = ap (λ k. left_so k (Ok more)) (sym part) ∙ ap (left_so k) passed ∙ leaving_block
   leaving_goes_on more passed (inr part) = ap (λ k. left_so k (Ok more)) (sym part) ∙ ap (left_so k) passed ∙ leaving_block
+
+-- Jumps: to a tag in the innermost list, or in a list around it.
+pub around : List ℕ → List ℕ → Arguments → List Block → machine.Moved
+around text name a [] = Err Tag
+around text name a (b ∷ outer) = jumping name text (frames text outer) a
+
+jumping_is : (text name : List ℕ) (a : Arguments) (bs : List Block) (o : Option (List ℕ)) → tag_at name (length (frames text bs)) (drop (list_start bs) text) ≡ o
+    → landed o a (frames text bs) (around text name a bs) ≡ jumping name text (frames text bs) a
+unfolding around frames jumping
+jumping_is text name a [] o e = ap (λ o. landed o a [] (Err Tag)) (sym e)
+jumping_is text name a (b ∷ outer) o e = ap (λ o. landed o a (frame text b ∷ frames text outer) (jumping name text (frames text outer) a)) (sym e)
+
+module _ (text name : List ℕ) (a : Arguments) (bs : List Block) {n start : ℕ} (o : Option (List ℕ)) (len : n ≡ length bs) (at : start ≡ list_start bs) (finds : o ≡ tag_at name n (drop start text)) where
+  pub jumps : landed o a (frames text bs) (around text name a bs) ≡ jumping name text (frames text bs) a
+  jumps = jumping_is text name a bs o
+      (ap (λ n. tag_at name n (drop (list_start bs) text)) (frames_length text bs ∙ sym len) ∙ ap (λ s. tag_at name n (drop s text)) (sym at) ∙ sym finds)
+
+  pub jumps_on : None ≡ o → {outer : List Block} {b : Block} → bs ≡ b ∷ outer → jumping name text (frames text outer) a ≡ jumping name text (frames text bs) a
+  unfolding around
+  jumps_on none e = ap (around text name a) (sym e) ∙ ap (λ o. landed o a (frames text bs) (around text name a bs)) none ∙ jumps
+
+  pub jumps_nowhere : None ≡ o → bs ≡ [] → Err Tag ≡ jumping name text (frames text bs) a
+  unfolding around
+  jumps_nowhere none e = ap (around text name a) (sym e) ∙ ap (λ o. landed o a (frames text bs) (around text name a bs)) none ∙ jumps

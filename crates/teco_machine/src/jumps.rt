@@ -4,9 +4,8 @@ ghost use Rattle.teco_machine.specs.Machine as machine;
 ghost use Rattle.teco_machine.specs.View.{Finishes, cursor, moved_of};
 
 use crate::cursor::Cursor;
-use crate::skips::{find_tag, skip_whole_block};
 use teco_core::Code;
-use teco_scan::Kind;
+use teco_scan::{Kind, find_tag, skip_whole_block};
 
 impl<'t> Cursor<'t> {
     /// Leaves the innermost iteration.
