@@ -74,9 +74,9 @@ begin_closed {n = n} bs outer None e h = subst (λ bs. All (λ (x : Block). x.st
 begin_closed bs outer (Some b) e h = begin_outer e h
 
 -- the same block is closed
-pub closed_same : {mid old new : List Block} (closed : Option Block) → mid ≡ old → MatchOption closed ((mid ≡ []) × (new ≡ [])) (λ b. mid ≡ b ∷ new)
+pub closed_same : {mid old : List Block} (new : List Block) (closed : Option Block) → mid ≡ old → MatchOption closed ((mid ≡ []) × (new ≡ [])) (λ b. mid ≡ b ∷ new)
     → MatchOption closed ((old ≡ []) × (new ≡ [])) (λ b. old ≡ b ∷ new)
-closed_same {new = new} closed e h = subst (λ (bs : List Block). MatchOption closed ((bs ≡ []) × (new ≡ [])) (λ b. bs ≡ b ∷ new)) e h
+closed_same new closed e h = subst (λ (bs : List Block). MatchOption closed ((bs ≡ []) × (new ≡ [])) (λ b. bs ≡ b ∷ new)) e h
 
 -- and so do those in which the next turn begins
 turned_begin : {n : ℕ} (b : Block) (outer : List Block) (x : Body) (new : List Block) → in_turn b outer (next_body x) ≡ Some new

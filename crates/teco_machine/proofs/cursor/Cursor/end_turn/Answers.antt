@@ -13,7 +13,7 @@ invariant_of-self c =
     }
 
 pub invariant_of-self-in-None-clause-begin : goal.invariant_of-self-in-None-clause-begin
-invariant_of-self-in-None-clause-begin c = begin_closed c.args.self.now.blocks c.pop.new.self c.pop.result (closed_same c.pop.result c.in-None.ensures.1 c.pop.ensures) c.args.self.now.begin
+invariant_of-self-in-None-clause-begin c = begin_closed c.args.self.now.blocks c.pop.new.self c.pop.result (closed_same c.pop.new.self c.pop.result c.in-None.ensures.1 c.pop.ensures) c.args.self.now.begin
 
 pub returns-in-Some-clause-moves : goal.returns-in-Some-clause-moves
 returns-in-Some-clause-moves c =
@@ -27,4 +27,4 @@ returns-in-None-clause-moves c =
     let s = c.args.self.now in
     let text = s.text.now in
     ap (λ a. Ok (record { args = a; left = drop c.args.to text; blocks = frames text c.pop.new.self })) c.clear.ensures
-    ∙ turn_is_last text (drop c.args.to text) (drop s.at text) (arguments s.args) s.blocks c.pop.new.self c.pop.result (closed_same c.pop.result c.in-None.ensures.1 c.pop.ensures) c.requires.ends c.in-None.ensures.0
+    ∙ turn_is_last text (drop c.args.to text) (drop s.at text) (arguments s.args) s.blocks c.pop.new.self c.pop.result (closed_same c.pop.new.self c.pop.result c.in-None.ensures.1 c.pop.ensures) c.requires.ends c.in-None.ensures.0

@@ -11,8 +11,8 @@ returns-in_default-clause-moves c =
 pub invariant_of-self-in-Ok-clause-begin : goal.invariant_of-self-in-Ok-clause-begin
 invariant_of-self-in-Ok-clause-begin c = begin_outer c.in-Some.ensures c.leaving.self.begin
 
-pub invariant_of-self-in-Err-1-clause-begin : goal.invariant_of-self-in-Err-1-clause-begin
-invariant_of-self-in-Err-1-clause-begin c = begin_outer c.in-Some.ensures c.leaving.self.begin
+pub invariant_of-self-in-Err-1 : goal.invariant_of-self-in-Err-1
+invariant_of-self-in-Err-1 c = record { within = c.leaving.self.within; begin = begin_outer c.in-Some.ensures c.leaving.self.begin }
 
 pub returns-in-Err-clause-moves : goal.returns-in-Err-clause-moves
 returns-in-Err-clause-moves c =
