@@ -1,5 +1,5 @@
 -- Codes by which arguments and texts are refused: neither want of memory nor a failed terminal.
-use Rattle.std.proofs.Common.{◌≡◌, List, [], ◌∷◌, Option, Some, None, Result, Ok, Err, ℤ, true, false, refl, sym, ap}
+use Rattle.std.proofs.Common.{◌≡◌, List, [], ◌∷◌, Option, Some, None, Err, ℤ, true, false, refl, sym, ap}
 use Rattle.teco_core.specs.declared.code.Code.{Code}
 use Rattle.teco_core.specs.declared.code.Code.TheVariants.{Arg, Bni, Ill, Iqc, Iqn, Mrp, Pdo, Utc}
 use Rattle.teco_core.specs.declared.arguments.Expression.{Expression}

@@ -20,10 +20,7 @@ impl<'t> Cursor<'t> {
                 return Err(Code::Sni);
             };
             let kind = block.body.kind();
-            match skip_whole_block(self.text, self.at, kind, depth) {
-                Ok(to) => self.at = to,
-                Err(code) => return Err(code),
-            }
+            self.at = skip_whole_block(self.text, self.at, kind, depth)?;
             match kind {
                 Kind::Iter => return Ok(()),
                 Kind::Then | Kind::Else => continue 'leaving,

@@ -1,4 +1,4 @@
-use Rattle.std.proofs.Common.{◌∙◌, ◌-◌, ◌+◌, ◌≡◌, ◌<◌, [], length, reverse, take, get_or, sym, ap, arith, rules}
+use Rattle.std.proofs.Common.{◌∙◌, ◌-◌, ◌+◌, ◌≡◌, ◌<◌, length, reverse, take, get_or, sym, ap, arith, rules}
 use Rattle.teco_machine.specs.declared.blocks.Body.TheVariants.{Endless}
 use Rattle.teco_machine.specs.declared.blocks.Block.{Block}
 use Rattle.teco_machine.specs.Frames.{has_iteration}

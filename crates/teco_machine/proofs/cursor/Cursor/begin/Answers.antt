@@ -1,6 +1,5 @@
 use Rattle.std.proofs.Common.{ap}
 use Rattle.teco_core.specs.ArgumentsView.{arguments}
-use Rattle.teco_machine.specs.Machine.{Cursor}
 use Rattle.teco_machine.proofs.Frames.{frames_nil}
 use Rattle.teco_machine.proofs.cursor.Cursor.begin.Goals as goal
 

@@ -2,7 +2,7 @@ use Rattle.std.proofs.Common.{drop, sym, ap, ◌∙◌}
 use Rattle.teco_scan.specs.Lists.{closed, broken}
 use Rattle.teco_machine.specs.Machine as machine
 use Rattle.teco_machine.specs.Frames.{frames}
-use Rattle.teco_machine.proofs.Frames.{begin_outer, divides_then, frames_nil, no_divide, or_kind}
+use Rattle.teco_machine.proofs.Frames.{divides_then, frames_nil, no_divide, or_kind}
 use Rattle.teco_machine.proofs.cursor.Cursor.divide.Goals as goal
 
 pub returns-in-None-clause-comes : goal.returns-in-None-clause-comes

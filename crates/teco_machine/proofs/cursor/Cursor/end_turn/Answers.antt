@@ -1,4 +1,4 @@
-use Rattle.std.proofs.Common.{◌≤◌, Ok, ap, arith, drop, length, subst, sym, ◌∙◌}
+use Rattle.std.proofs.Common.{◌≤◌, Ok, ap, drop, length, subst, ◌∙◌}
 use Rattle.teco_core.specs.ArgumentsView.{arguments}
 use Rattle.teco_machine.specs.Frames.{frames}
 use Rattle.teco_machine.proofs.Frames.{begin_closed, closed_same, begin_turned, start_within, turn_goes_on, turn_is_last}

@@ -1,6 +1,6 @@
-use Rattle.std.proofs.Common.{None, Some, drop, refl, sym, subst, length, ◌≤◌, ◌∙◌}
+use Rattle.std.proofs.Common.{None, Some, drop, refl, ◌∙◌}
 use Rattle.teco_core.specs.ArgumentsView.{arguments}
-use Rattle.teco_machine.proofs.Frames.{begin_closed, jumps, jumps_nowhere, jumps_on, start_within}
+use Rattle.teco_machine.proofs.Frames.{begin_closed, jumps, jumps_nowhere, jumps_on}
 use Rattle.teco_machine.proofs.cursor.Cursor.jump.Goals as goal
 
 pub returns-in-Some-clause-moves : goal.returns-in-Some-clause-moves

@@ -1,4 +1,4 @@
-use Rattle.std.proofs.Common.{drop, Ok, Err, ◌∙◌}
+use Rattle.std.proofs.Common.{drop, Ok, Err}
 use Rattle.std.proofs.lemmas.Result.{err_from_is_err_and}
 use Rattle.teco_machine.specs.View.{cursor}
 use Rattle.teco_machine.proofs.Frames.{passed_over}

@@ -1,6 +1,6 @@
 use Rattle.std.proofs.Common.{drop, sym, ap, ◌∙◌}
 use Rattle.teco_machine.specs.Machine as machine
-use Rattle.teco_machine.proofs.Frames.{ends_turn, frames_nil, no_turn_ends, or_kind, turn_ends_here}
+use Rattle.teco_machine.proofs.Frames.{frames_nil, no_turn_ends, or_kind, turn_ends_here}
 use Rattle.teco_machine.proofs.cursor.Cursor.turn_ending.Goals as goal
 
 pub returns-in-None-clause-comes : goal.returns-in-None-clause-comes
