@@ -1,11 +1,11 @@
-//! A place in a text that is being run. (A stub of the interface.)
+//! A place in a text that is being run.
 ghost use Rattle.std.specs.Prelude.{◌≡◌, ◌≤◌, ℕ, All, List, length};
+ghost use Rattle.teco_scan.specs.Seen.{found_in};
 ghost use Rattle.teco_machine.specs.Machine as machine;
 
 use crate::blocks::Blocks;
-use crate::moves::{Next, Opening};
-use teco_core::{Args, Code};
-use teco_scan::Found;
+use teco_core::Args;
+use teco_scan::{Bare, Command, Found, Item, TokenKind, token_at};
 
 /// Where a text is being run: how many of its bytes come before, the arguments so far, and the open blocks.
 #[derive(Debug, Drop)]
@@ -22,61 +22,48 @@ impl<'t> Cursor<'t> {
     ghost use Rattle.std.specs.Prelude.{◌≡◌, drop};
     ghost use Rattle.teco_core.specs.ArgumentsView.{arguments};
     ghost use Rattle.teco_scan.specs.Scan.{scan};
-    ghost use Rattle.teco_scan.specs.Seen.{found_in, IsFoundAt};
-    ghost use Rattle.teco_machine.specs.View.{Finishes, MayOpen, Tells, beginning, coming_of, cursor, moved_of, opening_of};
+    ghost use Rattle.teco_machine.specs.View.{beginning, cursor};
 
+    /// The beginning of a text, with these arguments.
     pub fn begin(text: &'t [u8], args: Args) -> Cursor<'t>
         ensures text { result.text.now ≡ text.now }
         ensures begins { cursor result ≡ beginning (arguments args) text.now }
     {
-        unreachable!()
+        Cursor {
+            text,
+            at: 0,
+            args,
+            blocks: Blocks::new(),
+        }
     }
 
-    pub fn pass(&mut self, found: &Found) -> Next
-        requires read { found_in self.old.text.now found.now ≡ scan (drop self.old.at self.old.text.now) }
-        requires place { IsFoundAt self.old.text.now self.old.at found.now }
-        ensures text { self.new.text ≡ self.old.text }
-        ensures comes { coming_of self.new found.now result ≡ machine.pass (cursor self.old) }
-        ensures told { Tells self.old self.new found.now result }
-    {
-        unreachable!()
-    }
-
-    pub fn block_step(&mut self, opening: Opening, to: usize) -> Result<(), Code>
-        requires within { to ≤ length self.old.text.now }
-        requires opens { MayOpen opening self.old.blocks }
-        ensures text { self.new.text ≡ self.old.text }
-        ensures moves { moved_of self.new result ≡ machine.block_step (opening_of opening) (drop to self.old.text.now) (cursor self.old) }
-        ensures finished { Finishes result }
-    {
-        unreachable!()
-    }
-
-    pub fn leave(&mut self) -> Result<(), Code>
-        ensures text { self.new.text ≡ self.old.text }
-        ensures moves { moved_of self.new result ≡ machine.leaving (cursor self.old).blocks (cursor self.old).args (cursor self.old).left }
-        ensures finished { Finishes result }
-    {
-        unreachable!()
-    }
-
-    pub fn jump(&mut self, name: &[u8]) -> Result<(), Code>
-        ensures text { self.new.text ≡ self.old.text }
-        ensures moves { moved_of self.new result ≡ machine.jumping name.now self.old.text.now (cursor self.old).blocks (cursor self.old).args }
-        ensures finished { Finishes result }
-    {
-        unreachable!()
-    }
-
+    /// Whether an iteration is open.
     pub fn has_iteration(&self) -> bool
         ensures { result ≡ machine.inside (cursor self.now).blocks }
     {
-        unreachable!()
+        self.blocks.has_iteration()
     }
 
+    /// Whether `;` without modifiers comes next.
     pub fn leave_is_next(&self) -> bool
         ensures { result ≡ machine.leave_found (scan (cursor self.now).left) }
     {
-        unreachable!()
+        is_plain_leave(&token_at(self.text, self.at))
+    }
+}
+
+/// Whether `;` without modifiers was found.
+#[tactic(auto, using(crate::proofs::Leaves::leave_comes_found), unfolding(crate::proofs::Leaves::leave_found))]
+fn is_plain_leave(found: &Found) -> bool
+    ensures { (text : List ℕ) → result ≡ machine.leave_found (found_in text found.now) }
+{
+    match found {
+        Found::Token(token) => match token.kind {
+            TokenKind::Item(Item::Bare(Bare::Command(Command::Leave))) => {
+                !token.modifiers.at && token.modifiers.colons == 0
+            }
+            _ => false,
+        },
+        Found::End | Found::Fault(_) => false,
     }
 }
