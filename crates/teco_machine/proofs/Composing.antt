@@ -3,11 +3,12 @@ use Rattle.std.proofs.Common.{◌≡◌, ℕ, zero, suc, ◌+◌, ◌-◌, ◌<�
 use Rattle.teco_core.specs.declared.code.Code.{Code}
 use Rattle.teco_machine.specs.Machine.{Cursor, Caller, Coming, moved, comes, at_block, ends, breaks, BlockStep, Config, Machine, runs, halts, Further, Ready, step, block, finished, Final, final, Now, now_of, returned, coming, arriving, arrives_within, arrives, exec, waiting, weight, pass, pays, paid, unpaid, stepped, going, block_step, run_within}
 use Rattle.teco_machine.specs.Running.{Continuation, ready_run}
-use Rattle.teco_machine.proofs.Shortens.{Shorter, pass_short}
-use Rattle.teco_machine.proofs.Following.{exec_now, final_now}
+use Rattle.teco_scan.specs.ListLaws.{BlockLaws}
+use Rattle.teco_machine.proofs.Keeping.{Shorter, pass_short}
+use Rattle.teco_machine.proofs.MachineFollows.{exec_now, final_now}
 
 -- What uses no step takes as many moves as there are bytes, and no more change it.
-module _ (f g : Machine → Ready) where
+module _ (laws : BlockLaws) (f g : Machine → Ready) where
   back_same : (c : Config) (cs : List Caller) → ((m : Machine) → weight m < suc (length c.at.left + waiting cs) → f m ≡ g m) → f (returned c cs) ≡ g (returned c cs)
   unfolding waiting
   back_same c [] h = h (halts c None) (omega arith)
@@ -22,19 +23,19 @@ module _ (f g : Machine → Ready) where
 
   arriving_same : (c : Config) (x : Option Further) → ((m : Machine) → weight m < suc (length c.at.left + waiting c.callers) → f m ≡ g m) → arriving f c x ≡ arriving g c x
   arriving_same c (Some x) h = refl
-  arriving_same c None h = coming_same c (pass c.at) (pass_short c.at) h
+  arriving_same c None h = coming_same c (pass c.at) (pass_short laws c.at) h
 
-arrives_same : (n k : ℕ) (m : Machine) → weight m < n → weight m < k → arrives_within n m ≡ arrives_within k m
+arrives_same : (laws : BlockLaws) (n k : ℕ) (m : Machine) → weight m < n → weight m < k → arrives_within n m ≡ arrives_within k m
 unfolding arrives_within
-arrives_same zero k m lt lt' = absurd (omega arith)
-arrives_same (suc n) zero m lt lt' = absurd (omega arith)
-arrives_same (suc n) (suc k) (halts c e) lt lt' = refl
-arrives_same (suc n) (suc k) (runs c) lt lt' = arriving_same (arrives_within n) (arrives_within k) c c.further (λ m l. arrives_same n k m (omega arith) (omega arith))
+arrives_same laws zero k m lt lt' = absurd (omega arith)
+arrives_same laws (suc n) zero m lt lt' = absurd (omega arith)
+arrives_same laws (suc n) (suc k) (halts c e) lt lt' = refl
+arrives_same laws (suc n) (suc k) (runs c) lt lt' = arriving_same laws (arrives_within n) (arrives_within k) c c.further (λ m l. arrives_same laws n k m (omega arith) (omega arith))
 
 -- One move, as an equation.
-pub arrives_step : (c : Config) → arrives (runs c) ≡ arriving arrives c c.further
+pub arrives_step : BlockLaws → (c : Config) → arrives (runs c) ≡ arriving arrives c c.further
 unfolding arrives arrives_within
-arrives_step c = arriving_same (arrives_within (weight (runs c))) arrives c c.further (λ m l. arrives_same (weight (runs c)) (suc (weight m)) m l (omega arith))
+arrives_step laws c = arriving_same laws (arrives_within (weight (runs c))) arrives c c.further (λ m l. arrives_same laws (weight (runs c)) (suc (weight m)) m l (omega arith))
 
 pub arrives_halts : (c : Config) (e : Option Code) → arrives (halts c e) ≡ finished c e
 unfolding arrives arrives_within

@@ -7,20 +7,21 @@ use Rattle.teco_core.specs.declared.code.Code.TheVariants.{Lim, Mem, Tty}
 use Rattle.teco_store.specs.State.{State}
 use Rattle.teco_store.specs.Trail.{Trail, moved, stepped}
 use Rattle.teco_step.specs.Stepping.{is_unfinished_code}
-use Rattle.teco_step.specs.Terminal.{Screen, Shows, IsFrontOf, counted}
+use Rattle.teco_step.specs.Terminal.{Screen, Shows, IsFrontOf, count_after}
 use Rattle.teco_machine.specs.Machine.{Final, Now, run_within}
 use Rattle.teco_machine.specs.StringMeaning.{Meant, string_meaning}
 use Rattle.teco_machine.specs.Runs.{Runs, EndsWell, is_tty, trail_of}
 use Rattle.teco_machine.specs.Running.{Origin, Host, host, Continuation, Going, Follows, Comes, Ended, Reached, goes, over, Reaches, reached_run, ready_run, whole_run, now_at, ended_by, IsFinished}
 use Rattle.teco_machine.proofs.Composing.{Stays, ready_fuel}
-use Rattle.teco_machine.proofs.Following.{final_now, machine_means}
+use Rattle.teco_machine.specs.MachineLaws.{MachineMeans}
+use Rattle.teco_machine.proofs.MachineFollows.{final_now}
 
 -- One piece of what a terminal shows after another.
 pub shows_nothing : (w : Screen) → Shows w w [] false
 shows_nothing w = record { more = Appends-nil w.shown; count = refl }
 
 pub shows_on : {a b c : Screen} {xs ys : List ℕ} {failed : Bool} → Shows a b xs false → Shows b c ys failed → Shows a c (xs ++ ys) failed
-shows_on {failed} p q = record { more = Appends-trans _ _ _ _ _ p.more q.more; count = q.count ∙ ap (counted failed) p.count }
+shows_on {failed} p q = record { more = Appends-trans _ _ _ _ _ p.more q.more; count = q.count ∙ ap (count_after failed) p.count }
 
 no_longer : (bytes more : List ℕ) → bytes ≡ bytes ++ more → more ≡ []
 no_longer bytes [] e = refl
@@ -42,10 +43,10 @@ abbrev meant_now : Meant → Now
 meant_now m = record { state = m.state; typed = m.typed; load = m.load }
 
 -- Where the run has come to after some steps is what the text means under that limit.
-pub now_there : (o : Origin) (k : ℕ) (next : Continuation) (now : Now) → ((fuel : ℕ) → run_within (k + fuel) (whole_run o) ≡ ready_run fuel (next now)) → Stays next now → now_at o k ≡ now
-now_there o k next now leads stays =
+pub now_there : MachineMeans → (o : Origin) (k : ℕ) (next : Continuation) (now : Now) → ((fuel : ℕ) → run_within (k + fuel) (whole_run o) ≡ ready_run fuel (next now)) → Stays next now → now_at o k ≡ now
+now_there means o k next now leads stays =
     let none : k ≡ k + 0 = omega arith in
-    sym (ap meant_now (machine_means o.state o.text k)) ∙ ap (λ j. final_now (run_within j (whole_run o))) none ∙ ap final_now (leads 0) ∙ stays
+    sym (ap meant_now (means o.state o.text k)) ∙ ap (λ j. final_now (run_within j (whole_run o))) none ∙ ap final_now (leads 0) ∙ stays
 
 -- What is followed from one moment to the next is followed from the first.
 pub since : (o : Origin) (first before after : Host) (d : Reached) → Follows o first before → Reaches o before after d → Reaches o first after d
@@ -77,7 +78,7 @@ module _ (o : Origin) (h : Host) (next : Continuation) (g : Going o h next) wher
       let all : h.steps + left ≡ o.limit = omega arith in
       let r : run_within o.limit (whole_run o) ≡ reached_run left now (over code) = sym (ap (λ k. run_within k (whole_run o)) all) ∙ g.leads left ∙ e in
       let m : string_meaning o.state o.text o.limit ≡ (let x : Meant = record { state = now.state; typed = now.typed; code = code; steps = o.limit - left; load = now.load } in x) =
-      sym (machine_means o.state o.text o.limit) ∙ ap (λ (x : Final). let y : Meant = record { state = x.state; typed = x.typed; code = x.code; steps = o.limit - x.fuel; load = x.load } in y) r in
+      sym (g.means o.state o.text o.limit) ∙ ap (λ (x : Final). let y : Meant = record { state = x.state; typed = x.typed; code = x.code; steps = o.limit - x.fuel; load = x.load } in y) r in
       record {
         typed = now.typed;
         runs = well_runs o.state o.text o.limit code h.steps now.typed h.state f (record {
@@ -100,7 +101,7 @@ module _ (o : Origin) (h : Host) (next : Continuation) (g : Going o h next) wher
   -- what uses no step
   pub continues : (further : Continuation) → Settles next (goes further) → Comes o h h further
   continues further e = record {
-    going = record { state = g.state; shows = g.shows; leads = λ fuel. g.leads fuel ∙ e (now_at o h.steps) fuel };
+    going = record { means = g.means; state = g.state; shows = g.shows; leads = λ fuel. g.leads fuel ∙ e (now_at o h.steps) fuel };
     follows = λ floor p. p;
   }
 
@@ -119,7 +120,7 @@ module _ (o : Origin) (h : Host) (next : Continuation) (g : Going o h next) wher
         ap (λ k. run_within k (whole_run o)) paid ∙ g.leads (suc fuel) ∙ pays (now_at o h.steps) (sym g.state) fuel
 
     now_later : now_at o (h.steps + 1) ≡ later_now
-    now_later = now_there o (h.steps + 1) further later_now leads_on (stays later_now)
+    now_later = now_there g.means o (h.steps + 1) further later_now leads_on (stays later_now)
 
     pub step_done : (later : Host) → later.steps ≡ h.steps + 1 → later.state ≡ t → Shows h.screen later.screen bytes false
         → ((u : Trail) → h.follows u → u.changes ≡ 0 → u.steps ≡ h.steps → u.states (h.steps + 1) ≡ t → u.load + n ≤ u.loads (h.steps + 1) → later.follows (stepped (moved u n)))
@@ -128,6 +129,7 @@ module _ (o : Origin) (h : Host) (next : Continuation) (g : Going o h next) wher
         let told = trail_of o.state o.text in
         subst (λ k. Comes o h (host later.state later.follows later.screen k) further) (sym count) (record {
           going = record {
+            means = g.means;
             state = state ∙ sym (ap (λ (x : Now). x.state) now_later);
             shows = subst (λ typed. Shows o.screen later.screen typed false) (sym (ap (λ (x : Now). x.typed) now_later)) (shows_on g.shows shows);
             leads = λ fuel. leads_on fuel ∙ ap (λ x. ready_run fuel (further x)) (sym now_later);
@@ -146,7 +148,7 @@ module _ (o : Origin) (h : Host) (next : Continuation) (g : Going o h next) wher
           let all : o.limit ≡ h.steps + 1 + left = omega arith in
           let e : run_within o.limit (whole_run o) ≡ ready_run left (further later_now) = ap (λ k. run_within k (whole_run o)) all ∙ leads_on left in
           let fuel : (run_within o.limit (whole_run o)).fuel ≤ left = subst (λ (x : Final). x.fuel ≤ left) (sym e) (ready_fuel left (further later_now)) in
-          let steps : o.limit - (run_within o.limit (whole_run o)).fuel ≡ (string_meaning o.state o.text o.limit).steps = ap (λ (x : Meant). x.steps) (machine_means o.state o.text o.limit) in
+          let steps : o.limit - (run_within o.limit (whole_run o)).fuel ≡ (string_meaning o.state o.text o.limit).steps = ap (λ (x : Meant). x.steps) (g.means o.state o.text o.limit) in
           omega arith
 
       -- memory was refused

@@ -15,7 +15,8 @@ use Rattle.teco_machine.specs.declared.moves.Next.{Next}
 use Rattle.teco_machine.specs.declared.moves.Next.TheVariants.{Passed, Step, Block, Over, Fault}
 use Rattle.teco_machine.proofs.Composing.{arrives_step, halted, run_ready}
 use Rattle.teco_machine.proofs.Going.{Settles}
-use Rattle.teco_machine.proofs.Shortens.{Shorter, pass_short}
+use Rattle.teco_scan.specs.ListLaws.{BlockLaws}
+use Rattle.teco_machine.proofs.Keeping.{Shorter, pass_short}
 
 -- A text is over: what it leaves is all that its caller sees.
 returns : (fuel : ℕ) (text : List ℕ) (c : MachineCursor) (callers : List Caller) (now : Now)
@@ -25,12 +26,12 @@ returns fuel text c [] now =
     ∙ sym (halted fuel (config [] (beginning c.args []) None [] now) None) ∙ run_ready fuel (halts (config [] (beginning c.args []) None [] now) None)
 returns fuel text c (b ∷ bs) now = refl
 
-module _ (old to : Cursor) (found : Found) (pending : Option Task) (none : pending ≡ None) (callers : List Caller) where
+module _ (laws : BlockLaws) (old to : Cursor) (found : Found) (pending : Option Task) (none : pending ≡ None) (callers : List Caller) where
   abbrev here : Now → Config
   here now = config old.text.now (cursor old) None callers now
 
   ready : (n : Next) → coming_of to found n ≡ pass (cursor old) → (now : Now) (fuel : ℕ) → ready_run fuel (at_cursor old pending callers now) ≡ ready_run fuel (coming arrives (here now) (coming_of to found n))
-  ready n e now fuel = ap (λ p. ready_run fuel (at_cursor old p callers now)) none ∙ ap (ready_run fuel) (arrives_step (here now) ∙ ap (coming arrives (here now)) (sym e))
+  ready n e now fuel = ap (λ p. ready_run fuel (at_cursor old p callers now)) none ∙ ap (ready_run fuel) (arrives_step laws (here now) ∙ ap (coming arrives (here now)) (sym e))
 
   pub passes_on : to.text ≡ old.text → coming_of to found Passed ≡ pass (cursor old) → Settles (at_cursor old pending callers) (goes (at_cursor to pending callers))
   passes_on text e now fuel =
@@ -38,7 +39,7 @@ module _ (old to : Cursor) (found : Found) (pending : Option Task) (none : pendi
       ∙ ap (λ p. ready_run fuel (at_cursor to p callers now)) (sym none)
 
   pub passes_short : coming_of to found Passed ≡ pass (cursor old) → length (cursor to).left < length (cursor old).left
-  passes_short e = subst (Shorter (length (cursor old).left)) (sym e) (pass_short (cursor old))
+  passes_short e = subst (Shorter (length (cursor old).left)) (sym e) (pass_short laws (cursor old))
 
   pub comes_token : to.text ≡ old.text → (token : ScannedToken) → found ≡ Token token → coming_of to found Step ≡ pass (cursor old) → Settles (at_cursor old pending callers) (goes (at_token to token None callers))
   comes_token text token is e now fuel =
@@ -58,6 +59,6 @@ module _ (old to : Cursor) (found : Found) (pending : Option Task) (none : pendi
   comes_fault code e now (suc fuel) = ready (Fault code) e now (suc fuel)
 
 -- a further step that is pending
-pub pending_comes : (c : Cursor) (task : Task) (callers : List Caller) → Settles (at_cursor c (Some task) callers) (goes (at_token c task.token (Some task.work) callers))
-pending_comes c task callers now zero = ap (ready_run zero) (arrives_step (config c.text.now (cursor c) (further_of c.text.now (Some task)) callers now))
-pending_comes c task callers now (suc fuel) = ap (ready_run (suc fuel)) (arrives_step (config c.text.now (cursor c) (further_of c.text.now (Some task)) callers now))
+pub pending_comes : BlockLaws → (c : Cursor) (task : Task) (callers : List Caller) → Settles (at_cursor c (Some task) callers) (goes (at_token c task.token (Some task.work) callers))
+pending_comes laws c task callers now zero = ap (ready_run zero) (arrives_step laws (config c.text.now (cursor c) (further_of c.text.now (Some task)) callers now))
+pending_comes laws c task callers now (suc fuel) = ap (ready_run (suc fuel)) (arrives_step laws (config c.text.now (cursor c) (further_of c.text.now (Some task)) callers now))

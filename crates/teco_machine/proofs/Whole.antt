@@ -5,6 +5,7 @@ use Rattle.teco_core.specs.Arguments.{Arguments, no_arguments}
 use Rattle.teco_store.specs.Trail.{Trail}
 use Rattle.teco_step.specs.Terminal.{Shows}
 use Rattle.teco_machine.specs.Machine.{Config, Now, halts, arrives, run_within}
+use Rattle.teco_machine.specs.MachineLaws.{MachineMeans}
 use Rattle.teco_machine.specs.View.{beginning}
 use Rattle.teco_machine.specs.Running.{Origin, Host, host, Going, Ended, Reaches, over, at_beginning, at_return, code_left, config, exits, now_at, ready_run, whole_run}
 use Rattle.teco_machine.specs.declared.flow.Exit.{Exit}
@@ -15,12 +16,13 @@ use Rattle.teco_machine.proofs.Going.{now_there, settles, shows_nothing, since}
 abbrev first_now : Origin → Now
 first_now o = record { state = o.state; typed = []; load = 0 }
 
-pub whole_begins : (o : Origin) (F : Trail → Type 0) (a : Arguments) → a ≡ no_arguments → Going o (host o.state F o.screen 0) (at_beginning a o.text [])
-whole_begins o F a none =
+pub whole_begins : MachineMeans → (o : Origin) (F : Trail → Type 0) (a : Arguments) → a ≡ no_arguments → Going o (host o.state F o.screen 0) (at_beginning a o.text [])
+whole_begins means o F a none =
     let all : (fuel : ℕ) → run_within (0 + fuel) (whole_run o) ≡ ready_run fuel (arrives (whole_run o)) =
     λ fuel. (let same : 0 + fuel ≡ fuel = omega arith in ap (λ k. run_within k (whole_run o)) same ∙ run_ready fuel (whole_run o)) in
-    let now : now_at o 0 ≡ first_now o = now_there o 0 (λ x. arrives (whole_run o)) (first_now o) all (arrives_stays (whole_run o)) in
+    let now : now_at o 0 ≡ first_now o = now_there means o 0 (λ x. arrives (whole_run o)) (first_now o) all (arrives_stays (whole_run o)) in
     record {
+      means = means;
       state = sym (ap (λ (x : Now). x.state) now);
       shows = subst (λ typed. Shows o.screen o.screen typed false) (sym (ap (λ (x : Now). x.typed) now)) (shows_nothing o.screen);
       leads = λ fuel. all fuel ∙ ap (λ x. ready_run fuel (at_beginning x o.text [] (first_now o))) (sym none) ∙ ap (λ x. ready_run fuel (at_beginning a o.text [] x)) (sym now);

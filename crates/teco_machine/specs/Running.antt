@@ -11,6 +11,7 @@ use Rattle.teco_step.specs.Stepping.{IsStepIn, is_unfinished_code}
 use Rattle.teco_step.specs.Terminal.{Screen, Shows}
 use Rattle.teco_machine.specs.Machine.{Caller, Config, Further, Machine, runs, called, returned, Ready, step, block, Final, Now, arrives, paid, unpaid, run_within, start_config}
 use Rattle.teco_machine.specs.Machine as machine
+use Rattle.teco_machine.specs.MachineLaws.{MachineMeans}
 use Rattle.teco_machine.specs.Runs.{Runs, is_tty, trail_of}
 use Rattle.teco_machine.specs.StringMeaning.{string_meaning}
 use Rattle.teco_machine.specs.View.{beginning, cursor, item_at, opening_of}
@@ -57,8 +58,9 @@ whole_run o = runs (start_config o.state o.text)
 abbrev pub now_at : Origin → ℕ → Now
 now_at o k = record { state = (string_meaning o.state o.text k).state; typed = (string_meaning o.state o.text k).typed; load = (string_meaning o.state o.text k).load }
 
--- By this moment the desk and the screen are as the whole text means, and its run goes on so under each limit.
+-- By this moment the desk and the screen are as the whole text means, and its run, which the machine is, goes on so under each limit.
 pub record Going (o : Origin) (h : Host) (next : Continuation) : Type 0 where
+  pub means : MachineMeans
   pub state : h.state ≡ (now_at o h.steps).state
   pub shows : Shows o.screen h.screen (now_at o h.steps).typed false
   pub leads : (fuel : ℕ) → run_within (h.steps + fuel) (whole_run o) ≡ ready_run fuel (next (now_at o h.steps))

@@ -10,6 +10,7 @@ ghost use Rattle.teco_machine.specs.StringMeaning.{string_meaning};
 
 use crate::cursor::Cursor;
 use crate::flow::{Exit, Flow, Steps, Task};
+use crate::laws::machine_laws;
 use crate::outcome::Outcome;
 use crate::stepping::step;
 use teco_core::{Args, Code};
@@ -33,6 +34,7 @@ pub fn run<D: Desk, T: Terminal>(desk: &mut D, text: &[u8], limit: u64, term: &m
     ensures follows { (floor : ℕ) → D.follows desk.old (trail_of (D.state desk.old) text.now floor 0)
         → D.follows desk.new (trail_of (D.state desk.old) text.now floor result.steps) }
 {
+    machine_laws();
     let mut args = Args::new();
     let mut steps = Steps { done: 0, limit };
     let exit = run_text(desk, text, 0, &mut args, &mut steps, term);

@@ -14,7 +14,7 @@ use crate::cursor::Cursor;
 use crate::flow::{Flow, Steps, Task};
 use crate::moves::{Next, Opening};
 use teco_core::Code;
-use teco_scan::{Found, Item, TextCommand, Token, TokenKind, token_at};
+use teco_scan::{Found, Item, TextCommand, Token, TokenKind, block_laws, token_at};
 use teco_step::{Next as After, Terminal, Work, step_token};
 use teco_store::Desk;
 
@@ -42,9 +42,18 @@ pub(crate) fn step<D: Desk, T: Terminal>(
         → Reaches o (host (D.state desk.old) (D.follows desk.old) (T.screen term.old) steps.old.done)
         (host (D.state desk.new) (D.follows desk.new) (T.screen term.new) steps.new.done) (flows cursor.new pending.new callers result) }
 {
+    block_laws();
     if let Some(task) = *pending {
         *pending = None;
-        return token_step(desk, cursor, &task.token, Some(task.work), pending, steps, term);
+        return token_step(
+            desk,
+            cursor,
+            &task.token,
+            Some(task.work),
+            pending,
+            steps,
+            term,
+        );
     }
     let found = token_at(cursor.text, cursor.at);
     match cursor.pass(&found) {
@@ -88,7 +97,16 @@ fn token_step<D: Desk, T: Terminal>(
     let inside = cursor.has_iteration();
     let before = leave_is_seen(cursor, token);
     let text = cursor.text;
-    let next = step_token(desk, text, token, work, &mut cursor.args, inside, before, term);
+    let next = step_token(
+        desk,
+        text,
+        token,
+        work,
+        &mut cursor.args,
+        inside,
+        before,
+        term,
+    );
     if let Some(code) = unfinished(&next) {
         return over(code);
     }

@@ -67,20 +67,20 @@ running-preserved g t c = record {
   after = omega (arith, c.running.invariant.after, c.in-Call.ensures.after, c.in-Return-run_text.ensures.after);
   pending = subst (IsPending c.go_on_with.new.cursor.text.now) (sym c.in-Call.ensures.pending) tt;
   going = λ o callers limit deep e.
-    let there = c.running.invariant.going o callers limit deep e in
-    let here = c.in-Call.ensures.reaches o callers (limit ∙ sym c.running.invariant.limit) there.going in
-    let fewer : length callers < 32 = omega (arith, deep, c.requires, c.if-depth-eq-MOST_CALLS.false) in
-    let h = host (g.D.Desk.state c.step.new.desk) (g.D.Desk.follows c.step.new.desk) (g.T.Terminal.screen c.step.new.term) c.step.new.steps.done in
-    let from = c.step.new.cursor in
-    let called : Going o h (at_call from c.deref.result.now callers) = subst (λ x. Going o h (at_call from x callers)) (sym c.deref.ensures.value) here.going in
-    let into = enters o h from c.deref.result.now callers called fewer in
-    let deeper : length (caller from ∷ callers) ≡ c.args.depth + 1 = omega (arith, deep) in
-    let left = arguments c.run_text.new.args in
-    let r = c.in-Return-run_text.ensures.reaches o (caller from ∷ callers) (limit ∙ sym c.running.invariant.limit ∙ sym c.in-Call.ensures.limit) deeper into.going in
-    let k = host (g.D.Desk.state c.run_text.new.desk) (g.D.Desk.follows c.run_text.new.desk) (g.T.Terminal.screen c.run_text.new.term) c.run_text.new.steps.done in
-    let back = continues o k (at_return left (caller from ∷ callers)) r.going (at_cursor c.go_on_with.new.cursor c.step.new.pending callers)
-    (comes_back left from c.go_on_with.new.cursor c.step.new.pending callers c.go_on_with.ensures.text c.go_on_with.ensures.args c.in-Call.ensures.pending) in
-    record { going = back.going; follows = λ floor p. r.follows floor (here.follows floor (there.follows floor p)) };
+      let there = c.running.invariant.going o callers limit deep e in
+      let here = c.in-Call.ensures.reaches o callers (limit ∙ sym c.running.invariant.limit) there.going in
+      let fewer : length callers < 32 = omega (arith, deep, c.requires, c.if-depth-eq-MOST_CALLS.false) in
+      let h = host (g.D.Desk.state c.step.new.desk) (g.D.Desk.follows c.step.new.desk) (g.T.Terminal.screen c.step.new.term) c.step.new.steps.done in
+      let from = c.step.new.cursor in
+      let called : Going o h (at_call from c.deref.result.now callers) = subst (λ x. Going o h (at_call from x callers)) (sym c.deref.ensures.value) here.going in
+      let into = enters o h from c.deref.result.now callers called fewer in
+      let deeper : length (caller from ∷ callers) ≡ c.args.depth + 1 = omega (arith, deep) in
+      let left = arguments c.run_text.new.args in
+      let r = c.in-Return-run_text.ensures.reaches o (caller from ∷ callers) (limit ∙ sym c.running.invariant.limit ∙ sym c.in-Call.ensures.limit) deeper into.going in
+      let k = host (g.D.Desk.state c.run_text.new.desk) (g.D.Desk.follows c.run_text.new.desk) (g.T.Terminal.screen c.run_text.new.term) c.run_text.new.steps.done in
+      let back = continues o k (at_return left (caller from ∷ callers)) r.going (at_cursor c.go_on_with.new.cursor c.step.new.pending callers)
+      (comes_back left from c.go_on_with.new.cursor c.step.new.pending callers c.go_on_with.ensures.text c.go_on_with.ensures.args c.in-Call.ensures.pending) in
+      record { going = back.going; follows = λ floor p. r.follows floor (here.follows floor (there.follows floor p)) };
 }
 
 pub returns-in-Over-run_text-clause-reaches : goal.returns-in-Over-run_text-clause-reaches
