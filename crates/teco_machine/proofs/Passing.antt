@@ -1,0 +1,85 @@
+-- What a cursor passes, told once: the list from there on, and what comes.
+use Rattle.std.proofs.Common.{◌≡◌, ℕ, suc, ◌<◌, Bool, true, false, List, [], ◌∷◌, length, Option, Some, Ok, Err, refl, sym, subst, arith}
+use Rattle.std.specs.Prelude.{◌==◌, if◌then◌else◌}
+use Rattle.teco_core.specs.Arguments.{Arguments, no_arguments}
+use Rattle.teco_core.specs.declared.code.Code.{Code}
+use Rattle.teco_core.specs.declared.code.Code.TheVariants.{Bni, Ill, Pdo, Utc}
+use Rattle.teco_scan.specs.declared.blocks.Kind.{Kind}
+use Rattle.teco_scan.specs.declared.blocks.Kind.TheVariants.{Iter, Then, Else}
+use Rattle.teco_scan.specs.declared.command.BlockMark.{BlockMark}
+use Rattle.teco_scan.specs.declared.command.BlockMark.TheVariants.{Iterate, EndIteration, Otherwise, EndTest}
+use Rattle.teco_scan.specs.declared.command.Modifiers.{Modifiers}
+use Rattle.teco_scan.specs.declared.command.Test.{Test}
+use Rattle.teco_scan.specs.ListLaws.{BlockLaws, Within}
+use Rattle.teco_scan.specs.Lists.{Close, closed, broken, past, Listed, wrong, put, behind_block, iter_at, cond_at, at_mark, at_instruction, at_scan, list_at}
+use Rattle.teco_scan.specs.Scan.{Item, Instruction, Order, Scanned, found, ended, fault, scan}
+use Rattle.teco_scan.specs.Scan as token
+use Rattle.teco_scan.specs.Tree.{is_fault, done, item, escape, tag}
+use Rattle.teco_machine.specs.Machine.{Frame, Cursor, BlockStep, iterates, ends_turn, decides, Coming, moved, comes, at_block, ends, breaks, kind_of, skipped, passing, closes, pass_mark, pass_instruction, pass_scanned, pass}
+use Rattle.teco_machine.proofs.Denoting.{here}
+
+abbrev pub at : Arguments → List ℕ → List Frame → Cursor
+at a left blocks = record { args = a; left = left; blocks = blocks }
+
+-- a part of a conditional
+abbrev pub IsPart : Kind → Type 0
+IsPart Iter = ⊥
+IsPart k = Unit {0}
+
+-- From a cursor, whose list from there on is this, comes this. What is passed leaves fewer bytes, and what breaks is a text's own fault.
+pub data Passes : Cursor → Listed → Coming → Type 0 where
+  text_ends : (a : Arguments) (left : List ℕ) → Passes (at a left []) (done, broken Utc) ends
+  faults : (c : Cursor) (e : Code) → is_fault e ≡ true → Passes c (wrong e) (breaks e)
+  item_comes : (c : Cursor) (m : Modifiers) (i : Item) (bs : List ℕ) → Passes c (put (item m i) (here c.blocks bs)) (comes m i (record c { left = bs }))
+  tag_passes : (c : Cursor) (name bs : List ℕ) → length bs < length c.left → Passes c (put (tag name) (here c.blocks bs)) (moved (record c { left = bs }))
+  escape_passes : (c : Cursor) (bs : List ℕ) → length bs < length c.left → Passes c (put escape (here c.blocks bs)) (moved (record c { args = no_arguments; left = bs }))
+  iteration_opens : (c : Cursor) (bs : List ℕ) → Passes c (iter_at list_at (kind_of c.blocks) (length c.blocks) (list_at (Some Iter) (suc (length c.blocks)) bs)) (at_block iterates bs)
+  conditional_opens : (c : Cursor) (t : Test) (bs : List ℕ) → Passes c (cond_at list_at (kind_of c.blocks) (length c.blocks) t (list_at (Some Then) (suc (length c.blocks)) bs)) (at_block (decides t) bs)
+  turn_ends : (a : Arguments) (left start : List ℕ) (turns : Option ℕ) (outer : List Frame) (bs : List ℕ) → Passes (at a left (record { kind = Iter; start = start; left = turns } ∷ outer)) (done, closed false bs) (at_block ends_turn bs)
+  part_ends : (a : Arguments) (left : List ℕ) (b : Frame) (outer : List Frame) (l : Close) (bs : List ℕ) → IsPart b.kind → behind_block list_at b.kind (suc (length outer)) l ≡ Ok bs → length bs < length left
+      → Passes (at a left (b ∷ outer)) (done, l) (moved (closes bs outer))
+  part_faults : (a : Arguments) (left : List ℕ) (b : Frame) (outer : List Frame) (l : Close) (e : Code) → IsPart b.kind → behind_block list_at b.kind (suc (length outer)) l ≡ Err e → is_fault e ≡ true
+      → Passes (at a left (b ∷ outer)) (done, l) (breaks e)
+
+opened : (b : Bool) (c : Cursor) (l : Listed) (o : BlockStep) (bs : List ℕ) → Passes c l (at_block o bs) → Passes c (if b then wrong Pdo else l) (if b then breaks Pdo else at_block o bs)
+opened true c l o bs h = faults c Pdo refl
+opened false c l o bs h = h
+
+module _ (laws : BlockLaws) (a : Arguments) (left : List ℕ) where
+  -- a first part ends, and the second, whose list closes so, is passed over
+  divided : (b : Frame) (outer : List Frame) (bs : List ℕ) (l : Close) → length bs < length left → IsPart b.kind → behind_block list_at b.kind (suc (length outer)) (closed true bs) ≡ past l
+      → Within (length bs) l → ((e : Code) → l ≡ broken e → is_fault e ≡ true) → Passes (at a left (b ∷ outer)) (done, closed true bs) (passing (skipped (past l) (closes bs outer)))
+  divided b outer bs (closed d more) lt part is within faulty = part_ends a left b outer (closed true bs) more part is (omega arith)
+  divided b outer bs (broken e) lt part is within faulty = part_faults a left b outer (closed true bs) e part is (faulty e refl)
+
+  marked : (m : BlockMark) (bs : List ℕ) (blocks : List Frame) → length bs < length left → Passes (at a left blocks) (at_mark list_at m bs (kind_of blocks) (length blocks)) (pass_mark m bs (at a left blocks))
+  marked Iterate bs blocks lt = opened (length blocks == 64) (at a left blocks) _ iterates bs (iteration_opens (at a left blocks) bs)
+  marked EndIteration bs [] lt = faults _ Bni refl
+  marked m bs [] lt = faults _ Ill refl
+  marked m bs (b ∷ outer) lt = by m b.kind
+    where
+      by : (m : BlockMark) (k : Kind) → (let f : Frame = record b { kind = k } in Passes (at a left (f ∷ outer)) (at_mark list_at m bs (Some k) (suc (length outer))) (pass_mark m bs (at a left (f ∷ outer))))
+      by Iterate k = let c : Cursor = at a left (record b { kind = k } ∷ outer) in opened (suc (length outer) == 64) c _ iterates bs (iteration_opens c bs)
+      by EndIteration Iter = turn_ends a left b.start b.left outer bs
+      by EndIteration k = faults _ Bni refl
+      by Otherwise Then = let d : ℕ = suc (length outer) in divided (record b { kind = Then }) outer bs (list_at (Some Else) d bs).1 lt tt refl (laws.list_shortens (Some Else) d bs) (laws.list_faults (Some Else) d bs)
+      by EndTest Then = part_ends a left (record b { kind = Then }) outer (closed false bs) bs tt refl lt
+      by EndTest Else = part_ends a left (record b { kind = Else }) outer (closed false bs) bs tt refl lt
+      by m k = faults _ Ill refl
+
+  scanned : (s : Scanned) (blocks : List Frame) → ((t : Order) (bs : List ℕ) → s ≡ found t bs → length bs < length left) → ((e : Code) → s ≡ fault e → is_fault e ≡ true)
+      → Passes (at a left blocks) (at_scan list_at s (kind_of blocks) (length blocks)) (pass_scanned s (at a left blocks))
+  scanned ended [] lt f = text_ends a left
+  scanned ended (b ∷ bs) lt f = faults _ Utc refl
+  scanned (fault e) blocks lt f = faults _ e (f e refl)
+  scanned (found t bs) blocks lt f = by t.instruction (lt t bs refl)
+    where
+      by : (i : Instruction) → length bs < length left → Passes (at a left blocks) (at_instruction list_at i t.modifiers bs (kind_of blocks) (length blocks)) (pass_instruction t.modifiers i bs (at a left blocks))
+      by (token.step i) lt = item_comes (at a left blocks) t.modifiers i bs
+      by (token.mark m) lt = marked m bs blocks lt
+      by (token.decide t) lt = opened (length blocks == 64) (at a left blocks) _ (decides t) bs (conditional_opens (at a left blocks) t bs)
+      by (token.tag name) lt = tag_passes (at a left blocks) name bs lt
+      by token.escape lt = escape_passes (at a left blocks) bs lt
+
+pub passes : BlockLaws → (c : Cursor) → Passes c (here c.blocks c.left) (pass c)
+passes laws c = subst (λ (l : Listed). Passes c l (pass c)) (sym (laws.list_unrolls (kind_of c.blocks) (length c.blocks) c.left)) (scanned laws c.args c.left (scan c.left) c.blocks (laws.token_shortens c.left) (laws.scan_faults c.left))

@@ -1,0 +1,30 @@
+use Rattle.teco_machine.proofs.Sentences as sentences
+use Rattle.teco_machine.proofs.Limits.{within_limit, more_limit, same_again, limit_zero}
+use Rattle.teco_machine.proofs.laws.meaning_laws.Goals as goal
+
+pub returns : goal.returns
+returns c = record {
+  unrolls = sentences.unrolls;
+  empty_list = sentences.empty_list;
+  fault = sentences.fault;
+  tag = sentences.tag_passed;
+  escape = sentences.escape_drops;
+  no_fuel = sentences.no_fuel;
+  step_ends = sentences.step_ends;
+  step = sentences.step;
+  error = sentences.error;
+  jump_caught = sentences.jump_caught;
+  jump_not_caught = sentences.jump_not_caught;
+  macro_call = sentences.macro_call;
+  call_too_deep = sentences.call_too_deep;
+  further_step = sentences.further_step;
+  iteration = sentences.iteration;
+  endless_iteration = sentences.endless_iteration;
+  turn_end = sentences.turn_ends;
+  leaving = sentences.leaving;
+  conditional = sentences.conditional;
+  within_limit = within_limit;
+  more_limit = more_limit c.machine_laws.ensures.means;
+  enough = same_again c.machine_laws.ensures.means;
+  limit_zero = limit_zero c.machine_laws.ensures.follows;
+}

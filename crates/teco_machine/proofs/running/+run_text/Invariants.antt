@@ -1,0 +1,24 @@
+use Rattle.std.proofs.Common.{◌≡◌, ◌≤◌, ℕ, ◌-◌, ◌+◌, ◌*◌, List, length}
+use Rattle.teco_core.specs.ArgumentsView.{arguments}
+use Rattle.teco_machine.specs.Machine.{Caller}
+use Rattle.teco_machine.specs.View.{cursor}
+use Rattle.teco_machine.specs.Running.{Comes, Going, IsPending, Origin, at_beginning, at_cursor, host}
+use Rattle.teco_machine.proofs.running.+run_text.Given as goal
+
+abbrev pub decreases-run_text : goal.decreases-run_text
+decreases-run_text g l = 32 - l.depth
+
+abbrev pub invariant-running : goal.invariant-running
+invariant-running g l = record {
+  text : l.cursor.text.now ≡ l.text;
+  limit : l.steps.limit ≡ l.fn.steps.limit;
+  after : l.fn.steps.done ≤ l.steps.done;
+  pending : IsPending l.cursor.text.now l.pending;
+  going : (o : Origin) (callers : List Caller) → o.limit ≡ l.fn.steps.limit → length callers ≡ l.depth
+      → Going o (host (g.D.Desk.state l.fn.desk) (g.D.Desk.follows l.fn.desk) (g.T.Terminal.screen l.fn.term) l.fn.steps.done) (at_beginning (arguments l.fn.args) l.text callers)
+      → Comes o (host (g.D.Desk.state l.fn.desk) (g.D.Desk.follows l.fn.desk) (g.T.Terminal.screen l.fn.term) l.fn.steps.done)
+      (host (g.D.Desk.state l.desk) (g.D.Desk.follows l.desk) (g.T.Terminal.screen l.term) l.steps.done) (at_cursor l.cursor l.pending callers);
+}
+
+abbrev pub decreases-running : goal.decreases-running
+decreases-running g l = (l.steps.limit - l.steps.done) * (length l.text + 1) + length (cursor l.cursor).left

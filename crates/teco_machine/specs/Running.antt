@@ -1,0 +1,178 @@
+-- A run of a whole string, as it is seen at a moment, and where it goes on from there.
+use Rattle.std.specs.Prelude.{◌≡◌, ◌<◌, ◌≤◌, ◌⊎◌, ℕ, zero, suc, ◌+◌, List, [], Bool, true, false, Option, Some, None, drop, length}
+use Rattle.teco_core.specs.Arguments.{Arguments}
+use Rattle.teco_core.specs.ArgumentsView.{arguments}
+use Rattle.teco_core.specs.declared.code.Code.{Code}
+use Rattle.teco_scan.specs.declared.token.Token.{Token}
+use Rattle.teco_store.specs.State.{State}
+use Rattle.teco_store.specs.Trail.{Trail}
+use Rattle.teco_step.specs.declared.next.Work.{Work}
+use Rattle.teco_step.specs.Stepping.{IsStepIn, is_unfinished_code}
+use Rattle.teco_step.specs.Terminal.{Screen, Shows}
+use Rattle.teco_machine.specs.Machine.{Caller, Config, Further, Machine, runs, called, returned, Ready, step, block, Final, Now, arrives, paid, unpaid, run_within, start_config}
+use Rattle.teco_machine.specs.Machine as machine
+use Rattle.teco_machine.specs.MachineLaws.{MachineMeans}
+use Rattle.teco_machine.specs.Runs.{Runs, is_tty, trail_of}
+use Rattle.teco_machine.specs.StringMeaning.{string_meaning}
+use Rattle.teco_machine.specs.View.{beginning, cursor, item_at, opening_of}
+use Rattle.teco_machine.specs.declared.cursor.Cursor.{Cursor}
+use Rattle.teco_machine.specs.declared.flow.Exit.{Exit}
+use Rattle.teco_machine.specs.declared.flow.Exit.TheVariants as exit
+use Rattle.teco_machine.specs.declared.flow.Flow.{Flow}
+use Rattle.teco_machine.specs.declared.flow.Flow.TheVariants as flow
+use Rattle.teco_machine.specs.declared.flow.Task.{Task}
+use Rattle.teco_machine.specs.declared.moves.Opening.{Opening}
+use Rattle.teco_machine.specs.declared.outcome.Outcome.{Outcome}
+
+-- Where a whole run began: the state, the text, what the screen showed, and the limit of steps.
+pub record Origin : Type 0 where
+  pub state : State
+  pub text : List ℕ
+  pub screen : Screen
+  pub limit : ℕ
+
+-- What is seen of a run at a moment: the state of the desk and what the desk follows, the screen, and the steps that are done.
+pub record Host : Type 1 where
+  pub state : State
+  pub follows : Trail → Type 0
+  pub screen : Screen
+  pub steps : ℕ
+
+abbrev pub host : State → (Trail → Type 0) → Screen → ℕ → Host
+host s follows w k = record { state = s; follows = follows; screen = w; steps = k }
+
+-- The run goes on so, from the state, the bytes typed and the load by then.
+abbrev pub Continuation : Type 0
+Continuation = Now → Ready
+
+-- what a run comes to under a limit of steps, from what it is ready for
+abbrev pub ready_run : ℕ → Ready → Final
+ready_run zero r = unpaid r
+ready_run (suc n) r = paid n (run_within n) r
+
+-- the run of the whole text, from its beginning
+abbrev pub whole_run : Origin → Machine
+whole_run o = runs (start_config o.state o.text)
+
+-- what the whole text means under a limit of so many steps
+abbrev pub now_at : Origin → ℕ → Now
+now_at o k = record { state = (string_meaning o.state o.text k).state; typed = (string_meaning o.state o.text k).typed; load = (string_meaning o.state o.text k).load }
+
+-- By this moment the desk and the screen are as the whole text means, and its run, which the machine is, goes on so under each limit.
+pub record Going (o : Origin) (h : Host) (next : Continuation) : Type 0 where
+  pub means : MachineMeans
+  pub state : h.state ≡ (now_at o h.steps).state
+  pub shows : Shows o.screen h.screen (now_at o h.steps).typed false
+  pub leads : (fuel : ℕ) → run_within (h.steps + fuel) (whole_run o) ≡ ready_run fuel (next (now_at o h.steps))
+
+-- If the desk followed the run up to one moment, it follows it up to another.
+abbrev pub Follows : Origin → Host → Host → Type 0
+Follows o before after = (floor : ℕ) → before.follows (trail_of o.state o.text floor before.steps) → after.follows (trail_of o.state o.text floor after.steps)
+
+pub record Comes (o : Origin) (before after : Host) (next : Continuation) : Type 0 where
+  pub going : Going o after next
+  pub follows : Follows o before after
+
+abbrev pub ended_by : Option Code → ℕ → Outcome
+ended_by code k = record { code = code; steps = k }
+
+-- By this moment the whole run is over, by this code.
+pub record Ended (o : Origin) (before after : Host) (code : Option Code) : Type 0 where
+  pub typed : List ℕ
+  pub runs : Runs o.state o.text o.limit (ended_by code after.steps) typed after.state
+  pub shows : Shows o.screen after.screen typed (is_tty (ended_by code after.steps))
+  pub again : after.state ≡ (now_at o after.steps).state
+  pub follows : Follows o before after
+
+-- Where a run has got: it goes on, or is over.
+pub data Reached : Type 0 where
+  goes : (next : Continuation) → Reached
+  over : (code : Option Code) → Reached
+
+abbrev pub Reaches : Origin → Host → Host → Reached → Type 0
+Reaches o before after (goes next) = Comes o before after next
+Reaches o before after (over code) = Ended o before after code
+
+-- what a run comes to from there
+abbrev pub reached_run : ℕ → Now → Reached → Final
+reached_run fuel now (goes next) = ready_run fuel (next now)
+reached_run fuel now (over code) = record { state = now.state; typed = now.typed; load = now.load; fuel = fuel; code = code }
+
+abbrev pub config : List ℕ → machine.Cursor → Option Further → List Caller → Now → Config
+config text c further callers now =
+    record { state = now.state; typed = now.typed; load = now.load; text = text; at = c; callers = callers; further = further }
+
+-- a further step that is pending
+abbrev pub further_of : List ℕ → Option Task → Option Further
+further_of text None = None
+further_of text (Some task) = Some (record { modifiers = task.token.modifiers; item = item_at text task.token.kind; work = task.work })
+
+-- A text goes on at a cursor, or with its pending step.
+abbrev pub at_cursor : Cursor → Option Task → List Caller → Continuation
+at_cursor c pending callers now = arrives (runs (config c.text.now (cursor c) (further_of c.text.now pending) callers now))
+
+-- It goes on with a step of this token, the first or a further one.
+abbrev pub at_token : Cursor → Token → Option Work → List Caller → Continuation
+at_token c token work callers now = step token.modifiers (item_at c.text.now token.kind) work (config c.text.now (cursor c) None callers now)
+
+-- It goes on with a step of a block, whose token ends at a place.
+abbrev pub at_opening : Cursor → Opening → ℕ → List Caller → Continuation
+at_opening c o to callers now = block (opening_of o) (drop to c.text.now) (config c.text.now (cursor c) None callers now)
+
+-- It goes on with a call of this text.
+abbrev pub at_call : Cursor → List ℕ → List Caller → Continuation
+at_call c text callers now = arrives (called text (config c.text.now (cursor c) None callers now))
+
+-- A text begins.
+abbrev pub at_beginning : Arguments → List ℕ → List Caller → Continuation
+at_beginning a text callers now = arrives (runs (config text (beginning a text) None callers now))
+
+-- A text is over, with these arguments: the latest caller goes on.
+abbrev pub at_return : Arguments → List Caller → Continuation
+at_return a callers now = arrives (returned (config [] (beginning a []) None [] now) callers)
+
+-- a cursor after a call, with the arguments that it left
+abbrev pub in_return : Arguments → machine.Cursor → machine.Cursor
+in_return a c = record { args = a; left = c.left; blocks = c.blocks }
+
+-- where a flow leads
+abbrev pub flows : Cursor → Option Task → List Caller → Flow → Reached
+flows c pending callers flow.On = goes (at_cursor c pending callers)
+flows c pending callers (flow.Call text) = goes (at_call c text.items callers)
+flows c pending callers flow.Return = goes (at_return (arguments c.args) callers)
+flows c pending callers (flow.Over code) = over code
+
+-- where the end of a text leads
+abbrev pub exits : Arguments → List Caller → Exit → Reached
+exits a callers exit.Return = goes (at_return a callers)
+exits a callers (exit.Over code) = over code
+
+-- the code that a text's end leaves, where nothing has called it
+abbrev pub code_left : Exit → Option Code
+code_left exit.Return = None
+code_left (exit.Over code) = code
+
+-- the text goes on, at its cursor or in a text that it calls
+abbrev pub GoesOn : Flow → Type 0
+GoesOn flow.On = Unit {0}
+GoesOn (flow.Call text) = Unit {0}
+GoesOn flow.Return = ⊥
+GoesOn (flow.Over code) = ⊥
+
+-- A pending step is one of a token of the text; only where the text goes on is one pending.
+abbrev pub IsPending : List ℕ → Option Task → Type 0
+IsPending text None = Unit {0}
+IsPending text (Some task) = IsStepIn text task.token
+
+abbrev pub Pends : List ℕ → Option Task → Flow → Type 0
+Pends text pending flow.On = IsPending text pending
+Pends text pending f = pending ≡ None
+
+-- neither want of memory nor a failed terminal
+abbrev pub IsFinished : Option Code → Type 0
+IsFinished None = Unit {0}
+IsFinished (Some c) = is_unfinished_code c ≡ false
+
+abbrev pub Finishes : Flow → Type 0
+Finishes (flow.Over code) = IsFinished code
+Finishes f = Unit {0}

@@ -1,0 +1,98 @@
+//! The run of a command string.
+ghost use Rattle.std.specs.Prelude.{◌≡◌, ◌≤◌, ℕ, List, length};
+ghost use Rattle.teco_core.specs.ArgumentsView.{arguments};
+ghost use Rattle.teco_step.specs.Terminal.{Shows};
+ghost use Rattle.teco_machine.specs.Machine.{Caller};
+ghost use Rattle.teco_machine.specs.Running.{Going, Origin, Reaches, at_beginning, exits, host, in_return};
+ghost use Rattle.teco_machine.specs.View.{cursor as cursor_of};
+ghost use Rattle.teco_machine.specs.Runs.{Runs, is_tty, trail_of};
+ghost use Rattle.teco_machine.specs.StringMeaning.{string_meaning};
+
+use crate::cursor::Cursor;
+use crate::flow::{Exit, Flow, Steps, Task};
+use crate::laws::machine_laws;
+use crate::outcome::Outcome;
+use crate::stepping::step;
+use teco_core::{Args, Code};
+use teco_step::Terminal;
+use teco_store::Desk;
+
+/// The most calls that may be open.
+const MOST_CALLS: usize = 32;
+
+/// Runs a command string on a desk and a terminal, for at most `limit` steps.
+///
+/// It ends as the recursive meaning of the string says, with its state, its typed bytes, its code and its steps; or by [`Code::Mem`]
+/// or [`Code::Tty`] after some whole steps, with the state and the typed bytes of just these. By [`Code::Tty`] it ends only where a
+/// put failed, and then the terminal may show a beginning of what the next step types. A step that is reached when `limit` steps are
+/// taken isn't begun, and the string ends by [`Code::Lim`]. After each step that counts, a failing one too, the desk is told so.
+/// It takes no memory itself, though its steps may: a string of values and arithmetic alone never ends by [`Code::Mem`].
+pub fn run<D: Desk, T: Terminal>(desk: &mut D, text: &[u8], limit: u64, term: &mut T) -> Outcome
+    ensures run { (typed : List ℕ) × Runs (D.state desk.old) text.now limit result typed (D.state desk.new)
+        × Shows (T.screen term.old) (T.screen term.new) typed (is_tty result) }
+    ensures again { D.state desk.new ≡ (string_meaning (D.state desk.old) text.now result.steps).state }
+    ensures follows { (floor : ℕ) → D.follows desk.old (trail_of (D.state desk.old) text.now floor 0)
+        → D.follows desk.new (trail_of (D.state desk.old) text.now floor result.steps) }
+{
+    machine_laws();
+    let mut args = Args::new();
+    let mut steps = Steps { done: 0, limit };
+    let exit = run_text(desk, text, 0, &mut args, &mut steps, term);
+    Outcome {
+        code: exit.code(),
+        steps: steps.done,
+    }
+}
+
+/// Runs a text at this depth of calls, from its beginning, with these arguments. Where it returns, `args` are what it leaves.
+fn run_text<D: Desk, T: Terminal>(
+    desk: &mut D,
+    text: &[u8],
+    depth: usize,
+    args: &mut Args,
+    steps: &mut Steps,
+    term: &mut T,
+) -> Exit
+    requires { depth ≤ 32 }
+    ensures limit { steps.new.limit ≡ steps.old.limit }
+    ensures after { steps.old.done ≤ steps.new.done }
+    ensures reaches { (o : Origin) (callers : List Caller) → o.limit ≡ steps.old.limit → length callers ≡ depth
+        → Going o (host (D.state desk.old) (D.follows desk.old) (T.screen term.old) steps.old.done) (at_beginning (arguments args.old) text.now callers)
+        → Reaches o (host (D.state desk.old) (D.follows desk.old) (T.screen term.old) steps.old.done)
+        (host (D.state desk.new) (D.follows desk.new) (T.screen term.new) steps.new.done) (exits (arguments args.new) callers result) }
+{
+    let mut cursor = Cursor::begin(text, *args);
+    let mut pending: Option<Task> = None;
+    'running: loop {
+        match step(desk, &mut cursor, &mut pending, steps, term) {
+            Flow::On => continue 'running,
+            Flow::Call(called) => {
+                if depth == MOST_CALLS {
+                    return Exit::Over(Some(Code::Pdo));
+                }
+                let mut left = cursor.args;
+                match run_text(desk, &called, depth + 1, &mut left, steps, term) {
+                    Exit::Return => {
+                        go_on_with(&mut cursor, left);
+                        continue 'running;
+                    }
+                    Exit::Over(code) => return Exit::Over(code),
+                }
+            }
+            Flow::Return => {
+                *args = cursor.args;
+                return Exit::Return;
+            }
+            Flow::Over(code) => return Exit::Over(code),
+        }
+    }
+}
+
+/// The text goes on with the arguments that a call has left.
+#[inline]
+fn go_on_with(cursor: &mut Cursor, args: Args)
+    ensures text { cursor.new.text ≡ cursor.old.text }
+    ensures args { cursor_of cursor.new ≡ in_return (arguments args) (cursor_of cursor.old) }
+{
+    cursor.args = args;
+}
