@@ -1,142 +1,181 @@
--- A run of a string that has come so far, and how it ends.
+-- The run of a whole string by some moment: what uses no step, a step, and the end.
 use Rattle.std.proofs.Common.{◌≡◌, ◌≢◌, ℕ, suc, ◌+◌, ◌-◌, ◌<◌, ◌≤◌, List, [], ◌∷◌, ◌++◌, length, Option, Some, None, true, false, refl, sym, ap, subst, ◌∙◌, arith, append_assoc, append-nil, length-append}
+use Rattle.std.specs.Prelude.{Bool}
+use Rattle.std.proofs.KnownBytes.{Appends-trans, Appends-nil}
 use Rattle.teco_core.specs.declared.code.Code.{Code}
-use Rattle.teco_core.specs.declared.code.Code.TheVariants.{Mem, Tty}
+use Rattle.teco_core.specs.declared.code.Code.TheVariants.{Lim, Mem, Tty}
 use Rattle.teco_store.specs.State.{State}
 use Rattle.teco_store.specs.Trail.{Trail, moved, stepped}
 use Rattle.teco_step.specs.Stepping.{is_unfinished_code}
-use Rattle.teco_step.specs.Terminal.{Screen, Shows, IsFrontOf}
-use Rattle.teco_step.proofs.Shown.{Shows-trans}
-use Rattle.teco_exec.specs.World.{Ran}
-use Rattle.teco_exec.specs.StringMeaning.{code_of, run_of, string_meaning}
-use Rattle.teco_exec.specs.Runs.{Runs, EndsWell, is_tty}
-use Rattle.teco_exec.specs.Rest.{Rest, Stays, Rests, Costs, Leads, Settles, Ends}
-use Rattle.teco_exec.specs.Running.{trail, Going, Ended}
+use Rattle.teco_step.specs.Terminal.{Screen, Shows, IsFrontOf, count_after}
+use Rattle.teco_exec.specs.Machine.{Final, Now, run_within}
+use Rattle.teco_exec.specs.StringMeaning.{Meant, string_meaning}
+use Rattle.teco_exec.specs.Runs.{Runs, EndsWell, is_tty, trail_of}
+use Rattle.teco_exec.specs.Running.{Origin, Host, host, Continuation, Going, Follows, Comes, Ended, Reached, goes, over, Reaches, reached_run, ready_run, whole_run, now_at, ended_by, IsFinished}
+use Rattle.teco_exec.proofs.Composing.{Stays, ready_fuel}
+use Rattle.teco_exec.specs.MachineLaws.{MachineMeans}
+use Rattle.teco_exec.proofs.MachineFollows.{final_now}
 
--- neither want of memory nor a failed terminal
-abbrev pub IsFinished : Option Code → Type 0
-IsFinished None = Unit {0}
-IsFinished (Some c) = is_unfinished_code c ≡ false
+-- One piece of what a terminal shows after another.
+pub shows_nothing : (w : Screen) → Shows w w [] false
+shows_nothing w = record { more = Appends-nil w.shown; count = refl }
 
-well_runs : (code : Option Code) (steps : ℕ) (old : State) (text : List ℕ) (limit : ℕ) (typed : List ℕ) (new : State) → IsFinished code → EndsWell old text limit (record { code = code; steps = steps }) typed new → Runs old text limit (record { code = code; steps = steps }) typed new
-well_runs None steps old text limit typed new f e = e
-well_runs (Some Mem) steps old text limit typed new f e = absurd cc
-well_runs (Some Tty) steps old text limit typed new f e = absurd cc
-well_runs (Some c) steps old text limit typed new f e = e
-
-well_shown : (code : Option Code) (steps : ℕ) → IsFinished code → is_tty (record { code = code; steps = steps }) ≡ false
-well_shown None steps f = refl
-well_shown (Some Tty) steps f = cc
-well_shown (Some c) steps f = refl
+pub shows_on : {a b c : Screen} {xs ys : List ℕ} {failed : Bool} → Shows a b xs false → Shows b c ys failed → Shows a c (xs ++ ys) failed
+shows_on {failed} p q = record { more = Appends-trans _ _ _ _ _ p.more q.more; count = q.count ∙ ap (count_after failed) p.count }
 
 no_longer : (bytes more : List ℕ) → bytes ≡ bytes ++ more → more ≡ []
 no_longer bytes [] e = refl
 no_longer bytes (b ∷ more) e = let l : length bytes ≡ length (bytes ++ (b ∷ more)) = ap length e in absurd (omega (arith, simp length-append at l))
 
-module _ (runs : ℕ → Ran) (first now : Screen) (s : State) (P : ℕ → Type 0) (F : Trail → Type 0) (steps : ℕ) (rest : Rest) (h : Going runs first now s P F steps rest) where
-  pub stays_now : Stays s h.typed h.load (runs steps).0
-  stays_now =
-      let none : steps ≡ steps + 0 = omega arith in
-      subst (λ (r : Ran). Stays s h.typed h.load r.0) (sym (ap runs none ∙ h.means 0)) (h.rests.stays h.typed h.load)
+-- A string that ends by itself ends well.
+well_runs : (s : State) (text : List ℕ) (limit : ℕ) (code : Option Code) (steps : ℕ) (typed : List ℕ) (new : State) → IsFinished code → EndsWell s text limit (ended_by code steps) typed new → Runs s text limit (ended_by code steps) typed new
+well_runs s text limit None steps typed new f e = e
+well_runs s text limit (Some Mem) steps typed new f e = absurd cc
+well_runs s text limit (Some Tty) steps typed new f e = absurd cc
+well_runs s text limit (Some c) steps typed new f e = e
 
-  pub follows_now : (floor : ℕ) → P floor → F (trail runs floor steps (runs steps).0.load)
-  follows_now floor p = subst (λ n. F (trail runs floor steps n)) (sym stays_now.load_is) (h.follows floor p)
+well_shown : (code : Option Code) (steps : ℕ) → IsFinished code → false ≡ is_tty (ended_by code steps)
+well_shown None steps f = refl
+well_shown (Some Tty) steps f = cc
+well_shown (Some c) steps f = refl
+
+abbrev meant_now : Meant → Now
+meant_now m = record { state = m.state; typed = m.typed; load = m.load }
+
+-- Where the run has come to after some steps is what the text means under that limit.
+pub now_there : MachineMeans → (o : Origin) (k : ℕ) (next : Continuation) (now : Now) → ((fuel : ℕ) → run_within (k + fuel) (whole_run o) ≡ ready_run fuel (next now)) → Stays next now → now_at o k ≡ now
+now_there means o k next now leads stays =
+    let none : k ≡ k + 0 = omega arith in
+    sym (ap meant_now (means o.state o.text k)) ∙ ap (λ j. final_now (run_within j (whole_run o))) none ∙ ap final_now (leads 0) ∙ stays
+
+-- What is followed from one moment to the next is followed from the first.
+pub since : (o : Origin) (first before after : Host) (d : Reached) → Follows o first before → Reaches o before after d → Reaches o first after d
+since o first before after (goes next) f r = record { going = r.going; follows = λ floor p. r.follows floor (f floor p) }
+since o first before after (over code) f r = record { typed = r.typed; runs = r.runs; shows = r.shows; again = r.again; follows = λ floor p. r.follows floor (f floor p) }
+
+-- A continuation comes to what is reached.
+abbrev pub Settles : Continuation → Reached → Type 0
+Settles next d = (now : Now) (fuel : ℕ) → ready_run fuel (next now) ≡ reached_run fuel now d
+
+-- neither want of memory nor a failed terminal
+abbrev pub EndsByItself : Reached → Type 0
+EndsByItself (goes next) = Unit {0}
+EndsByItself (over code) = IsFinished code
+
+-- A step leads from one continuation to another; it changes the state, types these bytes and has this load.
+abbrev pub advanced : State → List ℕ → ℕ → Now → Now
+advanced t bytes n now = record { state = t; typed = now.typed ++ bytes; load = now.load + n }
+
+abbrev pub Pays : Continuation → Continuation → State → State → List ℕ → ℕ → Type 0
+Pays next further s t bytes n = (now : Now) → now.state ≡ s → (fuel : ℕ) → ready_run (suc fuel) (next now) ≡ ready_run fuel (further (advanced t bytes n now))
+
+module _ (o : Origin) (h : Host) (next : Continuation) (g : Going o h next) where
+  pub ends_here : (code : Option Code) → IsFinished code → h.steps ≤ o.limit
+      → (let left = o.limit - h.steps in ready_run left (next (now_at o h.steps)) ≡ reached_run left (now_at o h.steps) (over code)) → Ended o h h code
+  ends_here code f le e =
+      let now = now_at o h.steps in
+      let left = o.limit - h.steps in
+      let all : h.steps + left ≡ o.limit = omega arith in
+      let r : run_within o.limit (whole_run o) ≡ reached_run left now (over code) = sym (ap (λ k. run_within k (whole_run o)) all) ∙ g.leads left ∙ e in
+      let m : string_meaning o.state o.text o.limit ≡ (let x : Meant = record { state = now.state; typed = now.typed; code = code; steps = o.limit - left; load = now.load } in x) =
+      sym (g.means o.state o.text o.limit) ∙ ap (λ (x : Final). let y : Meant = record { state = x.state; typed = x.typed; code = x.code; steps = o.limit - x.fuel; load = x.load } in y) r in
+      record {
+        typed = now.typed;
+        runs = well_runs o.state o.text o.limit code h.steps now.typed h.state f (record {
+          code = sym (ap (λ (x : Meant). x.code) m);
+          steps = let same : (string_meaning o.state o.text o.limit).steps ≡ o.limit - left = ap (λ (x : Meant). x.steps) m in omega arith;
+          state = g.state ∙ sym (ap (λ (x : Meant). x.state) m);
+          bytes = sym (ap (λ (x : Meant). x.typed) m);
+        });
+        shows = subst (λ failed. Shows o.screen h.screen now.typed failed) (well_shown code h.steps f) g.shows;
+        again = g.state;
+        follows = λ floor p. p;
+      }
+
+  -- no step is left
+  pub limit_ends : h.steps ≡ o.limit → ((now : Now) → ready_run 0 (next now) ≡ reached_run 0 now (over (Some Lim))) → Ended o h h (Some Lim)
+  limit_ends same e =
+      let none : 0 ≡ o.limit - h.steps = omega arith in
+      ends_here (Some Lim) refl (omega arith) (subst (λ k. ready_run k (next (now_at o h.steps)) ≡ reached_run k (now_at o h.steps) (over (Some Lim))) none (e (now_at o h.steps)))
 
   -- what uses no step
-  pub settled : (further : Rest) → Rests s further → Settles rest further → Going runs first now s P F steps further
-  settled further r e = record {
-    typed = h.typed;
-    load = h.load;
-    shows = h.shows;
-    means = λ fuel. h.means fuel ∙ e.settles h.typed h.load fuel;
-    rests = r;
-    follows = h.follows;
+  pub continues : (further : Continuation) → Settles next (goes further) → Comes o h h further
+  continues further e = record {
+    going = record { means = g.means; state = g.state; shows = g.shows; leads = λ fuel. g.leads fuel ∙ e (now_at o h.steps) fuel };
+    follows = λ floor p. p;
   }
 
-  module _ (further : Rest) (bytes : List ℕ) (n : ℕ) (l : Leads rest further bytes n) (t : State) (r : Rests t further) where
-    means_next : (fuel : ℕ) → runs (steps + 1 + fuel) ≡ further (h.typed ++ bytes) (h.load + n) fuel
-    means_next fuel =
-        let paid : steps + 1 + fuel ≡ steps + suc fuel = omega arith in
-        ap runs paid ∙ h.means (suc fuel) ∙ l.leads h.typed h.load fuel
+  pub settles : (d : Reached) → EndsByItself d → h.steps ≤ o.limit → Settles next d → Reaches o h h d
+  settles (goes further) f le e = continues further e
+  settles (over code) f le e = ends_here code f le (e (now_at o h.steps) (o.limit - h.steps))
 
-    pub stays_next : Stays t (h.typed ++ bytes) (h.load + n) (runs (steps + 1)).0
-    stays_next =
-        let none : steps + 1 ≡ steps + 1 + 0 = omega arith in
-        subst (λ (x : Ran). Stays t (h.typed ++ bytes) (h.load + n) x.0) (sym (ap runs none ∙ means_next 0)) (r.stays (h.typed ++ bytes) (h.load + n))
+  -- a step
+  module _ (further : Continuation) (t : State) (bytes : List ℕ) (n : ℕ) (pays : Pays next further h.state t bytes n) (stays : (now : Now) → Stays further now) where
+    abbrev later_now : Now
+    later_now = advanced t bytes n (now_at o h.steps)
 
-    -- one step on
-    pub next : (later : Screen) (G : Trail → Type 0) → Shows now later bytes false
-        → ((u : Trail) → F u → u.changes ≡ 0 → u.steps ≡ steps → u.states (steps + 1) ≡ t → u.load + n ≤ u.loads (steps + 1) → G (stepped (moved u n)))
-        → Going runs first later t P G (steps + 1) further
-    next later G q on = record {
-      typed = h.typed ++ bytes;
-      load = h.load + n;
-      shows = Shows-trans h.shows q;
-      means = means_next;
-      rests = r;
-      follows = λ floor p. on (trail runs floor steps h.load) (h.follows floor p) refl refl stays_next.state_is (let same : (runs (steps + 1)).0.load ≡ h.load + n = stays_next.load_is in omega arith);
-    }
+    leads_on : (fuel : ℕ) → run_within (h.steps + 1 + fuel) (whole_run o) ≡ ready_run fuel (further later_now)
+    leads_on fuel =
+        let paid : h.steps + 1 + fuel ≡ h.steps + suc fuel = omega arith in
+        ap (λ k. run_within k (whole_run o)) paid ∙ g.leads (suc fuel) ∙ pays (now_at o h.steps) (sym g.state) fuel
 
-module _ (old : State) (text : List ℕ) (limit : ℕ) (first now : Screen) (s : State) (P : ℕ → Type 0) (F : Trail → Type 0) (steps : ℕ) (rest : Rest) (h : Going (run_of old text) first now s P F steps rest) where
-  -- the string ends here by itself
-  pub over : (code : Option Code) → IsFinished code → steps ≤ limit → Ends s (limit - steps) code rest → Ended old text limit first now s P F (record { code = code; steps = steps })
-  over code f le e =
-      let left = limit - steps in
-      let all : steps + left ≡ limit = omega arith in
-      let r : run_of old text limit ≡ rest h.typed h.load left = sym (ap (run_of old text) all) ∙ h.means left in
-      let w = e.ends h.typed h.load in
-      let fuel : (run_of old text limit).0.fuel ≡ left = ap (λ (x : Ran). x.0.fuel) r ∙ w.fuel_is in
-      record {
-        typed = h.typed;
-        runs = well_runs code steps old text limit h.typed s f (record {
-          code = sym (ap (λ (x : Ran). code_of x.1) r ∙ w.code_is);
-          steps = omega arith;
-          state = sym (ap (λ (x : Ran). x.0.state) r ∙ w.state_is);
-          bytes = sym (ap (λ (x : Ran). x.0.typed) r ∙ w.typed_is);
-        });
-        shows = subst (λ failed. Shows first now h.typed failed) (sym (well_shown code steps f)) h.shows;
-        again = sym (stays_now (run_of old text) first now s P F steps rest h).state_is;
-        follows = follows_now (run_of old text) first now s P F steps rest h;
+    now_later : now_at o (h.steps + 1) ≡ later_now
+    now_later = now_there g.means o (h.steps + 1) further later_now leads_on (stays later_now)
+
+    pub step_done : (later : Host) → later.steps ≡ h.steps + 1 → later.state ≡ t → Shows h.screen later.screen bytes false
+        → ((u : Trail) → h.follows u → u.changes ≡ 0 → u.steps ≡ h.steps → u.states (h.steps + 1) ≡ t → u.load + n ≤ u.loads (h.steps + 1) → later.follows (stepped (moved u n)))
+        → Comes o h later further
+    step_done later count state shows on =
+        let told = trail_of o.state o.text in
+        subst (λ k. Comes o h (host later.state later.follows later.screen k) further) (sym count) (record {
+          going = record {
+            means = g.means;
+            state = state ∙ sym (ap (λ (x : Now). x.state) now_later);
+            shows = subst (λ typed. Shows o.screen later.screen typed false) (sym (ap (λ (x : Now). x.typed) now_later)) (shows_on g.shows shows);
+            leads = λ fuel. leads_on fuel ∙ ap (λ x. ready_run fuel (further x)) (sym now_later);
+          };
+          follows = λ floor p.
+              subst (λ load. later.follows (record (told floor (h.steps + 1)) { load = load })) (sym (ap (λ (x : Now). x.load) now_later))
+              (on (told floor h.steps) p refl refl (ap (λ (x : Now). x.state) now_later)
+              (let same : (string_meaning o.state o.text (h.steps + 1)).load ≡ (now_at o h.steps).load + n = ap (λ (x : Now). x.load) now_later in omega arith));
+        })
+
+    -- A step is begun that isn't done.
+    module _ (lt : h.steps < o.limit) (new : State) (same : new ≡ h.state) (G : Trail → Type 0) (keeps : (u : Trail) → h.follows u → G u) where
+      more_steps : h.steps < (string_meaning o.state o.text o.limit).steps
+      more_steps =
+          let left = o.limit - h.steps - 1 in
+          let all : o.limit ≡ h.steps + 1 + left = omega arith in
+          let e : run_within o.limit (whole_run o) ≡ ready_run left (further later_now) = ap (λ k. run_within k (whole_run o)) all ∙ leads_on left in
+          let fuel : (run_within o.limit (whole_run o)).fuel ≤ left = subst (λ (x : Final). x.fuel ≤ left) (sym e) (ready_fuel left (further later_now)) in
+          let steps : o.limit - (run_within o.limit (whole_run o)).fuel ≡ (string_meaning o.state o.text o.limit).steps = ap (λ (x : Meant). x.steps) (g.means o.state o.text o.limit) in
+          omega arith
+
+      -- memory was refused
+      pub no_memory : (w : Screen) → Shows h.screen w [] false → Ended o h (host new G w h.steps) (Some Mem)
+      no_memory w shows = record {
+        typed = (now_at o h.steps).typed;
+        runs = record { before = more_steps; state = same ∙ g.state; bytes = refl };
+        shows = subst (λ bytes. Shows o.screen w bytes false) (append-nil (now_at o h.steps).typed) (shows_on g.shows shows);
+        again = same ∙ g.state;
+        follows = λ floor p. keeps _ p;
       }
 
-  more_steps : Costs rest → steps < limit → steps < (string_meaning old text limit).steps
-  more_steps c lt =
-      let left = limit - steps - 1 in
-      let all : steps + suc left ≡ limit = omega arith in
-      let r : run_of old text limit ≡ rest h.typed h.load (suc left) = sym (ap (run_of old text) all) ∙ h.means (suc left) in
-      let fuel : (run_of old text limit).0.fuel ≤ left = subst (λ (x : Ran). x.0.fuel ≤ left) (sym r) (c.costs h.typed h.load left) in
-      omega arith
-
-  -- memory was refused
-  pub no_memory : (later : Screen) (new : State) (G : Trail → Type 0) → steps < limit → Costs rest → new ≡ s → Shows now later [] false → ((u : Trail) → F u → G u)
-      → Ended old text limit first later new P G (record { code = Some Mem; steps = steps })
-  no_memory later new G lt c same q keeps =
-      let w = stays_now (run_of old text) first now s P F steps rest h in
-      record {
-        typed = h.typed;
-        runs = record { before = more_steps c lt; state = same ∙ sym w.state_is; bytes = sym w.typed_is };
-        shows = subst (λ bytes. Shows first later bytes false) (append-nil h.typed) (Shows-trans h.shows q);
-        again = same ∙ sym w.state_is;
-        follows = λ floor p. keeps _ (follows_now (run_of old text) first now s P F steps rest h floor p);
-      }
-
-  -- the terminal failed in a step that types these bytes
-  pub no_terminal : (later : Screen) (new : State) (G : Trail → Type 0) (further : Rest) (bytes front : List ℕ) (n : ℕ) (t : State) → steps < limit → Costs rest → Leads rest further bytes n → Rests t further
-      → new ≡ s → bytes ≢ [] → IsFrontOf front bytes → Shows now later front true → ((u : Trail) → F u → G u)
-      → Ended old text limit first later new P G (record { code = Some Tty; steps = steps })
-  no_terminal later new G further bytes front n t lt c l r same some part q keeps =
-      let w = stays_now (run_of old text) first now s P F steps rest h in
-      let v = stays_next (run_of old text) first now s P F steps rest h further bytes n l t r in
-      record {
-        typed = h.typed ++ front;
-        runs = record {
-          before = more_steps c lt;
-          state = same ∙ sym w.state_is;
-          types = λ e. some (no_longer h.typed bytes (sym w.typed_is ∙ e ∙ v.typed_is));
-          at_least = (front, ap (λ x. x ++ front) (sym w.typed_is));
-          at_most = (part.0, v.typed_is ∙ ap (λ x. h.typed ++ x) part.1 ∙ sym (append_assoc h.typed front part.0));
-        };
-        shows = Shows-trans h.shows q;
-        again = same ∙ sym w.state_is;
-        follows = λ floor p. keeps _ (follows_now (run_of old text) first now s P F steps rest h floor p);
-      }
+      -- the terminal failed in a step that types these bytes
+      pub no_terminal : (w : Screen) (front : List ℕ) → bytes ≢ [] → IsFrontOf front bytes → Shows h.screen w front true → Ended o h (host new G w h.steps) (Some Tty)
+      no_terminal w front some part shows =
+          let typed = (now_at o h.steps).typed in
+          let typed_on : (now_at o (h.steps + 1)).typed ≡ typed ++ bytes = ap (λ (x : Now). x.typed) now_later in
+          record {
+            typed = typed ++ front;
+            runs = record {
+              before = more_steps;
+              state = same ∙ g.state;
+              types = λ e. some (no_longer typed bytes (e ∙ typed_on));
+              at_least = (front, refl);
+              at_most = (part.0, typed_on ∙ ap (λ x. typed ++ x) part.1 ∙ sym (append_assoc typed front part.0));
+            };
+            shows = shows_on g.shows shows;
+            again = same ∙ g.state;
+            follows = λ floor p. keeps _ p;
+          }

@@ -1,64 +1,122 @@
--- Where a text goes on behind a step of a token, by how the step has ended.
-use Rattle.std.proofs.Common.{◌≡◌, ℕ, List, Option, Some, None, false, MatchOption, refl, sym, ap, subst, ◌∙◌}
-use Rattle.teco_core.specs.declared.code.Code.{Code}
-use Rattle.teco_core.specs.ArgumentsView.{arguments}
-use Rattle.teco_scan.specs.declared.token.Token.{Token}
-use Rattle.teco_store.specs.State.{State}
+-- Where a step of a token has ended, the machine goes on as is meant.
+use Rattle.std.proofs.Common.{◌≡◌, ℕ, suc, ◌+◌, Bool, true, false, List, [], ◌∷◌, length, Option, Some, None, Ok, Err, refl, sym, ap, ◌∙◌, arith}
+use Rattle.std.specs.Prelude.{◌==◌, if◌then◌else◌}
+use Rattle.teco_core.specs.declared.code.Code.TheVariants.{Pdo, Tag}
+use Rattle.teco_core.specs.Arguments.{Arguments}
+use Rattle.teco_scan.specs.declared.command.Modifiers.{Modifiers}
+use Rattle.teco_scan.specs.declared.blocks.Kind.{Kind}
+use Rattle.teco_scan.specs.declared.blocks.Kind.TheVariants.{Iter, Then, Else}
+use Rattle.teco_scan.specs.Scan.{Item}
+use Rattle.teco_scan.specs.Tree.{Nodes, after_tag}
 use Rattle.teco_step.specs.declared.next.Work.{Work}
-use Rattle.teco_step.specs.Step.{End, leave, go, out, again, stop}
-use Rattle.teco_step.specs.Stepping.{is_unfinished_code}
-use Rattle.teco_exec.specs.World.{Ran}
-use Rattle.teco_exec.specs.Meaning.{further_by}
-use Rattle.teco_exec.specs.Moves.{Leaves}
-use Rattle.teco_exec.specs.Place.{close, levels_at, closing, item_at, setting_at, stepping, behind_step}
-use Rattle.teco_exec.specs.Rest.{world, EndsWith}
-use Rattle.teco_exec.specs.Running.{exiting, ResumesAt, ResumesWrong, Resumes}
-use Rattle.teco_exec.specs.StringMeaning.{code_of}
-use Rattle.teco_exec.specs.declared.place.Place.{Place}
-use Rattle.teco_exec.specs.declared.running.Onward.{Onward}
-use Rattle.teco_exec.specs.declared.running.Onward.TheVariants.{On, Done}
-use Rattle.teco_exec.specs.declared.running.Way.TheVariants.{Over}
-use Rattle.teco_exec.proofs.Fuel.{further_is}
-use Rattle.teco_exec.proofs.Closing.{close_stop, close_out}
+use Rattle.teco_step.specs.Step.{End, on, leave, go, call, out, again, stop}
+use Rattle.teco_exec.specs.World.{World, Ran}
+use Rattle.teco_exec.specs.Meaning.{then_rest, lands, carries, calls, steps, further_by, meaning}
+use Rattle.teco_exec.specs.Meaning as meant
+use Rattle.teco_scan.specs.Lists.{Close, Listed, list_at, tag_at, nodes}
+use Rattle.teco_scan.specs.ListLaws.{BlockLaws, Finds}
+use Rattle.teco_exec.specs.Machine.{Frame, Moved, Caller, Further, Config, Machine, runs, halts, Final, final, kind_of, inside, setting_of, going, landed, jumping, leaving, called, resumed}
+use Rattle.teco_exec.proofs.Unrolling.{further_is}
+use Rattle.teco_exec.proofs.Denoting.{here, whole, block_end, follows, around, goes_on, finals, under, Fits, FitsAt}
+use Rattle.teco_exec.proofs.Passes.{around_stop, under_stop, given, from, at_cursor, at_step}
+use Rattle.teco_exec.proofs.Pays.{moved_means, leaving_means}
 
-module _ (text : List ℕ) (old : Place) (token : Token) where
-  -- the place was moved, unless that went wrong
-  moved_to : (e : End) → ((depth : ℕ) (work : Option Work) (s : State) (typed : List ℕ) (load fuel : ℕ) → behind_step text depth old token work e s typed load fuel ≡ closing text depth old e s typed load fuel)
-      → (new : Place) (wrong : Option Code) (o : Onward) → Leaves text old new e wrong → MatchOption wrong (o ≡ On) (λ code. o ≡ Done (Over (Some code))) → Resumes text old token e new o
-  moved_to e same new None o l m = subst (Resumes text old token e new) (sym m)
-      (record { settles = λ depth work s. record { settles = λ typed load fuel. same depth work s typed load fuel ∙ (l.settles depth s).settles typed load fuel } })
-  moved_to e same new (Some c) o l m = subst (Resumes text old token e new) (sym m)
-      (record { finished = l.finished; ends = λ depth work s fuel. record { ends = λ typed load. subst (EndsWith s typed load fuel (Some c)) (sym (same depth work s typed load fuel)) ((l.ends depth s fuel).ends typed load) } })
+-- an exit goes through all
+module _ (text : List ℕ) (depth : ℕ) (w : World) where
+  out_block : (k : Kind) (left : Option ℕ) (n : Nodes) → block_end k left n depth w out ≡ (w, out)
+  unfolding block_end
+  out_block Iter left n = refl
+  out_block k left n = refl
 
-  module _ (e : End) where
-    pub resumes_left : e ≡ leave → (new : Place) (wrong : Option Code) (o : Onward) → Leaves text old new leave wrong → MatchOption wrong (o ≡ On) (λ code. o ≡ Done (Over (Some code))) → Resumes text old token e new o
-    resumes_left is new wrong o l m = subst (λ e. Resumes text old token e new o) (sym is) (moved_to leave (λ depth work s typed load fuel. refl) new wrong o l m)
+  around_out : (bs : List Frame) (l : Close) → around text depth bs l w out ≡ (w, out)
+  unfolding around
+  around_out [] l = refl
+  around_out (b ∷ bs) l =
+      ap (λ (q : Ran). goes_on text depth bs (follows b.kind bs l) q.0 q.1) (out_block b.kind b.left (whole text (b ∷ bs)))
+      ∙ around_out bs (follows b.kind bs l).1
 
-    pub resumes_gone : (name : List ℕ) → e ≡ go name → (new : Place) (wrong : Option Code) (o : Onward) → Leaves text old new (go name) wrong → MatchOption wrong (o ≡ On) (λ code. o ≡ Done (Over (Some code))) → Resumes text old token e new o
-    resumes_gone name is new wrong o l m = subst (λ e. Resumes text old token e new o) (sym is) (moved_to (go name) (λ depth work s typed load fuel. refl) new wrong o l m)
+  -- and so does a jump through one block
+  pub go_block : (name : List ℕ) (k : Kind) (left : Option ℕ) (n : Nodes) → block_end k left n depth w (go name) ≡ (w, go name)
+  unfolding block_end
+  go_block name Iter left n = refl
+  go_block name k left n = refl
 
-    pub resumes_again : (left : Work) → e ≡ again left → ResumesAt text old token e (λ depth s. stepping text depth old token (Some left) s)
-    unfolding further_by
-    resumes_again left is = subst (λ e. ResumesAt text old token e (λ depth s. stepping text depth old token (Some left) s)) (sym is)
-        (record {
-          settles = λ depth work s. record {
-            settles = λ typed load fuel.
-                ap (λ (r : Ran). close text depth old.blocks (levels_at text old.blocks old.at) r.0 r.1)
-                (further_is (item_at text token.kind) (setting_at text old token (Some left)) (world s (arguments old.args) typed load fuel) depth);
-          };
-        })
+under_out : (cs : List Caller) (w : World) → under cs w out ≡ finals w out
+unfolding under
+under_out [] w = refl
+under_out (b ∷ bs) w = ap (λ (r : Ran). under bs r.0 r.1) (around_out b.text (length bs) w b.blocks (here b.blocks b.left).1) ∙ under_out bs w
 
-    pub resumes_out : e ≡ out → ResumesAt text old token e (λ depth s. exiting (arguments old.args) s)
-    resumes_out is = subst (λ e. ResumesAt text old token e (λ depth s. exiting (arguments old.args) s)) (sym is)
-        (record { settles = λ depth work s. record { settles = λ typed load fuel. close_out text depth old.blocks (levels_at text old.blocks old.at) (world s (arguments old.args) typed load fuel) } })
+under_go : (cs : List Caller) (w : World) (name : List ℕ) → under cs w (go name) ≡ finals w (stop Tag)
+unfolding under
+under_go [] w name = refl
+under_go (b ∷ bs) w name = ap (λ (r : Ran). under bs r.0 r.1) (around_stop b.text (length bs) w Tag b.blocks (here b.blocks b.left).1) ∙ under_stop bs w Tag
 
-    pub resumes_stopped : (c : Code) → e ≡ stop c → is_unfinished_code c ≡ false → ResumesWrong text old token e c
-    resumes_stopped c is f = subst (λ e. ResumesWrong text old token e c) (sym is)
-        (record {
-          finished = f;
-          ends = λ depth work s fuel. record {
-            ends = λ typed load.
-                let k = close_stop text depth old.blocks (levels_at text old.blocks old.at) (world s (arguments old.args) typed load fuel) c in
-                record { state_is = ap (λ (r : Ran). r.0.state) k; typed_is = ap (λ (r : Ran). r.0.typed) k; load_is = ap (λ (r : Ran). r.0.load) k; fuel_is = ap (λ (r : Ran). r.0.fuel) k; code_is = ap (λ (r : Ran). code_of r.1) k };
-          };
-        })
+module _ (laws : BlockLaws) (text : List ℕ) (cs : List Caller) (w : World) (name : List ℕ) (a : Arguments) where
+  -- a jump out of the innermost list, or to a tag in it
+  abbrev jumps : List Frame → Close → Option Nodes → Final
+  jumps bs c o = let r : Ran = lands meaning (whole text bs) (given text cs w a) (length cs) (inside bs) name o in let q : Ran = around text (length cs) bs c r.0 r.1 in under cs q.0 q.1
+
+  lands_there : (bs : List Frame) (c : Close) (l : Listed) (next : Moved) (o : Option (List ℕ)) → Finds name (kind_of bs) (length bs) l o
+      → (after_tag name l.0 ≡ None → jumps bs c None ≡ moved_means text cs w next)
+      → ((more : List ℕ) → (list_at (kind_of bs) (length bs) more).1 ≡ l.1 → jumps bs c (Some (list_at (kind_of bs) (length bs) more).0) ≡ at_cursor text cs w (record { args = a; left = more; blocks = bs }))
+      → jumps bs c (after_tag name l.0) ≡ moved_means text cs w (landed o a bs next)
+  lands_there bs c l next None finds none there = ap (jumps bs c) finds ∙ none finds
+  lands_there bs c l next (Some more) finds none there = ap (jumps bs c) finds.0 ∙ there more finds.1
+
+  pub jumping_means : (bs : List Frame) (c : Close) → Fits bs c → jumps bs c (after_tag name (whole text bs)) ≡ moved_means text cs w (jumping name text bs a)
+  unfolding jumping around Fits
+  jumping_means [] c f =
+      lands_there [] c (list_at None 0 text) (Err Tag) (tag_at name 0 text) (laws.search_finds name None 0 text)
+      (λ e. under_go cs (given text cs w a) name) (λ more e. refl)
+  jumping_means (b ∷ outer) c f =
+      lands_there (b ∷ outer) c (here (b ∷ outer) b.start) (jumping name text outer a) (tag_at name (suc (length outer)) b.start) (laws.search_finds name (Some b.kind) (suc (length outer)) b.start)
+      (λ e. ap (λ (q : Ran). let r : Ran = goes_on text (length cs) outer (follows b.kind outer c) q.0 q.1 in under cs r.0 r.1) (go_block text (length cs) (given text cs w a) name b.kind b.left (whole text (b ∷ outer)))
+      ∙ jumping_means outer (follows b.kind outer c).1 f.1)
+      (λ more e. ap (λ x. let r : Ran = meaning.list (whole text (b ∷ outer)) (here (b ∷ outer) more).0 (given text cs w a) (length cs) (inside (b ∷ outer)) in let q : Ran = around text (length cs) (b ∷ outer) x r.0 r.1 in under cs q.0 q.1) (sym (e ∙ f.0)))
+
+-- a configuration, with so much fuel
+abbrev pub world_of : Config → ℕ → World
+world_of c n = record { state = c.state; arguments = c.at.args; typed = c.typed; load = c.load; fuel = n }
+
+abbrev pub goes_from : Config → World → End → Final
+goes_from c w e = from c.text c.callers w c.at.blocks (here c.at.blocks c.at.left) w e
+
+abbrev pub further_means : Option Further → Config → ℕ → Final
+further_means None c n = at_cursor c.text c.callers (world_of c n) c.at
+further_means (Some f) c n = at_step c.text c.callers (world_of c n) f.modifiers f.item (Some f.work) c.at
+
+abbrev pub means : Machine → ℕ → Final
+means (runs c) n = further_means c.further c n
+means (halts c e) n = final n c e
+
+pub going_means : (c : Config) (m : Moved) (n : ℕ) → c.further ≡ None → moved_means c.text c.callers (world_of c n) m ≡ means (going c m) n
+going_means c (Ok cur) n none = ap (λ f. further_means f (record c { at = cur }) n) (sym none)
+going_means c (Err e) n none = refl
+
+-- a text is called
+called_means : (c : Config) (text : List ℕ) (n : ℕ) → c.further ≡ None
+    → (let r : Ran = calls meaning text (world_of c n) (length c.callers) in goes_from c r.0 r.1) ≡ means (called text c) n
+unfolding around under inside
+called_means c text n none = go_ (length c.callers == 32)
+  where
+    deeper : length c.callers + 1 ≡ suc (length c.callers)
+    deeper = omega arith
+
+    go_ : (b : Bool) → (let w : World = world_of c n in
+        let r : Ran = if b then (w, stop Pdo) else (let r : Ran = meaning.list (nodes text) (nodes text) w (length c.callers + 1) false in meant.returned r.0 r.1) in goes_from c r.0 r.1)
+        ≡ means (if b then halts c (Some Pdo) else runs (record c { text = text; at = record { args = c.at.args; left = text; blocks = [] }; callers = record { text = c.text; left = c.at.left; blocks = c.at.blocks } ∷ c.callers })) n
+    go_ true = ap (λ (q : Ran). under c.callers q.0 q.1) (around_stop c.text (length c.callers) (world_of c n) Pdo c.at.blocks (here c.at.blocks c.at.left).1) ∙ under_stop c.callers (world_of c n) Pdo
+    go_ false =
+        ap (λ d. let r : Ran = meaning.list (nodes text) (nodes text) (world_of c n) d false in let q : Ran = meant.returned r.0 r.1 in goes_from c q.0 q.1) deeper
+        ∙ ap (λ f. further_means f (record c { text = text; at = record { args = c.at.args; left = text; blocks = [] }; callers = record { text = c.text; left = c.at.left; blocks = c.at.blocks } ∷ c.callers }) n) (sym none)
+
+pub resumed_means : (laws : BlockLaws) (m : Modifiers) (i : Item) (work : Option Work) (c : Config) (n : ℕ) → c.further ≡ None → FitsAt c.at → (e : End) → (e ≡ leave → inside c.at.blocks ≡ true)
+    → (let r : Ran = carries meaning i (setting_of m work c.at) (length c.callers) (world_of c n) e in goes_from c r.0 r.1) ≡ means (resumed m i e c) n
+unfolding further_by
+resumed_means laws m i work c n none fits on inner = ap (λ f. further_means f c n) (sym none)
+resumed_means laws m i work c n none fits leave inner = leaving_means c.text c.callers (world_of c n) c.at.blocks c.at.args c.at.left (inner refl) ∙ going_means c (leaving c.at.blocks c.at.args c.at.left) n none
+resumed_means laws m i work c n none fits (go name) inner = jumping_means laws c.text c.callers (world_of c n) name c.at.args c.at.blocks (here c.at.blocks c.at.left).1 fits ∙ going_means c (jumping name c.text c.at.blocks c.at.args) n none
+resumed_means laws m i work c n none fits (call text) inner = called_means c text n none
+resumed_means laws m i work c n none fits out inner = ap (λ (q : Ran). under c.callers q.0 q.1) (around_out c.text (length c.callers) (world_of c n) c.at.blocks (here c.at.blocks c.at.left).1) ∙ under_out c.callers (world_of c n)
+resumed_means laws m i work c n none fits (again left) inner = ap (λ (r : Ran). goes_from c r.0 r.1) (further_is i (record (setting_of m work c.at) { work = Some left }) (world_of c n) (length c.callers))
+resumed_means laws m i work c n none fits (stop e) inner = ap (λ (q : Ran). under c.callers q.0 q.1) (around_stop c.text (length c.callers) (world_of c n) e c.at.blocks (here c.at.blocks c.at.left).1) ∙ under_stop c.callers (world_of c n) e

@@ -1,5 +1,5 @@
 -- What the meaning says, sentence by sentence.
-use Rattle.std.specs.Prelude.{◌≡◌, ◌≢◌, ℕ, suc, ◌+◌, ◌≤◌, List, Some, None, Bool, true, false, Ok, ℤ, if◌then◌else◌}
+use Rattle.std.specs.Prelude.{◌≡◌, ◌≢◌, ℕ, suc, ◌+◌, ◌≤◌, List, [], Option, Some, None, Bool, true, false, Ok, ℤ, ◌==◌, if◌then◌else◌}
 use Rattle.teco_core.specs.declared.code.Code.{Code}
 use Rattle.teco_core.specs.declared.code.Code.TheVariants as code
 use Rattle.teco_core.specs.declared.arguments.Taken.TheVariants as taken
@@ -7,19 +7,26 @@ use Rattle.teco_core.specs.Arguments.{taken_from}
 use Rattle.teco_scan.specs.declared.command.Modifiers.{Modifiers}
 use Rattle.teco_scan.specs.declared.command.Test.{Test}
 use Rattle.teco_scan.specs.Scan.{Item}
-use Rattle.teco_scan.specs.Tree.{Nodes, done, item, escape, iter, cond, tag, faulty, tree, after_tag}
+use Rattle.teco_scan.specs.Tree.{Nodes, done, item, escape, iter, cond, tag, faulty, after_tag}
 use Rattle.teco_step.specs.declared.next.Setting.{Setting}
-use Rattle.teco_step.specs.Step.{Step, on, leave, go, call, stop, takes_one}
+use Rattle.teco_step.specs.Step.{Step, End, on, leave, go, call, out, again, stop, takes_one}
 use Rattle.teco_step.specs.Effect.{effect}
 use Rattle.teco_store.specs.State.{State}
+use Rattle.teco_scan.specs.Lists.{nodes}
 use Rattle.teco_exec.specs.Test.{holds}
-use Rattle.teco_exec.specs.World.{World, cleared, after}
-use Rattle.teco_exec.specs.Meaning.{meaning, turns_of, leave_comes, first_setting}
-use Rattle.teco_exec.specs.StringMeaning.{string_meaning}
+use Rattle.teco_exec.specs.World.{World, Ran, cleared, after}
+use Rattle.teco_exec.specs.Meaning.{meaning, lands, then_rest, returned, turns_of, leave_comes, first_setting, list_by, turns_by, further_by}
+use Rattle.teco_exec.specs.StringMeaning.{Meant, string_meaning}
 
 -- the same world with this much fuel
 abbrev pub with_fuel : World → ℕ → World
 with_fuel w n = record w { fuel = n }
+
+-- The meaning is made of itself: by these equations it unrolls.
+pub record MeaningUnrolls : Type 0 where
+  pub list : (whole rest : Nodes) (w : World) (depth : ℕ) (inside : Bool) → meaning.list whole rest w depth inside ≡ list_by meaning whole rest w depth inside
+  pub turns : (left : Option ℕ) (body : Nodes) (w : World) (depth : ℕ) → meaning.turns left body w depth ≡ turns_by meaning left body w depth
+  pub further : (i : Item) (setting : Setting) (w : World) (depth : ℕ) → meaning.further i setting w depth ≡ further_by meaning i setting w depth
 
 -- The empty list does nothing, and ends well.
 abbrev pub EmptyListEnds : Type 0
@@ -50,6 +57,24 @@ first_effect m i rest w inside = effect i (first_setting m inside (leave_comes r
 abbrev pub stepped_world : Modifiers → Item → Nodes → World → Bool → ℕ → World
 stepped_world m i rest w inside n = after (with_fuel w n) (first_effect m i rest w inside)
 
+-- What a list comes to where a step of an item has ended so. The string goes on with the rest of the list. Leaving, an exit and an
+-- error end the list. A jump goes to its tag in the list, or leaves it. A call runs the text, one deeper and inside no iteration,
+-- and the rest follows where that ends well; inside 32 others it is PDO. A further step is taken, and then the rest follows.
+abbrev pub comes_to : Nodes → Nodes → Item → Setting → ℕ → World → End → Ran
+comes_to whole rest i setting depth w on = meaning.list whole rest w depth setting.inside
+comes_to whole rest i setting depth w leave = (w, leave)
+comes_to whole rest i setting depth w (go name) = lands meaning whole w depth setting.inside name (after_tag name whole)
+comes_to whole rest i setting depth w (call text) = if depth == 32 then (w, stop code.Pdo) else (let r : Ran = meaning.list (nodes text) (nodes text) w (depth + 1) false in
+    let q : Ran = returned r.0 r.1 in then_rest meaning whole rest depth setting.inside q.0 q.1)
+comes_to whole rest i setting depth w out = (w, out)
+comes_to whole rest i setting depth w (again work) = let r : Ran = meaning.further i (record setting { work = Some work }) w depth in then_rest meaning whole rest depth setting.inside r.0 r.1
+comes_to whole rest i setting depth w (stop c) = (w, stop c)
+
+-- So a step of an item, whatever its end: the list comes to what follows the effect.
+abbrev pub StepEnds : Type 0
+StepEnds = (whole rest : Nodes) (m : Modifiers) (i : Item) (w : World) (depth n : ℕ) (inside : Bool) → w.fuel ≡ suc n → (let d : Step = first_effect m i rest w inside in
+    meaning.list whole (item m i rest) w depth inside ≡ comes_to whole rest i (first_setting m inside (leave_comes rest)) depth (stepped_world m i rest w inside n) d.end)
+
 -- Where the effect lets the string go on, the rest of the list follows.
 abbrev pub StepGoesOn : Type 0
 StepGoesOn = (whole rest : Nodes) (m : Modifiers) (i : Item) (w : World) (depth n : ℕ) (inside : Bool) → w.fuel ≡ suc n → (first_effect m i rest w inside).end ≡ on
@@ -60,7 +85,7 @@ abbrev pub StepStops : Type 0
 StepStops = (whole rest : Nodes) (m : Modifiers) (i : Item) (c : Code) (w : World) (depth n : ℕ) (inside : Bool) → w.fuel ≡ suc n → (first_effect m i rest w inside).end ≡ stop c
     → meaning.list whole (item m i rest) w depth inside ≡ (stepped_world m i rest w inside n, stop c)
 
--- A jump goes on behind the first such tag that stands directly in the list;
+-- A jump goes on after the first such tag directly in the list;
 abbrev pub JumpLands : Type 0
 JumpLands = (whole rest later : Nodes) (m : Modifiers) (i : Item) (name : List ℕ) (w : World) (depth n : ℕ) (inside : Bool) → w.fuel ≡ suc n → (first_effect m i rest w inside).end ≡ go name → after_tag name whole ≡ Some later
     → meaning.list whole (item m i rest) w depth inside ≡ meaning.list whole later (stepped_world m i rest w inside n) depth inside
@@ -73,7 +98,7 @@ JumpLeaves = (whole rest : Nodes) (m : Modifiers) (i : Item) (name : List ℕ) (
 -- A call runs the text with the same arguments, one deeper and inside no iteration; where it ends well, the calling list goes on with what it left.
 abbrev pub CallReturns : Type 0
 CallReturns = (whole rest : Nodes) (m : Modifiers) (i : Item) (text : List ℕ) (w v : World) (depth n : ℕ) (inside : Bool) → w.fuel ≡ suc n → (first_effect m i rest w inside).end ≡ call text → depth ≢ 32
-    → meaning.list (tree text) (tree text) (stepped_world m i rest w inside n) (depth + 1) false ≡ (v, on)
+    → meaning.list (nodes text) (nodes text) (stepped_world m i rest w inside n) (depth + 1) false ≡ (v, on)
     → meaning.list whole (item m i rest) w depth inside ≡ meaning.list whole rest v depth inside
 
 -- A call inside 32 others is PDO.
@@ -127,3 +152,13 @@ MoreLimitChangesNothing = (s : State) (text : List ℕ) (limit more : ℕ) → (
 -- With as many steps as it took, a string does the same.
 abbrev pub EnoughIsEnough : Type 0
 EnoughIsEnough = (s : State) (text : List ℕ) (limit : ℕ) → string_meaning s text (string_meaning s text limit).steps ≡ string_meaning s text limit
+
+-- Under limit 0 nothing changes: no step is taken, no byte typed, and the state is the one before.
+pub record ChangesNothing (s : State) (m : Meant) : Type 0 where
+  pub steps : m.steps ≡ 0
+  pub state : m.state ≡ s
+  pub typed : m.typed ≡ []
+  pub load : m.load ≡ 0
+
+abbrev pub ZeroLimitChangesNothing : Type 0
+ZeroLimitChangesNothing = (s : State) (text : List ℕ) → ChangesNothing s (string_meaning s text 0)

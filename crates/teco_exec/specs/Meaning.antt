@@ -10,10 +10,11 @@ use Rattle.teco_scan.specs.declared.command.Modifiers.{Modifiers}
 use Rattle.teco_scan.specs.declared.command.Bare.TheVariants as bare_command
 use Rattle.teco_scan.specs.declared.command.Command.TheVariants as command
 use Rattle.teco_scan.specs.Scan.{Item, bare}
-use Rattle.teco_scan.specs.Tree.{Nodes, done, item, escape, iter, cond, tag, faulty, tree, after_tag}
+use Rattle.teco_scan.specs.Tree.{Nodes, done, item, escape, iter, cond, tag, faulty, after_tag}
 use Rattle.teco_step.specs.declared.next.Setting.{Setting}
 use Rattle.teco_step.specs.Step.{Step, End, on, leave, go, call, again, stop, takes_one}
 use Rattle.teco_step.specs.Effect.{effect}
+use Rattle.teco_scan.specs.Lists.{nodes}
 use Rattle.teco_exec.specs.Test.{holds}
 use Rattle.teco_exec.specs.World.{World, Ran, cleared, after, pay}
 
@@ -25,7 +26,7 @@ pub record Meaning : Type 0 where
 
 -- Below, m is the meaning itself; it is used only with less fuel.
 
--- A jump goes on behind the first such tag directly in the list, and otherwise ends the list.
+-- A jump goes on after the first such tag directly in the list, and otherwise ends the list.
 abbrev pub lands : Meaning → Nodes → World → ℕ → Bool → List ℕ → Option Nodes → Ran
 lands m whole w depth inside name (Some rest) = m.list whole rest w depth inside
 lands m whole w depth inside name None = (w, go name)
@@ -43,7 +44,7 @@ returned w e = (w, e)
 
 abbrev pub calls : Meaning → List ℕ → World → ℕ → Ran
 calls m text w depth =
-    if depth == 32 then (w, stop code.Pdo) else (let r : Ran = m.list (tree text) (tree text) w (depth + 1) false in returned r.0 r.1)
+    if depth == 32 then (w, stop code.Pdo) else (let r : Ran = m.list (nodes text) (nodes text) w (depth + 1) false in returned r.0 r.1)
 
 -- what a token does after a step of it: a call runs its text, and a further step has fuel of its own
 abbrev pub carries : Meaning → Item → Setting → ℕ → World → End → Ran

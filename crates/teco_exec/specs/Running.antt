@@ -1,152 +1,178 @@
--- A run that has come so far, how it ends, and what a text that is called leads to.
-use Rattle.std.specs.Prelude.{◌≡◌, ℕ, ◌+◌, ◌≤◌, List, Option, Some, None, false}
-use Rattle.teco_core.specs.declared.code.Code.TheVariants.{Mem, Tag}
-use Rattle.teco_core.specs.ArgumentsView.{arguments}
+-- A run of a whole string, as it is seen at a moment, and where it goes on from there.
+use Rattle.std.specs.Prelude.{◌≡◌, ◌<◌, ◌≤◌, ◌⊎◌, ℕ, zero, suc, ◌+◌, List, [], Bool, true, false, Option, Some, None, drop, length}
 use Rattle.teco_core.specs.Arguments.{Arguments}
+use Rattle.teco_core.specs.ArgumentsView.{arguments}
 use Rattle.teco_core.specs.declared.code.Code.{Code}
 use Rattle.teco_scan.specs.declared.token.Token.{Token}
-use Rattle.teco_scan.specs.Tree.{tree}
 use Rattle.teco_store.specs.State.{State}
 use Rattle.teco_store.specs.Trail.{Trail}
 use Rattle.teco_step.specs.declared.next.Work.{Work}
-use Rattle.teco_step.specs.Step.{End, on, go, out, stop}
 use Rattle.teco_step.specs.Stepping.{IsStepIn, is_unfinished_code}
 use Rattle.teco_step.specs.Terminal.{Screen, Shows}
-use Rattle.teco_exec.specs.World.{World, Ran}
-use Rattle.teco_exec.specs.Meaning.{calls, meaning}
-use Rattle.teco_exec.specs.Moves.{IsQuiet}
-use Rattle.teco_exec.specs.Place.{IsPlace, levels_at, close, at_place, stepping, behind_step}
-use Rattle.teco_exec.specs.Rest.{Rest, world, Stays, Rests, Settles, Ends}
+use Rattle.teco_exec.specs.Machine.{Caller, Config, Further, Machine, runs, called, returned, Ready, step, block, Final, Now, arrives, paid, unpaid, run_within, start_config}
+use Rattle.teco_exec.specs.Machine as machine
+use Rattle.teco_exec.specs.MachineLaws.{MachineMeans}
 use Rattle.teco_exec.specs.Runs.{Runs, is_tty, trail_of}
-use Rattle.teco_exec.specs.StringMeaning.{code_of, run_of, string_meaning}
+use Rattle.teco_exec.specs.StringMeaning.{string_meaning}
+use Rattle.teco_exec.specs.View.{beginning, cursor, item_at, opening_of}
+use Rattle.teco_exec.specs.declared.cursor.Cursor.{Cursor}
+use Rattle.teco_exec.specs.declared.flow.Exit.{Exit}
+use Rattle.teco_exec.specs.declared.flow.Exit.TheVariants as exit
+use Rattle.teco_exec.specs.declared.flow.Flow.{Flow}
+use Rattle.teco_exec.specs.declared.flow.Flow.TheVariants as flow
+use Rattle.teco_exec.specs.declared.flow.Task.{Task}
+use Rattle.teco_exec.specs.declared.moves.Opening.{Opening}
 use Rattle.teco_exec.specs.declared.outcome.Outcome.{Outcome}
-use Rattle.teco_exec.specs.declared.place.Place.{Place}
-use Rattle.teco_exec.specs.declared.running.Onward.{Onward}
-use Rattle.teco_exec.specs.declared.running.Onward.TheVariants.{On, Again, Call, Done}
-use Rattle.teco_exec.specs.declared.running.Task.{Task}
-use Rattle.teco_exec.specs.declared.running.Way.{Way}
-use Rattle.teco_exec.specs.declared.running.Way.TheVariants.{Back, Over}
 
--- what a desk has come through at the end of a step
-abbrev pub trail : (ℕ → Ran) → ℕ → ℕ → ℕ → Trail
-trail runs floor steps load = record { states = λ i. (runs i).0.state; loads = λ i. (runs i).0.load; steps = steps; load = load; changes = 0; floor = floor }
+-- Where a whole run began: the state, the text, what the screen showed, and the limit of steps.
+pub record Origin : Type 0 where
+  pub state : State
+  pub text : List ℕ
+  pub screen : Screen
+  pub limit : ℕ
 
--- After these steps the run is in this state, and does what is left, whatever its limit. P says what the desk followed at first, and F what it follows now.
-pub record Going (runs : ℕ → Ran) (first now : Screen) (s : State) (P : ℕ → Type 0) (F : Trail → Type 0) (steps : ℕ) (rest : Rest) : Type 0 where
+-- What is seen of a run at a moment: the state of the desk and what the desk follows, the screen, and the steps that are done.
+pub record Host : Type 1 where
+  pub state : State
+  pub follows : Trail → Type 0
+  pub screen : Screen
+  pub steps : ℕ
+
+abbrev pub host : State → (Trail → Type 0) → Screen → ℕ → Host
+host s follows w k = record { state = s; follows = follows; screen = w; steps = k }
+
+-- The run goes on so, from the state, the bytes typed and the load by then.
+abbrev pub Continuation : Type 0
+Continuation = Now → Ready
+
+-- what a run comes to under a limit of steps, from what it is ready for
+abbrev pub ready_run : ℕ → Ready → Final
+ready_run zero r = unpaid r
+ready_run (suc n) r = paid n (run_within n) r
+
+-- the run of the whole text, from its beginning
+abbrev pub whole_run : Origin → Machine
+whole_run o = runs (start_config o.state o.text)
+
+-- what the whole text means under a limit of so many steps
+abbrev pub now_at : Origin → ℕ → Now
+now_at o k = record { state = (string_meaning o.state o.text k).state; typed = (string_meaning o.state o.text k).typed; load = (string_meaning o.state o.text k).load }
+
+-- By this moment the desk and the screen are as the whole text means, and its run, which the machine is, goes on so under each limit.
+pub record Going (o : Origin) (h : Host) (next : Continuation) : Type 0 where
+  pub means : MachineMeans
+  pub state : h.state ≡ (now_at o h.steps).state
+  pub shows : Shows o.screen h.screen (now_at o h.steps).typed false
+  pub leads : (fuel : ℕ) → run_within (h.steps + fuel) (whole_run o) ≡ ready_run fuel (next (now_at o h.steps))
+
+-- If the desk followed the run up to one moment, it follows it up to another.
+abbrev pub Follows : Origin → Host → Host → Type 0
+Follows o before after = (floor : ℕ) → before.follows (trail_of o.state o.text floor before.steps) → after.follows (trail_of o.state o.text floor after.steps)
+
+pub record Comes (o : Origin) (before after : Host) (next : Continuation) : Type 0 where
+  pub going : Going o after next
+  pub follows : Follows o before after
+
+abbrev pub ended_by : Option Code → ℕ → Outcome
+ended_by code k = record { code = code; steps = k }
+
+-- By this moment the whole run is over, by this code.
+pub record Ended (o : Origin) (before after : Host) (code : Option Code) : Type 0 where
   pub typed : List ℕ
-  pub load : ℕ
-  pub shows : Shows first now typed false
-  pub means : (fuel : ℕ) → runs (steps + fuel) ≡ rest typed load fuel
-  pub rests : Rests s rest
-  pub follows : (floor : ℕ) → P floor → F (trail runs floor steps load)
+  pub runs : Runs o.state o.text o.limit (ended_by code after.steps) typed after.state
+  pub shows : Shows o.screen after.screen typed (is_tty (ended_by code after.steps))
+  pub again : after.state ≡ (now_at o after.steps).state
+  pub follows : Follows o before after
 
--- the string has ended by this outcome
-pub record Ended (old : State) (text : List ℕ) (limit : ℕ) (first now : Screen) (new : State) (P : ℕ → Type 0) (F : Trail → Type 0) (outcome : Outcome) : Type 0 where
-  pub typed : List ℕ
-  pub runs : Runs old text limit outcome typed new
-  pub shows : Shows first now typed (is_tty outcome)
-  pub again : new ≡ (string_meaning old text outcome.steps).state
-  pub follows : (floor : ℕ) → P floor → F (trail_of old text floor outcome.steps)
+-- Where a run has got: it goes on, or is over.
+pub data Reached : Type 0 where
+  goes : (next : Continuation) → Reached
+  over : (code : Option Code) → Reached
 
--- What stands behind a text that is run: an error and an exit go through it, and a jump to no tag is an error there. It takes no fuel back, and without fuel the state stays.
-pub record IsBehind (f : World → End → Ran) : Type 0 where
-  pub error : (w : World) (c : Code) → f w (stop c) ≡ (w, stop c)
-  pub exit : (w : World) → f w out ≡ (w, out)
-  pub jump : (w : World) (name : List ℕ) → ((f w (go name)).0 ≡ w) × (code_of (f w (go name)).1 ≡ Some Tag)
-  pub fuel : (w : World) (e : End) → (f w e).0.fuel ≤ w.fuel
-  pub stays : (w : World) (e : End) → w.fuel ≡ 0 → Stays w.state w.typed w.load (f w e).0
+abbrev pub Reaches : Origin → Host → Host → Reached → Type 0
+Reaches o before after (goes next) = Comes o before after next
+Reaches o before after (over code) = Ended o before after code
 
--- a rest of a text, and what stands behind the text
-abbrev pub through : (World → End → Ran) → Rest → Rest
-through f rest typed load fuel = let r : Ran = rest typed load fuel in f r.0 r.1
+-- what a run comes to from there
+abbrev pub reached_run : ℕ → Now → Reached → Final
+reached_run fuel now (goes next) = ready_run fuel (next now)
+reached_run fuel now (over code) = record { state = now.state; typed = now.typed; load = now.load; fuel = fuel; code = code }
 
--- a whole text, at this depth of calls
-abbrev pub whole_text : List ℕ → ℕ → Arguments → State → Rest
-whole_text text depth a s typed load fuel = meaning.list (tree text) (tree text) (world s a typed load fuel) depth false
+abbrev pub config : List ℕ → machine.Cursor → Option Further → List Caller → Now → Config
+config text c further callers now =
+    record { state = now.state; typed = now.typed; load = now.load; text = text; at = c; callers = callers; further = further }
 
--- a text that has ended well, with these arguments left
-abbrev pub returning : Arguments → State → Rest
-returning a s typed load fuel = (world s a typed load fuel, on)
+-- a further step that is pending
+abbrev pub further_of : List ℕ → Option Task → Option Further
+further_of text None = None
+further_of text (Some task) = Some (record { modifiers = task.token.modifiers; item = item_at text task.token.kind; work = task.work })
 
--- A text begins: the whole run has typed these bytes and has this load, and does the text and then what stands behind it.
-pub record Enters (runs : ℕ → Ran) (first now : Screen) (steps : ℕ) (rest : Rest) (typed : List ℕ) (load : ℕ) : Type 0 where
-  pub shows : Shows first now typed false
-  pub means : (fuel : ℕ) → runs (steps + fuel) ≡ rest typed load fuel
+-- A text goes on at a cursor, or with its pending step.
+abbrev pub at_cursor : Cursor → Option Task → List Caller → Continuation
+at_cursor c pending callers now = arrives (runs (config c.text.now (cursor c) (further_of c.text.now pending) callers now))
 
--- It has led back to what stands behind it, or the whole run is over.
-abbrev pub Reaches : State → List ℕ → ℕ → Screen → Screen → State → (ℕ → Type 0) → (Trail → Type 0) → (World → End → Ran) → ℕ → Way → Type 0
-Reaches old whole limit first now s P F behind steps (Back args) = Going (run_of old whole) first now s P F steps (through behind (returning (arguments args) s))
-Reaches old whole limit first now s P F behind steps (Over code) = Ended old whole limit first now s P F (record { code = code; steps = steps })
+-- It goes on with a step of this token, the first or a further one.
+abbrev pub at_token : Cursor → Token → Option Work → List Caller → Continuation
+at_token c token work callers now = step token.modifiers (item_at c.text.now token.kind) work (config c.text.now (cursor c) None callers now)
 
--- an exit
-abbrev pub exiting : Arguments → State → Rest
-exiting a s typed load fuel = (world s a typed load fuel, out)
+-- It goes on with a step of a block, whose token ends at a place.
+abbrev pub at_opening : Cursor → Opening → ℕ → List Caller → Continuation
+at_opening c o to callers now = block (opening_of o) (drop to c.text.now) (config c.text.now (cursor c) None callers now)
 
--- what is left at a moment of a text: from a place on, or at a step of the token before it
-abbrev pub at_moment : List ℕ → ℕ → Place → Option Task → State → Rest
-at_moment text depth place None s = at_place text depth place s
-at_moment text depth place (Some task) s = stepping text depth place task.token task.work s
+-- It goes on with a call of this text.
+abbrev pub at_call : Cursor → List ℕ → List Caller → Continuation
+at_call c text callers now = arrives (called text (config c.text.now (cursor c) None callers now))
 
--- where the token before a place has called a text
-abbrev pub calling : List ℕ → ℕ → Place → List ℕ → State → Rest
-calling text depth place called s typed load fuel =
-    let r : Ran = calls meaning called (world s (arguments place.args) typed load fuel) depth in
-    close text depth place.blocks (levels_at text place.blocks place.at) r.0 r.1
+-- A text begins.
+abbrev pub at_beginning : Arguments → List ℕ → List Caller → Continuation
+at_beginning a text callers now = arrives (runs (config text (beginning a text) None callers now))
 
--- a pending step is that of a token of the text
+-- A text is over, with these arguments: the latest caller goes on.
+abbrev pub at_return : Arguments → List Caller → Continuation
+at_return a callers now = arrives (returned (config [] (beginning a []) None [] now) callers)
+
+-- a cursor after a call, with the arguments that it left
+abbrev pub in_return : Arguments → machine.Cursor → machine.Cursor
+in_return a c = record { args = a; left = c.left; blocks = c.blocks }
+
+-- where a flow leads
+abbrev pub flows : Cursor → Option Task → List Caller → Flow → Reached
+flows c pending callers flow.On = goes (at_cursor c pending callers)
+flows c pending callers (flow.Call text) = goes (at_call c text.items callers)
+flows c pending callers flow.Return = goes (at_return (arguments c.args) callers)
+flows c pending callers (flow.Over code) = over code
+
+-- where the end of a text leads
+abbrev pub exits : Arguments → List Caller → Exit → Reached
+exits a callers exit.Return = goes (at_return a callers)
+exits a callers (exit.Over code) = over code
+
+-- the code that a text's end leaves, where nothing has called it
+abbrev pub code_left : Exit → Option Code
+code_left exit.Return = None
+code_left (exit.Over code) = code
+
+-- the text goes on, at its cursor or in a text that it calls
+abbrev pub GoesOn : Flow → Type 0
+GoesOn flow.On = Unit {0}
+GoesOn (flow.Call text) = Unit {0}
+GoesOn flow.Return = ⊥
+GoesOn (flow.Over code) = ⊥
+
+-- A pending step is one of a token of the text; only where the text goes on is one pending.
 abbrev pub IsPending : List ℕ → Option Task → Type 0
 IsPending text None = Unit {0}
 IsPending text (Some task) = IsStepIn text task.token
 
--- a text that isn't over stands at a place
-abbrev pub StandsAt : List ℕ → Place → Onward → Type 0
-StandsAt text place On = IsPlace text place
-StandsAt text place (Again task) = IsPlace text place × IsStepIn text task.token
-StandsAt text place (Call called) = IsPlace text place
-StandsAt text place (Done way) = Unit {0}
+abbrev pub Pends : List ℕ → Option Task → Flow → Type 0
+Pends text pending flow.On = IsPending text pending
+Pends text pending f = pending ≡ None
 
--- and has taken one step more
-abbrev pub Counts : ℕ → ℕ → Onward → Type 0
-Counts before after On = after ≡ before + 1
-Counts before after (Again task) = after ≡ before + 1
-Counts before after (Call called) = after ≡ before + 1
-Counts before after (Done way) = before ≤ after
+-- neither want of memory nor a failed terminal
+abbrev pub IsFinished : Option Code → Type 0
+IsFinished None = Unit {0}
+IsFinished (Some c) = is_unfinished_code c ≡ false
 
--- where a step of the token before a place has ended so, this is left
-pub record ResumesAt (text : List ℕ) (old : Place) (token : Token) (e : End) (further : ℕ → State → Rest) : Type 0 where
-  pub settles : (depth : ℕ) (work : Option Work) (s : State) → Settles (behind_step text depth old token work e s) (further depth s)
-
--- or the run is over by an error
-pub record ResumesWrong (text : List ℕ) (old : Place) (token : Token) (e : End) (c : Code) : Type 0 where
-  pub finished : is_unfinished_code c ≡ false
-  pub ends : (depth : ℕ) (work : Option Work) (s : State) (fuel : ℕ) → Ends s fuel (Some c) (behind_step text depth old token work e s)
-
--- where a step of the token before a place has ended so, the text goes on from a new place as is said
-abbrev pub Resumes : List ℕ → Place → Token → End → Place → Onward → Type 0
-Resumes text old token e new On = ResumesAt text old token e (λ depth s. at_place text depth new s)
-Resumes text old token e new (Again task) = ResumesAt text old token e (λ depth s. stepping text depth new task.token task.work s)
-Resumes text old token e new (Call called) = ResumesAt text old token e (λ depth s. calling text depth new called.items s)
-Resumes text old token e new (Done (Over None)) = ResumesAt text old token e (λ depth s. exiting (arguments new.args) s)
-Resumes text old token e new (Done (Over (Some c))) = ResumesWrong text old token e c
-Resumes text old token e new (Done (Back args)) = ⊥
-
--- The run has come to where this is said.
-abbrev pub Comes : State → List ℕ → ℕ → Screen → Screen → State → (ℕ → Type 0) → (Trail → Type 0) → (World → End → Ran) → ℕ → List ℕ → ℕ → Place → Onward → Type 0
-Comes old whole limit first now s P F behind steps text depth place On = Going (run_of old whole) first now s P F steps (through behind (at_place text depth place s))
-Comes old whole limit first now s P F behind steps text depth place (Again task) = Going (run_of old whole) first now s P F steps (through behind (stepping text depth place task.token task.work s))
-Comes old whole limit first now s P F behind steps text depth place (Call called) = Going (run_of old whole) first now s P F steps (through behind (calling text depth place called.items s))
-Comes old whole limit first now s P F behind steps text depth place (Done way) = Reaches old whole limit first now s P F behind steps way
-
--- One step more of a text, whatever run comes to it: from what was left before the step to what is left now.
-pub record Onwards (limit : ℕ) (before now : Screen) (s : State) (F G : Trail → Type 0) (steps later : ℕ) (text : List ℕ) (rest : ℕ → Rest) (place : Place) (onward : Onward) : Type 0 where
-  pub leads : (depth : ℕ) (old : State) (whole : List ℕ) (first : Screen) (behind : World → End → Ran) (typed : List ℕ) (load : ℕ)
-      → IsBehind behind
-      → Enters (run_of old whole) first before steps (through behind (rest depth)) typed load
-      → Comes old whole limit first now s (λ floor. F (trail (run_of old whole) floor steps load)) G behind later text depth place onward
-
--- a step in a text that takes no memory
-abbrev pub LeadsQuietly : List ℕ → Place → Onward → Type 0
-LeadsQuietly text place On = IsQuiet text place
-LeadsQuietly text place (Again task) = ⊥
-LeadsQuietly text place (Call called) = ⊥
-LeadsQuietly text place (Done way) = way ≡ Over (Some Mem) → ⊥
+abbrev pub Finishes : Flow → Type 0
+Finishes (flow.Over code) = IsFinished code
+Finishes f = Unit {0}

@@ -3,7 +3,7 @@ use Rattle.std.specs.Prelude.{ℕ, ◌-◌, List, [], Option, Some, None, false}
 use Rattle.teco_core.specs.declared.code.Code.{Code}
 use Rattle.teco_core.specs.declared.code.Code.TheVariants as code
 use Rattle.teco_core.specs.Arguments.{no_arguments}
-use Rattle.teco_scan.specs.Tree.{tree}
+use Rattle.teco_scan.specs.Lists.{nodes}
 use Rattle.teco_store.specs.State.{State}
 use Rattle.teco_step.specs.Step.{End, go, stop}
 use Rattle.teco_exec.specs.World.{World, Ran}
@@ -28,7 +28,7 @@ start s limit = record { state = s; arguments = no_arguments; typed = []; load =
 
 -- the run of a text in a state, under a limit of steps
 unfoldable pub run_of : State → List ℕ → ℕ → Ran
-run_of s text limit = meaning.list (tree text) (tree text) (start s limit) 0 false
+run_of s text limit = meaning.list (nodes text) (nodes text) (start s limit) 0 false
 
 abbrev pub meant : ℕ → Ran → Meant
 meant limit r = record { state = r.0.state; typed = r.0.typed; code = code_of r.1; steps = limit - r.0.fuel; load = r.0.load }

@@ -1,88 +1,138 @@
 //! The open blocks of a text.
-ghost use Rattle.std.specs.Prelude.{◌≡◌, ◌==◌, ◌<◌, ◌≤◌, [], ◌∷◌, length, MatchOption, slice_get, Some};
-ghost use Rattle.teco_exec.specs.Place.{is_inside, kinds, list_start};
+ghost use Rattle.std.specs.Prelude.{◌≡◌, ◌<◌, ◌≤◌, [], ◌∷◌, None, Some, length, MatchOption, slice_get};
+ghost use Rattle.teco_exec.specs.Frames.{EndsTurn, has_iteration, kind_of, list_start, next_turn};
 
-use arrayvec::ArrayVec;
 use std::marker::Model;
 use teco_scan::Kind;
 
 /// The most blocks that may be open in one text.
 pub(crate) const MOST_BLOCKS: usize = 64;
 
-/// An open block: the place at which its list of commands begins, its kind, and the turns that are left behind the present one, or
-/// none where they have no end. Only an iteration has turns.
+/// What an open block is.
 #[derive(Clone, Copy, Debug, PartialEq, Eq)]
-pub(crate) struct Block {
-    pub start: usize,
-    pub kind: Kind,
-    pub left: Option<u32>,
+pub(crate) enum Body {
+    /// An iteration without end.
+    Endless,
+    /// An iteration, with so many turns left after the present one.
+    Turns(u32),
+    /// The first part of a conditional.
+    Then,
+    /// The second part of a conditional.
+    Else,
 }
 
-impl Default for Block {
-    fn default() -> Block {
-        Block {
-            start: 0,
-            kind: Kind::Iter,
-            left: None,
+impl Body {
+    /// The kind of the block.
+    pub fn kind(self) -> Kind
+        ensures { result ≡ kind_of self }
+    {
+        match self {
+            Body::Endless | Body::Turns(_) => Kind::Iter,
+            Body::Then => Kind::Then,
+            Body::Else => Kind::Else,
         }
     }
 }
 
-/// The open blocks of one text, at most 64. A clause sees them as a list, the innermost first.
+/// An open block: the place at which its list of commands begins, and what it is.
+#[derive(Clone, Copy, Debug, PartialEq, Eq)]
+pub(crate) struct Block {
+    pub start: usize,
+    pub body: Body,
+}
+
+/// The open blocks of one text, at most 64. A clause sees them as a list, the innermost first. They take no memory.
 #[derive(Debug, Drop)]
 pub(crate) struct Blocks {
-    open: ArrayVec<Block, 64>,
+    /// The outermost first; after the open ones come blocks that mean nothing.
+    open: [Block; MOST_BLOCKS],
+    depth: usize,
 }
 
 impl Model for Blocks {
-    ghost use Rattle.std.specs.Prelude.{◌≤◌, List, reverse, length};
+    ghost use Rattle.std.specs.Prelude.{◌≡◌, ◌≤◌, List, length, reverse, take};
     ghost use Rattle.teco_exec.specs.declared.blocks.Block.{Block};
 
     ghost Value = { List Block };
 
-    ghost view = { λ b. reverse b.open.items };
+    ghost view = { λ b. reverse (take b.depth b.open) };
 
-    ghost invariant = { λ b. length b.open.items ≤ 64 };
+    ghost invariant = { λ b. (b.depth ≤ 64) × (length b.open ≡ 64) };
 }
 
 impl Blocks {
-    /// No block is open. Takes no memory.
+    /// No block is open.
     pub fn new() -> Blocks
         ensures { result ≡ [] }
     {
         Blocks {
-            open: ArrayVec::new(),
+            open: [Block {
+                start: 0,
+                body: Body::Endless,
+            }; MOST_BLOCKS],
+            depth: 0,
         }
     }
 
     /// How many blocks are open, from 0 to 64.
     pub fn len(&self) -> usize
         ensures value { result ≡ length self.now }
-        ensures small { length self.now ≤ 64 }
+        ensures few { length self.now ≤ 64 }
     {
-        self.open.len()
+        self.depth
     }
 
-    /// Opens a block inside the others. Takes no memory.
+    /// Opens a block inside the others.
     pub fn push(&mut self, block: Block)
         requires { length self.old < 64 }
         ensures { self.new ≡ block ∷ self.old }
     {
-        self.open.push(block);
+        self.open[self.depth] = block;
+        self.depth += 1;
     }
 
     /// Closes the innermost block, if one is open.
     pub fn pop(&mut self) -> Option<Block>
-        ensures { MatchOption result (self.old ≡ []) (λ b. self.old ≡ b ∷ self.new) }
+        ensures { MatchOption result ((self.old ≡ []) × (self.new ≡ [])) (λ b. self.old ≡ b ∷ self.new) }
     {
-        self.open.pop()
+        if self.depth == 0 {
+            return None;
+        }
+        self.depth -= 1;
+        Some(self.open[self.depth])
     }
 
     /// The innermost block, if one is open.
     pub fn top(&self) -> Option<Block>
         ensures { MatchOption result (self.now ≡ []) (λ b. slice_get self.now 0 ≡ Some b) }
     {
-        self.open.as_slice().last().copied()
+        if self.depth == 0 {
+            return None;
+        }
+        Some(self.open[self.depth - 1])
+    }
+
+    /// Begins the next turn of the innermost block, an iteration, and tells where its list begins. There is none after the last
+    /// turn: then nothing changes.
+    pub fn next_turn(&mut self) -> Option<usize>
+        requires { EndsTurn self.old }
+        ensures { MatchOption result ((next_turn self.old ≡ None) × (self.new ≡ self.old)) (λ start. (next_turn self.old ≡ Some self.new) × (list_start self.new ≡ start)) }
+    {
+        if self.depth == 0 {
+            return None;
+        }
+        let block = self.open[self.depth - 1];
+        match block.body {
+            Body::Endless => Some(block.start),
+            Body::Turns(left) => {
+                if left == 0 {
+                    return None;
+                }
+                self.open[self.depth - 1].body = Body::Turns(left - 1);
+                Some(block.start)
+            }
+            Body::Then | Body::Else => None,
+        }
     }
 
     /// Where the list of commands of the innermost block begins: at 0 where no block is open.
@@ -97,10 +147,12 @@ impl Blocks {
 
     /// Whether an iteration is open.
     pub fn has_iteration(&self) -> bool
-        ensures { result ≡ is_inside (kinds self.now) }
+        ensures { result ≡ has_iteration self.now }
     {
-        for block in self.open.as_slice() {
-            match block.kind {
+        let mut depth = self.depth;
+        while depth > 0 {
+            depth -= 1;
+            match self.open[depth].body.kind() {
                 Kind::Iter => return true,
                 Kind::Then | Kind::Else => {}
             }

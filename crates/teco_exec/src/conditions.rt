@@ -37,7 +37,7 @@ fn is_letter(n: i32) -> bool
 }
 
 /// Whether a test holds of a number.
-pub(crate) fn holds(test: Test, n: i32) -> bool
+pub fn holds(test: Test, n: i32) -> bool
     ensures { result ≡ meant.holds test n }
 {
     match test {

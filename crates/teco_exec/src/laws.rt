@@ -1,13 +1,20 @@
-//! What the meaning of command strings says.
-ghost use Rattle.teco_exec.specs.Laws.{EmptyListEnds, FaultStops, TagIsPassed, EscapeDrops, NothingWithoutFuel, StepGoesOn, StepStops, JumpLands, JumpLeaves, CallReturns, CallTooDeep, FurtherStep, IterationCounts, IterationGoesOn, TurnEnds, LeavingEnds, ConditionalChooses, StepsWithinLimit, MoreLimitChangesNothing, EnoughIsEnough};
+//! What the meaning of command strings says, and the machine beside it.
+ghost use Rattle.teco_exec.specs.Laws.{MeaningUnrolls, EmptyListEnds, FaultStops, TagIsPassed, EscapeDrops, NothingWithoutFuel, StepEnds, StepGoesOn, StepStops, JumpLands, JumpLeaves, CallReturns, CallTooDeep, FurtherStep, IterationCounts, IterationGoesOn, TurnEnds, LeavingEnds, ConditionalChooses, StepsWithinLimit, MoreLimitChangesNothing, EnoughIsEnough, ZeroLimitChangesNothing};
+ghost use Rattle.teco_exec.specs.MachineLaws.{MachineMeans, MachineFollows};
+ghost use Rattle.teco_exec.specs.Quiet.{QuietTextsArriveQuietly};
+
+use teco_scan::block_laws;
+use teco_step::effect_laws;
 
 /// The recursive meaning, sentence by sentence. It does nothing: its clauses are laws.
 pub fn meaning_laws()
+    ensures unrolls { MeaningUnrolls }
     ensures empty_list { EmptyListEnds }
     ensures fault { FaultStops }
     ensures tag { TagIsPassed }
     ensures escape { EscapeDrops }
     ensures no_fuel { NothingWithoutFuel }
+    ensures step_ends { StepEnds }
     ensures step { StepGoesOn }
     ensures error { StepStops }
     ensures jump_caught { JumpLands }
@@ -23,4 +30,17 @@ pub fn meaning_laws()
     ensures within_limit { StepsWithinLimit }
     ensures more_limit { MoreLimitChangesNothing }
     ensures enough { EnoughIsEnough }
-{}
+    ensures limit_zero { ZeroLimitChangesNothing }
+{
+    machine_laws();
+}
+
+/// The machine is what the meaning says, step by step. It does nothing: its clauses are laws.
+pub fn machine_laws()
+    ensures means { MachineMeans }
+    ensures follows { MachineFollows }
+    ensures quiet { QuietTextsArriveQuietly }
+{
+    block_laws();
+    effect_laws();
+}

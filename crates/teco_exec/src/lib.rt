@@ -1,17 +1,17 @@
-//! The recursive meaning of command strings, and their run.
+//! The run of a command string.
 #![tactic(auto)]
 
 mod blocks;
 mod conditions;
+mod cursor;
+mod flow;
 mod jumps;
 mod laws;
 mod moves;
 mod outcome;
-mod place;
 mod running;
-#[cfg(test)]
-mod tests;
+mod stepping;
 
-pub use laws::meaning_laws;
+pub use laws::{machine_laws, meaning_laws};
 pub use outcome::Outcome;
 pub use running::run;

@@ -1,14 +1,16 @@
 use Rattle.teco_exec.proofs.Sentences as sentences
-use Rattle.teco_exec.proofs.Strings.{within_limit, more_limit, same_again}
+use Rattle.teco_exec.proofs.Limits.{within_limit, more_limit, same_again, limit_zero}
 use Rattle.teco_exec.proofs.laws.meaning_laws.Goals as goal
 
 pub returns : goal.returns
 returns c = record {
+  unrolls = sentences.unrolls;
   empty_list = sentences.empty_list;
   fault = sentences.fault;
   tag = sentences.tag_passed;
   escape = sentences.escape_drops;
   no_fuel = sentences.no_fuel;
+  step_ends = sentences.step_ends;
   step = sentences.step;
   error = sentences.error;
   jump_caught = sentences.jump_caught;
@@ -22,6 +24,7 @@ returns c = record {
   leaving = sentences.leaving;
   conditional = sentences.conditional;
   within_limit = within_limit;
-  more_limit = more_limit;
-  enough = same_again;
+  more_limit = more_limit c.machine_laws.ensures.means;
+  enough = same_again c.machine_laws.ensures.means;
+  limit_zero = limit_zero c.machine_laws.ensures.follows;
 }

@@ -1,140 +1,107 @@
-use Rattle.std.proofs.Common.{◌<◌, refl, sym, subst, arith}
-use Rattle.teco_exec.specs.Place.{at_place}
-use Rattle.teco_exec.specs.Running.{Going, calling, through, trail, at_moment}
-use Rattle.teco_exec.specs.StringMeaning.{run_of}
-use Rattle.teco_exec.specs.declared.running.Onward.TheVariants.{On, Again, Call, Done}
-use Rattle.teco_exec.proofs.Beginning.{begins, begins_quietly}
-use Rattle.teco_exec.proofs.Behind.{called_behind}
-use Rattle.teco_exec.proofs.Onward.{settled_into, comes_on, too_deep, after_call, enters, comes_back, comes_over}
-use Rattle.teco_exec.proofs.Steps.{closing_rests, with_arguments}
-use Rattle.teco_step.specs.Step.{on}
+use Rattle.std.proofs.Common.{◌≡◌, ◌<◌, ◌≤◌, ◌⊎◌, inl, inr, ℕ, ◌+◌, ◌-◌, ◌*◌, List, ◌∷◌, [], length, drop, None, Some, refl, sym, subst, ap, ◌∙◌, arith}
+use Rattle.std.proofs.lemmas.List.{length-drop}
+use Rattle.teco_core.specs.ArgumentsView.{arguments}
+use Rattle.teco_exec.specs.Machine.{Caller}
+use Rattle.teco_exec.specs.View.{cursor}
+use Rattle.teco_exec.specs.Running.{Comes, Ended, Going, IsPending, Pends, Reaches, at_beginning, at_call, at_cursor, at_return, exits, flows, goes, host, over}
+use Rattle.teco_exec.specs.declared.flow.Flow.TheVariants.{On, Call, Return, Over}
+use Rattle.teco_exec.proofs.Calling.{begins, caller, comes_back, enters, less_left, too_deep}
+use Rattle.teco_exec.proofs.Going.{continues, since}
 use Rattle.teco_exec.proofs.running.+run_text.Goals as goal
 
-pub steps-init : goal.steps-init
-steps-init g t c =
-    let text = c.args.text.now in
-    let depth = c.args.depth in
-    let place = c.beginning-place.result in
-    let new = c.beginning-place.ensures in
-    let s = g.D.Desk.state c.args.desk.now in
-    record {
-      after = omega arith;
-      within = c.requires.within;
-      place = new.place;
-      pending = tt;
-      quiet = λ q. (begins_quietly text place new.at new.blocks q, refl);
-      going = λ old whole first behind typed load b e.
-          settled_into (run_of old whole) first (g.T.Terminal.screen c.args.term.now) s (g.D.Desk.follows c.args.desk.now) c.args.before behind b _ (at_place text depth place s) typed load
-          (closing_rests text depth place on s) (begins text place new.at new.blocks depth c.args.args s new.args) e;
-    }
+pub running-init : goal.running-init
+running-init g t c = record {
+  text = c.begin-cursor.ensures.text;
+  limit = refl;
+  after = omega arith;
+  pending = tt;
+  going = λ o callers limit deep e. begins o _ (arguments c.args.args.now) c.args.text.now c.begin-cursor.result callers c.begin-cursor.ensures.text c.begin-cursor.ensures.begins e;
+}
 
-pub steps-preserved-in-On : goal.steps-preserved-in-On
-steps-preserved-in-On g t c =
-    let text = c.args.text.now in
-    let depth = c.args.depth in
-    let s = g.D.Desk.state c.steps.desk in
-    let new = c.in-On.ensures in
-    record {
-      after = omega (arith, c.steps.invariant.after, new.counts);
-      within = new.within;
-      place = new.place;
-      pending = tt;
-      quiet = λ q. let was = c.steps.invariant.quiet q in (new.quiet was.0 was.1, refl);
-      going = λ old whole first behind typed load b e.
-          comes_on old whole c.args.limit first (g.T.Terminal.screen c.steps.term) s (λ floor. g.D.Desk.follows c.args.desk.now (trail (run_of old whole) floor c.args.before load)) (g.D.Desk.follows c.steps.desk)
-          c.steps.steps behind b depth (λ depth. at_moment text depth c.steps.place c.steps.pending s) (c.steps.invariant.going old whole first behind typed load b e)
-          (g.T.Terminal.screen c.take_step.new.term) (g.D.Desk.state c.take_step.new.desk) (g.D.Desk.follows c.take_step.new.desk) c.take_step.new.steps text c.take_step.new.place On new.leads;
-    }
+pub running-smaller-in-On : goal.running-smaller-in-On
+running-smaller-in-On g t c =
+    let steps = c.step.new.steps in
+    let to = c.step.new.cursor in
+    let short : length (drop to.at to.text.now) ≤ length c.args.text.now =
+    let same : length to.text.now ≡ length c.args.text.now = ap length (ap (λ x. x.now) c.in-On.ensures.text ∙ c.running.invariant.text) in
+    omega (arith, same, length-drop to.at to.text.now) in
+    let less = less_left steps.limit c.running.steps.done steps.done (length c.args.text.now) (length (cursor c.running.cursor).left) (length (cursor to).left) c.in-On.ensures.after steps.within short (c.in-On.ensures.advances tt) in
+    subst (λ limit. (steps.limit - steps.done) * (length c.args.text.now + 1) + length (cursor to).left < (limit - c.running.steps.done) * (length c.args.text.now + 1) + length (cursor c.running.cursor).left) c.in-On.ensures.limit less
 
-pub steps-preserved-in-Again : goal.steps-preserved-in-Again
-steps-preserved-in-Again g t c =
-    let text = c.args.text.now in
-    let depth = c.args.depth in
-    let s = g.D.Desk.state c.steps.desk in
-    let new = c.in-Again.ensures in
-    record {
-      after = omega (arith, c.steps.invariant.after, new.counts);
-      within = new.within;
-      place = new.place.0;
-      pending = new.place.1;
-      quiet = λ q. let was = c.steps.invariant.quiet q in absurd (new.quiet was.0 was.1);
-      going = λ old whole first behind typed load b e.
-          comes_on old whole c.args.limit first (g.T.Terminal.screen c.steps.term) s (λ floor. g.D.Desk.follows c.args.desk.now (trail (run_of old whole) floor c.args.before load)) (g.D.Desk.follows c.steps.desk)
-          c.steps.steps behind b depth (λ depth. at_moment text depth c.steps.place c.steps.pending s) (c.steps.invariant.going old whole first behind typed load b e)
-          (g.T.Terminal.screen c.take_step.new.term) (g.D.Desk.state c.take_step.new.desk) (g.D.Desk.follows c.take_step.new.desk) c.take_step.new.steps text c.take_step.new.place (Again c.in-Again.task) new.leads;
-    }
+pub running-preserved-in-On : goal.running-preserved-in-On
+running-preserved-in-On g t c = record {
+  text = ap (λ x. x.now) c.in-On.ensures.text ∙ c.running.invariant.text;
+  limit = c.in-On.ensures.limit ∙ c.running.invariant.limit;
+  after = omega (arith, c.running.invariant.after, c.in-On.ensures.after);
+  pending = c.in-On.ensures.pending;
+  going = λ o callers limit deep e.
+      let there = c.running.invariant.going o callers limit deep e in
+      since o _ _ _ (goes (at_cursor c.step.new.cursor c.step.new.pending callers)) there.follows (c.in-On.ensures.reaches o callers (limit ∙ sym c.running.invariant.limit) there.going);
+}
 
-pub returns-then-depth-eq-MOST_CALLS-clause-comes : goal.returns-then-depth-eq-MOST_CALLS-clause-comes
-returns-then-depth-eq-MOST_CALLS-clause-comes g t c old whole first behind typed load b e =
-    let text = c.args.text.now in
-    let depth = c.args.depth in
-    let s = g.D.Desk.state c.steps.desk in
-    let new = c.in-Call.ensures in
-    let h = comes_on old whole c.args.limit first (g.T.Terminal.screen c.steps.term) s (λ floor. g.D.Desk.follows c.args.desk.now (trail (run_of old whole) floor c.args.before load)) (g.D.Desk.follows c.steps.desk)
-    c.steps.steps behind b depth (λ depth. at_moment text depth c.steps.place c.steps.pending s) (c.steps.invariant.going old whole first behind typed load b e)
-    (g.T.Terminal.screen c.take_step.new.term) (g.D.Desk.state c.take_step.new.desk) (g.D.Desk.follows c.take_step.new.desk) c.take_step.new.steps text c.take_step.new.place (Call c.in-Call.called) new.leads in
-    too_deep old whole c.args.limit first (g.T.Terminal.screen c.take_step.new.term) (g.D.Desk.state c.take_step.new.desk) (λ floor. g.D.Desk.follows c.args.desk.now (trail (run_of old whole) floor c.args.before load)) (g.D.Desk.follows c.take_step.new.desk)
-    c.take_step.new.steps behind b text depth c.take_step.new.place c.in-Call.called.items h c.if-depth-eq-MOST_CALLS.true new.within
+pub returns-then-depth-eq-MOST_CALLS-clause-reaches : goal.returns-then-depth-eq-MOST_CALLS-clause-reaches
+returns-then-depth-eq-MOST_CALLS-clause-reaches g t c o callers limit deep e =
+    let there = c.running.invariant.going o callers limit deep e in
+    let here = c.in-Call.ensures.reaches o callers (limit ∙ sym c.running.invariant.limit) there.going in
+    since o _ _ _ (over (Some _)) (λ floor p. here.follows floor (there.follows floor p))
+    (too_deep o _ c.step.new.cursor c.in-Call.called.items callers here.going (deep ∙ c.if-depth-eq-MOST_CALLS.true) (omega (arith, limit, c.running.invariant.limit, c.in-Call.ensures.limit, c.step.new.steps.within)))
 
-pub returns-in-Over-clause-comes : goal.returns-in-Over-clause-comes
-returns-in-Over-clause-comes g t c old whole first behind typed load b e =
-    let text = c.args.text.now in
-    let depth = c.args.depth in
-    let limit = c.args.limit in
-    let s = g.D.Desk.state c.steps.desk in
-    let u = g.D.Desk.state c.take_step.new.desk in
-    let v = g.D.Desk.state c.run_text-came.new.desk in
-    let new = c.in-Call.ensures in
-    let place = c.take_step.new.place in
-    let k = c.take_step.new.steps in
-    let term = g.T.Terminal.screen c.take_step.new.term in
-    let F = g.D.Desk.follows c.take_step.new.desk in
-    let called = c.deref.result.now in
-    let h = subst (λ x. Going (run_of old whole) first term u (λ floor. g.D.Desk.follows c.args.desk.now (trail (run_of old whole) floor c.args.before load)) F k (through behind (calling text depth place x u))) (sym c.deref.ensures.value)
-    (comes_on old whole limit first (g.T.Terminal.screen c.steps.term) s (λ floor. g.D.Desk.follows c.args.desk.now (trail (run_of old whole) floor c.args.before load)) (g.D.Desk.follows c.steps.desk)
-    c.steps.steps behind b depth (λ depth. at_moment text depth c.steps.place c.steps.pending s) (c.steps.invariant.going old whole first behind typed load b e)
-    term u F k text place (Call c.in-Call.called) new.leads) in
-    let fewer : depth < 32 = omega (arith, c.requires.deep, c.if-depth-eq-MOST_CALLS.false) in
-    let into = enters old whole limit first term u _ F k behind b text depth place called h fewer in
-    comes_over old whole limit first term u _ F k behind b text depth place called h (g.T.Terminal.screen c.run_text-came.new.term) v (g.D.Desk.follows c.run_text-came.new.desk) c.run_text-came.result.steps c.run_text-came.result.way c.in-Over.field-0 c.in-Over.is
-    (c.run_text-came.ensures.comes old whole first (after_call old whole limit first term u _ F k behind b text depth place called h) h.typed h.load (called_behind behind b text depth place) into)
+pub running-smaller : goal.running-smaller
+running-smaller g t c =
+    let steps = c.run_text.new.steps in
+    let to = c.step.new.cursor in
+    let back = c.go_on_with.new.cursor in
+    let left : length (cursor back).left ≡ length (cursor to).left = ap (λ x. length x.left) c.go_on_with.ensures.args in
+    let short : length (cursor back).left ≤ length c.args.text.now =
+    let same : length to.text.now ≡ length c.args.text.now = ap length (ap (λ x. x.now) c.in-Call.ensures.text ∙ c.running.invariant.text) in
+    omega (arith, same, left, length-drop to.at to.text.now) in
+    let later : (c.running.steps.done < steps.done) ⊎ (length (cursor back).left < length (cursor c.running.cursor).left) =
+    elim (c.in-Call.ensures.advances tt) [ inl lt ↦ inl (omega (arith, lt, c.in-Return-run_text.ensures.after)) | inr lt ↦ inr (omega (arith, lt, left)) ] in
+    let less = less_left steps.limit c.running.steps.done steps.done (length c.args.text.now) (length (cursor c.running.cursor).left) (length (cursor back).left) (omega (arith, c.in-Call.ensures.after, c.in-Return-run_text.ensures.after)) steps.within short later in
+    subst (λ limit. (steps.limit - steps.done) * (length c.args.text.now + 1) + length (cursor back).left < (limit - c.running.steps.done) * (length c.args.text.now + 1) + length (cursor c.running.cursor).left) (c.in-Return-run_text.ensures.limit ∙ c.in-Call.ensures.limit) less
 
-pub steps-preserved : goal.steps-preserved
-steps-preserved g t c =
-    let text = c.args.text.now in
-    let depth = c.args.depth in
-    let limit = c.args.limit in
-    let s = g.D.Desk.state c.steps.desk in
-    let u = g.D.Desk.state c.take_step.new.desk in
-    let v = g.D.Desk.state c.run_text-came.new.desk in
-    let new = c.in-Call.ensures in
-    let place = c.take_step.new.place in
-    let k = c.take_step.new.steps in
-    let term = g.T.Terminal.screen c.take_step.new.term in
-    let F = g.D.Desk.follows c.take_step.new.desk in
-    let called = c.deref.result.now in
-    record {
-      after = omega (arith, c.steps.invariant.after, new.counts, c.run_text-came.ensures.after);
-      within = c.run_text-came.ensures.within;
-      place = with_arguments text place c.in-Back.args new.place;
-      pending = tt;
-      quiet = λ q. let was = c.steps.invariant.quiet q in absurd (new.quiet was.0 was.1);
-      going = λ old whole first behind typed load b e.
-          let h = subst (λ x. Going (run_of old whole) first term u (λ floor. g.D.Desk.follows c.args.desk.now (trail (run_of old whole) floor c.args.before load)) F k (through behind (calling text depth place x u))) (sym c.deref.ensures.value)
-          (comes_on old whole limit first (g.T.Terminal.screen c.steps.term) s (λ floor. g.D.Desk.follows c.args.desk.now (trail (run_of old whole) floor c.args.before load)) (g.D.Desk.follows c.steps.desk)
-          c.steps.steps behind b depth (λ depth. at_moment text depth c.steps.place c.steps.pending s) (c.steps.invariant.going old whole first behind typed load b e)
-          term u F k text place (Call c.in-Call.called) new.leads) in
-          let fewer : depth < 32 = omega (arith, c.requires.deep, c.if-depth-eq-MOST_CALLS.false) in
-          let into = enters old whole limit first term u _ F k behind b text depth place called h fewer in
-          comes_back old whole limit first term u _ F k behind b text depth place called h (g.T.Terminal.screen c.run_text-came.new.term) v (g.D.Desk.follows c.run_text-came.new.desk) c.run_text-came.result.steps c.run_text-came.result.way c.in-Back.args c.in-Back.is
-          (c.run_text-came.ensures.comes old whole first (after_call old whole limit first term u _ F k behind b text depth place called h) h.typed h.load (called_behind behind b text depth place) into);
-    }
+pub running-preserved : goal.running-preserved
+running-preserved g t c = record {
+  text = ap (λ x. x.now) (c.go_on_with.ensures.text ∙ c.in-Call.ensures.text) ∙ c.running.invariant.text;
+  limit = c.in-Return-run_text.ensures.limit ∙ c.in-Call.ensures.limit ∙ c.running.invariant.limit;
+  after = omega (arith, c.running.invariant.after, c.in-Call.ensures.after, c.in-Return-run_text.ensures.after);
+  pending = subst (IsPending c.go_on_with.new.cursor.text.now) (sym c.in-Call.ensures.pending) tt;
+  going = λ o callers limit deep e.
+      let there = c.running.invariant.going o callers limit deep e in
+      let here = c.in-Call.ensures.reaches o callers (limit ∙ sym c.running.invariant.limit) there.going in
+      let fewer : length callers < 32 = omega (arith, deep, c.requires, c.if-depth-eq-MOST_CALLS.false) in
+      let h = host (g.D.Desk.state c.step.new.desk) (g.D.Desk.follows c.step.new.desk) (g.T.Terminal.screen c.step.new.term) c.step.new.steps.done in
+      let from = c.step.new.cursor in
+      let called : Going o h (at_call from c.deref.result.now callers) = subst (λ x. Going o h (at_call from x callers)) (sym c.deref.ensures.value) here.going in
+      let into = enters o h from c.deref.result.now callers called fewer in
+      let deeper : length (caller from ∷ callers) ≡ c.args.depth + 1 = omega (arith, deep) in
+      let left = arguments c.run_text.new.args in
+      let r = c.in-Return-run_text.ensures.reaches o (caller from ∷ callers) (limit ∙ sym c.running.invariant.limit ∙ sym c.in-Call.ensures.limit) deeper into.going in
+      let k = host (g.D.Desk.state c.run_text.new.desk) (g.D.Desk.follows c.run_text.new.desk) (g.T.Terminal.screen c.run_text.new.term) c.run_text.new.steps.done in
+      let back = continues o k (at_return left (caller from ∷ callers)) r.going (at_cursor c.go_on_with.new.cursor c.step.new.pending callers)
+      (comes_back left from c.go_on_with.new.cursor c.step.new.pending callers c.go_on_with.ensures.text c.go_on_with.ensures.args c.in-Call.ensures.pending) in
+      record { going = back.going; follows = λ floor p. r.follows floor (here.follows floor (there.follows floor p)) };
+}
 
-pub returns-in-Done-clause-comes : goal.returns-in-Done-clause-comes
-returns-in-Done-clause-comes g t c old whole first behind typed load b e =
-    let text = c.args.text.now in
-    let depth = c.args.depth in
-    let s = g.D.Desk.state c.steps.desk in
-    comes_on old whole c.args.limit first (g.T.Terminal.screen c.steps.term) s (λ floor. g.D.Desk.follows c.args.desk.now (trail (run_of old whole) floor c.args.before load)) (g.D.Desk.follows c.steps.desk)
-    c.steps.steps behind b depth (λ depth. at_moment text depth c.steps.place c.steps.pending s) (c.steps.invariant.going old whole first behind typed load b e)
-    (g.T.Terminal.screen c.take_step.new.term) (g.D.Desk.state c.take_step.new.desk) (g.D.Desk.follows c.take_step.new.desk) c.take_step.new.steps text c.take_step.new.place (Done c.in-Done.way) c.in-Done.ensures.leads
+pub returns-in-Over-run_text-clause-reaches : goal.returns-in-Over-run_text-clause-reaches
+returns-in-Over-run_text-clause-reaches g t c o callers limit deep e =
+    let there = c.running.invariant.going o callers limit deep e in
+    let here = c.in-Call.ensures.reaches o callers (limit ∙ sym c.running.invariant.limit) there.going in
+    let fewer : length callers < 32 = omega (arith, deep, c.requires, c.if-depth-eq-MOST_CALLS.false) in
+    let h = host (g.D.Desk.state c.step.new.desk) (g.D.Desk.follows c.step.new.desk) (g.T.Terminal.screen c.step.new.term) c.step.new.steps.done in
+    let from = c.step.new.cursor in
+    let called : Going o h (at_call from c.deref.result.now callers) = subst (λ x. Going o h (at_call from x callers)) (sym c.deref.ensures.value) here.going in
+    let into = enters o h from c.deref.result.now callers called fewer in
+    let deeper : length (caller from ∷ callers) ≡ c.args.depth + 1 = omega (arith, deep) in
+    let r = c.in-Over-run_text.ensures.reaches o (caller from ∷ callers) (limit ∙ sym c.running.invariant.limit ∙ sym c.in-Call.ensures.limit) deeper into.going in
+    since o _ h _ (over c.in-Over-run_text.code) (λ floor p. here.follows floor (there.follows floor p)) r
+
+pub returns-in-Return-clause-reaches : goal.returns-in-Return-clause-reaches
+returns-in-Return-clause-reaches g t c o callers limit deep e =
+    let there = c.running.invariant.going o callers limit deep e in
+    since o _ _ _ (goes (at_return (arguments c.step.new.cursor.args) callers)) there.follows (c.in-Return.ensures.reaches o callers (limit ∙ sym c.running.invariant.limit) there.going)
+
+pub returns-in-Over-clause-reaches : goal.returns-in-Over-clause-reaches
+returns-in-Over-clause-reaches g t c o callers limit deep e =
+    let there = c.running.invariant.going o callers limit deep e in
+    since o _ _ _ (over c.in-Over.code) there.follows (c.in-Over.ensures.reaches o callers (limit ∙ sym c.running.invariant.limit) there.going)

@@ -1,6 +1,13 @@
-use Rattle.std.proofs.Common.{◌≡◌, drop}
-use Rattle.teco_exec.specs.Place.{is_inside, kinds}
+use Rattle.std.proofs.Common.{◌≡◌, ◌≤◌, reverse, take}
+use Rattle.teco_exec.specs.Frames.{has_iteration}
 use Rattle.teco_exec.proofs.blocks.Blocks.has_iteration.Given as goal
 
-abbrev pub invariant-loop-block : goal.invariant-loop-block
-invariant-loop-block l = is_inside (kinds l.block-items) ≡ is_inside (kinds (drop l.block-index l.block-items))
+-- No block that was looked at is an iteration.
+abbrev pub invariant-loop-depth : goal.invariant-loop-depth
+invariant-loop-depth l = record {
+  few : l.depth ≤ 64;
+  same : has_iteration (reverse (take l.depth l.self-inside.open)) ≡ has_iteration l.self;
+}
+
+abbrev pub decreases-loop-depth : goal.decreases-loop-depth
+decreases-loop-depth l = l.depth

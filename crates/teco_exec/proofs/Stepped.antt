@@ -1,0 +1,187 @@
+-- Steps of a text, of tokens and of blocks.
+use Rattle.std.proofs.Common.{◌≡◌, ◌≢◌, ℕ, zero, suc, ◌+◌, ◌<◌, ◌≤◌, List, [], ◌∷◌, ◌++◌, length, drop, Option, Some, None, Result, Ok, Err, Bool, true, false, inl, inr, refl, sym, ap, subst, ◌∙◌, arith, append-nil}
+use Rattle.std.specs.Prelude.{◌==◌, if◌then◌else◌, MatchResult}
+use Rattle.teco_core.specs.declared.arguments.Args.{Args}
+use Rattle.teco_core.specs.declared.code.Code.{Code}
+use Rattle.teco_core.specs.declared.code.Code.TheVariants.{Lim, Mem, Tty, Pdo}
+use Rattle.teco_core.specs.ArgumentsView.{arguments}
+use Rattle.teco_core.specs.Arguments.{Arguments}
+use Rattle.teco_scan.specs.Scan.{Item, scan}
+use Rattle.teco_scan.specs.declared.command.Modifiers.{Modifiers}
+use Rattle.teco_scan.specs.declared.token.Token.{Token}
+use Rattle.teco_store.specs.State.{State}
+use Rattle.teco_store.specs.Trail.{Trail, moved, stepped}
+use Rattle.teco_step.specs.declared.next.Next.{Next}
+use Rattle.teco_step.specs.declared.next.Next.TheVariants as next
+use Rattle.teco_step.specs.declared.next.Work.{Work}
+use Rattle.teco_step.specs.Effect.{effect}
+use Rattle.teco_step.specs.Step.{Step, End, at, on, leave, go, call, out, again, stop}
+use Rattle.teco_step.specs.Stepping.{end_of, is_unfinished, is_unfinished_code, Steps, IsDone, trail_after, IsStepIn, name_in, token_effect}
+use Rattle.teco_step.specs.Terminal.{Screen}
+use Rattle.teco_exec.specs.Machine.{Caller, Config, Cursor as MachineCursor, Machine, Moved, Now, runs, halts, called, going, inside, leave_found, leaving, jumping, now_of, resumed, run_within, setting_of, arrives, block_step}
+use Rattle.teco_exec.specs.Search.{is_search}
+use Rattle.teco_exec.specs.View.{Finishes as MovesWell, cursor, item_at, moved_of, opening_of}
+use Rattle.teco_exec.specs.Running.{Origin, Host, host, Continuation, Going, Comes, Ended, Reached, goes, over, Reaches, reached_run, ready_run, config, at_cursor, at_token, at_opening, flows, Finishes, IsFinished}
+use Rattle.teco_exec.specs.declared.cursor.Cursor.{Cursor}
+use Rattle.teco_exec.specs.declared.flow.Flow.{Flow}
+use Rattle.teco_exec.specs.declared.flow.Flow.TheVariants.{On, Call, Return, Over}
+use Rattle.teco_exec.specs.declared.flow.Task.{Task}
+use Rattle.teco_exec.specs.declared.moves.Opening.{Opening}
+use Rattle.teco_exec.proofs.Composing.{Stays, arrives_stays, halted, run_ready}
+use Rattle.teco_exec.proofs.Going.{Settles, EndsByItself, Pays, advanced, since, settles, step_done, no_memory, no_terminal, shows_nothing}
+use Rattle.teco_exec.proofs.Unseen.{effect_here}
+
+-- Where a step leads changes nothing of what is seen.
+going_now : (c : Config) (m : Moved) → now_of (going c m) ≡ now_of (runs c)
+going_now c (Ok cur) = refl
+going_now c (Err e) = refl
+
+called_now : (text : List ℕ) (c : Config) → now_of (called text c) ≡ now_of (runs c)
+called_now text c = by (length c.callers == 32)
+  where
+    by : (b : Bool) → now_of (if b then halts c (Some Pdo) else runs (record c { text = text; at = record { args = c.at.args; left = text; blocks = [] }; callers = record { text = c.text; left = c.at.left; blocks = c.at.blocks } ∷ c.callers })) ≡ now_of (runs c)
+    by true = refl
+    by false = refl
+
+resumed_now : (m : Modifiers) (i : Item) (e : End) (c : Config) → now_of (resumed m i e c) ≡ now_of (runs c)
+resumed_now m i on c = refl
+resumed_now m i leave c = going_now c (leaving c.at.blocks c.at.args c.at.left)
+resumed_now m i (go name) c = going_now c (jumping name c.text c.at.blocks c.at.args)
+resumed_now m i (call text) c = called_now text c
+resumed_now m i out c = refl
+resumed_now m i (again work) c = refl
+resumed_now m i (stop e) c = refl
+
+-- how the text goes on after a step
+module _ (callers : List Caller) (now : Now) (fuel : ℕ) where
+  pub ends_so : (c : Cursor) (token : Token) (n k : Next) → n ≡ k
+      → run_within fuel (resumed token.modifiers (item_at c.text.now token.kind) (end_of (name_in c.text.now token) n) (config c.text.now (cursor c) None callers now))
+      ≡ run_within fuel (resumed token.modifiers (item_at c.text.now token.kind) (end_of (name_in c.text.now token) k) (config c.text.now (cursor c) None callers now))
+  ends_so c token n k e = ap (λ x. run_within fuel (resumed token.modifiers (item_at c.text.now token.kind) (end_of (name_in c.text.now token) x) (config c.text.now (cursor c) None callers now))) e
+
+  pub goes_on : (c : Cursor) (pending : Option Task) → pending ≡ None → run_within fuel (runs (config c.text.now (cursor c) None callers now)) ≡ ready_run fuel (at_cursor c pending callers now)
+  goes_on c pending none = run_ready fuel (runs (config c.text.now (cursor c) None callers now)) ∙ ap (λ p. ready_run fuel (at_cursor c p callers now)) (sym none)
+
+  pub moves_on : (old to : Cursor) → to.text ≡ old.text → (pending : Option Task) → pending ≡ None → (r : Result (Unit {0}) Code) (f : Flow) → MatchResult r (λ _. f ≡ On) (λ code. f ≡ Over (Some code)) → (m : Moved) → moved_of to r ≡ m
+      → run_within fuel (going (config old.text.now (cursor old) None callers now) m) ≡ reached_run fuel now (flows to pending callers f)
+  moves_on old to text pending none (Ok done) f is m e =
+      ap (λ x. run_within fuel (going (config old.text.now (cursor old) None callers now) x)) (sym e)
+      ∙ ap (λ t. run_within fuel (runs (config t.now (cursor to) None callers now))) (sym text)
+      ∙ goes_on to pending none ∙ ap (λ x. reached_run fuel now (flows to pending callers x)) (sym is)
+  moves_on old to text pending none (Err code) f is m e =
+      ap (λ x. run_within fuel (going (config old.text.now (cursor old) None callers now) x)) (sym e)
+      ∙ halted fuel (config old.text.now (cursor old) None callers now) (Some code) ∙ ap (λ x. reached_run fuel now (flows to pending callers x)) (sym is)
+
+pub finishes : (c : Cursor) (pending : Option Task) (callers : List Caller) (f : Flow) → Finishes f → EndsByItself (flows c pending callers f)
+finishes c pending callers On h = tt
+finishes c pending callers (Call text) h = tt
+finishes c pending callers Return h = tt
+finishes c pending callers (Over code) h = h
+
+pub ends_over : (o : Origin) (before after : Host) (c : Cursor) (pending : Option Task) (callers : List Caller) (f : Flow) (code : Option Code) → f ≡ Over code → Ended o before after code → Reaches o before after (flows c pending callers f)
+ends_over o before after c pending callers f code is e = subst (λ x. Reaches o before after (flows c pending callers x)) (sym is) e
+
+pub unless_finishes : (r : Result (Unit {0}) Code) (f : Flow) → MatchResult r (λ _. f ≡ On) (λ code. f ≡ Over (Some code)) → MovesWell r → Finishes f
+unless_finishes (Ok done) f is h = subst Finishes (sym is) tt
+unless_finishes (Err code) f is h = subst Finishes (sym is) h
+
+-- a step of a token
+module _ (c : Cursor) (token : Token) (work : Option Work) (callers : List Caller) where
+  -- where it has left these arguments, and ended so
+  abbrev pub after_token : Arguments → End → Continuation
+  after_token a e now = arrives (resumed token.modifiers (item_at c.text.now token.kind) e (config c.text.now (record (cursor c) { args = a }) None callers now))
+
+  after_stays : (a : Arguments) (e : End) (now : Now) → Stays (after_token a e) now
+  after_stays a e now =
+      let to : Config = config c.text.now (record (cursor c) { args = a }) None callers now in
+      arrives_stays (resumed token.modifiers (item_at c.text.now token.kind) e to) ∙ resumed_now token.modifiers (item_at c.text.now token.kind) e to
+
+  module _ (opens before : Bool) (is : IsStepIn c.text.now token) (looks : opens ≡ inside (cursor c).blocks) (sees : is_search token.kind ≡ true → before ≡ leave_found (scan (cursor c).left)) where
+    abbrev pub effect_in : State → Step
+    effect_in s = token_effect c.text.now token work opens before s (arguments c.args)
+
+    token_pays : (s : State) → Pays (at_token c token work callers) (after_token (effect_in s).arguments (effect_in s).end) s (effect_in s).state (effect_in s).typed (effect_in s).load
+    token_pays s now same fuel =
+        run_ready fuel _
+        ∙ ap (λ x. (let d : Step = effect (item_at c.text.now token.kind) (setting_of token.modifiers work (cursor c)) x (arguments c.args) in ready_run fuel (after_token d.arguments d.end (advanced d.state d.typed d.load now)))) same
+        ∙ ap (λ (d : Step). ready_run fuel (after_token d.arguments d.end (advanced d.state d.typed d.load now))) (sym (effect_here c token work opens before s is looks sees))
+
+    module _ (o : Origin) (h : Host) (g : Going o h (at_token c token work callers)) (lt : h.steps < o.limit) (name : List ℕ) (new : State) (args : Args) (w : Screen) (n : Next) (G : Trail → Type 0)
+        (took : (u : Trail) → h.follows u → G (trail_after n u (effect_in h.state).load)) where
+      keeps : is_unfinished n ≡ true → (u : Trail) → h.follows u → G u
+      keeps e u f = subst (λ b. G (elim b [ true ↦ u | false ↦ moved u (effect_in h.state).load ])) e (took u f)
+
+      moves : is_unfinished n ≡ false → (u : Trail) → h.follows u → G (moved u (effect_in h.state).load)
+      moves e u f = subst (λ b. G (elim b [ true ↦ u | false ↦ moved u (effect_in h.state).load ])) e (took u f)
+
+      -- it was begun and not done
+      pub token_fails : (code : Code) → n ≡ next.Error code → is_unfinished_code code ≡ true → Steps (effect_in h.state) name (at h.state (arguments c.args) h.screen) (at new (arguments args) w) n → Ended o h (host new G w h.steps) (Some code)
+      token_fails code e unfinished (inl done) = let x : true ≡ false = sym unfinished ∙ sym (ap is_unfinished e) ∙ done.finished in absurd cc
+      token_fails code e unfinished (inr (inl lacks)) =
+          let same : Mem ≡ code = let both : next.Error Mem ≡ next.Error code = sym lacks.code ∙ e in cc in
+          let d = effect_in h.state in
+          subst (λ k. Ended o h (host new G w h.steps) (Some k)) same
+          (no_memory o h (at_token c token work callers) g (after_token d.arguments d.end) d.state d.typed d.load (token_pays h.state) (after_stays d.arguments d.end) lt new lacks.state G (keeps (ap is_unfinished e ∙ unfinished)) w lacks.shows)
+      token_fails code e unfinished (inr (inr lacks)) =
+          let same : Tty ≡ code = let both : next.Error Tty ≡ next.Error code = sym lacks.code ∙ e in cc in
+          let d = effect_in h.state in
+          subst (λ k. Ended o h (host new G w h.steps) (Some k)) same
+          (no_terminal o h (at_token c token work callers) g (after_token d.arguments d.end) d.state d.typed d.load (token_pays h.state) (after_stays d.arguments d.end) lt new lacks.state G (keeps (ap is_unfinished e ∙ unfinished)) w lacks.front lacks.types lacks.beginning lacks.shows)
+
+      finished_done : is_unfinished n ≡ false → Steps (effect_in h.state) name (at h.state (arguments c.args) h.screen) (at new (arguments args) w) n → IsDone (effect_in h.state) name (at h.state (arguments c.args) h.screen) (at new (arguments args) w) n
+      finished_done f (inl done) = done
+      finished_done f (inr (inl lacks)) = let x : true ≡ false = sym (ap is_unfinished lacks.code) ∙ f in absurd cc
+      finished_done f (inr (inr lacks)) = let x : true ≡ false = sym (ap is_unfinished lacks.code) ∙ f in absurd cc
+
+      -- it was done
+      pub token_goes : is_unfinished n ≡ false → Steps (effect_in h.state) name (at h.state (arguments c.args) h.screen) (at new (arguments args) w) n
+          → (steps : ℕ) → steps ≡ h.steps + 1 → (same : State) → same ≡ new → (H : Trail → Type 0)
+          → ((u : Trail) → G u → u.changes ≤ 6 → steps ≡ u.steps + 1 → u.states steps ≡ new → u.load ≤ u.loads steps → H (stepped u))
+          → (d : Reached) → EndsByItself d
+          → ((now : Now) (fuel : ℕ) → run_within fuel (resumed token.modifiers (item_at c.text.now token.kind) (end_of name n) (config c.text.now (record (cursor c) { args = arguments args }) None callers now)) ≡ reached_run fuel now d)
+          → Reaches o h (host same H w steps) d
+      token_goes f did steps count same is_same H marks d fin leads =
+          let e = effect_in h.state in
+          let done = finished_done f did in
+          let later : Host = host same H w steps in
+          let to : Comes o h later (after_token e.arguments e.end) =
+          step_done o h (at_token c token work callers) g (after_token e.arguments e.end) e.state e.typed e.load (token_pays h.state) (after_stays e.arguments e.end) later count (is_same ∙ done.state) done.shows
+          (λ u p none at state within. marks (moved u e.load) (moves f u p) (omega arith) (omega arith) (ap u.states count ∙ state ∙ sym done.state) (subst (λ k. u.load + e.load ≤ u.loads k) (sym count) within)) in
+          let there : Comes o h later (after_token (arguments args) (end_of name n)) =
+          subst (λ x. Comes o h later (after_token (arguments args) x)) (sym done.end) (subst (λ x. Comes o h later (after_token x e.end)) (sym done.arguments) to) in
+          since o h later later d there.follows (settles o later (after_token (arguments args) (end_of name n)) there.going d fin (omega arith) (λ now fuel. sym (run_ready fuel _) ∙ leads now fuel))
+
+-- a step of a block
+module _ (c : Cursor) (b : Opening) (to : ℕ) (callers : List Caller) where
+  -- where it has been done
+  abbrev after_block : Continuation
+  after_block now = arrives (going (config c.text.now (cursor c) None callers now) (block_step (opening_of b) (drop to c.text.now) (cursor c)))
+
+  block_stays : (now : Now) → Stays after_block now
+  block_stays now =
+      let there : Config = config c.text.now (cursor c) None callers now in
+      let m : Moved = block_step (opening_of b) (drop to c.text.now) (cursor c) in
+      arrives_stays (going there m) ∙ going_now there m
+
+  still : (s : State) (now : Now) → now.state ≡ s → now ≡ advanced s [] 0 now
+  still s now same =
+      let all : now.load ≡ now.load + 0 = omega arith in
+      ap (λ x. let y : Now = record now { state = x } in y) same
+      ∙ ap (λ x. let y : Now = record { state = s; typed = x; load = now.load } in y) (sym (append-nil now.typed))
+      ∙ ap (λ x. let y : Now = record { state = s; typed = now.typed ++ []; load = x } in y) all
+
+  block_pays : (s : State) → Pays (at_opening c b to callers) after_block s s [] 0
+  block_pays s now same fuel = run_ready fuel _ ∙ ap (λ x. ready_run fuel (after_block x)) (still s now same)
+
+  pub block_leads : (o : Origin) (h : Host) → Going o h (at_opening c b to callers) → h.steps < o.limit
+      → (steps : ℕ) → steps ≡ h.steps + 1 → (same : State) → same ≡ h.state → (G : Trail → Type 0) → ((u : Trail) → h.follows u → h.follows (moved u 0))
+      → ((u : Trail) → h.follows u → u.changes ≤ 6 → steps ≡ u.steps + 1 → u.states steps ≡ h.state → u.load ≤ u.loads steps → G (stepped u))
+      → (d : Reached) → EndsByItself d
+      → ((now : Now) (fuel : ℕ) → run_within fuel (going (config c.text.now (cursor c) None callers now) (block_step (opening_of b) (drop to c.text.now) (cursor c))) ≡ reached_run fuel now d)
+      → Reaches o h (host same G h.screen steps) d
+  block_leads o h g lt steps count same is_same G eases marks d fin leads =
+      let later : Host = host same G h.screen steps in
+      let there : Comes o h later after_block =
+      step_done o h (at_opening c b to callers) g after_block h.state [] 0 (block_pays h.state) block_stays later count is_same (shows_nothing h.screen)
+      (λ u p none at state within. marks (moved u 0) (eases u p) (omega arith) (omega arith) (ap u.states count ∙ state) (subst (λ k. u.load + 0 ≤ u.loads k) (sym count) within)) in
+      since o h later later d there.follows (settles o later after_block there.going d fin (omega arith) (λ now fuel. sym (run_ready fuel _) ∙ leads now fuel))

@@ -1,0 +1,24 @@
+use Rattle.std.proofs.Common.{drop, sym, ap, ◌∙◌}
+use Rattle.teco_scan.specs.Lists.{closed, broken}
+use Rattle.teco_exec.specs.Machine as machine
+use Rattle.teco_exec.specs.Frames.{frames}
+use Rattle.teco_exec.proofs.Frames.{divides_then, frames_nil, no_divide, or_kind}
+use Rattle.teco_exec.proofs.cursor.Cursor.divide.Goals as goal
+
+pub returns-in-None-clause-comes : goal.returns-in-None-clause-comes
+returns-in-None-clause-comes c found = sym (ap (machine.divides (drop c.args.to c.args.self.now.text.now)) (frames_nil c.args.self.now.text.now c.in-None.ensures.0))
+
+pub returns-in-Iter-clause-comes : goal.returns-in-Iter-clause-comes
+returns-in-Iter-clause-comes c found = sym (no_divide c.args.self.now.text.now (drop c.args.to c.args.self.now.text.now) c.in-Some.ensures (or_kind c.kind.ensures c.in-Iter.is))
+
+pub returns-in-Err-clause-comes : goal.returns-in-Err-clause-comes
+returns-in-Err-clause-comes c found =
+    let text = c.args.self.now.text.now in
+    divides_then text (drop c.args.to text) (broken c.in-Err.code) c.in-Some.ensures (sym c.kind.ensures ∙ c.in-Then.is) c.len-depth.ensures.value c.in-Err.ensures.closes
+
+pub returns-in-Ok-clause-comes : goal.returns-in-Ok-clause-comes
+returns-in-Ok-clause-comes c found =
+    let text = c.args.self.now.text.now in
+    let stop = c.in-Ok.stop in
+    ap (λ a. machine.moved (record { args = a; left = drop stop.to text; blocks = frames text c.pop.new.self })) c.clear.ensures
+    ∙ divides_then text (drop c.args.to text) (closed stop.divided (drop stop.to text)) c.in-Some.ensures (sym c.kind.ensures ∙ c.in-Then.is) c.len-depth.ensures.value c.in-Ok.ensures.closes

@@ -1,0 +1,70 @@
+//! What a step of a text leads to, and what is counted.
+ghost use Rattle.std.specs.Prelude.{◌≡◌, ◌≤◌};
+
+use teco_core::Code;
+use teco_scan::Token;
+use teco_step::Work;
+
+/// A token with a further step, and the work that is left.
+#[derive(Clone, Copy, Debug)]
+pub(crate) struct Task {
+    pub token: Token,
+    pub work: Work,
+}
+
+/// What one step of a text leads to.
+#[derive(Debug, Drop)]
+pub(crate) enum Flow {
+    /// The text goes on: with the further step that is pending, or at the cursor.
+    On,
+    /// This text is run, and then its caller goes on at its cursor.
+    Call(Vec<u8>),
+    /// The text is over, and its caller goes on.
+    Return,
+    /// The whole run is over.
+    Over(Option<Code>),
+}
+
+/// How a text came to its end.
+#[derive(Clone, Copy, Debug, PartialEq, Eq)]
+pub(crate) enum Exit {
+    /// Its caller goes on.
+    Return,
+    /// The whole run is over.
+    Over(Option<Code>),
+}
+
+impl Exit {
+    ghost use Rattle.teco_exec.specs.Running.{code_left};
+
+    /// The code that the run of a whole string ends by.
+    pub fn code(self) -> Option<Code>
+        ensures { result ≡ code_left self }
+    {
+        match self {
+            Exit::Return => None,
+            Exit::Over(code) => code,
+        }
+    }
+}
+
+/// The steps that are done, at most as many as the limit.
+#[derive(Debug, Drop)]
+pub(crate) struct Steps {
+    pub done: u64,
+    pub limit: u64,
+    ghost within: { done ≤ limit },
+}
+
+impl Steps {
+    ghost use Rattle.std.specs.Prelude.{◌≡◌, ◌+◌, ◌<◌};
+
+    /// One step more is done.
+    pub fn count(&mut self)
+        requires { self.old.done < self.old.limit }
+        ensures done { self.new.done ≡ self.old.done + 1 }
+        ensures limit { self.new.limit ≡ self.old.limit }
+    {
+        self.done += 1;
+    }
+}

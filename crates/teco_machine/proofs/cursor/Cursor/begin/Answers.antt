@@ -1,8 +1,0 @@
-use Rattle.std.proofs.Common.{ap}
-use Rattle.teco_core.specs.ArgumentsView.{arguments}
-use Rattle.teco_machine.proofs.Frames.{frames_nil}
-use Rattle.teco_machine.proofs.cursor.Cursor.begin.Goals as goal
-
-pub returns-clause-begins : goal.returns-clause-begins
-returns-clause-begins c =
-    ap (λ bs. record { args = arguments c.args.args; left = c.args.text.now; blocks = bs }) (frames_nil c.args.text.now c.new.ensures)

@@ -1,6 +1,0 @@
-use Rattle.std.proofs.Common.{◌∙◌}
-use Rattle.teco_machine.proofs.Frames.{inside_is}
-use Rattle.teco_machine.proofs.cursor.Cursor.has_iteration.Goals as goal
-
-pub returns : goal.returns
-returns c = c.has_iteration.ensures ∙ inside_is c.args.self.now.text.now c.args.self.now.blocks
