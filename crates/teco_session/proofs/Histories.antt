@@ -1,5 +1,5 @@
 -- Lemmas on histories and on lists of requests.
-use Rattle.std.proofs.Common.{◌≡◌, ℕ, zero, suc, ◌+◌, ◌<◌, ◌≤◌, List, [], ◌∷◌, ◌++◌, length, take, get_or, Option, refl, sym, ap, ◌∙◌, arith, subst, append-nil, append_assoc, length-append, length-take}
+use Rattle.std.proofs.Common.{◌≡◌, ℕ, zero, suc, ◌+◌, ◌<◌, ◌≤◌, List, [], ◌∷◌, ◌++◌, length, take, get_or, Option, refl, sym, ap, ◌∙◌, arith, add-one, subst, append-nil, append_assoc, length-append, length-take}
 use Rattle.std.proofs.KnownBytes.{Appends-trans, Appends-nil}
 use Rattle.teco_store.specs.State.{State}
 use Rattle.teco_exec.specs.StringMeaning.{string_meaning}
@@ -17,6 +17,15 @@ pub state_after-entry : (first : State) (entries : List Entry) (i : ℕ) (d : En
 state_after-entry first [] i d h = absurd (omega arith)
 state_after-entry first (e ∷ entries) zero d h = refl
 state_after-entry first (e ∷ entries) (suc i) d h = state_after-entry e.state entries i d (omega arith)
+
+-- the state after a note that was put there
+state_after-noted : (first : State) (notes : List Note) (i : ℕ) (note : Note) → i ≤ length notes → state_after first (take i notes ++ note ∷ []) (suc i) ≡ note.state
+state_after-noted first notes zero note h = refl
+state_after-noted first [] (suc i) note h = absurd (omega arith)
+state_after-noted first (n ∷ notes) (suc i) note h = state_after-noted n.state notes i note (omega arith)
+
+pub present-noted : (h : History) (note : Note) → h.cursor ≤ length h.notes → present (noted h note) ≡ note.state
+present-noted h note within = ap (state_after h.first (take h.cursor h.notes ++ note ∷ [])) (add-one h.cursor) ∙ state_after-noted h.first h.notes h.cursor note within
 
 -- a note put where it is meant
 pub AreMeant-noted : (s : State) (notes : List Note) (i : ℕ) (note : Note) → AreMeant s notes → i ≤ length notes
