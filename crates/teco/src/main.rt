@@ -6,6 +6,7 @@ ghost use Rattle.std.specs.Prelude.{◌≡◌, ◌≢◌, ◌≤◌, IfOk, vec_l
 ghost use Rattle.teco_store.specs.State.{file_limit};
 
 mod ending;
+mod exchange;
 mod line;
 mod memory_source;
 mod reader_source;
@@ -13,7 +14,6 @@ mod served;
 mod serving;
 mod source;
 mod splitter;
-mod turn;
 
 use crate::ending::{Fate, ending};
 use crate::line::{Line, LineFault, line_of, output_name};
