@@ -1,10 +1,11 @@
 -- What the command line says: teco [--limit N] [--output FILE] [--prompt] INPUT.
-use Rattle.std.specs.Prelude.{◌≡◌, List, [], ◌∷◌, Some, IsTrue, ◌↔◌, codes, true, false, option_map, ⊤, ◌⊎◌}
+use Rattle.std.specs.Prelude.{◌≡◌, List, [], ◌∷◌, Some, IsTrue, ◌↔◌, codes, true, false, option_map, ⊤, ◌⊎◌, Result, Ok, Err}
 use Rattle.std.specs.String.{string_bytes}
 use Rattle.std.specs.Str.Parse.{digits_value, without_leading_plus}
 use Rattle.clap.specs.Words.{App, IsAmong, Rule, Text, fault_of, first_of, kind_of, matches_of, new_app, new_rule, one_of, takes, with_rule}
 use Rattle.clap.specs.declared.builder.action.ArgAction.TheVariants.{Set, SetTrue}
 use Rattle.clap.specs.declared.builder.value_parser.ValueParser.TheVariants as parser
+use Rattle.clap.specs.declared.error.Error.{Error}
 use Rattle.clap.specs.declared.error.kind.ErrorKind.TheVariants as kind
 use Rattle.teco.specs.declared.line.Line.{Line}
 use Rattle.teco.specs.declared.line.LineFault.{LineFault}
@@ -66,7 +67,7 @@ abbrev pub IsLineFault : List Text → LineFault → Type 0
 IsLineFault words NoMemory = ⊤
 IsLineFault words (Refused error) = (kind_of error ≡ kind.OutOfMemory) ⊎ ((takes teco_app words ≡ false) × IsAmong (kind_of error) (fault_of teco_app words))
 
--- An argument that is not UTF-8 is a faulty line, unless memory was refused to say so.
-abbrev pub IsTextFault : LineFault → Type 0
-IsTextFault NoMemory = ⊤
-IsTextFault (Refused error) = kind_of error ≡ kind.InvalidValue
+-- The parser's error is told as it is, and a refusal of memory for it as that.
+abbrev pub fault_for : {E : Type 0} → Result Error E → LineFault
+fault_for (Ok error) = Refused error
+fault_for (Err refused) = NoMemory

@@ -4,7 +4,7 @@ ghost use Rattle.std.specs.IoError.{error_kind};
 ghost use Rattle.std.specs.Prelude.{◌≡◌, ◌≢◌, ◌≤◌, IfErr, IfOk, false, map};
 ghost use Rattle.std.specs.String.{string_bytes};
 ghost use Rattle.std.specs.declared.io.ErrorKind.TheVariants as io_kind;
-ghost use Rattle.teco.specs.CommandLine.{IsLine, IsLineFault, IsTextFault, limit_rule, teco_app};
+ghost use Rattle.teco.specs.CommandLine.{IsLine, IsLineFault, fault_for, limit_rule, teco_app};
 ghost use Rattle.teco.specs.Ending.{output_of};
 
 use clap::error::ErrorKind;
@@ -117,21 +117,21 @@ pub fn line_of(alloc: Global, words: &[String]) -> Result<Line, LineFault>
 }
 
 /// The parser's error for an argument that is not UTF-8.
-fn not_text(alloc: Global) -> Result<clap::Error, NoMemory>
+pub fn not_text(alloc: Global) -> Result<clap::Error, NoMemory>
     ensures { IfOk result (λ error. kind_of error ≡ ErrorKind.InvalidValue) }
 {
     command(alloc)?.error(ErrorKind::InvalidValue, "an argument is not UTF-8 text")
 }
 
-/// Why there are no words. Where memory was refused to copy them, that; else one of them is not UTF-8, and the line is faulty.
-pub fn fault_of_words(alloc: Global, error: io::Error) -> LineFault
+/// Why there are no words: memory was refused to copy them; or one of them is not UTF-8, and the line is faulty.
+pub fn fault_of_words(error: io::Error, not_text: Result<clap::Error, NoMemory>) -> LineFault
     ensures memory { error_kind error ≡ io_kind.OutOfMemory → result ≡ LineFault.NoMemory }
-    ensures other { error_kind error ≢ io_kind.OutOfMemory → IsTextFault result }
+    ensures other { error_kind error ≢ io_kind.OutOfMemory → result ≡ fault_for not_text }
 {
     if error.kind() == io::ErrorKind::OutOfMemory {
         return LineFault::NoMemory;
     }
-    match not_text(alloc) {
+    match not_text {
         Ok(error) => LineFault::Refused(error),
         Err(NoMemory) => LineFault::NoMemory,
     }

@@ -16,7 +16,7 @@ mod source;
 mod splitter;
 
 use crate::ending::{Fate, ending};
-use crate::line::{Line, LineFault, fault_of_words, line_of, output_name, refused_status};
+use crate::line::{Line, LineFault, fault_of_words, line_of, not_text, output_name, refused_status};
 use crate::reader_source::ReaderSource;
 use crate::served::Served;
 use crate::serving::serve;
@@ -92,7 +92,7 @@ fn run(rt: &HostRuntime, line: &Line) -> Fate {
 fn line_given(rt: &HostRuntime) -> Result<Line, LineFault> {
     let words = match std::env::args(rt) {
         Ok(words) => words,
-        Err(error) => return Err(fault_of_words(rt.alloc(), error)),
+        Err(error) => return Err(fault_of_words(error, not_text(rt.alloc()))),
     };
     let words: Vec<String> = words.collect(rt.alloc())?;
     line_of(rt.alloc(), words.as_slice())

@@ -94,7 +94,10 @@ fn refuses_faulty_lines(rt: HostRuntime) {
 
 /// The status that an argument which is not UTF-8 leads to; none where memory was refused.
 fn status_without_text(alloc: Global) -> Option<u8> {
-    match fault_of_words(alloc, io::Error::from(io::ErrorKind::InvalidData)) {
+    match fault_of_words(
+        io::Error::from(io::ErrorKind::InvalidData),
+        not_text(alloc),
+    ) {
         LineFault::Refused(error) => Some(refused_status(&error)),
         LineFault::NoMemory => None,
     }

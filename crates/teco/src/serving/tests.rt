@@ -163,6 +163,14 @@ fn serves_programs(rt: HostRuntime) {
         plain_row("Ox$0<!x!>$$", "?TAG\r\n", ""),
         plain_row("0<?>1=$$", "?ILL\r\n", ""),
         plain_row("1=>2=$$", "1\r\n?BNI\r\n", ""),
+    ] {
+        holds(&rt, rt.alloc(), row);
+    }
+}
+
+#[test]
+fn serves_blocks(rt: HostRuntime) {
+    for row in [
         plain_row("1\"G2=|3='4=$$", "2\r\n4\r\n", ""),
         plain_row("0\"G2=|3='4=$$", "3\r\n4\r\n", ""),
         plain_row("3<Ix$>$$", "", "xxx"),
