@@ -36,9 +36,10 @@ use Rattle.clap.proofs.CallerLemmas.{default_present, entry_by_id, required_has_
 use Rattle.clap.proofs.FaultLemmas.{free_args}
 use Rattle.clap.proofs.SimpleLemmas.{all_simple, plain_fields, ready_simple, simple_groups}
 use Rattle.clap.proofs.WalkLemmas.{first_value-rows, one_text-rows}
-use Rattle.teco.specs.CommandLine.{IsLine, IsLineFault, input_rule, limit_rule, line_fault_at, line_fault_of, teco_app}
+use Rattle.teco.specs.CommandLine.{IsLine, IsLineFault, input_rule, limit_rule, teco_app}
 use Rattle.teco.specs.declared.line.Line.{Line}
 use Rattle.teco.specs.declared.line.LineFault.{LineFault}
+use Rattle.teco.specs.declared.line.LineFault.TheVariants.{Refused}
 
 -- the command is one whose matches the parser's contract says, and no argument has a rule on another
 pub teco_is_simple : is_simple teco_app ≡ true
@@ -351,10 +352,10 @@ abbrev is_memory : ErrorKind → Bool
 is_memory kind.OutOfMemory = true
 is_memory _ = false
 
-at_kind : (k : ErrorKind) (words : List Text) (error : Error)
-    → (is_memory k ≡ false → (takes teco_app words ≡ false) × IsAmong (kind_of error) (fault_of teco_app words)) → IsLineFault words (line_fault_at k error)
-at_kind kind.OutOfMemory words error h = tt
-at_kind _ words error h = h refl
+at_kind : (k : ErrorKind) (words : List Text) (error : Error) → kind_of error ≡ k
+    → (is_memory k ≡ false → (takes teco_app words ≡ false) × IsAmong (kind_of error) (fault_of teco_app words)) → IsLineFault words (Refused error)
+at_kind kind.OutOfMemory words error e h = inl e
+at_kind _ words error e h = inr (h refl)
 
 not_taken : (b : Bool) (error : Error) → (b ≡ true → kind_of error ≡ kind.OutOfMemory) → is_memory (kind_of error) ≡ false → b ≡ false
 not_taken true error h other = absurd (true≢false (sym (ap is_memory (h refl)) ∙ other))
@@ -366,10 +367,10 @@ among kinds error (inr h) other = h
 
 pub fault_is : (c : Command) (words : List Text) (error : Error) → app_of c ≡ teco_app
     → (takes (app_of c) words ≡ true → kind_of error ≡ kind.OutOfMemory) → (is_simple_and_free (app_of c) ≡ true → HasKind (fault_of (app_of c) words) error)
-    → IsLineFault words (line_fault_of error)
+    → IsLineFault words (Refused error)
 fault_is c words error is passes kinds =
     let kinds_are : HasKind (fault_of teco_app words) error = subst (λ a. HasKind (fault_of a words) error) is (kinds (ap is_simple_and_free is ∙ teco_is_free)) in
-    at_kind (kind_of error) words error (λ other. (
+    at_kind (kind_of error) words error refl (λ other. (
       not_taken (takes teco_app words) error (λ e. passes (ap (λ a. takes a words) is ∙ e)) other,
       among (fault_of teco_app words) error kinds_are other,
     ))

@@ -4,7 +4,7 @@ use Rattle.std.proofs.lemmas.Bool.Decides.{nat_tests}
 use Rattle.std.proofs.lemmas.List.{at_drop_more, drop_all, get_or_at, take_at, length_push}
 use Rattle.std.proofs.lemmas.List.Sums.{AllPass-from_list_all}
 use Rattle.std.specs.List.{list_all}
-use Rattle.teco.specs.Stream.{asked_by, counted, counted_by, times}
+use Rattle.teco.specs.Stream.{asked_by, undos_or_redos, undos_or_redos_in, times}
 use Rattle.teco_core.specs.Number.{is_digit, digits_value}
 
 is_digit-bounds : (d : ℕ) → is_digit d ≡ true → (48 ≤ d) × (d ≤ 57)
@@ -28,14 +28,14 @@ times-some [] l = absurd (omega arith)
 times-some (d ∷ ds) l = refl
 
 -- bytes that end in this one
-pub counted-push : (ds : List ℕ) (b : ℕ) → counted (ds ++ b ∷ []) ≡ counted_by ds b
-counted-push ds b =
+pub undos_or_redos-push : (ds : List ℕ) (b : ℕ) → undos_or_redos (ds ++ b ∷ []) ≡ undos_or_redos_in ds b
+undos_or_redos-push ds b =
     let last : length (ds ++ b ∷ []) - 1 ≡ length ds = omega (arith, length_push ds b) in
-    ap (λ n. counted_by (take n (ds ++ b ∷ [])) (get_or (ds ++ b ∷ []) n 0)) last
-    ∙ ap (λ l. counted_by l (get_or (ds ++ b ∷ []) (length ds) 0)) (take_at ds (b ∷ []) (length ds) refl)
-    ∙ ap (counted_by ds) (get_or_at ds b [] 0 (length ds) refl)
+    ap (λ n. undos_or_redos_in (take n (ds ++ b ∷ [])) (get_or (ds ++ b ∷ []) n 0)) last
+    ∙ ap (λ l. undos_or_redos_in l (get_or (ds ++ b ∷ []) (length ds) 0)) (take_at ds (b ∷ []) (length ds) refl)
+    ∙ ap (undos_or_redos_in ds) (get_or_at ds b [] 0 (length ds) refl)
 
-pub counted-digits : (bs ds : List ℕ) (b : ℕ) → bs ≡ ds ++ b ∷ [] → length ds ≤ 9 → list_all is_digit ds ≡ true → counted bs ≡ asked_by b (times ds)
-counted-digits bs ds b e few digits =
+pub undos_or_redos-digits : (bs ds : List ℕ) (b : ℕ) → bs ≡ ds ++ b ∷ [] → length ds ≤ 9 → list_all is_digit ds ≡ true → undos_or_redos bs ≡ asked_by b (times ds)
+undos_or_redos-digits bs ds b e few digits =
     let few_test : leb (length ds) 9 ≡ true = grind (arith, nat_tests) in
-    ap counted e ∙ counted-push ds b ∙ rw (few_test, digits) refl
+    ap undos_or_redos e ∙ undos_or_redos-push ds b ∙ rw (few_test, digits) refl

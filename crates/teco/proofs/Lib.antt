@@ -1,6 +1,7 @@
 pub mod Counts
-pub mod Readings
 pub mod Pieces
+pub mod Showing
+pub mod Exchanges
 pub mod Servings
 pub mod Texts
 pub mod CommandLines

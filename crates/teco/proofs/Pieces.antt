@@ -53,8 +53,8 @@ unfolding pieces_at
 reads_last room at bs n some is =
     let first = first_piece bs [] room some in
     let front : take n bs ≡ take room bs = rw (is) (take_min room bs) in
-    let behind : drop n bs ≡ drop room bs = rw (is) (drop_min room bs) in
-    record { given = front ∙ sym first.0; left = ap (λ x. before_others x []) behind ∙ sym first.1 }
+    let dropped : drop n bs ≡ drop room bs = rw (is) (drop_min room bs) in
+    record { given = front ∙ sym first.0; left = ap (λ x. before_others x []) dropped ∙ sym first.1 }
 
 -- The bytes up to a cut are the first piece; those of it that are read leave the rest before the others.
 module _ (room at cut : ℕ) (cuts bs : List ℕ) (n : ℕ) (some : 0 < length bs) (past : at < cut) (is : n ≡ min room (min (cut - at) (length bs))) where
@@ -82,8 +82,8 @@ module _ (room at cut : ℕ) (cuts bs : List ℕ) (n : ℕ) (some : 0 < length b
   unfolding p
   front = ap (take n) (sym (take-append-drop (cut - at) bs)) ∙ take-append-le n (take (cut - at) bs) (drop (cut - at) bs) (omega (arith, size, n_is)) ∙ ap (λ k. take k p) n_is ∙ take_min room p
 
-  behind : drop n p ≡ drop room p
-  behind = ap (λ k. drop k p) n_is ∙ drop_min room p
+  dropped : drop n p ≡ drop room p
+  dropped = ap (λ k. drop k p) n_is ∙ drop_min room p
 
   -- the whole piece was read
   whole : cut ≤ at + n → pieces_at (at + n) (drop n bs) (cut ∷ cuts) ≡ before_others (drop room p) others
@@ -105,7 +105,7 @@ module _ (room at cut : ℕ) (cuts bs : List ℕ) (n : ℕ) (some : 0 < length b
       let sum : n + k ≡ cut - at = omega (arith, before) in
       cut_ends (at + n) cut cuts (drop n bs) (lt-leb cut (at + n) before)
       ∙ ap (λ x. before_others (take k (drop n bs)) (pieces_at cut x cuts)) (drop-drop k n bs ∙ ap (λ j. drop j bs) sum)
-      ∙ ap (λ x. before_others x others) (sym (drop-take n k bs) ∙ ap (λ j. drop n (take j bs)) sum ∙ behind)
+      ∙ ap (λ x. before_others x others) (sym (drop-take n k bs) ∙ ap (λ j. drop n (take j bs)) sum ∙ dropped)
 
   rest : (read_up : Bool) → nat_le cut (at + n) ≡ read_up → pieces_at (at + n) (drop n bs) (cut ∷ cuts) ≡ before_others (drop room p) others
   rest true e = whole (leb-true cut (at + n) e)

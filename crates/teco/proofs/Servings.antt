@@ -1,137 +1,77 @@
--- Lemmas on turns and on servings.
-use Rattle.std.proofs.Common.{◌≡◌, ℕ, suc, ◌+◌, ◌-◌, ◌<◌, List, [], ◌∷◌, ◌++◌, map, Bool, true, false, ◌&&◌, not, if◌then◌else◌, Option, Some, refl, sym, ap, ◌∙◌, arith, subst, append-nil, append_assoc, length-append}
-use Rattle.std.specs.Bool.{MatchBool}
+-- Lemmas on exchanges one after another, and on servings.
+use Rattle.std.proofs.Common.{◌≡◌, ℕ, ◌+◌, List, [], ◌∷◌, ◌++◌, map, Bool, true, false, Option, Some, refl, sym, ap, ◌∙◌, arith, subst, append-nil, append_assoc, length-append, true≢false, inl, inr}
 use Rattle.std.proofs.KnownBytes.{Consumes-nil, Consumes-trans}
-use Rattle.teco_step.specs.Terminal.{Screen, Shows, IsFrontOf, count_after}
-use Rattle.teco_step.proofs.Shown.{Shows-trans}
-use Rattle.teco_session.specs.History.{History, present}
-use Rattle.teco_session.specs.Step.{Reply}
+use Rattle.teco_step.specs.Terminal.{count_after}
+use Rattle.teco_session.specs.History.{History}
 use Rattle.teco.specs.Source.{Gives}
-use Rattle.teco.specs.Message.{replies_shown, message, star}
-use Rattle.teco.specs.Turn.{MoveStep, Moves, is_refused, is_run, Turn, turn_shown, exits}
+use Rattle.teco.specs.Message.{star}
+use Rattle.teco.specs.Exchange.{BreaksOff, Exchange, exchange_shown, exits}
 use Rattle.teco.specs.Stream.{Asks, asks_of, requests, texts_of}
-use Rattle.teco.specs.Serving.{Turns, GoOn, asked_in, turns_shown, is_read_fault, AreFirstOf, Ends}
-use Rattle.teco.specs.Held.{IsTurn, TurnEnds, HeldEnds, CutsOff}
+use Rattle.teco.specs.Serving.{AreFirstOf, Exchanges, Exits, FailsToShow, GoOn, Shown, all_shown, asked_in, exchanges_shown, is_read_fault, is_read_out}
+use Rattle.teco.specs.Held.{IsExchange, ExchangeEnds, HeldEnds, CutsOff}
 use Rattle.teco.specs.Cut.{AsksFirst, value_of}
 use Rattle.teco.specs.declared.splitter.Asked.{Asked}
 use Rattle.teco.specs.declared.served.Served.{Served}
 use Rattle.teco.specs.declared.served.Served.TheVariants.{Exit, EndOfCommands, ReadFault, ShowFault, NoMemory}
-use Rattle.teco.specs.declared.turn.Move.{Move}
+use Rattle.teco.proofs.Showing.{BreaksOff-after, BreaksOff-first, Joins}
 
-pub front-longer : (front xs ys : List ℕ) → IsFrontOf front xs → IsFrontOf front (xs ++ ys)
-front-longer front xs ys p = (p.0 ++ ys, ap (λ l. l ++ ys) p.1 ∙ append_assoc front p.0 ys)
+-- one exchange more
+pub Exchanges-more : (limit : ℕ) (old mid new : History) (exchanges : List Exchange) (exchange : Exchange) (asked : Asks) → Exchanges limit old exchanges mid → IsExchange limit asked mid new exchange → Exchanges limit old (exchanges ++ exchange ∷ []) new
+Exchanges-more limit old mid new [] exchange asked p t = (t.before_is ∙ p, t.does, sym t.after_is)
+Exchanges-more limit old mid new (u ∷ us) exchange asked p t = (p.0, p.1, Exchanges-more limit u.after mid new us exchange asked p.2 t)
 
-pub front-after : (xs front ys : List ℕ) → IsFrontOf front ys → IsFrontOf (xs ++ front) (xs ++ ys)
-front-after xs front ys p = (p.0, ap (λ l. xs ++ l) p.1 ∙ sym (append_assoc xs front p.0))
+pub Exchanges-append : (limit : ℕ) (old mid new : History) (xs ys : List Exchange) → Exchanges limit old xs mid → Exchanges limit mid ys new → Exchanges limit old (xs ++ ys) new
+Exchanges-append limit old mid new [] ys p q = subst (λ h. Exchanges limit h ys new) p q
+Exchanges-append limit old mid new (x ∷ xs) ys p q = (p.0, p.1, Exchanges-append limit x.after mid new xs ys p.2 q)
 
--- one move that isn't refused, and then the others
-pub Moves-on : (kind : Move) (n : ℕ) (old mid new : History) (reply : Reply) (rest : List Reply) → MoveStep kind old reply.answer reply.typed mid → is_refused reply.answer ≡ false
-    → Moves kind n mid rest new → Moves kind (suc n) old (reply ∷ rest) new
-Moves-on kind n old mid new reply rest m f p = (mid, m, subst (λ b. MatchBool b ((rest ≡ []) × (new ≡ mid)) (Moves kind n mid rest new)) (sym f) p)
-
--- one move that is refused
-pub Moves-refused : (kind : Move) (n : ℕ) (old new : History) (reply : Reply) → MoveStep kind old reply.answer reply.typed new → is_refused reply.answer ≡ true
-    → Moves kind (suc n) old (reply ∷ []) new
-Moves-refused kind n old new reply m t = let nothing : ◌≡◌ {A = List Reply} [] [] = refl in let same : new ≡ new = refl in (new, m, subst (λ b. MatchBool b ((◌≡◌ {A = List Reply} [] []) × (new ≡ new)) (Moves kind n new [] new)) (sym t) (nothing, same))
-
-pub replies_shown-append : (xs ys : List Reply) → replies_shown (xs ++ ys) ≡ replies_shown xs ++ replies_shown ys
-replies_shown-append [] ys = refl
-replies_shown-append (x ∷ xs) ys = ap (λ l. (x.typed ++ message x.answer) ++ l) (replies_shown-append xs ys) ∙ sym (append_assoc (x.typed ++ message x.answer) (replies_shown xs) (replies_shown ys))
-
-pub less_one : (n i : ℕ) → i < n → n - i ≡ suc (n - (i + 1))
-less_one n i h = omega arith
-
--- after replies that say nothing, one with no typed bytes
-pub replies_shown-one : (replies : List Reply) (reply : Reply) → replies_shown replies ≡ [] → reply.typed ≡ [] → replies_shown (replies ++ reply ∷ []) ≡ message reply.answer
-replies_shown-one replies reply e f =
-    replies_shown-append replies (reply ∷ []) ∙ ap (λ l. l ++ replies_shown (reply ∷ [])) e ∙ append-nil (reply.typed ++ message reply.answer) ∙ ap (λ l. l ++ message reply.answer) f
-
-pub shown_exit : (prompt : Bool) (turn : Turn) → exits turn ≡ true → turn_shown prompt turn ≡ replies_shown turn.replies
-shown_exit prompt turn e = ap (λ b. replies_shown turn.replies ++ (if b then [] else star prompt)) e ∙ append-nil (replies_shown turn.replies)
-
-pub shown_on : (prompt : Bool) (turn : Turn) → exits turn ≡ false → turn_shown prompt turn ≡ replies_shown turn.replies ++ star prompt
-shown_on prompt turn e = ap (λ b. replies_shown turn.replies ++ (if b then [] else star prompt)) e
-
--- what the code tests is whether the turn ends the serving
-pub exits_from : (turn : Turn) (result was_done is_done : Bool) → result ≡ (is_run turn.asked && (not was_done && is_done))
-    → was_done ≡ (present turn.before).is_done → is_done ≡ (present turn.after).is_done → result ≡ exits turn
-exits_from turn result was_done is_done e was now = e ∙ rw (was, now) refl
-
--- one turn more
-pub Turns-more : (limit : ℕ) (old mid new : History) (turns : List Turn) (turn : Turn) (asked : Asks) → Turns limit old turns mid → IsTurn limit asked mid new turn → Turns limit old (turns ++ turn ∷ []) new
-Turns-more limit old mid new [] turn asked p t = (t.before_is ∙ p, t.does, sym t.after_is)
-Turns-more limit old mid new (u ∷ us) turn asked p t = (p.0, p.1, Turns-more limit u.after mid new us turn asked p.2 t)
-
-pub Turns-append : (limit : ℕ) (old mid new : History) (xs ys : List Turn) → Turns limit old xs mid → Turns limit mid ys new → Turns limit old (xs ++ ys) new
-Turns-append limit old mid new [] ys p q = subst (λ h. Turns limit h ys new) p q
-Turns-append limit old mid new (x ∷ xs) ys p q = (p.0, p.1, Turns-append limit x.after mid new xs ys p.2 q)
-
-pub GoOn-append : (xs ys : List Turn) → GoOn xs → GoOn ys → GoOn (xs ++ ys)
+pub GoOn-append : (xs ys : List Exchange) → GoOn xs → GoOn ys → GoOn (xs ++ ys)
 GoOn-append [] ys p q = q
 GoOn-append (x ∷ xs) ys p q = (p.0, GoOn-append xs ys p.1 q)
 
-pub turns_shown-append : (prompt : Bool) (xs ys : List Turn) → turns_shown prompt (xs ++ ys) ≡ turns_shown prompt xs ++ turns_shown prompt ys
-turns_shown-append prompt [] ys = refl
-turns_shown-append prompt (x ∷ xs) ys = ap (λ l. turn_shown prompt x ++ l) (turns_shown-append prompt xs ys) ∙ sym (append_assoc (turn_shown prompt x) (turns_shown prompt xs) (turns_shown prompt ys))
+pub exchanges_shown-append : (prompt : Bool) (xs ys : List Exchange) → exchanges_shown prompt (xs ++ ys) ≡ exchanges_shown prompt xs ++ exchanges_shown prompt ys
+exchanges_shown-append prompt [] ys = refl
+exchanges_shown-append prompt (x ∷ xs) ys = ap (λ l. exchange_shown prompt x ++ l) (exchanges_shown-append prompt xs ys) ∙ sym (append_assoc (exchange_shown prompt x) (exchanges_shown prompt xs) (exchanges_shown prompt ys))
 
-pub turns_shown-one : (prompt : Bool) (xs : List Turn) (y : Turn) → turns_shown prompt (xs ++ y ∷ []) ≡ turns_shown prompt xs ++ turn_shown prompt y
-turns_shown-one prompt xs y = turns_shown-append prompt xs (y ∷ []) ∙ ap (λ l. turns_shown prompt xs ++ l) (append-nil (turn_shown prompt y))
+pub exchanges_shown-one : (prompt : Bool) (xs : List Exchange) (y : Exchange) → exchanges_shown prompt (xs ++ y ∷ []) ≡ exchanges_shown prompt xs ++ exchange_shown prompt y
+exchanges_shown-one prompt xs y = exchanges_shown-append prompt xs (y ∷ []) ∙ ap (λ l. exchanges_shown prompt xs ++ l) (append-nil (exchange_shown prompt y))
 
-pub asked_in-append : (xs ys : List Turn) → asked_in (xs ++ ys) ≡ asked_in xs ++ asked_in ys
+pub asked_in-append : (xs ys : List Exchange) → asked_in (xs ++ ys) ≡ asked_in xs ++ asked_in ys
 asked_in-append [] ys = refl
 asked_in-append (x ∷ xs) ys = ap (λ l. x.asked ∷ l) (asked_in-append xs ys)
 
-pub CutsOff-append : (bytes mid held : List ℕ) (xs ys : List Turn) → CutsOff bytes xs mid → CutsOff mid ys held → CutsOff bytes (xs ++ ys) held
+pub CutsOff-append : (bytes mid held : List ℕ) (xs ys : List Exchange) → CutsOff bytes xs mid → CutsOff mid ys held → CutsOff bytes (xs ++ ys) held
 CutsOff-append bytes mid held xs ys p q = record {
   asks = λ more.
       p.asks more ∙ ap (λ l. asked_in xs ++ l) (q.asks more) ∙ sym (append_assoc (asked_in xs) (asked_in ys) (requests (held ++ more))) ∙ ap (λ l. l ++ requests (held ++ more)) (sym (asked_in-append xs ys));
 }
 
 -- a text is cut off
-pub CutsOff-cut : (old held : List ℕ) (turn : Turn) (asked : Asked) → AsksFirst old (Some asked) held → turn.asked ≡ value_of asked → CutsOff old (turn ∷ []) held
-CutsOff-cut old held turn asked first e = record { asks = λ more. first more ∙ ap (λ x. x ∷ requests (held ++ more)) (sym e) }
+pub CutsOff-cut : (old held : List ℕ) (exchange : Exchange) (asked : Asked) → AsksFirst old (Some asked) held → exchange.asked ≡ value_of asked → CutsOff old (exchange ∷ []) held
+CutsOff-cut old held exchange asked first e = record { asks = λ more. first more ∙ ap (λ x. x ∷ requests (held ++ more)) (sym e) }
 
 -- a piece is fed
-pub CutsOff-fed : (bytes held piece new : List ℕ) (turns : List Turn) → CutsOff bytes turns held → new ≡ held ++ piece → CutsOff (bytes ++ piece) turns new
-CutsOff-fed bytes held piece new turns p e = record {
+pub CutsOff-fed : (bytes held piece new : List ℕ) (exchanges : List Exchange) → CutsOff bytes exchanges held → new ≡ held ++ piece → CutsOff (bytes ++ piece) exchanges new
+CutsOff-fed bytes held piece new exchanges p e = record {
   asks = λ more.
-      ap requests (append_assoc bytes piece more) ∙ p.asks (piece ++ more) ∙ ap (λ l. asked_in turns ++ requests l) (sym (append_assoc held piece more)) ∙ ap (λ l. asked_in turns ++ requests (l ++ more)) (sym e);
+      ap requests (append_assoc bytes piece more) ∙ p.asks (piece ++ more) ∙ ap (λ l. asked_in exchanges ++ requests l) (sym (append_assoc held piece more)) ∙ ap (λ l. asked_in exchanges ++ requests (l ++ more)) (sym e);
 }
 
 pub CutsOff-none : (held : List ℕ) → held ≡ [] → CutsOff [] [] held
 CutsOff-none held e = record { asks = λ more. ap (λ l. requests (l ++ more)) (sym e) }
 
-pub CutsOff-first : (bytes held : List ℕ) (turns : List Turn) → CutsOff bytes turns held → AreFirstOf turns bytes
-CutsOff-first bytes held turns p = (requests (held ++ []), ap requests (sym (append-nil bytes)) ∙ p.asks [])
+pub CutsOff-first : (bytes held : List ℕ) (exchanges : List Exchange) → CutsOff bytes exchanges held → AreFirstOf exchanges bytes
+CutsOff-first bytes held exchanges p = (requests (held ++ []), ap requests (sym (append-nil bytes)) ∙ p.asks [])
 
-pub CutsOff-all : (bytes held : List ℕ) (turns : List Turn) → CutsOff bytes turns held → texts_of held ≡ [] → requests bytes ≡ asked_in turns
-CutsOff-all bytes held turns p none =
-    ap requests (sym (append-nil bytes)) ∙ p.asks [] ∙ ap (λ l. asked_in turns ++ requests l) (append-nil held) ∙ ap (λ l. asked_in turns ++ map asks_of l) none ∙ append-nil (asked_in turns)
+pub CutsOff-all : (bytes held : List ℕ) (exchanges : List Exchange) → CutsOff bytes exchanges held → texts_of held ≡ [] → requests bytes ≡ asked_in exchanges
+CutsOff-all bytes held exchanges p none =
+    ap requests (sym (append-nil bytes)) ∙ p.asks [] ∙ ap (λ l. asked_in exchanges ++ requests l) (append-nil held) ∙ ap (λ l. asked_in exchanges ++ map asks_of l) none ∙ append-nil (asked_in exchanges)
 
--- after turns that went on, one that did or didn't
-pub HeldEnds-one : (old mid new : Screen) (prompt : Bool) (turns : List Turn) (turn : Turn) (served : Served)
-    → GoOn turns → Shows old mid (turns_shown prompt turns) false → TurnEnds mid new prompt turn (Some served)
-    → HeldEnds old new prompt (turns ++ turn ∷ []) (Some served)
-HeldEnds-one old mid new prompt turns turn Exit go p t =
-    (turns, turn, record { parts = refl; going = go }, t.0, subst (λ l. Shows old new l false) (sym (turns_shown-one prompt turns turn)) (Shows-trans p t.1))
-HeldEnds-one old mid new prompt turns turn EndOfCommands go p t = t
-HeldEnds-one old mid new prompt turns turn ReadFault go p t = t
-HeldEnds-one old mid new prompt turns turn ShowFault go p t = (
-  turns,
-  turn,
-  record { parts = refl; going = go },
-  turns_shown prompt turns ++ t.0,
-  subst (λ l. IsFrontOf (turns_shown prompt turns ++ t.0) l) (sym (turns_shown-one prompt turns turn)) (front-after (turns_shown prompt turns) t.0 (turn_shown prompt turn) t.1),
-  Shows-trans p t.2,
-)
-HeldEnds-one old mid new prompt turns turn NoMemory go p t = absurd t
-
--- a turn for a text that is cut off
-pub turn_more : (limit : ℕ) (start mid new : History) (h0 h1 h2 : List ℕ) (turns : List Turn) (turn : Turn) (asked : Asked)
-    → Turns limit start turns mid → CutsOff h0 turns h1 → AsksFirst h1 (Some asked) h2 → IsTurn limit (value_of asked) mid new turn
-    → Turns limit start (turns ++ turn ∷ []) new × CutsOff h0 (turns ++ turn ∷ []) h2
-turn_more limit start mid new h0 h1 h2 turns turn asked p q first t =
-    (Turns-more limit start mid new turns turn (value_of asked) p t, CutsOff-append h0 h1 h2 turns (turn ∷ []) q (CutsOff-cut h1 h2 turn asked first t.asked_is))
+-- a exchange for a text that is cut off
+pub exchange_more : (limit : ℕ) (start mid new : History) (h0 h1 h2 : List ℕ) (exchanges : List Exchange) (exchange : Exchange) (asked : Asked)
+    → Exchanges limit start exchanges mid → CutsOff h0 exchanges h1 → AsksFirst h1 (Some asked) h2 → IsExchange limit (value_of asked) mid new exchange
+    → Exchanges limit start (exchanges ++ exchange ∷ []) new × CutsOff h0 (exchanges ++ exchange ∷ []) h2
+exchange_more limit start mid new h0 h1 h2 exchanges exchange asked p q first t =
+    (Exchanges-more limit start mid new exchanges exchange (value_of asked) p t, CutsOff-append h0 h1 h2 exchanges (exchange ∷ []) q (CutsOff-cut h1 h2 exchange asked first t.asked_is))
 
 pub Gives-nil : {S : Type 0} (coming : S → Option (List ℕ)) (bound : S → ℕ) (failures : S → ℕ) (s : S) → Gives coming bound failures s s [] false
 Gives-nil coming bound failures s = record { given = Consumes-nil (coming s); less = omega arith; count = refl }
@@ -144,41 +84,61 @@ Gives-more {xs} {ys} {failed} p q = record {
   count = q.count ∙ ap (count_after failed) p.count;
 }
 
-joined : (prompt : Bool) (xs ys : List Turn) → (star prompt ++ turns_shown prompt xs) ++ turns_shown prompt ys ≡ star prompt ++ turns_shown prompt (xs ++ ys)
-joined prompt xs ys = append_assoc (star prompt) (turns_shown prompt xs) (turns_shown prompt ys) ∙ ap (λ l. star prompt ++ l) (sym (turns_shown-append prompt xs ys))
+joined : (prompt : Bool) (xs ys : List Exchange) → all_shown prompt xs ++ exchanges_shown prompt ys ≡ all_shown prompt (xs ++ ys)
+joined prompt xs ys = append_assoc (star prompt) (exchanges_shown prompt xs) (exchanges_shown prompt ys) ∙ ap (λ l. star prompt ++ l) (sym (exchanges_shown-append prompt xs ys))
 
-pub shows_on : (old mid new : Screen) (prompt : Bool) (xs ys : List Turn)
-    → Shows old mid (star prompt ++ turns_shown prompt xs) false → Shows mid new (turns_shown prompt ys) false
-    → Shows old new (star prompt ++ turns_shown prompt (xs ++ ys)) false
-shows_on old mid new prompt xs ys p q = subst (λ l. Shows old new l false) (joined prompt xs ys) (Shows-trans p q)
+module _ (first second whole : List ℕ → Bool → Type 0) (joins : Joins first second whole) (prompt : Bool) (xs : List Exchange) (going : GoOn xs) where
+  -- after exchanges that went on, one more
+  pub exchange_shows : (x : Exchange) → first (exchanges_shown prompt xs) false → second (exchange_shown prompt x) false → whole (exchanges_shown prompt (xs ++ x ∷ [])) false
+  exchange_shows x p q = subst (λ l. whole l false) (sym (exchanges_shown-one prompt xs x)) (joins.more (exchanges_shown prompt xs) (exchange_shown prompt x) false p q)
 
--- the serving ends as the turns of the last piece ended
-pub ends_from : (old mid new : Screen) (ended prompt : Bool) (bytes : List ℕ) (xs ys : List Turn) (served : Served)
-    → GoOn xs → Shows old mid (star prompt ++ turns_shown prompt xs) false → HeldEnds mid new prompt ys (Some served)
-    → (is_read_fault served ≡ false) × Ends old new ended prompt bytes (xs ++ ys) served
-ends_from old mid new ended prompt bytes xs ys Exit go p s = (
-  refl,
-  (
-    xs ++ s.0,
-    s.1,
-    record { parts = ap (λ l. xs ++ l) s.2.parts ∙ sym (append_assoc xs s.0 (s.1 ∷ [])); going = GoOn-append xs s.0 go s.2.going },
-    s.3,
-    shows_on old mid new prompt xs ys p s.4,
-  ),
-)
-ends_from old mid new ended prompt bytes xs ys EndOfCommands go p s = absurd s
-ends_from old mid new ended prompt bytes xs ys ReadFault go p s = absurd s
-ends_from old mid new ended prompt bytes xs ys ShowFault go p s = (
-  refl,
-  (
-    xs ++ s.0,
-    s.1 ∷ [],
-    ap (λ l. xs ++ l) s.2.parts ∙ sym (append_assoc xs s.0 (s.1 ∷ [])),
-    GoOn-append xs s.0 go s.2.going,
-    omega arith,
-    (star prompt ++ turns_shown prompt xs) ++ s.3,
-    subst (λ l. IsFrontOf ((star prompt ++ turns_shown prompt xs) ++ s.3) l) (joined prompt xs ys) (front-after (star prompt ++ turns_shown prompt xs) s.3 (turns_shown prompt ys) s.4),
-    Shows-trans p s.5,
-  ),
-)
-ends_from old mid new ended prompt bytes xs ys NoMemory go p s = (refl, (GoOn-append xs ys go s.0, shows_on old mid new prompt xs ys p s.1))
+  -- one that ended the serving
+  pub HeldEnds-one : (x : Exchange) (served : Served) → first (exchanges_shown prompt xs) false → ExchangeEnds second prompt x (Some served) → HeldEnds whole prompt (xs ++ x ∷ []) (Some served)
+  HeldEnds-one x Exit p e = (xs, x, record { parts = refl; going = going }, e.0, exchange_shows x p e.1)
+  HeldEnds-one x EndOfCommands p e = e
+  HeldEnds-one x ReadFault p e = e
+  HeldEnds-one x ShowFault p e = (xs, x, record { parts = refl; going = going }, e.0, BreaksOff-first first second whole joins (exchanges_shown prompt xs) (exchange_shown prompt x) p e.1)
+  HeldEnds-one x NoMemory p e = absurd e
+
+  -- after all that was shown before, what the exchanges of the last piece show
+  pub held_shows : (ys : List Exchange) → first (all_shown prompt xs) false → second (exchanges_shown prompt ys) false → whole (all_shown prompt (xs ++ ys)) false
+  held_shows ys p q = subst (λ l. whole l false) (joined prompt xs ys) (joins.more (all_shown prompt xs) (exchanges_shown prompt ys) false p q)
+
+  -- the serving ends as the exchanges of the last piece ended
+  pub record EndsSo (exchanges : List Exchange) (served : Served) : Type 0 where
+    pub read : is_read_fault served ≡ false
+    pub all : is_read_out served ≡ true → ⊥
+    pub ended : served ≡ EndOfCommands → ⊥
+    pub exit : Exits served exchanges
+    pub shown : Shown whole prompt exchanges served
+
+  pub ends_from : (ys : List Exchange) (served : Served) → first (all_shown prompt xs) false → HeldEnds second prompt ys (Some served) → EndsSo (xs ++ ys) served
+  ends_from ys Exit p s = record {
+    read = refl;
+    all = λ e. true≢false (sym e);
+    ended = λ e. cc;
+    exit = (xs ++ s.0, s.1, record { parts = ap (λ l. xs ++ l) s.2.parts ∙ sym (append_assoc xs s.0 (s.1 ∷ [])); going = GoOn-append xs s.0 going s.2.going }, s.3);
+    shown = held_shows ys p s.4;
+  }
+  ends_from ys EndOfCommands p s = absurd s
+  ends_from ys ReadFault p s = absurd s
+  ends_from ys ShowFault p s = record {
+    read = refl;
+    all = λ e. true≢false (sym e);
+    ended = λ e. cc;
+    exit = GoOn-append xs ys going (subst GoOn (sym s.2.parts) (GoOn-append s.0 (s.1 ∷ []) s.2.going (s.3, tt)));
+    shown = record {
+      before = all_shown prompt (xs ++ s.0);
+      last = exchange_shown prompt s.1;
+      parts = inr (xs ++ s.0, s.1, ap (λ l. xs ++ l) s.2.parts ∙ sym (append_assoc xs s.0 (s.1 ∷ [])), refl, refl);
+      breaks = subst (λ l. BreaksOff whole l (exchange_shown prompt s.1)) (joined prompt xs s.0)
+          (BreaksOff-after first second whole joins (all_shown prompt xs) (exchanges_shown prompt s.0) (exchange_shown prompt s.1) p s.4);
+    };
+  }
+  ends_from ys NoMemory p s = record {
+    read = refl;
+    all = λ e. true≢false (sym e);
+    ended = λ e. cc;
+    exit = GoOn-append xs ys going s.0;
+    shown = held_shows ys p s.1;
+  }

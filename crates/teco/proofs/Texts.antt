@@ -30,7 +30,7 @@ texts_from-held held (u ∷ us) more e = elim (cases_Bool (u == 27 && ends_in_es
 pub texts_of-more : (xs : List ℕ) (b : ℕ) → texts_of xs ≡ [] → (b == 27 && ends_in_escape xs) ≡ false → texts_of (xs ++ b ∷ []) ≡ []
 texts_of-more xs b e f = texts_from-held [] xs (b ∷ []) e ∙ texts_from-on xs b [] f
 
--- a text and the ESC behind it, however the stream goes on
+-- a text and the ESC after it, however the stream goes on
 pub texts_of-text : (text more : List ℕ) → IsText text → texts_of (text ++ 27 ∷ more) ≡ text ∷ texts_of more
 texts_of-text text more t = texts_from-held [] text (27 ∷ more) t.no_pair ∙ texts_from-pair text 27 more t.ends
 

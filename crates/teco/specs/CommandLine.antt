@@ -1,12 +1,11 @@
 -- What the command line says: teco [--limit N] [--output FILE] [--prompt] INPUT.
-use Rattle.std.specs.Prelude.{◌≡◌, List, [], ◌∷◌, Some, IsTrue, ◌↔◌, codes, true, false, option_map, ⊤}
+use Rattle.std.specs.Prelude.{◌≡◌, List, [], ◌∷◌, Some, IsTrue, ◌↔◌, codes, true, false, option_map, ⊤, ◌⊎◌, Result, Ok, Err}
 use Rattle.std.specs.String.{string_bytes}
 use Rattle.std.specs.Str.Parse.{digits_value, without_leading_plus}
 use Rattle.clap.specs.Words.{App, IsAmong, Rule, Text, fault_of, first_of, kind_of, matches_of, new_app, new_rule, one_of, takes, with_rule}
 use Rattle.clap.specs.declared.builder.action.ArgAction.TheVariants.{Set, SetTrue}
 use Rattle.clap.specs.declared.builder.value_parser.ValueParser.TheVariants as parser
 use Rattle.clap.specs.declared.error.Error.{Error}
-use Rattle.clap.specs.declared.error.kind.ErrorKind.{ErrorKind}
 use Rattle.clap.specs.declared.error.kind.ErrorKind.TheVariants as kind
 use Rattle.teco.specs.declared.line.Line.{Line}
 use Rattle.teco.specs.declared.line.LineFault.{LineFault}
@@ -63,15 +62,12 @@ pub record IsLine (words : List Text) (line : Line) : Type 0 where
   -- the flag
   pub prompt : IsTrue line.prompt ↔ (one_of (codes "prompt") (matches_of teco_app words) ≡ Some (codes "true"))
 
--- Why the words gave no line: there was no memory; or the parser does not take them, and its error is of a kind that these words have.
+-- Why the words gave no line: memory was refused; or the parser has an error, for want of memory of its own, or of a kind that these words have, which it does not take.
 abbrev pub IsLineFault : List Text → LineFault → Type 0
 IsLineFault words NoMemory = ⊤
-IsLineFault words (Refused error) = (takes teco_app words ≡ false) × IsAmong (kind_of error) (fault_of teco_app words)
+IsLineFault words (Refused error) = (kind_of error ≡ kind.OutOfMemory) ⊎ ((takes teco_app words ≡ false) × IsAmong (kind_of error) (fault_of teco_app words))
 
--- An error for want of memory is told as that, and each other as it is.
-abbrev pub line_fault_at : ErrorKind → Error → LineFault
-line_fault_at kind.OutOfMemory error = NoMemory
-line_fault_at _ error = Refused error
-
-abbrev pub line_fault_of : Error → LineFault
-line_fault_of error = line_fault_at (kind_of error) error
+-- The parser's error is told as it is, and a refusal of memory for it as that.
+abbrev pub fault_for : {E : Type 0} → Result Error E → LineFault
+fault_for (Ok error) = Refused error
+fault_for (Err refused) = NoMemory

@@ -3,7 +3,7 @@ pub mod Cut
 pub mod Source
 pub mod Pieces
 pub mod Message
-pub mod Turn
+pub mod Exchange
 pub mod Serving
 pub mod Held
 pub mod Ending

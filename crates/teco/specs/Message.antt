@@ -3,7 +3,7 @@ use Rattle.std.specs.Prelude.{ℕ, List, [], ◌∷◌, ◌++◌, Option, Some, 
 use Rattle.std.specs.List.{flat_map}
 use Rattle.teco_core.specs.Code.{letters_of}
 use Rattle.teco_core.specs.declared.code.Code.{Code}
-use Rattle.teco_session.specs.Answers.{code_of}
+use Rattle.teco_session.specs.Answers.{answer_code}
 use Rattle.teco_session.specs.Step.{Reply}
 use Rattle.teco_session.specs.declared.request.Answer.{Answer}
 
@@ -11,13 +11,13 @@ use Rattle.teco_session.specs.declared.request.Answer.{Answer}
 abbrev pub code_line : Code → List ℕ
 code_line code = 63 ∷ letters_of code ++ 13 ∷ 10 ∷ []
 
-abbrev pub line_of : Option Code → List ℕ
-line_of None = []
-line_of (Some code) = code_line code
+abbrev pub lines_of : Option Code → List ℕ
+lines_of None = []
+lines_of (Some code) = code_line code
 
 -- the message of an answer: the line of its code, if it has one
 unfoldable pub message : Answer → List ℕ
-message answer = line_of (code_of answer)
+message answer = lines_of (answer_code answer)
 
 -- what is shown of replies: of each its typed bytes, and then its message
 abbrev pub replies_shown : List Reply → List ℕ

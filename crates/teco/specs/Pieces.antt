@@ -5,7 +5,7 @@ use Rattle.std.specs.Prelude.{ℕ, ◌-◌, Bool, List, [], ◌∷◌, take, dro
 pub record Pieces : Type 0 where
   -- piece by piece, none of them empty
   pub pieces : List (List ℕ)
-  -- whether it fails behind the last, and does not end
+  -- whether it fails after the last, and does not end
   pub fails : Bool
   pub ended : Bool
   pub failures : ℕ

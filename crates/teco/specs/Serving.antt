@@ -1,47 +1,41 @@
--- Serving a stream: a turn for each text, and how it ends.
-use Rattle.std.specs.Prelude.{◌≡◌, ℕ, List, [], ◌∷◌, ◌++◌, ◌≤◌, length, map, Option, Bool, true, false}
+-- Serving a stream: an exchange for each text, and how it ends.
+use Rattle.std.specs.Prelude.{◌≡◌, ℕ, List, [], ◌∷◌, ◌++◌, ◌⊎◌, map, Bool, true, false}
 use Rattle.std.specs.List.{flat_map}
-use Rattle.teco_step.specs.Terminal.{Screen, Shows, IsFrontOf}
 use Rattle.teco_session.specs.History.{History}
 use Rattle.teco.specs.Stream.{Asks, requests}
 use Rattle.teco.specs.Message.{star}
-use Rattle.teco.specs.Turn.{Turn, Does, exits, turn_shown}
+use Rattle.teco.specs.Exchange.{Exchange, Does, BreaksOff, exits, exchange_shown}
 use Rattle.teco.specs.declared.served.Served.{Served}
 use Rattle.teco.specs.declared.served.Served.TheVariants.{Exit, EndOfCommands, ReadFault, ShowFault, NoMemory}
 
--- The turns lead, one after another, from the old history to the new one, and each did what it was asked.
-abbrev pub Turns : ℕ → History → List Turn → History → Type 0
-Turns limit old [] new = new ≡ old
-Turns limit old (turn ∷ turns) new = (turn.before ≡ old) × Does limit turn.asked turn.before turn.replies turn.after × Turns limit turn.after turns new
+-- The exchanges lead, one after another, from the old history to the new one, and each did what it was asked.
+abbrev pub Exchanges : ℕ → History → List Exchange → History → Type 0
+Exchanges limit old [] new = new ≡ old
+Exchanges limit old (x ∷ xs) new = (x.before ≡ old) × Does limit x.asked x.before x.replies x.after × Exchanges limit x.after xs new
 
--- none of the turns ends the serving
-abbrev pub GoOn : List Turn → Type 0
+-- none of the exchanges ends the serving
+abbrev pub GoOn : List Exchange → Type 0
 GoOn [] = Unit {0}
-GoOn (turn ∷ turns) = (exits turn ≡ false) × GoOn turns
+GoOn (x ∷ xs) = (exits x ≡ false) × GoOn xs
 
--- The turns are these and one more, and none of these ends the serving.
-pub record EndsBy (turns before : List Turn) (last : Turn) : Type 0 where
-  pub parts : turns ≡ before ++ last ∷ []
+-- The exchanges are these and one more, and none of these ends the serving.
+pub record EndsBy (exchanges before : List Exchange) (last : Exchange) : Type 0 where
+  pub parts : exchanges ≡ before ++ last ∷ []
   pub going : GoOn before
 
-abbrev pub asked_in : List Turn → List Asks
-asked_in turns = map (λ turn. turn.asked) turns
+abbrev pub asked_in : List Exchange → List Asks
+asked_in exchanges = map (λ x. x.asked) exchanges
 
-abbrev pub turns_shown : Bool → List Turn → List ℕ
-turns_shown prompt turns = flat_map (turn_shown prompt) turns
+abbrev pub exchanges_shown : Bool → List Exchange → List ℕ
+exchanges_shown prompt exchanges = flat_map (exchange_shown prompt) exchanges
 
--- what is shown in all: a star at the beginning, and what each turn shows
-abbrev pub all_shown : Bool → List Turn → List ℕ
-all_shown prompt turns = star prompt ++ turns_shown prompt turns
+-- what is shown in all: a star at the beginning, and what each exchange shows
+abbrev pub all_shown : Bool → List Exchange → List ℕ
+all_shown prompt exchanges = star prompt ++ exchanges_shown prompt exchanges
 
--- The turns are for the first texts of the bytes.
-abbrev pub AreFirstOf : List Turn → List ℕ → Type 0
-AreFirstOf turns bytes = (rest : List Asks) × (requests bytes ≡ asked_in turns ++ rest)
-
--- All that the bytes ask was done, and none of it ended the serving.
-pub record AllDone (turns : List Turn) (bytes : List ℕ) : Type 0 where
-  pub all : requests bytes ≡ asked_in turns
-  pub going : GoOn turns
+-- The exchanges are for the first texts of the bytes.
+abbrev pub AreFirstOf : List Exchange → List ℕ → Type 0
+AreFirstOf exchanges bytes = (rest : List Asks) × (requests bytes ≡ asked_in exchanges ++ rest)
 
 abbrev pub is_read_fault : Served → Bool
 is_read_fault ReadFault = true
@@ -50,17 +44,58 @@ is_read_fault EndOfCommands = false
 is_read_fault ShowFault = false
 is_read_fault NoMemory = false
 
--- How a serving of these bytes may end after these turns: what the terminal showed, and whether it failed. `ended` says if the source has ended.
-abbrev pub Ends : Screen → Screen → Bool → Bool → List ℕ → List Turn → Served → Type 0
--- The last turn made the session done.
-Ends old new ended prompt bytes turns Exit = (before : List Turn) × (last : Turn) × EndsBy turns before last × (exits last ≡ true)
-    × Shows old new (all_shown prompt turns) false
--- The source has ended.
-Ends old new ended prompt bytes turns EndOfCommands = AllDone turns bytes × (ended ≡ true) × Shows old new (all_shown prompt turns) false
--- A read failed, after all that came before it was done.
-Ends old new ended prompt bytes turns ReadFault = AllDone turns bytes × Shows old new (all_shown prompt turns) false
--- A put failed, of the first star or in the last turn; nothing was shown after it.
-Ends old new ended prompt bytes turns ShowFault = (before : List Turn) × (last : List Turn) × (turns ≡ before ++ last) × GoOn before × (length last ≤ 1)
-    × (front : List ℕ) × IsFrontOf front (all_shown prompt turns) × Shows old new front true
--- The splitter was refused.
-Ends old new ended prompt bytes turns NoMemory = GoOn turns × Shows old new (all_shown prompt turns) false
+-- The serving went on until nothing more could be read.
+abbrev pub is_read_out : Served → Bool
+is_read_out EndOfCommands = true
+is_read_out ReadFault = true
+is_read_out Exit = false
+is_read_out ShowFault = false
+is_read_out NoMemory = false
+
+-- It ended by an exit where the last exchange is one, and no other way: no exchange before is one, and without an exit none is.
+abbrev pub Exits : Served → List Exchange → Type 0
+Exits Exit exchanges = (before : List Exchange) × (last : Exchange) × EndsBy exchanges before last × (exits last ≡ true)
+Exits EndOfCommands exchanges = GoOn exchanges
+Exits ReadFault exchanges = GoOn exchanges
+Exits ShowFault exchanges = GoOn exchanges
+Exits NoMemory exchanges = GoOn exchanges
+
+-- These bytes are the last to be shown, and those all before them: where nothing was done yet, the first star; else what the last exchange shows.
+abbrev pub AreLast : Bool → List Exchange → List ℕ → List ℕ → Type 0
+AreLast prompt exchanges before last =
+    ((exchanges ≡ []) × (before ≡ []) × (last ≡ star prompt))
+    ⊎ ((xs : List Exchange) × (x : Exchange) × (exchanges ≡ xs ++ x ∷ []) × (before ≡ all_shown prompt xs) × (last ≡ exchange_shown prompt x))
+
+-- The last to be shown was not: nothing is done after the put that failed.
+pub record FailsToShow (showed : List ℕ → Bool → Type 0) (prompt : Bool) (exchanges : List Exchange) : Type 0 where
+  pub before : List ℕ
+  pub last : List ℕ
+  pub parts : AreLast prompt exchanges before last
+  pub breaks : BreaksOff showed before last
+
+-- A put failed only where the serving ended by that; else all is shown.
+abbrev pub Shown : (List ℕ → Bool → Type 0) → Bool → List Exchange → Served → Type 0
+Shown showed prompt exchanges ShowFault = FailsToShow showed prompt exchanges
+Shown showed prompt exchanges Exit = showed (all_shown prompt exchanges) false
+Shown showed prompt exchanges EndOfCommands = showed (all_shown prompt exchanges) false
+Shown showed prompt exchanges ReadFault = showed (all_shown prompt exchanges) false
+Shown showed prompt exchanges NoMemory = showed (all_shown prompt exchanges) false
+
+-- What serving a stream does, under a limit for each string, with a prompt or without.
+-- `gave` says which bytes the source gave, and whether a read failed; `at_end` that it has ended; `showed` which bytes the terminal showed, and whether it failed.
+pub record Serves (limit : ℕ) (prompt : Bool) (gave : List ℕ → Bool → Type 0) (at_end : Type 0) (showed : List ℕ → Bool → Type 0) (old new : History) (served : Served) : Type 0 where
+  -- what was read; a read failed only where the serving ended by that
+  pub bytes : List ℕ
+  pub read : gave bytes (is_read_fault served)
+  -- what was done: a beginning of what those bytes ask,
+  pub exchanges : List Exchange
+  pub done : Exchanges limit old exchanges new
+  pub first : AreFirstOf exchanges bytes
+  -- and all of it where nothing more could be read
+  pub all : is_read_out served ≡ true → requests bytes ≡ asked_in exchanges
+  -- the end of commands is the end of the source
+  pub ended : served ≡ EndOfCommands → at_end
+  -- it ends by an exit exactly after the run that made the session done
+  pub exit : Exits served exchanges
+  -- what was shown
+  pub shown : Shown showed prompt exchanges served

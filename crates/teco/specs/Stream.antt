@@ -51,20 +51,20 @@ abbrev pub asked_by : ℕ → ℕ → Option Asks
 asked_by brace n = if brace == 123 then Some (Undo n) else if brace == 125 then Some (Redo n) else None
 
 -- at most 9 digits before the brace
-abbrev pub counted_by : List ℕ → ℕ → Option Asks
-counted_by digits brace = if nat_le (length digits) 9 && list_all is_digit digits then asked_by brace (times digits) else None
+abbrev pub undos_or_redos_in : List ℕ → ℕ → Option Asks
+undos_or_redos_in digits brace = if nat_le (length digits) 9 && list_all is_digit digits then asked_by brace (times digits) else None
 
 -- what the bytes ask, if they are a brace after at most 9 digits and nothing else
-abbrev pub counted : List ℕ → Option Asks
-counted bytes = let last = length bytes - 1 in counted_by (take last bytes) (slice_index bytes last)
+abbrev pub undos_or_redos : List ℕ → Option Asks
+undos_or_redos bytes = let last = length bytes - 1 in undos_or_redos_in (take last bytes) (slice_index bytes last)
 
 abbrev pub or_run : List ℕ → Option Asks → Asks
 or_run text None = Run text
 or_run text (Some asks) = asks
 
--- A text asks undos or redos where it is counted, without its ESC and without the fillers at either end; else it asks to be run, as it is.
+-- A text asks undos or redos where it is digits and a brace, without its ESC and without the fillers at either end; else it asks to be run, as it is.
 abbrev pub asks_of : List ℕ → Asks
-asks_of text = or_run text (counted (without_fillers (take (length text - 1) text)))
+asks_of text = or_run text (undos_or_redos (without_fillers (take (length text - 1) text)))
 
 -- what a stream asks
 abbrev pub requests : List ℕ → List Asks

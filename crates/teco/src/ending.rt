@@ -33,7 +33,7 @@ fn status(fate: Fate) -> u8
     }
 }
 
-/// A line about a file, whose name stands between two texts.
+/// A line about a file, whose name comes between two texts.
 fn said_of(alloc: Global, before: &str, name: &str, after: &str) -> Result<String, NoMemory>
     ensures { IfOk result (λ text. string_bytes text ≡ said (before.now ++ name.now ++ after.now)) }
 {

@@ -1,14 +1,18 @@
 //! The program's command line.
-ghost use Rattle.std.specs.Prelude.{◌≡◌, ◌≤◌, IfErr, IfOk, false, map};
+ghost use Rattle.clap.specs.Words.{app_of, kind_of, rule_of};
+ghost use Rattle.std.specs.IoError.{error_kind};
+ghost use Rattle.std.specs.Prelude.{◌≡◌, ◌≢◌, ◌≤◌, IfErr, IfOk, false, map};
 ghost use Rattle.std.specs.String.{string_bytes};
-ghost use Rattle.clap.specs.Words.{app_of, rule_of};
-ghost use Rattle.teco.specs.CommandLine.{IsLine, IsLineFault, limit_rule, teco_app};
+ghost use Rattle.std.specs.declared.io.ErrorKind.TheVariants as io_kind;
+ghost use Rattle.teco.specs.CommandLine.{IsLine, IsLineFault, fault_for, limit_rule, teco_app};
 ghost use Rattle.teco.specs.Ending.{output_of};
 
 use clap::error::ErrorKind;
 use clap::{Arg, ArgAction, Command};
 use std::alloc::Global;
+use std::io;
 use teco_core::NoMemory;
+use thiserror::Error;
 
 /// The most steps that a command string may be given.
 pub const MOST_STEPS: u64 = 1_000_000_000_000;
@@ -27,11 +31,13 @@ pub struct Line {
 }
 
 /// Why there is no [`Line`].
-#[derive(Debug, Drop)]
+#[derive(Debug, Drop, Error)]
 pub enum LineFault {
-    /// The parser's text: what is wrong with the line, or the help that it asks for.
+    /// The line is faulty, or the parser found no memory: the parser's text, or the help that the line asks for.
+    #[error("{0}")]
     Refused(clap::Error),
-    /// The parser found no memory.
+    /// Memory was refused, and not to the parser.
+    #[error("no memory")]
     NoMemory,
 }
 
@@ -46,15 +52,12 @@ impl From<NoMemory> for LineFault {
 }
 
 impl From<clap::Error> for LineFault {
-    ghost use Rattle.teco.specs.CommandLine.{line_fault_of};
+    ghost use Rattle.teco.specs.declared.line.LineFault.TheVariants.{Refused as refused};
 
-    ghost from_gives = { λ error fault. fault ≡ line_fault_of error };
+    ghost from_gives = { λ error fault. fault ≡ refused error };
 
     fn from(error: clap::Error) -> LineFault {
-        match error.kind() {
-            ErrorKind::OutOfMemory => LineFault::NoMemory,
-            _ => LineFault::Refused(error),
-        }
+        LineFault::Refused(error)
     }
 }
 
@@ -111,6 +114,35 @@ pub fn line_of(alloc: Global, words: &[String]) -> Result<Line, LineFault>
         limit,
         prompt: matches.get_one::<bool>("prompt").unwrap_or(false),
     })
+}
+
+/// The parser's error for an argument that is not UTF-8.
+pub fn not_text(alloc: Global) -> Result<clap::Error, NoMemory>
+    ensures { IfOk result (λ error. kind_of error ≡ ErrorKind.InvalidValue) }
+{
+    command(alloc)?.error(ErrorKind::InvalidValue, "an argument is not UTF-8 text")
+}
+
+/// Why there are no words: memory was refused to copy them; or one of them is not UTF-8, and the line is faulty.
+pub fn fault_of_words(error: io::Error, not_text: Result<clap::Error, NoMemory>) -> LineFault
+    ensures memory { error_kind error ≡ io_kind.OutOfMemory → result ≡ LineFault.NoMemory }
+    ensures other { error_kind error ≢ io_kind.OutOfMemory → result ≡ fault_for not_text }
+{
+    if error.kind() == io::ErrorKind::OutOfMemory {
+        return LineFault::NoMemory;
+    }
+    match not_text {
+        Ok(error) => LineFault::Refused(error),
+        Err(NoMemory) => LineFault::NoMemory,
+    }
+}
+
+/// The status of a refused line: 3, or 0 where it asks for the help.
+pub fn refused_status(error: &clap::Error) -> u8
+    ensures help { kind_of error.now ≡ ErrorKind.DisplayHelp → result ≡ 0 }
+    ensures fault { kind_of error.now ≢ ErrorKind.DisplayHelp → kind_of error.now ≢ ErrorKind.DisplayVersion → result ≡ 3 }
+{
+    if error.use_stderr() { 3 } else { 0 }
 }
 
 /// The name of the output file: the one given, or the input's followed by `.out`.

@@ -6,6 +6,7 @@ ghost use Rattle.std.specs.Prelude.{◌≡◌, ◌≢◌, ◌≤◌, IfOk, vec_l
 ghost use Rattle.teco_store.specs.State.{file_limit};
 
 mod ending;
+mod exchange;
 mod line;
 mod memory_source;
 mod reader_source;
@@ -13,10 +14,9 @@ mod served;
 mod serving;
 mod source;
 mod splitter;
-mod turn;
 
 use crate::ending::{Fate, ending};
-use crate::line::{Line, LineFault, line_of, output_name};
+use crate::line::{Line, LineFault, fault_of_words, line_of, not_text, output_name, refused_status};
 use crate::reader_source::ReaderSource;
 use crate::served::Served;
 use crate::serving::serve;
@@ -90,8 +90,9 @@ fn run(rt: &HostRuntime, line: &Line) -> Fate {
 
 /// The line that the program was called with.
 fn line_given(rt: &HostRuntime) -> Result<Line, LineFault> {
-    let Ok(words) = std::env::args(rt) else {
-        return Err(LineFault::NoMemory);
+    let words = match std::env::args(rt) {
+        Ok(words) => words,
+        Err(error) => return Err(fault_of_words(error, not_text(rt.alloc()))),
     };
     let words: Vec<String> = words.collect(rt.alloc())?;
     line_of(rt.alloc(), words.as_slice())
@@ -113,7 +114,7 @@ fn main(rt: HostRuntime) -> ExitCode {
         Err(LineFault::NoMemory) => return no_memory(&rt),
         Err(LineFault::Refused(error)) => {
             let _ = error.print(&rt);
-            return ExitCode::from(if error.use_stderr() { 3 } else { 0 });
+            return ExitCode::from(refused_status(&error));
         }
     };
     match conclusion(&rt, &line) {

@@ -1,14 +1,15 @@
 //! Serving a stream of commands.
-ghost use Rattle.std.specs.Prelude.{◌≡◌, ℕ, List};
+ghost use Rattle.std.specs.Prelude.{List};
+ghost use Rattle.teco.specs.Exchange.{Exchange};
 ghost use Rattle.teco.specs.Held.{CutsOff, Emptied, HeldEnds};
-ghost use Rattle.teco.specs.Serving.{AreFirstOf, Ends, Turns, is_read_fault};
-ghost use Rattle.teco.specs.Source.{Gives};
-ghost use Rattle.teco.specs.Turn.{Turn};
+ghost use Rattle.teco.specs.Serving.{Exchanges, Serves};
+ghost use Rattle.teco.specs.Source.{Gives, HasEnded};
+ghost use Rattle.teco_step.specs.Terminal.{Shows};
 
+use crate::exchange::{do_exchange, show_prompt};
 use crate::served::Served;
 use crate::source::{Source, SourceFault};
 use crate::splitter::Splitter;
-use crate::turn::{do_turn, show_prompt};
 use std::alloc::Global;
 use teco_session::Session;
 use teco_step::{Terminal, TerminalFault};
@@ -24,15 +25,15 @@ fn serve_held<T: Terminal>(
     prompt: bool,
     term: &mut T,
 ) -> Option<Served>
-    ensures { (turns : List Turn) × Turns limit session.old turns session.new × CutsOff splitter.old turns splitter.new
-        × Emptied result splitter.new × HeldEnds (T.screen term.old) (T.screen term.new) prompt turns result }
+    ensures { (exchanges : List Exchange) × Exchanges limit session.old exchanges session.new × CutsOff splitter.old exchanges splitter.new
+        × Emptied result splitter.new × HeldEnds (Shows (T.screen term.old) (T.screen term.new)) prompt exchanges result }
 {
     'held: loop {
         match splitter.next() {
             Err(_) => return Some(Served::NoMemory),
             Ok(None) => return None,
             Ok(Some(asked)) => {
-                if let Some(served) = do_turn(&asked, session, limit, prompt, term) {
+                if let Some(served) = do_exchange(&asked, session, limit, prompt, term) {
                     return Some(served);
                 }
             }
@@ -44,7 +45,7 @@ fn serve_held<T: Terminal>(
 /// each command string may take. With `prompt` a star asks for commands.
 ///
 /// However the source cuts its bytes, what is done is a beginning of what they ask, and all of it at the end of the stream and where
-/// a read fails. It ends where a run makes the session done, and at the first put that fails.
+/// a read fails. It ends where a run makes the session done, and at the first put that fails; nothing is done after that.
 pub fn serve<S: Source, T: Terminal>(
     alloc: Global,
     source: &mut S,
@@ -53,11 +54,11 @@ pub fn serve<S: Source, T: Terminal>(
     prompt: bool,
     term: &mut T,
 ) -> Served
-    // What was read; the turns, which are a beginning of what those bytes ask; how it ended, and what was shown.
-    ensures { (bytes : List ℕ) × (turns : List Turn)
-        × Gives S.coming S.bound S.failures source.old source.new bytes (is_read_fault result)
-        × AreFirstOf turns bytes × Turns limit session.old turns session.new
-        × Ends (T.screen term.old) (T.screen term.new) (S.ended source.new) prompt bytes turns result }
+    ensures { Serves limit prompt
+        (Gives S.coming S.bound S.failures source.old source.new)
+        (HasEnded (S.coming source.new) (S.ended source.new))
+        (Shows (T.screen term.old) (T.screen term.new))
+        session.old session.new result }
 {
     if let Err(TerminalFault) = show_prompt(prompt, term) {
         return Served::ShowFault;

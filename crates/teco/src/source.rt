@@ -1,7 +1,6 @@
 //! Where the commands come from.
-ghost use Rattle.std.specs.Io.KnownBytes.{IsAtEnd};
 ghost use Rattle.std.specs.Prelude.{◌≡◌, ◌≤◌, ◌<◌, ◌⊎◌, ℕ, List, Option, Bool, [], length, take, true, false, IfOk, OnErr};
-ghost use Rattle.teco.specs.Source.{Gives};
+ghost use Rattle.teco.specs.Source.{Gives, HasEnded};
 
 use thiserror::Error;
 
@@ -29,7 +28,7 @@ pub trait Source {
     fn read(&mut self, piece: &mut [u8]) -> Result<usize, SourceFault>
         ensures fits { IfOk result (λ n. n ≤ length piece.new) }
         ensures ok { IfOk result (λ n. Gives coming bound failures self.old self.new (take n piece.new) false) }
-        ensures ends { IfOk result (λ n. n ≡ 0 → 0 < length piece.new → (ended self.new ≡ true) × IsAtEnd (coming self.new)) }
+        ensures ends { IfOk result (λ n. n ≡ 0 → 0 < length piece.new → HasEnded (coming self.new) (ended self.new)) }
         ensures goes_on { IfOk result (λ n. (0 < n) ⊎ (length piece.new ≡ 0) → ended self.new ≡ ended self.old) }
         ensures err { OnErr result (Gives coming bound failures self.old self.new [] true × (ended self.new ≡ ended self.old)) };
 }

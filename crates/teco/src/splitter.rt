@@ -3,7 +3,7 @@ ghost use Rattle.std.specs.List.{list_all, prefix_len, suffix_len};
 ghost use Rattle.std.specs.Option.{option_map};
 ghost use Rattle.std.specs.Prelude.{◌≡◌, ℕ, ◌+◌, ◌-◌, ◌≤◌, ◌<◌, [], ◌++◌, length, take, drop, slice_index, vec_len, List, MatchOption, IfOk, OnOk, OnErr, IsTrue};
 ghost use Rattle.teco.specs.Cut.{AsksFirst, Cuts, IsHeld, value_of};
-ghost use Rattle.teco.specs.Stream.{IsText, asks_of, counted, ends_in_escape, is_filler, texts_of, times, without_fillers, without_fillers_after, without_fillers_before};
+ghost use Rattle.teco.specs.Stream.{IsText, asks_of, undos_or_redos, ends_in_escape, is_filler, texts_of, times, without_fillers, without_fillers_after, without_fillers_before};
 ghost use Rattle.teco_core.specs.Number.{is_digit};
 
 use std::alloc::Global;
@@ -78,8 +78,8 @@ fn times(digits: &[u8]) -> u32
 }
 
 /// The undos or redos that are asked by at most 9 digits and a brace.
-fn counted(bytes: &[u8]) -> Option<Asked>
-    ensures { option_map value_of result ≡ counted bytes.now }
+fn undos_or_redos(bytes: &[u8]) -> Option<Asked>
+    ensures { option_map value_of result ≡ undos_or_redos bytes.now }
 {
     let (brace, digits) = bytes.split_last()?;
     if digits.len() > 9 || !are_digits(digits) {
@@ -98,7 +98,7 @@ fn asked_in(alloc: Global, text: &[u8]) -> Result<Asked, NoMemory>
     ensures { IfOk result (λ asked. value_of asked ≡ asks_of text.now) }
 {
     let body = &text[..text.len() - 1];
-    match counted(before_fillers(after_fillers(body))) {
+    match undos_or_redos(before_fillers(after_fillers(body))) {
         Some(asked) => Ok(asked),
         None => Ok(Asked::Run(Vec::from_slice(alloc, text)?)),
     }

@@ -1,10 +1,10 @@
 -- Lemmas on histories and on lists of requests.
-use Rattle.std.proofs.Common.{◌≡◌, ℕ, zero, suc, ◌+◌, ◌<◌, ◌≤◌, List, [], ◌∷◌, ◌++◌, length, take, get_or, Option, refl, sym, ap, ◌∙◌, arith, subst, append-nil, append_assoc, length-append, length-take}
+use Rattle.std.proofs.Common.{◌≡◌, ℕ, zero, suc, ◌+◌, ◌<◌, ◌≤◌, List, [], ◌∷◌, ◌++◌, length, take, get_or, Option, refl, sym, ap, ◌∙◌, arith, add-one, subst, append-nil, append_assoc, length-append, length-take}
 use Rattle.std.proofs.KnownBytes.{Appends-trans, Appends-nil}
 use Rattle.teco_store.specs.State.{State, state_of}
 use Rattle.teco_exec.specs.StringMeaning.{string_meaning}
 use Rattle.teco_step.specs.Terminal.{Screen, Shows, count_after}
-use Rattle.teco_session.specs.History.{History, Note, state_after, present, AreMeant, IsHistory, noted}
+use Rattle.teco_session.specs.History.{History, NotedString, state_after, present, AreMeant, IsHistory, noted}
 use Rattle.teco_session.specs.Entries.{note_of, notes_of}
 use Rattle.teco_session.specs.Step.{Step, Reply, is_terminal_failure}
 use Rattle.teco_session.specs.Play.{Play, ShowsAll, typed_by, answers_of, failures_after}
@@ -18,15 +18,24 @@ state_after-entry first [] i d h = absurd (omega arith)
 state_after-entry first (e ∷ entries) zero d h = refl
 state_after-entry first (e ∷ entries) (suc i) d h = state_after-entry (state_of e.state) entries i d (omega arith)
 
+-- the state after a note that was put there
+state_after-noted : (first : State) (notes : List NotedString) (i : ℕ) (note : NotedString) → i ≤ length notes → state_after first (take i notes ++ note ∷ []) (suc i) ≡ note.state
+state_after-noted first notes zero note h = refl
+state_after-noted first [] (suc i) note h = absurd (omega arith)
+state_after-noted first (n ∷ notes) (suc i) note h = state_after-noted n.state notes i note (omega arith)
+
+pub present-noted : (h : History) (note : NotedString) → h.cursor ≤ length h.notes → present (noted h note) ≡ note.state
+present-noted h note within = ap (state_after h.first (take h.cursor h.notes ++ note ∷ [])) (add-one h.cursor) ∙ state_after-noted h.first h.notes h.cursor note within
+
 -- a note put where it is meant
-pub AreMeant-noted : (s : State) (notes : List Note) (i : ℕ) (note : Note) → AreMeant s notes → i ≤ length notes
+pub AreMeant-noted : (s : State) (notes : List NotedString) (i : ℕ) (note : NotedString) → AreMeant s notes → i ≤ length notes
     → note.state ≡ (string_meaning (state_after s notes i) note.text note.steps).state → AreMeant s (take i notes ++ note ∷ [])
 AreMeant-noted s notes zero note m h e = (e, tt)
 AreMeant-noted s [] (suc i) note m h e = absurd (omega arith)
 AreMeant-noted s (n ∷ notes) (suc i) note m h e = (m.0, AreMeant-noted n.state notes i note m.1 (omega arith) e)
 
 -- a history goes on by what a string left
-pub IsHistory-noted : (h : History) (note : Note) → IsHistory h → note.state ≡ (string_meaning (present h) note.text note.steps).state → IsHistory (noted h note)
+pub IsHistory-noted : (h : History) (note : NotedString) → IsHistory h → note.state ≡ (string_meaning (present h) note.text note.steps).state → IsHistory (noted h note)
 IsHistory-noted h note ok e = record {
   begins = ok.begins;
   states = AreMeant-noted h.first h.notes h.cursor note ok.states ok.within e;

@@ -1,7 +1,8 @@
 //! A session: command strings, undo and redo, with every whole state kept.
-ghost use Rattle.std.specs.Prelude.{◌≡◌, ℕ, List, [], ◌<◌, ◌≤◌, length, vec_len, IfOk, OnErr, OnOk, IsOk, ◌↔◌, false};
+ghost use Rattle.std.specs.Prelude.{◌≡◌, ℕ, List, [], ◌<◌, ◌≤◌, length, vec_len, None, IfOk, OnErr, OnOk, IsOk, ◌↔◌, true, false};
 ghost use Rattle.teco_store.specs.State.{state_of};
 ghost use Rattle.teco_step.specs.Terminal.{Shows};
+ghost use Rattle.teco_session.specs.Answers.{answer_code};
 ghost use Rattle.teco_session.specs.History.{IsHistory, new_history, present, undone, redone};
 ghost use Rattle.teco_session.specs.Step.{Step, RunStep, Reply, is_terminal_failure};
 ghost use Rattle.teco_session.specs.Play.{Play, ShowsAll, answers_of};
@@ -110,10 +111,11 @@ impl Session {
     /// Runs a command string under a limit of steps, and notes it, however it ends; strings that are undone are dropped.
     ///
     /// Where memory is refused for the history the answer is [`Answer::NotBegun`], and after an exit [`Answer::AfterExit`]: then
-    /// nothing has changed, and the undone strings are kept.
+    /// nothing has changed, and the undone strings are kept. A string that makes the session done ends with no code.
     pub fn run<T: Terminal>(&mut self, text: &[u8], limit: u64, term: &mut T) -> Answer
-        ensures { (typed : List ℕ) × RunStep limit self.old text.now result typed self.new
+        ensures step { (typed : List ℕ) × RunStep limit self.old text.now result typed self.new
             × Shows (T.screen term.old) (T.screen term.new) typed (is_terminal_failure result) }
+        ensures exit { (present self.old).is_done ≡ false → (present self.new).is_done ≡ true → answer_code result ≡ None }
     {
         if self.editor().done() {
             return Answer::AfterExit;

@@ -14,10 +14,18 @@ fn line_once(alloc: Global, words: &[&str]) -> Result<Line, LineFault> {
     line_of(alloc, words.as_slice())
 }
 
+/// Whether memory was refused, to the parser or to us.
+fn is_memory(fault: &LineFault) -> bool {
+    match fault {
+        LineFault::NoMemory => true,
+        LineFault::Refused(error) => error.kind() == ErrorKind::OutOfMemory,
+    }
+}
+
 /// What the words say; where memory was refused, what they say a second time.
 fn line(alloc: Global, words: &[&str]) -> Result<Line, LineFault> {
     match line_once(alloc, words) {
-        Err(LineFault::NoMemory) => line_once(alloc, words),
+        Err(fault) if is_memory(&fault) => line_once(alloc, words),
         other => other,
     }
 }
@@ -82,4 +90,21 @@ fn refuses_faulty_lines(rt: HostRuntime) {
     assert_eq!(rt; refused(alloc, &["teco", "--limit", "x", "in"]), Some(true));
     assert_eq!(rt; refused(alloc, &["teco", "--what", "in"]), Some(true));
     assert_eq!(rt; refused(alloc, &["teco", "--help"]), Some(false));
+}
+
+/// The status that an argument which is not UTF-8 leads to; none where memory was refused.
+fn status_without_text(alloc: Global) -> Option<u8> {
+    match fault_of_words(
+        io::Error::from(io::ErrorKind::InvalidData),
+        not_text(alloc),
+    ) {
+        LineFault::Refused(error) => Some(refused_status(&error)),
+        LineFault::NoMemory => None,
+    }
+}
+
+#[test]
+fn refuses_what_is_no_text(rt: HostRuntime) {
+    let status = status_without_text(rt.alloc()).or_else(|| status_without_text(rt.alloc()));
+    assert_eq!(rt; status, Some(3));
 }

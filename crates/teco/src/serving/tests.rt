@@ -1,9 +1,11 @@
 //! What is typed at streams of commands, and how serving them ends.
 use super::*;
 use crate::memory_source::MemorySource;
+use std::io;
+use std::io::Write;
 use std::process::Abort;
 use teco_core::{NoMemory, Reg};
-use teco_step::MemoryTerminal;
+use teco_step::{MemoryTerminal, WriterTerminal};
 use teco_store::Desk;
 
 /// A stream, where `$` is ESC, and what serving it over an empty input gives: what is typed, how it ends, the text, and the number
@@ -180,6 +182,14 @@ fn serves_programs(rt: HostRuntime) {
         plain_row("Ox$0<!x!>$$", "?TAG\r\n", ""),
         plain_row("0<?>1=$$", "?ILL\r\n", ""),
         plain_row("1=>2=$$", "1\r\n?BNI\r\n", ""),
+    ] {
+        holds(&rt, rt.alloc(), row);
+    }
+}
+
+#[test]
+fn serves_blocks(rt: HostRuntime) {
+    for row in [
         plain_row("1\"G2=|3='4=$$", "2\r\n4\r\n", ""),
         plain_row("0\"G2=|3='4=$$", "3\r\n4\r\n", ""),
         plain_row("3<Ix$>$$", "", "xxx"),
@@ -273,4 +283,54 @@ fn serves_up_to_the_failed_read(rt: HostRuntime) {
             || matches!(fails_alike(rt.alloc(), stream, read), Ok(true));
         assert!(rt; held, "after {read} bytes");
     }
+}
+
+/// A writer that takes nothing.
+#[derive(Drop)]
+struct Broken;
+
+impl Write for Broken {
+    fn write(&mut self, _bytes: &[u8]) -> io::Result<usize> {
+        Err(io::Error::from(io::ErrorKind::Other))
+    }
+
+    fn flush(&mut self) -> io::Result<()> {
+        Ok(())
+    }
+}
+
+/// How serving two strings in a piece each ends on a terminal that fails at once, how many strings it notes, and the bytes that are
+/// left to read.
+fn serve_broken(alloc: Global) -> Result<(Served, usize, Vec<u8>), NoMemory> {
+    let bytes = Vec::from_slice(alloc, b"1=\x1b\x1b2=\x1b\x1b")?;
+    let cuts = Vec::from_slice(alloc, &[4])?;
+    let mut source = MemorySource::new(bytes, cuts, false);
+    let mut session = Session::new(Vec::new(alloc));
+    let mut term = WriterTerminal::new(Broken);
+    let served = serve(alloc, &mut source, &mut session, 1000, false, &mut term);
+    let mut room = [0; 8];
+    let left = source.read(&mut room).unwrap_or(0).min(8);
+    Ok((
+        served,
+        session.strings(),
+        Vec::from_slice(alloc, &room[..left])?,
+    ))
+}
+
+fn stops_before_the_next_read(alloc: Global) -> bool {
+    match serve_broken(alloc) {
+        Ok((served, strings, left)) => {
+            served == Served::ShowFault
+                && strings == 1
+                && left.as_slice() == b"2=\x1b\x1b".as_slice()
+        }
+        Err(_) => false,
+    }
+}
+
+// Each request is done before the next read: where the first cannot be shown, the second piece is still to come.
+#[test]
+fn reads_no_further_than_it_shows(rt: HostRuntime) {
+    let held = stops_before_the_next_read(rt.alloc()) || stops_before_the_next_read(rt.alloc());
+    assert!(rt; held);
 }

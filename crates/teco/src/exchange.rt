@@ -1,0 +1,136 @@
+//! One text of the stream: what it asks is done, and the answers are shown.
+ghost use Rattle.std.specs.Prelude.{◌≡◌, ◌≢◌, ℕ, List, [], ◌&&◌, not, true, false, OnErr};
+ghost use Rattle.teco.specs.Cut.{value_of};
+ghost use Rattle.teco.specs.Exchange.{Does, Exchange, MovesCursor, Repeats, is_exit, is_run};
+ghost use Rattle.teco.specs.Held.{ExchangeEnds, IsExchange};
+ghost use Rattle.teco.specs.Message.{code_line, message, replies_shown, star};
+ghost use Rattle.teco.specs.Stream.Asks.{Run};
+ghost use Rattle.teco_session.specs.Step.{Reply};
+ghost use Rattle.teco_step.specs.Terminal.{Puts, Shows};
+
+use crate::served::Served;
+use crate::splitter::Asked;
+use teco_core::Code;
+use teco_session::{Answer, Request, Session};
+use teco_step::{Terminal, TerminalFault};
+use teco_store::Desk;
+
+/// The line that is shown of a code.
+fn code_line(code: Code) -> [u8; 6]
+    ensures { result ≡ code_line code }
+{
+    let [first, second, third] = code.letters();
+    [b'?', first, second, third, b'\r', b'\n']
+}
+
+/// Shows the message of an answer, if it has one.
+#[tactic(auto, unfolding(crate::specs::Message::message))]
+fn show_message<T: Terminal>(answer: Answer, term: &mut T) -> Result<(), TerminalFault>
+    ensures puts { Puts (T.screen term.old) (T.screen term.new) (message answer) result }
+    ensures some { OnErr result (message answer ≢ []) }
+{
+    match answer.code() {
+        None => Ok(()),
+        Some(code) => term.put(&code_line(code)),
+    }
+}
+
+/// Shows a star, if one is wanted.
+pub fn show_prompt<T: Terminal>(prompt: bool, term: &mut T) -> Result<(), TerminalFault>
+    ensures puts { Puts (T.screen term.old) (T.screen term.new) (star prompt) result }
+    ensures some { OnErr result (star prompt ≢ []) }
+{
+    if prompt { term.put(b"*") } else { Ok(()) }
+}
+
+/// Asks for an undo or a redo so many times, or up to the first that is refused, whose message is shown.
+fn repeat<T: Terminal>(
+    request: &Request,
+    n: u32,
+    session: &mut Session,
+    limit: u64,
+    term: &mut T,
+) -> Result<(), TerminalFault>
+    requires { MovesCursor request.now }
+    ensures { (replies : List Reply) × Repeats limit request.now n session.old replies session.new
+        × Puts (T.screen term.old) (T.screen term.new) (replies_shown replies) result
+        × OnErr result (replies_shown replies ≢ []) }
+{
+    'moves: for _i in 0..n {
+        let answer = session.answer(request, limit, term);
+        if answer.is_refused() {
+            return show_message(answer, term);
+        }
+    }
+    Ok(())
+}
+
+/// Runs a text, and shows the message of the answer.
+fn run_text<T: Terminal>(
+    text: &[u8],
+    session: &mut Session,
+    limit: u64,
+    term: &mut T,
+) -> Result<(), TerminalFault>
+    ensures done { (replies : List Reply) × Does limit (Run text.now) session.old replies session.new
+        × Puts (T.screen term.old) (T.screen term.new) (replies_shown replies) result
+        × OnErr result (replies_shown replies ≢ []) }
+    ensures err { OnErr result (is_exit (Run text.now) session.old session.new ≡ false) }
+{
+    let answer = session.run(text, limit, term);
+    if answer.is_terminal_failure() {
+        return Err(TerminalFault);
+    }
+    show_message(answer, term)
+}
+
+/// Does what a text asks, and shows the messages of the answers. No put follows one that failed, and none fails after an exit.
+fn do_asked<T: Terminal>(
+    asked: &Asked,
+    session: &mut Session,
+    limit: u64,
+    term: &mut T,
+) -> Result<(), TerminalFault>
+    ensures done { (replies : List Reply) × Does limit (value_of asked.now) session.old replies session.new
+        × Puts (T.screen term.old) (T.screen term.new) (replies_shown replies) result
+        × OnErr result (replies_shown replies ≢ []) }
+    ensures err { OnErr result (is_exit (value_of asked.now) session.old session.new ≡ false) }
+{
+    match asked {
+        Asked::Run(text) => run_text(text.as_slice(), session, limit, term),
+        Asked::Undo(n) => repeat(&Request::Undo, *n, session, limit, term),
+        Asked::Redo(n) => repeat(&Request::Redo, *n, session, limit, term),
+    }
+}
+
+/// Whether it was a run that made the session done.
+fn exits(asked: &Asked, was_done: bool, is_done: bool) -> bool
+    ensures { result ≡ (is_run (value_of asked.now) && (not was_done && is_done)) }
+{
+    matches!(asked, Asked::Run(_)) && !was_done && is_done
+}
+
+/// Does what a text asks, and shows what is shown of it, with a star unless it ends the serving; says how the serving ends, if it
+/// does.
+pub fn do_exchange<T: Terminal>(
+    asked: &Asked,
+    session: &mut Session,
+    limit: u64,
+    prompt: bool,
+    term: &mut T,
+) -> Option<Served>
+    ensures { (exchange : Exchange) × IsExchange limit (value_of asked.now) session.old session.new exchange
+        × ExchangeEnds (Shows (T.screen term.old) (T.screen term.new)) prompt exchange result }
+{
+    let was_done = session.editor().done();
+    if let Err(TerminalFault) = do_asked(asked, session, limit, term) {
+        return Some(Served::ShowFault);
+    }
+    if exits(asked, was_done, session.editor().done()) {
+        return Some(Served::Exit);
+    }
+    if let Err(TerminalFault) = show_prompt(prompt, term) {
+        return Some(Served::ShowFault);
+    }
+    None
+}
