@@ -45,12 +45,12 @@ abbrev ActionMayEnd : Bool → List ℕ → Action → Type 0
 ActionMayEnd inside name (goes make) = Unit {0}
 ActionMayEnd inside name (steers attempt) = (s : State) (a : Arguments) → AttemptMayEnd inside name (attempt s a)
 
-made_ends : (inside : Bool) (name : List ℕ) (m : Made) → AttemptMayEnd inside name (goes_on m)
-made_ends inside name (Ok c) = tt
-made_ends inside name (Err c) = tt
+made_ends : (inside : Bool) (name : List ℕ) (s : State) (m : Made) → AttemptMayEnd inside name (goes_on s m)
+made_ends inside name s (Ok c) = tt
+made_ends inside name s (Err c) = tt
 
 action_ends : (inside : Bool) (name : List ℕ) (f : Action) (s : State) (a : Arguments) → ActionMayEnd inside name f → AttemptMayEnd inside name (done_by f s a)
-action_ends inside name (goes make) s a h = made_ends inside name (make s a)
+action_ends inside name (goes make) s a h = made_ends inside name s (make s a)
 action_ends inside name (steers attempt) s a h = h s a
 
 -- one thing after another
@@ -103,7 +103,7 @@ go_names i w s a name is = sym (subst (λ (e : End). MayEnd w.inside (name_of i)
 pub never_again : (i : Item) (w : Setting) (s : State) (a : Arguments) (work : Work) → (effect i w s a).end ≡ again work → ⊥
 never_again i w s a work is = subst (λ (e : End). MayEnd w.inside (name_of i) e) is (effect_ends i w s a)
 
-change_goes_on : (s : State) (a : Arguments) (made : Made) → ((settled s a (goes_on made)).end ≡ on) ⊎ ((c : Code) × ((settled s a (goes_on made)).end ≡ stop c))
+change_goes_on : (s : State) (a : Arguments) (made : Made) → ((settled s a (goes_on s made)).end ≡ on) ⊎ ((c : Code) × ((settled s a (goes_on s made)).end ≡ stop c))
 change_goes_on s a (Ok change) = inl refl
 change_goes_on s a (Err c) = inr (c, refl)
 

@@ -79,7 +79,7 @@ Acts f s new a left before after (Err e) = IsUnacted (done_by f s a) s new a lef
 -- Bytes were typed.
 pub record IsTyped (attempt : Attempt) (s : State) (left : Arguments) (before after : Screen) (n : Next) : Type 0 where
   pub bytes : List ℕ
-  pub step : attempt ≡ goes_on (types s bytes)
+  pub step : attempt ≡ goes_on s (types s bytes)
   pub arguments : left ≡ no_arguments
   pub goes_on : n ≡ next.On
   pub shows : Shows before after bytes false
@@ -94,7 +94,7 @@ pub record IsUntyped (attempt : Attempt) (a left : Arguments) (before after : Sc
 pub record IsCutShort (attempt : Attempt) (s : State) (a left : Arguments) (before after : Screen) (f : Failure) : Type 0 where
   pub is : f ≡ failure.Terminal
   pub bytes : List ℕ
-  pub step : attempt ≡ goes_on (types s bytes)
+  pub step : attempt ≡ goes_on s (types s bytes)
   pub some : bytes ≢ []
   pub arguments : left ≡ a
   pub front : List ℕ

@@ -1,11 +1,11 @@
 -- What the effect of a token and what a terminal shows always say.
-use Rattle.std.specs.Prelude.{◌≡◌, List, [], ◌++◌, ℕ, Bool, true, false, ◌⊎◌}
+use Rattle.std.specs.Prelude.{◌≡◌, ◌≢◌, List, [], ◌++◌, ℕ, Bool, true, false, ◌⊎◌}
 use Rattle.teco_core.specs.declared.code.Code.{Code}
 use Rattle.teco_core.specs.Arguments.{Arguments}
 use Rattle.teco_scan.specs.Scan.{Item}
 use Rattle.teco_store.specs.State.{State}
 use Rattle.teco_step.specs.Effect.{effect}
-use Rattle.teco_step.specs.Step.{Setting, on, leave, go, again, stop}
+use Rattle.teco_step.specs.Step.{Setting, on, leave, go, again, out, stop}
 use Rattle.teco_step.specs.Stepping.{name_of, takes_nothing}
 use Rattle.teco_step.specs.Terminal.{Screen, Shows, IsFrontOf}
 use Rattle.teco_step.specs.declared.next.Work.{Work}
@@ -25,6 +25,10 @@ HasNoFurtherStep = (i : Item) (w : Setting) (s : State) (a : Arguments) (work : 
 -- After a value or arithmetic the string goes on, or ends by an error.
 abbrev pub ValueGoesOn : Type 0
 ValueGoesOn = (i : Item) (w : Setting) (s : State) (a : Arguments) → takes_nothing i ≡ true → ((effect i w s a).end ≡ on) ⊎ ((c : Code) × ((effect i w s a).end ≡ stop c))
+
+-- Only a step that ends by an exit makes a session done.
+abbrev pub OnlyExits : Type 0
+OnlyExits = (i : Item) (w : Setting) (s : State) (a : Arguments) → (effect i w s a).end ≢ out → (effect i w s a).state.is_done ≡ s.is_done
 
 -- A screen that is left alone shows nothing more.
 abbrev pub StillShows : Type 0

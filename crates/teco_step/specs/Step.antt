@@ -59,9 +59,10 @@ pub record Change : Type 0 where
 abbrev pub Made : Type 0
 Made = Result Change Code
 
-abbrev pub goes_on : Made → Attempt
-goes_on (Ok c) = Ok (record { state = c.state; arguments = c.arguments; typed = c.typed; load = c.load; end = on })
-goes_on (Err c) = Err c
+-- The string goes on. Only an exit makes a session done, so this leaves it as it was.
+abbrev pub goes_on : State → Made → Attempt
+goes_on s (Ok c) = Ok (record { state = record c.state { is_done = s.is_done }; arguments = c.arguments; typed = c.typed; load = c.load; end = on })
+goes_on s (Err c) = Err c
 
 -- What a token is to do: a change, after which the string goes on; or a step that ends as it says.
 pub data Action : Type 0 where
@@ -69,7 +70,7 @@ pub data Action : Type 0 where
   steers : (attempt : State → Arguments → Attempt) → Action
 
 abbrev pub done_by : Action → State → Arguments → Attempt
-done_by (goes make) s a = goes_on (make s a)
+done_by (goes make) s a = goes_on s (make s a)
 done_by (steers attempt) s a = attempt s a
 
 -- An edit: a new state, with the load of the change, and these arguments;

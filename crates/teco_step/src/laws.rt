@@ -1,5 +1,5 @@
 //! What the effect of a token and what a terminal shows always say.
-ghost use Rattle.teco_step.specs.Laws.{HasNoFurtherStep, JumpsToItsName, LeavesInside, ShowsMore, StillShows, ValueGoesOn};
+ghost use Rattle.teco_step.specs.Laws.{HasNoFurtherStep, JumpsToItsName, LeavesInside, OnlyExits, ShowsMore, StillShows, ValueGoesOn};
 
 /// How the step of a token may end. It does nothing: its clauses are laws.
 pub fn effect_laws()
@@ -7,6 +7,7 @@ pub fn effect_laws()
     ensures jump { JumpsToItsName }
     ensures further { HasNoFurtherStep }
     ensures value { ValueGoesOn }
+    ensures done { OnlyExits }
 {}
 
 /// What a terminal shows, one put after another. It does nothing: its clauses are laws.

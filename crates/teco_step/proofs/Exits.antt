@@ -1,0 +1,81 @@
+-- Only a step that ends by an exit makes a session done.
+use Rattle.std.proofs.Common.{◌≡◌, refl, ℕ, List, Result, Ok, Err, pos, Bool, true, false, cond}
+use Rattle.std.specs.Prelude.{◌≢◌, int_le}
+use Rattle.teco_core.specs.declared.code.Code.{Code}
+use Rattle.teco_core.specs.declared.code.Code.TheVariants as code
+use Rattle.teco_core.specs.Refusal.{◌>>=◌}
+use Rattle.teco_core.specs.Number.{truth}
+use Rattle.teco_core.specs.Arguments.{Arguments, no_arguments}
+use Rattle.teco_store.specs.State.{State}
+use Rattle.teco_scan.specs.declared.command.Bare.{Bare}
+use Rattle.teco_scan.specs.declared.command.Bare.TheVariants as bare
+use Rattle.teco_scan.specs.declared.command.Command.{Command}
+use Rattle.teco_scan.specs.declared.command.Command.TheVariants as command
+use Rattle.teco_scan.specs.declared.command.RegisterCommand.{RegisterCommand}
+use Rattle.teco_scan.specs.declared.command.RegisterCommand.TheVariants as register_command
+use Rattle.teco_scan.specs.declared.command.TextCommand.{TextCommand}
+use Rattle.teco_scan.specs.declared.command.TextCommand.TheVariants as text_command
+use Rattle.teco_scan.specs.Scan.{Item}
+use Rattle.teco_scan.specs.Scan as token
+use Rattle.teco_step.specs.Effect.{effect, command_effect, bare_effect, register_effect, text_effect, item_effect}
+use Rattle.teco_step.specs.Step.{Setting, Attempt, Made, Action, goes, steers, goes_on, done_by, on, leave, out, settled, ends, takes_none, takes_one_or}
+
+-- it left the session as done as it was, unless it ends by an exit
+abbrev Keeps : State → Attempt → Type 0
+Keeps s (Ok step) = step.end ≢ out → step.state.is_done ≡ s.is_done
+Keeps s (Err c) = Unit {0}
+
+-- An action after which the string goes on needs no word of its own here.
+abbrev ActionKeeps : Action → Type 0
+ActionKeeps (goes make) = Unit {0}
+ActionKeeps (steers attempt) = (s : State) (a : Arguments) → Keeps s (attempt s a)
+
+made_keeps : (s : State) (m : Made) → Keeps s (goes_on s m)
+made_keeps s (Ok c) = λ stays. refl
+made_keeps s (Err c) = tt
+
+action_keeps : (f : Action) (s : State) (a : Arguments) → ActionKeeps f → Keeps s (done_by f s a)
+action_keeps (goes make) s a h = made_keeps s (make s a)
+action_keeps (steers attempt) s a h = h s a
+
+-- one thing after another
+keeps_then : {A : Type 0} (s : State) (r : Result A Code) (f : A → Attempt) → ((x : A) → Keeps s (f x)) → Keeps s (r >>= f)
+keeps_then s (Ok x) f h = h x
+keeps_then s (Err c) f h = tt
+
+leave_keeps : (inside left : Bool) (s : State) → Keeps s (cond inside (ends s no_arguments (cond left leave on)) (Err code.Sni))
+leave_keeps true left s = λ stays. refl
+leave_keeps false left s = tt
+
+-- the actions that say how they end, as the effect dispatches them
+command_keeps : (c : Command) (w : Setting) → ActionKeeps (command_effect c w)
+command_keeps command.Leave w = λ s a.
+    keeps_then s (takes_one_or (truth s.last_found) a) (λ n. cond w.inside (ends s no_arguments (cond (int_le (pos 0) n) leave on)) (Err code.Sni))
+    (λ n. leave_keeps w.inside (int_le (pos 0) n) s)
+command_keeps _ w = tt
+
+bare_keeps : (b : Bare) (w : Setting) → ActionKeeps (bare_effect b w)
+bare_keeps (bare.Command c) w = command_keeps c w
+bare_keeps _ w = tt
+
+register_keeps : (c : RegisterCommand) (q : ℕ) (w : Setting) → ActionKeeps (register_effect c q w)
+register_keeps register_command.Macro q w = λ s a stays. refl
+register_keeps _ q w = tt
+
+text_keeps : (c : TextCommand) (text : List ℕ) (w : Setting) → ActionKeeps (text_effect c text w)
+text_keeps text_command.Go text w = λ s a. keeps_then s (takes_none a) _ (λ none stays. refl)
+text_keeps _ text w = tt
+
+item_keeps : (i : Item) (w : Setting) → ActionKeeps (item_effect i w)
+item_keeps (token.bare b) w = bare_keeps b w
+item_keeps (token.register c q) w = register_keeps c q w
+item_keeps (token.text c text) w = text_keeps c text w
+item_keeps _ w = tt
+
+settled_keeps : (t : Attempt) (s : State) (a : Arguments) → Keeps s t → (settled s a t).end ≢ out → (settled s a t).state.is_done ≡ s.is_done
+settled_keeps (Ok step) s a h = h
+settled_keeps (Err c) s a h = λ stays. refl
+
+pub only_exits : (i : Item) (w : Setting) (s : State) (a : Arguments) → (effect i w s a).end ≢ out → (effect i w s a).state.is_done ≡ s.is_done
+unfolding effect
+only_exits i w s a = settled_keeps (done_by (item_effect i w) s a) s a (action_keeps (item_effect i w) s a (item_keeps i w))
