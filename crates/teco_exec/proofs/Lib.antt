@@ -25,3 +25,4 @@ pub mod Stepped
 pub mod Seeking
 pub mod Calling
 pub mod Whole
+pub mod Exits

@@ -162,3 +162,7 @@ pub record ChangesNothing (s : State) (m : Meant) : Type 0 where
 
 abbrev pub ZeroLimitChangesNothing : Type 0
 ZeroLimitChangesNothing = (s : State) (text : List ℕ) → ChangesNothing s (string_meaning s text 0)
+
+-- A string that makes the session done ends with no code.
+abbrev pub ExitEndsWell : Type 0
+ExitEndsWell = (s : State) (text : List ℕ) (limit : ℕ) → s.is_done ≡ false → (string_meaning s text limit).state.is_done ≡ true → (string_meaning s text limit).code ≡ None

@@ -1,5 +1,5 @@
 //! What the meaning of command strings says, and the machine beside it.
-ghost use Rattle.teco_exec.specs.Laws.{MeaningUnrolls, EmptyListEnds, FaultStops, TagIsPassed, EscapeDrops, NothingWithoutFuel, StepEnds, StepGoesOn, StepStops, JumpLands, JumpLeaves, CallReturns, CallTooDeep, FurtherStep, IterationCounts, IterationGoesOn, TurnEnds, LeavingEnds, ConditionalChooses, StepsWithinLimit, MoreLimitChangesNothing, EnoughIsEnough, ZeroLimitChangesNothing};
+ghost use Rattle.teco_exec.specs.Laws.{MeaningUnrolls, EmptyListEnds, FaultStops, TagIsPassed, EscapeDrops, NothingWithoutFuel, StepEnds, StepGoesOn, StepStops, JumpLands, JumpLeaves, CallReturns, CallTooDeep, FurtherStep, IterationCounts, IterationGoesOn, TurnEnds, LeavingEnds, ConditionalChooses, StepsWithinLimit, MoreLimitChangesNothing, EnoughIsEnough, ZeroLimitChangesNothing, ExitEndsWell};
 ghost use Rattle.teco_exec.specs.MachineLaws.{MachineMeans, MachineFollows};
 ghost use Rattle.teco_exec.specs.Quiet.{QuietTextsArriveQuietly};
 
@@ -31,7 +31,9 @@ pub fn meaning_laws()
     ensures more_limit { MoreLimitChangesNothing }
     ensures enough { EnoughIsEnough }
     ensures limit_zero { ZeroLimitChangesNothing }
+    ensures exit { ExitEndsWell }
 {
+    effect_laws();
     machine_laws();
 }
 

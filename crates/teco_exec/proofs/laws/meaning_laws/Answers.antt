@@ -1,5 +1,6 @@
 use Rattle.teco_exec.proofs.Sentences as sentences
 use Rattle.teco_exec.proofs.Limits.{within_limit, more_limit, same_again, limit_zero}
+use Rattle.teco_exec.proofs.Exits.{exit_ends_well}
 use Rattle.teco_exec.proofs.laws.meaning_laws.Goals as goal
 
 pub returns : goal.returns
@@ -27,4 +28,5 @@ returns c = record {
   more_limit = more_limit c.machine_laws.ensures.means;
   enough = same_again c.machine_laws.ensures.means;
   limit_zero = limit_zero c.machine_laws.ensures.follows;
+  exit = exit_ends_well c.machine_laws.ensures.means c.effect_laws.ensures.done;
 }
