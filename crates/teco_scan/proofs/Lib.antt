@@ -20,3 +20,4 @@ pub mod SkipSteps
 pub mod ListFaults
 pub mod Written
 pub mod Determined
+pub mod FirstRow

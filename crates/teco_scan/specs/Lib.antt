@@ -1,5 +1,6 @@
 pub mod Scan
 pub mod Table
+pub mod FirstRow
 pub mod Spelling
 pub mod Seen
 pub mod Tree

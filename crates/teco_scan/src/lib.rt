@@ -3,8 +3,12 @@
 
 mod blocks;
 mod command;
+mod names;
+mod operand;
 mod scan;
 mod table;
+#[cfg(test)]
+mod tests;
 mod token;
 
 pub use blocks::{Kind, Stop, block_laws, find_tag, skip_block, skip_whole_block};

@@ -27,46 +27,87 @@ const ANY: Modifiers = Modifiers {
     colons: 2,
 };
 
+// A macro's call can't write a constant, but it can write a constant's value: so the commands are given to the macro of each value.
+macro_rules! commands {
+    ($value:ident $($byte:literal)*) => {
+        $value! {
+            [$($byte)*]
+            Three(b'=', b'=', b'='), ANY, Form::Refused;
+            Two(b'=', b'='), NONE, Form::Refused;
+            One(b'B'), NONE, Form::Bare(Bare::Quantity(Quantity::Beginning));
+            One(b'Z'), NONE, Form::Bare(Bare::Quantity(Quantity::End));
+            One(b'.'), NONE, Form::Bare(Bare::Quantity(Quantity::Pointer));
+            One(b'H'), NONE, Form::Bare(Bare::Arithmetic(Arithmetic::Whole));
+            One(b'+'), NONE, Form::Bare(Bare::Arithmetic(Arithmetic::Operator(Op::Plus)));
+            One(b'-'), NONE, Form::Bare(Bare::Arithmetic(Arithmetic::Operator(Op::Minus)));
+            One(b'*'), NONE, Form::Bare(Bare::Arithmetic(Arithmetic::Operator(Op::Times)));
+            One(b'/'), NONE, Form::Bare(Bare::Arithmetic(Arithmetic::Operator(Op::Over)));
+            One(b'J'), NONE, Form::Bare(Bare::Command(Command::Jump));
+            One(b'C'), NONE, Form::Bare(Bare::Command(Command::Forward));
+            One(b'R'), NONE, Form::Bare(Bare::Command(Command::Back));
+            One(b'L'), NONE, Form::Bare(Bare::Command(Command::Line));
+            One(b'D'), NONE, Form::Bare(Bare::Command(Command::Delete));
+            One(b'T'), NONE, Form::Bare(Bare::Command(Command::TypeOut));
+            One(b'='), NONE, Form::Bare(Bare::Command(Command::Print));
+            One(ESCAPE), NONE, Form::Escape;
+            One(b'Q'), COLON, Form::Register(RegisterCommand::Number);
+            One(b'%'), NONE, Form::Register(RegisterCommand::Increment);
+            One(b'U'), NONE, Form::Register(RegisterCommand::Set);
+            One(b'G'), COLON, Form::Register(RegisterCommand::Get);
+            Control(b'U'), AT, Form::SetText;
+            One(b'M'), NONE, Form::Register(RegisterCommand::Macro);
+            One(b'<'), NONE, Form::Mark(BlockMark::Iterate);
+            One(b'>'), NONE, Form::Mark(BlockMark::EndIteration);
+            One(b';'), NONE, Form::Bare(Bare::Command(Command::Leave));
+            One(b'"'), NONE, Form::Test;
+            One(b'|'), NONE, Form::Mark(BlockMark::Otherwise);
+            One(b'\''), NONE, Form::Mark(BlockMark::EndTest);
+            One(b'!'), NONE, Form::Tag;
+            One(b'O'), AT, Form::Text(TextCommand::Go, ESCAPE);
+            One(b'I'), AT, Form::Text(TextCommand::Insert, ESCAPE);
+            Control(b'A'), AT, Form::Text(TextCommand::TypeOut, 1);
+        }
+    };
+}
+
 macro_rules! rows {
-    ($($name:expr, $allows:expr, $form:expr;)*) => {
-        [$(Row { name: $name, allows: $allows, form: $form }),*]
+    ([] $($name:ident($($letter:expr),*), $allows:expr, $form:expr;)*) => {
+        [$(Row { name: Name::$name($($letter),*), allows: $allows, form: $form }),*]
     };
 }
 
 /// Every command but the run of digits. A longer name comes before one that begins it.
-pub const ROWS: [Row; 34] = rows! {
-    Name::Three(b'=', b'=', b'='), ANY, Form::Refused;
-    Name::Two(b'=', b'='), NONE, Form::Refused;
-    Name::One(b'B'), NONE, Form::Bare(Bare::Quantity(Quantity::Beginning));
-    Name::One(b'Z'), NONE, Form::Bare(Bare::Quantity(Quantity::End));
-    Name::One(b'.'), NONE, Form::Bare(Bare::Quantity(Quantity::Pointer));
-    Name::One(b'H'), NONE, Form::Bare(Bare::Arithmetic(Arithmetic::Whole));
-    Name::One(b'+'), NONE, Form::Bare(Bare::Arithmetic(Arithmetic::Operator(Op::Plus)));
-    Name::One(b'-'), NONE, Form::Bare(Bare::Arithmetic(Arithmetic::Operator(Op::Minus)));
-    Name::One(b'*'), NONE, Form::Bare(Bare::Arithmetic(Arithmetic::Operator(Op::Times)));
-    Name::One(b'/'), NONE, Form::Bare(Bare::Arithmetic(Arithmetic::Operator(Op::Over)));
-    Name::One(b'J'), NONE, Form::Bare(Bare::Command(Command::Jump));
-    Name::One(b'C'), NONE, Form::Bare(Bare::Command(Command::Forward));
-    Name::One(b'R'), NONE, Form::Bare(Bare::Command(Command::Back));
-    Name::One(b'L'), NONE, Form::Bare(Bare::Command(Command::Line));
-    Name::One(b'D'), NONE, Form::Bare(Bare::Command(Command::Delete));
-    Name::One(b'T'), NONE, Form::Bare(Bare::Command(Command::TypeOut));
-    Name::One(b'='), NONE, Form::Bare(Bare::Command(Command::Print));
-    Name::One(ESCAPE), NONE, Form::Escape;
-    Name::One(b'Q'), COLON, Form::Register(RegisterCommand::Number);
-    Name::One(b'%'), NONE, Form::Register(RegisterCommand::Increment);
-    Name::One(b'U'), NONE, Form::Register(RegisterCommand::Set);
-    Name::One(b'G'), COLON, Form::Register(RegisterCommand::Get);
-    Name::Control(b'U'), AT, Form::SetText;
-    Name::One(b'M'), NONE, Form::Register(RegisterCommand::Macro);
-    Name::One(b'<'), NONE, Form::Mark(BlockMark::Iterate);
-    Name::One(b'>'), NONE, Form::Mark(BlockMark::EndIteration);
-    Name::One(b';'), NONE, Form::Bare(Bare::Command(Command::Leave));
-    Name::One(b'"'), NONE, Form::Test;
-    Name::One(b'|'), NONE, Form::Mark(BlockMark::Otherwise);
-    Name::One(b'\''), NONE, Form::Mark(BlockMark::EndTest);
-    Name::One(b'!'), NONE, Form::Tag;
-    Name::One(b'O'), AT, Form::Text(TextCommand::Go, ESCAPE);
-    Name::One(b'I'), AT, Form::Text(TextCommand::Insert, ESCAPE);
-    Name::Control(b'A'), AT, Form::Text(TextCommand::TypeOut, 1);
-};
+pub const ROWS: [Row; 34] = commands!(rows);
+
+// The first row whose name may begin with the byte.
+macro_rules! first_row {
+    ($byte:literal []) => { 0 };
+    ($byte:literal [Control $letter:tt $($rest:tt)*]) => {
+        if $byte + 64 == $letter || $byte == b'^' { 0 } else { 1 + first_row!($byte [$($rest)*]) }
+    };
+    ($byte:literal [$name:ident $letter:tt $($rest:tt)*]) => {
+        if $byte == $letter { 0 } else { 1 + first_row!($byte [$($rest)*]) }
+    };
+}
+
+macro_rules! for_each {
+    ($rows:tt $($byte:literal)*) => { [$(first_row!($byte $rows)),*] };
+}
+
+macro_rules! first_rows {
+    ([$($byte:literal)*] $($name:ident($letter:tt $(, $more:expr)*), $allows:expr, $form:expr;)*) => {
+        for_each! { [$($name $letter)*] $($byte)* }
+    };
+}
+
+/// For each byte that is no small letter, in lines of 16, the first row whose name may begin with it, or the number of rows.
+pub(crate) const FIRST: [[u8; 16]; 8] = [
+    commands!(first_rows 0 1 2 3 4 5 6 7 8 9 10 11 12 13 14 15),
+    commands!(first_rows 16 17 18 19 20 21 22 23 24 25 26 27 28 29 30 31),
+    commands!(first_rows 32 33 34 35 36 37 38 39 40 41 42 43 44 45 46 47),
+    commands!(first_rows 48 49 50 51 52 53 54 55 56 57 58 59 60 61 62 63),
+    commands!(first_rows 64 65 66 67 68 69 70 71 72 73 74 75 76 77 78 79),
+    commands!(first_rows 80 81 82 83 84 85 86 87 88 89 90 91 92 93 94 95),
+    commands!(first_rows 96 97 98 99 100 101 102 103 104 105 106 107 108 109 110 111),
+    commands!(first_rows 112 113 114 115 116 117 118 119 120 121 122 123 124 125 126 127),
+];

@@ -1,0 +1,156 @@
+-- A name's first byte leads to the first row that it may be in.
+use Rattle.std.proofs.Common.{◌≡◌, ℕ, zero, suc, ◌<◌, ◌≤◌, Bool, true, false, cond, List, [], ◌∷◌, length, take, drop, Option, Some, None, Ok, Err, ◌⊎◌, inl, inr, refl, sym, ap, ◌∙◌, arith, leb-true, drop-cons}
+use Rattle.std.specs.Prelude.{◌&&◌, ◌||◌, not, ◌+◌, ◌-◌, ◌==◌, get_or, if◌then◌else◌, nat_le, nat_lt, slice_index, slice_index_or, ◌/◌, ◌%◌}
+use Rattle.std.proofs.Math.Nat.{eq-or-lt_of_le}
+use Rattle.std.proofs.lemmas.Bool.{le-leb, lt-ltb}
+use Rattle.std.proofs.lemmas.List.{take_rest, get_or_default}
+use Rattle.teco_scan.proofs.Places.{front}
+use Rattle.teco_core.specs.declared.code.Code.TheVariants.{Ill, Utc}
+use Rattle.teco_core.specs.Refusal.{◌>>=◌}
+use Rattle.teco_core.specs.Register.{upper}
+use Rattle.teco_scan.specs.declared.command.Modifiers.{Modifiers}
+use Rattle.teco_scan.specs.declared.command.Row.{Row}
+use Rattle.teco_scan.specs.declared.command.Name.{Name}
+use Rattle.teco_scan.specs.declared.command.Name.TheVariants.{One, Two, Three, Control}
+use Rattle.teco_scan.specs.declared.command.Form.{Form}
+use Rattle.teco_scan.specs.declared.table.TheConstants.{ROWS, FIRST}
+use Rattle.teco_scan.specs.Scan.{Reading, Instruction, Order, no_modifiers, admits, after_letter, after_name, at_row, row_at, is_cut, of_row, command_at, modifiers_at, operand_at, begins_run, token_from}
+use Rattle.teco_scan.specs.Table.{begins_with}
+use Rattle.teco_scan.specs.FirstRow.{none_begins, is_whole, is_whole_first, picks, form_of, form_at, named_at}
+use Rattle.teco_scan.proofs.Again.{both}
+
+unfoldable is_so_below : ℕ → (ℕ → Bool) → Bool
+is_so_below zero p = true
+is_so_below (suc n) p = p n && is_so_below n p
+
+so_below : (n : ℕ) (p : ℕ → Bool) → is_so_below n p ≡ true → (b : ℕ) → b < n → p b ≡ true
+unfolding is_so_below
+so_below zero p h b lt = absurd (omega arith)
+so_below (suc n) p h b lt =
+    let below : b < n → p b ≡ true = so_below n p (both (p n) (is_so_below n p) h).1 b in
+    let last : p n ≡ true = (both (p n) (is_so_below n p) h).0 in
+    let most : b ≤ n = omega arith in
+    elim (eq-or-lt_of_le most) [ inl same ↦ ap p same ∙ last | inr less ↦ below less ]
+
+-- where a byte leads by the table of first rows
+abbrev pub row_of : ℕ → ℕ
+row_of b = if nat_lt (upper b) 128 then slice_index_or (slice_index_or FIRST (upper b / 16) []) (upper b % 16) 0 else length ROWS
+
+-- each byte leads to its row
+bytes_picked : is_so_below 256 (λ b. picks (row_of b) b) ≡ true
+unfolding is_so_below
+bytes_picked = refl
+
+pub picked : (b : ℕ) → b < 256 → picks (row_of b) b ≡ true
+picked b lt = so_below 256 (λ b. picks (row_of b) b) bytes_picked b lt
+
+pub picked_at : (b u : ℕ) (default : List ℕ) → b < 256 → u ≡ upper b → u < 128 → picks (slice_index_or (slice_index_or FIRST (u / 16) default) (u % 16) 0) b ≡ true
+picked_at b u default lt is small =
+    let line : slice_index_or FIRST (u / 16) default ≡ slice_index_or FIRST (u / 16) [] = get_or_default FIRST (u / 16) default [] (omega arith) in
+    let below : nat_lt (upper b) 128 ≡ true = ap (λ u. nat_lt u 128) (sym is) ∙ lt-ltb u 128 small in
+    let row : row_of b ≡ slice_index_or (slice_index_or FIRST (u / 16) default) (u % 16) 0 =
+    ap (λ v. if v then slice_index_or (slice_index_or FIRST (upper b / 16) []) (upper b % 16) 0 else length ROWS) below
+    ∙ ap (λ u. slice_index_or (slice_index_or FIRST (u / 16) []) (u % 16) 0) (sym is) ∙ ap (λ (l : List ℕ). slice_index_or l (u % 16) 0) (sym line) in
+    ap (λ n. picks n b) (sym row) ∙ picked b lt
+
+bytes_inside : is_so_below 256 (λ b. nat_le (row_of b) (length ROWS)) ≡ true
+unfolding is_so_below
+bytes_inside = refl
+
+pub row_inside : (b : ℕ) → b < 256 → row_of b ≤ length ROWS
+row_inside b lt = leb-true (row_of b) (length ROWS) (so_below 256 (λ b. nat_le (row_of b) (length ROWS)) bytes_inside b lt)
+
+neither : (a b : Bool) → (a || b) ≡ false → (a ≡ false) × (b ≡ false)
+neither true b e = absurd cc
+neither false b e = (refl, e)
+
+not_so : (a : Bool) → not a ≡ true → a ≡ false
+not_so true e = absurd cc
+not_so false e = refl
+
+begins_none : (n : Name) (b : ℕ) (bs : List ℕ) → begins_with n b ≡ false → after_name n (b ∷ bs) ≡ None
+unfolding after_name after_letter
+begins_none (One l) b bs e = rw e
+begins_none (Two l k) b bs e = rw e
+begins_none (Three l k j) b bs e = rw e
+begins_none (Control l) b bs e = let p = neither (b + 64 == l) (b == 94) e in rw (p.0, p.1)
+
+-- rows that no name with the byte is in are passed
+pub rows_passed : (n : ℕ) (rows : List Row) (m : Modifiers) (b : ℕ) (bs : List ℕ) → none_begins (take n rows) b ≡ true → row_at rows m (b ∷ bs) ≡ row_at (drop n rows) m (b ∷ bs)
+unfolding row_at
+rows_passed zero rows m b bs h = refl
+rows_passed (suc n) [] m b bs h = refl
+rows_passed (suc n) (r ∷ rows) m b bs h =
+    let p = both (not (begins_with r.name b)) (none_begins (take n rows) b) h in
+    let others : Option (Row × List ℕ) = row_at rows m (b ∷ bs) in
+    ap (λ o. cond (admits r m) (at_row r o others) others) (begins_none r.name b bs (not_so (begins_with r.name b) p.0))
+    ∙ elim (admits r m) as (λ v. cond v others others ≡ others) [ true ↦ refl | false ↦ refl ]
+    ∙ rows_passed n rows m b bs p.1
+
+zero_le : (n : ℕ) → nat_le 0 n ≡ true
+zero_le n = le-leb 0 n (omega arith)
+
+row_here : (r : Row) (more : List Row) (l b : ℕ) (bs : List ℕ) → r.name ≡ One l → (upper b == l) ≡ true → row_at (r ∷ more) no_modifiers (b ∷ bs) ≡ Some (r, bs)
+unfolding row_at after_name after_letter
+row_here r more l b bs named letter =
+    let others : Option (Row × List ℕ) = row_at more no_modifiers (b ∷ bs) in
+    ap (λ v. cond v (at_row r (after_name r.name (b ∷ bs)) others) others) (zero_le r.allows.colons)
+    ∙ ap (λ n. at_row r (after_name n (b ∷ bs)) others) named
+    ∙ ap (λ v. at_row r (cond v (Some bs) None) others) letter
+
+none_marked : (b : ℕ) (bs : List ℕ) → (b == 64) ≡ false → (b == 58) ≡ false → modifiers_at no_modifiers (b ∷ bs) ≡ Ok (no_modifiers, b ∷ bs)
+unfolding modifiers_at
+none_marked b bs at colon = rw (at, colon)
+
+-- a byte that is the whole name of its row names that row's command, whatever follows it
+pub lone_named : (n b l : ℕ) (r default : Row) → picks n b ≡ true → n < length ROWS → r ≡ slice_index_or ROWS n default → r.name ≡ One l → (bs : List ℕ) → named_at ROWS (b ∷ bs) ≡ Ok ((no_modifiers, r.form), bs)
+unfolding named_at
+lone_named n b l r default h lt is named bs =
+    let p = both (none_begins (take n ROWS) b) (is_whole_first (drop n ROWS) b) h in
+    let here : drop n ROWS ≡ r ∷ drop (suc n) ROWS = drop-cons ROWS n default lt ∙ ap (λ x. x ∷ drop (suc n) ROWS) (sym is) in
+    let whole : is_whole (One l) b ≡ true = sym (ap (λ (x : Name). is_whole x b) named) ∙ sym (ap (λ (rows : List Row). is_whole_first rows b) here) ∙ p.1 in
+    let q = both ((upper b == l) && not (b == 64)) (not (b == 58)) whole in
+    let o = both (upper b == l) (not (b == 64)) q.0 in
+    let row : row_at ROWS no_modifiers (b ∷ bs) ≡ Some (r, bs) = rows_passed n ROWS no_modifiers b bs p.0 ∙ ap (λ (rows : List Row). row_at rows no_modifiers (b ∷ bs)) here ∙ row_here r (drop (suc n) ROWS) l b bs named o.0 in
+    ap (λ (x : Reading Modifiers). x >>= (λ m. form_at ROWS m.0 m.1 >>= (λ f. Ok ((m.0, f.0), f.1)))) (none_marked b bs (not_so (b == 64) o.1) (not_so (b == 58) q.1))
+    ∙ ap (λ (x : Option (Row × List ℕ)). form_of ROWS no_modifiers (b ∷ bs) x >>= (λ f. Ok ((no_modifiers, f.0), f.1))) row
+
+-- the rows from the byte's own on are all that a command there can be of
+pub rows_here : (n : ℕ) (xs : List ℕ) (at : ℕ) → at < length xs → picks n (get_or xs at 0) ≡ true → (m : Modifiers) → row_at (drop n ROWS) m (drop at xs) ≡ row_at ROWS m (drop at xs)
+rows_here n xs at lt h m =
+    let p = both (none_begins (take n ROWS) (get_or xs at 0)) (is_whole_first (drop n ROWS) (get_or xs at 0)) h in
+    ap (row_at (drop n ROWS) m) (front xs at lt) ∙ sym (rows_passed n ROWS m (get_or xs at 0) (drop (at + 1) xs) p.0) ∙ ap (row_at ROWS m) (sym (front xs at lt))
+
+-- the form of a command, by the row that was found among these
+pub form_read : (n : ℕ) (m : Modifiers) (xs : List ℕ) (found : Option (Row × List ℕ)) → row_at (drop n ROWS) m xs ≡ row_at ROWS m xs → row_at (take (length ROWS - n) (drop n ROWS)) m xs ≡ found → form_at ROWS m xs ≡ form_of ROWS m xs found
+form_read n m xs found same read = ap (form_of ROWS m xs) (sym same ∙ ap (λ (rows : List Row). row_at rows m xs) (sym (take_rest ROWS n)) ∙ read)
+
+-- a token of modifiers, a name and an operand
+abbrev pub with_operand : Reading (Modifiers × Form) → Reading Order
+with_operand r = do
+  n ← r
+  i ← operand_at n.0.1 n.0.0 n.1
+  Ok (record { modifiers = n.0.0; instruction = i.0 }, i.1)
+
+abbrev pub ordered : Modifiers → Reading Instruction → Reading Order
+ordered m r = do
+  i ← r
+  Ok (record { modifiers = m; instruction = i.0 }, i.1)
+
+abbrev paired : Modifiers → Reading Form → Reading (Modifiers × Form)
+paired m r = do
+  f ← r
+  Ok ((m, f.0), f.1)
+
+by_row : (m : Modifiers) (bs : List ℕ) (o : Option (Row × List ℕ)) → ordered m (of_row ROWS m bs o) ≡ with_operand (paired m (form_of ROWS m bs o))
+by_row m bs (Some r) = refl
+by_row m bs None = elim (is_cut ROWS m bs) as (λ v. ordered m (if v then Err Utc else Err Ill) ≡ with_operand (paired m (if v then Err Utc else Err Ill))) [ true ↦ refl | false ↦ refl ]
+
+by_modifiers : (r : Reading Modifiers) → (r >>= (λ m. ordered m.0 (command_at ROWS m.0 m.1))) ≡ with_operand (r >>= (λ m. paired m.0 (form_at ROWS m.0 m.1)))
+unfolding command_at
+by_modifiers (Err e) = refl
+by_modifiers (Ok m) = by_row m.0 m.1 (row_at ROWS m.0 m.1)
+
+pub token_named : (bs : List ℕ) → begins_run bs ≡ false → token_from ROWS bs ≡ with_operand (named_at ROWS bs)
+unfolding token_from named_at
+token_named bs e = rw e (by_modifiers (modifiers_at no_modifiers bs))

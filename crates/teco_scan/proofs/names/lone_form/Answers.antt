@@ -1,0 +1,6 @@
+use Rattle.std.proofs.Common.{refl, arith}
+use Rattle.teco_scan.proofs.FirstRow.{lone_named}
+use Rattle.teco_scan.proofs.names.lone_form.Goals as goal
+
+pub returns-in-One : goal.returns-in-One
+returns-in-One c = lone_named c.first_row-first.result c.args.b c.in-One.field-0 _ _ c.first_row-first.ensures.picked (omega arith) refl c.in-One.is

@@ -1,0 +1,184 @@
+//! Reading what follows a command's name.
+ghost use Rattle.std.specs.Prelude.{◌≡◌, ◌+◌, ◌<◌, ◌≤◌, ℕ, length, drop, IfOk};
+ghost use Rattle.teco_scan.specs.Scan.{test_of, byte_at, register_at, test_at, delimiter_at, text_at, operand_at};
+ghost use Rattle.teco_scan.specs.Seen.{Gives, IsSpanIn, IsKindIn, IsKindPlaced, bytes_in, instruction_in};
+
+use crate::command::{Form, Modifiers, Test};
+use crate::names::upper;
+use crate::token::{Item, Span, TokenKind};
+use memchr::memchr;
+use teco_core::{Code, Reg};
+
+const ESCAPE: u8 = 27;
+
+#[tactic(auto, unfolding(crate::specs::Scan::test_of))]
+fn test_of(b: u8) -> Option<Test>
+    ensures { result ≡ test_of b }
+{
+    match upper(b) {
+        b'E' => Some(Test::Zero),
+        b'F' => Some(Test::Zero),
+        b'U' => Some(Test::Zero),
+        b'N' => Some(Test::NotZero),
+        b'G' => Some(Test::Above),
+        b'L' => Some(Test::Below),
+        b'S' => Some(Test::Below),
+        b'T' => Some(Test::Below),
+        b'A' => Some(Test::Letter),
+        b'D' => Some(Test::Digit),
+        b'R' => Some(Test::LetterOrDigit),
+        b'V' => Some(Test::Lower),
+        b'W' => Some(Test::Upper),
+        _ => None,
+    }
+}
+
+#[tactic(auto, using(crate::proofs::Places::front, crate::proofs::Places::no_front), unfolding(crate::specs::Scan::byte_at))]
+fn byte_at(text: &[u8], at: usize) -> Result<(u8, usize), Code>
+    ensures read { Gives (λ x. (x.0, drop x.1 text.now)) result (byte_at (drop at text.now)) }
+    ensures within { IfOk result (λ x. (at < x.1) × (x.1 ≤ length text.now)) }
+{
+    if at < text.len() {
+        Ok((text[at], at + 1))
+    } else {
+        Err(Code::Utc)
+    }
+}
+
+#[tactic(auto, unfolding(crate::specs::Scan::register_at))]
+fn register_at(text: &[u8], at: usize) -> Result<(Reg, usize), Code>
+    ensures read { Gives (λ x. (x.0, drop x.1 text.now)) result (register_at (drop at text.now)) }
+    ensures within { IfOk result (λ x. (at < x.1) × (x.1 ≤ length text.now)) }
+{
+    let (b, at) = byte_at(text, at)?;
+    match Reg::of(b) {
+        None => Err(Code::Iqn),
+        Some(register) => Ok((register, at)),
+    }
+}
+
+#[tactic(auto, unfolding(crate::specs::Scan::test_at))]
+fn test_at(text: &[u8], at: usize) -> Result<(Test, usize), Code>
+    ensures read { Gives (λ x. (x.0, drop x.1 text.now)) result (test_at (drop at text.now)) }
+    ensures within { IfOk result (λ x. (at < x.1) × (x.1 ≤ length text.now)) }
+{
+    let (b, at) = byte_at(text, at)?;
+    match test_of(b) {
+        None => Err(Code::Iqc),
+        Some(test) => Ok((test, at)),
+    }
+}
+
+/// The byte that ends a text, and where the text begins.
+#[tactic(auto, unfolding(crate::specs::Scan::delimiter_at))]
+fn delimiter_at(
+    modifiers: Modifiers,
+    usual: u8,
+    text: &[u8],
+    at: usize,
+) -> Result<(u8, usize), Code>
+    requires { at ≤ length text.now }
+    ensures read { Gives (λ x. (x.0, drop x.1 text.now)) result (delimiter_at modifiers usual (drop at text.now)) }
+    ensures within { IfOk result (λ x. (at ≤ x.1) × (x.1 ≤ length text.now)) }
+{
+    if modifiers.at {
+        byte_at(text, at)
+    } else {
+        Ok((usual, at))
+    }
+}
+
+/// The bytes before the next delimiter, and the place after it.
+fn text_at(delimiter: u8, text: &[u8], at: usize) -> Result<(Span, usize), Code>
+    requires { at ≤ length text.now }
+    ensures read { Gives (λ x. (bytes_in text.now x.0, drop x.1 text.now)) result (text_at delimiter (drop at text.now)) }
+    ensures within { IfOk result (λ x. (at ≤ x.1) × (x.1 ≤ length text.now)) }
+    ensures spans { IfOk result (λ x. IsSpanIn (length text.now) x.0) }
+    ensures placed { IfOk result (λ x. (x.0.from ≡ at) × (x.0.to + 1 ≡ x.1)) }
+{
+    match memchr(delimiter, &text[at..]) {
+        None => Err(Code::Utc),
+        Some(n) => Ok((
+            Span {
+                from: at,
+                to: at + n,
+            },
+            at + n + 1,
+        )),
+    }
+}
+
+/// A register and its new text.
+#[tactic(auto, unfolding(crate::specs::Scan::operand_at))]
+fn set_text_at(modifiers: Modifiers, text: &[u8], at: usize) -> Result<(TokenKind, usize), Code>
+    requires { at ≤ length text.now }
+    ensures read { Gives (λ x. (instruction_in text.now x.0, drop x.1 text.now)) result (operand_at Form.SetText modifiers (drop at text.now)) }
+    ensures within { IfOk result (λ x. (at ≤ x.1) × (x.1 ≤ length text.now)) }
+    ensures spans { IfOk result (λ x. IsKindIn (length text.now) x.0) }
+    ensures placed { (from : ℕ) → IfOk result (λ x. IsKindPlaced (record { from = from; to = x.1 }) x.0) }
+{
+    let (register, at) = register_at(text, at)?;
+    let (delimiter, at) = delimiter_at(modifiers, ESCAPE, text, at)?;
+    let (span, at) = text_at(delimiter, text, at)?;
+    Ok((TokenKind::Item(Item::SetText(register, span)), at))
+}
+
+/// A text and the one to replace it.
+#[tactic(auto, unfolding(crate::specs::Scan::operand_at))]
+fn replace_at(modifiers: Modifiers, text: &[u8], at: usize) -> Result<(TokenKind, usize), Code>
+    requires { at ≤ length text.now }
+    ensures read { Gives (λ x. (instruction_in text.now x.0, drop x.1 text.now)) result (operand_at Form.Replace modifiers (drop at text.now)) }
+    ensures within { IfOk result (λ x. (at ≤ x.1) × (x.1 ≤ length text.now)) }
+    ensures spans { IfOk result (λ x. IsKindIn (length text.now) x.0) }
+    ensures placed { (from : ℕ) → IfOk result (λ x. IsKindPlaced (record { from = from; to = x.1 }) x.0) }
+{
+    let (delimiter, at) = delimiter_at(modifiers, ESCAPE, text, at)?;
+    let (old, at) = text_at(delimiter, text, at)?;
+    let (new, at) = text_at(delimiter, text, at)?;
+    Ok((TokenKind::Item(Item::Replace(old, new)), at))
+}
+
+/// What follows a command's name.
+#[tactic(auto, unfolding(crate::specs::Scan::operand_at))]
+pub(crate) fn operand_at(
+    form: Form,
+    modifiers: Modifiers,
+    text: &[u8],
+    at: usize,
+) -> Result<(TokenKind, usize), Code>
+    requires { at ≤ length text.now }
+    ensures read { Gives (λ x. (instruction_in text.now x.0, drop x.1 text.now)) result (operand_at form modifiers (drop at text.now)) }
+    ensures within { IfOk result (λ x. (at ≤ x.1) × (x.1 ≤ length text.now)) }
+    ensures spans { IfOk result (λ x. IsKindIn (length text.now) x.0) }
+    ensures placed { (from : ℕ) → IfOk result (λ x. IsKindPlaced (record { from = from; to = x.1 }) x.0) }
+{
+    match form {
+        Form::Bare(command) => Ok((TokenKind::Item(Item::Bare(command)), at)),
+        Form::Mark(mark) => Ok((TokenKind::Mark(mark), at)),
+        Form::Escape => Ok((TokenKind::Escape, at)),
+        Form::Register(command) => {
+            let (register, at) = register_at(text, at)?;
+            Ok((TokenKind::Item(Item::Register(command, register)), at))
+        }
+        Form::Byte => {
+            let (b, at) = byte_at(text, at)?;
+            Ok((TokenKind::Item(Item::Byte(b)), at))
+        }
+        Form::Test => {
+            let (test, at) = test_at(text, at)?;
+            Ok((TokenKind::Test(test), at))
+        }
+        Form::Text(command, usual) => {
+            let (delimiter, at) = delimiter_at(modifiers, usual, text, at)?;
+            let (span, at) = text_at(delimiter, text, at)?;
+            Ok((TokenKind::Item(Item::Text(command, span)), at))
+        }
+        Form::Tag => {
+            let (name, at) = text_at(b'!', text, at)?;
+            Ok((TokenKind::Tag(name), at))
+        }
+        Form::SetText => set_text_at(modifiers, text, at),
+        Form::Replace => replace_at(modifiers, text, at),
+        Form::Refused => Err(Code::Ill),
+    }
+}

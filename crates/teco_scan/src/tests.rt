@@ -1,0 +1,143 @@
+//! Tests of reading tokens.
+use crate::command::{
+    Arithmetic, Bare, BlockMark, Command, Modifiers, Quantity, RegisterCommand, Test, TextCommand,
+};
+use crate::scan::{spelling, token_at};
+use crate::token::{Found, Item, Span, Token, TokenKind};
+use teco_core::{Code, Op, Reg};
+
+#[test]
+fn finds_each_token(rt: HostRuntime) {
+    let operator = |op| TokenKind::Item(Item::Bare(Bare::Arithmetic(Arithmetic::Operator(op))));
+    let quantity = |quantity| TokenKind::Item(Item::Bare(Bare::Quantity(quantity)));
+    let command = |command| TokenKind::Item(Item::Bare(Bare::Command(command)));
+    let text = b"20 +-*/\r\nBZ.\0jCT=Ia=b\x1b\x1b";
+    let want = [
+        (0, 2, TokenKind::Item(Item::Digits(Span { from: 0, to: 2 }))),
+        (3, 4, operator(Op::Plus)),
+        (4, 5, operator(Op::Minus)),
+        (5, 6, operator(Op::Times)),
+        (6, 7, operator(Op::Over)),
+        (9, 10, quantity(Quantity::Beginning)),
+        (10, 11, quantity(Quantity::End)),
+        (11, 12, quantity(Quantity::Pointer)),
+        (13, 14, command(Command::Jump)),
+        (14, 15, command(Command::Forward)),
+        (15, 16, command(Command::TypeOut)),
+        (16, 17, command(Command::Print)),
+        (
+            17,
+            22,
+            TokenKind::Item(Item::Text(TextCommand::Insert, Span { from: 18, to: 21 })),
+        ),
+        (22, 23, TokenKind::Escape),
+    ];
+    let mut at = 0;
+    for (from, to, kind) in want {
+        let modifiers = Modifiers {
+            at: false,
+            colons: 0,
+        };
+        let span = Span { from, to };
+        let token = Token {
+            span,
+            modifiers,
+            kind,
+        };
+        assert!(rt; at <= text.len());
+        assert_eq!(rt; token_at(text, at), Found::Token(token));
+        at = to;
+    }
+    assert!(rt; at <= text.len());
+    assert_eq!(rt; token_at(text, at), Found::End);
+}
+
+#[test]
+fn finds_registers(rt: HostRuntime) {
+    let mut marked = Modifiers {
+        at: false,
+        colons: 1,
+    };
+    let Some(register) = Reg::of(b'9') else {
+        return;
+    };
+    let number = Token {
+        span: Span { from: 1, to: 4 },
+        modifiers: marked,
+        kind: TokenKind::Item(Item::Register(RegisterCommand::Number, register)),
+    };
+    assert_eq!(rt; token_at(b" :q9", 0), Found::Token(number));
+    marked.at = true;
+    marked.colons = 0;
+    let set = Token {
+        span: Span { from: 0, to: 8 },
+        modifiers: marked,
+        kind: TokenKind::Item(Item::SetText(register, Span { from: 5, to: 7 })),
+    };
+    assert_eq!(rt; token_at(b"@^U9/ab/", 0), Found::Token(set));
+}
+
+#[test]
+fn finds_control_structure(rt: HostRuntime) {
+    let none = Modifiers {
+        at: false,
+        colons: 0,
+    };
+    let at = Modifiers {
+        at: true,
+        colons: 0,
+    };
+    let leave = TokenKind::Item(Item::Bare(Bare::Command(Command::Leave)));
+    let tag = TokenKind::Tag(Span { from: 5, to: 8 });
+    let go = TokenKind::Item(Item::Text(TextCommand::Go, Span { from: 12, to: 15 }));
+    let text = b"<;\"g!a>b!@O/a>b/|'>";
+    let want = [
+        (0, 1, none, TokenKind::Mark(BlockMark::Iterate)),
+        (1, 2, none, leave),
+        (2, 4, none, TokenKind::Test(Test::Above)),
+        (4, 9, none, tag),
+        (9, 16, at, go),
+        (16, 17, none, TokenKind::Mark(BlockMark::Otherwise)),
+        (17, 18, none, TokenKind::Mark(BlockMark::EndTest)),
+        (18, 19, none, TokenKind::Mark(BlockMark::EndIteration)),
+    ];
+    for (from, to, modifiers, kind) in want {
+        let span = Span { from, to };
+        let token = Token {
+            span,
+            modifiers,
+            kind,
+        };
+        assert!(rt; from <= text.len());
+        assert_eq!(rt; token_at(text, from), Found::Token(token));
+    }
+}
+
+#[test]
+fn names_each_fault(rt: HostRuntime) {
+    let faults: [(&[u8], Code); 17] = [
+        (b"I", Code::Utc),
+        (b"Iab", Code::Utc),
+        (b"==", Code::Ill),
+        (b"===", Code::Ill),
+        (b":=", Code::Ill),
+        (b":::=", Code::Ill),
+        (b"@I/a", Code::Utc),
+        (b"\"?", Code::Iqc),
+        (b"!a", Code::Utc),
+        (b"@O", Code::Utc),
+        (b"^", Code::Utc),
+        (b"^?", Code::Ill),
+        (b"Q?", Code::Iqn),
+        (b"Q", Code::Utc),
+        (b"::Qa", Code::Ill),
+        (b"\x15a", Code::Utc),
+        (b"?", Code::Ill),
+    ];
+    for (text, code) in faults {
+        assert_eq!(rt; token_at(text, 0), Found::Fault(code));
+    }
+    assert_eq!(rt; token_at(b" \r\n\0", 0), Found::End);
+    assert_eq!(rt; token_at(b"", 0), Found::End);
+    spelling();
+}
