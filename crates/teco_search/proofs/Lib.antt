@@ -14,3 +14,5 @@ pub mod Fronts
 pub mod ReadIsSpelled
 pub mod SpelledIsRead
 pub mod OnlyIce
+pub mod Scans
+pub mod Tables
