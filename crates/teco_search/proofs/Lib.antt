@@ -16,3 +16,4 @@ pub mod SpelledIsRead
 pub mod OnlyIce
 pub mod Scans
 pub mod Tables
+pub mod Anchored

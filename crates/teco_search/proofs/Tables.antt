@@ -1,12 +1,12 @@
 -- Tables of bytes, and the sets that are made of them.
-use Rattle.std.proofs.Common.{◌≡◌, ℕ, ◌+◌, ◌<◌, ◌≤◌, Bool, true, false, eqb, List, length, get_or, set, Some, Option, refl, sym, ap, ◌∙◌, arith, ⊎_elim}
+use Rattle.std.proofs.Common.{◌≡◌, ℕ, ◌+◌, ◌<◌, ◌≤◌, Bool, true, false, eqb, List, length, get_or, set, Fits, w8, ◌++◌, ◌-◌, Some, Option, refl, sym, ap, ◌∙◌, arith, ⊎_elim}
 use Rattle.std.specs.Prelude.{slice_get, ◌||◌}
-use Rattle.std.proofs.lemmas.Bool.{cases_eq, eq-eqb, ne_eqb}
-use Rattle.std.proofs.lemmas.List.{get_or-set_same, get_or-set_other, length-set}
-use Rattle.std.proofs.lemmas.Option.{slice_get-get_or}
+use Rattle.std.proofs.lemmas.Bool.{cases_eq, cases_lt, eq-eqb, ne_eqb}
+use Rattle.std.proofs.lemmas.List.{get_or-set_same, get_or-set_other, length-set, get_or_append_left, get_or-append_right}
+use Rattle.std.proofs.lemmas.Option.{slice_get-get_or, get_or_from_slice_get}
 use Rattle.std.proofs.Math.Bool.{or-false}
 use Rattle.teco_search.specs.declared.byte_set.ByteSet.{ByteSet}
-use Rattle.teco_search.specs.ByteSet.{contains, in_table}
+use Rattle.teco_search.specs.ByteSet.{AreBytes, contains, in_table}
 
 told : (x y : Bool) → x ≡ y → ◌≡◌ {A = Option Bool} (Some x) (Some y)
 told x y same = ap (λ b. let o : Option Bool = Some b in o) same
@@ -48,3 +48,14 @@ table_more test table at inside seen b below =
     (λ same. slice_get-get_or (set table at (test at)) b false whole ∙ told _ (test b) (ap (λ k. get_or (set table at (test at)) k false) same ∙ get_or-set_same table at (test at) false inside ∙ ap test (sym same)))
     (λ other. slice_get-get_or (set table at (test at)) b false whole ∙ told _ (get_or table b false) (get_or-set_other table at b (test at) false other)
     ∙ sym (slice_get-get_or table b false (omega arith)) ∙ seen b (omega arith)) (cases_eq b at)
+
+-- Two slices of bytes together are bytes.
+pub AreBytes-append : (xs ys : List ℕ) → ((i : ℕ) → Fits w8 (get_or xs i 0)) → ((i : ℕ) → Fits w8 (get_or ys i 0)) → AreBytes (xs ++ ys)
+AreBytes-append xs ys first second = record {
+  fits = λ k b here.
+      let byte : get_or (xs ++ ys) k 0 ≡ b = get_or_from_slice_get (xs ++ ys) k b 0 here in
+      ⊎_elim
+      (λ early. omega (arith, first k, get_or_append_left xs ys 0 k early, byte))
+      (λ late. omega (arith, second (k - length xs), get_or-append_right xs ys (length xs) k 0 refl late, byte))
+      (cases_lt k (length xs));
+}

@@ -1,5 +1,5 @@
 -- Sets of bytes.
-use Rattle.std.specs.Prelude.{ℕ, Bool, false, ◌||◌, ◌==◌, List, slice_get}
+use Rattle.std.specs.Prelude.{◌≡◌, ℕ, ◌<◌, Some, Bool, false, ◌||◌, ◌==◌, List, slice_get}
 use Rattle.std.specs.Option.{option_map_or}
 use Rattle.teco_search.specs.declared.byte_set.ByteSet.{ByteSet}
 use Rattle.teco_search.specs.declared.byte_set.ByteSet.TheVariants.{Empty, One, Two, Three, Table}
@@ -15,3 +15,7 @@ contains (One a) x = x == a
 contains (Two a b) x = x == a || x == b
 contains (Three a b c) x = x == a || x == b || x == c
 contains (Table table) x = in_table table x
+
+-- Each byte of a text fits in eight bits.
+pub record AreBytes (text : List ℕ) : Type 0 where
+  pub fits : (k b : ℕ) → slice_get text k ≡ Some b → b < 256

@@ -1,7 +1,7 @@
 //! A text that lies in two halves.
 ghost use Rattle.std.specs.Prelude.{◌≡◌, ◌++◌, ◌+◌, ◌^◌, ◌<◌, ◌≤◌, ℕ, List, length, slice_get, IfSome, IsTrue, ◌↔◌};
 ghost use Rattle.memchr.specs.Find.{OccursAt, Passes, IsFirst, IsLast};
-ghost use Rattle.teco_search.specs.ByteSet.{contains};
+ghost use Rattle.teco_search.specs.ByteSet.{AreBytes, contains};
 
 use crate::byte_set::ByteSet;
 use std::marker::Model;
@@ -17,6 +17,8 @@ impl<'t> Model for Joined<'t> {
     ghost Value = { List ℕ };
 
     ghost view = { λ j. j.before.now ++ j.after.now };
+
+    ghost invariant = { λ j. AreBytes (j.before.now ++ j.after.now) };
 }
 
 impl<'t> Joined<'t> {
@@ -29,7 +31,8 @@ impl<'t> Joined<'t> {
     /// How many bytes the text has.
     #[inline]
     pub(crate) fn len(&self) -> usize
-        ensures { result ≡ length self.now }
+        ensures value { result ≡ length self.now }
+        ensures bytes { AreBytes self.now }
     {
         self.before.len() + self.after.len()
     }
