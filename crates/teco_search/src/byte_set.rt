@@ -71,10 +71,27 @@ impl ByteSet {
         set
     }
 
-    /// The first place of a slice whose byte is in the set.
+    /// Whether a byte is in the set.
+    #[inline]
+    fn has(&self, byte: u8) -> bool
+        ensures { result ≡ contains self.now byte }
+    {
+        match self {
+            ByteSet::Empty => false,
+            ByteSet::One(a) => byte == *a,
+            ByteSet::Two(a, b) => byte == *a || byte == *b,
+            ByteSet::Three(a, b, c) => byte == *a || byte == *b || byte == *c,
+            ByteSet::Table(table) => table[usize::from(byte)],
+        }
+    }
+
+    /// The first place of a slice whose byte is in the set. The first byte is looked at before a scan is set up.
     pub(crate) fn first_in(&self, bytes: &[u8]) -> Option<usize>
         ensures { IsFirstByte (contains self.now) bytes.now result }
     {
+        if !bytes.is_empty() && self.has(bytes[0]) {
+            return Some(0);
+        }
         match self {
             ByteSet::Empty => None,
             ByteSet::One(a) => memchr(*a, bytes),
@@ -84,10 +101,14 @@ impl ByteSet {
         }
     }
 
-    /// The last place of a slice whose byte is in the set.
+    /// The last place of a slice whose byte is in the set. The last byte is looked at before a scan is set up.
     pub(crate) fn last_in(&self, bytes: &[u8]) -> Option<usize>
         ensures { IsLastByte (contains self.now) bytes.now result }
     {
+        let len = bytes.len();
+        if len > 0 && self.has(bytes[len - 1]) {
+            return Some(len - 1);
+        }
         match self {
             ByteSet::Empty => None,
             ByteSet::One(a) => memrchr(*a, bytes),
