@@ -1,8 +1,8 @@
 -- Where bytes that admit themselves alone stand, as the occurrences of the pattern that they are.
-use Rattle.std.proofs.Common.{◌≡◌, ℕ, ◌+◌, ◌-◌, ◌<◌, List, [], ◌∷◌, length, map, true, Some, None, nat_lt, sym, ap, ◌∙◌, arith, ⊎_elim}
+use Rattle.std.proofs.Common.{◌≡◌, ℕ, ◌+◌, ◌-◌, ◌<◌, List, [], ◌∷◌, length, map, true, Some, None, subst, arith, ⊎_elim}
 use Rattle.std.specs.Prelude.{min}
 use Rattle.std.specs.List.{list_all}
-use Rattle.std.proofs.lemmas.Bool.{cases_lt, and_parts, ltb-true}
+use Rattle.std.proofs.lemmas.Bool.{cases_lt}
 use Rattle.std.proofs.lemmas.List.{length-map}
 use Rattle.memchr.specs.Find.{OccursAt, FindsNeedle, FindsLastNeedleBy}
 use Rattle.teco_core.specs.declared.case_mode.CaseMode.{CaseMode}
@@ -10,31 +10,28 @@ use Rattle.teco_search.specs.declared.search.Forward.{Forward}
 use Rattle.teco_search.specs.declared.search.Forward.TheVariants as forwards
 use Rattle.teco_search.specs.declared.search.Backward.{Backward}
 use Rattle.teco_search.specs.declared.search.Backward.TheVariants as backwards
-use Rattle.teco_search.specs.Literal.{plain, is_exact}
+use Rattle.teco_search.specs.Literal.{plain, is_exact, IsLiteral}
 use Rattle.teco_search.specs.Occurrence.{looked_for, match_end, forward, before, backward}
-use Rattle.teco_search.specs.Search.{sought_forward, sought_backward, is_ready_forward, is_ready_backward}
+use Rattle.teco_search.specs.Search.{sought_forward, sought_backward, IsReadyForward, IsReadyBackward}
 use Rattle.teco_search.proofs.Past.{match_past}
 use Rattle.teco_search.proofs.Occurring.{forward-none, forward-some, before-none, before-some, backward-none, backward-some}
 use Rattle.teco_search.proofs.Literals.{literal_hit, literal_only, literal_none}
 
 -- what a search that is ready for bytes holds
-pub ready_forward : (mode : CaseMode) (bytes : List ℕ) (search : Forward) → search ≡ forwards.Literal mode bytes → is_ready_forward search ≡ true → (0 < length bytes) × (list_all (is_exact mode) bytes ≡ true)
-ready_forward mode bytes search is ready =
-    let parts = and_parts (nat_lt 0 (length bytes)) (list_all (is_exact mode) bytes) (sym (ap is_ready_forward is) ∙ ready) in
-    (ltb-true 0 (length bytes) parts.0, parts.1)
+pub ready_forward : (mode : CaseMode) (bytes : List ℕ) (search : Forward) → search ≡ forwards.Literal mode bytes → IsReadyForward search → IsLiteral mode bytes
+ready_forward mode bytes search is ready = subst IsReadyForward is ready
 
-pub ready_backward : (mode : CaseMode) (bytes : List ℕ) (search : Backward) → search ≡ backwards.Literal mode bytes → is_ready_backward search ≡ true → (0 < length bytes) × (list_all (is_exact mode) bytes ≡ true)
-ready_backward mode bytes search is ready =
-    let parts = and_parts (nat_lt 0 (length bytes)) (list_all (is_exact mode) bytes) (sym (ap is_ready_backward is) ∙ ready) in
-    (ltb-true 0 (length bytes) parts.0, parts.1)
+pub ready_backward : (mode : CaseMode) (bytes : List ℕ) (search : Backward) → search ≡ backwards.Literal mode bytes → IsReadyBackward search → IsLiteral mode bytes
+ready_backward mode bytes search is ready = subst IsReadyBackward is ready
 
-pub ready_some : (search : Forward) → is_ready_forward search ≡ true → 0 < length (sought_forward search).elements
-ready_some (forwards.Literal mode bytes) ready = omega (arith, ltb-true 0 (length bytes) (and_parts (nat_lt 0 (length bytes)) (list_all (is_exact mode) bytes) ready).0, length-map bytes plain)
-ready_some (forwards.Elements mode es) ready = ltb-true 0 (length es.now) ready
+-- There is something to look for.
+pub ready_some : (search : Forward) → IsReadyForward search → 0 < length (sought_forward search).elements
+ready_some (forwards.Literal mode bytes) ready = omega (arith, ready.some, length-map bytes plain)
+ready_some (forwards.Elements mode es anchor) ready = omega (arith, ready.within)
 
-pub ready_some_backward : (search : Backward) → is_ready_backward search ≡ true → 0 < length (sought_backward search).elements
-ready_some_backward (backwards.Literal mode bytes) ready = omega (arith, ltb-true 0 (length bytes) (and_parts (nat_lt 0 (length bytes)) (list_all (is_exact mode) bytes) ready).0, length-map bytes plain)
-ready_some_backward (backwards.Elements mode es) ready = ltb-true 0 (length es.now) ready
+pub ready_some_backward : (search : Backward) → IsReadyBackward search → 0 < length (sought_backward search).elements
+ready_some_backward (backwards.Literal mode bytes) ready = omega (arith, ready.some, length-map bytes plain)
+ready_some_backward (backwards.Elements mode es anchor) ready = omega (arith, ready.within)
 
 module _ (mode : CaseMode) (bytes text : List ℕ) (some : 0 < length bytes) (exact : list_all (is_exact mode) bytes ≡ true) where
   several : 0 < length (map plain bytes)

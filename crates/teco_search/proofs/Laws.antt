@@ -7,11 +7,8 @@ use Rattle.std.proofs.lemmas.List.Kept.{AllPairs-cons}
 use Rattle.std.proofs.lemmas.Option.{none-some, same_Some}
 use Rattle.teco_search.specs.Occurrence.{Sought, Span, match_end, forward, before, backward}
 use Rattle.teco_search.specs.Law.{MatchesTo, FindsNext, FindsLastBy, AreForward, AreBefore, AreBackward}
+use Rattle.teco_search.proofs.Past.{none_from}
 use Rattle.teco_search.proofs.Occurring.{ends_past, forward-none, forward-some, before-none, before-some, backward-none, backward-some}
-
-none_from : (o : Option ℕ) → ((q : ℕ) → o ≡ Some q → ⊥) → o ≡ None
-none_from None h = refl
-none_from (Some q) h = absurd (h q refl)
 
 -- the first place from one on where a function gives something
 pub record FirstAt (f : ℕ → Option ℕ) (from end : ℕ) : Type 0 where

@@ -14,3 +14,6 @@ pub mod Fronts
 pub mod ReadIsSpelled
 pub mod SpelledIsRead
 pub mod OnlyIce
+pub mod Scans
+pub mod Tables
+pub mod Anchored

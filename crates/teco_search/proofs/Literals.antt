@@ -1,9 +1,9 @@
 -- Search texts of bytes that admit themselves alone: they match where they stand.
-use Rattle.std.proofs.Common.{◌≡◌, ℕ, zero, suc, ◌+◌, ◌-◌, ◌<◌, ◌≤◌, Bool, true, false, eqb, leb, List, [], ◌∷◌, ◌++◌, length, get_or, map, Result, Option, Some, None, Ok, Err, refl, sym, ap, subst, ◌∙◌, arith, ⊎_elim, nat_lt}
+use Rattle.std.proofs.Common.{◌≡◌, ℕ, zero, suc, ◌+◌, ◌-◌, ◌<◌, ◌≤◌, Bool, true, false, eqb, leb, List, [], ◌∷◌, ◌++◌, length, get_or, map, Result, Option, Some, None, Ok, Err, refl, sym, ap, subst, ◌∙◌, arith, ⊎_elim}
 use Rattle.std.specs.Prelude.{slice_get}
 use Rattle.std.specs.Global.{Vec}
 use Rattle.std.specs.List.{list_all}
-use Rattle.std.proofs.lemmas.Bool.{ltb-true, eqb-true, eq-eqb, ne_eqb, false≢true, le-leb, and_from, cases_Bool, or_parts, and_parts, leb-true, not-true}
+use Rattle.std.proofs.lemmas.Bool.{eqb-true, eq-eqb, ne_eqb, false≢true, le-leb, and_from, cases_Bool, or_parts, and_parts, leb-true, not-true}
 use Rattle.std.proofs.lemmas.List.{length-map}
 use Rattle.std.proofs.lemmas.Option.{same_Some, slice_get-get_or, slice_get_within, get_or_from_slice_get, option_and_then_some, cond_some}
 use Rattle.memchr.specs.Find.{OccursAt}
@@ -20,10 +20,10 @@ use Rattle.teco_search.specs.declared.element.Item.TheVariants.{Byte}
 use Rattle.teco_search.specs.declared.element.OneByte.TheVariants.{Single}
 use Rattle.teco_search.specs.Element.{is_lower, is_upper, is_letter, upper, item_admits, admits}
 use Rattle.teco_search.specs.Reading.{Reading, class_named, byte_at, item_by, item_at, one_byte_at, element_at}
-use Rattle.teco_search.specs.Literal.{plain, is_exact}
+use Rattle.teco_search.specs.Literal.{plain, is_exact, IsLiteral}
 use Rattle.teco_search.specs.declared.pattern.Form.{Form}
 use Rattle.teco_search.specs.declared.pattern.Form.TheVariants.{Literal, Elements}
-use Rattle.teco_search.specs.Pattern.{elements_of, is_sound}
+use Rattle.teco_search.specs.Pattern.{elements_of, IsSound}
 use Rattle.teco_search.specs.Occurrence.{Sought, looked_for, element_end, match_end}
 
 -- A byte that is no small letter is its own capital.
@@ -169,16 +169,16 @@ all_more mode (c ∷ bs) b all here =
 
 -- How a pattern is kept, where it is one of such bytes.
 pub kept_literal :
-    (mode : CaseMode) (form : Form) (bytes : Vec ℕ) (value : Sought) → form ≡ Literal bytes → looked_for mode (elements_of form) ≡ value → is_sound mode form ≡ true
+    (mode : CaseMode) (form : Form) (bytes : Vec ℕ) (value : Sought) → form ≡ Literal bytes → looked_for mode (elements_of form) ≡ value → IsSound mode form
     → (value ≡ looked_for mode (map plain bytes.items)) × (0 < length bytes.items) × (list_all (is_exact mode) bytes.items ≡ true)
 kept_literal mode form bytes value is view sound =
-    let parts = and_parts (nat_lt 0 (length bytes.items)) (list_all (is_exact mode) bytes.items) (sym (ap (is_sound mode) is) ∙ sound) in
-    (sym view ∙ ap (λ f. looked_for mode (elements_of f)) is, ltb-true 0 (length bytes.items) parts.0, parts.1)
+    let literal : IsLiteral mode bytes.items = subst (IsSound mode) is sound in
+    (sym view ∙ ap (λ f. looked_for mode (elements_of f)) is, literal.some, literal.exact)
 
 -- There is at least one element, however they are kept.
-pub kept_some : (mode : CaseMode) (form : Form) (value : Sought) → looked_for mode (elements_of form) ≡ value → is_sound mode form ≡ true → 0 < length value.elements
+pub kept_some : (mode : CaseMode) (form : Form) (value : Sought) → looked_for mode (elements_of form) ≡ value → IsSound mode form → 0 < length value.elements
 kept_some mode form value view sound = subst (λ (s : Sought). 0 < length s.elements) view (by form sound)
   where
-    by : (f : Form) → is_sound mode f ≡ true → 0 < length (elements_of f)
-    by (Literal bytes) is = omega (arith, ltb-true 0 (length bytes.items) (and_parts (nat_lt 0 (length bytes.items)) (list_all (is_exact mode) bytes.items) is).0, length-map bytes.items plain)
-    by (Elements es) is = ltb-true 0 (length es.items) is
+    by : (f : Form) → IsSound mode f → 0 < length (elements_of f)
+    by (Literal bytes) is = omega (arith, is.some, length-map bytes.items plain)
+    by (Elements es anchor) is = omega (arith, is.within)

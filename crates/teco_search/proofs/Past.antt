@@ -37,7 +37,7 @@ element_past mode (Among c) text p q is = byte_past (λ b. admits mode c b) text
 element_past mode (Except c) text p q is = byte_past (λ b. not (admits mode c b)) text p q is
 element_past mode Blanks text p q is = run_past (blanks_at text p) text p q refl is
 
-match_from : (mode : CaseMode) (es : List Element) (text : List ℕ) (p q : ℕ) → match_end mode es text p ≡ Some q → (p ≤ q) × (p < q → q ≤ length text)
+pub match_from : (mode : CaseMode) (es : List Element) (text : List ℕ) (p q : ℕ) → match_end mode es text p ≡ Some q → (p ≤ q) × (p < q → q ≤ length text)
 unfolding match_end
 match_from mode [] text p q is = let same : p ≡ q = same_Some p q is in (omega arith, λ past. absurd (omega arith))
 match_from mode (e ∷ es) text p q is =
@@ -82,3 +82,8 @@ pub placed : (sought : Sought) (text : List ℕ) → 0 < length sought.elements 
 placed sought text some k m is =
     let here = match_at-start sought text k m is in
     (here.0, (match_past sought.mode sought.elements text k m.1 some here.1).past)
+
+-- What gives nothing is none.
+pub none_from : (o : Option ℕ) → ((q : ℕ) → o ≡ Some q → ⊥) → o ≡ None
+none_from None h = refl
+none_from (Some q) h = absurd (h q refl)

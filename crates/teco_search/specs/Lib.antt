@@ -1,4 +1,6 @@
 pub mod Element
+pub mod ByteSet
+pub mod Anchor
 pub mod Spelling
 pub mod Reading
 pub mod Occurrence

@@ -1,5 +1,6 @@
 -- Search texts of bytes alone.
-use Rattle.std.specs.Prelude.{ℕ, Bool, true, not}
+use Rattle.std.specs.Prelude.{◌≡◌, ℕ, ◌<◌, Bool, true, not, List, length}
+use Rattle.std.specs.List.{list_all}
 use Rattle.teco_core.specs.declared.case_mode.CaseMode.{CaseMode}
 use Rattle.teco_core.specs.declared.case_mode.CaseMode.TheVariants.{Exact, Either}
 use Rattle.teco_search.specs.declared.element.Item.TheVariants.{Byte}
@@ -16,3 +17,8 @@ plain b = Among (Single (Byte b))
 abbrev pub is_exact : CaseMode → ℕ → Bool
 is_exact Exact b = true
 is_exact Either b = not (is_letter b)
+
+-- at least one byte, and each admits no other
+pub record IsLiteral (mode : CaseMode) (bytes : List ℕ) : Type 0 where
+  pub some : 0 < length bytes
+  pub exact : list_all (is_exact mode) bytes ≡ true

@@ -1,6 +1,7 @@
 //! The elements of a search text, and which bytes they admit.
 ghost use Rattle.std.specs.Prelude.{◌≡◌, ◌↔◌, IsTrue, Some};
 ghost use Rattle.std.specs.List.{list_any};
+ghost use Rattle.teco_search.specs.Anchor.{begins};
 ghost use Rattle.teco_search.specs.Element.{is_lower, is_upper, is_letter, is_digit, is_blank, is_line_end, upper, is_in, item_admits, admits};
 ghost use Rattle.teco_search.specs.Literal.{is_exact};
 ghost use Rattle.teco_search.specs.Shown.{shown_byte, shown_class, shown_element, shown_item, shown_items, shown_one};
@@ -194,6 +195,18 @@ impl OneByte {
 }
 
 impl Element {
+    /// Whether its match may begin with a byte.
+    #[tactic(auto, unfolding(crate::specs::Anchor::begins))]
+    pub(crate) fn begins(&self, mode: CaseMode, byte: u8) -> bool
+        ensures { result ≡ begins mode self.now byte }
+    {
+        match self {
+            Element::Among(one) => one.admits(mode, byte),
+            Element::Except(one) => !one.admits(mode, byte),
+            Element::Blanks => is_blank(byte),
+        }
+    }
+
     /// Whether it is a run of spaces and tabs.
     #[inline]
     pub(crate) fn is_run(&self) -> bool

@@ -1,7 +1,9 @@
 //! A text that lies in two halves.
 ghost use Rattle.std.specs.Prelude.{◌≡◌, ◌++◌, ◌+◌, ◌^◌, ◌<◌, ◌≤◌, ℕ, List, length, slice_get, IfSome, IsTrue, ◌↔◌};
-ghost use Rattle.memchr.specs.Find.{OccursAt};
+ghost use Rattle.memchr.specs.Find.{OccursAt, Passes, IsFirst, IsLast};
+ghost use Rattle.teco_search.specs.ByteSet.{AreBytes, contains};
 
+use crate::byte_set::ByteSet;
 use std::marker::Model;
 
 /// Two slices, seen as the one text that they are together.
@@ -15,6 +17,8 @@ impl<'t> Model for Joined<'t> {
     ghost Value = { List ℕ };
 
     ghost view = { λ j. j.before.now ++ j.after.now };
+
+    ghost invariant = { λ j. AreBytes (j.before.now ++ j.after.now) };
 }
 
 impl<'t> Joined<'t> {
@@ -27,7 +31,8 @@ impl<'t> Joined<'t> {
     /// How many bytes the text has.
     #[inline]
     pub(crate) fn len(&self) -> usize
-        ensures { result ≡ length self.now }
+        ensures value { result ≡ length self.now }
+        ensures bytes { AreBytes self.now }
     {
         self.before.len() + self.after.len()
     }
@@ -50,6 +55,37 @@ impl<'t> Joined<'t> {
         ensures { result.0.now ++ result.1.now ≡ self.now }
     {
         (self.before, self.after)
+    }
+
+    /// The first place at or after one whose byte is in a set.
+    pub(crate) fn first_of(&self, set: &ByteSet, from: usize) -> Option<usize>
+        requires { from ≤ length self.now }
+        ensures { IsFirst (Passes (contains set.now) self.now) from (length self.now) result }
+    {
+        let cut = self.before.len();
+        if from >= cut {
+            let place = set.first_in(&self.after[from - cut..])?;
+            return Some(from + place);
+        }
+        if let Some(place) = set.first_in(&self.before[from..]) {
+            return Some(from + place);
+        }
+        let place = set.first_in(self.after)?;
+        Some(cut + place)
+    }
+
+    /// The last place before one whose byte is in a set.
+    pub(crate) fn last_of(&self, set: &ByteSet, to: usize) -> Option<usize>
+        requires { to ≤ length self.now }
+        ensures { IsLast (Passes (contains set.now) self.now) 0 to result }
+    {
+        let cut = self.before.len();
+        if to > cut {
+            if let Some(place) = set.last_in(&self.after[..to - cut]) {
+                return Some(cut + place);
+            }
+        }
+        set.last_in(&self.before[..to.min(cut)])
     }
 
     /// Whether these bytes stand at a place.

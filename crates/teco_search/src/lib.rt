@@ -1,6 +1,8 @@
 //! Search texts, and where they occur in a text that lies in two halves.
 #![tactic(auto)]
 
+mod anchor;
+mod byte_set;
 mod element;
 mod joined;
 mod law;

@@ -1,13 +1,14 @@
 //! Search texts that have been read.
-ghost use Rattle.std.specs.Prelude.{◌≡◌, ◌⊎◌, ◌++◌, ◌<◌, ◌≤◌, length, IfOk, IfErr, IfSome, Ok, Err, IsTrue, ◌≢◌, pos, negsuc, Some};
+ghost use Rattle.std.specs.Prelude.{◌≡◌, ◌⊎◌, ◌++◌, ◌<◌, ◌≤◌, length, IfOk, IfErr, IfSome, Ok, Err, ◌≢◌, pos, negsuc, Some};
 ghost use Rattle.std.specs.Fmt.{WritesOnOk};
 ghost use Rattle.std.specs.List.{flat_map};
 ghost use Rattle.teco_search.specs.Law.{FindsNext, FindsLastBy};
 ghost use Rattle.teco_search.specs.Occurrence.{match_end, forward, occurrence};
-ghost use Rattle.teco_search.specs.Search.{sought_forward, sought_backward, is_ready_forward, is_ready_backward};
+ghost use Rattle.teco_search.specs.Search.{sought_forward, sought_backward, IsReadyForward, IsReadyBackward};
 ghost use Rattle.teco_search.specs.Reading.{read};
 ghost use Rattle.teco_search.specs.Shown.{shown, shown_byte};
 
+use crate::anchor::Anchor;
 use crate::element::{Element, Shown};
 use crate::joined::Joined;
 use crate::matching::match_end;
@@ -32,19 +33,18 @@ pub struct Pattern {
 enum Form {
     /// These bytes, none of which admits another byte.
     Literal(Vec<u8>),
-    Elements(Vec<Element>),
+    Elements(Vec<Element>, Anchor),
 }
 
 impl Model for Pattern {
-    ghost use Rattle.std.specs.Prelude.{IsTrue};
     ghost use Rattle.teco_search.specs.Occurrence.{Sought, looked_for};
-    ghost use Rattle.teco_search.specs.Pattern.{elements_of, is_sound};
+    ghost use Rattle.teco_search.specs.Pattern.{elements_of, IsSound};
 
     ghost Value = { Sought };
 
     ghost view = { λ p. looked_for p.mode (elements_of p.form) };
 
-    ghost invariant = { λ p. IsTrue (is_sound p.mode p.form) };
+    ghost invariant = { λ p. IsSound p.mode p.form };
 }
 
 impl Pattern {
@@ -56,16 +56,18 @@ impl Pattern {
         ensures mode { IfOk result (λ p. p.mode ≡ mode) }
         ensures err { IfErr result (λ e. (e ≡ Code.Mem) ⊎ ((e ≡ Code.Ice) × (read text.now ≡ Err Code.Ice))) }
     {
-        match literal(alloc, text, mode)? {
-            Some(bytes) => Ok(Pattern {
+        if let Some(bytes) = literal(alloc, text, mode)? {
+            return Ok(Pattern {
                 mode,
                 form: Form::Literal(bytes),
-            }),
-            None => Ok(Pattern {
-                mode,
-                form: Form::Elements(read(alloc, text)?),
-            }),
+            });
         }
+        let elements = read(alloc, text)?;
+        let anchor = Anchor::of(mode, &elements);
+        Ok(Pattern {
+            mode,
+            form: Form::Elements(elements, anchor),
+        })
     }
 }
 
@@ -95,7 +97,7 @@ impl fmt::Display for Pattern {
     fn fmt<W: fmt::Write>(&self, f: &mut fmt::Formatter<W>) -> fmt::Result {
         match &self.form {
             Form::Literal(bytes) => show_bytes(bytes, f),
-            Form::Elements(elements) => show_elements(elements, f),
+            Form::Elements(elements, _) => show_elements(elements, f),
         }
     }
 }
@@ -114,28 +116,28 @@ pub fn matches_at(pattern: &Pattern, halves: (&[u8], &[u8]), at: usize) -> Optio
                 None
             }
         }
-        Form::Elements(elements) => match_end(pattern.mode, elements, &text, at),
+        Form::Elements(elements, _) => match_end(pattern.mode, elements, &text, at),
     }
 }
 
 impl Pattern {
     fn forward(&self) -> Forward<'_>
         ensures sought { sought_forward result ≡ self.now }
-        ensures ready { IsTrue (is_ready_forward result) }
+        ensures ready { IsReadyForward result }
     {
         match &self.form {
             Form::Literal(bytes) => Forward::Literal(self.mode, Finder::new(bytes)),
-            Form::Elements(elements) => Forward::Elements(self.mode, elements),
+            Form::Elements(elements, anchor) => Forward::Elements(self.mode, elements, anchor),
         }
     }
 
     fn backward(&self) -> Backward<'_>
         ensures sought { sought_backward result ≡ self.now }
-        ensures ready { IsTrue (is_ready_backward result) }
+        ensures ready { IsReadyBackward result }
     {
         match &self.form {
             Form::Literal(bytes) => Backward::Literal(self.mode, FinderRev::new(bytes)),
-            Form::Elements(elements) => Backward::Elements(self.mode, elements),
+            Form::Elements(elements, anchor) => Backward::Elements(self.mode, elements, anchor),
         }
     }
 }

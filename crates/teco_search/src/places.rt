@@ -1,8 +1,10 @@
-//! Searching place by place.
-ghost use Rattle.std.specs.Prelude.{◌≡◌, ◌<◌, ◌≤◌, length, IfSome};
+//! Searching for elements, from one place of their anchor to the next.
+ghost use Rattle.std.specs.Prelude.{◌≡◌, ◌+◌, ◌<◌, ◌≤◌, length, IfSome};
+ghost use Rattle.teco_search.specs.Anchor.{IsAnchored, FindsLastBelow};
 ghost use Rattle.teco_search.specs.Occurrence.{looked_for, BeginsForward, BeginsBackward, before, backward};
 ghost use Rattle.teco_search.specs.Run.{Remembers, behind_run};
 
+use crate::anchor::Anchor;
 use crate::element::Element;
 use crate::joined::Joined;
 use crate::run::{Run, match_end_by};
@@ -12,20 +14,59 @@ use teco_core::CaseMode;
 pub(crate) fn first_from(
     mode: CaseMode,
     elements: &[Element],
+    anchor: &Anchor,
     run: &mut Run,
     text: &Joined,
     from: usize,
 ) -> Option<(usize, usize)>
-    requires some { 0 < length elements.now }
+    requires anchored { IsAnchored mode elements.now anchor.now }
+    requires within { from ≤ length text.now }
     requires knows { Remembers mode (behind_run elements.now) text.now run.old }
     ensures value { BeginsForward (looked_for mode elements.now) text.now from result }
     ensures within { IfSome result (λ m. (from ≤ m.0) × (m.0 < m.1) × (m.1 ≤ length text.now)) }
     ensures knows { Remembers mode (behind_run elements.now) text.now run.new }
 {
-    'starts: for start in from..text.len() {
+    if anchor.offset >= text.len() - from {
+        return None;
+    }
+    let mut at = from + anchor.offset;
+    'places: while let Some(place) = text.first_of(&anchor.bytes, at) {
+        let start = place - anchor.offset;
         if let Some(end) = match_end_by(mode, elements, run, text, start) {
             return Some((start, end));
         }
+        at = place + 1;
+    }
+    None
+}
+
+/// The match of highest start among those that have their anchor before a place and end at or before another.
+fn last_below(
+    mode: CaseMode,
+    elements: &[Element],
+    anchor: &Anchor,
+    run: &mut Run,
+    text: &Joined,
+    below: usize,
+    to: usize,
+) -> Option<(usize, usize)>
+    requires anchored { IsAnchored mode elements.now anchor.now }
+    requires knows { Remembers mode (behind_run elements.now) text.now run.old }
+    ensures value { FindsLastBelow (looked_for mode elements.now) text.now anchor.now.offset below to result }
+    ensures knows { Remembers mode (behind_run elements.now) text.now run.new }
+{
+    let mut at = below.min(text.len());
+    'places: while let Some(place) = text.last_of(&anchor.bytes, at) {
+        if place < anchor.offset {
+            return None;
+        }
+        let start = place - anchor.offset;
+        if let Some(end) = match_end_by(mode, elements, run, text, start) {
+            if end <= to {
+                return Some((start, end));
+            }
+        }
+        at = place;
     }
     None
 }
@@ -34,50 +75,42 @@ pub(crate) fn first_from(
 pub(crate) fn last_by_start(
     mode: CaseMode,
     elements: &[Element],
+    anchor: &Anchor,
     run: &mut Run,
     text: &Joined,
     from: usize,
 ) -> Option<(usize, usize)>
-    requires some { 0 < length elements.now }
+    requires anchored { IsAnchored mode elements.now anchor.now }
+    requires within { from ≤ length text.now }
     requires knows { Remembers mode (behind_run elements.now) text.now run.old }
     ensures value { let sought = looked_for mode elements.now in BeginsBackward sought text.now (backward sought text.now from) result }
     ensures within { IfSome result (λ m. (m.0 < m.1) × (m.1 ≤ length text.now)) }
     ensures knows { Remembers mode (behind_run elements.now) text.now run.new }
 {
     let len = text.len();
-    let mut start = if from < len { from + 1 } else { len };
-    'starts: while start > 0 {
-        start -= 1;
-        if let Some(end) = match_end_by(mode, elements, run, text, start) {
-            return Some((start, end));
-        }
-    }
-    None
+    let below = if anchor.offset < len - from {
+        from + anchor.offset + 1
+    } else {
+        len
+    };
+    last_below(mode, elements, anchor, run, text, below, len)
 }
 
 /// The match of highest start among those that end at or before a place.
 pub(crate) fn last_by_end(
     mode: CaseMode,
     elements: &[Element],
+    anchor: &Anchor,
     run: &mut Run,
     text: &Joined,
     to: usize,
 ) -> Option<(usize, usize)>
-    requires some { 0 < length elements.now }
-    requires knows { Remembers mode (behind_run elements.now) text.now run.old }
+    requires anchored { IsAnchored mode elements.now anchor.now }
     requires within { to ≤ length text.now }
+    requires knows { Remembers mode (behind_run elements.now) text.now run.old }
     ensures value { let sought = looked_for mode elements.now in BeginsBackward sought text.now (before sought text.now to) result }
     ensures within { IfSome result (λ m. (m.0 < m.1) × (m.1 ≤ to)) }
     ensures knows { Remembers mode (behind_run elements.now) text.now run.new }
 {
-    let mut start = to;
-    'starts: while start > 0 {
-        start -= 1;
-        if let Some(end) = match_end_by(mode, elements, run, text, start) {
-            if end <= to {
-                return Some((start, end));
-            }
-        }
-    }
-    None
+    last_below(mode, elements, anchor, run, text, to, to)
 }

@@ -1,9 +1,10 @@
 //! The occurrences of a pattern, one after the other.
-ghost use Rattle.std.specs.Prelude.{◌≡◌, ◌-◌, ◌<◌, ◌≤◌, length, IsTrue, IfSome, slice_get};
+ghost use Rattle.std.specs.Prelude.{◌≡◌, ◌-◌, ◌<◌, ◌≤◌, length, IfSome, slice_get};
 ghost use Rattle.teco_search.specs.Occurrence.{BeginsForward, BeginsBackward, forward, before, backward};
 ghost use Rattle.teco_search.specs.Run.{Knows};
-ghost use Rattle.teco_search.specs.Search.{sought_forward, sought_backward, is_ready_forward, is_ready_backward};
+ghost use Rattle.teco_search.specs.Search.{sought_forward, sought_backward, IsReadyForward, IsReadyBackward};
 
+use crate::anchor::Anchor;
 use crate::element::Element;
 use crate::joined::Joined;
 use crate::run::Run;
@@ -15,19 +16,19 @@ use teco_core::CaseMode;
 #[derive(Drop)]
 pub(crate) enum Forward<'p> {
     Literal(CaseMode, Finder<'p>),
-    Elements(CaseMode, &'p [Element]),
+    Elements(CaseMode, &'p [Element], &'p Anchor),
 }
 
 /// A pattern made ready for a search from the back.
 #[derive(Drop)]
 pub(crate) enum Backward<'p> {
     Literal(CaseMode, FinderRev<'p>),
-    Elements(CaseMode, &'p [Element]),
+    Elements(CaseMode, &'p [Element], &'p Anchor),
 }
 
 /// The occurrence of least start at or after a place.
 fn first_from(search: &Forward, run: &mut Run, text: &Joined, from: usize) -> Option<(usize, usize)>
-    requires ready { IsTrue (is_ready_forward search.now) }
+    requires ready { IsReadyForward search.now }
     requires within { from ≤ length text.now }
     requires knows { Knows (sought_forward search.now) text.now run.old }
     ensures value { BeginsForward (sought_forward search.now) text.now from result }
@@ -39,7 +40,9 @@ fn first_from(search: &Forward, run: &mut Run, text: &Joined, from: usize) -> Op
             let start = literal::first_from(finder, text, from)?;
             Some((start, start + finder.needle().len()))
         }
-        Forward::Elements(mode, elements) => places::first_from(*mode, elements, run, text, from),
+        Forward::Elements(mode, elements, anchor) => places::first_from(
+            *mode, elements, anchor, run, text, from,
+        ),
     }
 }
 
@@ -50,7 +53,7 @@ pub(crate) fn nth_forward(
     from: usize,
     n: u32,
 ) -> Option<(usize, usize)>
-    requires ready { IsTrue (is_ready_forward search.now) }
+    requires ready { IsReadyForward search.now }
     requires within { from ≤ length text.now }
     requires some { 0 < n }
     ensures { result ≡ slice_get (forward (sought_forward search.now) text.now from) (n - 1) }
@@ -66,7 +69,7 @@ pub(crate) fn nth_forward(
 
 /// How many occurrences there are forward.
 pub(crate) fn count_forward(search: &Forward, text: &Joined, from: usize) -> usize
-    requires { IsTrue (is_ready_forward search.now) }
+    requires { IsReadyForward search.now }
     ensures value { result ≡ length (forward (sought_forward search.now) text.now from) }
     ensures past { length text.now ≤ from → result ≡ 0 }
 {
@@ -90,7 +93,7 @@ fn last_by_start(
     text: &Joined,
     from: usize,
 ) -> Option<(usize, usize)>
-    requires ready { IsTrue (is_ready_backward search.now) }
+    requires ready { IsReadyBackward search.now }
     requires within { from ≤ length text.now }
     requires knows { Knows (sought_backward search.now) text.now run.old }
     ensures value { let sought = sought_backward search.now in BeginsBackward sought text.now (backward sought text.now from) result }
@@ -105,15 +108,15 @@ fn last_by_start(
             let start = literal::last_by(finder, text, to)?;
             Some((start, start + len))
         }
-        Backward::Elements(mode, elements) => places::last_by_start(
-            *mode, elements, run, text, from,
+        Backward::Elements(mode, elements, anchor) => places::last_by_start(
+            *mode, elements, anchor, run, text, from,
         ),
     }
 }
 
 /// The occurrence of highest start among those that end at or before a place.
 fn last_by_end(search: &Backward, run: &mut Run, text: &Joined, to: usize) -> Option<(usize, usize)>
-    requires ready { IsTrue (is_ready_backward search.now) }
+    requires ready { IsReadyBackward search.now }
     requires within { to ≤ length text.now }
     requires knows { Knows (sought_backward search.now) text.now run.old }
     ensures value { let sought = sought_backward search.now in BeginsBackward sought text.now (before sought text.now to) result }
@@ -125,7 +128,9 @@ fn last_by_end(search: &Backward, run: &mut Run, text: &Joined, to: usize) -> Op
             let start = literal::last_by(finder, text, to)?;
             Some((start, start + finder.needle().len()))
         }
-        Backward::Elements(mode, elements) => places::last_by_end(*mode, elements, run, text, to),
+        Backward::Elements(mode, elements, anchor) => places::last_by_end(
+            *mode, elements, anchor, run, text, to,
+        ),
     }
 }
 
@@ -136,7 +141,7 @@ pub(crate) fn nth_backward(
     from: usize,
     n: u32,
 ) -> Option<(usize, usize)>
-    requires ready { IsTrue (is_ready_backward search.now) }
+    requires ready { IsReadyBackward search.now }
     requires within { from ≤ length text.now }
     requires some { 0 < n }
     ensures { result ≡ slice_get (backward (sought_backward search.now) text.now from) (n - 1) }

@@ -1,17 +1,41 @@
-use Rattle.std.proofs.Common.{sym, arith}
+use Rattle.std.proofs.Common.{◌<◌, ◌≤◌, ◌-◌, length, sym, ◌∙◌, arith}
 use Rattle.teco_search.specs.Occurrence.{looked_for}
+use Rattle.teco_search.proofs.Anchored.{none_before, none_after, none_more, none_fits}
 use Rattle.teco_search.proofs.Occurring.{ends_past, forward-none, forward-some}
 use Rattle.teco_search.proofs.places.first_from.Goals as goal
 
-pub returns-in-Some-clause-value : goal.returns-in-Some-clause-value
-returns-in-Some-clause-value c =
-    forward-some (looked_for c.args.mode c.args.elements.now) c.args.text.now c.requires.some c.args.from c.starts.start c.in-Some.end (omega arith) (sym c.in-Some.ensures.value) c.starts.invariant.none
+pub returns-then-anchor-len-clause-value : goal.returns-then-anchor-len-clause-value
+returns-then-anchor-len-clause-value c =
+    let some : 0 < length c.args.elements.now = omega (arith, c.requires.anchored.within) in
+    let room : length c.args.text.now - c.args.from ≤ c.args.anchor.now.offset = omega (arith, c.len.ensures.value) in
+    forward-none (looked_for c.args.mode c.args.elements.now) c.args.text.now some c.args.from (λ k low high. none_fits c.args.mode c.args.elements.now c.args.anchor.now c.requires.anchored c.args.text.now c.args.from k room low)
 
-pub returns-in-Some-clause-within : goal.returns-in-Some-clause-within
-returns-in-Some-clause-within c =
-    let ends = ends_past (looked_for c.args.mode c.args.elements.now) c.args.text.now c.requires.some c.starts.start c.in-Some.end (sym c.in-Some.ensures.value) in
-    (omega arith, ends.past, ends.within)
+pub places-preserved : goal.places-preserved
+places-preserved c =
+    let place = c.in-Some.ensures.0 in
+    record {
+      low = omega (arith, place.low, c.places.invariant.low);
+      high = omega (arith, place.high);
+      none = none_more c.args.mode c.args.elements.now c.args.anchor.now c.requires.anchored c.args.text.now c.len.ensures.bytes c.args.from c.places.at c.places.invariant.none c.in-Some.place place
+          (sym c.match_end_by.ensures.value ∙ c.in_default-match_end_by.is);
+      knows = c.match_end_by.ensures.remembers;
+    }
+
+pub returns-in-Some-match_end_by-clause-value : goal.returns-in-Some-match_end_by-clause-value
+returns-in-Some-match_end_by-clause-value c =
+    let some : 0 < length c.args.elements.now = omega (arith, c.requires.anchored.within) in
+    let place = c.in-Some.ensures.0 in
+    forward-some (looked_for c.args.mode c.args.elements.now) c.args.text.now some c.args.from (c.in-Some.place - c.args.anchor.now.offset) c.in-Some-match_end_by.end (omega (arith, place.low, c.places.invariant.low)) (sym c.in-Some-match_end_by.ensures.value)
+    (λ j low below. none_before c.args.mode c.args.elements.now c.args.anchor.now c.requires.anchored c.args.text.now c.len.ensures.bytes c.args.from c.places.at c.places.invariant.none c.in-Some.place place j low (omega arith))
+
+pub returns-in-Some-match_end_by-clause-within : goal.returns-in-Some-match_end_by-clause-within
+returns-in-Some-match_end_by-clause-within c =
+    let some : 0 < length c.args.elements.now = omega (arith, c.requires.anchored.within) in
+    let ends = ends_past (looked_for c.args.mode c.args.elements.now) c.args.text.now some (c.in-Some.place - c.args.anchor.now.offset) c.in-Some-match_end_by.end (sym c.in-Some-match_end_by.ensures.value) in
+    (omega (arith, c.in-Some.ensures.0.low, c.places.invariant.low), ends.past, ends.within)
 
 pub returns-clause-value : goal.returns-clause-value
 returns-clause-value c =
-    forward-none (looked_for c.args.mode c.args.elements.now) c.args.text.now c.requires.some c.args.from (λ k low high. c.starts.invariant.none k low (omega arith))
+    let some : 0 < length c.args.elements.now = omega (arith, c.requires.anchored.within) in
+    forward-none (looked_for c.args.mode c.args.elements.now) c.args.text.now some c.args.from (λ k low high.
+    none_after c.args.mode c.args.elements.now c.args.anchor.now c.requires.anchored c.args.text.now c.len.ensures.bytes c.args.from c.places.at c.places.invariant.none c.in_default.ensures k low)

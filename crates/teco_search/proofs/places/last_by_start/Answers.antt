@@ -1,18 +1,30 @@
-use Rattle.std.proofs.Common.{◌-◌, sym, arith}
+use Rattle.std.proofs.Common.{◌≡◌, ◌+◌, ◌-◌, ◌<◌, ◌≤◌, ◌⊎◌, ℕ, length, inl, inr, subst, arith}
 use Rattle.teco_search.specs.Occurrence.{looked_for}
-use Rattle.teco_search.proofs.Occurring.{ends_past, backward-none, backward-some}
+use Rattle.teco_search.specs.Anchor.{FindsLastBelow}
+use Rattle.teco_search.proofs.Anchored.{begins_by_start, within_by}
 use Rattle.teco_search.proofs.places.last_by_start.Goals as goal
+use Rattle.teco_search.proofs.places.last_by_start.Goals.{then-anchor-len, else-anchor-len}
 
-pub returns-in-Some-clause-value : goal.returns-in-Some-clause-value
-returns-in-Some-clause-value c =
-    backward-some (looked_for c.args.mode c.args.elements.now) c.args.text.now c.requires.some c.args.from (c.starts.start - 1) c.in-Some.end (omega arith) (sym c.in-Some.ensures.value)
-    (λ j above by high. c.starts.invariant.none j (omega arith) by high)
+-- the anchors of the starts by a place, where they are within the text
+record AreBelow (from offset len below : ℕ) : Type 0 where
+  into : (k : ℕ) → k ≤ from → k + offset < len → k + offset < below
+  out : (k : ℕ) → k + offset < below → k ≤ from
 
-pub returns-in-Some-clause-within : goal.returns-in-Some-clause-within
-returns-in-Some-clause-within c =
-    let ends = ends_past (looked_for c.args.mode c.args.elements.now) c.args.text.now c.requires.some (c.starts.start - 1) c.in-Some.end (sym c.in-Some.ensures.value) in
-    (ends.past, ends.within)
+below_of : (from offset len below : ℕ) → ((offset < len - from) × (below ≡ from + offset + 1)) ⊎ ((len - from ≤ offset) × (below ≡ len)) → AreBelow from offset len below
+below_of from offset len below (inl here) = let same = here.1 in record { into = λ k low inside. omega arith; out = λ k under. omega arith }
+below_of from offset len below (inr past) = let room = past.0 in let same = past.1 in record { into = λ k low inside. omega arith; out = λ k under. omega arith }
 
 pub returns-clause-value : goal.returns-clause-value
 returns-clause-value c =
-    backward-none (looked_for c.args.mode c.args.elements.now) c.args.text.now c.requires.some c.args.from (λ k by high. c.starts.invariant.none k (omega arith) by high)
+    let below : AreBelow c.args.from c.args.anchor.now.offset c.len-len.result c.if-anchor-len.below = below_of c.args.from c.args.anchor.now.offset c.len-len.result c.if-anchor-len.below (elim c.if-anchor-len.branch [
+      | then-anchor-len w ↦ inl (w.if-anchor-len.true, w.below-is)
+      | else-anchor-len w ↦ inr (w.if-anchor-len.false, w.below-is)
+    ]) in
+    begins_by_start c.args.mode c.args.elements.now c.args.anchor.now c.requires.anchored c.args.text.now c.args.from c.if-anchor-len.below c.last_below.result
+    (λ k low inside. below.into k low (omega (arith, c.len-len.ensures.value))) below.out
+    (subst (λ n. FindsLastBelow (looked_for c.args.mode c.args.elements.now) c.args.text.now c.args.anchor.now.offset c.if-anchor-len.below n c.last_below.result) c.len-len.ensures.value c.last_below.ensures.value)
+
+pub returns-clause-within : goal.returns-clause-within
+returns-clause-within c =
+    within_by c.args.mode c.args.elements.now c.args.anchor.now c.requires.anchored c.args.text.now c.if-anchor-len.below (length c.args.text.now) c.last_below.result
+    (subst (λ n. FindsLastBelow (looked_for c.args.mode c.args.elements.now) c.args.text.now c.args.anchor.now.offset c.if-anchor-len.below n c.last_below.result) c.len-len.ensures.value c.last_below.ensures.value)

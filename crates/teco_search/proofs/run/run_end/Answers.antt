@@ -22,7 +22,7 @@ returns-then-holds-clause-value c =
 pub returns-then-end-at-clause-value : goal.returns-then-end-at-clause-value
 returns-then-end-at-clause-value c =
     let run = c.blanks_until-end.ensures in
-    let none = ends_here c.args.text.now c.args.at c.blanks_until-end.result c.stop.result c.len.result c.args.run.now.from c.args.run.now.end run.past run.short run.stops c.len.ensures c.stop.ensures (λ known. omega (arith, known.0, known.1)) in
+    let none = ends_here c.args.text.now c.args.at c.blanks_until-end.result c.stop.result c.len.result c.args.run.now.from c.args.run.now.end run.past run.short run.stops c.len.ensures.value c.stop.ensures (λ known. omega (arith, known.0, known.1)) in
     sym (match_no_run c.args.mode c.args.rest.now c.args.text.now c.args.at (ap (blanks_at c.args.text.now) (sym c.if-end-at.true) ∙ none))
 
 pub returns-then-goes_on-clause-value : goal.returns-then-goes_on-clause-value
@@ -35,7 +35,7 @@ returns-then-goes_on-clause-value c =
 pub returns-clause-value : goal.returns-clause-value
 returns-clause-value c =
     let run = c.blanks_until-end.ensures in
-    let none = ends_here c.args.text.now c.args.at c.blanks_until-end.result c.stop.result c.len.result c.args.run.now.from c.args.run.now.end run.past run.short run.stops c.len.ensures c.stop.ensures
+    let none = ends_here c.args.text.now c.args.at c.blanks_until-end.result c.stop.result c.len.result c.args.run.now.from c.args.run.now.end run.past run.short run.stops c.len.ensures.value c.stop.ensures
     (λ known. both_ways c.goes_on.result c.if-goes_on.false (c.goes_on.ensures.1 known)) in
     let whole = run.run c.blanks_until-end.result run.past (omega arith) in
     c.match_end-outcome.ensures ∙ sym (match_run c.args.mode c.args.rest.now c.args.text.now c.args.at c.blanks_until-end.result (omega (arith, whole, none)) (omega arith))
@@ -43,7 +43,7 @@ returns-clause-value c =
 pub returns-clause-remembers : goal.returns-clause-remembers
 returns-clause-remembers c =
     let run = c.blanks_until-end.ensures in
-    let none = ends_here c.args.text.now c.args.at c.blanks_until-end.result c.stop.result c.len.result c.args.run.now.from c.args.run.now.end run.past run.short run.stops c.len.ensures c.stop.ensures
+    let none = ends_here c.args.text.now c.args.at c.blanks_until-end.result c.stop.result c.len.result c.args.run.now.from c.args.run.now.end run.past run.short run.stops c.len.ensures.value c.stop.ensures
     (λ known. both_ways c.goes_on.result c.if-goes_on.false (c.goes_on.ensures.1 known)) in
     let whole = run.run c.blanks_until-end.result run.past (omega arith) in
     record { blanks = λ k low high. omega (arith, run.run k low (omega arith), whole, none); outcome = λ some. c.match_end-outcome.ensures }

@@ -6,11 +6,11 @@ use Rattle.teco_search.proofs.search.last_by_start.Goals as goal
 pub returns-in_err-start-in-Literal-clause-value : goal.returns-in_err-start-in-Literal-clause-value
 returns-in_err-start-in-Literal-clause-value c =
     let ready = ready_backward c.in-Literal.field-0 c.in-Literal.finder c.args.search.now c.in-Literal.is c.requires.ready in
-    let to : c.args.from + c.min.result ≡ c.args.from + min (length c.in-Literal.finder) (length c.args.text.now - c.args.from) = ap (λ n. c.args.from + n) (c.min.ensures ∙ ap (λ m. min m (c.len.result - c.args.from)) (ap length c.needle-len.ensures) ∙ ap (λ m. min (length c.in-Literal.finder) (m - c.args.from)) c.len.ensures) in
-    rw (c.from_residual.ensures, c.in-Literal.is) (literal_backward-none c.in-Literal.field-0 c.in-Literal.finder c.args.text.now ready.0 ready.1 c.args.from (c.args.from + c.min.result) to c.in_err-start-in-Literal.ensures)
+    let to : c.args.from + c.min.result ≡ c.args.from + min (length c.in-Literal.finder) (length c.args.text.now - c.args.from) = ap (λ n. c.args.from + n) (c.min.ensures ∙ ap (λ m. min m (c.len.result - c.args.from)) (ap length c.needle-len.ensures) ∙ ap (λ m. min (length c.in-Literal.finder) (m - c.args.from)) c.len.ensures.value) in
+    rw (c.from_residual.ensures, c.in-Literal.is) (literal_backward-none c.in-Literal.field-0 c.in-Literal.finder c.args.text.now ready.some ready.exact c.args.from (c.args.from + c.min.result) to c.in_err-start-in-Literal.ensures)
 
 pub returns-in_ok-start-in-Literal-clause-value : goal.returns-in_ok-start-in-Literal-clause-value
 returns-in_ok-start-in-Literal-clause-value c =
     let ready = ready_backward c.in-Literal.field-0 c.in-Literal.finder c.args.search.now c.in-Literal.is c.requires.ready in
-    let to : c.args.from + c.min.result ≡ c.args.from + min (length c.in-Literal.finder) (length c.args.text.now - c.args.from) = ap (λ n. c.args.from + n) (c.min.ensures ∙ ap (λ m. min m (c.len.result - c.args.from)) (ap length c.needle-len.ensures) ∙ ap (λ m. min (length c.in-Literal.finder) (m - c.args.from)) c.len.ensures) in
-    rw (c.needle-len.ensures, c.in-Literal.is) (literal_backward-some c.in-Literal.field-0 c.in-Literal.finder c.args.text.now ready.0 ready.1 c.args.from (c.args.from + c.min.result) c.in_ok-start-in-Literal.start to c.in_ok-start-in-Literal.ensures)
+    let to : c.args.from + c.min.result ≡ c.args.from + min (length c.in-Literal.finder) (length c.args.text.now - c.args.from) = ap (λ n. c.args.from + n) (c.min.ensures ∙ ap (λ m. min m (c.len.result - c.args.from)) (ap length c.needle-len.ensures) ∙ ap (λ m. min (length c.in-Literal.finder) (m - c.args.from)) c.len.ensures.value) in
+    rw (c.needle-len.ensures, c.in-Literal.is) (literal_backward-some c.in-Literal.field-0 c.in-Literal.finder c.args.text.now ready.some ready.exact c.args.from (c.args.from + c.min.result) c.in_ok-start-in-Literal.start to c.in_ok-start-in-Literal.ensures)

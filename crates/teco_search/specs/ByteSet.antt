@@ -1,0 +1,21 @@
+-- Sets of bytes.
+use Rattle.std.specs.Prelude.{◌≡◌, ℕ, ◌<◌, Some, Bool, false, ◌||◌, ◌==◌, List, slice_get}
+use Rattle.std.specs.Option.{option_map_or}
+use Rattle.teco_search.specs.declared.byte_set.ByteSet.{ByteSet}
+use Rattle.teco_search.specs.declared.byte_set.ByteSet.TheVariants.{Empty, One, Two, Three, Table}
+
+-- whether a table has a byte
+abbrev pub in_table : List Bool → ℕ → Bool
+in_table table x = option_map_or (λ is_in. is_in) (slice_get table x) false
+
+-- whether a byte is in a set
+abbrev pub contains : ByteSet → ℕ → Bool
+contains Empty x = false
+contains (One a) x = x == a
+contains (Two a b) x = x == a || x == b
+contains (Three a b c) x = x == a || x == b || x == c
+contains (Table table) x = in_table table x
+
+-- Each byte of a text fits in eight bits.
+pub record AreBytes (text : List ℕ) : Type 0 where
+  pub fits : (k b : ℕ) → slice_get text k ≡ Some b → b < 256
