@@ -19,9 +19,11 @@ use Rattle.teco_step.specs.Step.{Step, Moment}
 use Rattle.teco_step.specs.Stepping.{IsStepIn, IsStepKind, Steps, end_of, is_unfinished, is_unfinished_code, kind_effect, kind_takes_nothing, takes_nothing, takes_nothing_in}
 use Rattle.teco_machine.specs.Machine.{Cursor as MachineCursor, pass}
 use Rattle.teco_machine.specs.Quiet.{IsQuiet, QuietComing, is_plain, takes_no_memory}
-use Rattle.teco_machine.specs.Running.{GoesQuietly}
+use Rattle.teco_machine.specs.Running.{GoesQuietly, code_left}
 use Rattle.teco_machine.specs.View.{beginning, coming_of, cursor, item_at}
 use Rattle.teco_machine.specs.declared.cursor.Cursor.{Cursor}
+use Rattle.teco_machine.specs.declared.flow.Exit.{Exit}
+use Rattle.teco_machine.specs.declared.flow.Exit.TheVariants as exits
 use Rattle.teco_machine.specs.declared.flow.Flow.{Flow}
 use Rattle.teco_machine.specs.declared.flow.Flow.TheVariants.{On, Over}
 use Rattle.teco_machine.specs.declared.flow.Task.{Task}
@@ -66,3 +68,8 @@ ends_plain e name old new n f (inr (inr lacks)) h = let x : true ≡ false = sym
 pub steps_plain : ValueGoesOn → (text : List ℕ) (token : ScannedToken) (w : Setting) (s : State) (a : Arguments) (name : List ℕ) (old new : Moment) (n : After)
     → takes_nothing_in text token ≡ true → is_unfinished n ≡ false → Steps (kind_effect text token.kind w s a) name old new n → is_plain (end_of name n) ≡ true
 steps_plain values text token w s a name old new n h f did = ends_plain (kind_effect text token.kind w s a) name old new n f did (kind_plain values text token.kind w s a h)
+
+-- the end of a whole text
+pub ends_quietly : (exit : Exit) (code : Option Code) → code ≡ code_left exit → (exit ≡ exits.Over (Some Mem) → ⊥) → code ≡ Some Mem → ⊥
+ends_quietly exits.Return code is h e = let x : None ≡ Some Mem = sym is ∙ e in cc
+ends_quietly (exits.Over left) code is h e = h (ap exits.Over (sym is ∙ e))
