@@ -25,4 +25,5 @@ pub mod Stepped
 pub mod Seeking
 pub mod Calling
 pub mod Whole
+pub mod NoMemory
 pub mod Exits

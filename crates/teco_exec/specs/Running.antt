@@ -1,8 +1,9 @@
 -- A run of a whole string, as it is seen at a moment, and where it goes on from there.
-use Rattle.std.specs.Prelude.{◌≡◌, ◌<◌, ◌≤◌, ◌⊎◌, ℕ, zero, suc, ◌+◌, List, [], Bool, true, false, Option, Some, None, drop, length}
+use Rattle.std.specs.Prelude.{◌≡◌, ◌≢◌, ◌<◌, ◌≤◌, ◌⊎◌, ℕ, zero, suc, ◌+◌, List, [], Bool, true, false, Option, Some, None, drop, length}
 use Rattle.teco_core.specs.Arguments.{Arguments}
 use Rattle.teco_core.specs.ArgumentsView.{arguments}
 use Rattle.teco_core.specs.declared.code.Code.{Code}
+use Rattle.teco_core.specs.declared.code.Code.TheVariants.{Mem}
 use Rattle.teco_scan.specs.declared.token.Token.{Token}
 use Rattle.teco_store.specs.State.{State}
 use Rattle.teco_store.specs.Trail.{Trail}
@@ -12,6 +13,7 @@ use Rattle.teco_step.specs.Terminal.{Screen, Shows}
 use Rattle.teco_exec.specs.Machine.{Caller, Config, Further, Machine, runs, called, returned, Ready, step, block, Final, Now, arrives, paid, unpaid, run_within, start_config}
 use Rattle.teco_exec.specs.Machine as machine
 use Rattle.teco_exec.specs.MachineLaws.{MachineMeans}
+use Rattle.teco_exec.specs.Quiet.{IsQuiet}
 use Rattle.teco_exec.specs.Runs.{Runs, is_tty, trail_of}
 use Rattle.teco_exec.specs.StringMeaning.{string_meaning}
 use Rattle.teco_exec.specs.View.{beginning, cursor, item_at, opening_of}
@@ -167,6 +169,13 @@ IsPending text (Some task) = IsStepIn text task.token
 abbrev pub Pends : List ℕ → Option Task → Flow → Type 0
 Pends text pending flow.On = IsPending text pending
 Pends text pending f = pending ≡ None
+
+-- A text of values and arithmetic alone goes on at such a text, or is over, but not for want of memory.
+abbrev pub GoesQuietly : Cursor → Option Task → Flow → Type 0
+GoesQuietly c pending flow.On = IsQuiet (cursor c) × (pending ≡ None)
+GoesQuietly c pending (flow.Call text) = ⊥
+GoesQuietly c pending flow.Return = Unit {0}
+GoesQuietly c pending (flow.Over code) = code ≢ Some Mem
 
 -- neither want of memory nor a failed terminal
 abbrev pub IsFinished : Option Code → Type 0

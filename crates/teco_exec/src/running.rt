@@ -1,12 +1,16 @@
 //! The run of a command string.
-ghost use Rattle.std.specs.Prelude.{◌≡◌, ◌≤◌, ℕ, List, length};
+ghost use Rattle.std.specs.Prelude.{◌≡◌, ◌≤◌, ℕ, List, Some, length, true};
 ghost use Rattle.teco_core.specs.ArgumentsView.{arguments};
+ghost use Rattle.teco_core.specs.declared.code.Code.TheVariants.{Mem};
+ghost use Rattle.teco_scan.specs.Lists.{nodes};
 ghost use Rattle.teco_step.specs.Terminal.{Shows};
 ghost use Rattle.teco_exec.specs.Machine.{Caller};
 ghost use Rattle.teco_exec.specs.Running.{Going, Origin, Reaches, at_beginning, exits, host, in_return};
 ghost use Rattle.teco_exec.specs.View.{cursor as cursor_of};
+ghost use Rattle.teco_exec.specs.Quiet.{takes_no_memory};
 ghost use Rattle.teco_exec.specs.Runs.{Runs, is_tty, trail_of};
 ghost use Rattle.teco_exec.specs.StringMeaning.{string_meaning};
+ghost use Rattle.teco_exec.specs.declared.flow.Exit.TheVariants as exit;
 
 use crate::cursor::Cursor;
 use crate::flow::{Exit, Flow, Steps, Task};
@@ -33,6 +37,7 @@ pub fn run<D: Desk, T: Terminal>(desk: &mut D, text: &[u8], limit: u64, term: &m
     ensures again { D.state desk.new ≡ (string_meaning (D.state desk.old) text.now result.steps).state }
     ensures follows { (floor : ℕ) → D.follows desk.old (trail_of (D.state desk.old) text.now floor 0)
         → D.follows desk.new (trail_of (D.state desk.old) text.now floor result.steps) }
+    ensures no_memory { takes_no_memory (nodes text.now) ≡ true → result.code ≡ Some Mem → ⊥ }
 {
     machine_laws();
     let mut args = Args::new();
@@ -60,6 +65,7 @@ fn run_text<D: Desk, T: Terminal>(
         → Going o (host (D.state desk.old) (D.follows desk.old) (T.screen term.old) steps.old.done) (at_beginning (arguments args.old) text.now callers)
         → Reaches o (host (D.state desk.old) (D.follows desk.old) (T.screen term.old) steps.old.done)
         (host (D.state desk.new) (D.follows desk.new) (T.screen term.new) steps.new.done) (exits (arguments args.new) callers result) }
+    ensures no_memory { takes_no_memory (nodes text.now) ≡ true → result ≡ exit.Over (Some Mem) → ⊥ }
 {
     let mut cursor = Cursor::begin(text, *args);
     let mut pending: Option<Task> = None;

@@ -1,11 +1,12 @@
 //! One step of a text.
 ghost use Rattle.std.specs.Prelude.{◌≡◌, ◌<◌, ◌≤◌, ◌⊎◌, ℕ, List, None, Some, MatchOption, MatchResult, drop, false, length, true};
 ghost use Rattle.teco_scan.specs.Scan.{scan};
-ghost use Rattle.teco_step.specs.Stepping.{IsStepIn, end_of, is_unfinished, is_unfinished_code, name_in};
+ghost use Rattle.teco_step.specs.Stepping.{IsStepIn, end_of, is_unfinished, is_unfinished_code, name_in, takes_nothing_in};
 ghost use Rattle.teco_step.specs.Terminal.{Screen};
 ghost use Rattle.teco_step.specs.declared.next.Next.TheVariants.{Error};
 ghost use Rattle.teco_exec.specs.Machine.{Caller, Now, leave_found, resumed, run_within};
-ghost use Rattle.teco_exec.specs.Running.{Finishes, GoesOn, Going, IsPending, Origin, Pends, Reaches, at_cursor, at_opening, at_token, config, flows, host, reached_run};
+ghost use Rattle.teco_exec.specs.Running.{Finishes, GoesOn, GoesQuietly, Going, IsPending, Origin, Pends, Reaches, at_cursor, at_opening, at_token, config, flows, host, reached_run};
+ghost use Rattle.teco_exec.specs.Quiet.{IsQuiet, is_plain};
 ghost use Rattle.teco_exec.specs.Search.{is_search};
 ghost use Rattle.teco_exec.specs.View.{MayOpen, cursor as cursor_of, item_at};
 ghost use Rattle.teco_exec.specs.declared.flow.Flow.TheVariants as flow;
@@ -15,7 +16,7 @@ use crate::flow::{Flow, Steps, Task};
 use crate::moves::{Next, Opening};
 use teco_core::Code;
 use teco_scan::{Found, Item, TextCommand, Token, TokenKind, block_laws, token_at};
-use teco_step::{Next as After, Terminal, Work, step_token};
+use teco_step::{Next as After, Terminal, Work, effect_laws, step_token};
 use teco_store::Desk;
 
 /// Does one step of a text: the further one that is pending, or else what comes at the cursor. What uses no step is passed one token
@@ -41,6 +42,7 @@ pub(crate) fn step<D: Desk, T: Terminal>(
         → Going o (host (D.state desk.old) (D.follows desk.old) (T.screen term.old) steps.old.done) (at_cursor cursor.old pending.old callers)
         → Reaches o (host (D.state desk.old) (D.follows desk.old) (T.screen term.old) steps.old.done)
         (host (D.state desk.new) (D.follows desk.new) (T.screen term.new) steps.new.done) (flows cursor.new pending.new callers result) }
+    ensures quiet { IsQuiet (cursor_of cursor.old) → pending.old ≡ None → GoesQuietly cursor.new pending.new result }
 {
     block_laws();
     if let Some(task) = *pending {
@@ -90,7 +92,9 @@ fn token_step<D: Desk, T: Terminal>(
         → Going o (host (D.state desk.old) (D.follows desk.old) (T.screen term.old) steps.old.done) (at_token cursor.old token.now work callers)
         → Reaches o (host (D.state desk.old) (D.follows desk.old) (T.screen term.old) steps.old.done)
         (host (D.state desk.new) (D.follows desk.new) (T.screen term.new) steps.new.done) (flows cursor.new pending.new callers result) }
+    ensures quiet { IsQuiet (cursor_of cursor.old) → takes_nothing_in cursor.old.text.now token.now ≡ true → GoesQuietly cursor.new pending.new result }
 {
+    effect_laws();
     if steps.done == steps.limit {
         return over(Code::Lim);
     }
@@ -157,6 +161,7 @@ fn resume(cursor: &mut Cursor, token: &Token, next: After, pending: &mut Option<
         → run_within fuel (resumed token.now.modifiers (item_at cursor.old.text.now token.now.kind) (end_of (name_in cursor.old.text.now token.now) next)
         (config cursor.old.text.now (cursor_of cursor.old) None callers now))
         ≡ reached_run fuel now (flows cursor.new pending.new callers result) }
+    ensures quiet { IsQuiet (cursor_of cursor.old) → is_plain (end_of (name_in cursor.old.text.now token.now) next) ≡ true → GoesQuietly cursor.new pending.new result }
 {
     match next {
         After::On => Flow::On,

@@ -7,6 +7,7 @@ use Rattle.teco_exec.specs.Running.{Comes, Ended, Going, IsPending, Pends, Reach
 use Rattle.teco_exec.specs.declared.flow.Flow.TheVariants.{On, Call, Return, Over}
 use Rattle.teco_exec.proofs.Calling.{begins, caller, comes_back, enters, less_left, too_deep}
 use Rattle.teco_exec.proofs.Going.{continues, since}
+use Rattle.teco_exec.proofs.NoMemory.{begins_quietly}
 use Rattle.teco_exec.proofs.running.+run_text.Goals as goal
 
 pub running-init : goal.running-init
@@ -15,6 +16,7 @@ running-init g t c = record {
   limit = refl;
   after = omega arith;
   pending = tt;
+  quiet = λ h. (begins_quietly (arguments c.args.args.now) c.args.text.now (cursor c.begin-cursor.result) c.begin-cursor.ensures.begins h, refl);
   going = λ o callers limit deep e. begins o _ (arguments c.args.args.now) c.args.text.now c.begin-cursor.result callers c.begin-cursor.ensures.text c.begin-cursor.ensures.begins e;
 }
 
@@ -34,6 +36,7 @@ running-preserved-in-On g t c = record {
   limit = c.in-On.ensures.limit ∙ c.running.invariant.limit;
   after = omega (arith, c.running.invariant.after, c.in-On.ensures.after);
   pending = c.in-On.ensures.pending;
+  quiet = λ h. let q = c.running.invariant.quiet h in c.in-On.ensures.quiet q.0 q.1;
   going = λ o callers limit deep e.
       let there = c.running.invariant.going o callers limit deep e in
       since o _ _ _ (goes (at_cursor c.step.new.cursor c.step.new.pending callers)) there.follows (c.in-On.ensures.reaches o callers (limit ∙ sym c.running.invariant.limit) there.going);
@@ -66,6 +69,7 @@ running-preserved g t c = record {
   limit = c.in-Return-run_text.ensures.limit ∙ c.in-Call.ensures.limit ∙ c.running.invariant.limit;
   after = omega (arith, c.running.invariant.after, c.in-Call.ensures.after, c.in-Return-run_text.ensures.after);
   pending = subst (IsPending c.go_on_with.new.cursor.text.now) (sym c.in-Call.ensures.pending) tt;
+  quiet = λ h. let q = c.running.invariant.quiet h in absurd (c.in-Call.ensures.quiet q.0 q.1);
   going = λ o callers limit deep e.
       let there = c.running.invariant.going o callers limit deep e in
       let here = c.in-Call.ensures.reaches o callers (limit ∙ sym c.running.invariant.limit) there.going in
@@ -105,3 +109,9 @@ pub returns-in-Over-clause-reaches : goal.returns-in-Over-clause-reaches
 returns-in-Over-clause-reaches g t c o callers limit deep e =
     let there = c.running.invariant.going o callers limit deep e in
     since o _ _ _ (over c.in-Over.code) there.follows (c.in-Over.ensures.reaches o callers (limit ∙ sym c.running.invariant.limit) there.going)
+
+pub returns-in-Over-run_text-clause-no_memory : goal.returns-in-Over-run_text-clause-no_memory
+returns-in-Over-run_text-clause-no_memory g t c h e = let q = c.running.invariant.quiet h in c.in-Call.ensures.quiet q.0 q.1
+
+pub returns-in-Over-clause-no_memory : goal.returns-in-Over-clause-no_memory
+returns-in-Over-clause-no_memory g t c h e = let q = c.running.invariant.quiet h in c.in-Over.ensures.quiet q.0 q.1 cc

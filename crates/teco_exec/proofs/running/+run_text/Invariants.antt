@@ -1,6 +1,8 @@
-use Rattle.std.proofs.Common.{◌≡◌, ◌≤◌, ℕ, ◌-◌, ◌+◌, ◌*◌, List, length}
+use Rattle.std.proofs.Common.{◌≡◌, ◌≤◌, ℕ, None, true, ◌-◌, ◌+◌, ◌*◌, List, length}
 use Rattle.teco_core.specs.ArgumentsView.{arguments}
 use Rattle.teco_exec.specs.Machine.{Caller}
+use Rattle.teco_scan.specs.Lists.{nodes}
+use Rattle.teco_exec.specs.Quiet.{IsQuiet, takes_no_memory}
 use Rattle.teco_exec.specs.View.{cursor}
 use Rattle.teco_exec.specs.Running.{Comes, Going, IsPending, Origin, at_beginning, at_cursor, host}
 use Rattle.teco_exec.proofs.running.+run_text.Given as goal
@@ -14,6 +16,7 @@ invariant-running g l = record {
   limit : l.steps.limit ≡ l.fn.steps.limit;
   after : l.fn.steps.done ≤ l.steps.done;
   pending : IsPending l.cursor.text.now l.pending;
+  quiet : takes_no_memory (nodes l.text) ≡ true → IsQuiet (cursor l.cursor) × (l.pending ≡ None);
   going : (o : Origin) (callers : List Caller) → o.limit ≡ l.fn.steps.limit → length callers ≡ l.depth
       → Going o (host (g.D.Desk.state l.fn.desk) (g.D.Desk.follows l.fn.desk) (g.T.Terminal.screen l.fn.term) l.fn.steps.done) (at_beginning (arguments l.fn.args) l.text callers)
       → Comes o (host (g.D.Desk.state l.fn.desk) (g.D.Desk.follows l.fn.desk) (g.T.Terminal.screen l.fn.term) l.fn.steps.done)

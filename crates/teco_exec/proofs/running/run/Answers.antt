@@ -2,6 +2,7 @@ use Rattle.std.proofs.Common.{[], refl, arith}
 use Rattle.teco_core.specs.ArgumentsView.{arguments}
 use Rattle.teco_exec.specs.Running.{Origin, host}
 use Rattle.teco_exec.proofs.Whole.{whole_begins, whole_ends}
+use Rattle.teco_exec.proofs.NoMemory.{ends_quietly}
 use Rattle.teco_exec.proofs.running.run.Goals as goal
 
 pub returns-clause-run : goal.returns-clause-run
@@ -24,3 +25,6 @@ returns-clause-follows g c =
     let w = whole_ends o _ _ (arguments c.run_text-exit.new.args) c.run_text-exit.result c.code.result c.code.ensures (omega (arith, c.run_text-exit.ensures.limit, c.run_text-exit.new.steps.within))
     (c.run_text-exit.ensures.reaches o [] refl refl (whole_begins c.machine_laws.ensures.means o (g.D.Desk.follows c.args.desk.now) _ c.new-args.ensures)) in
     w.follows
+
+pub returns-clause-no_memory : goal.returns-clause-no_memory
+returns-clause-no_memory g c quiet = ends_quietly c.run_text-exit.result c.code.result c.code.ensures (c.run_text-exit.ensures.no_memory quiet)

@@ -4,7 +4,9 @@ use Rattle.teco_exec.specs.View.{IsStepFound}
 use Rattle.teco_core.specs.ArgumentsView.{arguments}
 use Rattle.teco_exec.proofs.Going.{settles}
 use Rattle.teco_exec.proofs.Seeking.{comes_block, comes_fault, comes_over, comes_token, passes_on, passes_short, pending_comes}
+use Rattle.teco_exec.proofs.NoMemory.{comes_quietly}
 use Rattle.teco_exec.proofs.Stepped.{ends_over}
+use Rattle.teco_exec.specs.declared.moves.Next.TheVariants.{Block}
 use Rattle.teco_exec.proofs.stepping.step.Goals as goal
 
 pub returns-in-Some-clause-reaches : goal.returns-in-Some-clause-reaches
@@ -47,3 +49,7 @@ returns-in-Fault-clause-reaches g c o callers limit at =
     ends_over o _ _ c.pass.new.self c.args.pending.now callers c.over.result (Some c.in-Fault.code) c.over.ensures
     (settles o _ _ at (over (Some c.in-Fault.code)) c.in-Fault.ensures.told (omega (arith, limit, c.args.steps.now.within))
     (comes_fault c.block_laws.ensures c.args.cursor.now c.pass.new.self c.token_at-found.result c.args.pending.now c.in_default.is callers c.in-Fault.code c.in-Fault.ensures.comes))
+
+pub returns-in-Block-clause-quiet : goal.returns-in-Block-clause-quiet
+returns-in-Block-clause-quiet g c q none =
+    absurd (comes_quietly c.block_laws.ensures c.args.cursor.now c.pass.new.self c.token_at-found.result (Block c.in-Block.opening c.in-Block.to) c.in-Block.ensures.comes q)
