@@ -123,7 +123,7 @@ module _ (exit : ExitEndsWell) (more : MoreLimitChangesNothing) (s : State) (tex
       let steps : (string_meaning s text limit).steps ≡ (string_meaning s text k).steps = ap (λ (m : Meant). m.steps) same in
       absurd (omega arith)
 
-  runs_exit : (code : Option Code) (steps : ℕ) (typed : List ℕ) (new : State) → (string_meaning s text limit).steps ≤ limit → (string_meaning s text steps).steps ≤ steps
+  pub runs_exit : (code : Option Code) (steps : ℕ) (typed : List ℕ) (new : State) → (string_meaning s text limit).steps ≤ limit → (string_meaning s text steps).steps ≤ steps
       → Runs s text limit (record { code = code; steps = steps }) typed new → new.is_done ≡ true → code ≡ None
   runs_exit None steps typed new within few r over = refl
   runs_exit (Some code.Mem) steps typed new within few r over = absurd (unfinished steps r.before within few (sym (ap (λ (t : State). t.is_done) r.state) ∙ over))

@@ -1,5 +1,5 @@
 //! The run of a command string.
-ghost use Rattle.std.specs.Prelude.{◌≡◌, ◌≤◌, ℕ, List, Some, length, true};
+ghost use Rattle.std.specs.Prelude.{◌≡◌, ◌≤◌, ℕ, List, Some, length, true, false, None};
 ghost use Rattle.teco_core.specs.ArgumentsView.{arguments};
 ghost use Rattle.teco_core.specs.declared.code.Code.TheVariants.{Mem};
 ghost use Rattle.teco_scan.specs.Lists.{nodes};
@@ -14,7 +14,7 @@ ghost use Rattle.teco_exec.specs.declared.flow.Exit.TheVariants as exit;
 
 use crate::cursor::Cursor;
 use crate::flow::{Exit, Flow, Steps, Task};
-use crate::laws::machine_laws;
+use crate::laws::{machine_laws, meaning_laws};
 use crate::outcome::Outcome;
 use crate::stepping::step;
 use teco_core::{Args, Code};
@@ -38,8 +38,10 @@ pub fn run<D: Desk, T: Terminal>(desk: &mut D, text: &[u8], limit: u64, term: &m
     ensures follows { (floor : ℕ) → D.follows desk.old (trail_of (D.state desk.old) text.now floor 0)
         → D.follows desk.new (trail_of (D.state desk.old) text.now floor result.steps) }
     ensures no_memory { takes_no_memory (nodes text.now) ≡ true → result.code ≡ Some Mem → ⊥ }
+    ensures exit { (D.state desk.old).is_done ≡ false → (D.state desk.new).is_done ≡ true → result.code ≡ None }
 {
     machine_laws();
+    meaning_laws();
     let mut args = Args::new();
     let mut steps = Steps { done: 0, limit };
     let exit = run_text(desk, text, 0, &mut args, &mut steps, term);

@@ -3,6 +3,7 @@ use Rattle.teco_core.specs.ArgumentsView.{arguments}
 use Rattle.teco_exec.specs.Running.{Origin, host}
 use Rattle.teco_exec.proofs.Whole.{whole_begins, whole_ends}
 use Rattle.teco_exec.proofs.NoMemory.{ends_quietly}
+use Rattle.teco_exec.proofs.Exits.{runs_exit}
 use Rattle.teco_exec.proofs.running.run.Goals as goal
 
 pub returns-clause-run : goal.returns-clause-run
@@ -28,3 +29,11 @@ returns-clause-follows g c =
 
 pub returns-clause-no_memory : goal.returns-clause-no_memory
 returns-clause-no_memory g c quiet = ends_quietly c.run_text-exit.result c.code.result c.code.ensures (c.run_text-exit.ensures.no_memory quiet)
+
+pub returns-clause-exit : goal.returns-clause-exit
+returns-clause-exit g c = λ going over.
+    let o : Origin = record { state = g.D.Desk.state c.args.desk.now; text = c.args.text.now; screen = g.T.Terminal.screen c.args.term.now; limit = c.args.limit } in
+    let w = whole_ends o _ _ (arguments c.run_text-exit.new.args) c.run_text-exit.result c.code.result c.code.ensures (omega (arith, c.run_text-exit.ensures.limit, c.run_text-exit.new.steps.within))
+    (c.run_text-exit.ensures.reaches o [] refl refl (whole_begins c.machine_laws.ensures.means o (g.D.Desk.follows c.args.desk.now) _ c.new-args.ensures)) in
+    let laws = c.meaning_laws.ensures in
+    runs_exit laws.exit laws.more_limit o.state o.text o.limit going c.code.result c.run_text-exit.new.steps.done w.typed _ (laws.within_limit o.state o.text o.limit) (laws.within_limit o.state o.text c.run_text-exit.new.steps.done) w.runs over

@@ -1,4 +1,4 @@
-use Rattle.std.proofs.Common.{◌≡◌, [], ◌≤◌, ◌++◌, ◌∷◌, take, length, arith, sym, ap, ◌∙◌, subst, true, false, true≢false}
+use Rattle.std.proofs.Common.{◌≡◌, [], ◌≤◌, ◌++◌, ◌∷◌, take, length, arith, sym, ap, ◌∙◌, subst, true, false}
 use Rattle.std.proofs.lemmas.List.{length-map}
 use Rattle.teco_exec.specs.StringMeaning.{string_meaning}
 use Rattle.teco_exec.specs.Runs.{Runs}
@@ -7,7 +7,6 @@ use Rattle.teco_session.specs.History.{History, IsHistory, present, noted}
 use Rattle.teco_session.specs.Entries.{note_of, notes_of}
 use Rattle.teco_session.specs.declared.entry.Entry.{Entry}
 use Rattle.teco_session.proofs.Histories.{noted-added, present-noted, IsHistory-noted}
-use Rattle.teco_session.proofs.Finishing.{string_keeps}
 use Rattle.teco_session.proofs.session.Session.run.Given as given
 use Rattle.teco_session.proofs.session.Session.run.Goals as goal
 
@@ -56,7 +55,6 @@ returns-clause-step g c =
     let run = subst (λ s. Runs s c.args.text.now c.args.limit c.run-outcome.result ran.0 (state_of c.run-outcome.new.desk)) (c.in-Ok-copy.ensures ∙ c.editor-2.ensures.present) ran.1 in
     (ran.0, (state_of c.run-outcome.new.desk, going, run, noted_now g c), ran.2)
 
--- no string of today makes the session done
 pub returns-clause-exit : goal.returns-clause-exit
 returns-clause-exit g c = λ going over.
     let old = c.args.self.now in
@@ -64,6 +62,4 @@ returns-clause-exit g c = λ going over.
     let new : (present (noted old (record { text = c.args.text.now; steps = c.run-outcome.result.steps; state = state_of c.run-outcome.new.desk }))).is_done ≡ true =
     sym (ap (λ h. (present h).is_done) (noted_now g c)) ∙ over in
     let last : (state_of c.run-outcome.new.desk).is_done ≡ true = sym (ap (λ s. s.is_done) (present-noted old _ within)) ∙ new in
-    let kept : (state_of c.run-outcome.new.desk).is_done ≡ (present old).is_done =
-    ap (λ s. s.is_done) c.run-outcome.ensures.again ∙ string_keeps (state_of c.in-Ok-copy.state) c.args.text.now c.run-outcome.result.steps ∙ ap (λ s. s.is_done) (c.in-Ok-copy.ensures ∙ c.editor-2.ensures.present) in
-    absurd (true≢false (sym last ∙ kept ∙ going))
+    c.run-outcome.ensures.exit (ap (λ s. s.is_done) (c.in-Ok-copy.ensures ∙ c.editor-2.ensures.present) ∙ going) last
