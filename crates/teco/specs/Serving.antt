@@ -1,5 +1,5 @@
 -- Serving a stream: a turn for each text, and how it ends.
-use Rattle.std.specs.Prelude.{◌≡◌, ℕ, List, [], ◌∷◌, ◌++◌, ◌≤◌, length, map, Option, Bool, true, false}
+use Rattle.std.specs.Prelude.{◌≡◌, ℕ, List, [], ◌∷◌, ◌++◌, ◌≤◌, length, map, Bool, true, false}
 use Rattle.std.specs.List.{flat_map}
 use Rattle.teco_step.specs.Terminal.{Screen, Shows, IsFrontOf}
 use Rattle.teco_session.specs.History.{History}
