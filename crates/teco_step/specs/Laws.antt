@@ -7,7 +7,7 @@ use Rattle.teco_store.specs.State.{State}
 use Rattle.teco_step.specs.Effect.{effect}
 use Rattle.teco_step.specs.Step.{Setting, on, leave, go, again, out, stop}
 use Rattle.teco_step.specs.Stepping.{name_of, takes_nothing}
-use Rattle.teco_step.specs.Terminal.{Screen, Shows, IsFrontOf}
+use Rattle.teco_step.specs.Terminal.{Screen, Shows}
 use Rattle.teco_step.specs.declared.next.Work.{Work}
 
 -- An iteration is left only inside one.

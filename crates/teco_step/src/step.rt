@@ -161,7 +161,7 @@ fn item_step<D: Desk, T: Terminal>(
 /// One step of a token of the text: its first, or a further one with this work left.
 ///
 /// `inside` says that an iteration of the same text is open, and `before` that a `;` without modifiers comes next. The step does what
-/// it means; or it ends by [`Code::Mem`] or [`Code::Tty`], and then the state is unchanged.
+/// it means; or it ends by [`Code::Mem`] or [`Code::Tty`], and then the state and the arguments are unchanged.
 pub fn step_token<D: Desk, T: Terminal>(
     desk: &mut D,
     text: &[u8],
