@@ -88,7 +88,7 @@ impl<'t> Joined<'t> {
         set.last_in(&self.before[..to.min(cut)])
     }
 
-    /// Whether these bytes stand at a place.
+    /// Whether a place has these bytes.
     pub(crate) fn has(&self, at: usize, bytes: &[u8]) -> bool
         ensures holds { IsTrue result ↔ OccursAt self.now bytes.now at }
         ensures within { IsTrue result → at + length bytes.now < 2 ^ 64 }
