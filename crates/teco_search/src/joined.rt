@@ -58,6 +58,7 @@ impl<'t> Joined<'t> {
     }
 
     /// The first place at or after one whose byte is in a set.
+    #[inline]
     pub(crate) fn first_of(&self, set: &ByteSet, from: usize) -> Option<usize>
         requires { from ≤ length self.now }
         ensures { IsFirst (Passes (contains set.now) self.now) from (length self.now) result }
@@ -75,6 +76,7 @@ impl<'t> Joined<'t> {
     }
 
     /// The last place before one whose byte is in a set.
+    #[inline]
     pub(crate) fn last_of(&self, set: &ByteSet, to: usize) -> Option<usize>
         requires { to ≤ length self.now }
         ensures { IsLast (Passes (contains set.now) self.now) 0 to result }
