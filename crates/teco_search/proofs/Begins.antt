@@ -1,4 +1,4 @@
--- Where bytes that admit themselves alone stand, as the occurrences of the pattern that they are.
+-- Where bytes that admit themselves alone are, as the occurrences of the pattern that they are.
 use Rattle.std.proofs.Common.{◌≡◌, ℕ, ◌+◌, ◌-◌, ◌<◌, List, [], ◌∷◌, length, map, true, Some, None, subst, arith, ⊎_elim}
 use Rattle.std.specs.Prelude.{min}
 use Rattle.std.specs.List.{list_all}

@@ -1,4 +1,4 @@
--- Where bytes stand in a text of two halves, from where they stand in each.
+-- Where a text of two halves has some bytes, from where each half has them.
 use Rattle.std.proofs.Common.{◌≡◌, ℕ, ◌+◌, ◌-◌, ◌<◌, ◌≤◌, List, ◌++◌, length, get_or, take, drop, Option, Some, refl, sym, ap, subst, ◌∙◌, arith, ⊎_elim, length-append, length-drop, length-take}
 use Rattle.std.specs.Prelude.{min, max}
 use Rattle.std.proofs.lemmas.Bool.{cases_lt}

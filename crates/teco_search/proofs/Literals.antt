@@ -1,4 +1,4 @@
--- Search texts of bytes that admit themselves alone: they match where they stand.
+-- Search texts of bytes that admit themselves alone: they match where they are.
 use Rattle.std.proofs.Common.{◌≡◌, ℕ, zero, suc, ◌+◌, ◌-◌, ◌<◌, ◌≤◌, Bool, true, false, eqb, leb, List, [], ◌∷◌, ◌++◌, length, get_or, map, Result, Option, Some, None, Ok, Err, refl, sym, ap, subst, ◌∙◌, arith, ⊎_elim}
 use Rattle.std.specs.Prelude.{slice_get}
 use Rattle.std.specs.Global.{Vec}
@@ -113,7 +113,7 @@ module _ (mode : CaseMode) (text : List ℕ) where
       let same : b ≡ x = eqb-true b x (sym (exact_admits mode b x exact) ∙ parts.0) in
       (here ∙ ap (λ y. let o : Option ℕ = Some y in o) (sym same), sym parts.1))
 
-  -- Bytes that admit themselves alone match where they stand,
+  -- Bytes that admit themselves alone match where they are,
   pub literal_hit : (bs : List ℕ) (p : ℕ) → list_all (is_exact mode) bs ≡ true → OccursAt text bs p → match_end mode (map plain bs) text p ≡ Some (p + length bs)
   unfolding match_end
   literal_hit [] p exact occurs = let none : p ≡ p + 0 = omega arith in ap (λ n. let o : Option ℕ = Some n in o) none

@@ -1,4 +1,4 @@
--- A match ends behind its start and within the text.
+-- A match ends after its start and within the text.
 use Rattle.std.proofs.Common.{◌≡◌, ℕ, zero, suc, cond, eqb, drop, ◌+◌, ◌<◌, ◌≤◌, Bool, not, List, [], ◌∷◌, length, Option, Some, None, refl, sym, ap, ⊎_elim, arith, length-drop}
 use Rattle.std.specs.Prelude.{slice_get, IfSome}
 use Rattle.std.specs.Option.{option_map}
@@ -11,7 +11,7 @@ use Rattle.teco_search.specs.declared.element.Element.TheVariants.{Among, Except
 use Rattle.teco_search.specs.Element.{is_blank, admits}
 use Rattle.teco_search.specs.Occurrence.{Sought, Span, end_of_byte, blanks_at, element_end, match_end, match_at}
 
--- from a place to an end behind it, within the text
+-- from a place to an end after it, within the text
 pub record EndsPast (text : List ℕ) (p q : ℕ) : Type 0 where
   pub past : p < q
   pub within : q ≤ length text
@@ -46,7 +46,7 @@ match_from mode (e ∷ es) text p q is =
     let rest = match_from mode es text r q later in
     (omega (arith, first.past, rest.0), λ past. ⊎_elim (λ same. omega (arith, first.within)) (λ other. rest.1 (omega (arith, rest.0))) (cases_eq r q)))
 
--- A match of at least one element ends behind its start and within the text.
+-- A match of at least one element ends after its start and within the text.
 pub match_past : (mode : CaseMode) (es : List Element) (text : List ℕ) (p q : ℕ) → 0 < length es → match_end mode es text p ≡ Some q → EndsPast text p q
 unfolding match_end
 match_past mode [] text p q some is = absurd (omega arith)

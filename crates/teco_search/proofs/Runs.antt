@@ -44,7 +44,7 @@ pub match_no_run : (mode : CaseMode) (rest : List Element) (text : List ℕ) (p 
 unfolding match_end element_end
 match_no_run mode rest text p none = rw none
 
--- The elements behind the first run are those behind it,
+-- The elements after the first run are those after it,
 pub behind_here : (es : List Element) → behind_run (Blanks ∷ es) ≡ es
 unfolding behind_run
 behind_here es = refl

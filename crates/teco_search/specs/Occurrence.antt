@@ -17,11 +17,11 @@ looked_for mode elements = record { mode = mode; elements = elements }
 
 -- Matching.
 
--- behind a byte that passes a test
+-- the end of a byte that passes a test
 abbrev pub end_of_byte : (ℕ → Bool) → List ℕ → ℕ → Option ℕ
 end_of_byte passes text p = option_and_then (λ b. if passes b then Some (p + 1) else None) (slice_get text p)
 
--- how many spaces and tabs stand from a place on
+-- how many spaces and tabs there are from a place on
 abbrev pub blanks_at : List ℕ → ℕ → ℕ
 blanks_at text p = prefix_len is_blank (drop p text)
 
@@ -50,7 +50,7 @@ matches sought text = filter_map (match_at sought text) (range_with_len 0 (lengt
 
 -- Occurrences.
 
--- The first match that passes a test; then, of those behind it, the first that passes the test which it sets; and so on.
+-- The first match that passes a test; then, of those after it, the first that passes the test which it sets; and so on.
 unfoldable pub chosen : (Span → Span → Bool) → (Span → Bool) → List Span → List Span
 chosen sets passes [] = []
 chosen sets passes (m ∷ ms) = if passes m then m ∷ chosen sets (sets m) ms else chosen sets passes ms

@@ -1,4 +1,4 @@
--- Reading a search text: the elements that are spelled from a place on, and the place behind them, or ICE.
+-- Reading a search text: the elements that are spelled from a place on, and the place after them, or ICE.
 use Rattle.std.specs.Prelude.{◌≡◌, ◌⊎◌, ℕ, zero, suc, ◌+◌, Bool, false, ◌&&◌, ◌||◌, List, [], ◌∷◌, length, Result, Ok, Err, slice_get, nat_le, ◌==◌, if◌then◌else◌}
 use Rattle.std.specs.Option.{option_map_or}
 use Rattle.teco_core.specs.declared.code.Code.{Code}
@@ -14,11 +14,11 @@ use Rattle.teco_search.specs.declared.element.Element.{Element}
 use Rattle.teco_search.specs.declared.element.Element.TheVariants as element
 use Rattle.teco_search.specs.Element.{upper}
 
--- something read, and the place behind it
+-- something read, and the place after it
 abbrev pub Reading : Type 0 → Type 0
 Reading A = Result (A × ℕ) Code
 
--- whether this byte stands there
+-- whether this byte is there
 abbrev pub stands_at : List ℕ → ℕ → ℕ → Bool
 stands_at text at b = option_map_or (λ x. x == b) (slice_get text at) false
 
@@ -26,7 +26,7 @@ stands_at text at b = option_map_or (λ x. x == b) (slice_get text at) false
 unfoldable pub byte_at : List ℕ → ℕ → Result ℕ Code
 byte_at text at = option_map_or (λ b. Ok b) (slice_get text at) (Err Ice)
 
--- the kind of bytes that a letter behind ^E names, in either case
+-- the kind of bytes that a letter after ^E names, in either case
 abbrev pub class_named : ℕ → Result Class Code
 class_named b =
     if b == 88 then Ok class.Any else (if b == 66 then Ok class.Other else (if b == 65 then Ok class.Letter
@@ -85,7 +85,7 @@ one_byte_at text at =
       i ← item_at text at
       Ok (one.Single i.0, i.1))
 
--- ^ES, or ^N and what is not to stand there, or what is to stand there
+-- ^ES, or ^N and what is not to be there, or what is to be there
 unfoldable pub element_at : List ℕ → ℕ → Reading Element
 element_at text at =
     if stands_at text at 5 && (stands_at text (at + 1) 83 || stands_at text (at + 1) 115) then Ok (element.Blanks, at + 2)

@@ -6,14 +6,14 @@ use Rattle.teco_search.specs.declared.element.Element.TheVariants.{Among, Except
 use Rattle.teco_search.specs.declared.run.Run.{Run}
 use Rattle.teco_search.specs.Occurrence.{Sought, blanks_at, match_end}
 
--- the elements behind the first run
+-- the elements after the first run
 unfoldable pub behind_run : List Element → List Element
 behind_run [] = []
 behind_run (Blanks ∷ es) = es
 behind_run (Among c ∷ es) = behind_run es
 behind_run (Except c ∷ es) = behind_run es
 
--- Spaces and tabs stand from a place to an end, none stands at the end, and these elements match from there to this outcome.
+-- Spaces and tabs reach from a place to an end, none is at the end, and these elements match from there to this outcome.
 pub record Remembers (mode : CaseMode) (es : List Element) (text : List ℕ) (run : Run) : Type 0 where
   pub blanks : (k : ℕ) → run.from ≤ k → k < run.end → k + blanks_at text k ≡ run.end
   pub outcome : run.from < run.end → run.outcome ≡ match_end mode es text run.end

@@ -35,12 +35,12 @@ abbrev pub shown_items : List Item → List ℕ
 shown_items [] = []
 shown_items (i ∷ is) = shown_item i ++ flat_map (λ j. codes "," ++ shown_item j) is
 
--- a list of items stands in ^E[ and ]
+-- a list of items is between ^E[ and ]
 abbrev pub shown_one : OneByte → List ℕ
 shown_one (one.Single i) = shown_item i
 shown_one (one.Listed is) = codes "^E[" ++ shown_items is ++ codes "]"
 
--- what is not to stand there has ^N before it
+-- what is not to be there has ^N before it
 abbrev pub shown_element : Element → List ℕ
 shown_element (element.Among c) = shown_one c
 shown_element (element.Except c) = codes "^N" ++ shown_one c

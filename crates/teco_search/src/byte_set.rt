@@ -85,13 +85,10 @@ impl ByteSet {
         }
     }
 
-    /// The first place of a slice whose byte is in the set. The first byte is looked at before a scan is set up.
-    pub(crate) fn first_in(&self, bytes: &[u8]) -> Option<usize>
+    /// The first place of a slice whose byte is in the set, by a scan.
+    fn scan(&self, bytes: &[u8]) -> Option<usize>
         ensures { IsFirstByte (contains self.now) bytes.now result }
     {
-        if !bytes.is_empty() && self.has(bytes[0]) {
-            return Some(0);
-        }
         match self {
             ByteSet::Empty => None,
             ByteSet::One(a) => memchr(*a, bytes),
@@ -101,14 +98,10 @@ impl ByteSet {
         }
     }
 
-    /// The last place of a slice whose byte is in the set. The last byte is looked at before a scan is set up.
-    pub(crate) fn last_in(&self, bytes: &[u8]) -> Option<usize>
+    /// The last place of a slice whose byte is in the set, by a scan.
+    fn scan_back(&self, bytes: &[u8]) -> Option<usize>
         ensures { IsLastByte (contains self.now) bytes.now result }
     {
-        let len = bytes.len();
-        if len > 0 && self.has(bytes[len - 1]) {
-            return Some(len - 1);
-        }
         match self {
             ByteSet::Empty => None,
             ByteSet::One(a) => memrchr(*a, bytes),
@@ -116,5 +109,28 @@ impl ByteSet {
             ByteSet::Three(a, b, c) => memrchr3(*a, *b, *c, bytes),
             ByteSet::Table(table) => last_in_table(table, bytes),
         }
+    }
+
+    /// The first place of a slice whose byte is in the set. The first byte is looked at before a scan is set up.
+    #[inline]
+    pub(crate) fn first_in(&self, bytes: &[u8]) -> Option<usize>
+        ensures { IsFirstByte (contains self.now) bytes.now result }
+    {
+        if !bytes.is_empty() && self.has(bytes[0]) {
+            return Some(0);
+        }
+        self.scan(bytes)
+    }
+
+    /// The last place of a slice whose byte is in the set. The last byte is looked at before a scan is set up.
+    #[inline]
+    pub(crate) fn last_in(&self, bytes: &[u8]) -> Option<usize>
+        ensures { IsLastByte (contains self.now) bytes.now result }
+    {
+        let len = bytes.len();
+        if len > 0 && self.has(bytes[len - 1]) {
+            return Some(len - 1);
+        }
+        self.scan_back(bytes)
     }
 }

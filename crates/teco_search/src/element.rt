@@ -148,7 +148,7 @@ impl Class {
 }
 
 impl Item {
-    /// Whether a byte may stand here. With either case a letter admits both its cases.
+    /// Whether a byte may be here. With either case a letter admits both its cases.
     #[tactic(auto, unfolding(crate::specs::Element::item_admits))]
     #[inline]
     pub(crate) fn admits(self, mode: CaseMode, byte: u8) -> bool
@@ -181,7 +181,7 @@ impl Items {
 }
 
 impl OneByte {
-    /// Whether a byte may stand here.
+    /// Whether a byte may be here.
     #[tactic(auto, unfolding(crate::specs::Element::admits))]
     #[inline]
     pub(crate) fn admits(&self, mode: CaseMode, byte: u8) -> bool
@@ -236,7 +236,7 @@ impl fmt::Display for Class {
     }
 }
 
-/// A byte that stands as itself, or by its code where it is no ASCII character that shows.
+/// A byte shown as itself, or by its code where it is no ASCII character that shows.
 #[derive(Clone, Copy, Debug)]
 pub(crate) struct Shown(pub u8);
 

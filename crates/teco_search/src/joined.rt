@@ -58,6 +58,7 @@ impl<'t> Joined<'t> {
     }
 
     /// The first place at or after one whose byte is in a set.
+    #[inline]
     pub(crate) fn first_of(&self, set: &ByteSet, from: usize) -> Option<usize>
         requires { from ≤ length self.now }
         ensures { IsFirst (Passes (contains set.now) self.now) from (length self.now) result }
@@ -75,6 +76,7 @@ impl<'t> Joined<'t> {
     }
 
     /// The last place before one whose byte is in a set.
+    #[inline]
     pub(crate) fn last_of(&self, set: &ByteSet, to: usize) -> Option<usize>
         requires { to ≤ length self.now }
         ensures { IsLast (Passes (contains set.now) self.now) 0 to result }
@@ -88,7 +90,7 @@ impl<'t> Joined<'t> {
         set.last_in(&self.before[..to.min(cut)])
     }
 
-    /// Whether these bytes stand at a place.
+    /// Whether a place has these bytes.
     pub(crate) fn has(&self, at: usize, bytes: &[u8]) -> bool
         ensures holds { IsTrue result ↔ OccursAt self.now bytes.now at }
         ensures within { IsTrue result → at + length bytes.now < 2 ^ 64 }

@@ -5,7 +5,7 @@ ghost use Rattle.memchr.specs.Find.{IsFirst, IsLast, OccursAt, FindsNeedle, Find
 use crate::joined::Joined;
 use memchr::memmem::{Finder, FinderRev};
 
-/// The first place in a range where the bytes stand, by comparing them at each.
+/// The first place in a range that has the bytes, by comparing them at each.
 fn first_across(text: &Joined, bytes: &[u8], from: usize, to: usize) -> Option<usize>
     ensures { IsFirst (OccursAt text.now bytes.now) from to result }
 {
@@ -17,7 +17,7 @@ fn first_across(text: &Joined, bytes: &[u8], from: usize, to: usize) -> Option<u
     None
 }
 
-/// The last place in a range where the bytes stand, by comparing them at each.
+/// The last place in a range that has the bytes, by comparing them at each.
 fn last_across(text: &Joined, bytes: &[u8], from: usize, to: usize) -> Option<usize>
     ensures { IsLast (OccursAt text.now bytes.now) from to result }
 {
@@ -31,7 +31,7 @@ fn last_across(text: &Joined, bytes: &[u8], from: usize, to: usize) -> Option<us
     None
 }
 
-/// The first place at or after one where the bytes stand. Only at the starts whose match lies across both halves are they compared one by one.
+/// The first place at or after one that has the bytes. Only at the starts whose match lies across both halves are they compared one by one.
 pub(crate) fn first_from(finder: &Finder, text: &Joined, from: usize) -> Option<usize>
     requires some { 0 < length finder.now }
     requires within { from ≤ length text.now }
@@ -56,7 +56,7 @@ pub(crate) fn first_from(finder: &Finder, text: &Joined, from: usize) -> Option<
     Some(cut + start)
 }
 
-/// The last place where the bytes stand and end at or before a place.
+/// The last place that has the bytes, where they end at or before another.
 pub(crate) fn last_by(finder: &FinderRev, text: &Joined, to: usize) -> Option<usize>
     requires some { 0 < length finder.now }
     requires within { to ≤ length text.now }

@@ -6,7 +6,7 @@ use crate::element::{Element, is_blank};
 use crate::joined::Joined;
 use teco_core::CaseMode;
 
-/// Behind the spaces and tabs that stand from a place on.
+/// The end of the spaces and tabs from a place on.
 fn blanks_end(text: &Joined, at: usize) -> usize
     ensures { result ≡ at + blanks_at text.now at }
 {

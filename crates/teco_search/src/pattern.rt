@@ -48,7 +48,9 @@ impl Model for Pattern {
 }
 
 impl Pattern {
-    /// Reads a search text, or answers [`Code::Ice`] where it isn't allowed and [`Code::Mem`] where memory was refused.
+    /// Reads a search text, or answers [`Code::Ice`] where it spells nothing and [`Code::Mem`] where memory was refused.
+    ///
+    /// The law of what a search text spells is [`search_texts`](crate::search_texts).
     pub fn read(alloc: Global, text: &[u8], mode: CaseMode) -> Result<Pattern, Code>
         requires { 0 < length text.now }
         ensures elements { IfOk result (λ p. read text.now ≡ Ok p.elements) }
@@ -71,7 +73,7 @@ impl Pattern {
     }
 }
 
-/// Shows bytes that stand for themselves.
+/// Shows bytes that match themselves.
 fn show_bytes<W: fmt::Write>(bytes: &[u8], f: &mut fmt::Formatter<W>) -> fmt::Result
     ensures { WritesOnOk W.write_str_gives f.old result (flat_map shown_byte bytes.now) f.new }
 {

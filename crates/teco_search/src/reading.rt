@@ -39,7 +39,7 @@ fn byte_at(text: &[u8], at: usize) -> Result<u8, Code>
     text.get(at).copied().ok_or(Code::Ice)
 }
 
-/// The kind of bytes that a letter behind `^E` names.
+/// The kind of bytes that a letter after `^E` names.
 fn class_named(letter: u8) -> Result<Class, Code>
     ensures read { result ≡ class_named letter }
     ensures only { IfErr result (λ e. e ≡ Code.Ice) }
@@ -103,7 +103,7 @@ fn keep<T: Drop>(list: &mut Vec<T>, one: T) -> Result<(), Code>
     }
 }
 
-/// The items of a list, behind its `^E[`, up to its `]`.
+/// The items of a list, from after its `^E[` up to its `]`.
 fn items_at(alloc: Global, text: &[u8], at: usize) -> Result<(Items, usize), Code>
     ensures read { Reads result (items_at (length text.now) text.now at) }
     ensures within { IfOk result (λ i. (at < i.1) × (i.1 ≤ length text.now)) }

@@ -8,9 +8,9 @@ use crate::joined::Joined;
 use crate::matching::{element_end, match_end};
 use teco_core::CaseMode;
 
-/// The last run of spaces and tabs that the first run of a pattern was matched with, and the end of the match of the elements behind it.
+/// The last run of spaces and tabs that the first run of a pattern was matched with, and the end of the match of the elements after it.
 ///
-/// Starts that reach the same run end up at the same end. So each run is looked at once, and the elements behind it are matched once.
+/// Starts that reach the same run end up at the same end. So each run is looked at once, and the elements after it are matched once.
 #[derive(Drop)]
 pub(crate) struct Run {
     from: usize,
@@ -37,7 +37,7 @@ impl Run {
         self.from <= at && at < self.end
     }
 
-    /// Where a look at the run from a place may stop: where this run begins behind it, or at the end of the text.
+    /// Where a look at the run from a place may stop: where this run begins after it, or at the end of the text.
     fn stop(&self, at: usize, len: usize) -> usize
         ensures { (result ≡ len) ⊎ ((result ≡ self.now.from) × (at < self.now.from) × (self.now.from < self.now.end)) }
     {
@@ -56,7 +56,7 @@ impl Run {
     }
 }
 
-/// Behind the spaces and tabs that stand from a place on, or at a stop before that.
+/// The end of the spaces and tabs from a place on, or a stop before that.
 fn blanks_until(text: &Joined, at: usize, stop: usize) -> usize
     ensures past { at ≤ result }
     ensures short { at ≤ stop → result ≤ stop }

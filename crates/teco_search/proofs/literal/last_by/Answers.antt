@@ -13,7 +13,7 @@ by_front before after bytes to within (Some s) h =
     let hit = front_by_hit bytes before after to s within h in
     (record { low = omega arith; high = omega (arith, hit.1); after = λ k above high occurs. hit.2 k (omega arith) (omega arith) occurs }, hit.0)
 
--- what ends by a place of the second half, where what ends behind the first half is none
+-- what ends by a place of the second half, where what ends after the first half is none
 beyond_front :
     (before after bytes : List ℕ) (to : ℕ) → 0 < length bytes → length before < to
     → ((k : ℕ) → length before < k + length bytes → k + length bytes ≤ to → OccursAt (before ++ after) bytes k → ⊥)

@@ -8,7 +8,7 @@ use Rattle.teco_search.proofs.Ends.{match_more, match_stop, match_done}
 use Rattle.teco_search.proofs.Runs.{behind_at, behind_next}
 use Rattle.teco_search.proofs.run.match_end_by.Goals as goal
 
--- the elements behind a first run are those behind the place where it stands
+-- the elements after a first run are those after its place
 rest_is : (es : List Element) (i : ℕ) (e : Element) → i < length es → e ≡ get_or es i e → e ≡ Blanks → behind_run (drop i es) ≡ behind_run es → take (length es - (i + 1)) (drop (i + 1) es) ≡ behind_run es
 rest_is es i e inside here is behind = take_rest es (i + 1) ∙ sym (behind_at es i e inside here is) ∙ behind
 
