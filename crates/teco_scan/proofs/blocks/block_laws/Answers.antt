@@ -1,6 +1,6 @@
-use Rattle.teco_scan.proofs.ListSteps.{list_step, list_short}
-use Rattle.teco_scan.proofs.TagSteps.{tag_step}
-use Rattle.teco_scan.proofs.TagLeads.{tag_leads}
+use Rattle.teco_scan.proofs.ListUnrolls.{list_step, list_short}
+use Rattle.teco_scan.proofs.SearchUnrolls.{tag_step}
+use Rattle.teco_scan.proofs.SearchFinds.{tag_leads}
 use Rattle.teco_scan.proofs.TreeLists.{tree_is}
 use Rattle.teco_scan.proofs.ListFaults.{list_fault}
 use Rattle.teco_scan.proofs.Trees.{scan_short}
