@@ -1,5 +1,5 @@
 -- No step and no string of today makes a session done.
-use Rattle.std.proofs.Common.{◌≡◌, ℕ, zero, suc, ◌+◌, List, Option, Some, None, Bool, true, false, Result, Ok, Err, ℤ, refl, sym, ap, ◌∙◌, pos, length}
+use Rattle.std.proofs.Common.{◌≡◌, ℕ, zero, suc, ◌+◌, List, Option, Some, None, Bool, true, false, Result, Ok, Err, ℤ, refl, ap, ◌∙◌, pos, length}
 use Rattle.std.specs.Prelude.{◌==◌, ◌+ℤ◌, nat_le, if◌then◌else◌}
 use Rattle.teco_core.specs.declared.code.Code.{Code}
 use Rattle.teco_core.specs.declared.code.Code.TheVariants.{Big, Nae, Naq, Nau, Pop}
