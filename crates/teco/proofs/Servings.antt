@@ -1,13 +1,13 @@
 -- Lemmas on exchanges one after another, and on servings.
-use Rattle.std.proofs.Common.{◌≡◌, ℕ, ◌+◌, List, [], ◌∷◌, ◌++◌, map, Bool, true, false, Option, Some, refl, sym, ap, ◌∙◌, arith, subst, append-nil, append_assoc, length-append, true≢false, inl, inr}
+use Rattle.std.proofs.Common.{◌≡◌, ℕ, List, [], ◌∷◌, ◌++◌, map, Bool, true, false, Option, Some, refl, sym, ap, ◌∙◌, arith, subst, append-nil, append_assoc, length-append, true≢false, inr}
 use Rattle.std.proofs.KnownBytes.{Consumes-nil, Consumes-trans}
 use Rattle.teco_step.specs.Terminal.{count_after}
 use Rattle.teco_session.specs.History.{History}
 use Rattle.teco.specs.Source.{Gives}
 use Rattle.teco.specs.Message.{star}
-use Rattle.teco.specs.Exchange.{BreaksOff, Exchange, exchange_shown, exits}
+use Rattle.teco.specs.Exchange.{BreaksOff, Exchange, exchange_shown}
 use Rattle.teco.specs.Stream.{Asks, asks_of, requests, texts_of}
-use Rattle.teco.specs.Serving.{AreFirstOf, Exchanges, Exits, FailsToShow, GoOn, Shown, all_shown, asked_in, exchanges_shown, is_read_fault, is_read_out}
+use Rattle.teco.specs.Serving.{AreFirstOf, Exchanges, Exits, GoOn, Shown, all_shown, asked_in, exchanges_shown, is_read_fault, is_read_out}
 use Rattle.teco.specs.Held.{IsExchange, ExchangeEnds, HeldEnds, CutsOff}
 use Rattle.teco.specs.Cut.{AsksFirst, value_of}
 use Rattle.teco.specs.declared.splitter.Asked.{Asked}

@@ -16,7 +16,9 @@ mod source;
 mod splitter;
 
 use crate::ending::{Fate, ending};
-use crate::line::{Line, LineFault, fault_of_words, line_of, not_text, output_name, refused_status};
+use crate::line::{
+    Line, LineFault, fault_of_words, line_of, not_text, output_name, refused_status,
+};
 use crate::reader_source::ReaderSource;
 use crate::served::Served;
 use crate::serving::serve;

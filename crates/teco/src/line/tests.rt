@@ -94,10 +94,7 @@ fn refuses_faulty_lines(rt: HostRuntime) {
 
 /// The status that an argument which is not UTF-8 leads to; none where memory was refused.
 fn status_without_text(alloc: Global) -> Option<u8> {
-    match fault_of_words(
-        io::Error::from(io::ErrorKind::InvalidData),
-        not_text(alloc),
-    ) {
+    match fault_of_words(io::Error::from(io::ErrorKind::InvalidData), not_text(alloc)) {
         LineFault::Refused(error) => Some(refused_status(&error)),
         LineFault::NoMemory => None,
     }

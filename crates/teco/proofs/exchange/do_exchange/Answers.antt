@@ -1,6 +1,5 @@
 use Rattle.std.proofs.Common.{◌≡◌, [], ◌++◌, true, false, refl, sym, ap, ◌∙◌, subst, if◌then◌else◌}
-use Rattle.std.specs.Prelude.{◌≢◌}
-use Rattle.teco_step.specs.Terminal.{Shows, IsFrontOf}
+use Rattle.teco_step.specs.Terminal.{Shows}
 use Rattle.teco_session.specs.History.{present}
 use Rattle.teco.specs.Cut.{value_of}
 use Rattle.teco.specs.Message.{replies_shown, star}

@@ -1,13 +1,12 @@
-use Rattle.std.proofs.Common.{◌≡◌, ◌+◌, ◌-◌, [], ◌∷◌, ◌++◌, true, false, refl, sym, ap, ◌∙◌, subst, append-nil, append_assoc, arith}
+use Rattle.std.proofs.Common.{◌≡◌, ◌+◌, ◌-◌, [], ◌∷◌, ◌++◌, true, false, refl, sym, ◌∙◌, subst, append-nil, append_assoc, arith}
 use Rattle.std.specs.Prelude.{◌≢◌, OnErr}
 use Rattle.teco_step.specs.Terminal.{Shows, Puts}
 use Rattle.teco_session.specs.Answers.{is_refused}
-use Rattle.teco_session.specs.Step.{Reply, is_terminal_failure}
+use Rattle.teco_session.specs.Step.{Reply}
 use Rattle.teco.specs.Exchange.{Repeats}
-use Rattle.teco.specs.Message.{message, replies_shown}
+use Rattle.teco.specs.Message.{message}
 use Rattle.teco.proofs.Exchanges.{Repeats-on, Repeats-refused, less_one, replies_shown-one, request_quiet}
 use Rattle.teco.proofs.Showing.{Puts-after, Shows-nil, Shows-trans}
-use Rattle.teco.proofs.exchange.repeat.Given as given
 use Rattle.teco.proofs.exchange.repeat.Goals as goal
 
 pub moves-init : goal.moves-init

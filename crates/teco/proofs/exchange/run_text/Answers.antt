@@ -1,6 +1,6 @@
 use Rattle.std.proofs.Common.{◌≡◌, [], ◌∷◌, ◌++◌, true, false, refl, sym, ◌∙◌, subst, append-nil}
 use Rattle.teco_step.specs.Terminal.{Shows, Puts}
-use Rattle.teco_session.specs.Step.{Reply, RunStep, is_terminal_failure}
+use Rattle.teco_session.specs.Step.{Reply, is_terminal_failure}
 use Rattle.teco.specs.Message.{message}
 use Rattle.teco.proofs.Showing.{OnErr-weaker, Puts-after}
 use Rattle.teco.proofs.Exchanges.{failure-some, message-no_exit, message-some}

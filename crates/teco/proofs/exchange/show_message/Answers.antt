@@ -1,4 +1,4 @@
-use Rattle.std.proofs.Common.{subst, ap, ◌∙◌, false, sym}
+use Rattle.std.proofs.Common.{subst, ap, ◌∙◌, false}
 use Rattle.teco_step.specs.Terminal.{Shows, Puts}
 use Rattle.teco.specs.Message.{lines_of, message}
 use Rattle.teco.proofs.Showing.{Shows-nil}
