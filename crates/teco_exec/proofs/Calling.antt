@@ -1,13 +1,13 @@
 -- Texts that begin, call and return; and how long a text runs.
-use Rattle.std.proofs.Common.{◌≡◌, ℕ, suc, ◌+◌, ◌-◌, ◌*◌, ◌<◌, ◌≤◌, ◌⊎◌, inl, inr, List, [], ◌∷◌, length, drop, Option, Some, None, Bool, true, false, refl, sym, ap, ◌∙◌, arith}
+use Rattle.std.proofs.Common.{◌≡◌, ℕ, ◌+◌, ◌-◌, ◌*◌, ◌<◌, ◌≤◌, ◌⊎◌, inl, inr, List, ◌∷◌, length, Option, Some, None, Bool, true, false, refl, sym, ap, ◌∙◌, arith}
 use Rattle.std.specs.Prelude.{◌==◌, if◌then◌else◌}
 use Rattle.std.proofs.lemmas.Bool.Decides.{nat_tests}
 use Rattle.std.proofs.Math.Nat.{mul-le-mul_right, add-mul}
 use Rattle.teco_core.specs.Arguments.{Arguments}
 use Rattle.teco_core.specs.declared.code.Code.TheVariants.{Pdo}
-use Rattle.teco_exec.specs.Machine.{Caller, Config, Cursor as MachineCursor, Now, halts, runs, called, arrives}
+use Rattle.teco_exec.specs.Machine.{Caller, Config, halts, runs, arrives}
 use Rattle.teco_exec.specs.View.{beginning, cursor}
-use Rattle.teco_exec.specs.Running.{Origin, Host, Continuation, Going, Comes, Ended, goes, over, config, ready_run, reached_run, at_beginning, at_call, at_cursor, at_return, in_return}
+use Rattle.teco_exec.specs.Running.{Origin, Host, Continuation, Going, Comes, Ended, goes, over, config, ready_run, at_beginning, at_call, at_cursor, at_return, in_return}
 use Rattle.teco_exec.specs.declared.cursor.Cursor.{Cursor}
 use Rattle.teco_exec.specs.declared.flow.Task.{Task}
 use Rattle.teco_exec.proofs.Composing.{halted, run_ready}

@@ -1,7 +1,7 @@
 -- How runs of the machine compose: what uses no step, a step, a call, the end.
-use Rattle.std.proofs.Common.{◌≡◌, ℕ, zero, suc, ◌+◌, ◌-◌, ◌<◌, ◌≤◌, List, [], ◌∷◌, ◌++◌, length, Option, Some, None, Ok, Err, refl, sym, ap, ◌∙◌, arith}
+use Rattle.std.proofs.Common.{◌≡◌, ℕ, zero, suc, ◌+◌, ◌<◌, ◌≤◌, List, [], ◌∷◌, length, Option, Some, None, refl, sym, ap, ◌∙◌, arith}
 use Rattle.teco_core.specs.declared.code.Code.{Code}
-use Rattle.teco_exec.specs.Machine.{Cursor, Caller, Coming, moved, comes, at_block, ends, breaks, BlockStep, Config, Machine, runs, halts, Further, Ready, step, block, finished, Final, final, Now, now_of, returned, coming, arriving, arrives_within, arrives, exec, waiting, weight, pass, pays, paid, unpaid, stepped, going, block_step, run_within}
+use Rattle.teco_exec.specs.Machine.{Caller, Coming, moved, comes, at_block, ends, breaks, Config, Machine, runs, halts, Further, Ready, step, block, finished, final, Now, now_of, returned, coming, arriving, arrives_within, arrives, exec, waiting, weight, pass, pays, paid, unpaid, run_within}
 use Rattle.teco_exec.specs.Running.{Continuation, ready_run}
 use Rattle.teco_scan.specs.ListLaws.{BlockLaws}
 use Rattle.teco_exec.proofs.Keeping.{Shorter, pass_short}

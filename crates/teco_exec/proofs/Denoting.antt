@@ -1,5 +1,5 @@
 -- What the recursive meaning makes of a machine's configuration.
-use Rattle.std.specs.Prelude.{◌≡◌, ℕ, suc, List, [], ◌∷◌, length, Option, Some}
+use Rattle.std.specs.Prelude.{◌≡◌, ℕ, suc, List, [], ◌∷◌, length, Option, Some, Ok, Err}
 use Rattle.teco_scan.specs.declared.blocks.Kind.{Kind}
 use Rattle.teco_scan.specs.declared.blocks.Kind.TheVariants.{Iter, Then, Else}
 use Rattle.teco_scan.specs.Tree.{Nodes}
@@ -9,7 +9,7 @@ use Rattle.teco_exec.specs.Meaning.{then_rest, turn_end, part_end, steps, iterat
 use Rattle.teco_exec.specs.Meaning as meant
 use Rattle.teco_exec.specs.StringMeaning.{code_of}
 use Rattle.teco_scan.specs.Lists.{Close, Past, past, Listed, behind, second, behind_block, list_at, nodes}
-use Rattle.teco_exec.specs.Machine.{Frame, Cursor, Caller, Final, kind_of, inside}
+use Rattle.teco_exec.specs.Machine.{Frame, Cursor, Moved, Caller, Final, kind_of, inside}
 
 -- the list in these blocks from the bytes on
 abbrev pub here : List Frame → List ℕ → Listed
@@ -73,3 +73,7 @@ FitsAt c = Fits c.blocks (here c.blocks c.left).1
 unfoldable pub FitsUnder : List Caller → Type 0
 FitsUnder [] = Unit {0}
 FitsUnder (b ∷ bs) = Fits b.blocks (here b.blocks b.left).1 × FitsUnder bs
+
+abbrev pub FitsMoved : Moved → Type 0
+FitsMoved (Ok c) = FitsAt c
+FitsMoved (Err e) = Unit {0}

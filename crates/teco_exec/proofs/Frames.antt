@@ -181,6 +181,9 @@ pub second_is : {n : ℕ} (text more : List ℕ) (bs : List Block) (x : Close) (
     → second_part x c ≡ second_part (list_at (Some Then) (suc (length (frames text bs))) more).1 c
 second_is {n = n} text more bs x c len skip = ap (λ x. second_part x c) (skip ∙ ap (λ n. (list_at (Some Then) n more).1) (deeper text bs n len))
 
+some_is : {x y : List Block} → Some x ≡ Some y → x ≡ y
+some_is e = cc
+
 -- A turn ends: the next one begins, or the iteration is over.
 module _ (text more left : List ℕ) (a : Arguments) where
   turned_on : (b : Block) (outer : List Block) (x : Body) (new : List Block) → kind_of x ≡ Iter → in_turn b outer (next_body x) ≡ Some new
@@ -188,16 +191,9 @@ module _ (text more left : List ℕ) (a : Arguments) where
       ≡ machine.end_turn more (record { args = a; left = left; blocks = frames text (record b { body = x } ∷ outer) })
   unfolding frames
   turned_on b outer body.Endless new is e = ap (λ new. Ok (record { args = no_arguments; left = drop (list_start new) text; blocks = frames text new })) (sym (some_is e))
-    where
-      some_is : {x y : List Block} → Some x ≡ Some y → x ≡ y
-      some_is e = cc
   turned_on b outer (body.Turns zero) new is e = absurd cc
   turned_on b outer (body.Turns (suc n)) new is e = ap (λ new. Ok (record { args = no_arguments; left = drop (list_start new) text; blocks = frames text new })) (sym (some_is e))
-    where
-      some_is : {x y : List Block} → Some x ≡ Some y → x ≡ y
-      some_is e = cc
-  turned_on b outer body.Then new is e = absurd cc
-  turned_on b outer body.Else new is e = absurd cc
+  turned_on b outer x new is e = absurd cc
 
   pub turn_goes_on : {new : List Block} {start : ℕ} (bs : List Block) → EndsTurn bs → next_turn bs ≡ Some new → list_start new ≡ start
       → Ok (record { args = no_arguments; left = drop start text; blocks = frames text new }) ≡ machine.end_turn more (record { args = a; left = left; blocks = frames text bs })
@@ -209,9 +205,7 @@ module _ (text more left : List ℕ) (a : Arguments) where
   unfolding frames
   turned_off b outer body.Endless is e = absurd cc
   turned_off b outer (body.Turns zero) is e = refl
-  turned_off b outer (body.Turns (suc n)) is e = absurd cc
-  turned_off b outer body.Then is e = absurd cc
-  turned_off b outer body.Else is e = absurd cc
+  turned_off b outer x is e = absurd cc
 
   last_turned : (bs : List Block) → EndsTurn bs → next_turn bs ≡ None → {outer : List Block} {b : Block} → bs ≡ b ∷ outer
       → Ok (closes more (frames text outer)) ≡ machine.end_turn more (record { args = a; left = left; blocks = frames text bs })
@@ -246,8 +240,7 @@ module _ {bs outer : List Block} {b : Block} {n : ℕ} (text left : List ℕ) (a
     where
       go : (k : Kind) → Err c ≡ left_block (λ c. leaving (frames text outer) c.args c.left) k a (frames text outer) (Err c)
       go Iter = refl
-      go Then = refl
-      go Else = refl
+      go k = refl
 
   pub leaving_ends : (more : List ℕ) → Ok more ≡ x → k ≡ Iter → Ok (record { args = a; left = more; blocks = frames text outer }) ≡ leaving (frames text bs) a left
   unfolding left_so

@@ -6,7 +6,6 @@ use Rattle.teco_core.specs.declared.code.Code.{Code}
 use Rattle.teco_core.specs.declared.code.Code.TheVariants.{Lim, Mem, Tty}
 use Rattle.teco_store.specs.State.{State}
 use Rattle.teco_store.specs.Trail.{Trail, moved, stepped}
-use Rattle.teco_step.specs.Stepping.{is_unfinished_code}
 use Rattle.teco_step.specs.Terminal.{Screen, Shows, IsFrontOf, count_after}
 use Rattle.teco_exec.specs.Machine.{Final, Now, run_within}
 use Rattle.teco_exec.specs.StringMeaning.{Meant, string_meaning}

@@ -1,5 +1,4 @@
 pub mod Frames
-pub mod Leaves
 pub mod Refused
 pub mod Unrolling
 pub mod Denoting
@@ -12,7 +11,6 @@ pub mod MachineMeans
 pub mod MachineFollows
 pub mod Limits
 pub mod Sentences
-pub mod Finished
 pub mod Quiet
 pub mod Texts
 pub mod RowsStraight
@@ -26,4 +24,5 @@ pub mod Seeking
 pub mod Calling
 pub mod Whole
 pub mod NoMemory
+pub mod Semicolons
 pub mod Exits

@@ -6,6 +6,7 @@ use Rattle.teco_core.specs.declared.code.Code.TheVariants.{Lim}
 use Rattle.teco_store.specs.State.{State}
 use Rattle.teco_exec.specs.StringMeaning.{Meant, string_meaning}
 use Rattle.teco_exec.specs.Machine.{Config, Machine, runs, Ready, step, block, finished, Final, final, arrives, pays, unpaid, paid, run_within, exec, start_config, Now, now_of}
+use Rattle.teco_exec.proofs.Composing.{fuel_within}
 use Rattle.teco_exec.specs.Laws.{StepsWithinLimit, MoreLimitChangesNothing, EnoughIsEnough, ZeroLimitChangesNothing}
 use Rattle.teco_exec.specs.MachineLaws.{MachineMeans, MachineFollows}
 
@@ -20,29 +21,14 @@ data Raises (j : ℕ) (f g : Final) : Type 0 where
 final_fuel : (n m : ℕ) (c : Config) (e : Option Code) → n ≡ m → final n c e ≡ final m c e
 final_fuel n m c e is = ap (λ k. final k c e) is
 
-unpaid_falls : (r : Ready) → (unpaid r).fuel ≡ 0
-unpaid_falls (step m i work c) = refl
-unpaid_falls (block b bs c) = refl
-unpaid_falls (finished c e) = refl
-
-paid_falls : (n : ℕ) (next : Machine → Final) (r : Ready) → (next (pays r)).fuel ≤ n → (paid n next r).fuel ≤ suc n
-paid_falls n next (step m i work c) h = omega arith
-paid_falls n next (block b bs c) h = omega arith
-paid_falls n next (finished c e) h = omega arith
-
-falls : (n : ℕ) (m : Machine) → (run_within n m).fuel ≤ n
-unfolding run_within
-falls zero m = omega (arith, unpaid_falls (arrives m))
-falls (suc n) m = paid_falls n (run_within n) (arrives m) (falls n (pays (arrives m)))
-
 unpaid_same : (j : ℕ) (r : Ready) → j ≡ 0 → Raises j (unpaid r) (unpaid r)
 unpaid_same j (step m i work c) z = same (final_fuel 0 (0 + j) c (Some Lim) (omega arith))
 unpaid_same j (block b bs c) z = same (final_fuel 0 (0 + j) c (Some Lim) (omega arith))
 unpaid_same j (finished c e) z = same (final_fuel 0 (0 + j) c e (omega arith))
 
 unpaid_raises : (j k : ℕ) (r : Ready) → suc k ≡ j → Raises j (unpaid r) (paid k (run_within k) r)
-unpaid_raises j k (step m i work c) e = spent refl refl (omega (arith, falls k (pays (step m i work c))))
-unpaid_raises j k (block b bs c) e = spent refl refl (omega (arith, falls k (pays (block b bs c))))
+unpaid_raises j k (step m i work c) e = spent refl refl (omega (arith, fuel_within k (pays (step m i work c))))
+unpaid_raises j k (block b bs c) e = spent refl refl (omega (arith, fuel_within k (pays (block b bs c))))
 unpaid_raises j k (finished c x) e = same (final_fuel (suc k) (0 + j) c x (omega arith))
 
 paid_raises : (j n k : ℕ) (r : Ready) → suc k ≡ suc n + j → Raises j (run_within n (pays r)) (run_within k (pays r)) → Raises j (paid n (run_within n) r) (paid k (run_within k) r)
@@ -71,7 +57,7 @@ module _ (means : MachineMeans) (s : State) (text : List ℕ) where
 
   -- The string ends by LIM under a limit, or does the same under more.
   more : (j n k : ℕ) (g : Final) → run_within k start ≡ g → k ≡ n + j → Raises j (run_within n start) g → (((string_meaning s text n).code ≡ Some Lim) × (g.fuel < j)) ⊎ (string_meaning s text k ≡ string_meaning s text n)
-  more j n k g is e (same f) = inr (sym (means s text k) ∙ ap (meant_by k) (is ∙ f) ∙ meant_raised n k j (run_within n start) e (falls n start) ∙ means s text n)
+  more j n k g is e (same f) = inr (sym (means s text k) ∙ ap (meant_by k) (is ∙ f) ∙ meant_raised n k j (run_within n start) e (fuel_within n start) ∙ means s text n)
   more j n k g is e (spent lim none less) = inl (ap (λ (m : Meant). m.code) (sym (means s text n)) ∙ lim, less)
 
 -- More limit changes nothing once the string has ended.
@@ -90,7 +76,7 @@ within_limit s text n = omega arith
 pub same_again : MachineMeans → EnoughIsEnough
 same_again means s text n =
     let f : Final = run_within n (runs (start_config s text)) in
-    let all : n ≡ (n - f.fuel) + f.fuel = omega (arith, falls n (runs (start_config s text))) in
+    let all : n ≡ (n - f.fuel) + f.fuel = omega (arith, fuel_within n (runs (start_config s text))) in
     let took : (string_meaning s text n).steps ≡ n - f.fuel = ap (λ (m : Meant). m.steps) (sym (means s text n)) in
     ap (string_meaning s text) took ∙ by (n - f.fuel) (more means s text f.fuel (n - f.fuel) n f refl all (run_raises f.fuel (n - f.fuel) n (runs (start_config s text)) all))
   where

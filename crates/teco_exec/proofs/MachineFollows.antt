@@ -1,5 +1,5 @@
 -- Where the machine is after some steps.
-use Rattle.std.proofs.Common.{◌≡◌, ℕ, zero, suc, ◌-◌, List, [], ◌∷◌, Option, Some, None, refl, sym, ap, ◌∙◌}
+use Rattle.std.proofs.Common.{◌≡◌, ℕ, zero, suc, List, [], ◌∷◌, Option, Some, None, refl, sym, ap, ◌∙◌}
 use Rattle.teco_core.specs.declared.code.Code.{Code}
 use Rattle.teco_scan.specs.ListLaws.{BlockLaws}
 use Rattle.teco_step.specs.Laws.{LeavesInside}

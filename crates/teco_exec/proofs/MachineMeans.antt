@@ -1,20 +1,18 @@
 -- The machine does what the recursive meaning says.
-use Rattle.std.proofs.Common.{◌≡◌, ℕ, zero, suc, ◌+◌, ◌-◌, ◌<◌, Bool, true, false, List, [], ◌∷◌, ◌++◌, length, Option, Some, None, Ok, Err, refl, sym, ap, ◌∙◌, arith}
-use Rattle.std.specs.Prelude.{◌==◌, if◌then◌else◌}
-use Rattle.teco_core.specs.declared.code.Code.TheVariants.{Lim, Naq, Pdo}
+use Rattle.std.proofs.Common.{◌≡◌, ℕ, zero, suc, ◌+◌, ◌-◌, false, List, [], ◌∷◌, ◌<◌, ◌++◌, length, Option, Some, None, refl, sym, ap, ◌∙◌, arith}
+use Rattle.teco_core.specs.declared.code.Code.TheVariants.{Lim, Naq}
 use Rattle.teco_core.specs.Arguments.{Arguments, taken_from}
 use Rattle.teco_scan.specs.declared.command.Modifiers.{Modifiers}
-use Rattle.teco_scan.specs.declared.blocks.Kind.{Kind}
-use Rattle.teco_scan.specs.declared.blocks.Kind.TheVariants.{Iter, Then, Else}
+use Rattle.teco_scan.specs.declared.blocks.Kind.TheVariants.{Iter}
 use Rattle.teco_scan.specs.Scan.{Item}
 use Rattle.teco_store.specs.State.{State}
 use Rattle.teco_step.specs.declared.next.Work.{Work}
-use Rattle.teco_step.specs.Step.{Step, End, on, leave, go, call, out, again, stop, takes_one}
+use Rattle.teco_step.specs.Step.{Step, on, stop, takes_one}
 use Rattle.teco_step.specs.Effect.{effect}
 use Rattle.teco_exec.specs.World.{World, Ran, cleared, pay_from}
 use Rattle.teco_exec.specs.Meaning.{meaning}
 use Rattle.teco_exec.specs.StringMeaning.{run_of}
-use Rattle.teco_scan.specs.Lists.{closed, behind, past, second, list_at}
+use Rattle.teco_scan.specs.Lists.{closed}
 use Rattle.teco_scan.specs.ListLaws.{BlockLaws}
 use Rattle.teco_exec.specs.Machine.{Frame, Cursor, Moved, Coming, moved, comes, at_block, ends, breaks, BlockStep, Caller, Further, Config, Machine, runs, halts, Ready, step, block, finished, Final, final, kind_of, inside, leaving, jumping, setting_of, going, called, resumed, stepped, returned, coming, arriving, arrives_within, arrives, waiting, weight, pays, unpaid, paid, run_within, exec, start_config, pass, block_step}
 use Rattle.teco_exec.specs.Machine as machine
@@ -22,13 +20,9 @@ use Rattle.teco_exec.specs.MachineLaws.{MachineMeans}
 use Rattle.teco_step.specs.Laws.{LeavesInside}
 use Rattle.teco_exec.proofs.Denoting.{after_conditional, after_iteration, here, whole, block_end, around, finals, under, Fits, FitsAt, FitsUnder}
 use Rattle.teco_exec.proofs.Passes.{from, at_step, at_block_step, coming_means, pass_means}
-use Rattle.teco_exec.proofs.Pays.{moved_means, stop_means, iterated_means, turned_means, decided_means}
-use Rattle.teco_exec.proofs.Keeping.{TurnEnds, turn, FitsStep, FitsComing, FitsMoved, Shorter, pass_short, pass_keeps, block_keeps, leaving_keeps, jumping_keeps}
-use Rattle.teco_exec.proofs.Resuming.{world_of, further_means, means, going_means, resumed_means}
-
-abbrev Good : Machine → Type 0
-Good (runs c) = FitsAt c.at × FitsUnder c.callers
-Good (halts c e) = Unit {0}
+use Rattle.teco_exec.proofs.Pays.{stop_means, Leads, iterated_leads, turned_leads, decided_leads}
+use Rattle.teco_exec.proofs.Keeping.{TurnEnds, turn, FitsStep, FitsComing, Shorter, pass_keeps, pass_short}
+use Rattle.teco_exec.proofs.Resuming.{world_of, further_means, means, Good, going_leads, resumed_leads}
 
 abbrev ready_means : Ready → ℕ → Final
 ready_means (step m i work c) n = at_step c.text c.callers (world_of c n) m i work c.at
@@ -97,17 +91,16 @@ ready_unpaid (block (machine.decides t) bs c) g = stop_means c.text c.callers (w
 ready_unpaid (block machine.ends_turn bs c) g = unpaid_turn c.text c.callers (world_of c 0) bs refl g.1
 ready_unpaid (finished c e) g = refl
 
--- A turn ends.
-paid_turn : (text : List ℕ) (cs : List Caller) (w : World) (n : ℕ) (a : Arguments) (left bs : List ℕ) {blocks : List Frame} → TurnEnds bs blocks
-    → (let r : Ran = around text (length cs) blocks (closed false bs) (record w { arguments = a; fuel = suc n }) on in under cs r.0 r.1) ≡ moved_means text cs (record w { fuel = n }) (machine.end_turn bs (record { args = a; left = left; blocks = blocks }))
-unfolding Fits around block_end
-paid_turn text cs w n a left bs (turn start turns outer f) = turned_means text cs (record w { fuel = n }) turns start bs outer f.0
+-- A block step that pays means what it leads to.
+turn_leads : (text : List ℕ) (cs : List Caller) (w : World) (n : ℕ) (a : Arguments) (left bs : List ℕ) {blocks : List Frame} → TurnEnds bs blocks
+    → (let r : Ran = around text (length cs) blocks (closed false bs) (record w { arguments = a; fuel = suc n }) on in Leads text cs (record w { fuel = n }) (under cs r.0 r.1) (machine.end_turn bs (record { args = a; left = left; blocks = blocks })))
+unfolding around block_end
+turn_leads text cs w n a left bs (turn start turns outer f) = turned_leads text cs (record w { fuel = n }) turns start bs outer f
 
--- A step that pays means what it leads to.
-block_paid : (b : BlockStep) (bs : List ℕ) (c : Config) (n : ℕ) → c.further ≡ None → FitsStep b bs c.at.blocks → at_block_step c.text c.callers (world_of c (suc n)) b bs c.at ≡ means (going c (block_step b bs c.at)) n
-block_paid machine.iterates bs c n none f = iterated_means c.text c.callers (world_of c n) (taken_from c.at.args) bs c.at ∙ going_means c (block_step machine.iterates bs c.at) n none
-block_paid (machine.decides t) bs c n none f = decided_means c.text c.callers (world_of c n) t (takes_one Naq c.at.args) bs c.at ∙ going_means c (block_step (machine.decides t) bs c.at) n none
-block_paid machine.ends_turn bs c n none f = paid_turn c.text c.callers (world_of c n) n c.at.args c.at.left bs f ∙ going_means c (block_step machine.ends_turn bs c.at) n none
+block_leads : (b : BlockStep) (bs : List ℕ) (c : Config) (n : ℕ) → FitsStep b bs c.at.blocks → Leads c.text c.callers (world_of c n) (at_block_step c.text c.callers (world_of c (suc n)) b bs c.at) (block_step b bs c.at)
+block_leads machine.iterates bs c n f = iterated_leads c.text c.callers (world_of c n) (taken_from c.at.args) bs c.at f
+block_leads (machine.decides t) bs c n f = decided_leads c.text c.callers (world_of c n) t (takes_one Naq c.at.args) bs c.at f
+block_leads machine.ends_turn bs c n f = turn_leads c.text c.callers (world_of c n) n c.at.args c.at.left bs f
 
 -- the configuration after the effect of an item
 abbrev acted : Modifiers → Item → Option Work → Config → Config
@@ -115,39 +108,11 @@ acted m i work c =
     let d : Step = effect i (setting_of m work c.at) c.state c.at.args in
     record c { state = d.state; typed = c.typed ++ d.typed; load = c.load + d.load; at = record c.at { args = d.arguments }; further = None }
 
-pub ready_paid : (laws : BlockLaws) (inside_only : LeavesInside) (r : Ready) (n : ℕ) → GoodReady r → ready_means r (suc n) ≡ paid n (λ m. means m n) r
-ready_paid laws inside_only (step m i work c) n g =
-    let d : Step = effect i (setting_of m work c.at) c.state c.at.args in
-    resumed_means laws m i work (acted m i work c) n refl g.0 d.end (inside_only i (setting_of m work c.at) c.state c.at.args)
-ready_paid laws inside_only (block b bs c) n g = block_paid b bs c n g.0 g.1
-ready_paid laws inside_only (finished c e) n g = refl
-
--- and what it leads to is as it should be
-going_good : (c : Config) (m : Moved) → FitsMoved m → FitsUnder c.callers → Good (going c m)
-going_good c (Ok cur) f g = (f, g)
-going_good c (Err e) f g = tt
-
-called_good : (c : Config) (text : List ℕ) → FitsAt c.at → FitsUnder c.callers → Good (called text c)
-unfolding FitsUnder Fits
-called_good c text f g = go_ (length c.callers == 32)
-  where
-    go_ : (b : Bool) → Good (if b then halts c (Some Pdo) else runs (record c { text = text; at = record { args = c.at.args; left = text; blocks = [] }; callers = record { text = c.text; left = c.at.left; blocks = c.at.blocks } ∷ c.callers }))
-    go_ true = tt
-    go_ false = (tt, (f, g))
-
-resumed_good : (laws : BlockLaws) (m : Modifiers) (i : Item) (e : End) (c : Config) → FitsAt c.at → FitsUnder c.callers → Good (resumed m i e c)
-resumed_good laws m i on c f g = (f, g)
-resumed_good laws m i leave c f g = going_good c (leaving c.at.blocks c.at.args c.at.left) (leaving_keeps c.at.blocks c.at.args c.at.left f) g
-resumed_good laws m i (go name) c f g = going_good c (jumping name c.text c.at.blocks c.at.args) (jumping_keeps laws name c.text c.at.blocks c.at.args (here c.at.blocks c.at.left).1 f) g
-resumed_good laws m i (call text) c f g = called_good c text f g
-resumed_good laws m i out c f g = tt
-resumed_good laws m i (again work) c f g = (f, g)
-resumed_good laws m i (stop e) c f g = tt
-
-pays_good : (laws : BlockLaws) (r : Ready) → GoodReady r → Good (pays r)
-pays_good laws (step m i work c) g = resumed_good laws m i (effect i (setting_of m work c.at) c.state c.at.args).end (acted m i work c) g.0 g.1
-pays_good laws (block b bs c) g = going_good c (block_step b bs c.at) (block_keeps b bs c.at g.1) g.2
-pays_good laws (finished c e) g = tt
+ready_leads : (laws : BlockLaws) (inside_only : LeavesInside) (r : Ready) (n : ℕ) → GoodReady r → (ready_means r (suc n) ≡ paid n (λ m. means m n) r) × Good (pays r)
+ready_leads laws inside_only (step m i work c) n g =
+    resumed_leads laws m i work (acted m i work c) n refl g.0 g.1 (effect i (setting_of m work c.at) c.state c.at.args).end (inside_only i (setting_of m work c.at) c.state c.at.args)
+ready_leads laws inside_only (block b bs c) n g = going_leads c (block_step b bs c.at) n (at_block_step c.text c.callers (world_of c (suc n)) b bs c.at) g.0 g.2 (block_leads b bs c n g.1)
+ready_leads laws inside_only (finished c e) n g = (refl, tt)
 
 paid_same : (n : ℕ) (f h : Machine → Final) (r : Ready) → f (pays r) ≡ h (pays r) → paid n f r ≡ paid n h r
 paid_same n f h (step m i work c) e = e
@@ -160,8 +125,8 @@ unfolding run_within
 runs_right laws inside_only zero m g = let a = arrives_means laws m g in sym (a.0 0 ∙ ready_unpaid (arrives m) a.1)
 runs_right laws inside_only (suc n) m g =
     let a = arrives_means laws m g in
-    paid_same n (run_within n) (λ x. means x n) (arrives m) (runs_right laws inside_only n (pays (arrives m)) (pays_good laws (arrives m) a.1))
-    ∙ sym (a.0 (suc n) ∙ ready_paid laws inside_only (arrives m) n a.1)
+    let p = ready_leads laws inside_only (arrives m) n a.1 in
+    paid_same n (run_within n) (λ x. means x n) (arrives m) (runs_right laws inside_only n (pays (arrives m)) p.1) ∙ sym (a.0 (suc n) ∙ p.0)
 
 -- what the recursive meaning of a string comes to
 abbrev pub final_of : Ran → Final

@@ -1,22 +1,20 @@
 -- A text of values and arithmetic alone never ends for want of memory.
-use Rattle.std.proofs.Common.{◌≡◌, ◌≢◌, ℕ, List, [], Option, Some, None, Bool, true, false, inl, inr, refl, sym, ap, subst, ◌∙◌}
+use Rattle.std.proofs.Common.{◌≡◌, ◌≢◌, ℕ, List, Option, Some, None, true, false, inl, inr, refl, sym, ap, subst, ◌∙◌}
 use Rattle.teco_core.specs.declared.code.Code.{Code}
 use Rattle.teco_core.specs.declared.code.Code.TheVariants.{Mem}
 use Rattle.teco_core.specs.Arguments.{Arguments}
 use Rattle.teco_scan.specs.ListLaws.{BlockLaws}
 use Rattle.teco_scan.specs.Lists.{nodes}
 use Rattle.teco_scan.specs.declared.token.Found.{Found}
-use Rattle.teco_scan.specs.declared.token.Found.TheVariants.{Token}
 use Rattle.teco_scan.specs.declared.token.Token.{Token as ScannedToken}
 use Rattle.teco_scan.specs.declared.token.TokenKind.{TokenKind}
 use Rattle.teco_scan.specs.declared.token.TokenKind.TheVariants as kind
 use Rattle.teco_store.specs.State.{State}
 use Rattle.teco_step.specs.declared.next.Next.{Next as After}
-use Rattle.teco_step.specs.declared.next.Next.TheVariants as next
 use Rattle.teco_step.specs.declared.next.Setting.{Setting}
 use Rattle.teco_step.specs.Laws.{ValueGoesOn}
 use Rattle.teco_step.specs.Step.{Step, Moment}
-use Rattle.teco_step.specs.Stepping.{IsStepIn, IsStepKind, Steps, end_of, is_unfinished, is_unfinished_code, kind_effect, kind_takes_nothing, takes_nothing, takes_nothing_in}
+use Rattle.teco_step.specs.Stepping.{IsStepKind, Steps, end_of, is_unfinished, is_unfinished_code, kind_effect, kind_takes_nothing, takes_nothing, takes_nothing_in}
 use Rattle.teco_exec.specs.Machine.{Cursor as MachineCursor, pass}
 use Rattle.teco_exec.specs.Quiet.{IsQuiet, QuietComing, is_plain, takes_no_memory}
 use Rattle.teco_exec.specs.Running.{GoesQuietly, code_left}
@@ -25,10 +23,9 @@ use Rattle.teco_exec.specs.declared.cursor.Cursor.{Cursor}
 use Rattle.teco_exec.specs.declared.flow.Exit.{Exit}
 use Rattle.teco_exec.specs.declared.flow.Exit.TheVariants as exits
 use Rattle.teco_exec.specs.declared.flow.Flow.{Flow}
-use Rattle.teco_exec.specs.declared.flow.Flow.TheVariants.{On, Over}
+use Rattle.teco_exec.specs.declared.flow.Flow.TheVariants.{Over}
 use Rattle.teco_exec.specs.declared.flow.Task.{Task}
 use Rattle.teco_exec.specs.declared.moves.Next.{Next}
-use Rattle.teco_exec.specs.declared.moves.Next.TheVariants.{Passed, Step as Comes, Block}
 use Rattle.teco_exec.proofs.Quiet.{pass_quiet, plain_effect}
 
 pub finished_is_not : (code : Code) → is_unfinished_code code ≡ false → code ≢ Mem
@@ -47,18 +44,12 @@ comes_quietly laws old to found n e q = subst QuietComing (sym e) (pass_quiet la
 
 pub kind_quietly : (text : List ℕ) (n : ℕ) (k : TokenKind) → IsStepKind n k → takes_nothing (item_at text k) ≡ true → kind_takes_nothing text k ≡ true
 kind_quietly text n (kind.Item i) is h = h
-kind_quietly text n (kind.Mark m) is h = absurd is
-kind_quietly text n (kind.Test t) is h = absurd is
-kind_quietly text n (kind.Tag t) is h = absurd is
-kind_quietly text n kind.Escape is h = absurd is
+kind_quietly text n k is h = absurd is
 
 -- after a step of a token that takes nothing
 kind_plain : ValueGoesOn → (text : List ℕ) (k : TokenKind) (w : Setting) (s : State) (a : Arguments) → kind_takes_nothing text k ≡ true → is_plain (kind_effect text k w s a).end ≡ true
 kind_plain values text (kind.Item i) w s a h = plain_effect values _ w s a h
-kind_plain values text (kind.Mark m) w s a h = absurd cc
-kind_plain values text (kind.Test t) w s a h = absurd cc
-kind_plain values text (kind.Tag n) w s a h = absurd cc
-kind_plain values text kind.Escape w s a h = absurd cc
+kind_plain values text k w s a h = absurd cc
 
 ends_plain : (e : Step) (name : List ℕ) (old new : Moment) (n : After) → is_unfinished n ≡ false → Steps e name old new n → is_plain e.end ≡ true → is_plain (end_of name n) ≡ true
 ends_plain e name old new n f (inl done) h = ap is_plain done.end ∙ h

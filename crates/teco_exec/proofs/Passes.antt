@@ -7,7 +7,7 @@ use Rattle.teco_core.specs.Arguments.{Arguments, no_arguments, taken_from}
 use Rattle.teco_scan.specs.declared.command.Modifiers.{Modifiers}
 use Rattle.teco_scan.specs.declared.command.BlockMark.TheVariants.{Iterate, EndIteration, Otherwise, EndTest}
 use Rattle.teco_scan.specs.declared.blocks.Kind.{Kind}
-use Rattle.teco_scan.specs.declared.blocks.Kind.TheVariants.{Iter, Then, Else}
+use Rattle.teco_scan.specs.declared.blocks.Kind.TheVariants.{Iter, Then}
 use Rattle.teco_scan.specs.Scan.{Item, Instruction, Order, Scanned, found, ended, fault, scan}
 use Rattle.teco_scan.specs.Scan as token
 use Rattle.teco_scan.specs.Tree.{Nodes, done, item, escape, iter, cond, tag}
@@ -16,7 +16,7 @@ use Rattle.teco_step.specs.declared.next.Work.{Work}
 use Rattle.teco_step.specs.Step.{End, on, stop, takes_one}
 use Rattle.teco_exec.specs.World.{World, Ran, pay, pay_from}
 use Rattle.teco_exec.specs.Meaning.{then_rest, steps, iterates, chooses, first_setting, leave_comes, list_by, meaning}
-use Rattle.teco_scan.specs.Lists.{Close, closed, broken, Past, past, Listed, wrong, behind, behind_block, put, second, at_instruction, at_scan, list_at}
+use Rattle.teco_scan.specs.Lists.{Close, closed, broken, Past, past, Listed, wrong, behind_block, put, second, at_instruction, at_scan, list_at}
 use Rattle.teco_scan.specs.ListLaws.{BlockLaws}
 use Rattle.teco_exec.specs.Machine.{Frame, Cursor, Moved, Coming, moved, comes, at_block, ends, breaks, BlockStep, Caller, Final, kind_of, inside, setting_of, leave_found, skipped, closes, passing, opening, pass_mark, pass_instruction, pass_scanned, pass}
 use Rattle.teco_exec.specs.Machine as machine

@@ -1,7 +1,7 @@
 -- Codes by which arguments and texts are refused: neither want of memory nor a failed terminal.
 use Rattle.std.proofs.Common.{◌≡◌, List, [], ◌∷◌, Option, Some, None, Err, ℤ, true, false, refl, sym, ap}
 use Rattle.teco_core.specs.declared.code.Code.{Code}
-use Rattle.teco_core.specs.declared.code.Code.TheVariants.{Arg, Bni, Ill, Iqc, Iqn, Mrp, Pdo, Utc}
+use Rattle.teco_core.specs.declared.code.Code.TheVariants.{Arg, Mem, Mrp, Tty}
 use Rattle.teco_core.specs.declared.arguments.Expression.{Expression}
 use Rattle.teco_core.specs.declared.arguments.Expression.TheVariants.{Nothing, Number, Signed, Operation}
 use Rattle.teco_core.specs.Arguments.{Arguments, taken_on, taken_from, with_first}
@@ -10,13 +10,9 @@ use Rattle.teco_step.specs.Stepping.{is_unfinished_code}
 
 -- a text's own faults
 pub fault_is_finished : (c : Code) → is_fault c ≡ true → is_unfinished_code c ≡ false
-fault_is_finished Ill e = refl
-fault_is_finished Iqn e = refl
-fault_is_finished Iqc e = refl
-fault_is_finished Utc e = refl
-fault_is_finished Bni e = refl
-fault_is_finished Pdo e = refl
-fault_is_finished c e = absurd cc
+fault_is_finished Mem e = absurd cc
+fault_is_finished Tty e = absurd cc
+fault_is_finished c e = refl
 
 -- what a command takes
 first_taken : (f v : Option ℤ) (c : Code) → with_first f v ≡ Err c → is_unfinished_code c ≡ false

@@ -1,11 +1,11 @@
 -- Where a step of a token has ended, the machine goes on as is meant.
-use Rattle.std.proofs.Common.{◌≡◌, ℕ, suc, ◌+◌, Bool, true, false, List, [], ◌∷◌, length, Option, Some, None, Ok, Err, refl, sym, ap, ◌∙◌, arith}
+use Rattle.std.proofs.Common.{◌≡◌, ℕ, suc, ◌+◌, Bool, true, false, List, [], ◌∷◌, length, Option, Some, None, Ok, Err, refl, sym, ap, subst, ◌∙◌, arith}
 use Rattle.std.specs.Prelude.{◌==◌, if◌then◌else◌}
 use Rattle.teco_core.specs.declared.code.Code.TheVariants.{Pdo, Tag}
 use Rattle.teco_core.specs.Arguments.{Arguments}
 use Rattle.teco_scan.specs.declared.command.Modifiers.{Modifiers}
 use Rattle.teco_scan.specs.declared.blocks.Kind.{Kind}
-use Rattle.teco_scan.specs.declared.blocks.Kind.TheVariants.{Iter, Then, Else}
+use Rattle.teco_scan.specs.declared.blocks.Kind.TheVariants.{Iter}
 use Rattle.teco_scan.specs.Scan.{Item}
 use Rattle.teco_scan.specs.Tree.{Nodes, after_tag}
 use Rattle.teco_step.specs.declared.next.Work.{Work}
@@ -17,9 +17,9 @@ use Rattle.teco_scan.specs.Lists.{Close, Listed, list_at, tag_at, nodes}
 use Rattle.teco_scan.specs.ListLaws.{BlockLaws, Finds}
 use Rattle.teco_exec.specs.Machine.{Frame, Moved, Caller, Further, Config, Machine, runs, halts, Final, final, kind_of, inside, setting_of, going, landed, jumping, leaving, called, resumed}
 use Rattle.teco_exec.proofs.Unrolling.{further_is}
-use Rattle.teco_exec.proofs.Denoting.{here, whole, block_end, follows, around, goes_on, finals, under, Fits, FitsAt}
+use Rattle.teco_exec.proofs.Denoting.{here, whole, block_end, follows, around, goes_on, finals, under, Fits, FitsAt, FitsUnder}
 use Rattle.teco_exec.proofs.Passes.{around_stop, under_stop, given, from, at_cursor, at_step}
-use Rattle.teco_exec.proofs.Pays.{moved_means, leaving_means}
+use Rattle.teco_exec.proofs.Pays.{stop_means, Leads, leaving_leads}
 
 -- an exit goes through all
 module _ (text : List ℕ) (depth : ℕ) (w : World) where
@@ -57,22 +57,23 @@ module _ (laws : BlockLaws) (text : List ℕ) (cs : List Caller) (w : World) (na
   jumps bs c o = let r : Ran = lands meaning (whole text bs) (given text cs w a) (length cs) (inside bs) name o in let q : Ran = around text (length cs) bs c r.0 r.1 in under cs q.0 q.1
 
   lands_there : (bs : List Frame) (c : Close) (l : Listed) (next : Moved) (o : Option (List ℕ)) → Finds name (kind_of bs) (length bs) l o
-      → (after_tag name l.0 ≡ None → jumps bs c None ≡ moved_means text cs w next)
-      → ((more : List ℕ) → (list_at (kind_of bs) (length bs) more).1 ≡ l.1 → jumps bs c (Some (list_at (kind_of bs) (length bs) more).0) ≡ at_cursor text cs w (record { args = a; left = more; blocks = bs }))
-      → jumps bs c (after_tag name l.0) ≡ moved_means text cs w (landed o a bs next)
-  lands_there bs c l next None finds none there = ap (jumps bs c) finds ∙ none finds
-  lands_there bs c l next (Some more) finds none there = ap (jumps bs c) finds.0 ∙ there more finds.1
+      → Leads text cs w (jumps bs c None) next
+      → ((more : List ℕ) → (here bs more).1 ≡ l.1 → Leads text cs w (jumps bs c (Some (here bs more).0)) (Ok (record { args = a; left = more; blocks = bs })))
+      → Leads text cs w (jumps bs c (after_tag name l.0)) (landed o a bs next)
+  lands_there bs c l next None finds none there = (ap (jumps bs c) finds ∙ none.0, none.1)
+  lands_there bs c l next (Some more) finds none there = let t = there more finds.1 in (ap (jumps bs c) finds.0 ∙ t.0, t.1)
 
-  pub jumping_means : (bs : List Frame) (c : Close) → Fits bs c → jumps bs c (after_tag name (whole text bs)) ≡ moved_means text cs w (jumping name text bs a)
+  pub jumping_leads : (bs : List Frame) (c : Close) → Fits bs c → Leads text cs w (jumps bs c (after_tag name (whole text bs))) (jumping name text bs a)
   unfolding jumping around Fits
-  jumping_means [] c f =
-      lands_there [] c (list_at None 0 text) (Err Tag) (tag_at name 0 text) (laws.search_finds name None 0 text)
-      (λ e. under_go cs (given text cs w a) name) (λ more e. refl)
-  jumping_means (b ∷ outer) c f =
+  jumping_leads [] c f = lands_there [] c (list_at None 0 text) (Err Tag) (tag_at name 0 text) (laws.search_finds name None 0 text) (under_go cs (given text cs w a) name, tt) (λ more e. (refl, tt))
+  jumping_leads (b ∷ outer) c f =
+      let out_ = jumping_leads outer (follows b.kind outer c).1 f.1 in
       lands_there (b ∷ outer) c (here (b ∷ outer) b.start) (jumping name text outer a) (tag_at name (suc (length outer)) b.start) (laws.search_finds name (Some b.kind) (suc (length outer)) b.start)
-      (λ e. ap (λ (q : Ran). let r : Ran = goes_on text (length cs) outer (follows b.kind outer c) q.0 q.1 in under cs r.0 r.1) (go_block text (length cs) (given text cs w a) name b.kind b.left (whole text (b ∷ outer)))
-      ∙ jumping_means outer (follows b.kind outer c).1 f.1)
-      (λ more e. ap (λ x. let r : Ran = meaning.list (whole text (b ∷ outer)) (here (b ∷ outer) more).0 (given text cs w a) (length cs) (inside (b ∷ outer)) in let q : Ran = around text (length cs) (b ∷ outer) x r.0 r.1 in under cs q.0 q.1) (sym (e ∙ f.0)))
+      (ap (λ (q : Ran). let r : Ran = goes_on text (length cs) outer (follows b.kind outer c) q.0 q.1 in under cs r.0 r.1) (go_block text (length cs) (given text cs w a) name b.kind b.left (whole text (b ∷ outer))) ∙ out_.0, out_.1)
+      (λ more e. (
+        ap (λ x. let r : Ran = meaning.list (whole text (b ∷ outer)) (here (b ∷ outer) more).0 (given text cs w a) (length cs) (inside (b ∷ outer)) in let q : Ran = around text (length cs) (b ∷ outer) x r.0 r.1 in under cs q.0 q.1) (sym (e ∙ f.0)),
+        (sym e, subst (λ x. Fits outer (follows b.kind outer x).1) (sym (e ∙ f.0)) f.1),
+      ))
 
 -- a configuration, with so much fuel
 abbrev pub world_of : Config → ℕ → World
@@ -89,34 +90,44 @@ abbrev pub means : Machine → ℕ → Final
 means (runs c) n = further_means c.further c n
 means (halts c e) n = final n c e
 
-pub going_means : (c : Config) (m : Moved) (n : ℕ) → c.further ≡ None → moved_means c.text c.callers (world_of c n) m ≡ means (going c m) n
-going_means c (Ok cur) n none = ap (λ f. further_means f (record c { at = cur }) n) (sym none)
-going_means c (Err e) n none = refl
+abbrev pub Good : Machine → Type 0
+Good (runs c) = FitsAt c.at × FitsUnder c.callers
+Good (halts c e) = Unit {0}
+
+-- A run means the machine that it leads to.
+abbrev pub LeadsTo : ℕ → Final → Machine → Type 0
+LeadsTo n f m = (f ≡ means m n) × Good m
+
+pub going_leads : (c : Config) (m : Moved) (n : ℕ) (f : Final) → c.further ≡ None → FitsUnder c.callers → Leads c.text c.callers (world_of c n) f m → LeadsTo n f (going c m)
+going_leads c (Ok cur) n f none g l = (l.0 ∙ ap (λ x. further_means x (record c { at = cur }) n) (sym none), (l.1, g))
+going_leads c (Err e) n f none g l = (l.0, tt)
 
 -- a text is called
-called_means : (c : Config) (text : List ℕ) (n : ℕ) → c.further ≡ None
-    → (let r : Ran = calls meaning text (world_of c n) (length c.callers) in goes_from c r.0 r.1) ≡ means (called text c) n
-unfolding around under inside
-called_means c text n none = go_ (length c.callers == 32)
+called_leads : (c : Config) (text : List ℕ) (n : ℕ) → c.further ≡ None → FitsAt c.at → FitsUnder c.callers
+    → (let r : Ran = calls meaning text (world_of c n) (length c.callers) in LeadsTo n (goes_from c r.0 r.1) (called text c))
+unfolding around under inside Fits FitsUnder
+called_leads c text n none f g = by (length c.callers == 32)
   where
     deeper : length c.callers + 1 ≡ suc (length c.callers)
     deeper = omega arith
 
-    go_ : (b : Bool) → (let w : World = world_of c n in
-        let r : Ran = if b then (w, stop Pdo) else (let r : Ran = meaning.list (nodes text) (nodes text) w (length c.callers + 1) false in meant.returned r.0 r.1) in goes_from c r.0 r.1)
-        ≡ means (if b then halts c (Some Pdo) else runs (record c { text = text; at = record { args = c.at.args; left = text; blocks = [] }; callers = record { text = c.text; left = c.at.left; blocks = c.at.blocks } ∷ c.callers })) n
-    go_ true = ap (λ (q : Ran). under c.callers q.0 q.1) (around_stop c.text (length c.callers) (world_of c n) Pdo c.at.blocks (here c.at.blocks c.at.left).1) ∙ under_stop c.callers (world_of c n) Pdo
-    go_ false =
-        ap (λ d. let r : Ran = meaning.list (nodes text) (nodes text) (world_of c n) d false in let q : Ran = meant.returned r.0 r.1 in goes_from c q.0 q.1) deeper
-        ∙ ap (λ f. further_means f (record c { text = text; at = record { args = c.at.args; left = text; blocks = [] }; callers = record { text = c.text; left = c.at.left; blocks = c.at.blocks } ∷ c.callers }) n) (sym none)
+    by : (b : Bool) → (let w : World = world_of c n in
+        let r : Ran = if b then (w, stop Pdo) else (let r : Ran = meaning.list (nodes text) (nodes text) w (length c.callers + 1) false in meant.returned r.0 r.1) in
+        LeadsTo n (goes_from c r.0 r.1) (if b then halts c (Some Pdo) else runs (record c { text = text; at = record { args = c.at.args; left = text; blocks = [] }; callers = record { text = c.text; left = c.at.left; blocks = c.at.blocks } ∷ c.callers })))
+    by true = (stop_means c.text c.callers (world_of c n) c.at.blocks (here c.at.blocks c.at.left) (world_of c n) Pdo, tt)
+    by false = (
+      ap (λ d. let r : Ran = meaning.list (nodes text) (nodes text) (world_of c n) d false in let q : Ran = meant.returned r.0 r.1 in goes_from c q.0 q.1) deeper
+          ∙ ap (λ x. further_means x (record c { text = text; at = record { args = c.at.args; left = text; blocks = [] }; callers = record { text = c.text; left = c.at.left; blocks = c.at.blocks } ∷ c.callers }) n) (sym none),
+      (tt, (f, g)),
+    )
 
-pub resumed_means : (laws : BlockLaws) (m : Modifiers) (i : Item) (work : Option Work) (c : Config) (n : ℕ) → c.further ≡ None → FitsAt c.at → (e : End) → (e ≡ leave → inside c.at.blocks ≡ true)
-    → (let r : Ran = carries meaning i (setting_of m work c.at) (length c.callers) (world_of c n) e in goes_from c r.0 r.1) ≡ means (resumed m i e c) n
+pub resumed_leads : (laws : BlockLaws) (m : Modifiers) (i : Item) (work : Option Work) (c : Config) (n : ℕ) → c.further ≡ None → FitsAt c.at → FitsUnder c.callers → (e : End) → (e ≡ leave → inside c.at.blocks ≡ true)
+    → (let r : Ran = carries meaning i (setting_of m work c.at) (length c.callers) (world_of c n) e in LeadsTo n (goes_from c r.0 r.1) (resumed m i e c))
 unfolding further_by
-resumed_means laws m i work c n none fits on inner = ap (λ f. further_means f c n) (sym none)
-resumed_means laws m i work c n none fits leave inner = leaving_means c.text c.callers (world_of c n) c.at.blocks c.at.args c.at.left (inner refl) ∙ going_means c (leaving c.at.blocks c.at.args c.at.left) n none
-resumed_means laws m i work c n none fits (go name) inner = jumping_means laws c.text c.callers (world_of c n) name c.at.args c.at.blocks (here c.at.blocks c.at.left).1 fits ∙ going_means c (jumping name c.text c.at.blocks c.at.args) n none
-resumed_means laws m i work c n none fits (call text) inner = called_means c text n none
-resumed_means laws m i work c n none fits out inner = ap (λ (q : Ran). under c.callers q.0 q.1) (around_out c.text (length c.callers) (world_of c n) c.at.blocks (here c.at.blocks c.at.left).1) ∙ under_out c.callers (world_of c n)
-resumed_means laws m i work c n none fits (again left) inner = ap (λ (r : Ran). goes_from c r.0 r.1) (further_is i (record (setting_of m work c.at) { work = Some left }) (world_of c n) (length c.callers))
-resumed_means laws m i work c n none fits (stop e) inner = ap (λ (q : Ran). under c.callers q.0 q.1) (around_stop c.text (length c.callers) (world_of c n) e c.at.blocks (here c.at.blocks c.at.left).1) ∙ under_stop c.callers (world_of c n) e
+resumed_leads laws m i work c n none f g on inner = (ap (λ x. further_means x c n) (sym none), (f, g))
+resumed_leads laws m i work c n none f g leave inner = going_leads c (leaving c.at.blocks c.at.args c.at.left) n _ none g (leaving_leads c.text c.callers (world_of c n) c.at.blocks c.at.args c.at.left (inner refl) f)
+resumed_leads laws m i work c n none f g (go name) inner = going_leads c (jumping name c.text c.at.blocks c.at.args) n _ none g (jumping_leads laws c.text c.callers (world_of c n) name c.at.args c.at.blocks (here c.at.blocks c.at.left).1 f)
+resumed_leads laws m i work c n none f g (call text) inner = called_leads c text n none f g
+resumed_leads laws m i work c n none f g out inner = (ap (λ (q : Ran). under c.callers q.0 q.1) (around_out c.text (length c.callers) (world_of c n) c.at.blocks (here c.at.blocks c.at.left).1) ∙ under_out c.callers (world_of c n), tt)
+resumed_leads laws m i work c n none f g (again left) inner = (ap (λ (r : Ran). goes_from c r.0 r.1) (further_is i (record (setting_of m work c.at) { work = Some left }) (world_of c n) (length c.callers)), (f, g))
+resumed_leads laws m i work c n none f g (stop e) inner = (stop_means c.text c.callers (world_of c n) c.at.blocks (here c.at.blocks c.at.left) (world_of c n) e, tt)

@@ -5,9 +5,9 @@ use Rattle.teco_core.specs.declared.code.Code.{Code}
 use Rattle.teco_scan.specs.declared.token.Token.{Token as ScannedToken}
 use Rattle.teco_scan.specs.declared.token.Found.{Found}
 use Rattle.teco_scan.specs.declared.token.Found.TheVariants.{Token}
-use Rattle.teco_exec.specs.Machine.{Caller, Config, Cursor as MachineCursor, Ready, block, Now, runs, halts, coming, finished, arrives, pass, returned, step}
+use Rattle.teco_exec.specs.Machine.{Caller, Config, Cursor as MachineCursor, block, Now, runs, halts, coming, arrives, pass, returned, step}
 use Rattle.teco_exec.specs.View.{beginning, coming_of, cursor, item_at, opening_of}
-use Rattle.teco_exec.specs.Running.{Continuation, Reached, goes, over, config, ready_run, reached_run, at_cursor, at_token, at_opening, at_return, further_of}
+use Rattle.teco_exec.specs.Running.{goes, over, config, ready_run, at_cursor, at_token, at_opening, at_return, further_of}
 use Rattle.teco_exec.specs.declared.cursor.Cursor.{Cursor}
 use Rattle.teco_exec.specs.declared.flow.Task.{Task}
 use Rattle.teco_exec.specs.declared.moves.Opening.{Opening}

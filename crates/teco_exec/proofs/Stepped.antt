@@ -1,9 +1,9 @@
 -- Steps of a text, of tokens and of blocks.
-use Rattle.std.proofs.Common.{◌≡◌, ◌≢◌, ℕ, zero, suc, ◌+◌, ◌<◌, ◌≤◌, List, [], ◌∷◌, ◌++◌, length, drop, Option, Some, None, Result, Ok, Err, Bool, true, false, inl, inr, refl, sym, ap, subst, ◌∙◌, arith, append-nil}
+use Rattle.std.proofs.Common.{◌≡◌, ℕ, ◌+◌, ◌<◌, ◌≤◌, List, [], ◌∷◌, ◌++◌, length, drop, Option, Some, None, Result, Ok, Err, Bool, true, false, inl, inr, refl, sym, ap, subst, ◌∙◌, arith, append-nil}
 use Rattle.std.specs.Prelude.{◌==◌, if◌then◌else◌, MatchResult}
 use Rattle.teco_core.specs.declared.arguments.Args.{Args}
 use Rattle.teco_core.specs.declared.code.Code.{Code}
-use Rattle.teco_core.specs.declared.code.Code.TheVariants.{Lim, Mem, Tty, Pdo}
+use Rattle.teco_core.specs.declared.code.Code.TheVariants.{Mem, Tty, Pdo}
 use Rattle.teco_core.specs.ArgumentsView.{arguments}
 use Rattle.teco_core.specs.Arguments.{Arguments}
 use Rattle.teco_scan.specs.Scan.{Item, scan}
@@ -18,17 +18,17 @@ use Rattle.teco_step.specs.Effect.{effect}
 use Rattle.teco_step.specs.Step.{Step, End, at, on, leave, go, call, out, again, stop}
 use Rattle.teco_step.specs.Stepping.{end_of, is_unfinished, is_unfinished_code, Steps, IsDone, trail_after, IsStepIn, name_in, token_effect}
 use Rattle.teco_step.specs.Terminal.{Screen}
-use Rattle.teco_exec.specs.Machine.{Caller, Config, Cursor as MachineCursor, Machine, Moved, Now, runs, halts, called, going, inside, leave_found, leaving, jumping, now_of, resumed, run_within, setting_of, arrives, block_step}
+use Rattle.teco_exec.specs.Machine.{Caller, Config, Moved, Now, runs, halts, called, going, inside, leave_found, leaving, jumping, now_of, resumed, run_within, setting_of, arrives, block_step}
 use Rattle.teco_exec.specs.Search.{is_search}
 use Rattle.teco_exec.specs.View.{Finishes as MovesWell, cursor, item_at, moved_of, opening_of}
-use Rattle.teco_exec.specs.Running.{Origin, Host, host, Continuation, Going, Comes, Ended, Reached, goes, over, Reaches, reached_run, ready_run, config, at_cursor, at_token, at_opening, flows, Finishes, IsFinished}
+use Rattle.teco_exec.specs.Running.{Origin, Host, host, Continuation, Going, Comes, Ended, Reached, Reaches, reached_run, ready_run, config, at_cursor, at_token, at_opening, flows, Finishes}
 use Rattle.teco_exec.specs.declared.cursor.Cursor.{Cursor}
 use Rattle.teco_exec.specs.declared.flow.Flow.{Flow}
 use Rattle.teco_exec.specs.declared.flow.Flow.TheVariants.{On, Call, Return, Over}
 use Rattle.teco_exec.specs.declared.flow.Task.{Task}
 use Rattle.teco_exec.specs.declared.moves.Opening.{Opening}
 use Rattle.teco_exec.proofs.Composing.{Stays, arrives_stays, halted, run_ready}
-use Rattle.teco_exec.proofs.Going.{Settles, EndsByItself, Pays, advanced, since, settles, step_done, no_memory, no_terminal, shows_nothing}
+use Rattle.teco_exec.proofs.Going.{EndsByItself, Pays, advanced, since, settles, step_done, no_memory, no_terminal, shows_nothing}
 use Rattle.teco_exec.proofs.Unseen.{effect_here}
 
 -- Where a step leads changes nothing of what is seen.

@@ -1,5 +1,5 @@
 -- Whether a plain `;` comes next is seen by searches alone.
-use Rattle.std.proofs.Common.{◌≡◌, ℕ, List, length, Option, Bool, true, false, refl, sym, ap, ◌∙◌}
+use Rattle.std.proofs.Common.{◌≡◌, ℕ, List, length, Option, Bool, true, false, refl, ap, ◌∙◌}
 use Rattle.teco_core.specs.ArgumentsView.{arguments}
 use Rattle.teco_core.specs.Arguments.{Arguments}
 use Rattle.teco_scan.specs.Scan.{scan}
@@ -31,43 +31,24 @@ use Rattle.teco_exec.specs.declared.cursor.Cursor.{Cursor}
 module _ (w : Setting) (b : Bool) where
   by_command : (c : Command) → command_effect c w ≡ command_effect c (record w { before = b })
   by_command command.Leave = refl
-  by_command command.Jump = refl
-  by_command command.Forward = refl
-  by_command command.Back = refl
-  by_command command.Line = refl
-  by_command command.Delete = refl
-  by_command command.TypeOut = refl
-  by_command command.Print = refl
   by_command c = refl
 
   by_register : (c : RegisterCommand) (q : ℕ) → register_effect c q w ≡ register_effect c q (record w { before = b })
   by_register register.Number q = refl
-  by_register register.Increment q = refl
-  by_register register.Set q = refl
-  by_register register.Get q = refl
-  by_register register.Macro q = refl
   by_register c q = refl
 
   by_text : (c : TextCommand) (span : Span) (name : List ℕ) → is_search (kind.Item (item.Text c span)) ≡ false → text_effect c name w ≡ text_effect c name (record w { before = b })
   by_text texts.Search span name e = absurd cc
   by_text texts.SearchPages span name e = absurd cc
   by_text texts.SearchPagesQuietly span name e = absurd cc
-  by_text texts.Insert span name e = refl
-  by_text texts.TypeOut span name e = refl
-  by_text texts.Go span name e = refl
   by_text c span name e = refl
 
   by_item : (text : List ℕ) (i : Item) → is_search (kind.Item i) ≡ false → item_effect (item_in text i) w ≡ item_effect (item_in text i) (record w { before = b })
-  by_item text (item.Digits s) e = refl
   by_item text (item.Bare (bare.Command c)) e = by_command c
-  by_item text (item.Bare (bare.Quantity q)) e = refl
-  by_item text (item.Bare (bare.Arithmetic a)) e = refl
-  by_item text (item.Bare (bare.Level l)) e = refl
   by_item text (item.Register c q) e = by_register c q
-  by_item text (item.Byte x) e = refl
   by_item text (item.Text c s) e = by_text c s _ e
-  by_item text (item.SetText q s) e = refl
   by_item text (item.Replace s t) e = absurd cc
+  by_item text i e = refl
 
   unseen : (text : List ℕ) (i : Item) (s : State) (a : Arguments) → is_search (kind.Item i) ≡ false → effect (item_in text i) w s a ≡ effect (item_in text i) (record w { before = b }) s a
   unfolding effect
@@ -80,10 +61,7 @@ module _ (text : List ℕ) (w : Setting) (b : Bool) (s : State) (a : Arguments) 
 
   by_kind : (k : TokenKind) → IsStepKind (length text) k → (is_search k ≡ true → w.before ≡ b) → kind_effect text k w s a ≡ effect (item_at text k) (record w { before = b }) s a
   by_kind (kind.Item i) h e = by_seen i (is_search (kind.Item i)) refl e
-  by_kind (kind.Mark m) h e = absurd h
-  by_kind (kind.Test t) h e = absurd h
-  by_kind (kind.Tag n) h e = absurd h
-  by_kind kind.Escape h e = absurd h
+  by_kind k h e = absurd h
 
 -- The effect of a token is that of its item where it is.
 pub effect_here : (c : Cursor) (token : Token) (work : Option Work) (opens before : Bool) (s : State) → IsStepIn c.text.now token → opens ≡ inside (cursor c).blocks

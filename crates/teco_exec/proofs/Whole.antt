@@ -1,5 +1,5 @@
 -- The run of a whole string: nothing has called it.
-use Rattle.std.proofs.Common.{◌≡◌, ℕ, ◌+◌, ◌≤◌, List, [], Option, Some, None, false, refl, sym, ap, subst, ◌∙◌, arith}
+use Rattle.std.proofs.Common.{◌≡◌, ℕ, ◌+◌, ◌≤◌, [], Option, None, false, sym, ap, subst, ◌∙◌, arith}
 use Rattle.teco_core.specs.declared.code.Code.{Code}
 use Rattle.teco_core.specs.Arguments.{Arguments, no_arguments}
 use Rattle.teco_store.specs.Trail.{Trail}

@@ -11,3 +11,4 @@ pub mod View
 pub mod Search
 pub mod Runs
 pub mod Running
+pub mod Semicolon

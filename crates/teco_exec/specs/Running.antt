@@ -1,5 +1,5 @@
 -- A run of a whole string, as it is seen at a moment, and where it goes on from there.
-use Rattle.std.specs.Prelude.{◌≡◌, ◌≢◌, ◌<◌, ◌≤◌, ◌⊎◌, ℕ, zero, suc, ◌+◌, List, [], Bool, true, false, Option, Some, None, drop, length}
+use Rattle.std.specs.Prelude.{◌≡◌, ◌≢◌, ℕ, zero, suc, ◌+◌, List, [], false, Option, Some, None, drop, length}
 use Rattle.teco_core.specs.Arguments.{Arguments}
 use Rattle.teco_core.specs.ArgumentsView.{arguments}
 use Rattle.teco_core.specs.declared.code.Code.{Code}
@@ -94,6 +94,15 @@ pub data Reached : Type 0 where
 abbrev pub Reaches : Origin → Host → Host → Reached → Type 0
 Reaches o before after (goes next) = Comes o before after next
 Reaches o before after (over code) = Ended o before after code
+
+-- From one moment to a later one a run under this limit is led from a continuation to where it then has got, whatever has called the text.
+abbrev pub Leads : ℕ → Host → Host → (List Caller → Continuation) → (List Caller → Reached) → Type 0
+Leads limit before after from to = (o : Origin) (callers : List Caller) → o.limit ≡ limit → Going o before (from callers) → Reaches o before after (to callers)
+
+-- The same, for a text at this depth of calls.
+abbrev pub LeadsAt : ℕ → ℕ → Host → Host → (List Caller → Continuation) → (List Caller → Reached) → Type 0
+LeadsAt depth limit before after from to =
+    (o : Origin) (callers : List Caller) → o.limit ≡ limit → length callers ≡ depth → Going o before (from callers) → Reaches o before after (to callers)
 
 -- what a run comes to from there
 abbrev pub reached_run : ℕ → Now → Reached → Final

@@ -1,11 +1,11 @@
 //! A place in a text that is being run.
 ghost use Rattle.std.specs.Prelude.{◌≡◌, ◌≤◌, ℕ, All, List, length};
-ghost use Rattle.teco_scan.specs.Seen.{found_in};
+ghost use Rattle.teco_scan.specs.Scan.{after_fillers, is_filler};
+ghost use Rattle.teco_exec.specs.Semicolon.{is_semicolon};
 ghost use Rattle.teco_exec.specs.Machine as machine;
 
 use crate::blocks::Blocks;
 use teco_core::Args;
-use teco_scan::{Bare, Command, Found, Item, TokenKind, token_at};
 
 /// Where a text is being run: how many of its bytes come before, the arguments so far, and the open blocks.
 #[derive(Debug, Drop)]
@@ -48,22 +48,24 @@ impl<'t> Cursor<'t> {
     pub fn leave_is_next(&self) -> bool
         ensures { result ≡ machine.leave_found (scan (cursor self.now).left) }
     {
-        is_plain_leave(&token_at(self.text, self.at))
+        is_leave_first(&self.text[self.at..])
     }
 }
 
-/// Whether `;` without modifiers was found.
-#[tactic(auto, using(crate::proofs::Leaves::leave_comes_found), unfolding(crate::proofs::Leaves::leave_found))]
-fn is_plain_leave(found: &Found) -> bool
-    ensures { (text : List ℕ) → result ≡ machine.leave_found (found_in text found.now) }
+/// Whether the first byte that is no filler is `;`.
+fn is_leave_first(text: &[u8]) -> bool
+    ensures { result ≡ is_semicolon (after_fillers text.now) }
 {
-    match found {
-        Found::Token(token) => match token.kind {
-            TokenKind::Item(Item::Bare(Bare::Command(Command::Leave))) => {
-                !token.modifiers.at && token.modifiers.colons == 0
-            }
-            _ => false,
-        },
-        Found::End | Found::Fault(_) => false,
+    for byte in text {
+        if !is_filler(*byte) {
+            return *byte == b';';
+        }
     }
+    false
+}
+
+fn is_filler(byte: u8) -> bool
+    ensures { result ≡ is_filler byte }
+{
+    matches!(byte, 0 | b'\n' | b'\r' | b' ')
 }

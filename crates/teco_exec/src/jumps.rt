@@ -35,7 +35,9 @@ impl<'t> Cursor<'t> {
         ensures finished { Finishes result }
     {
         'jumping: loop {
-            match find_tag(self.text, self.blocks.list_start(), self.blocks.len(), name) {
+            let start = self.blocks.list_start();
+            let depth = self.blocks.len();
+            match find_tag(self.text, start, depth, name) {
                 Some(to) => {
                     self.at = to;
                     return Ok(());

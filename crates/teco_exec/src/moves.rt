@@ -56,6 +56,7 @@ impl<'t> Cursor<'t> {
                 }
             }
             Found::Fault(code) => {
+                // By its laws a fault is one of the text's own, and never want of memory.
                 block_laws();
                 Next::Fault(*code)
             }

@@ -4,8 +4,7 @@ ghost use Rattle.teco_core.specs.ArgumentsView.{arguments};
 ghost use Rattle.teco_core.specs.declared.code.Code.TheVariants.{Mem};
 ghost use Rattle.teco_scan.specs.Lists.{nodes};
 ghost use Rattle.teco_step.specs.Terminal.{Shows};
-ghost use Rattle.teco_exec.specs.Machine.{Caller};
-ghost use Rattle.teco_exec.specs.Running.{Going, Origin, Reaches, at_beginning, exits, host, in_return};
+ghost use Rattle.teco_exec.specs.Running.{LeadsAt, at_beginning, exits, host, in_return};
 ghost use Rattle.teco_exec.specs.View.{cursor as cursor_of};
 ghost use Rattle.teco_exec.specs.Quiet.{takes_no_memory};
 ghost use Rattle.teco_exec.specs.Runs.{Runs, is_tty, trail_of};
@@ -63,10 +62,9 @@ fn run_text<D: Desk, T: Terminal>(
     requires { depth ≤ 32 }
     ensures limit { steps.new.limit ≡ steps.old.limit }
     ensures after { steps.old.done ≤ steps.new.done }
-    ensures reaches { (o : Origin) (callers : List Caller) → o.limit ≡ steps.old.limit → length callers ≡ depth
-        → Going o (host (D.state desk.old) (D.follows desk.old) (T.screen term.old) steps.old.done) (at_beginning (arguments args.old) text.now callers)
-        → Reaches o (host (D.state desk.old) (D.follows desk.old) (T.screen term.old) steps.old.done)
-        (host (D.state desk.new) (D.follows desk.new) (T.screen term.new) steps.new.done) (exits (arguments args.new) callers result) }
+    ensures leads { LeadsAt depth steps.old.limit (host (D.state desk.old) (D.follows desk.old) (T.screen term.old) steps.old.done)
+        (host (D.state desk.new) (D.follows desk.new) (T.screen term.new) steps.new.done)
+        (at_beginning (arguments args.old) text.now) (λ callers. exits (arguments args.new) callers result) }
     ensures no_memory { takes_no_memory (nodes text.now) ≡ true → result ≡ exit.Over (Some Mem) → ⊥ }
 {
     let mut cursor = Cursor::begin(text, *args);

@@ -5,7 +5,7 @@ ghost use Rattle.teco_step.specs.Stepping.{IsStepIn, end_of, is_unfinished, is_u
 ghost use Rattle.teco_step.specs.Terminal.{Screen};
 ghost use Rattle.teco_step.specs.declared.next.Next.TheVariants.{Error};
 ghost use Rattle.teco_exec.specs.Machine.{Caller, Now, leave_found, resumed, run_within};
-ghost use Rattle.teco_exec.specs.Running.{Finishes, GoesOn, GoesQuietly, Going, IsPending, Origin, Pends, Reaches, at_cursor, at_opening, at_token, config, flows, host, reached_run};
+ghost use Rattle.teco_exec.specs.Running.{Finishes, GoesOn, GoesQuietly, IsPending, Leads, Pends, at_cursor, at_opening, at_token, config, flows, host, reached_run};
 ghost use Rattle.teco_exec.specs.Quiet.{IsQuiet, is_plain};
 ghost use Rattle.teco_exec.specs.Search.{is_search};
 ghost use Rattle.teco_exec.specs.View.{MayOpen, cursor as cursor_of, item_at};
@@ -38,10 +38,9 @@ pub(crate) fn step<D: Desk, T: Terminal>(
     ensures after { steps.old.done ≤ steps.new.done }
     ensures advances { GoesOn result → (steps.old.done < steps.new.done) ⊎ (length (cursor_of cursor.new).left < length (cursor_of cursor.old).left) }
     ensures pending { Pends cursor.new.text.now pending.new result }
-    ensures reaches { (o : Origin) (callers : List Caller) → o.limit ≡ steps.old.limit
-        → Going o (host (D.state desk.old) (D.follows desk.old) (T.screen term.old) steps.old.done) (at_cursor cursor.old pending.old callers)
-        → Reaches o (host (D.state desk.old) (D.follows desk.old) (T.screen term.old) steps.old.done)
-        (host (D.state desk.new) (D.follows desk.new) (T.screen term.new) steps.new.done) (flows cursor.new pending.new callers result) }
+    ensures leads { Leads steps.old.limit (host (D.state desk.old) (D.follows desk.old) (T.screen term.old) steps.old.done)
+        (host (D.state desk.new) (D.follows desk.new) (T.screen term.new) steps.new.done)
+        (at_cursor cursor.old pending.old) (λ callers. flows cursor.new pending.new callers result) }
     ensures quiet { IsQuiet (cursor_of cursor.old) → pending.old ≡ None → GoesQuietly cursor.new pending.new result }
 {
     block_laws();
@@ -88,10 +87,9 @@ fn token_step<D: Desk, T: Terminal>(
     ensures after { steps.old.done ≤ steps.new.done }
     ensures counts { GoesOn result → steps.old.done < steps.new.done }
     ensures pending { Pends cursor.new.text.now pending.new result }
-    ensures reaches { (o : Origin) (callers : List Caller) → o.limit ≡ steps.old.limit
-        → Going o (host (D.state desk.old) (D.follows desk.old) (T.screen term.old) steps.old.done) (at_token cursor.old token.now work callers)
-        → Reaches o (host (D.state desk.old) (D.follows desk.old) (T.screen term.old) steps.old.done)
-        (host (D.state desk.new) (D.follows desk.new) (T.screen term.new) steps.new.done) (flows cursor.new pending.new callers result) }
+    ensures leads { Leads steps.old.limit (host (D.state desk.old) (D.follows desk.old) (T.screen term.old) steps.old.done)
+        (host (D.state desk.new) (D.follows desk.new) (T.screen term.new) steps.new.done)
+        (at_token cursor.old token.now work) (λ callers. flows cursor.new pending.new callers result) }
     ensures quiet { IsQuiet (cursor_of cursor.old) → takes_nothing_in cursor.old.text.now token.now ≡ true → GoesQuietly cursor.new pending.new result }
 {
     effect_laws();
@@ -134,10 +132,9 @@ fn block_step<D: Desk>(
     ensures limit { steps.new.limit ≡ steps.old.limit }
     ensures after { steps.old.done ≤ steps.new.done }
     ensures counts { GoesOn result → steps.old.done < steps.new.done }
-    ensures reaches { (o : Origin) (callers : List Caller) (screen : Screen) → o.limit ≡ steps.old.limit
-        → Going o (host (D.state desk.old) (D.follows desk.old) screen steps.old.done) (at_opening cursor.old opening to callers)
-        → Reaches o (host (D.state desk.old) (D.follows desk.old) screen steps.old.done)
-        (host (D.state desk.new) (D.follows desk.new) screen steps.new.done) (flows cursor.new None callers result) }
+    ensures leads { (screen : Screen) → Leads steps.old.limit (host (D.state desk.old) (D.follows desk.old) screen steps.old.done)
+        (host (D.state desk.new) (D.follows desk.new) screen steps.new.done)
+        (at_opening cursor.old opening to) (λ callers. flows cursor.new None callers result) }
 {
     if steps.done == steps.limit {
         return over(Code::Lim);

@@ -1,10 +1,8 @@
-use Rattle.std.proofs.Common.{◌≡◌, ◌<◌, ◌≤◌, ◌⊎◌, inl, inr, ℕ, ◌+◌, ◌-◌, ◌*◌, List, ◌∷◌, [], length, drop, None, Some, refl, sym, subst, ap, ◌∙◌, arith}
+use Rattle.std.proofs.Common.{◌≡◌, ◌<◌, ◌≤◌, ◌⊎◌, inl, inr, ◌+◌, ◌-◌, ◌*◌, ◌∷◌, length, drop, Some, refl, sym, subst, ap, ◌∙◌, arith}
 use Rattle.std.proofs.lemmas.List.{length-drop}
 use Rattle.teco_core.specs.ArgumentsView.{arguments}
-use Rattle.teco_exec.specs.Machine.{Caller}
 use Rattle.teco_exec.specs.View.{cursor}
-use Rattle.teco_exec.specs.Running.{Comes, Ended, Going, IsPending, Pends, Reaches, at_beginning, at_call, at_cursor, at_return, exits, flows, goes, host, over}
-use Rattle.teco_exec.specs.declared.flow.Flow.TheVariants.{On, Call, Return, Over}
+use Rattle.teco_exec.specs.Running.{Going, IsPending, at_call, at_cursor, at_return, goes, host, over}
 use Rattle.teco_exec.proofs.Calling.{begins, caller, comes_back, enters, less_left, too_deep}
 use Rattle.teco_exec.proofs.Going.{continues, since}
 use Rattle.teco_exec.proofs.NoMemory.{begins_quietly}
@@ -39,13 +37,13 @@ running-preserved-in-On g t c = record {
   quiet = λ h. let q = c.running.invariant.quiet h in c.in-On.ensures.quiet q.0 q.1;
   going = λ o callers limit deep e.
       let there = c.running.invariant.going o callers limit deep e in
-      since o _ _ _ (goes (at_cursor c.step.new.cursor c.step.new.pending callers)) there.follows (c.in-On.ensures.reaches o callers (limit ∙ sym c.running.invariant.limit) there.going);
+      since o _ _ _ (goes (at_cursor c.step.new.cursor c.step.new.pending callers)) there.follows (c.in-On.ensures.leads o callers (limit ∙ sym c.running.invariant.limit) there.going);
 }
 
-pub returns-then-depth-eq-MOST_CALLS-clause-reaches : goal.returns-then-depth-eq-MOST_CALLS-clause-reaches
-returns-then-depth-eq-MOST_CALLS-clause-reaches g t c o callers limit deep e =
+pub returns-then-depth-eq-MOST_CALLS-clause-leads : goal.returns-then-depth-eq-MOST_CALLS-clause-leads
+returns-then-depth-eq-MOST_CALLS-clause-leads g t c o callers limit deep e =
     let there = c.running.invariant.going o callers limit deep e in
-    let here = c.in-Call.ensures.reaches o callers (limit ∙ sym c.running.invariant.limit) there.going in
+    let here = c.in-Call.ensures.leads o callers (limit ∙ sym c.running.invariant.limit) there.going in
     since o _ _ _ (over (Some _)) (λ floor p. here.follows floor (there.follows floor p))
     (too_deep o _ c.step.new.cursor c.in-Call.called.items callers here.going (deep ∙ c.if-depth-eq-MOST_CALLS.true) (omega (arith, limit, c.running.invariant.limit, c.in-Call.ensures.limit, c.step.new.steps.within)))
 
@@ -72,7 +70,7 @@ running-preserved g t c = record {
   quiet = λ h. let q = c.running.invariant.quiet h in absurd (c.in-Call.ensures.quiet q.0 q.1);
   going = λ o callers limit deep e.
       let there = c.running.invariant.going o callers limit deep e in
-      let here = c.in-Call.ensures.reaches o callers (limit ∙ sym c.running.invariant.limit) there.going in
+      let here = c.in-Call.ensures.leads o callers (limit ∙ sym c.running.invariant.limit) there.going in
       let fewer : length callers < 32 = omega (arith, deep, c.requires, c.if-depth-eq-MOST_CALLS.false) in
       let h = host (g.D.Desk.state c.step.new.desk) (g.D.Desk.follows c.step.new.desk) (g.T.Terminal.screen c.step.new.term) c.step.new.steps.done in
       let from = c.step.new.cursor in
@@ -80,35 +78,35 @@ running-preserved g t c = record {
       let into = enters o h from c.deref.result.now callers called fewer in
       let deeper : length (caller from ∷ callers) ≡ c.args.depth + 1 = omega (arith, deep) in
       let left = arguments c.run_text.new.args in
-      let r = c.in-Return-run_text.ensures.reaches o (caller from ∷ callers) (limit ∙ sym c.running.invariant.limit ∙ sym c.in-Call.ensures.limit) deeper into.going in
+      let r = c.in-Return-run_text.ensures.leads o (caller from ∷ callers) (limit ∙ sym c.running.invariant.limit ∙ sym c.in-Call.ensures.limit) deeper into.going in
       let k = host (g.D.Desk.state c.run_text.new.desk) (g.D.Desk.follows c.run_text.new.desk) (g.T.Terminal.screen c.run_text.new.term) c.run_text.new.steps.done in
       let back = continues o k (at_return left (caller from ∷ callers)) r.going (at_cursor c.go_on_with.new.cursor c.step.new.pending callers)
       (comes_back left from c.go_on_with.new.cursor c.step.new.pending callers c.go_on_with.ensures.text c.go_on_with.ensures.args c.in-Call.ensures.pending) in
       record { going = back.going; follows = λ floor p. r.follows floor (here.follows floor (there.follows floor p)) };
 }
 
-pub returns-in-Over-run_text-clause-reaches : goal.returns-in-Over-run_text-clause-reaches
-returns-in-Over-run_text-clause-reaches g t c o callers limit deep e =
+pub returns-in-Over-run_text-clause-leads : goal.returns-in-Over-run_text-clause-leads
+returns-in-Over-run_text-clause-leads g t c o callers limit deep e =
     let there = c.running.invariant.going o callers limit deep e in
-    let here = c.in-Call.ensures.reaches o callers (limit ∙ sym c.running.invariant.limit) there.going in
+    let here = c.in-Call.ensures.leads o callers (limit ∙ sym c.running.invariant.limit) there.going in
     let fewer : length callers < 32 = omega (arith, deep, c.requires, c.if-depth-eq-MOST_CALLS.false) in
     let h = host (g.D.Desk.state c.step.new.desk) (g.D.Desk.follows c.step.new.desk) (g.T.Terminal.screen c.step.new.term) c.step.new.steps.done in
     let from = c.step.new.cursor in
     let called : Going o h (at_call from c.deref.result.now callers) = subst (λ x. Going o h (at_call from x callers)) (sym c.deref.ensures.value) here.going in
     let into = enters o h from c.deref.result.now callers called fewer in
     let deeper : length (caller from ∷ callers) ≡ c.args.depth + 1 = omega (arith, deep) in
-    let r = c.in-Over-run_text.ensures.reaches o (caller from ∷ callers) (limit ∙ sym c.running.invariant.limit ∙ sym c.in-Call.ensures.limit) deeper into.going in
+    let r = c.in-Over-run_text.ensures.leads o (caller from ∷ callers) (limit ∙ sym c.running.invariant.limit ∙ sym c.in-Call.ensures.limit) deeper into.going in
     since o _ h _ (over c.in-Over-run_text.code) (λ floor p. here.follows floor (there.follows floor p)) r
 
-pub returns-in-Return-clause-reaches : goal.returns-in-Return-clause-reaches
-returns-in-Return-clause-reaches g t c o callers limit deep e =
+pub returns-in-Return-clause-leads : goal.returns-in-Return-clause-leads
+returns-in-Return-clause-leads g t c o callers limit deep e =
     let there = c.running.invariant.going o callers limit deep e in
-    since o _ _ _ (goes (at_return (arguments c.step.new.cursor.args) callers)) there.follows (c.in-Return.ensures.reaches o callers (limit ∙ sym c.running.invariant.limit) there.going)
+    since o _ _ _ (goes (at_return (arguments c.step.new.cursor.args) callers)) there.follows (c.in-Return.ensures.leads o callers (limit ∙ sym c.running.invariant.limit) there.going)
 
-pub returns-in-Over-clause-reaches : goal.returns-in-Over-clause-reaches
-returns-in-Over-clause-reaches g t c o callers limit deep e =
+pub returns-in-Over-clause-leads : goal.returns-in-Over-clause-leads
+returns-in-Over-clause-leads g t c o callers limit deep e =
     let there = c.running.invariant.going o callers limit deep e in
-    since o _ _ _ (over c.in-Over.code) there.follows (c.in-Over.ensures.reaches o callers (limit ∙ sym c.running.invariant.limit) there.going)
+    since o _ _ _ (over c.in-Over.code) there.follows (c.in-Over.ensures.leads o callers (limit ∙ sym c.running.invariant.limit) there.going)
 
 pub returns-in-Over-run_text-clause-no_memory : goal.returns-in-Over-run_text-clause-no_memory
 returns-in-Over-run_text-clause-no_memory g t c h e = let q = c.running.invariant.quiet h in c.in-Call.ensures.quiet q.0 q.1

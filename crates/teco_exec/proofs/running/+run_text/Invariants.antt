@@ -1,4 +1,4 @@
-use Rattle.std.proofs.Common.{◌≡◌, ◌≤◌, ℕ, None, true, ◌-◌, ◌+◌, ◌*◌, List, length}
+use Rattle.std.proofs.Common.{◌≡◌, ◌≤◌, None, true, ◌-◌, ◌+◌, ◌*◌, List, length}
 use Rattle.teco_core.specs.ArgumentsView.{arguments}
 use Rattle.teco_exec.specs.Machine.{Caller}
 use Rattle.teco_scan.specs.Lists.{nodes}

@@ -1,34 +1,23 @@
 use Rattle.std.proofs.Common.{[], refl, arith}
 use Rattle.teco_core.specs.ArgumentsView.{arguments}
-use Rattle.teco_exec.specs.Running.{Origin, host}
-use Rattle.teco_exec.proofs.Whole.{whole_begins, whole_ends}
+use Rattle.teco_exec.specs.Running.{Origin}
 use Rattle.teco_exec.proofs.NoMemory.{ends_quietly}
+use Rattle.teco_exec.proofs.Whole.{whole_begins, whole_ends}
 use Rattle.teco_exec.proofs.Exits.{runs_exit}
 use Rattle.teco_exec.proofs.running.run.Goals as goal
 
-pub returns-clause-run : goal.returns-clause-run
-returns-clause-run g c =
+pub returns : goal.returns
+returns g c =
     let o : Origin = record { state = g.D.Desk.state c.args.desk.now; text = c.args.text.now; screen = g.T.Terminal.screen c.args.term.now; limit = c.args.limit } in
-    let w = whole_ends o _ _ (arguments c.run_text-exit.new.args) c.run_text-exit.result c.code.result c.code.ensures (omega (arith, c.run_text-exit.ensures.limit, c.run_text-exit.new.steps.within))
-    (c.run_text-exit.ensures.reaches o [] refl refl (whole_begins c.machine_laws.ensures.means o (g.D.Desk.follows c.args.desk.now) _ c.new-args.ensures)) in
-    (w.typed, w.runs, w.shows)
-
-pub returns-clause-again : goal.returns-clause-again
-returns-clause-again g c =
-    let o : Origin = record { state = g.D.Desk.state c.args.desk.now; text = c.args.text.now; screen = g.T.Terminal.screen c.args.term.now; limit = c.args.limit } in
-    let w = whole_ends o _ _ (arguments c.run_text-exit.new.args) c.run_text-exit.result c.code.result c.code.ensures (omega (arith, c.run_text-exit.ensures.limit, c.run_text-exit.new.steps.within))
-    (c.run_text-exit.ensures.reaches o [] refl refl (whole_begins c.machine_laws.ensures.means o (g.D.Desk.follows c.args.desk.now) _ c.new-args.ensures)) in
-    w.again
-
-pub returns-clause-follows : goal.returns-clause-follows
-returns-clause-follows g c =
-    let o : Origin = record { state = g.D.Desk.state c.args.desk.now; text = c.args.text.now; screen = g.T.Terminal.screen c.args.term.now; limit = c.args.limit } in
-    let w = whole_ends o _ _ (arguments c.run_text-exit.new.args) c.run_text-exit.result c.code.result c.code.ensures (omega (arith, c.run_text-exit.ensures.limit, c.run_text-exit.new.steps.within))
-    (c.run_text-exit.ensures.reaches o [] refl refl (whole_begins c.machine_laws.ensures.means o (g.D.Desk.follows c.args.desk.now) _ c.new-args.ensures)) in
-    w.follows
-
-pub returns-clause-no_memory : goal.returns-clause-no_memory
-returns-clause-no_memory g c quiet = ends_quietly c.run_text-exit.result c.code.result c.code.ensures (c.run_text-exit.ensures.no_memory quiet)
+    let begins = whole_begins c.machine_laws.ensures.means o (g.D.Desk.follows c.args.desk.now) (arguments c.new-args.result) c.new-args.ensures in
+    let ends = whole_ends o _ _ (arguments c.run_text-exit.new.args) c.run_text-exit.result c.code.result c.code.ensures (omega (arith, c.run_text-exit.ensures.limit, c.run_text-exit.new.steps.within))
+    (c.run_text-exit.ensures.leads o [] refl refl begins) in
+    record {
+      run = (ends.typed, ends.runs, ends.shows);
+      again = ends.again;
+      follows = ends.follows;
+      no_memory = λ quiet. ends_quietly c.run_text-exit.result c.code.result c.code.ensures (c.run_text-exit.ensures.no_memory quiet);
+    }
 
 pub returns-clause-exit : goal.returns-clause-exit
 returns-clause-exit g c = λ going over.

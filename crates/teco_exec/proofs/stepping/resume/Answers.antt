@@ -1,6 +1,6 @@
-use Rattle.std.proofs.Common.{None, Some, refl, sym, ap, ◌∙◌}
-use Rattle.teco_exec.specs.Machine.{called, halts, jumping, runs}
-use Rattle.teco_exec.specs.Running.{config, flows, reached_run}
+use Rattle.std.proofs.Common.{None, sym, ap, ◌∙◌}
+use Rattle.teco_exec.specs.Machine.{jumping}
+use Rattle.teco_exec.specs.Running.{flows, reached_run}
 use Rattle.teco_exec.specs.View.{cursor}
 use Rattle.teco_exec.proofs.Composing.{halted, run_ready}
 use Rattle.teco_exec.proofs.Stepped.{ends_so, goes_on, moves_on}

@@ -1,6 +1,5 @@
-use Rattle.std.proofs.Common.{ℕ, [], None, Some, refl, ap, inr, subst, sym, ◌∙◌, arith}
+use Rattle.std.proofs.Common.{[], None, Some, inr, subst, sym, arith}
 use Rattle.teco_exec.specs.Running.{at_cursor, at_opening, at_return, at_token, flows, goes, host, over, Going, Reaches}
-use Rattle.teco_exec.specs.View.{IsStepFound}
 use Rattle.teco_core.specs.ArgumentsView.{arguments}
 use Rattle.teco_exec.proofs.Going.{settles}
 use Rattle.teco_exec.proofs.Seeking.{comes_block, comes_fault, comes_over, comes_token, passes_on, passes_short, pending_comes}
@@ -9,43 +8,43 @@ use Rattle.teco_exec.proofs.Stepped.{ends_over}
 use Rattle.teco_exec.specs.declared.moves.Next.TheVariants.{Block}
 use Rattle.teco_exec.proofs.stepping.step.Goals as goal
 
-pub returns-in-Some-clause-reaches : goal.returns-in-Some-clause-reaches
-returns-in-Some-clause-reaches g c o callers limit at =
+pub returns-in-Some-clause-leads : goal.returns-in-Some-clause-leads
+returns-in-Some-clause-leads g c o callers limit at =
     let h = host (g.D.Desk.state c.args.desk.now) (g.D.Desk.follows c.args.desk.now) (g.T.Terminal.screen c.args.term.now) c.args.steps.now.done in
     let there : Going o h (at_cursor c.args.cursor.now (Some c.in-Some.task) callers) = subst (λ p. Going o h (at_cursor c.args.cursor.now p callers)) c.in-Some.is at in
-    c.token_step.ensures.reaches o callers limit
+    c.token_step.ensures.leads o callers limit
     (settles o h (at_cursor c.args.cursor.now (Some c.in-Some.task) callers) there (goes (at_token c.args.cursor.now c.in-Some.task.token (Some c.in-Some.task.work) callers)) tt (omega (arith, limit, c.args.steps.now.within)) (pending_comes c.block_laws.ensures c.args.cursor.now c.in-Some.task callers)).going
 
 pub returns-in-Passed-clause-advances : goal.returns-in-Passed-clause-advances
 returns-in-Passed-clause-advances g c goes_on = inr (passes_short c.block_laws.ensures c.args.cursor.now c.pass.new.self c.token_at-found.result c.args.pending.now c.in_default.is [] c.in-Passed.ensures.comes)
 
-pub returns-in-Passed-clause-reaches : goal.returns-in-Passed-clause-reaches
-returns-in-Passed-clause-reaches g c o callers limit at =
+pub returns-in-Passed-clause-leads : goal.returns-in-Passed-clause-leads
+returns-in-Passed-clause-leads g c o callers limit at =
     settles o _ _ at (goes (at_cursor c.pass.new.self c.args.pending.now callers)) tt (omega (arith, limit, c.args.steps.now.within))
     (passes_on c.block_laws.ensures c.args.cursor.now c.pass.new.self c.token_at-found.result c.args.pending.now c.in_default.is callers c.in-Passed.ensures.text c.in-Passed.ensures.comes)
 
-pub returns-in-Token-clause-reaches : goal.returns-in-Token-clause-reaches
-returns-in-Token-clause-reaches g c o callers limit at =
-    c.token_step-in-Token.ensures.reaches o callers limit
+pub returns-in-Token-clause-leads : goal.returns-in-Token-clause-leads
+returns-in-Token-clause-leads g c o callers limit at =
+    c.token_step-in-Token.ensures.leads o callers limit
     (settles o _ _ at (goes (at_token c.pass.new.self c.in-Token.token None callers)) tt (omega (arith, limit, c.args.steps.now.within))
     (comes_token c.block_laws.ensures c.args.cursor.now c.pass.new.self c.token_at-found.result c.args.pending.now c.in_default.is callers c.in-Step.ensures.text c.in-Token.token c.in-Token.is c.in-Step.ensures.comes)).going
 
-pub returns-in-Block-clause-reaches : goal.returns-in-Block-clause-reaches
-returns-in-Block-clause-reaches g c o callers limit at =
+pub returns-in-Block-clause-leads : goal.returns-in-Block-clause-leads
+returns-in-Block-clause-leads g c o callers limit at =
     let h = host (g.D.Desk.state c.args.desk.now) (g.D.Desk.follows c.args.desk.now) (g.T.Terminal.screen c.args.term.now) c.args.steps.now.done in
     let k = host (g.D.Desk.state c.block_step.new.desk) (g.D.Desk.follows c.block_step.new.desk) (g.T.Terminal.screen c.args.term.now) c.block_step.new.steps.done in
     subst (λ p. Reaches o h k (flows c.block_step.new.cursor p callers c.block_step.result)) (sym c.in_default.is)
-    (c.block_step.ensures.reaches o callers (g.T.Terminal.screen c.args.term.now) limit
+    (c.block_step.ensures.leads (g.T.Terminal.screen c.args.term.now) o callers limit
     (settles o _ _ at (goes (at_opening c.pass.new.self c.in-Block.opening c.in-Block.to callers)) tt (omega (arith, limit, c.args.steps.now.within))
     (comes_block c.block_laws.ensures c.args.cursor.now c.pass.new.self c.token_at-found.result c.args.pending.now c.in_default.is callers c.in-Block.ensures.told.2 c.in-Block.opening c.in-Block.to c.in-Block.ensures.comes)).going)
 
-pub returns-in-Over-clause-reaches : goal.returns-in-Over-clause-reaches
-returns-in-Over-clause-reaches g c o callers limit at =
+pub returns-in-Over-clause-leads : goal.returns-in-Over-clause-leads
+returns-in-Over-clause-leads g c o callers limit at =
     settles o _ _ at (goes (at_return (arguments c.pass.new.self.args) callers)) tt (omega (arith, limit, c.args.steps.now.within))
     (comes_over c.block_laws.ensures c.args.cursor.now c.pass.new.self c.token_at-found.result c.args.pending.now c.in_default.is callers c.in-Over.ensures.told c.in-Over.ensures.comes)
 
-pub returns-in-Fault-clause-reaches : goal.returns-in-Fault-clause-reaches
-returns-in-Fault-clause-reaches g c o callers limit at =
+pub returns-in-Fault-clause-leads : goal.returns-in-Fault-clause-leads
+returns-in-Fault-clause-leads g c o callers limit at =
     ends_over o _ _ c.pass.new.self c.args.pending.now callers c.over.result (Some c.in-Fault.code) c.over.ensures
     (settles o _ _ at (over (Some c.in-Fault.code)) c.in-Fault.ensures.told (omega (arith, limit, c.args.steps.now.within))
     (comes_fault c.block_laws.ensures c.args.cursor.now c.pass.new.self c.token_at-found.result c.args.pending.now c.in_default.is callers c.in-Fault.code c.in-Fault.ensures.comes))

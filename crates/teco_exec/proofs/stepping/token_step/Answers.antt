@@ -1,26 +1,26 @@
-use Rattle.std.proofs.Common.{ℕ, None, Some, refl, subst, sym, ◌∙◌, arith}
+use Rattle.std.proofs.Common.{Some, refl, subst, sym, ◌∙◌, arith}
 use Rattle.teco_step.specs.Stepping.{name_in}
 use Rattle.teco_exec.specs.Running.{Reaches, flows, host}
 use Rattle.teco_exec.proofs.Going.{limit_ends}
 use Rattle.teco_exec.proofs.Stepped.{ends_over, finishes, token_fails, token_goes}
 use Rattle.teco_exec.proofs.stepping.token_step.Goals as goal
 
-pub returns-then-steps-clause-reaches : goal.returns-then-steps-clause-reaches
-returns-then-steps-clause-reaches g c o callers limit at =
+pub returns-then-steps-clause-leads : goal.returns-then-steps-clause-leads
+returns-then-steps-clause-leads g c o callers limit at =
     let h = host (g.D.Desk.state c.args.desk.now) (g.D.Desk.follows c.args.desk.now) (g.T.Terminal.screen c.args.term.now) c.args.steps.now.done in
     subst (λ f. Reaches o h h (flows c.args.cursor.now c.args.pending.now callers f)) (sym c.over.ensures)
     (limit_ends o h _ at (c.if-steps.true ∙ sym limit) (λ now. refl))
 
-pub returns-in-Some-clause-reaches : goal.returns-in-Some-clause-reaches
-returns-in-Some-clause-reaches g c o callers limit at =
+pub returns-in-Some-clause-leads : goal.returns-in-Some-clause-leads
+returns-in-Some-clause-leads g c o callers limit at =
     let desk = c.step_token-next.new.desk in
     ends_over o _ _ (record c.args.cursor.now { args = c.step_token-next.new.args }) c.args.pending.now callers c.over-in-Some.result (Some c.in-Some.code) c.over-in-Some.ensures
     (token_fails c.args.cursor.now c.args.token.now c.args.work callers c.has_iteration-inside.result c.leave_is_seen-before.result c.requires.token c.has_iteration-inside.ensures c.leave_is_seen-before.ensures
     o _ at (omega (arith, limit, c.if-steps.false)) (name_in c.args.cursor.now.text.now c.args.token.now) (g.D.Desk.state desk) c.step_token-next.new.args (g.T.Terminal.screen c.step_token-next.new.term) c.step_token-next.result (g.D.Desk.follows desk) c.step_token-next.ensures.follows
     c.in-Some.code c.in-Some.ensures.0 c.in-Some.ensures.1 c.step_token-next.ensures.steps)
 
-pub returns-clause-reaches : goal.returns-clause-reaches
-returns-clause-reaches g c o callers limit at =
+pub returns-clause-leads : goal.returns-clause-leads
+returns-clause-leads g c o callers limit at =
     let desk = c.step_token-next.new.desk in
     token_goes c.args.cursor.now c.args.token.now c.args.work callers c.has_iteration-inside.result c.leave_is_seen-before.result c.requires.token c.has_iteration-inside.ensures c.leave_is_seen-before.ensures
     o _ at (omega (arith, limit, c.if-steps.false)) (name_in c.args.cursor.now.text.now c.args.token.now) (g.D.Desk.state desk) c.step_token-next.new.args (g.T.Terminal.screen c.step_token-next.new.term) c.step_token-next.result (g.D.Desk.follows desk) c.step_token-next.ensures.follows

@@ -6,7 +6,7 @@ use Rattle.teco_exec.proofs.cursor.Cursor.jump.Goals as goal
 pub returns-in-Some-clause-moves : goal.returns-in-Some-clause-moves
 returns-in-Some-clause-moves c =
     let s = c.jumping.self in
-    jumps s.text.now c.args.name.now (arguments s.args) s.blocks (Some (drop c.in-Some.to s.text.now)) c.len.ensures.value c.list_start.ensures c.in-Some.ensures.finds
+    jumps s.text.now c.args.name.now (arguments s.args) s.blocks (Some (drop c.in-Some.to s.text.now)) c.len-depth.ensures.value c.list_start-start.ensures c.in-Some.ensures.finds
     ∙ c.jumping.invariant.same
 
 pub invariant_of-self-in-None-clause-begin : goal.invariant_of-self-in-None-clause-begin
@@ -17,12 +17,12 @@ jumping-preserved c =
     let s = c.jumping.self in
     record {
       text = c.jumping.invariant.text;
-      same = jumps_on s.text.now c.args.name.now (arguments s.args) s.blocks None c.len.ensures.value c.list_start.ensures c.in-None.ensures.finds refl c.in-Some-pop.ensures
+      same = jumps_on s.text.now c.args.name.now (arguments s.args) s.blocks None c.len-depth.ensures.value c.list_start-start.ensures c.in-None.ensures.finds refl c.in-Some-pop.ensures
           ∙ c.jumping.invariant.same;
     }
 
 pub returns-in-None-pop-clause-moves : goal.returns-in-None-pop-clause-moves
 returns-in-None-pop-clause-moves c =
     let s = c.jumping.self in
-    jumps_nowhere s.text.now c.args.name.now (arguments s.args) s.blocks None c.len.ensures.value c.list_start.ensures c.in-None.ensures.finds refl c.in-None-pop.ensures.0
+    jumps_nowhere s.text.now c.args.name.now (arguments s.args) s.blocks None c.len-depth.ensures.value c.list_start-start.ensures c.in-None.ensures.finds refl c.in-None-pop.ensures.0
     ∙ c.jumping.invariant.same

@@ -1,0 +1,7 @@
+-- What begins with `;`.
+use Rattle.std.specs.Prelude.{ℕ, Bool, false, List, [], ◌∷◌, ◌==◌}
+
+-- the first byte is `;`
+abbrev pub is_semicolon : List ℕ → Bool
+is_semicolon [] = false
+is_semicolon (b ∷ bs) = b == 59
