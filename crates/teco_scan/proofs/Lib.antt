@@ -7,15 +7,13 @@ pub mod Textual
 pub mod Cut
 pub mod Fronts
 pub mod Exactly
-pub mod Trees
-pub mod Skips
 pub mod LastBytes
 pub mod Rows
 pub mod BlockRows
+pub mod TokenShortens
 pub mod ListSteps
 pub mod TagSteps
 pub mod TagLeads
-pub mod TreeLists
 pub mod SkipSteps
 pub mod ListFaults
 pub mod Written
