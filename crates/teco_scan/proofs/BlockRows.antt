@@ -1,4 +1,4 @@
--- The trees of some texts with blocks, and what is left behind some tags, by computing.
+-- The trees of some texts with blocks, and what is left after some tags, by computing.
 use Rattle.std.specs.Prelude.{◌≡◌, ℕ, zero, suc, true, [], ◌∷◌, replicate, ◌++◌, codes, Some, None}
 use Rattle.std.proofs.Common.{refl}
 use Prim.Native.String.{String}
@@ -92,7 +92,7 @@ depth : (tree (replicate 64 60 ++ codes "J" ++ replicate 64 62) ≡ around 64 (j
 unfolding computing nested around
 depth = (refl, refl)
 
--- what is left behind the first tag of a name that stands directly in the innermost block
+-- what is left after the first tag of a name that is directly in the innermost block
 tags : (after_tag (codes "x") (tree (keys "1!x!2!x!3")) ≡ Some (number "2" (tag (codes "x") (number "3" done))))
     × (after_tag (codes "x") (tree (keys "<!x!>2!x!J")) ≡ Some (jump done))
     × (after_tag (codes "x") (tree (keys "1\"E!x!|!x!'2!x!J")) ≡ Some (jump done))

@@ -1,4 +1,4 @@
--- What is left behind a token, as a skip or a search for a tag passes it.
+-- What is left after a token, as a skip or a search for a tag passes it.
 use Rattle.std.proofs.Common.{◌≡◌, ◌≢◌, ℕ, ◌<◌, true, false, cond as choose, eqb, List, [], ◌∷◌, length, Some, None, refl, sym, ap, subst, ◌∙◌, arith}
 use Rattle.std.specs.Str.{bytes_eq}
 use Rattle.std.proofs.lemmas.Bool.{eq-eqb, false_from_ne_true, eqb-true}
@@ -10,14 +10,14 @@ use Rattle.teco_scan.specs.declared.command.BlockMark.{BlockMark}
 use Rattle.teco_scan.specs.declared.command.BlockMark.TheVariants.{Iterate, EndIteration, Otherwise, EndTest}
 use Rattle.teco_scan.specs.declared.blocks.Kind.{Kind}
 use Rattle.teco_scan.specs.declared.blocks.Kind.TheVariants.{Iter, Then, Else}
-use Rattle.teco_scan.specs.Scan.{Instruction, step, mark, decide, tag, Order, Scanned, found, ended, fault, scan}
+use Rattle.teco_scan.specs.Scan.{Instruction, step, mark, decide, tag, TokenMeaning, Scanned, found, ended, fault, scan}
 use Rattle.teco_scan.specs.Scan as token
 use Rattle.teco_scan.specs.Tree.{Nodes, Levels, last, level, done, item, escape, iter, cond, faulty, first, rest, put, every, opened, iter_of, cond_of, after_mark, after_instruction, after_scan, levels}
 use Rattle.teco_scan.specs.Tree as node
 use Rattle.teco_scan.specs.Skip.{behind, after_block, closing_mark, opened_kind, is_tag, tag_in}
 use Rattle.teco_scan.proofs.Trees.{levels_step}
 
--- One node more in front changes nothing behind the block, and nothing behind a tag, unless it is that tag.
+-- One node more in front changes nothing after the block, and nothing after a tag, unless it is that tag.
 rest_put : (f : Nodes → Nodes) (l : Levels) → rest (put f l) ≡ rest l
 rest_put f (last n) = refl
 rest_put f (level n outer) = refl
@@ -61,7 +61,7 @@ tag_every name (Else ∷ kinds) c = refl
 not_deep : (kinds : List Kind) → length kinds < 64 → eqb (length kinds) 64 ≡ false
 not_deep kinds few = false_from_ne_true (eqb (length kinds) 64) (λ e. absurd (omega (arith, eqb-true (length kinds) 64 e)))
 
--- A token in front of what is left behind it.
+-- A token in front of what is left after it.
 module _ (m : Modifiers) (go : List Kind → Levels) (kinds : List Kind) where
   pub plain_rest : (i : Instruction) → None ≡ opened_kind i → closing_mark i ≡ None → rest (after_instruction i m go kinds) ≡ rest (go kinds)
   plain_rest (token.step i) opens closes = rest_put (item m i) (go kinds)
@@ -100,7 +100,7 @@ module _ (m : Modifiers) (go : List Kind → Levels) (kinds : List Kind) where
   open_decide : (t : Test) → length kinds < 64 → after_instruction (token.decide t) m go kinds ≡ cond_of t (go (Then ∷ kinds))
   open_decide t few = ap (λ v. choose v (every kinds (faulty Pdo)) (cond_of t (go (Then ∷ kinds)))) (not_deep kinds few)
 
-  -- behind a whole block
+  -- after a whole block
   pub block_rest : (kind : Kind) (i : Instruction) → Some kind ≡ opened_kind i → length kinds < 64 → (left : Levels) → after_block kind (go (kind ∷ kinds)) ≡ left → rest (after_instruction i m go kinds) ≡ rest left
   block_rest kind (token.step i) opens few left skipped = absurd cc
   block_rest kind (token.mark Iterate) opens few left skipped =
@@ -143,7 +143,7 @@ module _ (m : Modifiers) (go : List Kind → Levels) (kinds : List Kind) where
   tag_here name (token.tag other) is = tag_put_same name other (go kinds) is
   tag_here name token.escape is = absurd cc
 
--- behind a mark that ends or divides a block, or is a fault, no tag stands in the block
+-- after a mark that ends or divides a block, or is a fault, no tag is in the block
 closed_mark : (m : Modifiers) (go : List Kind → Levels) (name : List ℕ) (b : BlockMark) → b ≢ Iterate → (kinds : List Kind) → tag_in name (after_instruction (token.mark b) m go kinds) ≡ None
 closed_mark m go name Iterate other kinds = absurd (other refl)
 closed_mark m go name EndIteration other [] = refl
@@ -175,8 +175,8 @@ closed_tag m go name kinds i b is =
     let p = closing_is i b is in
     ap (λ j. tag_in name (after_instruction j m go kinds)) p.0 ∙ closed_mark m go name b p.1 kinds
 
--- One place of the text: what stands there.
-pub at_token : (bs more : List ℕ) (kinds : List Kind) (t : Order) → found t more ≡ scan bs → levels bs kinds ≡ after_instruction t.instruction t.modifiers (levels more) kinds
+-- One place of the text: what is there.
+pub at_token : (bs more : List ℕ) (kinds : List Kind) (t : TokenMeaning) → found t more ≡ scan bs → levels bs kinds ≡ after_instruction t.instruction t.modifiers (levels more) kinds
 at_token bs more kinds t is = levels_step bs kinds ∙ ap (λ s. after_scan s levels kinds) (sym is)
 
 at_fault : (bs : List ℕ) (kinds : List Kind) (c : Code) → fault c ≡ scan bs → levels bs kinds ≡ every kinds (faulty c)
@@ -188,7 +188,7 @@ fault_skipped bs kind outer c is = ap rest (at_fault bs (kind ∷ outer) c is) �
 pub end_skipped : (bs : List ℕ) (kind : Kind) (outer : List Kind) → ended ≡ scan bs → rest (levels bs (kind ∷ outer)) ≡ behind kind (every outer (faulty Utc))
 end_skipped bs kind outer is = ap rest (levels_step bs (kind ∷ outer) ∙ ap (λ s. after_scan s levels (kind ∷ outer)) (sym is)) ∙ rest_every kind outer (faulty Utc)
 
-pub mark_skipped : (bs more : List ℕ) (kinds : List Kind) (t : Order) (b : BlockMark) → found t more ≡ scan bs → Some b ≡ closing_mark t.instruction → rest (levels bs kinds) ≡ rest (after_mark b (levels more) kinds)
+pub mark_skipped : (bs more : List ℕ) (kinds : List Kind) (t : TokenMeaning) (b : BlockMark) → found t more ≡ scan bs → Some b ≡ closing_mark t.instruction → rest (levels bs kinds) ≡ rest (after_mark b (levels more) kinds)
 mark_skipped bs more kinds t b is closes =
     ap rest (at_token bs more kinds t is) ∙ ap (λ i. rest (after_instruction i t.modifiers (levels more) kinds)) (closing_is t.instruction b closes).0
 

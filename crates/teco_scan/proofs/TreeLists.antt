@@ -8,13 +8,13 @@ use Rattle.teco_scan.specs.declared.command.BlockMark.{BlockMark}
 use Rattle.teco_scan.specs.declared.command.BlockMark.TheVariants.{Iterate, EndIteration, Otherwise, EndTest}
 use Rattle.teco_scan.specs.declared.blocks.Kind.{Kind}
 use Rattle.teco_scan.specs.declared.blocks.Kind.TheVariants.{Iter, Then, Else}
-use Rattle.teco_scan.specs.Scan.{Instruction, Order, Scanned, found, ended, fault, scan}
+use Rattle.teco_scan.specs.Scan.{Instruction, TokenMeaning, Scanned, found, ended, fault, scan}
 use Rattle.teco_scan.specs.Scan as token
 use Rattle.teco_scan.specs.Tree.{Nodes, done, item, escape, iter, cond, tag, faulty, Levels, last, level, first, rest, every, iter_of, cond_of, after_mark, after_instruction, after_scan, levels, tree}
 use Rattle.teco_scan.specs.Tree as tree
 use Rattle.teco_scan.specs.Lists.{Close, closed, broken, Past, past, Listed, wrong, behind, put, iter_at, cond_at, at_mark, at_instruction, at_scan, list_at, nodes}
 use Rattle.teco_scan.specs.ListLaws.{Within}
-use Rattle.teco_scan.proofs.ListSteps.{list_step, list_short, within_more}
+use Rattle.teco_scan.proofs.ListUnrolls.{list_step, list_short, within_more}
 use Rattle.teco_scan.proofs.Trees.{levels_step, scan_short}
 
 abbrev kind_in : List Kind → Option Kind
@@ -96,7 +96,7 @@ mark_of n h EndTest bs lt (Iter ∷ ks) = refl
 mark_of n h EndTest bs lt (Then ∷ ks) = refl
 mark_of n h EndTest bs lt (Else ∷ ks) = refl
 
-scanned_of : (n : ℕ) → ((bs : List ℕ) (ks : List Kind) → length bs < n → levels bs ks ≡ levels_of ks (list_at (kind_in ks) (length ks) bs)) → (s : Scanned) → ((t : Order) (more : List ℕ) → s ≡ found t more → length more < n)
+scanned_of : (n : ℕ) → ((bs : List ℕ) (ks : List Kind) → length bs < n → levels bs ks ≡ levels_of ks (list_at (kind_in ks) (length ks) bs)) → (s : Scanned) → ((t : TokenMeaning) (more : List ℕ) → s ≡ found t more → length more < n)
     → (ks : List Kind) → after_scan s levels ks ≡ levels_of ks (at_scan list_at s (kind_in ks) (length ks))
 scanned_of n h ended lt [] = refl
 scanned_of n h ended lt (Iter ∷ ks) = refl

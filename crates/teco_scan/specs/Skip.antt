@@ -1,4 +1,4 @@
--- Skipping a block, and finding a tag: what is left of the text behind them.
+-- Skipping a block, and finding a tag: what is left of the text after them.
 use Rattle.std.specs.Prelude.{◌≡◌, ℕ, ◌-◌, Bool, true, false, List, ◌∷◌, drop, Option, Some, None, Result, Ok, Err, if◌then◌else◌}
 use Rattle.std.specs.Str.{bytes_eq}
 use Rattle.std.specs.Option.{option_map}
@@ -11,13 +11,13 @@ use Rattle.teco_scan.specs.declared.blocks.Stop.{Stop}
 use Rattle.teco_scan.specs.Scan.{Instruction, mark, decide, tag}
 use Rattle.teco_scan.specs.Tree.{Levels, last, level, done, faulty, rest, every, levels, after_tag}
 
--- behind the end of a block: as the block around it goes on, and nothing is left of a second part after the first
+-- after the end of a block: as the block around it goes on, and nothing is left of a second part after the first
 abbrev pub behind : Kind → Levels → Levels
 behind Iter outer = outer
 behind Then outer = level done outer
 behind Else outer = outer
 
--- from a stop on: the second part goes on behind `|`, and the block around it behind the end
+-- from a stop on: the second part goes on after `|`, and the block around it after the end
 abbrev pub at_stop : List ℕ → Kind → List Kind → Stop → Levels
 at_stop bs kind outer stop = if stop.divided then levels (drop stop.to bs) (Else ∷ outer) else behind kind (levels (drop stop.to bs) outer)
 
@@ -81,7 +81,7 @@ abbrev pub is_tag : List ℕ → Instruction → Bool
 is_tag name (tag other) = bytes_eq other name
 is_tag name _ = false
 
--- what is left behind the first tag of this name that stands directly in the innermost block
+-- what is left after the first tag of this name that is directly in the innermost block
 abbrev pub tag_in : List ℕ → Levels → Option Levels
 tag_in name (last n) = option_map last (after_tag name n)
 tag_in name (level n outer) = option_map (λ m. level m outer) (after_tag name n)

@@ -9,7 +9,7 @@ use Rattle.teco_scan.specs.declared.command.BlockMark.{BlockMark}
 use Rattle.teco_scan.specs.declared.command.BlockMark.TheVariants.{Iterate, EndIteration, Otherwise, EndTest}
 use Rattle.teco_scan.specs.declared.blocks.Kind.{Kind}
 use Rattle.teco_scan.specs.declared.blocks.Kind.TheVariants.{Iter, Then, Else}
-use Rattle.teco_scan.specs.Scan.{Item, Instruction, Order, Scanned, found, ended, fault, scan}
+use Rattle.teco_scan.specs.Scan.{Item, Instruction, TokenMeaning, Scanned, found, ended, fault, scan}
 use Rattle.teco_scan.specs.Scan as token
 
 -- the codes of a text's own faults
@@ -68,7 +68,7 @@ iter_of inner = put (iter (first inner)) (rest inner)
 abbrev pub cond_of : Test → Levels → Levels
 cond_of t inner = put (cond t (first inner) (first (rest inner))) (rest (rest inner))
 
--- Marks of blocks, where blocks of these kinds are open, the innermost first; go gives what is left behind the mark. `>` ends an
+-- Marks of blocks, where blocks of these kinds are open, the innermost first; go gives what is left after the mark. `>` ends an
 -- iteration, else it is BNI; `|` ends a conditional's first part and `'` either part, else they are ILL.
 abbrev pub after_mark : BlockMark → (List Kind → Levels) → List Kind → Levels
 after_mark Iterate go kinds = opened kinds go Iter iter_of
@@ -107,7 +107,7 @@ levels bs kinds = levels_within (suc (length bs)) bs kinds
 abbrev pub tree : List ℕ → Nodes
 tree bs = first (levels bs [])
 
--- what is left behind the first tag of this name that stands directly in the list
+-- what comes after the first tag of this name that is directly in the list
 abbrev pub after_tag : List ℕ → Nodes → Option Nodes
 after_tag name done = None
 after_tag name (item m i n) = after_tag name n

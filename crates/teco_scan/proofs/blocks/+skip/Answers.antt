@@ -1,9 +1,9 @@
 use Rattle.std.proofs.Common.{◌≡◌, ℕ, ◌+◌, suc, List, Some, ◌∷◌, drop, sym, ap, ◌∙◌, arith}
 use Rattle.std.proofs.lemmas.Result.{err_from_is_err_and}
 use Rattle.teco_scan.specs.Tree.{rest, faulty}
-use Rattle.teco_scan.specs.Seen.{order_in, instruction_in}
+use Rattle.teco_scan.specs.Seen.{meaning_in, instruction_in}
 use Rattle.teco_scan.proofs.Skips.{rest_every, end_skipped, fault_skipped, mark_skipped, at_token, closing_is}
-use Rattle.teco_scan.proofs.Textual.{scan_fault}
+use Rattle.teco_scan.proofs.ScanFaults.{scan_fault}
 use Rattle.teco_scan.proofs.LastBytes.{mark_byte}
 use Rattle.teco_scan.specs.declared.blocks.Kind.{Kind}
 use Rattle.teco_scan.specs.declared.token.Token.{Token}
@@ -16,9 +16,9 @@ use Rattle.teco_scan.proofs.blocks.+skip.Goals as goal
 at_close : (text : List ℕ) (next : ℕ) (kind : Kind) (depth : ℕ) (s : Scanned) → s ≡ scan (drop next text) → (list_at (Some kind) depth (drop next text)).1 ≡ (at_scan list_at s (Some kind) depth).1
 at_close text next kind depth s is = ap (λ (l : Listed). l.1) (list_found (Some kind) depth (drop next text) s is)
 
-at_node : (text : List ℕ) (next : ℕ) (kind : Kind) (depth : ℕ) (t : Token) → found (order_in text t) (drop t.span.to text) ≡ scan (drop next text)
+at_node : (text : List ℕ) (next : ℕ) (kind : Kind) (depth : ℕ) (t : Token) → found (meaning_in text t) (drop t.span.to text) ≡ scan (drop next text)
     → (list_at (Some kind) depth (drop next text)).1 ≡ (at_instruction list_at (instruction_in text t.kind) t.modifiers (drop t.span.to text) (Some kind) depth).1
-at_node text next kind depth t is = at_close text next kind depth (found (order_in text t) (drop t.span.to text)) is
+at_node text next kind depth t is = at_close text next kind depth (found (meaning_in text t) (drop t.span.to text)) is
 
 pub skip_block-returns-in-End-clause-closes : goal.skip_block-returns-in-End-clause-closes
 skip_block-returns-in-End-clause-closes t c = sym (at_close c.args.text.now c.loop-code.next c.args.kind c.args.depth ended c.in-End.ensures.read) ∙ c.loop-code.invariant.closes
@@ -69,7 +69,7 @@ skip_block-returns-in-Fault-clause-skipped t c = λ outer long. sym (c.loop-code
 pub skip_block-returns-in-Some-clause-skipped : goal.skip_block-returns-in-Some-clause-skipped
 skip_block-returns-in-Some-clause-skipped t c = λ outer long.
     sym (c.loop-code.invariant.same outer long)
-    ∙ mark_skipped (drop c.loop-code.next c.args.text.now) (drop c.in-Token.token.span.to c.args.text.now) (c.args.kind ∷ outer) (order_in c.args.text.now c.in-Token.token) c.in-Some.mark c.in-Token.ensures.read (c.in-Some.ensures c.args.text.now)
+    ∙ mark_skipped (drop c.loop-code.next c.args.text.now) (drop c.in-Token.token.span.to c.args.text.now) (c.args.kind ∷ outer) (meaning_in c.args.text.now c.in-Token.token) c.in-Some.mark c.in-Token.ensures.read (c.in-Some.ensures c.args.text.now)
     ∙ c.end_of_block.ensures.ended c.args.text.now outer
 
 pub skip_block-returns-in-Some-clause-ends : goal.skip_block-returns-in-Some-clause-ends
@@ -78,7 +78,7 @@ skip_block-returns-in-Some-clause-ends t c =
     let place = c.in-Token.ensures.place in
     let is = closing_is (instruction_in c.args.text.now token.kind) c.in-Some.mark (c.in-Some.ensures c.args.text.now) in
     c.end_of_block.ensures.ends c.args.text.now
-    (mark_byte c.args.text.now c.loop-code.next token.span.from token.span.to (order_in c.args.text.now token) c.in-Some.mark c.in-Token.ensures.read is.0 place.begins place.long place.inside)
+    (mark_byte c.args.text.now c.loop-code.next token.span.from token.span.to (meaning_in c.args.text.now token) c.in-Some.mark c.in-Token.ensures.read is.0 place.begins place.long place.inside)
 
 pub skip_block-returns-in_err-next-in-None-clause-skipped : goal.skip_block-returns-in_err-next-in-None-clause-skipped
 skip_block-returns-in_err-next-in-None-clause-skipped t c = λ outer long.
@@ -86,7 +86,7 @@ skip_block-returns-in_err-next-in-None-clause-skipped t c = λ outer long.
     let fault = c.in_err-next-in-None.field-0.0 in
     rw (p.1, p.2)
     (sym (c.loop-code.invariant.same outer long)
-    ∙ ap rest (at_token (drop c.loop-code.next c.args.text.now) (drop c.in-Token.token.span.to c.args.text.now) (c.args.kind ∷ outer) (order_in c.args.text.now c.in-Token.token) c.in-Token.ensures.read)
+    ∙ ap rest (at_token (drop c.loop-code.next c.args.text.now) (drop c.in-Token.token.span.to c.args.text.now) (c.args.kind ∷ outer) (meaning_in c.args.text.now c.in-Token.token) c.in-Token.ensures.read)
     ∙ c.in_err-next-in-None.ensures.skipped (c.args.kind ∷ outer) (omega arith)
     ∙ rest_every c.args.kind outer (faulty fault))
 
@@ -96,7 +96,7 @@ skip_block-loop-code-preserved t c = record {
   inside = c.in_ok-next-in-None.ensures.within.1;
   closes = sym (c.in_ok-next-in-None.ensures.closes (Some c.args.kind) c.in-Token.token.modifiers) ∙ sym (at_node c.args.text.now c.loop-code.next c.args.kind c.args.depth c.in-Token.token c.in-Token.ensures.read) ∙ c.loop-code.invariant.closes;
   same = λ outer long.
-      sym (ap rest (at_token (drop c.loop-code.next c.args.text.now) (drop c.in-Token.token.span.to c.args.text.now) (c.args.kind ∷ outer) (order_in c.args.text.now c.in-Token.token) c.in-Token.ensures.read)
+      sym (ap rest (at_token (drop c.loop-code.next c.args.text.now) (drop c.in-Token.token.span.to c.args.text.now) (c.args.kind ∷ outer) (meaning_in c.args.text.now c.in-Token.token) c.in-Token.ensures.read)
       ∙ c.in_ok-next-in-None.ensures.skipped (c.args.kind ∷ outer) (omega arith))
       ∙ c.loop-code.invariant.same outer long;
 }

@@ -13,7 +13,7 @@ decreases-skip_node l = 3 * (length l.text.now - l.token.span.to) + 2
 abbrev pub decreases-skip_whole_block : goal.decreases-skip_whole_block
 decreases-skip_whole_block l = 3 * (length l.text.now - l.at) + 1
 
--- the block goes on as from its beginning: what is left behind it is the same
+-- the block goes on as from its beginning: what is left after it is the same
 abbrev pub invariant-skip_block-loop-code : goal.invariant-skip_block-loop-code
 invariant-skip_block-loop-code l = record {
   past : l.fn.at ≤ l.next;

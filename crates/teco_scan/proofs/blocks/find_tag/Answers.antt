@@ -2,7 +2,7 @@ use Rattle.std.proofs.Common.{◌≡◌, ℕ, List, drop, Option, Some, None, tr
 use Rattle.teco_scan.specs.declared.command.BlockMark.{BlockMark}
 use Rattle.teco_scan.specs.Skip.{tag_in}
 use Rattle.teco_scan.specs.Tree.{levels}
-use Rattle.teco_scan.specs.Seen.{order_in, instruction_in}
+use Rattle.teco_scan.specs.Seen.{meaning_in, instruction_in}
 use Rattle.teco_scan.proofs.Skips.{tag_at_end, tag_at_fault, tag_here, closed_tag, tag_every, at_token}
 use Rattle.teco_scan.proofs.LastBytes.{tag_byte}
 use Rattle.teco_scan.specs.declared.token.Token.{Token}
@@ -17,9 +17,9 @@ some_mark None is = absurd cc
 some_mark (Some b) is = (b, λ i. Some b)
 
 -- where the tag is, by the token at this place
-at_node : (name : List ℕ) (depth : ℕ) (text : List ℕ) (next : ℕ) (t : Token) → found (order_in text t) (drop t.span.to text) ≡ scan (drop next text)
+at_node : (name : List ℕ) (depth : ℕ) (text : List ℕ) (next : ℕ) (t : Token) → found (meaning_in text t) (drop t.span.to text) ≡ scan (drop next text)
     → tag_at name depth (drop next text) ≡ tag_at_instruction name (tag_at name) (instruction_in text t.kind) (drop t.span.to text) depth
-at_node name depth text next t is = tag_found name depth (drop next text) (found (order_in text t) (drop t.span.to text)) is
+at_node name depth text next t is = tag_found name depth (drop next text) (found (meaning_in text t) (drop t.span.to text)) is
 
 pub returns-in-End-clause-finds : goal.returns-in-End-clause-finds
 returns-in-End-clause-finds c = sym (tag_found c.args.name.now c.args.depth (drop c.loop-token.next c.args.text.now) ended c.in-End.ensures.read) ∙ c.loop-token.invariant.finds
@@ -57,14 +57,14 @@ returns-in-Fault-clause-found c = λ kinds long. sym (c.loop-token.invariant.sam
 pub returns-then-is_tag-clause-found : goal.returns-then-is_tag-clause-found
 returns-then-is_tag-clause-found c = λ kinds long.
     sym (c.loop-token.invariant.same kinds long)
-    ∙ ap (tag_in c.args.name.now) (at_token (drop c.loop-token.next c.args.text.now) (drop c.in-Token.token.span.to c.args.text.now) kinds (order_in c.args.text.now c.in-Token.token) c.in-Token.ensures.read)
+    ∙ ap (tag_in c.args.name.now) (at_token (drop c.loop-token.next c.args.text.now) (drop c.in-Token.token.span.to c.args.text.now) kinds (meaning_in c.args.text.now c.in-Token.token) c.in-Token.ensures.read)
     ∙ tag_here c.in-Token.token.modifiers (levels (drop c.in-Token.token.span.to c.args.text.now)) kinds c.args.name.now (instruction_in c.args.text.now c.in-Token.token.kind) (sym c.is_tag.ensures ∙ c.if-is_tag.true)
 
 pub returns-then-is_tag-clause-ends : goal.returns-then-is_tag-clause-ends
 returns-then-is_tag-clause-ends c =
     let token = c.in-Token.token in
     let place = c.in-Token.ensures.place in
-    tag_byte c.args.text.now c.loop-token.next token.span.from token.span.to (order_in c.args.text.now token) c.args.name.now c.in-Token.ensures.read (sym c.is_tag.ensures ∙ c.if-is_tag.true) place.begins place.long place.inside
+    tag_byte c.args.text.now c.loop-token.next token.span.from token.span.to (meaning_in c.args.text.now token) c.args.name.now c.in-Token.ensures.read (sym c.is_tag.ensures ∙ c.if-is_tag.true) place.begins place.long place.inside
 
 pub returns-then-is_some-clause-found : goal.returns-then-is_some-clause-found
 returns-then-is_some-clause-found c = λ kinds long.
@@ -72,7 +72,7 @@ returns-then-is_some-clause-found c = λ kinds long.
     let some : is_some c.closing_mark.result ≡ true = sym c.is_some.ensures ∙ c.if-is_some.true in
     let b = some_mark c.closing_mark.result some in
     sym (c.loop-token.invariant.same kinds long)
-    ∙ ap (tag_in c.args.name.now) (at_token (drop c.loop-token.next c.args.text.now) (drop c.in-Token.token.span.to c.args.text.now) kinds (order_in c.args.text.now c.in-Token.token) c.in-Token.ensures.read)
+    ∙ ap (tag_in c.args.name.now) (at_token (drop c.loop-token.next c.args.text.now) (drop c.in-Token.token.span.to c.args.text.now) kinds (meaning_in c.args.text.now c.in-Token.token) c.in-Token.ensures.read)
     ∙ closed_tag c.in-Token.token.modifiers (levels (drop c.in-Token.token.span.to c.args.text.now)) c.args.name.now kinds i b.0 (b.1 ∙ c.closing_mark.ensures c.args.text.now)
 
 pub loop-token-preserved : goal.loop-token-preserved
@@ -81,7 +81,7 @@ loop-token-preserved c = record {
   inside = c.in-Ok.ensures.within.1;
   finds = sym (c.in-Ok.ensures.finds c.args.name.now (sym c.is_tag.ensures ∙ c.if-is_tag.false)) ∙ sym (at_node c.args.name.now c.args.depth c.args.text.now c.loop-token.next c.in-Token.token c.in-Token.ensures.read) ∙ c.loop-token.invariant.finds;
   same = λ kinds long.
-      sym (ap (tag_in c.args.name.now) (at_token (drop c.loop-token.next c.args.text.now) (drop c.in-Token.token.span.to c.args.text.now) kinds (order_in c.args.text.now c.in-Token.token) c.in-Token.ensures.read)
+      sym (ap (tag_in c.args.name.now) (at_token (drop c.loop-token.next c.args.text.now) (drop c.in-Token.token.span.to c.args.text.now) kinds (meaning_in c.args.text.now c.in-Token.token) c.in-Token.ensures.read)
       ∙ c.in-Ok.ensures.tags kinds c.args.name.now long (sym c.is_tag.ensures ∙ c.if-is_tag.false))
       ∙ c.loop-token.invariant.same kinds long;
 }
@@ -89,6 +89,6 @@ loop-token-preserved c = record {
 pub returns-in-Err-clause-found : goal.returns-in-Err-clause-found
 returns-in-Err-clause-found c = λ kinds long.
     sym (c.loop-token.invariant.same kinds long)
-    ∙ ap (tag_in c.args.name.now) (at_token (drop c.loop-token.next c.args.text.now) (drop c.in-Token.token.span.to c.args.text.now) kinds (order_in c.args.text.now c.in-Token.token) c.in-Token.ensures.read)
+    ∙ ap (tag_in c.args.name.now) (at_token (drop c.loop-token.next c.args.text.now) (drop c.in-Token.token.span.to c.args.text.now) kinds (meaning_in c.args.text.now c.in-Token.token) c.in-Token.ensures.read)
     ∙ c.in-Err.ensures.tags kinds c.args.name.now long (sym c.is_tag.ensures ∙ c.if-is_tag.false)
     ∙ tag_every c.args.name.now kinds _
