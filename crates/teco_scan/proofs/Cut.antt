@@ -18,10 +18,10 @@ use Rattle.teco_scan.specs.declared.command.Test.{Test}
 use Rattle.teco_scan.specs.declared.command.Test.TheVariants as tests
 use Rattle.teco_scan.specs.Table.{is_upper, is_first_letter, is_name, is_apart, is_table}
 use Rattle.teco_scan.specs.Scan.{Reading, or_else, digits, bare, register, byte, text, set_text, replace, Instruction, step, mark, decide, tag, escape, run_of, after_run, test_of, byte_at, register_at, test_at, delimiter_at, text_at, operand_at, is_refused, admits, modifiers_at, ends_inside, is_cut, row_at, of_row, command_at, begins_run, token_from, no_modifiers}
-use Rattle.teco_scan.specs.Spelling.{Marks, SpellsName, one_spelled, two_spelled, three_spelled, control_spelled, caret_spelled, Delimits, Ends, SpellsOperand, bare_spelled, mark_spelled, escape_spelled, register_spelled, byte_spelled, test_spelled, text_spelled, tag_spelled, set_text_spelled, replace_spelled, Spells, IsFront}
-use Rattle.teco_scan.proofs.Sound.{Takes, IsByte, IsRegister, IsTest, append_nil, not_eqb, byte_takes, register_takes, test_takes, delimiter_takes, text_takes, IsCommand, as_token, TakesRow, row_takes, marks_take}
-use Rattle.teco_scan.proofs.Again.{both}
-use Rattle.teco_scan.proofs.Longest.{finished}
+use Rattle.teco_scan.specs.Spelling.{Marks, SpellsName, one_spelled, two_spelled, three_spelled, control_spelled, caret_spelled, Delimits, TextUpTo, SpellsOperand, bare_spelled, mark_spelled, escape_spelled, register_spelled, byte_spelled, test_spelled, text_spelled, tag_spelled, set_text_spelled, replace_spelled, Spells, IsFront}
+use Rattle.teco_scan.proofs.IsSpelled.{Takes, IsByte, IsRegister, IsTest, append_nil, not_eqb, byte_takes, register_takes, test_takes, delimiter_takes, text_takes, IsCommand, as_token, TakesRow, row_takes, marks_take}
+use Rattle.teco_scan.proofs.SpelledReads.{both}
+use Rattle.teco_scan.proofs.IsLongest.{finished}
 use Rattle.teco_scan.proofs.Faults.{Faults, other_faults, this_fault, marks_faults}
 
 -- more bytes would make it P of something
@@ -52,12 +52,12 @@ unfolding byte_at
 byte_cuts [] = λ is. (0, 0 ∷ [], refl)
 byte_cuts (b ∷ bs) = tt
 
-text_cuts : (d : ℕ) (bs : List ℕ) → Faults (CutOf (λ t front. Ends d t front) bs) (text_at d bs)
+text_cuts : (d : ℕ) (bs : List ℕ) → Faults (CutOf (λ t front. TextUpTo d t front) bs) (text_at d bs)
 unfolding text_at
 text_cuts d [] = λ is. ([], d ∷ [], (tt, refl))
 text_cuts d (b ∷ bs) = here (eqb b d) refl (text_at d bs) (text_cuts d bs)
   where
-    here : (v : Bool) → eqb b d ≡ v → (r : Reading (List ℕ)) → Faults (CutOf (λ t front. Ends d t front) bs) r → Faults (CutOf (λ t front. Ends d t front) (b ∷ bs)) (cond v (Ok ([], bs)) (r >>= (λ t. Ok (b ∷ t.0, t.1))))
+    here : (v : Bool) → eqb b d ≡ v → (r : Reading (List ℕ)) → Faults (CutOf (λ t front. TextUpTo d t front) bs) r → Faults (CutOf (λ t front. TextUpTo d t front) (b ∷ bs)) (cond v (Ok ([], bs)) (r >>= (λ t. Ok (b ∷ t.0, t.1))))
     here true e r h = tt
     here false e (Ok x) h = tt
     here false e (Err c) h = λ is. let cut = h is in (b ∷ cut.0, cut.1, ((not_eqb b d e, cut.2.0), ap (λ w. b ∷ w) cut.2.1))
@@ -105,15 +105,15 @@ operand_cuts form.Test m bs = then_cut IsTest (λ o front. SpellsOperand form.Te
     (λ t front is. nil_after (λ o front. SpellsOperand form.Test m o front) (decide t) front (subst (λ w. SpellsOperand form.Test m (decide t) w) (sym is.2) (test_spelled is.1))) (λ t front is. tt)
 operand_cuts (form.Text c usual) m bs = then_cut (λ d front. Delimits m usual d front) (λ o front. SpellsOperand (form.Text c usual) m o front) bs (delimiter_at m usual bs) _ (delimiter_takes m.at m.colons usual bs) (delimiter_cuts m.at m.colons usual bs)
     (λ d front is. (step (text c []), d ∷ [], text_spelled d front (d ∷ []) is (tt, refl) refl))
-    (λ d front is. then_cut (λ t front. Ends d.0 t front) (λ o back. SpellsOperand (form.Text c usual) m o (front ++ back)) d.1 (text_at d.0 d.1) _ (text_takes d.0 d.1) (text_cuts d.0 d.1)
+    (λ d front is. then_cut (λ t front. TextUpTo d.0 t front) (λ o back. SpellsOperand (form.Text c usual) m o (front ++ back)) d.1 (text_at d.0 d.1) _ (text_takes d.0 d.1) (text_cuts d.0 d.1)
     (λ t back ends. nil_after (λ o back. SpellsOperand (form.Text c usual) m o (front ++ back)) (step (text c t)) back (text_spelled d.0 front back is ends refl)) (λ t back ends. tt))
-operand_cuts form.Tag m bs = then_cut (λ t front. Ends 33 t front) (λ o front. SpellsOperand form.Tag m o front) bs (text_at 33 bs) _ (text_takes 33 bs) (text_cuts 33 bs)
+operand_cuts form.Tag m bs = then_cut (λ t front. TextUpTo 33 t front) (λ o front. SpellsOperand form.Tag m o front) bs (text_at 33 bs) _ (text_takes 33 bs) (text_cuts 33 bs)
     (λ t front ends. nil_after (λ o front. SpellsOperand form.Tag m o front) (tag t) front (tag_spelled ends)) (λ t front ends. tt)
 operand_cuts form.SetText m bs = then_cut IsRegister (λ o front. SpellsOperand form.SetText m o front) bs (register_at bs) _ (register_takes bs) (register_cuts bs)
     (λ q name named. finish_set q name named)
     (λ q name named. then_cut (λ d front. Delimits m 27 d front) (λ o front. SpellsOperand form.SetText m o (name ++ front)) q.1 (delimiter_at m 27 q.1) _ (delimiter_takes m.at m.colons 27 q.1) (delimiter_cuts m.at m.colons 27 q.1)
     (λ d front is. (step (set_text q.0 []), d ∷ [], set_text_spelled named.0 d front (d ∷ []) named.1 is (tt, refl) (ap (λ w. w ++ (front ++ d ∷ [])) named.2)))
-    (λ d front is. then_cut (λ t front. Ends d.0 t front) (λ o back. SpellsOperand form.SetText m o (name ++ (front ++ back))) d.1 (text_at d.0 d.1) _ (text_takes d.0 d.1) (text_cuts d.0 d.1)
+    (λ d front is. then_cut (λ t front. TextUpTo d.0 t front) (λ o back. SpellsOperand form.SetText m o (name ++ (front ++ back))) d.1 (text_at d.0 d.1) _ (text_takes d.0 d.1) (text_cuts d.0 d.1)
     (λ t back ends. nil_after (λ o back. SpellsOperand form.SetText m o (name ++ (front ++ back))) (step (set_text q.0 t)) back (set_text_spelled named.0 d.0 front back named.1 is ends (ap (λ w. w ++ (front ++ back)) named.2))) (λ t back ends. tt)))
   where
     finish_set : (q : ℕ) (name : List ℕ) → IsRegister q name → CanEnd (λ o front. SpellsOperand form.SetText m o front) name
@@ -121,9 +121,9 @@ operand_cuts form.SetText m bs = then_cut IsRegister (λ o front. SpellsOperand 
         (step (set_text q []), d.1 ++ (d.0 ∷ []), set_text_spelled named.0 d.0 d.1 (d.0 ∷ []) named.1 d.2 (tt, refl) (ap (λ w. w ++ (d.1 ++ (d.0 ∷ []))) named.2))
 operand_cuts form.Replace m bs = then_cut (λ d front. Delimits m 27 d front) (λ o front. SpellsOperand form.Replace m o front) bs (delimiter_at m 27 bs) _ (delimiter_takes m.at m.colons 27 bs) (delimiter_cuts m.at m.colons 27 bs)
     (λ d front is. (step (replace [] []), d ∷ d ∷ [], replace_spelled d front (d ∷ []) (d ∷ []) is (tt, refl) (tt, refl) refl))
-    (λ d front is. then_cut (λ t front. Ends d.0 t front) (λ o back. SpellsOperand form.Replace m o (front ++ back)) d.1 (text_at d.0 d.1) _ (text_takes d.0 d.1) (text_cuts d.0 d.1)
+    (λ d front is. then_cut (λ t front. TextUpTo d.0 t front) (λ o back. SpellsOperand form.Replace m o (front ++ back)) d.1 (text_at d.0 d.1) _ (text_takes d.0 d.1) (text_cuts d.0 d.1)
     (λ t old ends. (step (replace t []), d.0 ∷ [], replace_spelled d.0 front old (d.0 ∷ []) is ends (tt, refl) refl))
-    (λ t old ends. then_cut (λ u front. Ends d.0 u front) (λ o back. SpellsOperand form.Replace m o (front ++ (old ++ back))) t.1 (text_at d.0 t.1) _ (text_takes d.0 t.1) (text_cuts d.0 t.1)
+    (λ t old ends. then_cut (λ u front. TextUpTo d.0 u front) (λ o back. SpellsOperand form.Replace m o (front ++ (old ++ back))) t.1 (text_at d.0 t.1) _ (text_takes d.0 t.1) (text_cuts d.0 t.1)
     (λ u new ends2. nil_after (λ o back. SpellsOperand form.Replace m o (front ++ (old ++ back))) (step (replace t.0 u)) new (replace_spelled d.0 front old new is ends ends2 refl)) (λ u new ends2. tt)))
 operand_cuts form.Refused m bs = λ is. absurd cc
 

@@ -10,8 +10,8 @@ use Rattle.teco_scan.specs.declared.token.TokenKind.{TokenKind}
 use Rattle.teco_scan.specs.declared.token.TokenKind.TheVariants as kinds
 use Rattle.teco_scan.specs.declared.token.Found.{Found}
 use Rattle.teco_scan.specs.declared.token.Found.TheVariants as places
-use Rattle.teco_scan.specs.Scan.{digits, bare, register, byte, text, set_text, replace, Instruction, step, mark, decide, tag, escape, Order, Scanned, found, fault}
-use Rattle.teco_scan.specs.Seen.{bytes_in, instruction_in, order_in, found_in, IsSpanIn, IsKindIn, IsKindPlaced, IsTokenAt, IsFoundAt}
+use Rattle.teco_scan.specs.Scan.{digits, bare, register, byte, text, set_text, replace, Instruction, step, mark, decide, tag, escape, TokenMeaning, Scanned, found, fault}
+use Rattle.teco_scan.specs.Seen.{bytes_in, instruction_in, meaning_in, found_in, IsSpanIn, IsKindIn, IsKindPlaced, IsTokenAt, IsFoundAt}
 
 -- a text of so many bytes, of which this is the last place
 abbrev before : ℕ → ℕ → Span
@@ -63,17 +63,17 @@ same_place bs n m le me e = omega (arith, ap length e, length-drop n bs, length-
 token_is : (bs : List ℕ) (at : ℕ) (t : Token) → IsTokenAt bs at t → t ≡ record { span = t.span; modifiers = t.modifiers; kind = kind_of t.span (instruction_in bs t.kind) }
 token_is bs at t h = let kind = kind_is bs t.span t.kind h.spans h.placed in λ i. record t { kind = kind i }
 
-tokens_same : (bs : List ℕ) (at : ℕ) (t u : Token) → IsTokenAt bs at t → IsTokenAt bs at u → order_in bs t ≡ order_in bs u → drop t.span.to bs ≡ drop u.span.to bs → t ≡ u
+tokens_same : (bs : List ℕ) (at : ℕ) (t u : Token) → IsTokenAt bs at t → IsTokenAt bs at u → meaning_in bs t ≡ meaning_in bs u → drop t.span.to bs ≡ drop u.span.to bs → t ≡ u
 tokens_same bs at t u h k same rest =
     let from : t.span.from ≡ u.span.from = same_place bs t.span.from u.span.from (omega (arith, h.long, h.inside)) (omega (arith, k.long, k.inside)) (h.begins ∙ sym k.begins) in
     let to : t.span.to ≡ u.span.to = same_place bs t.span.to u.span.to h.inside k.inside rest in
     let span : t.span ≡ u.span = λ i. record { from = from i; to = to i } in
-    let made : Span → Order → Token = λ s o. record { span = s; modifiers = o.modifiers; kind = kind_of s o.instruction } in
-    token_is bs at t h ∙ ap (λ s. made s (order_in bs t)) span ∙ ap (made u.span) same ∙ sym (token_is bs at u k)
+    let made : Span → TokenMeaning → Token = λ s o. record { span = s; modifiers = o.modifiers; kind = kind_of s o.instruction } in
+    token_is bs at t h ∙ ap (λ s. made s (meaning_in bs t)) span ∙ ap (made u.span) same ∙ sym (token_is bs at u k)
 
 pub determined : (bs : List ℕ) (at : ℕ) (f g : Found) → IsFoundAt bs at f → IsFoundAt bs at g → found_in bs f ≡ found_in bs g → f ≡ g
 determined bs at (places.Token t) (places.Token u) h k e =
-    let order : order_in bs t ≡ order_in bs u = cc in
+    let order : meaning_in bs t ≡ meaning_in bs u = cc in
     let rest : drop t.span.to bs ≡ drop u.span.to bs = cc in
     ap places.Token (tokens_same bs at t u h k order rest)
 determined bs at (places.Token t) places.End h k e = absurd cc

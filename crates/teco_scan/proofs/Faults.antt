@@ -11,9 +11,9 @@ use Rattle.teco_scan.specs.declared.command.Form.TheVariants as form
 use Rattle.teco_scan.specs.declared.command.Test.{Test}
 use Rattle.teco_scan.specs.Table.{is_alone, is_table}
 use Rattle.teco_scan.specs.Scan.{Reading, digits, Instruction, step, or_else, test_of, byte_at, register_at, test_at, delimiter_at, text_at, operand_at, modifiers_at, row_at, is_cut, command_at, of_row, begins_run, run_of, after_run, token_from, no_modifiers}
-use Rattle.teco_scan.specs.Spelling.{Marks, StandsAt, NeedsRegister, LacksRegister, LacksTest, LacksRegisterExactly, LacksTestExactly, IsFaultOfFour}
-use Rattle.teco_scan.proofs.Sound.{Takes, marks_take, TakesRow, row_takes}
-use Rattle.teco_scan.proofs.Longest.{finished, Reached, Finds, finds}
+use Rattle.teco_scan.specs.Spelling.{Marks, BeginsWithRow, NeedsRegister, LacksRegister, LacksTest, LacksRegisterExactly, LacksTestExactly, IsFaultOfFour}
+use Rattle.teco_scan.proofs.IsSpelled.{Takes, marks_take, TakesRow, row_takes}
+use Rattle.teco_scan.proofs.IsLongest.{finished, Reached, Finds, finds}
 
 -- the fault, if one was read, is such
 abbrev pub Faults : {A : Type 0} → (Code → Type 0) → Reading A → Type 0
@@ -74,7 +74,7 @@ test_faults F (b ∷ bs) cut lacks = here (test_of b) refl
     here None e = lacks (b, bs, refl, e)
     here (Some q) e = tt
 
--- what a fault says of the form and of the bytes behind the name
+-- what a fault says of the form and of the bytes after the name
 abbrev pub OperandFault : Form → List ℕ → Code → Type 0
 OperandFault f bs Utc = Unit {0}
 OperandFault f bs Iqn = NeedsRegister f × NamesNoRegister bs
@@ -129,7 +129,7 @@ command_faults rows m marks bs whole marked is = here (row_at rows m bs) (row_ta
     none true = tt
     none false = tt
 
-    stands : (x : Row × List ℕ) → TakesRow rows m bs (Some x) → (behind : List ℕ) → x.1 ≡ behind → StandsAt rows x.0 m whole behind
+    stands : (x : Row × List ℕ) → TakesRow rows m bs (Some x) → (behind : List ℕ) → x.1 ≡ behind → BeginsWithRow rows x.0 m whole behind
     stands x t behind e = record {
       among = t.0;
       admitted = t.1;
@@ -204,7 +204,7 @@ no_test_read : (m : Modifiers) (b : ℕ) (rest : List ℕ) → test_of b ≡ Non
 unfolding operand_at test_at byte_at
 no_test_read m b rest e = rw e
 
--- where more than a name is looked for no longer name stands
+-- where more than a name is looked for no longer name is there
 found_itself : {rows : List Row} {row : Row} {m : Modifiers} {bs behind : List ℕ} → (is_alone row.form ≡ true → ⊥) → (found : Finds rows row m bs behind) → token_from rows bs ≡ (operand_at row.form m behind >>= finished m)
 found_itself {row = row} {m = m} {behind = behind} more found = found.reads ∙ same found.at found.reached
   where

@@ -14,10 +14,10 @@ use Rattle.teco_scan.specs.declared.command.Name.{Name}
 use Rattle.teco_scan.specs.declared.command.Name.TheVariants.{One, Two, Three, Control}
 use Rattle.teco_scan.specs.declared.command.Form.{Form}
 use Rattle.teco_scan.specs.declared.table.TheConstants.{ROWS, FIRST}
-use Rattle.teco_scan.specs.Scan.{Reading, Instruction, Order, no_modifiers, admits, after_letter, after_name, at_row, row_at, is_cut, of_row, command_at, modifiers_at, operand_at, begins_run, token_from}
+use Rattle.teco_scan.specs.Scan.{Reading, Instruction, TokenMeaning, no_modifiers, admits, after_letter, after_name, at_row, row_at, is_cut, of_row, command_at, modifiers_at, operand_at, begins_run, token_from}
 use Rattle.teco_scan.specs.Table.{begins_with}
 use Rattle.teco_scan.specs.FirstRow.{none_begins, is_whole, is_whole_first, picks, form_of, form_at, named_at}
-use Rattle.teco_scan.proofs.Again.{both}
+use Rattle.teco_scan.proofs.SpelledReads.{both}
 
 unfoldable is_so_below : ℕ → (ℕ → Bool) → Bool
 is_so_below zero p = true
@@ -126,13 +126,13 @@ pub form_read : (n : ℕ) (m : Modifiers) (xs : List ℕ) (found : Option (Row �
 form_read n m xs found same read = ap (form_of ROWS m xs) (sym same ∙ ap (λ (rows : List Row). row_at rows m xs) (sym (take_rest ROWS n)) ∙ read)
 
 -- a token of modifiers, a name and an operand
-abbrev pub with_operand : Reading (Modifiers × Form) → Reading Order
+abbrev pub with_operand : Reading (Modifiers × Form) → Reading TokenMeaning
 with_operand r = do
   n ← r
   i ← operand_at n.0.1 n.0.0 n.1
   Ok (record { modifiers = n.0.0; instruction = i.0 }, i.1)
 
-abbrev pub ordered : Modifiers → Reading Instruction → Reading Order
+abbrev pub ordered : Modifiers → Reading Instruction → Reading TokenMeaning
 ordered m r = do
   i ← r
   Ok (record { modifiers = m; instruction = i.0 }, i.1)

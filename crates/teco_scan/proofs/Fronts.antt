@@ -15,11 +15,11 @@ use Rattle.teco_scan.specs.declared.command.Form.{Form}
 use Rattle.teco_scan.specs.declared.command.Form.TheVariants as form
 use Rattle.teco_scan.specs.declared.command.Test.{Test}
 use Rattle.teco_scan.specs.Table.{meets, is_table}
-use Rattle.teco_scan.specs.Scan.{Reading, or_else, Instruction, Order, test_of, byte_at, register_at, test_at, delimiter_at, text_at, operand_at, is_refused, admits, after_name, ends_inside, is_cut, row_at, of_row, command_at, begins_run, token_from, no_modifiers}
-use Rattle.teco_scan.specs.Spelling.{Marks, no_mark, at_mark, colon_mark, SpellsName, one_spelled, two_spelled, three_spelled, control_spelled, caret_spelled, SpellsOperand, bare_spelled, mark_spelled, escape_spelled, register_spelled, byte_spelled, test_spelled, text_spelled, tag_spelled, set_text_spelled, replace_spelled, Among, StandsAt, Spells, run_spelled, command_spelled, IsFront}
-use Rattle.teco_scan.proofs.Sound.{append_nil, TakesRow, row_takes, name_long}
-use Rattle.teco_scan.proofs.Again.{both, IsName, NoMark, operand_again, name_again, meet, more_bytes, named_well, apart}
-use Rattle.teco_scan.proofs.Longest.{name_start, finished, read_behind, IsLongerThan, longer_is, Reached, Finds, finds, alone_empty, alone_read}
+use Rattle.teco_scan.specs.Scan.{Reading, or_else, Instruction, TokenMeaning, test_of, byte_at, register_at, test_at, delimiter_at, text_at, operand_at, is_refused, admits, after_name, ends_inside, is_cut, row_at, of_row, command_at, begins_run, token_from, no_modifiers}
+use Rattle.teco_scan.specs.Spelling.{Marks, no_mark, at_mark, colon_mark, SpellsName, one_spelled, two_spelled, three_spelled, control_spelled, caret_spelled, SpellsOperand, bare_spelled, mark_spelled, escape_spelled, register_spelled, byte_spelled, test_spelled, text_spelled, tag_spelled, set_text_spelled, replace_spelled, Among, BeginsWithRow, Spells, run_spelled, command_spelled, IsFront}
+use Rattle.teco_scan.proofs.IsSpelled.{append_nil, TakesRow, row_takes, name_long}
+use Rattle.teco_scan.proofs.SpelledReads.{both, IsName, NoMark, operand_again, name_again, meet, more_bytes, named_well, apart}
+use Rattle.teco_scan.proofs.IsLongest.{name_start, finished, read_behind, IsLongerThan, longer_is, Reached, Finds, finds, alone_empty, alone_read}
 use Rattle.teco_scan.proofs.Faults.{Faults, then_faults}
 
 -- what is read is read again where more bytes follow, and so is a fault, unless the bytes were cut
@@ -99,7 +99,7 @@ operand_front {f = f} {m = m} {o = o} bs more is =
     let whole : operand_at f m (bs ++ more) ≡ Ok (o, []) = ap (operand_at f m) (sym (append_nil (bs ++ more))) ∙ operand_again is [] in
     extended more (operand_at f m bs) (o, []) (subst (Extends more (operand_at f m bs)) whole (operand_extends f m bs more))
 
--- two ways to divide a list: the first part ends behind the other's, or before it
+-- two ways to divide a list: the first part ends after the other's, or before it
 abbrev pub Divided : List ℕ → List ℕ → List ℕ → List ℕ → Type 0
 Divided a b c d = ((e : List ℕ) × (a ≡ c ++ e) × (d ≡ e ++ b)) ⊎ ((x : ℕ) × (e : List ℕ) × (c ≡ a ++ (x ∷ e)) × (b ≡ (x ∷ e) ++ d))
 
@@ -202,7 +202,7 @@ inside_name (control_spelled a) (b ∷ bs) x e same = absurd (omega (arith, long
 inside_name (caret_spelled a) (b ∷ []) x e same = let here : 94 ≡ b = cc in eq-eqb b 94 (sym here)
 inside_name (caret_spelled a) (b ∷ c ∷ bs) x e same = absurd (omega (arith, longer_than _ (b ∷ c ∷ bs) x e same))
 
--- Nothing is left of the bytes behind the modifiers.
+-- Nothing is left of the bytes after the modifiers.
 module _ (rows : List Row) (row : Row) (m : Modifiers) (among : Among row rows) (admitted : admits row m ≡ true) (spelled : is_refused row.form ≡ false) where
   no_row : (o : Option (Row × List ℕ)) → TakesRow rows m [] o → o ≡ None
   no_row None t = refl
@@ -283,7 +283,7 @@ run_front rows (b ∷ bs) rest long all = rw all.0 tt
 pub front_reads : (rows : List Row) → is_table rows ≡ true → (bs : List ℕ) → 0 < length bs → IsFront rows bs → Faults IsCutOnly (token_from rows bs)
 front_reads rows table bs some front = of_spelling front.2 refl
   where
-    operand : {row : Row} {m : Modifiers} {i : Instruction} {behind : List ℕ} (more : List ℕ) → StandsAt rows row m bs behind → SpellsOperand row.form m i (behind ++ more) → Faults IsCutOnly (token_from rows bs)
+    operand : {row : Row} {m : Modifiers} {i : Instruction} {behind : List ℕ} (more : List ℕ) → BeginsWithRow rows row m bs behind → SpellsOperand row.form m i (behind ++ more) → Faults IsCutOnly (token_from rows bs)
     operand {row = row} {m = m} {behind = behind} more stands is = by (finds rows table stands)
       where
         reached : (y : Row × List ℕ) → Reached row behind y → Faults IsCutOnly (operand_at y.0.form m y.1)
@@ -293,7 +293,7 @@ front_reads rows table bs some front = of_spelling front.2 refl
         by : Finds rows row m bs behind → Faults IsCutOnly (token_from rows bs)
         by found = subst (Faults IsCutOnly) (sym found.reads) (then_faults IsCutOnly (operand_at found.at.0.form m found.at.1) (finished m) (reached found.at found.reached) (λ i. tt))
 
-    command : {m : Modifiers} {i : Instruction} {whole : List ℕ} (row : Row) (argument : List ℕ) → StandsAt rows row m whole argument → SpellsOperand row.form m i argument → whole ≡ bs ++ front.1 → Faults IsCutOnly (token_from rows bs)
+    command : {m : Modifiers} {i : Instruction} {whole : List ℕ} (row : Row) (argument : List ℕ) → BeginsWithRow rows row m whole argument → SpellsOperand row.form m i argument → whole ≡ bs ++ front.1 → Faults IsCutOnly (token_from rows bs)
     command {m = m} {i = i} row argument stands is same = in_marks (divide bs front.1 stands.marks (stands.name ++ argument) (sym same ∙ stands.whole))
       where
         well : IsName row.name
@@ -316,6 +316,6 @@ front_reads rows table bs some front = of_spelling front.2 refl
         in_marks (inl d) = in_name d.0 d.1 d.2 (divide d.0 front.1 stands.name argument (sym d.2))
         in_marks (inr d) = subst (Faults IsCutOnly) (sym (cut_in_marks rows row bs (d.0 ∷ d.1) stands.among stands.admitted (not_refused is) (subst (λ w. Marks no_modifiers w m) d.2 stands.marked))) refl
 
-    of_spelling : {t : Order} {whole : List ℕ} → Spells rows t whole → whole ≡ bs ++ front.1 → Faults IsCutOnly (token_from rows bs)
+    of_spelling : {t : TokenMeaning} {whole : List ℕ} → Spells rows t whole → whole ≡ bs ++ front.1 → Faults IsCutOnly (token_from rows bs)
     of_spelling (run_spelled long all) same = run_front rows bs front.1 some (subst (AllByRecursion (λ b. is_digit b ≡ true)) same all)
     of_spelling (command_spelled row argument stands is) same = command row argument stands is same

@@ -13,11 +13,11 @@ use Rattle.teco_scan.specs.declared.command.Form.TheVariants as form
 use Rattle.teco_scan.specs.declared.command.BlockMark.{BlockMark}
 use Rattle.teco_scan.specs.declared.command.BlockMark.TheVariants.{Iterate, EndIteration, Otherwise, EndTest}
 use Rattle.teco_scan.specs.declared.table.TheConstants.{ROWS}
-use Rattle.teco_scan.specs.Scan.{Instruction, mark, Order, Reading, found, scan, scan_here, scanned, after_fillers, token_from}
+use Rattle.teco_scan.specs.Scan.{Instruction, mark, TokenMeaning, Reading, found, scan, scan_here, scanned, after_fillers, token_from}
 use Rattle.teco_scan.specs.Spelling.{Spells, run_spelled, command_spelled, SpellsName, one_spelled, two_spelled, three_spelled, control_spelled, caret_spelled, SpellsOperand, bare_spelled, mark_spelled, escape_spelled, register_spelled, byte_spelled, test_spelled, text_spelled, tag_spelled, set_text_spelled, replace_spelled}
 use Rattle.teco_scan.specs.Skip.{byte_of, is_tag}
-use Rattle.teco_scan.proofs.Sound.{append_nil, spelled}
-use Rattle.teco_scan.proofs.Again.{each}
+use Rattle.teco_scan.proofs.IsSpelled.{append_nil, spelled}
+use Rattle.teco_scan.proofs.SpelledReads.{each}
 
 is_one : ℕ → Name → Bool
 is_one b (One l) = eqb l b
@@ -61,7 +61,7 @@ operand_none (set_text_spelled b d front back register delimits ends whole) c e 
 operand_none (replace_spelled d front old new delimits ends also whole) c e = absurd cc
 
 -- modifiers, and then the byte
-spelled_mark : {t : Order} {bs : List ℕ} → Spells ROWS t bs → (c : BlockMark) → t.instruction ≡ mark c → (marks : List ℕ) × (bs ≡ marks ++ (byte_of c ∷ []))
+spelled_mark : {t : TokenMeaning} {bs : List ℕ} → Spells ROWS t bs → (c : BlockMark) → t.instruction ≡ mark c → (marks : List ℕ) × (bs ≡ marks ++ (byte_of c ∷ []))
 unfolding is_written
 spelled_mark (run_spelled long run) c e = absurd cc
 spelled_mark (command_spelled row operand stands is) c e =
@@ -71,11 +71,11 @@ spelled_mark (command_spelled row operand stands is) c e =
     let name : stands.name ≡ byte_of c ∷ [] = named row.name stands.name c stands.named one in
     (stands.marks, stands.whole ∙ ap (λ w. stands.marks ++ w) (ap (λ w. stands.name ++ w) o.1 ∙ append_nil stands.name ∙ name))
 
-scan_read : (bs more : List ℕ) (t : Order) → scan bs ≡ found t more → token_from ROWS (after_fillers bs) ≡ Ok (t, more)
+scan_read : (bs more : List ℕ) (t : TokenMeaning) → scan bs ≡ found t more → token_from ROWS (after_fillers bs) ≡ Ok (t, more)
 unfolding scan
 scan_read bs more t is = here (after_fillers bs) is
   where
-    of_reading : (r : Reading Order) → scanned r ≡ found t more → r ≡ Ok (t, more)
+    of_reading : (r : Reading TokenMeaning) → scanned r ≡ found t more → r ≡ Ok (t, more)
     of_reading (Err c) e = absurd cc
     of_reading (Ok x) e =
         let order : x.0 ≡ t = cc in
@@ -87,7 +87,7 @@ scan_read bs more t is = here (after_fillers bs) is
     here (b ∷ xs) e = of_reading (token_from ROWS (b ∷ xs)) e
 
 -- the last byte of a token is the last that spells it
-last_byte : (xs : List ℕ) (at from to : ℕ) (t : Order) (b : ℕ) → ((bs : List ℕ) → Spells ROWS t bs → (before : List ℕ) × (bs ≡ before ++ (b ∷ []))) → found t (drop to xs) ≡ scan (drop at xs) → drop from xs ≡ after_fillers (drop at xs) → from < to → to ≤ length xs →
+last_byte : (xs : List ℕ) (at from to : ℕ) (t : TokenMeaning) (b : ℕ) → ((bs : List ℕ) → Spells ROWS t bs → (before : List ℕ) × (bs ≡ before ++ (b ∷ []))) → found t (drop to xs) ≡ scan (drop at xs) → drop from xs ≡ after_fillers (drop at xs) → from < to → to ≤ length xs →
     drop (to - 1) xs ≡ b ∷ drop to xs
 last_byte xs at from to t b ends is begins long inside =
     let read = scan_read (drop at xs) (drop to xs) t (sym is) in
@@ -97,7 +97,7 @@ last_byte xs at from to t b ends is begins long inside =
     let place : from + length w.0 ≡ to - 1 = omega (arith, ap length whole, length-drop from xs, length-drop to xs, length-append w.0 (b ∷ drop to xs)) in
     ap (λ n. drop n xs) (sym place) ∙ sym (drop-drop (length w.0) from xs) ∙ ap (drop (length w.0)) whole ∙ drop-append_seam w.0 (b ∷ drop to xs)
 
-pub mark_byte : (xs : List ℕ) (at from to : ℕ) (t : Order) (c : BlockMark) → found t (drop to xs) ≡ scan (drop at xs) → t.instruction ≡ mark c → drop from xs ≡ after_fillers (drop at xs) → from < to → to ≤ length xs → drop (to - 1) xs ≡ byte_of c ∷ drop to xs
+pub mark_byte : (xs : List ℕ) (at from to : ℕ) (t : TokenMeaning) (c : BlockMark) → found t (drop to xs) ≡ scan (drop at xs) → t.instruction ≡ mark c → drop from xs ≡ after_fillers (drop at xs) → from < to → to ≤ length xs → drop (to - 1) xs ≡ byte_of c ∷ drop to xs
 mark_byte xs at from to t c is marked begins long inside = last_byte xs at from to t (byte_of c) (λ bs spells. spelled_mark spells c marked) is begins long inside
 
 -- a tag ends with `!`
@@ -113,7 +113,7 @@ operand_bang (tag_spelled {t = t} ends) name e = (t, ends.1)
 operand_bang (set_text_spelled b d front back register delimits ends whole) name e = absurd cc
 operand_bang (replace_spelled d front old new delimits ends also whole) name e = absurd cc
 
-spelled_tag : {t : Order} {bs : List ℕ} → Spells ROWS t bs → (name : List ℕ) → is_tag name t.instruction ≡ true → (before : List ℕ) × (bs ≡ before ++ (33 ∷ []))
+spelled_tag : {t : TokenMeaning} {bs : List ℕ} → Spells ROWS t bs → (name : List ℕ) → is_tag name t.instruction ≡ true → (before : List ℕ) × (bs ≡ before ++ (33 ∷ []))
 spelled_tag (run_spelled long run) name e = absurd cc
 spelled_tag (command_spelled row operand stands is) name e =
     let o = operand_bang is name e in
@@ -122,5 +122,5 @@ spelled_tag (command_spelled row operand stands is) name e =
       whole ∙ ap (λ w. stands.marks ++ w) (sym (append_assoc stands.name o.0 (33 ∷ []))) ∙ sym (append_assoc stands.marks (stands.name ++ o.0) (33 ∷ [])),
     )
 
-pub tag_byte : (xs : List ℕ) (at from to : ℕ) (t : Order) (name : List ℕ) → found t (drop to xs) ≡ scan (drop at xs) → is_tag name t.instruction ≡ true → drop from xs ≡ after_fillers (drop at xs) → from < to → to ≤ length xs → drop (to - 1) xs ≡ 33 ∷ drop to xs
+pub tag_byte : (xs : List ℕ) (at from to : ℕ) (t : TokenMeaning) (name : List ℕ) → found t (drop to xs) ≡ scan (drop at xs) → is_tag name t.instruction ≡ true → drop from xs ≡ after_fillers (drop at xs) → from < to → to ≤ length xs → drop (to - 1) xs ≡ 33 ∷ drop to xs
 tag_byte xs at from to t name is tagged begins long inside = last_byte xs at from to t 33 (λ bs spells. spelled_tag spells name tagged) is begins long inside

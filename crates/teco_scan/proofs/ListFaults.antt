@@ -8,11 +8,11 @@ use Rattle.teco_scan.specs.declared.command.Modifiers.{Modifiers}
 use Rattle.teco_scan.specs.declared.blocks.Kind.{Kind}
 use Rattle.teco_scan.specs.declared.blocks.Kind.TheVariants.{Iter, Then, Else}
 use Rattle.teco_core.specs.declared.code.Code.TheVariants.{Pdo}
-use Rattle.teco_scan.specs.Scan.{Instruction, Order, Scanned, found, ended, fault, scan}
+use Rattle.teco_scan.specs.Scan.{Instruction, TokenMeaning, Scanned, found, ended, fault, scan}
 use Rattle.teco_scan.specs.Scan as token
 use Rattle.teco_scan.specs.Tree.{is_fault}
 use Rattle.teco_scan.specs.Lists.{Close, closed, broken, Past, past, Listed, Lister, wrong, behind, second, at_mark, at_instruction, at_scan, list_within, list_at}
-use Rattle.teco_scan.proofs.Textual.{scan_fault}
+use Rattle.teco_scan.proofs.ScanFaults.{scan_fault}
 
 -- a fault that breaks is one of the text
 abbrev Textual : Close → Type 0

@@ -1,4 +1,4 @@
--- What stands at a place of a text, as the front of the bytes from there.
+-- What is at a place of a text, as the front of the bytes from there.
 use Rattle.std.proofs.Common.{◌≡◌, ℕ, suc, zero, ◌+◌, ◌-◌, ◌++◌, length-append, length-drop, ◌<◌, ◌≤◌, Bool, true, false, cond, eqb, List, [], ◌∷◌, length, get_or, take, drop, Some, None, Ok, Err, refl, sym, ap, ◌∙◌, arith, add-one, drop-cons}
 use Rattle.memchr.specs.Find.{IsFirstByte, is_byte}
 use Rattle.teco_core.specs.declared.code.Code.TheVariants.{Utc}

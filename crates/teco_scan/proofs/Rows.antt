@@ -22,15 +22,15 @@ unfoldable pub computing : ℕ
 unfolding test_of byte_at register_at test_at delimiter_at text_at operand_at modifiers_at after_letter after_name ends_inside row_at is_cut command_at run_of after_run token_from after_fillers scan list_within list_at tag_within tag_at
 computing = 0
 
--- the bytes of a text, where $ stands for ESC
+-- the bytes of a text, where $ is ESC
 abbrev pub keys : String → List ℕ
 keys written = map (λ b. if b == 36 then 27 else b) (codes written)
 
--- a token without modifiers, and the text behind it
+-- a token without modifiers, and the text after it
 abbrev plain : Instruction → String → Scanned
 plain i rest = found (record { modifiers = no_modifiers; instruction = i }) (keys rest)
 
--- a token behind @, and one behind a colon
+-- a token after @, and one after a colon
 abbrev at_sign : Instruction → String → Scanned
 at_sign i rest = found (record { modifiers = record { at = true; colons = 0 }; instruction = i }) (keys rest)
 
@@ -138,7 +138,7 @@ found_registers : scans "Qa3" (plain (step (register Number 0)) "3")
 unfolding computing
 found_registers = (refl, refl, refl, refl, refl, refl, refl, refl, refl, refl, refl, refl)
 
--- UTC where the text ends inside the token, IQN where a byte names no register, and ILL at other modifiers and behind a caret
+-- UTC where the text ends inside the token, IQN where a byte names no register, and ILL at other modifiers and after a caret
 found_no_registers : scans "Q" (fault Utc)
     × scans ":Q" (fault Utc)
     × scans "Q?" (fault Iqn)

@@ -7,12 +7,12 @@ use Rattle.teco_scan.specs.declared.command.Modifiers.{Modifiers}
 use Rattle.teco_scan.specs.declared.command.BlockMark.TheVariants.{Iterate, EndIteration, Otherwise, EndTest}
 use Rattle.teco_scan.specs.declared.blocks.Kind.{Kind}
 use Rattle.teco_scan.specs.declared.blocks.Kind.TheVariants.{Iter, Then}
-use Rattle.teco_scan.specs.Scan.{Instruction, Order, Scanned, found, ended, fault, scan}
+use Rattle.teco_scan.specs.Scan.{Instruction, TokenMeaning, Scanned, found, ended, fault, scan}
 use Rattle.teco_scan.specs.Scan as token
 use Rattle.teco_scan.specs.Skip.{opened_kind, closing_mark, is_tag}
 use Rattle.teco_scan.specs.Lists.{broken, wrong, behind, behind_block, at_instruction, at_scan, list_at, iter_at, cond_at, tag_behind, tag_at_instruction, tag_at_scan, tag_at}
-use Rattle.teco_scan.proofs.ListSteps.{list_step}
-use Rattle.teco_scan.proofs.TagSteps.{tag_step}
+use Rattle.teco_scan.proofs.ListUnrolls.{list_step}
+use Rattle.teco_scan.proofs.SearchUnrolls.{tag_step}
 
 -- by what is found there
 pub list_found : (k : Option Kind) (d : ℕ) (bs : List ℕ) (s : Scanned) → s ≡ scan bs → list_at k d bs ≡ at_scan list_at s k d

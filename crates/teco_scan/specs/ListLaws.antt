@@ -2,7 +2,7 @@
 use Rattle.std.specs.Prelude.{◌≡◌, ℕ, ◌<◌, true, List, length, Option, Some, None}
 use Rattle.teco_core.specs.declared.code.Code.{Code}
 use Rattle.teco_scan.specs.declared.blocks.Kind.{Kind}
-use Rattle.teco_scan.specs.Scan.{Order, found, fault, scan}
+use Rattle.teco_scan.specs.Scan.{TokenMeaning, found, fault, scan}
 use Rattle.teco_scan.specs.Tree.{is_fault, after_tag}
 use Rattle.teco_scan.specs.Lists.{Close, closed, broken, Listed, at_scan, list_at, tag_at_scan, tag_at}
 
@@ -22,7 +22,7 @@ Finds name k d l (Some bs) = (after_tag name l.0 ≡ Some (list_at k d bs).0) ×
 pub record BlockLaws : Type 0 where
   pub list_unrolls : (k : Option Kind) (d : ℕ) (bs : List ℕ) → list_at k d bs ≡ at_scan list_at (scan bs) k d
   pub search_unrolls : (name : List ℕ) (d : ℕ) (bs : List ℕ) → tag_at name d bs ≡ tag_at_scan name (tag_at name) (scan bs) d
-  pub token_shortens : (bs : List ℕ) (t : Order) (more : List ℕ) → scan bs ≡ found t more → length more < length bs
+  pub token_shortens : (bs : List ℕ) (t : TokenMeaning) (more : List ℕ) → scan bs ≡ found t more → length more < length bs
   pub list_shortens : (k : Option Kind) (d : ℕ) (bs : List ℕ) → Within (length bs) (list_at k d bs).1
   pub search_finds : (name : List ℕ) (k : Option Kind) (d : ℕ) (bs : List ℕ) → Finds name k d (list_at k d bs) (tag_at name d bs)
   pub scan_faults : (bs : List ℕ) (c : Code) → scan bs ≡ fault c → is_fault c ≡ true

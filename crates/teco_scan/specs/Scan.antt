@@ -37,8 +37,8 @@ pub data Instruction : Type 0 where
   tag : List ℕ → Instruction
   escape : Instruction
 
--- a whole token: its modifiers, and what it instructs
-pub record Order : Type 0 where
+-- what a token means: its modifiers, and what it instructs
+pub record TokenMeaning : Type 0 where
   pub modifiers : Modifiers
   pub instruction : Instruction
 
@@ -186,7 +186,7 @@ unfoldable pub is_cut : List Row → Modifiers → List ℕ → Bool
 is_cut [] m bs = false
 is_cut (r ∷ rs) m bs = admits r m && not (is_refused r.form) && ends_inside r.name bs || is_cut rs m bs
 
--- a command of the rows, behind its modifiers
+-- a command of the rows, after its modifiers
 abbrev pub of_row : List Row → Modifiers → List ℕ → Option (Row × List ℕ) → Reading Instruction
 of_row rows m bs (Some found) = operand_at found.0.form m found.1
 of_row rows m bs None = if is_cut rows m bs then Err Utc else Err Ill
@@ -208,7 +208,7 @@ begins_run [] = false
 begins_run (b ∷ bs) = is_digit b
 
 -- A token at the front: a run of digits, or modifiers and a command of the rows.
-unfoldable pub token_from : List Row → List ℕ → Reading Order
+unfoldable pub token_from : List Row → List ℕ → Reading TokenMeaning
 token_from rows bs = if begins_run bs then Ok (record { modifiers = no_modifiers; instruction = step (digits (run_of bs)) }, after_run bs) else (do
   m ← modifiers_at no_modifiers bs
   i ← command_at rows m.0 m.1
@@ -216,11 +216,11 @@ token_from rows bs = if begins_run bs then Ok (record { modifiers = no_modifiers
 
 -- what is found after fillers: a token and the bytes after it, the end, or a fault
 pub data Scanned : Type 0 where
-  found : Order → List ℕ → Scanned
+  found : TokenMeaning → List ℕ → Scanned
   ended : Scanned
   fault : Code → Scanned
 
-abbrev pub scanned : Reading Order → Scanned
+abbrev pub scanned : Reading TokenMeaning → Scanned
 scanned (Ok t) = found t.0 t.1
 scanned (Err e) = fault e
 

@@ -11,7 +11,7 @@ use Rattle.teco_scan.specs.declared.token.Found.{Found}
 use Rattle.teco_scan.specs.declared.token.Found.TheVariants as places
 use Rattle.teco_scan.specs.declared.blocks.Stop.{Stop}
 use Rattle.teco_scan.specs.Lists.{Close, closed, broken, Past}
-use Rattle.teco_scan.specs.Scan.{Item, digits, bare, register, byte, text, set_text, replace, Instruction, step, mark, decide, tag, escape, Order, Scanned, found, ended, fault, after_fillers}
+use Rattle.teco_scan.specs.Scan.{Item, digits, bare, register, byte, text, set_text, replace, Instruction, step, mark, decide, tag, escape, TokenMeaning, Scanned, found, ended, fault, after_fillers}
 
 -- what a function returned, seen by view, is what reading gives
 abbrev pub Gives : {X Y : Type 0} → (X → Y) → Result X Code → Result Y Code → Type 0
@@ -42,11 +42,11 @@ instruction_in bs (kinds.Test t) = decide t
 instruction_in bs (kinds.Tag s) = tag (bytes_in bs s)
 instruction_in bs kinds.Escape = escape
 
-abbrev pub order_in : List ℕ → Token → Order
-order_in bs t = record { modifiers = t.modifiers; instruction = instruction_in bs t.kind }
+abbrev pub meaning_in : List ℕ → Token → TokenMeaning
+meaning_in bs t = record { modifiers = t.modifiers; instruction = instruction_in bs t.kind }
 
 abbrev pub found_in : List ℕ → Found → Scanned
-found_in bs (places.Token t) = found (order_in bs t) (drop t.span.to bs)
+found_in bs (places.Token t) = found (meaning_in bs t) (drop t.span.to bs)
 found_in bs places.End = ended
 found_in bs (places.Fault e) = fault e
 

@@ -16,7 +16,7 @@ use Rattle.teco_scan.specs.declared.command.BlockMark.{BlockMark}
 use Rattle.teco_scan.specs.declared.command.RegisterCommand.{RegisterCommand}
 use Rattle.teco_scan.specs.declared.command.TextCommand.{TextCommand}
 use Rattle.teco_scan.specs.declared.command.Test.{Test}
-use Rattle.teco_scan.specs.Scan.{digits, bare, register, byte, text, set_text, replace, Instruction, step, mark, decide, tag, escape, Order, is_filler, test_of, admits, no_modifiers, token_from, scan, scan_here}
+use Rattle.teco_scan.specs.Scan.{digits, bare, register, byte, text, set_text, replace, Instruction, step, mark, decide, tag, escape, TokenMeaning, is_filler, test_of, admits, no_modifiers, token_from, scan, scan_here}
 
 -- modifiers that lead from these to those: at most one @ and two colons, in any order
 pub data Marks : Modifiers → List ℕ → Modifiers → Type 0 where
@@ -32,13 +32,13 @@ pub data SpellsName : Name → List ℕ → Type 0 where
   control_spelled : {l b : ℕ} → b + 64 ≡ l → SpellsName (Control l) (b ∷ [])
   caret_spelled : {l b : ℕ} → upper b ≡ l → SpellsName (Control l) (94 ∷ b ∷ [])
 
--- what stands before the first text: with @ the delimiter, which is any byte; else nothing, and the delimiter is the usual one
+-- what comes before the first text: with @ the delimiter, which is any byte; else nothing, and the delimiter is the usual one
 abbrev pub Delimits : Modifiers → ℕ → ℕ → List ℕ → Type 0
 Delimits m usual d bs = MatchBool m.at (bs ≡ d ∷ []) ((d ≡ usual) × (bs ≡ []))
 
 -- a text without its delimiter, and then the delimiter
-abbrev pub Ends : ℕ → List ℕ → List ℕ → Type 0
-Ends d t bs = AllByRecursion (λ b. b ≢ d) t × (bs ≡ t ++ d ∷ [])
+abbrev pub TextUpTo : ℕ → List ℕ → List ℕ → Type 0
+TextUpTo d t bs = AllByRecursion (λ b. b ≢ d) t × (bs ≡ t ++ d ∷ [])
 
 -- what follows the name; a refused name has no rule
 pub data SpellsOperand : Form → Modifiers → Instruction → List ℕ → Type 0 where
@@ -48,41 +48,41 @@ pub data SpellsOperand : Form → Modifiers → Instruction → List ℕ → Typ
   register_spelled : {c : RegisterCommand} {m : Modifiers} {b q : ℕ} → register_of b ≡ Some q → SpellsOperand (form.Register c) m (step (register c q)) (b ∷ [])
   byte_spelled : {m : Modifiers} {b : ℕ} → SpellsOperand form.Byte m (step (byte b)) (b ∷ [])
   test_spelled : {m : Modifiers} {b : ℕ} {t : Test} → test_of b ≡ Some t → SpellsOperand form.Test m (decide t) (b ∷ [])
-  text_spelled : {c : TextCommand} {usual : ℕ} {m : Modifiers} {t bs : List ℕ} (d : ℕ) (front back : List ℕ) → Delimits m usual d front → Ends d t back → bs ≡ front ++ back → SpellsOperand (form.Text c usual) m (step (text c t)) bs
-  tag_spelled : {m : Modifiers} {t bs : List ℕ} → Ends 33 t bs → SpellsOperand form.Tag m (tag t) bs
-  set_text_spelled : {q : ℕ} {m : Modifiers} {t bs : List ℕ} (b d : ℕ) (front back : List ℕ) → register_of b ≡ Some q → Delimits m 27 d front → Ends d t back → bs ≡ b ∷ (front ++ back) → SpellsOperand form.SetText m (step (set_text q t)) bs
-  replace_spelled : {m : Modifiers} {t u bs : List ℕ} (d : ℕ) (front old new : List ℕ) → Delimits m 27 d front → Ends d t old → Ends d u new → bs ≡ front ++ (old ++ new) → SpellsOperand form.Replace m (step (replace t u)) bs
+  text_spelled : {c : TextCommand} {usual : ℕ} {m : Modifiers} {t bs : List ℕ} (d : ℕ) (front back : List ℕ) → Delimits m usual d front → TextUpTo d t back → bs ≡ front ++ back → SpellsOperand (form.Text c usual) m (step (text c t)) bs
+  tag_spelled : {m : Modifiers} {t bs : List ℕ} → TextUpTo 33 t bs → SpellsOperand form.Tag m (tag t) bs
+  set_text_spelled : {q : ℕ} {m : Modifiers} {t bs : List ℕ} (b d : ℕ) (front back : List ℕ) → register_of b ≡ Some q → Delimits m 27 d front → TextUpTo d t back → bs ≡ b ∷ (front ++ back) → SpellsOperand form.SetText m (step (set_text q t)) bs
+  replace_spelled : {m : Modifiers} {t u bs : List ℕ} (d : ℕ) (front old new : List ℕ) → Delimits m 27 d front → TextUpTo d t old → TextUpTo d u new → bs ≡ front ++ (old ++ new) → SpellsOperand form.Replace m (step (replace t u)) bs
 
 abbrev pub Among : Row → List Row → Type 0
 Among r [] = ⊥
 Among r (s ∷ rows) = (r ≡ s) ⊎ Among r rows
 
 -- modifiers that a row admits, its name, and then these bytes
-pub record StandsAt (rows : List Row) (row : Row) (m : Modifiers) (bs behind : List ℕ) : Type 0 where
+pub record BeginsWithRow (rows : List Row) (row : Row) (m : Modifiers) (bs more : List ℕ) : Type 0 where
   pub among : Among row rows
   pub admitted : admits row m ≡ true
   pub marks : List ℕ
   pub name : List ℕ
   pub marked : Marks no_modifiers marks m
   pub named : SpellsName row.name name
-  pub whole : bs ≡ marks ++ (name ++ behind)
+  pub whole : bs ≡ marks ++ (name ++ more)
 
 -- a run of digits, or a command of the rows
-pub data Spells (rows : List Row) : Order → List ℕ → Type 0 where
+pub data Spells (rows : List Row) : TokenMeaning → List ℕ → Type 0 where
   run_spelled : {bs : List ℕ} → 0 < length bs → AllByRecursion (λ b. is_digit b ≡ true) bs → Spells rows (record { modifiers = no_modifiers; instruction = step (digits bs) }) bs
-  command_spelled : {m : Modifiers} {i : Instruction} {bs : List ℕ} (row : Row) (operand : List ℕ) → StandsAt rows row m bs operand → SpellsOperand row.form m i operand → Spells rows (record { modifiers = m; instruction = i }) bs
+  command_spelled : {m : Modifiers} {i : Instruction} {bs : List ℕ} (row : Row) (operand : List ℕ) → BeginsWithRow rows row m bs operand → SpellsOperand row.form m i operand → Spells rows (record { modifiers = m; instruction = i }) bs
 
--- a token stands at the front of the bytes
+-- the bytes begin with a token
 abbrev pub BeginsWithToken : List Row → List ℕ → Type 0
-BeginsWithToken rows bs = (t : Order) × (front : List ℕ) × (rest : List ℕ) × Spells rows t front × (bs ≡ front ++ rest)
+BeginsWithToken rows bs = (t : TokenMeaning) × (front : List ℕ) × (rest : List ℕ) × Spells rows t front × (bs ≡ front ++ rest)
 
 -- some token's spelling goes on from the bytes, or is they
 abbrev pub IsFront : List Row → List ℕ → Type 0
-IsFront rows bs = (t : Order) × (more : List ℕ) × Spells rows t (bs ++ more)
+IsFront rows bs = (t : TokenMeaning) × (more : List ℕ) × Spells rows t (bs ++ more)
 
--- a refused name stands there
+-- a refused name is there
 abbrev pub IsRefused : List Row → List ℕ → Type 0
-IsRefused rows bs = (row : Row) × (m : Modifiers) × (behind : List ℕ) × StandsAt rows row m bs behind × (row.form ≡ form.Refused)
+IsRefused rows bs = (row : Row) × (m : Modifiers) × (more : List ℕ) × BeginsWithRow rows row m bs more × (row.form ≡ form.Refused)
 
 abbrev pub NeedsRegister : Form → Type 0
 NeedsRegister (form.Register c) = Unit {0}
@@ -91,26 +91,26 @@ NeedsRegister _ = ⊥
 
 -- the bytes fit a spelling up to its register, and the next one names none
 abbrev pub LacksRegister : List Row → List ℕ → Type 0
-LacksRegister rows bs = (row : Row) × (m : Modifiers) × (b : ℕ) × (behind : List ℕ) × StandsAt rows row m bs (b ∷ behind) × NeedsRegister row.form × (register_of b ≡ None)
+LacksRegister rows bs = (row : Row) × (m : Modifiers) × (b : ℕ) × (more : List ℕ) × BeginsWithRow rows row m bs (b ∷ more) × NeedsRegister row.form × (register_of b ≡ None)
 
 -- the bytes fit a spelling up to its test, and the next one names none
 abbrev pub LacksTest : List Row → List ℕ → Type 0
-LacksTest rows bs = (row : Row) × (m : Modifiers) × (b : ℕ) × (behind : List ℕ) × StandsAt rows row m bs (b ∷ behind) × (row.form ≡ form.Test) × (test_of b ≡ None)
+LacksTest rows bs = (row : Row) × (m : Modifiers) × (b : ℕ) × (more : List ℕ) × BeginsWithRow rows row m bs (b ∷ more) × (row.form ≡ form.Test) × (test_of b ≡ None)
 
 -- The laws of spelling, of bytes that begin with no filler. What is read is spelled so.
 abbrev pub IsSpelled : List Row → Type 0
-IsSpelled rows = (bs rest : List ℕ) (t : Order) → token_from rows bs ≡ Ok (t, rest) → (front : List ℕ) × Spells rows t front × (bs ≡ front ++ rest)
+IsSpelled rows = (bs rest : List ℕ) (t : TokenMeaning) → token_from rows bs ≡ Ok (t, rest) → (front : List ℕ) × Spells rows t front × (bs ≡ front ++ rest)
 
--- something was read, and no more than this is left behind it
+-- something was read, and no more than this is left after it
 abbrev pub LeavesAtMost : {A : Type 0} → List ℕ → Result (A × List ℕ) Code → Type 0
 LeavesAtMost rest (Ok x) = length x.1 ≤ length rest
 LeavesAtMost rest (Err e) = ⊥
 
--- Of the tokens that the bytes begin with none is longer than the one that is read, but where a refused name stands.
+-- Of the tokens that the bytes begin with none is longer than the one that is read, but where a refused name is.
 abbrev pub IsLongest : List Row → Type 0
-IsLongest rows = (front rest : List ℕ) (t : Order) → Spells rows t front → LeavesAtMost rest (token_from rows (front ++ rest)) ⊎ IsRefused rows (front ++ rest)
+IsLongest rows = (front rest : List ℕ) (t : TokenMeaning) → Spells rows t front → LeavesAtMost rest (token_from rows (front ++ rest)) ⊎ IsRefused rows (front ++ rest)
 
--- UTC is read exactly where the bytes are a front of a spelling, and no token stands there.
+-- UTC is read exactly where the bytes are a front of a spelling, and no token begins there.
 abbrev pub IsCutExactly : List Row → Type 0
 IsCutExactly rows = (bs : List ℕ) → 0 < length bs → (token_from rows bs ≡ Err Utc) ↔ (IsFront rows bs × (¬ BeginsWithToken rows bs))
 
@@ -128,7 +128,7 @@ pub record IsNothing (rows : List Row) (bs : List ℕ) : Type 0 where
   pub no_register : ¬ LacksRegister rows bs
   pub no_test : ¬ LacksTest rows bs
 
--- ILL exactly where a refused name stands, or nothing of all this is so.
+-- ILL exactly where a refused name is, or nothing of all this is so.
 abbrev pub IsIllExactly : List Row → Type 0
 IsIllExactly rows = (bs : List ℕ) → 0 < length bs → (token_from rows bs ≡ Err Ill) ↔ (IsRefused rows bs ⊎ IsNothing rows bs)
 
@@ -140,6 +140,6 @@ abbrev pub BeginsNoFiller : List ℕ → Type 0
 BeginsNoFiller [] = Unit {0}
 BeginsNoFiller (b ∷ bs) = is_filler b ≡ false
 
--- What is found is what stands behind the fillers.
+-- What is found is what is after the fillers.
 abbrev pub PassesFillers : Type 0
 PassesFillers = (fillers bs : List ℕ) → AllByRecursion (λ b. is_filler b ≡ true) fillers → BeginsNoFiller bs → scan (fillers ++ bs) ≡ scan_here bs

@@ -9,20 +9,20 @@ use Rattle.teco_scan.specs.declared.command.RegisterCommand.TheVariants.{Number,
 use Rattle.teco_scan.specs.declared.command.TextCommand.TheVariants as texts
 use Rattle.teco_scan.specs.declared.command.BlockMark.TheVariants.{Iterate, EndIteration}
 use Rattle.teco_scan.specs.declared.command.Test.TheVariants as tests
-use Rattle.teco_scan.specs.Scan.{digits, bare, register, text, set_text, Instruction, step, mark, decide, tag, escape, Order, found, fault, no_modifiers, scan}
+use Rattle.teco_scan.specs.Scan.{digits, bare, register, text, set_text, Instruction, step, mark, decide, tag, escape, TokenMeaning, found, fault, no_modifiers, scan}
 
-abbrev pub plain : Instruction → Order
+abbrev pub plain : Instruction → TokenMeaning
 plain i = record { modifiers = no_modifiers; instruction = i }
 
 -- after one @, and after one colon
-abbrev pub at_sign : Instruction → Order
+abbrev pub at_sign : Instruction → TokenMeaning
 at_sign i = record { modifiers = record { at = true; colons = 0 }; instruction = i }
 
-abbrev pub colon : Instruction → Order
+abbrev pub colon : Instruction → TokenMeaning
 colon i = record { modifiers = record { at = false; colons = 1 }; instruction = i }
 
 -- The bytes are this token, and nothing is left of them.
-abbrev pub IsToken : List ℕ → Order → Type 0
+abbrev pub IsToken : List ℕ → TokenMeaning → Type 0
 IsToken bs order = scan bs ≡ found order []
 
 -- `$` in a comment is ESC, the byte 27

@@ -84,7 +84,7 @@ fn end_of_block(kind: Kind, mark: BlockMark, to: usize) -> Result<Stop, Code>
     }
 }
 
-/// The place behind a token and, where it opens a block, behind the whole of that.
+/// The place after a token and, where it opens a block, after the whole of that.
 #[cycle(skip)]
 fn skip_node(text: &[u8], token: Token, depth: usize) -> Result<usize, Code>
     requires inside { token.span.to ≤ length text.now }
@@ -134,7 +134,7 @@ pub fn skip_block(text: &[u8], at: usize, kind: Kind, depth: usize) -> Result<St
     }
 }
 
-/// From a place directly in a block, to the place behind the whole of it: behind the end of a conditional's second part, if it
+/// From a place directly in a block, to the place after the whole of it: after the end of a conditional's second part, if it
 /// has one.
 ///
 /// Places count the bytes before them; the depth counts the open blocks, this one too. The faults are those of `skip_block`. It
@@ -156,9 +156,9 @@ pub fn skip_whole_block(text: &[u8], at: usize, kind: Kind, depth: usize) -> Res
     Ok(stop.to)
 }
 
-/// The place behind the first tag of this name that stands directly in the block which goes on from a place.
+/// The place after the first tag of this name that is directly in the block which goes on from a place.
 ///
-/// Places count the bytes before them; the depth counts the open blocks, so that 0 stands for the text itself. There is none
+/// Places count the bytes before them; the depth counts the open blocks, so that 0 is the text itself. There is none
 /// where the block ends, is divided or has a fault before such a tag. It takes no memory.
 pub fn find_tag(text: &[u8], block_start: usize, depth: usize, name: &[u8]) -> Option<usize>
     requires inside { block_start ≤ length text.now }

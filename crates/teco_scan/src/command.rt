@@ -179,7 +179,7 @@ pub enum Form {
     Byte,
     /// The letter of a test.
     Test,
-    /// A text, up to this byte unless `@` stands before.
+    /// A text, up to this byte unless `@` comes before.
     Text(TextCommand, u8),
     /// The name of a tag, up to `!`.
     Tag,
@@ -201,7 +201,7 @@ pub enum Name {
     Control(u8),
 }
 
-/// What stands before a command, or the most that may: whether `@`, and how many colons.
+/// What comes before a command, or the most that may: whether `@`, and how many colons.
 #[derive(Clone, Copy, Debug, PartialEq, Eq)]
 pub struct Modifiers {
     pub at: bool,

@@ -133,7 +133,7 @@ fn is_refused(form: Form) -> bool
     form == Form::Refused
 }
 
-/// The first row that admits the modifiers and whose name stands here, and the place after it.
+/// The first row that admits the modifiers and whose name is here, and the place after it.
 #[tactic(auto, unfolding(crate::specs::Scan::row_at))]
 fn row_at(rows: &[Row], modifiers: Modifiers, text: &[u8], at: usize) -> Option<(Row, usize)>
     ensures read { GivesSome (λ x. (x.0, drop x.1 text.now)) result (row_at rows.now modifiers (drop at text.now)) }

@@ -39,7 +39,7 @@ fn filler_end(text: &[u8], at: usize) -> usize
     to
 }
 
-/// The place after the digits, of which the first stands here.
+/// The place after the digits, of which the first is here.
 #[tactic(auto, using(crate::proofs::Places::front, crate::proofs::Places::no_front), unfolding(crate::specs::Scan::after_run, crate::specs::Scan::run_of))]
 fn digits_end(text: &[u8], at: usize) -> usize
     requires inside { at < length text.now }
@@ -78,7 +78,7 @@ fn token_from(text: &[u8], at: usize) -> Result<(Modifiers, TokenKind, usize), C
     Ok((modifiers, kind, at))
 }
 
-/// What stands at a place, after fillers: a token, the end of the text, or a fault.
+/// What is at a place, after fillers: a token, the end of the text, or a fault.
 ///
 /// The place counts the bytes before it. Of the tokens that the bytes begin with the longest is found. It takes no memory.
 #[tactic(auto, unfolding(crate::specs::Scan::scan))]
@@ -104,8 +104,8 @@ pub fn token_at(text: &[u8], at: usize) -> Found
 /// The laws of spelling, as its clauses.
 ///
 /// The token that is read is spelled by the bytes before the rest, and no token that they begin with is longer, but where a
-/// refused name stands. The fault is UTC exactly where no token stands and the bytes are a front of a spelling, IQN and IQC
-/// exactly where they fit a spelling up to its register or test, and ILL exactly where a refused name stands, or nothing
+/// refused name is. The fault is UTC exactly where no token begins and the bytes are a front of a spelling, IQN and IQC
+/// exactly where they fit a spelling up to its register or test, and ILL exactly where a refused name is, or nothing
 /// of all this is so; no other fault is read. Fillers are passed. The clauses of [`token_at`] leave one answer. The table says
 /// what commands there are, and here is how some of them are written.
 pub fn spelling()

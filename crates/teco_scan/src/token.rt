@@ -1,4 +1,4 @@
-//! Tokens, with their places in the text. A place stands before, between or after bytes, and counts the bytes before it.
+//! Tokens, with their places in the text. A place is before, between or after bytes, and counts the bytes before it.
 use crate::command::{Bare, BlockMark, Modifiers, RegisterCommand, Test, TextCommand};
 use teco_core::{Code, Reg};
 
@@ -45,7 +45,7 @@ pub struct Token {
     pub kind: TokenKind,
 }
 
-/// What stands at a place, after fillers.
+/// What is at a place, after fillers.
 #[derive(Clone, Copy, Debug, PartialEq, Eq)]
 pub enum Found {
     Token(Token),

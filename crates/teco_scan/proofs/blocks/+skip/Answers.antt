@@ -1,7 +1,7 @@
 use Rattle.std.proofs.Common.{◌≡◌, ℕ, ◌+◌, suc, List, Some, ◌∷◌, drop, sym, ap, ◌∙◌, arith}
 use Rattle.std.proofs.lemmas.Result.{err_from_is_err_and}
-use Rattle.teco_scan.specs.Seen.{order_in, instruction_in}
-use Rattle.teco_scan.proofs.Textual.{scan_fault}
+use Rattle.teco_scan.specs.Seen.{meaning_in, instruction_in}
+use Rattle.teco_scan.proofs.ScanFaults.{scan_fault}
 use Rattle.teco_scan.proofs.LastBytes.{mark_byte}
 use Rattle.teco_scan.specs.declared.blocks.Kind.{Kind}
 use Rattle.teco_scan.specs.declared.token.Token.{Token}
@@ -14,9 +14,9 @@ use Rattle.teco_scan.proofs.blocks.+skip.Goals as goal
 at_close : (text : List ℕ) (next : ℕ) (kind : Kind) (depth : ℕ) (s : Scanned) → s ≡ scan (drop next text) → (list_at (Some kind) depth (drop next text)).1 ≡ (at_scan list_at s (Some kind) depth).1
 at_close text next kind depth s is = ap (λ (l : Listed). l.1) (list_found (Some kind) depth (drop next text) s is)
 
-at_node : (text : List ℕ) (next : ℕ) (kind : Kind) (depth : ℕ) (t : Token) → found (order_in text t) (drop t.span.to text) ≡ scan (drop next text)
+at_node : (text : List ℕ) (next : ℕ) (kind : Kind) (depth : ℕ) (t : Token) → found (meaning_in text t) (drop t.span.to text) ≡ scan (drop next text)
     → (list_at (Some kind) depth (drop next text)).1 ≡ (at_instruction list_at (instruction_in text t.kind) t.modifiers (drop t.span.to text) (Some kind) depth).1
-at_node text next kind depth t is = at_close text next kind depth (found (order_in text t) (drop t.span.to text)) is
+at_node text next kind depth t is = at_close text next kind depth (found (meaning_in text t) (drop t.span.to text)) is
 
 pub skip_block-returns-in-End-clause-closes : goal.skip_block-returns-in-End-clause-closes
 skip_block-returns-in-End-clause-closes t c = sym (at_close c.args.text.now c.loop-code.next c.args.kind c.args.depth ended c.in-End.ensures.read) ∙ c.loop-code.invariant.closes
@@ -64,7 +64,7 @@ skip_block-returns-in-Some-clause-ends t c =
     let place = c.in-Token.ensures.place in
     let is = closing_is (instruction_in c.args.text.now token.kind) c.in-Some.mark (c.in-Some.ensures c.args.text.now) in
     c.end_of_block.ensures.ends c.args.text.now
-    (mark_byte c.args.text.now c.loop-code.next token.span.from token.span.to (order_in c.args.text.now token) c.in-Some.mark c.in-Token.ensures.read is.0 place.begins place.long place.inside)
+    (mark_byte c.args.text.now c.loop-code.next token.span.from token.span.to (meaning_in c.args.text.now token) c.in-Some.mark c.in-Token.ensures.read is.0 place.begins place.long place.inside)
 
 pub skip_block-loop-code-preserved : goal.skip_block-loop-code-preserved
 skip_block-loop-code-preserved t c = record {

@@ -1,9 +1,9 @@
-use Rattle.teco_scan.proofs.ListSteps.{list_step, list_short}
-use Rattle.teco_scan.proofs.TagSteps.{tag_step}
-use Rattle.teco_scan.proofs.TagLeads.{tag_leads}
+use Rattle.teco_scan.proofs.ListUnrolls.{list_step, list_short}
+use Rattle.teco_scan.proofs.SearchUnrolls.{tag_step}
+use Rattle.teco_scan.proofs.SearchFinds.{tag_leads}
 use Rattle.teco_scan.proofs.ListFaults.{list_fault}
 use Rattle.teco_scan.proofs.TokenShortens.{scan_short}
-use Rattle.teco_scan.proofs.Textual.{scan_fault}
+use Rattle.teco_scan.proofs.ScanFaults.{scan_fault}
 use Rattle.teco_scan.proofs.blocks.block_laws.Goals as goal
 
 pub returns : goal.returns

@@ -1,6 +1,6 @@
 use Rattle.std.proofs.Common.{◌≡◌, ℕ, List, drop, Option, Some, None, true, is_some, sym, ap, ◌∙◌, arith}
 use Rattle.teco_scan.specs.declared.command.BlockMark.{BlockMark}
-use Rattle.teco_scan.specs.Seen.{order_in, instruction_in}
+use Rattle.teco_scan.specs.Seen.{meaning_in, instruction_in}
 use Rattle.teco_scan.proofs.LastBytes.{tag_byte}
 use Rattle.teco_scan.specs.declared.token.Token.{Token}
 use Rattle.teco_scan.specs.Scan.{ended, fault, found, scan}
@@ -13,9 +13,9 @@ some_mark None is = absurd cc
 some_mark (Some b) is = (b, λ i. Some b)
 
 -- where the tag is, by the token at this place
-at_node : (name : List ℕ) (depth : ℕ) (text : List ℕ) (next : ℕ) (t : Token) → found (order_in text t) (drop t.span.to text) ≡ scan (drop next text)
+at_node : (name : List ℕ) (depth : ℕ) (text : List ℕ) (next : ℕ) (t : Token) → found (meaning_in text t) (drop t.span.to text) ≡ scan (drop next text)
     → tag_at name depth (drop next text) ≡ tag_at_instruction name (tag_at name) (instruction_in text t.kind) (drop t.span.to text) depth
-at_node name depth text next t is = tag_found name depth (drop next text) (found (order_in text t) (drop t.span.to text)) is
+at_node name depth text next t is = tag_found name depth (drop next text) (found (meaning_in text t) (drop t.span.to text)) is
 
 pub returns-in-End-clause-finds : goal.returns-in-End-clause-finds
 returns-in-End-clause-finds c = sym (tag_found c.args.name.now c.args.depth (drop c.loop-token.next c.args.text.now) ended c.in-End.ensures.read) ∙ c.loop-token.invariant.finds
@@ -48,7 +48,7 @@ pub returns-then-is_tag-clause-ends : goal.returns-then-is_tag-clause-ends
 returns-then-is_tag-clause-ends c =
     let token = c.in-Token.token in
     let place = c.in-Token.ensures.place in
-    tag_byte c.args.text.now c.loop-token.next token.span.from token.span.to (order_in c.args.text.now token) c.args.name.now c.in-Token.ensures.read (sym c.is_tag.ensures ∙ c.if-is_tag.true) place.begins place.long place.inside
+    tag_byte c.args.text.now c.loop-token.next token.span.from token.span.to (meaning_in c.args.text.now token) c.args.name.now c.in-Token.ensures.read (sym c.is_tag.ensures ∙ c.if-is_tag.true) place.begins place.long place.inside
 
 pub loop-token-preserved : goal.loop-token-preserved
 loop-token-preserved c = record {

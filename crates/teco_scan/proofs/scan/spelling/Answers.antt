@@ -1,10 +1,10 @@
 use Rattle.std.proofs.Common.{◌≡◌, true, refl}
 use Rattle.teco_scan.specs.declared.table.TheConstants.{ROWS}
 use Rattle.teco_scan.specs.Table.{is_table}
-use Rattle.teco_scan.proofs.Sound.{spelled}
-use Rattle.teco_scan.proofs.Longest.{longest}
+use Rattle.teco_scan.proofs.IsSpelled.{spelled}
+use Rattle.teco_scan.proofs.IsLongest.{longest}
 use Rattle.teco_scan.proofs.Faults.{four, register_exactly, test_exactly}
-use Rattle.teco_scan.proofs.Exactly.{cut_exactly, ill_exactly, passes_fillers}
+use Rattle.teco_scan.proofs.CutAndIll.{cut_exactly, ill_exactly, passes_fillers}
 use Rattle.teco_scan.proofs.Determined.{determined}
 use Rattle.teco_scan.proofs.Written.{written}
 use Rattle.teco_scan.proofs.scan.spelling.Goals as goal

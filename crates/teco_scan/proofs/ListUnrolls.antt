@@ -8,7 +8,7 @@ use Rattle.teco_scan.specs.declared.command.BlockMark.{BlockMark}
 use Rattle.teco_scan.specs.declared.command.BlockMark.TheVariants.{Iterate, EndIteration, Otherwise, EndTest}
 use Rattle.teco_scan.specs.declared.blocks.Kind.{Kind}
 use Rattle.teco_scan.specs.declared.blocks.Kind.TheVariants.{Iter, Then, Else}
-use Rattle.teco_scan.specs.Scan.{Instruction, Order, Scanned, found, ended, fault, scan}
+use Rattle.teco_scan.specs.Scan.{Instruction, TokenMeaning, Scanned, found, ended, fault, scan}
 use Rattle.teco_scan.specs.Scan as token
 use Rattle.teco_scan.specs.Tree.{item, iter, cond, tag, escape}
 use Rattle.teco_scan.specs.Lists.{Close, closed, broken, Past, past, Listed, Lister, wrong, behind, put, second, iter_at, cond_at, opened, at_mark, at_instruction, at_scan, list_within, list_at}
@@ -71,7 +71,7 @@ module _ (go : Lister) (h : Shrinks go) where
   instruction_short (token.tag name) m bs k d n lt = within_more (length bs) n (go k d bs).1 (omega arith) (h k d bs)
   instruction_short token.escape m bs k d n lt = within_more (length bs) n (go k d bs).1 (omega arith) (h k d bs)
 
-  scan_within : (s : Scanned) (k : Option Kind) (d n : ℕ) → ((t : Order) (more : List ℕ) → s ≡ found t more → length more < n) → Within n (at_scan go s k d).1
+  scan_within : (s : Scanned) (k : Option Kind) (d n : ℕ) → ((t : TokenMeaning) (more : List ℕ) → s ≡ found t more → length more < n) → Within n (at_scan go s k d).1
   scan_within ended None d n lt = tt
   scan_within ended (Some k) d n lt = tt
   scan_within (fault c) k d n lt = tt
@@ -126,7 +126,7 @@ module _ (n : ℕ) (go went : Lister) (h : Shrinks go) (same : Agree n go went) 
   instruction_same (token.tag name) m bs k d lt = ap (put (tag name)) (same k d bs lt)
   instruction_same token.escape m bs k d lt = ap (put escape) (same k d bs lt)
 
-  scanned_same : (s : Scanned) (k : Option Kind) (d : ℕ) → ((t : Order) (more : List ℕ) → s ≡ found t more → length more < n) → at_scan go s k d ≡ at_scan went s k d
+  scanned_same : (s : Scanned) (k : Option Kind) (d : ℕ) → ((t : TokenMeaning) (more : List ℕ) → s ≡ found t more → length more < n) → at_scan go s k d ≡ at_scan went s k d
   scanned_same ended None d lt = refl
   scanned_same ended (Some k) d lt = refl
   scanned_same (fault c) k d lt = refl

@@ -13,10 +13,10 @@ use Rattle.teco_scan.specs.declared.command.Name.{Name}
 use Rattle.teco_scan.specs.declared.command.Form.{Form}
 use Rattle.teco_scan.specs.declared.command.Form.TheVariants as form
 use Rattle.teco_scan.specs.Table.{is_upper, is_first_letter, is_name, meets, is_alone, has_more_letters, is_longer, is_apart, is_table}
-use Rattle.teco_scan.specs.Scan.{Reading, Instruction, Order, is_refused, admits, after_name, row_at, at_row, of_row, command_at, operand_at, modifiers_at, begins_run, after_run, token_from, no_modifiers}
-use Rattle.teco_scan.specs.Spelling.{Marks, no_mark, at_mark, colon_mark, SpellsName, one_spelled, two_spelled, three_spelled, control_spelled, caret_spelled, SpellsOperand, bare_spelled, mark_spelled, escape_spelled, register_spelled, byte_spelled, test_spelled, text_spelled, tag_spelled, set_text_spelled, replace_spelled, Among, StandsAt, run_spelled, command_spelled, IsRefused, LeavesAtMost, IsLongest}
-use Rattle.teco_scan.proofs.Sound.{TakesSome, name_takes, TakesRow, row_takes}
-use Rattle.teco_scan.proofs.Again.{both, each, IsName, NoMark, marks_again, operand_again, name_again, meet, more_bytes, one_of, named_well}
+use Rattle.teco_scan.specs.Scan.{Reading, Instruction, TokenMeaning, is_refused, admits, after_name, row_at, at_row, of_row, command_at, operand_at, modifiers_at, begins_run, after_run, token_from, no_modifiers}
+use Rattle.teco_scan.specs.Spelling.{Marks, no_mark, at_mark, colon_mark, SpellsName, one_spelled, two_spelled, three_spelled, control_spelled, caret_spelled, SpellsOperand, bare_spelled, mark_spelled, escape_spelled, register_spelled, byte_spelled, test_spelled, text_spelled, tag_spelled, set_text_spelled, replace_spelled, Among, BeginsWithRow, run_spelled, command_spelled, IsRefused, LeavesAtMost, IsLongest}
+use Rattle.teco_scan.proofs.IsSpelled.{TakesSome, name_takes, TakesRow, row_takes}
+use Rattle.teco_scan.proofs.SpelledReads.{both, each, IsName, NoMark, marks_again, operand_again, name_again, meet, more_bytes, one_of, named_well}
 
 same_small : (b : ℕ) → b < 97 → upper b ≡ b
 same_small b h = grind arith
@@ -59,15 +59,15 @@ marks_start (at_mark e more) bs h = refl
 marks_start (colon_mark e more) bs h = refl
 
 -- the token of a command and its modifiers
-abbrev pub finished : Modifiers → Instruction × List ℕ → Reading Order
+abbrev pub finished : Modifiers → Instruction × List ℕ → Reading TokenMeaning
 finished m i = Ok (record { modifiers = m; instruction = i.0 }, i.1)
 
--- behind its modifiers the command is read
+-- after its modifiers the command is read
 pub read_behind : (rows : List Row) {m : Modifiers} {marks : List ℕ} → Marks no_modifiers marks m → (bs : List ℕ) → NoMark bs → begins_run bs ≡ false → token_from rows (marks ++ bs) ≡ (command_at rows m bs >>= finished m)
 unfolding token_from
 read_behind rows marked bs free no_run = rw (marks_start marked bs no_run, marks_again marked bs free)
 
--- a row that admits the modifiers and whose name stands there is found, or a longer one
+-- a row that admits the modifiers and whose name is there is found, or a longer one
 row_again : (rows : List Row) (r : Row) (m : Modifiers) (bs rest : List ℕ) → list_all (λ r. is_name r.name) rows ≡ true → is_apart rows ≡ true → Among r rows → admits r m ≡ true → SpellsName r.name bs →
     (x : Row × List ℕ) × (row_at rows m (bs ++ rest) ≡ Some x) × ((x.0 ≡ r) ⊎ (is_longer x.0 r ≡ true))
 unfolding row_at
@@ -105,14 +105,14 @@ longer_is s r e =
     let o = both (has_more_letters s.name r.name) (is_alone s.form) q.0 in
     record { letters = o.0; alone = o.1; other_alone = q.1; refused = p.1 }
 
--- the row that was looked for and what is behind its name, or a longer one and less
+-- the row that was looked for and what is after its name, or a longer one and less
 abbrev pub Reached : Row → List ℕ → Row × List ℕ → Type 0
 Reached r rest x = ((x.0 ≡ r) × (x.1 ≡ rest)) ⊎ (IsLongerThan x.0 r × (length x.1 < length rest))
 
--- where a command of the rows stands, it or a longer one is found
+-- where a command of the rows is, it or a longer one is found
 pub record Finds (rows : List Row) (row : Row) (m : Modifiers) (bs behind : List ℕ) : Type 0 where
   pub at : Row × List ℕ
-  pub stands : StandsAt rows at.0 m bs at.1
+  pub stands : BeginsWithRow rows at.0 m bs at.1
   pub command : List ℕ
   pub marks_read : modifiers_at no_modifiers bs ≡ Ok (m, command)
   pub row_found : row_at rows m command ≡ Some at
@@ -122,7 +122,7 @@ pub record Finds (rows : List Row) (row : Row) (m : Modifiers) (bs behind : List
 some_same : {A : Type 0} (a b : A) → Some a ≡ Some b → a ≡ b
 some_same a b e = cc
 
-pub finds : (rows : List Row) → is_table rows ≡ true → {row : Row} {m : Modifiers} {bs behind : List ℕ} → StandsAt rows row m bs behind → Finds rows row m bs behind
+pub finds : (rows : List Row) → is_table rows ≡ true → {row : Row} {m : Modifiers} {bs behind : List ℕ} → BeginsWithRow rows row m bs behind → Finds rows row m bs behind
 unfolding command_at
 finds rows table {row = row} {m = m} {bs = bs} {behind = behind} stands =
     let ok = both (list_all (λ r. is_name r.name) rows) (is_apart rows) table in
@@ -178,8 +178,8 @@ alone_read form.SetText m bs e = absurd cc
 alone_read form.Replace m bs e = absurd cc
 alone_read form.Refused m bs e = inr refl
 
--- more bytes behind
-pub stands_more : {rows : List Row} {row : Row} {m : Modifiers} {bs behind : List ℕ} → StandsAt rows row m bs behind → (rest : List ℕ) → StandsAt rows row m (bs ++ rest) (behind ++ rest)
+-- more bytes after
+pub stands_more : {rows : List Row} {row : Row} {m : Modifiers} {bs behind : List ℕ} → BeginsWithRow rows row m bs behind → (rest : List ℕ) → BeginsWithRow rows row m (bs ++ rest) (behind ++ rest)
 stands_more {behind = behind} s rest = record {
   among = s.among;
   admitted = s.admitted;
@@ -212,7 +212,7 @@ longest rows table front rest _ (command_spelled {m = m} {i = i} row operand sta
     by : Finds rows row m (front ++ rest) (operand ++ rest) → LeavesAtMost rest (token_from rows (front ++ rest)) ⊎ IsRefused rows (front ++ rest)
     by found = reached found.at found.stands found.reads found.reached
       where
-        reached : (x : Row × List ℕ) → StandsAt rows x.0 m (front ++ rest) x.1 → token_from rows (front ++ rest) ≡ (operand_at x.0.form m x.1 >>= finished m) → Reached row (operand ++ rest) x → LeavesAtMost rest (token_from rows (front ++ rest)) ⊎ IsRefused rows (front ++ rest)
+        reached : (x : Row × List ℕ) → BeginsWithRow rows x.0 m (front ++ rest) x.1 → token_from rows (front ++ rest) ≡ (operand_at x.0.form m x.1 >>= finished m) → Reached row (operand ++ rest) x → LeavesAtMost rest (token_from rows (front ++ rest)) ⊎ IsRefused rows (front ++ rest)
         reached x there reads (inl same) =
             let again : operand_at x.0.form m x.1 ≡ Ok (i, rest) = subst (λ (w : Row). operand_at w.form m x.1 ≡ Ok (i, rest)) (sym same.0) (ap (operand_at row.form m) same.1 ∙ operand_again is rest) in
             inl (subst (LeavesAtMost rest) (sym (reads ∙ ap (λ r. r >>= finished m) again)) (omega arith))
@@ -226,7 +226,7 @@ refused_too : (v w : Bool) → (v || not w) ≡ true → w ≡ true → v ≡ tr
 refused_too true w e is = refl
 refused_too false w e is = absurd cc
 
--- where a refused name stands a refused row is found
+-- where a refused name is a refused row is found
 pub refused_found : {row : Row} {rest : List ℕ} (x : Row × List ℕ) → Reached row rest x → is_refused row.form ≡ true → is_refused x.0.form ≡ true
 refused_found x (inl same) e = ap (λ (w : Row). is_refused w.form) same.0 ∙ e
 refused_found {row = row} x (inr longer) e = refused_too (is_refused x.0.form) (is_refused row.form) longer.0.refused e

@@ -7,13 +7,13 @@ use Rattle.teco_scan.specs.declared.command.BlockMark.{BlockMark}
 use Rattle.teco_scan.specs.declared.command.BlockMark.TheVariants.{Iterate, EndIteration, Otherwise, EndTest}
 use Rattle.teco_scan.specs.declared.blocks.Kind.{Kind}
 use Rattle.teco_scan.specs.declared.blocks.Kind.TheVariants.{Iter, Then, Else}
-use Rattle.teco_scan.specs.Scan.{Instruction, Order, Scanned, found, ended, fault, scan}
+use Rattle.teco_scan.specs.Scan.{Instruction, TokenMeaning, Scanned, found, ended, fault, scan}
 use Rattle.teco_scan.specs.Scan as token
 use Rattle.teco_scan.specs.Tree.{Nodes, after_tag}
 use Rattle.teco_scan.specs.Tree as node
 use Rattle.teco_scan.specs.Lists.{Close, closed, broken, put, past, Listed, Finder, wrong, behind, second, at_mark, at_instruction, at_scan, list_at, tag_behind, tag_at_instruction, tag_at_scan, tag_within, tag_at}
 use Rattle.teco_scan.specs.ListLaws.{Within, Finds}
-use Rattle.teco_scan.proofs.ListSteps.{list_step, list_short, within_more, second_short}
+use Rattle.teco_scan.proofs.ListUnrolls.{list_step, list_short, within_more, second_short}
 use Rattle.teco_scan.proofs.TokenShortens.{scan_short}
 
 module _ (name : List ℕ) (go : Finder) (n : ℕ) (h : (k : Option Kind) (d : ℕ) (bs : List ℕ) → length bs < n → Finds name k d (list_at k d bs) (go d bs)) (k : Option Kind) (d : ℕ) where
@@ -61,7 +61,7 @@ module _ (name : List ℕ) (go : Finder) (n : ℕ) (h : (k : Option Kind) (d : �
       ends (Some Then) = refl
       ends (Some Else) = refl
 
-  scanned_finds : (s : Scanned) → ((t : Order) (more : List ℕ) → s ≡ found t more → length more < n) → Finds name k d (at_scan list_at s k d) (tag_at_scan name go s d)
+  scanned_finds : (s : Scanned) → ((t : TokenMeaning) (more : List ℕ) → s ≡ found t more → length more < n) → Finds name k d (at_scan list_at s k d) (tag_at_scan name go s d)
   scanned_finds ended lt = ends k
     where
       ends : (k : Option Kind) → after_tag name (at_scan list_at ended k d).0 ≡ None

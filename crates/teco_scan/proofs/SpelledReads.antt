@@ -11,7 +11,7 @@ use Rattle.teco_scan.specs.declared.command.Name.TheVariants.{One, Two, Three, C
 use Rattle.teco_scan.specs.declared.command.Form.{Form}
 use Rattle.teco_scan.specs.Scan.{Instruction, test_of, byte_at, register_at, test_at, delimiter_at, text_at, operand_at, modifiers_at, after_letter, after_name}
 use Rattle.teco_scan.specs.Table.{is_name, lower, first_bytes, begins_with, meets, has_more_letters, is_longer, is_apart, is_table}
-use Rattle.teco_scan.specs.Spelling.{Marks, no_mark, at_mark, colon_mark, SpellsName, one_spelled, two_spelled, three_spelled, control_spelled, caret_spelled, Delimits, Ends, SpellsOperand, bare_spelled, mark_spelled, escape_spelled, register_spelled, byte_spelled, test_spelled, text_spelled, tag_spelled, set_text_spelled, replace_spelled, Among}
+use Rattle.teco_scan.specs.Spelling.{Marks, no_mark, at_mark, colon_mark, SpellsName, one_spelled, two_spelled, three_spelled, control_spelled, caret_spelled, Delimits, TextUpTo, SpellsOperand, bare_spelled, mark_spelled, escape_spelled, register_spelled, byte_spelled, test_spelled, text_spelled, tag_spelled, set_text_spelled, replace_spelled, Among}
 
 free_text : (d : ℕ) (t rest : List ℕ) → AllByRecursion (λ b. b ≢ d) t → text_at d (t ++ (d ∷ rest)) ≡ Ok (t, rest)
 unfolding text_at
@@ -21,7 +21,7 @@ free_text d (b ∷ t) rest free =
     let later : text_at d (t ++ (d ∷ rest)) ≡ Ok (t, rest) = free_text d t rest free.1 in
     rw (other, later)
 
-text_again : (d : ℕ) (t bs rest : List ℕ) → Ends d t bs → text_at d (bs ++ rest) ≡ Ok (t, rest)
+text_again : (d : ℕ) (t bs rest : List ℕ) → TextUpTo d t bs → text_at d (bs ++ rest) ≡ Ok (t, rest)
 text_again d t bs rest h = ap (λ w. text_at d (w ++ rest)) h.1 ∙ ap (text_at d) (append_assoc t (d ∷ []) rest) ∙ free_text d t rest h.0
 
 delimiter_again : (a : Bool) (n usual d : ℕ) (bs rest : List ℕ) → Delimits (record { at = a; colons = n }) usual d bs → delimiter_at (record { at = a; colons = n }) usual (bs ++ rest) ≡ Ok (d, rest)

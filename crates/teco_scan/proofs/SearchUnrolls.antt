@@ -5,10 +5,10 @@ use Rattle.std.specs.Str.{bytes_eq}
 use Rattle.teco_scan.specs.declared.command.BlockMark.TheVariants.{Iterate, EndIteration, Otherwise, EndTest}
 use Rattle.teco_scan.specs.declared.blocks.Kind.{Kind}
 use Rattle.teco_scan.specs.declared.blocks.Kind.TheVariants.{Iter, Then, Else}
-use Rattle.teco_scan.specs.Scan.{Instruction, Order, Scanned, found, ended, fault, scan}
+use Rattle.teco_scan.specs.Scan.{Instruction, TokenMeaning, Scanned, found, ended, fault, scan}
 use Rattle.teco_scan.specs.Scan as token
 use Rattle.teco_scan.specs.Lists.{Past, behind_block, list_at, Finder, tag_behind, tag_opened, tag_at_instruction, tag_at_scan, tag_within, tag_at}
-use Rattle.teco_scan.proofs.ListSteps.{PastWithin, past_within, second_short, list_short}
+use Rattle.teco_scan.proofs.ListUnrolls.{PastWithin, past_within, second_short, list_short}
 use Rattle.teco_scan.proofs.TokenShortens.{scan_short}
 
 pub block_short : (kind : Kind) (d : ℕ) (bs : List ℕ) → PastWithin (length bs) (behind_block list_at kind d (list_at (Some kind) d bs).1)
@@ -34,7 +34,7 @@ module _ (n : ℕ) (name : List ℕ) (go went : Finder) (same : Agree n go went)
   instruction_same (token.tag other) bs d lt = ap (λ o. if bytes_eq other name then Some bs else o) (same d bs lt)
   instruction_same token.escape bs d lt = same d bs lt
 
-  scanned_same : (s : Scanned) (d : ℕ) → ((t : Order) (more : List ℕ) → s ≡ found t more → length more < n) → tag_at_scan name go s d ≡ tag_at_scan name went s d
+  scanned_same : (s : Scanned) (d : ℕ) → ((t : TokenMeaning) (more : List ℕ) → s ≡ found t more → length more < n) → tag_at_scan name go s d ≡ tag_at_scan name went s d
   scanned_same ended d lt = refl
   scanned_same (fault c) d lt = refl
   scanned_same (found t bs) d lt = instruction_same t.instruction bs d (lt t bs refl)

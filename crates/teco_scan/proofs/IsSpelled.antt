@@ -14,8 +14,8 @@ use Rattle.teco_scan.specs.declared.command.Name.TheVariants.{One, Two, Three, C
 use Rattle.teco_scan.specs.declared.command.Form.{Form}
 use Rattle.teco_scan.specs.declared.command.Form.TheVariants as form
 use Rattle.teco_scan.specs.declared.command.Test.{Test}
-use Rattle.teco_scan.specs.Scan.{Reading, or_else, register, byte, text, set_text, replace, Instruction, step, decide, tag, Order, test_of, byte_at, register_at, test_at, delimiter_at, text_at, operand_at, modifiers_at, after_letter, after_name, admits, row_at, at_row, command_at, of_row, is_cut, run_of, after_run, begins_run, token_from, no_modifiers}
-use Rattle.teco_scan.specs.Spelling.{Marks, no_mark, at_mark, colon_mark, SpellsName, one_spelled, two_spelled, three_spelled, control_spelled, caret_spelled, Delimits, Ends, SpellsOperand, bare_spelled, mark_spelled, escape_spelled, register_spelled, byte_spelled, test_spelled, text_spelled, tag_spelled, set_text_spelled, replace_spelled, Among, Spells, run_spelled, command_spelled, IsSpelled}
+use Rattle.teco_scan.specs.Scan.{Reading, or_else, register, byte, text, set_text, replace, Instruction, step, decide, tag, TokenMeaning, test_of, byte_at, register_at, test_at, delimiter_at, text_at, operand_at, modifiers_at, after_letter, after_name, admits, row_at, at_row, command_at, of_row, is_cut, run_of, after_run, begins_run, token_from, no_modifiers}
+use Rattle.teco_scan.specs.Spelling.{Marks, no_mark, at_mark, colon_mark, SpellsName, one_spelled, two_spelled, three_spelled, control_spelled, caret_spelled, Delimits, TextUpTo, SpellsOperand, bare_spelled, mark_spelled, escape_spelled, register_spelled, byte_spelled, test_spelled, text_spelled, tag_spelled, set_text_spelled, replace_spelled, Among, Spells, run_spelled, command_spelled, IsSpelled}
 
 -- what was read, if anything was, is P of a front, and the rest follows it
 abbrev pub Takes : {A : Type 0} → (A → List ℕ → Type 0) → List ℕ → Reading A → Type 0
@@ -82,14 +82,14 @@ delimiter_takes false n usual bs = ([], (refl, refl), refl)
 pub not_eqb : (a b : ℕ) → eqb a b ≡ false → a ≢ b
 not_eqb a b h e = grind arith
 
-pub text_takes : (d : ℕ) (bs : List ℕ) → Takes (λ t front. Ends d t front) bs (text_at d bs)
+pub text_takes : (d : ℕ) (bs : List ℕ) → Takes (λ t front. TextUpTo d t front) bs (text_at d bs)
 unfolding text_at
 text_takes d [] = tt
-text_takes d (b ∷ bs) = either (λ t front. Ends d t front) (b ∷ bs) (eqb b d) _ _
+text_takes d (b ∷ bs) = either (λ t front. TextUpTo d t front) (b ∷ bs) (eqb b d) _ _
     (λ yes. (b ∷ [], (tt, ap (λ w. w ∷ []) (eqb-true b d yes)), refl))
     (λ no. more_text d b bs (text_at d bs) (not_eqb b d no) (text_takes d bs))
   where
-    more_text : (d b : ℕ) (bs : List ℕ) (r : Reading (List ℕ)) → b ≢ d → Takes (λ t front. Ends d t front) bs r → Takes (λ t front. Ends d t front) (b ∷ bs) (r >>= (λ t. Ok (b ∷ t.0, t.1)))
+    more_text : (d b : ℕ) (bs : List ℕ) (r : Reading (List ℕ)) → b ≢ d → Takes (λ t front. TextUpTo d t front) bs r → Takes (λ t front. TextUpTo d t front) (b ∷ bs) (r >>= (λ t. Ok (b ∷ t.0, t.1)))
     more_text d b bs (Err e) other t = tt
     more_text d b bs (Ok x) other t = (b ∷ t.0, ((other, t.1.0), ap (λ w. b ∷ w) t.1.1), ap (λ w. b ∷ w) t.2)
 
@@ -105,17 +105,17 @@ operand_takes form.Byte m bs = then IsByte (λ o front. SpellsOperand form.Byte 
 operand_takes form.Test m bs = then IsTest (λ o front. SpellsOperand form.Test m o front) bs (test_at bs) _ (test_takes bs)
     (λ t front is. now (λ o front. SpellsOperand form.Test m o front) (decide t.0) t.1 front (subst (λ w. SpellsOperand form.Test m (decide t.0) w) (sym is.2) (test_spelled is.1)))
 operand_takes (form.Text c usual) m bs = then (λ d front. Delimits m usual d front) (λ o front. SpellsOperand (form.Text c usual) m o front) bs (delimiter_at m usual bs) _ (delimiter_takes m.at m.colons usual bs)
-    (λ d front is. then (λ t front. Ends d.0 t front) (λ o back. SpellsOperand (form.Text c usual) m o (front ++ back)) d.1 (text_at d.0 d.1) _ (text_takes d.0 d.1)
+    (λ d front is. then (λ t front. TextUpTo d.0 t front) (λ o back. SpellsOperand (form.Text c usual) m o (front ++ back)) d.1 (text_at d.0 d.1) _ (text_takes d.0 d.1)
     (λ t back ends. now (λ o back. SpellsOperand (form.Text c usual) m o (front ++ back)) (step (text c t.0)) t.1 back (text_spelled d.0 front back is ends refl)))
-operand_takes form.Tag m bs = then (λ t front. Ends 33 t front) (λ o front. SpellsOperand form.Tag m o front) bs (text_at 33 bs) _ (text_takes 33 bs)
+operand_takes form.Tag m bs = then (λ t front. TextUpTo 33 t front) (λ o front. SpellsOperand form.Tag m o front) bs (text_at 33 bs) _ (text_takes 33 bs)
     (λ t front ends. now (λ o front. SpellsOperand form.Tag m o front) (tag t.0) t.1 front (tag_spelled ends))
 operand_takes form.SetText m bs = then IsRegister (λ o front. SpellsOperand form.SetText m o front) bs (register_at bs) _ (register_takes bs)
     (λ q name named. then (λ d front. Delimits m 27 d front) (λ o front. SpellsOperand form.SetText m o (name ++ front)) q.1 (delimiter_at m 27 q.1) _ (delimiter_takes m.at m.colons 27 q.1)
-    (λ d front is. then (λ t front. Ends d.0 t front) (λ o back. SpellsOperand form.SetText m o (name ++ (front ++ back))) d.1 (text_at d.0 d.1) _ (text_takes d.0 d.1)
+    (λ d front is. then (λ t front. TextUpTo d.0 t front) (λ o back. SpellsOperand form.SetText m o (name ++ (front ++ back))) d.1 (text_at d.0 d.1) _ (text_takes d.0 d.1)
     (λ t back ends. now (λ o back. SpellsOperand form.SetText m o (name ++ (front ++ back))) (step (set_text q.0 t.0)) t.1 back (set_text_spelled named.0 d.0 front back named.1 is ends (ap (λ w. w ++ (front ++ back)) named.2)))))
 operand_takes form.Replace m bs = then (λ d front. Delimits m 27 d front) (λ o front. SpellsOperand form.Replace m o front) bs (delimiter_at m 27 bs) _ (delimiter_takes m.at m.colons 27 bs)
-    (λ d front is. then (λ t front. Ends d.0 t front) (λ o back. SpellsOperand form.Replace m o (front ++ back)) d.1 (text_at d.0 d.1) _ (text_takes d.0 d.1)
-    (λ t old ends. then (λ u front. Ends d.0 u front) (λ o back. SpellsOperand form.Replace m o (front ++ (old ++ back))) t.1 (text_at d.0 t.1) _ (text_takes d.0 t.1)
+    (λ d front is. then (λ t front. TextUpTo d.0 t front) (λ o back. SpellsOperand form.Replace m o (front ++ back)) d.1 (text_at d.0 d.1) _ (text_takes d.0 d.1)
+    (λ t old ends. then (λ u front. TextUpTo d.0 u front) (λ o back. SpellsOperand form.Replace m o (front ++ (old ++ back))) t.1 (text_at d.0 t.1) _ (text_takes d.0 t.1)
     (λ u new ends2. now (λ o back. SpellsOperand form.Replace m o (front ++ (old ++ back))) (step (replace t.0 u.0)) u.1 new (replace_spelled d.0 front old new is ends ends2 refl))))
 operand_takes form.Refused m bs = tt
 
@@ -206,7 +206,7 @@ row_takes (r ∷ rows) m bs = here (admits r m) refl (after_name r.name bs) (nam
     here true e None t others others_take = others_take
     here true e (Some rest) t others others_take = (inl refl, e, t)
 
--- a command of the rows, behind these modifiers
+-- a command of the rows, after these modifiers
 pub record IsCommand (rows : List Row) (m : Modifiers) (o : Instruction) (bs : List ℕ) : Type 0 where
   pub row : Row
   pub among : Among row rows
@@ -217,7 +217,7 @@ pub record IsCommand (rows : List Row) (m : Modifiers) (o : Instruction) (bs : L
   pub spelled : SpellsOperand row.form m o operand
   pub whole : bs ≡ name ++ operand
 
--- behind its modifiers it is a token
+-- after its modifiers it is a token
 pub as_token : {rows : List Row} {m : Modifiers} {o : Instruction} {bs : List ℕ} (marks : List ℕ) → Marks no_modifiers marks m → IsCommand rows m o bs → Spells rows (record { modifiers = m; instruction = o }) (marks ++ bs)
 as_token marks marked c = command_spelled c.row c.operand
     (record { among = c.among; admitted = c.admitted; marks = marks; name = c.name; marked = marked; named = c.named; whole = ap (λ w. marks ++ w) c.whole }) c.spelled
@@ -268,7 +268,7 @@ name_long (control_spelled e) = omega arith
 name_long (caret_spelled e) = omega arith
 
 -- no token is empty
-pub spelled_long : {rows : List Row} {t : Order} {bs : List ℕ} → Spells rows t bs → 0 < length bs
+pub spelled_long : {rows : List Row} {t : TokenMeaning} {bs : List ℕ} → Spells rows t bs → 0 < length bs
 spelled_long (run_spelled long run) = long
 spelled_long {bs = bs} (command_spelled row operand stands is) =
     omega (arith, name_long stands.named, ap length stands.whole, length-append stands.marks (stands.name ++ operand), length-append stands.name operand)

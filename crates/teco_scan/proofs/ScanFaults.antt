@@ -3,11 +3,11 @@ use Rattle.std.proofs.Common.{◌≡◌, ℕ, true, List, [], ◌∷◌, Ok, Err
 use Rattle.teco_core.specs.declared.code.Code.{Code}
 use Rattle.teco_core.specs.declared.code.Code.TheVariants.{Ill, Iqn, Iqc, Utc}
 use Rattle.teco_scan.specs.declared.table.TheConstants.{ROWS}
-use Rattle.teco_scan.specs.Scan.{Reading, Order, fault, scan, scan_here, scanned, after_fillers, token_from}
+use Rattle.teco_scan.specs.Scan.{Reading, TokenMeaning, fault, scan, scan_here, scanned, after_fillers, token_from}
 use Rattle.teco_scan.specs.Tree.{is_fault}
 use Rattle.teco_scan.proofs.Faults.{four}
 
-read_fault : (bs : List ℕ) (c : Code) (r : Reading Order) → token_from ROWS bs ≡ r → scanned r ≡ fault c → token_from ROWS bs ≡ Err c
+read_fault : (bs : List ℕ) (c : Code) (r : Reading TokenMeaning) → token_from ROWS bs ≡ r → scanned r ≡ fault c → token_from ROWS bs ≡ Err c
 read_fault bs c (Ok x) is e = absurd cc
 read_fault bs c (Err d) is e = let same : d ≡ c = cc in is ∙ ap Err same
 

@@ -6,29 +6,29 @@ use Rattle.teco_core.specs.declared.code.Code.TheVariants.{Ill, Iqc, Iqn, Utc}
 use Rattle.teco_scan.specs.declared.command.Row.{Row}
 use Rattle.teco_scan.specs.declared.command.Modifiers.{Modifiers}
 use Rattle.teco_scan.specs.Table.{is_table}
-use Rattle.teco_scan.specs.Scan.{Reading, Order, is_refused, is_filler, modifiers_at, row_at, token_from, no_modifiers, after_fillers, scan_here, scan}
+use Rattle.teco_scan.specs.Scan.{Reading, TokenMeaning, is_refused, is_filler, modifiers_at, row_at, token_from, no_modifiers, after_fillers, scan_here, scan}
 use Rattle.teco_scan.specs.Spelling.{Marks, BeginsWithToken, IsRefused, LeavesAtMost, IsNothing, IsCutExactly, IsIllExactly, BeginsNoFiller, PassesFillers}
-use Rattle.teco_scan.proofs.Sound.{Takes, marks_take, TakesRow, row_takes, spelled}
-use Rattle.teco_scan.proofs.Longest.{Finds, finds, longest, refused_found, refused_form, refused_is_ill}
+use Rattle.teco_scan.proofs.IsSpelled.{Takes, marks_take, TakesRow, row_takes, spelled}
+use Rattle.teco_scan.proofs.IsLongest.{Finds, finds, longest, refused_found, refused_form, refused_is_ill}
 use Rattle.teco_scan.proofs.Faults.{Faults, four, register_exactly, test_exactly}
 use Rattle.teco_scan.proofs.Cut.{cut_is_front}
 use Rattle.teco_scan.proofs.Fronts.{IsCutOnly, front_reads}
 
--- where a fault is read a token stands only behind a refused name
+-- where a fault is read a token is only after a refused name
 fault_refused : (rows : List Row) → is_table rows ≡ true → (bs : List ℕ) (c : Code) → token_from rows bs ≡ Err c → BeginsWithToken rows bs → IsRefused rows bs
 fault_refused rows table bs c e begins = by (subst (λ w. LeavesAtMost begins.2 (token_from rows w) ⊎ IsRefused rows w) (sym begins.4) (longest rows table begins.1 begins.2 begins.0 begins.3))
   where
     by : LeavesAtMost begins.2 (token_from rows bs) ⊎ IsRefused rows bs → IsRefused rows bs
-    by (inl leaves) = let wrong : LeavesAtMost {A = Order} begins.2 (Err c) = subst (LeavesAtMost begins.2) e leaves in absurd wrong
+    by (inl leaves) = let wrong : LeavesAtMost {A = TokenMeaning} begins.2 (Err c) = subst (LeavesAtMost begins.2) e leaves in absurd wrong
     by (inr refused) = refused
 
-same_fault : (r : Reading Order) (c d : Code) → r ≡ Err c → r ≡ Err d → c ≡ d
+same_fault : (r : Reading TokenMeaning) (c d : Code) → r ≡ Err c → r ≡ Err d → c ≡ d
 same_fault r c d e f = cc
 
-abbrev IsIll : Reading Order → Type 0
+abbrev IsIll : Reading TokenMeaning → Type 0
 IsIll r = r ≡ Err Ill
 
-read_begins : (rows : List Row) (bs : List ℕ) (x : Order × List ℕ) → token_from rows bs ≡ Ok x → BeginsWithToken rows bs
+read_begins : (rows : List Row) (bs : List ℕ) (x : TokenMeaning × List ℕ) → token_from rows bs ≡ Ok x → BeginsWithToken rows bs
 read_begins rows bs x e = let s = spelled rows bs x.1 x.0 e in (x.0, s.0, x.1, s.1, s.2)
 
 pub cut_exactly : (rows : List Row) → is_table rows ≡ true → IsCutExactly rows
@@ -40,11 +40,11 @@ cut_exactly rows table bs some = (λ e. (cut_is_front rows table bs e, no_token 
         let wrong : Utc ≡ Ill = same_fault (token_from rows bs) Utc Ill e ill in
         cc
 
-    by : (r : Reading Order) → token_from rows bs ≡ r → Faults IsCutOnly r → (BeginsWithToken rows bs → ⊥) → r ≡ Err Utc
+    by : (r : Reading TokenMeaning) → token_from rows bs ≡ r → Faults IsCutOnly r → (BeginsWithToken rows bs → ⊥) → r ≡ Err Utc
     by (Ok x) e only none = absurd (none (read_begins rows bs x e))
     by (Err c) e only none = ap Err only
 
--- Whether a refused name stands there.
+-- Whether a refused name is there.
 found_refused : Option (Row × List ℕ) → Bool
 found_refused None = false
 found_refused (Some x) = is_refused x.0.form
@@ -105,7 +105,7 @@ ill_exactly rows table bs some = (λ e. said e (refused_or_not rows table bs), b
     said e (inl refused) = inl refused
     said e (inr never) = inr (nothing e never)
 
-    by : (r : Reading Order) → token_from rows bs ≡ r → IsNothing rows bs → r ≡ Err Ill
+    by : (r : Reading TokenMeaning) → token_from rows bs ≡ r → IsNothing rows bs → r ≡ Err Ill
     by (Ok x) e h = absurd (h.no_token (read_begins rows bs x e))
     by (Err c) e h = of_four (four rows bs c e)
       where
