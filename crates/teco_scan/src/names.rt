@@ -7,7 +7,7 @@ ghost use Rattle.teco_scan.specs.FirstRow.{form_at, named_at, picks};
 ghost use Rattle.teco_scan.specs.Seen.{Gives, GivesSome};
 
 use crate::command::{Form, Modifiers, Name, Row};
-use crate::table::{FIRST, ROWS};
+use crate::table::{FIRST, NONE, ROWS};
 use teco_core::Code;
 
 pub(crate) fn upper(b: u8) -> u8
@@ -229,14 +229,10 @@ pub(crate) fn named_at(text: &[u8], at: usize) -> Result<(Modifiers, Form, usize
     ensures read { Gives (λ x. ((x.0, x.1), drop x.2 text.now)) result (named_at ROWS (drop at text.now)) }
     ensures within { IfOk result (λ x. (at < x.2) × (x.2 ≤ length text.now)) }
 {
-    let none = Modifiers {
-        at: false,
-        colons: 0,
-    };
     if let Some(form) = lone_form(text[at]) {
-        return Ok((none, form, at + 1));
+        return Ok((NONE, form, at + 1));
     }
-    let (modifiers, at) = modifiers_at(none, text, at)?;
+    let (modifiers, at) = modifiers_at(NONE, text, at)?;
     let (form, at) = form_at(modifiers, text, at)?;
     Ok((modifiers, form, at))
 }

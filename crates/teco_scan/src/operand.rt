@@ -5,11 +5,10 @@ ghost use Rattle.teco_scan.specs.Seen.{Gives, IsSpanIn, IsKindIn, IsKindPlaced, 
 
 use crate::command::{Form, Modifiers, Test};
 use crate::names::upper;
+use crate::table::ESCAPE;
 use crate::token::{Item, Span, TokenKind};
 use memchr::memchr;
 use teco_core::{Code, Reg};
-
-const ESCAPE: u8 = 27;
 
 #[tactic(auto, unfolding(crate::specs::Scan::test_of))]
 fn test_of(b: u8) -> Option<Test>

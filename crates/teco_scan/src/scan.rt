@@ -9,7 +9,7 @@ ghost use Rattle.teco_scan.specs.Seen.{Gives, IsKindIn, IsKindPlaced, IsFoundAt,
 use crate::command::Modifiers;
 use crate::names::named_at;
 use crate::operand::operand_at;
-use crate::table::ROWS;
+use crate::table::{NONE, ROWS};
 use crate::token::{Found, Item, Span, Token, TokenKind};
 use teco_core::Code;
 
@@ -65,13 +65,9 @@ fn token_from(text: &[u8], at: usize) -> Result<(Modifiers, TokenKind, usize), C
     ensures placed { IfOk result (λ x. IsKindPlaced (record { from = at; to = x.2 }) x.1) }
 {
     if is_digit(text[at]) {
-        let none = Modifiers {
-            at: false,
-            colons: 0,
-        };
         let to = digits_end(text, at);
         let run = Item::Digits(Span { from: at, to });
-        return Ok((none, TokenKind::Item(run), to));
+        return Ok((NONE, TokenKind::Item(run), to));
     }
     let (modifiers, form, at) = named_at(text, at)?;
     let (kind, at) = operand_at(form, modifiers, text, at)?;

@@ -5,9 +5,9 @@ use crate::command::{
 };
 use teco_core::Op;
 
-const ESCAPE: u8 = 27;
+pub(crate) const ESCAPE: u8 = 27;
 
-const NONE: Modifiers = Modifiers {
+pub(crate) const NONE: Modifiers = Modifiers {
     at: false,
     colons: 0,
 };
@@ -75,7 +75,8 @@ macro_rules! rows {
     };
 }
 
-/// Every command but the run of digits. A longer name comes before one that begins it.
+/// Every command but the run of digits. The table is a definition: it says what commands there are. A longer name comes before one
+/// that begins it.
 pub const ROWS: [Row; 33] = commands!(rows);
 
 // The first row whose name may begin with the byte.
