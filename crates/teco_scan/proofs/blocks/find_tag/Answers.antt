@@ -56,4 +56,3 @@ loop-token-preserved c = record {
   inside = c.in-Ok.ensures.within.1;
   finds = sym (c.in-Ok.ensures.finds c.args.name.now (sym c.is_tag.ensures ∙ c.if-is_tag.false)) ∙ sym (at_node c.args.name.now c.args.depth c.args.text.now c.loop-token.next c.in-Token.token c.in-Token.ensures.read) ∙ c.loop-token.invariant.finds;
 }
-
