@@ -8,7 +8,7 @@ use Rattle.teco_scan.specs.declared.command.Modifiers.{Modifiers}
 use Rattle.teco_scan.specs.declared.command.BlockMark.TheVariants.{Iterate, EndIteration, Otherwise, EndTest}
 use Rattle.teco_scan.specs.declared.blocks.Kind.{Kind}
 use Rattle.teco_scan.specs.declared.blocks.Kind.TheVariants.{Iter, Then}
-use Rattle.teco_scan.specs.Scan.{Item, Instruction, Order, Scanned, found, ended, fault, scan}
+use Rattle.teco_scan.specs.Scan.{Item, Instruction, TokenMeaning, Scanned, found, ended, fault, scan}
 use Rattle.teco_scan.specs.Scan as token
 use Rattle.teco_scan.specs.Tree.{Nodes, done, item, escape, iter, cond, tag}
 use Rattle.teco_scan.specs.declared.command.Test.{Test}

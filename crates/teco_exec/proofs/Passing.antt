@@ -12,7 +12,7 @@ use Rattle.teco_scan.specs.declared.command.Modifiers.{Modifiers}
 use Rattle.teco_scan.specs.declared.command.Test.{Test}
 use Rattle.teco_scan.specs.ListLaws.{BlockLaws, Within}
 use Rattle.teco_scan.specs.Lists.{Close, closed, broken, past, Listed, wrong, put, behind_block, iter_at, cond_at, at_mark, at_instruction, at_scan, list_at}
-use Rattle.teco_scan.specs.Scan.{Item, Instruction, Order, Scanned, found, ended, fault, scan}
+use Rattle.teco_scan.specs.Scan.{Item, Instruction, TokenMeaning, Scanned, found, ended, fault, scan}
 use Rattle.teco_scan.specs.Scan as token
 use Rattle.teco_scan.specs.Tree.{is_fault, done, item, escape, tag}
 use Rattle.teco_exec.specs.Machine.{Frame, Cursor, BlockStep, iterates, ends_turn, decides, Coming, moved, comes, at_block, ends, breaks, kind_of, skipped, passing, closes, pass_mark, pass_instruction, pass_scanned, pass}
@@ -67,7 +67,7 @@ module _ (laws : BlockLaws) (a : Arguments) (left : List ℕ) where
       by EndTest Else = part_ends a left (record b { kind = Else }) outer (closed false bs) bs tt refl lt
       by m k = faults _ Ill refl
 
-  scanned : (s : Scanned) (blocks : List Frame) → ((t : Order) (bs : List ℕ) → s ≡ found t bs → length bs < length left) → ((e : Code) → s ≡ fault e → is_fault e ≡ true)
+  scanned : (s : Scanned) (blocks : List Frame) → ((t : TokenMeaning) (bs : List ℕ) → s ≡ found t bs → length bs < length left) → ((e : Code) → s ≡ fault e → is_fault e ≡ true)
       → Passes (at a left blocks) (at_scan list_at s (kind_of blocks) (length blocks)) (pass_scanned s (at a left blocks))
   scanned ended [] lt f = text_ends a left
   scanned ended (b ∷ bs) lt f = faults _ Utc refl

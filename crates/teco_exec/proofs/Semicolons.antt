@@ -19,7 +19,7 @@ use Rattle.teco_scan.specs.declared.command.Form.TheVariants as form
 use Rattle.teco_scan.specs.declared.command.Row.{Row}
 use Rattle.teco_scan.specs.declared.table.TheConstants.{ROWS}
 use Rattle.std.proofs.lemmas.List.{at_drop_more, at_drop_all}
-use Rattle.teco_scan.specs.Scan.{is_filler, Item, Instruction, step, bare, Order, Reading, Scanned, found, ended, scanned, scan, scan_here, after_fillers, admits, after_letter, after_name, at_row, of_row, row_at, is_cut, command_at, operand_at, register_at, byte_at, test_at, text_at, delimiter_at, modifiers_at, no_modifiers, token_from, run_of, after_run}
+use Rattle.teco_scan.specs.Scan.{is_filler, Item, Instruction, step, bare, TokenMeaning, Reading, Scanned, found, ended, scanned, scan, scan_here, after_fillers, admits, after_letter, after_name, at_row, of_row, row_at, is_cut, command_at, operand_at, register_at, byte_at, test_at, text_at, delimiter_at, modifiers_at, no_modifiers, token_from, run_of, after_run}
 use Rattle.teco_scan.specs.Scan as token
 use Rattle.teco_exec.specs.Machine.{leave_found}
 use Rattle.teco_exec.specs.Semicolon.{is_semicolon}

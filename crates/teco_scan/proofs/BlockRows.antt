@@ -1,4 +1,4 @@
--- The trees of some texts with blocks, and what is left after some tags, by computing.
+-- The nodes of some texts with blocks, and what comes after some tags, by computing.
 use Rattle.std.specs.Prelude.{◌≡◌, ℕ, zero, suc, true, [], ◌∷◌, replicate, ◌++◌, codes, Some, None}
 use Rattle.std.proofs.Common.{refl}
 use Prim.Native.String.{String}
@@ -7,11 +7,10 @@ use Rattle.teco_scan.specs.declared.command.Bare.TheVariants as group
 use Rattle.teco_scan.specs.declared.command.Command.TheVariants.{Jump, Leave}
 use Rattle.teco_scan.specs.declared.command.TextCommand.TheVariants.{Insert, Go}
 use Rattle.teco_scan.specs.declared.command.Test.TheVariants.{Zero, Above}
-use Rattle.teco_scan.specs.declared.blocks.Kind.TheVariants.{Iter, Then, Else}
 use Rattle.teco_scan.specs.Scan.{digits, bare, text, no_modifiers}
 use Rattle.teco_scan.specs.Scan as token
-use Rattle.teco_scan.specs.Tree.{Nodes, done, item, escape, iter, cond, tag, faulty, last, level, levels, tree, after_tag}
-use Rattle.teco_scan.specs.Skip.{tag_in}
+use Rattle.teco_scan.specs.Tree.{Nodes, done, item, escape, iter, cond, tag, faulty, after_tag}
+use Rattle.teco_scan.specs.Lists.{nodes, tag_at}
 use Rattle.teco_scan.proofs.Rows.{computing, keys}
 
 abbrev plain : token.Item → Nodes → Nodes
@@ -27,7 +26,7 @@ abbrev leave : Nodes → Nodes
 leave n = plain (bare (group.Command Leave)) n
 
 abbrev grows : String → Nodes → Type 0
-grows written n = tree (keys written) ≡ n
+grows written n = nodes (keys written) ≡ n
 
 -- iterations, and conditionals with and without a second part
 blocks : grows "<J>2" (iter (jump done) (number "2" done))
@@ -87,22 +86,22 @@ around zero n = n
 around (suc k) n = iter (around k n) done
 
 -- 64 blocks may be open, and the 65th is PDO
-depth : (tree (replicate 64 60 ++ codes "J" ++ replicate 64 62) ≡ around 64 (jump done))
-    × (tree (replicate 65 60) ≡ nested 64 (faulty Pdo))
+depth : (nodes (replicate 64 60 ++ codes "J" ++ replicate 64 62) ≡ around 64 (jump done))
+    × (nodes (replicate 65 60) ≡ nested 64 (faulty Pdo))
 unfolding computing nested around
 depth = (refl, refl)
 
--- what is left after the first tag of a name that is directly in the innermost block
-tags : (after_tag (codes "x") (tree (keys "1!x!2!x!3")) ≡ Some (number "2" (tag (codes "x") (number "3" done))))
-    × (after_tag (codes "x") (tree (keys "<!x!>2!x!J")) ≡ Some (jump done))
-    × (after_tag (codes "x") (tree (keys "1\"E!x!|!x!'2!x!J")) ≡ Some (jump done))
-    × (after_tag (codes "x") (tree (keys "!X!!xx!!!2")) ≡ None)
-    × (after_tag [] (tree (keys "!X!!!2")) ≡ Some (number "2" done))
-    × (after_tag (codes "x") (tree (keys "?!x!")) ≡ None)
-    × (after_tag (codes "x") (tree (keys "<!x!")) ≡ None)
-    × (tag_in (codes "x") (levels (keys "1!x!2>3") (Iter ∷ [])) ≡ Some (level (number "2" done) (last (number "3" done))))
-    × (tag_in (codes "x") (levels (keys "1>!x!3") (Iter ∷ [])) ≡ None)
-    × (tag_in (codes "x") (levels (keys "1|!x!'3") (Then ∷ [])) ≡ None)
-    × (tag_in (codes "x") (levels (keys "!x!'3") (Else ∷ [])) ≡ Some (level done (last (number "3" done))))
+-- what comes after the first tag of a name that is directly in the list, and its bytes
+tags : (after_tag (codes "x") (nodes (keys "1!x!2!x!3")) ≡ Some (number "2" (tag (codes "x") (number "3" done))))
+    × (after_tag (codes "x") (nodes (keys "<!x!>2!x!J")) ≡ Some (jump done))
+    × (after_tag (codes "x") (nodes (keys "1\"E!x!|!x!'2!x!J")) ≡ Some (jump done))
+    × (after_tag (codes "x") (nodes (keys "!X!!xx!!!2")) ≡ None)
+    × (after_tag [] (nodes (keys "!X!!!2")) ≡ Some (number "2" done))
+    × (after_tag (codes "x") (nodes (keys "?!x!")) ≡ None)
+    × (after_tag (codes "x") (nodes (keys "<!x!")) ≡ None)
+    × (tag_at (codes "x") 1 (keys "1!x!2>3") ≡ Some (codes "2>3"))
+    × (tag_at (codes "x") 1 (keys "1>!x!3") ≡ None)
+    × (tag_at (codes "x") 1 (keys "1|!x!'3") ≡ None)
+    × (tag_at (codes "x") 1 (keys "!x!'3") ≡ Some (codes "'3"))
 unfolding computing
 tags = (refl, refl, refl, refl, refl, refl, refl, refl, refl, refl, refl)

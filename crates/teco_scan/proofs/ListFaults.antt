@@ -12,7 +12,7 @@ use Rattle.teco_scan.specs.Scan.{Instruction, TokenMeaning, Scanned, found, ende
 use Rattle.teco_scan.specs.Scan as token
 use Rattle.teco_scan.specs.Tree.{is_fault}
 use Rattle.teco_scan.specs.Lists.{Close, closed, broken, Past, past, Listed, Lister, wrong, behind, second, at_mark, at_instruction, at_scan, list_within, list_at}
-use Rattle.teco_scan.proofs.Textual.{scan_fault}
+use Rattle.teco_scan.proofs.ScanFaults.{scan_fault}
 
 -- a fault that breaks is one of the text
 abbrev Textual : Close → Type 0

@@ -13,7 +13,7 @@ use Rattle.teco_scan.specs.Scan as token
 use Rattle.teco_scan.specs.Tree.{item, iter, cond, tag, escape}
 use Rattle.teco_scan.specs.Lists.{Close, closed, broken, Past, past, Listed, Lister, wrong, behind, put, second, iter_at, cond_at, opened, at_mark, at_instruction, at_scan, list_within, list_at}
 use Rattle.teco_scan.specs.ListLaws.{Within}
-use Rattle.teco_scan.proofs.Trees.{scan_short}
+use Rattle.teco_scan.proofs.TokenShortens.{scan_short}
 
 abbrev pub PastWithin : ℕ → Past → Type 0
 PastWithin n (Ok bs) = length bs < n

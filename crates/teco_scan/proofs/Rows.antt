@@ -14,11 +14,12 @@ use Rattle.teco_scan.specs.declared.command.BlockMark.TheVariants.{Iterate, EndI
 use Rattle.teco_scan.specs.declared.command.Test.TheVariants.{Zero, NotZero, Above, Below, Letter, Digit, LetterOrDigit, Lower, Upper}
 use Rattle.teco_scan.specs.Scan.{digits, bare, register, text, set_text, Instruction, step, mark, decide, tag, Scanned, found, ended, fault, no_modifiers, test_of, byte_at, register_at, test_at, delimiter_at, text_at, operand_at, modifiers_at, after_letter, after_name, ends_inside, row_at, is_cut, command_at, run_of, after_run, token_from, after_fillers, scan}
 use Rattle.teco_scan.specs.Scan as token
-use Rattle.teco_scan.specs.Tree.{done, item, escape, faulty, levels_within, levels, tree}
+use Rattle.teco_scan.specs.Tree.{done, item, escape, faulty}
+use Rattle.teco_scan.specs.Lists.{list_within, list_at, nodes, tag_within, tag_at}
 
 -- all that reading computes with
 unfoldable pub computing : ℕ
-unfolding test_of byte_at register_at test_at delimiter_at text_at operand_at modifiers_at after_letter after_name ends_inside row_at is_cut command_at run_of after_run token_from after_fillers scan levels_within levels
+unfolding test_of byte_at register_at test_at delimiter_at text_at operand_at modifiers_at after_letter after_name ends_inside row_at is_cut command_at run_of after_run token_from after_fillers scan list_within list_at tag_within tag_at
 computing = 0
 
 -- the bytes of a text, where $ is ESC
@@ -197,9 +198,9 @@ unfolding computing up_to is_token
 single_bytes = refl
 
 -- the tree of a text: without blocks a list, to its end or to its first fault
-trees : (tree (keys "") ≡ done)
-    × (tree (keys "2J $") ≡ item no_modifiers (digits (codes "2")) (item no_modifiers (bare (group.Command Jump)) (escape done)))
-    × (tree (keys "Ia>b$?=") ≡ item no_modifiers (text Insert (codes "a>b")) (faulty Ill))
-    × (tree (keys "1Ix") ≡ item no_modifiers (digits (codes "1")) (faulty Utc))
+trees : (nodes (keys "") ≡ done)
+    × (nodes (keys "2J $") ≡ item no_modifiers (digits (codes "2")) (item no_modifiers (bare (group.Command Jump)) (escape done)))
+    × (nodes (keys "Ia>b$?=") ≡ item no_modifiers (text Insert (codes "a>b")) (faulty Ill))
+    × (nodes (keys "1Ix") ≡ item no_modifiers (digits (codes "1")) (faulty Utc))
 unfolding computing
 trees = (refl, refl, refl, refl)

@@ -14,7 +14,7 @@ use Rattle.teco_scan.specs.Tree as node
 use Rattle.teco_scan.specs.Lists.{Close, closed, broken, put, past, Listed, Finder, wrong, behind, second, at_mark, at_instruction, at_scan, list_at, tag_behind, tag_at_instruction, tag_at_scan, tag_within, tag_at}
 use Rattle.teco_scan.specs.ListLaws.{Within, Finds}
 use Rattle.teco_scan.proofs.ListUnrolls.{list_step, list_short, within_more, second_short}
-use Rattle.teco_scan.proofs.Trees.{scan_short}
+use Rattle.teco_scan.proofs.TokenShortens.{scan_short}
 
 module _ (name : List ℕ) (go : Finder) (n : ℕ) (h : (k : Option Kind) (d : ℕ) (bs : List ℕ) → length bs < n → Finds name k d (list_at k d bs) (go d bs)) (k : Option Kind) (d : ℕ) where
   -- a node in front that is no such tag

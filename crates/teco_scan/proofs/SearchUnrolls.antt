@@ -9,7 +9,7 @@ use Rattle.teco_scan.specs.Scan.{Instruction, TokenMeaning, Scanned, found, ende
 use Rattle.teco_scan.specs.Scan as token
 use Rattle.teco_scan.specs.Lists.{Past, behind_block, list_at, Finder, tag_behind, tag_opened, tag_at_instruction, tag_at_scan, tag_within, tag_at}
 use Rattle.teco_scan.proofs.ListUnrolls.{PastWithin, past_within, second_short, list_short}
-use Rattle.teco_scan.proofs.Trees.{scan_short}
+use Rattle.teco_scan.proofs.TokenShortens.{scan_short}
 
 pub block_short : (kind : Kind) (d : ℕ) (bs : List ℕ) → PastWithin (length bs) (behind_block list_at kind d (list_at (Some kind) d bs).1)
 block_short Iter d bs = past_within (length bs) (list_at (Some Iter) d bs).1 (list_short (Some Iter) d bs)

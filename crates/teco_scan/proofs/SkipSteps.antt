@@ -1,5 +1,5 @@
 -- How a list closes, and where a tag is, over one token.
-use Rattle.std.proofs.Common.{◌≡◌, ℕ, suc, ◌≤◌, Bool, true, false, List, Option, Some, None, refl, sym, ap, ◌∙◌, eqb, cond as choose}
+use Rattle.std.proofs.Common.{◌≡◌, ◌≢◌, ℕ, suc, ◌≤◌, Bool, true, false, List, Option, Some, None, refl, sym, ap, ◌∙◌, eqb, cond as choose}
 use Rattle.teco_scan.specs.declared.command.BlockMark.{BlockMark}
 use Rattle.std.proofs.lemmas.Bool.{eq-eqb, false_from_ne_true, eqb-true}
 use Rattle.teco_core.specs.declared.code.Code.TheVariants.{Pdo}
@@ -88,3 +88,14 @@ module _ (name bs : List ℕ) (d : ℕ) where
   tag_open kind (token.mark EndTest) opens le ne = absurd cc
   tag_open kind (token.tag other) opens le ne = absurd cc
   tag_open kind token.escape opens le ne = absurd cc
+
+-- a closing mark is what it says
+pub closing_is : (i : Instruction) (b : BlockMark) → Some b ≡ closing_mark i → (i ≡ token.mark b) × (b ≢ Iterate)
+closing_is (token.step i) b is = absurd cc
+closing_is (token.mark Iterate) b is = absurd cc
+closing_is (token.mark EndIteration) b is = let same : EndIteration ≡ b = cc in (ap token.mark same, λ e. cc)
+closing_is (token.mark Otherwise) b is = let same : Otherwise ≡ b = cc in (ap token.mark same, λ e. cc)
+closing_is (token.mark EndTest) b is = let same : EndTest ≡ b = cc in (ap token.mark same, λ e. cc)
+closing_is (token.decide t) b is = absurd cc
+closing_is (token.tag name) b is = absurd cc
+closing_is token.escape b is = absurd cc

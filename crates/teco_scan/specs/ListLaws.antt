@@ -3,8 +3,8 @@ use Rattle.std.specs.Prelude.{◌≡◌, ℕ, ◌<◌, true, List, length, Optio
 use Rattle.teco_core.specs.declared.code.Code.{Code}
 use Rattle.teco_scan.specs.declared.blocks.Kind.{Kind}
 use Rattle.teco_scan.specs.Scan.{TokenMeaning, found, fault, scan}
-use Rattle.teco_scan.specs.Tree.{is_fault, after_tag, tree}
-use Rattle.teco_scan.specs.Lists.{Close, closed, broken, Listed, at_scan, list_at, nodes, tag_at_scan, tag_at}
+use Rattle.teco_scan.specs.Tree.{is_fault, after_tag}
+use Rattle.teco_scan.specs.Lists.{Close, closed, broken, Listed, at_scan, list_at, tag_at_scan, tag_at}
 
 -- A list closes with fewer than n bytes after it, or is broken.
 abbrev pub Within : ℕ → Close → Type 0
@@ -18,7 +18,7 @@ Finds name k d l (Some bs) = (after_tag name l.0 ≡ Some (list_at k d bs).0) ×
 
 -- A list unrolls over the token that its bytes begin with, and so does the search for a tag. Each token has a byte, and so has
 -- a list that closes. The search for a tag leads to what the list has after that tag. A fault that is scanned, and one that
--- breaks a list, is one of a text's own. The tree of a text is its list.
+-- breaks a list, is one of a text's own.
 pub record BlockLaws : Type 0 where
   pub list_unrolls : (k : Option Kind) (d : ℕ) (bs : List ℕ) → list_at k d bs ≡ at_scan list_at (scan bs) k d
   pub search_unrolls : (name : List ℕ) (d : ℕ) (bs : List ℕ) → tag_at name d bs ≡ tag_at_scan name (tag_at name) (scan bs) d
@@ -27,4 +27,3 @@ pub record BlockLaws : Type 0 where
   pub search_finds : (name : List ℕ) (k : Option Kind) (d : ℕ) (bs : List ℕ) → Finds name k d (list_at k d bs) (tag_at name d bs)
   pub scan_faults : (bs : List ℕ) (c : Code) → scan bs ≡ fault c → is_fault c ≡ true
   pub list_faults : (k : Option Kind) (d : ℕ) (bs : List ℕ) (c : Code) → (list_at k d bs).1 ≡ broken c → is_fault c ≡ true
-  pub tree_lists : (bs : List ℕ) → tree bs ≡ nodes bs

@@ -1,7 +1,7 @@
 //! The nesting of blocks: skipping one, and finding a tag directly in one.
 ghost use Rattle.std.specs.Prelude.{◌≡◌, ◌≢◌, ◌+◌, ◌-◌, ◌<◌, ◌≤◌, ℕ, true, false, List, ◌∷◌, length, drop, IfOk, IfErr, IfSome, Option, Some, None};
-ghost use Rattle.teco_scan.specs.Tree.{is_fault, levels, rest, after_mark, after_instruction};
-ghost use Rattle.teco_scan.specs.Skip.{remaining, after_block, whole_remaining, byte_of, IsClosed, IsWholeClosed, IsBehindTag, closing_mark, opened_kind, is_tag, tag_in, GivesTag};
+ghost use Rattle.teco_scan.specs.Tree.{is_fault};
+ghost use Rattle.teco_scan.specs.Skip.{byte_of, IsClosed, IsWholeClosed, IsBehindTag, closing_mark, opened_kind, is_tag};
 ghost use Rattle.teco_scan.specs.Seen.{instruction_in, IsKindIn, close_of, past_of, tag_of};
 ghost use Rattle.teco_scan.specs.Lists.{at_instruction, at_mark, behind, behind_block, list_at, tag_at, tag_at_instruction, tag_behind};
 ghost use Rattle.teco_scan.specs.ListLaws.{BlockLaws};
@@ -68,7 +68,6 @@ fn is_tag(text: &[u8], kind: TokenKind, name: &[u8]) -> bool
 fn end_of_block(kind: Kind, mark: BlockMark, to: usize) -> Result<Stop, Code>
     requires { mark ≢ BlockMark.Iterate }
     ensures closes { (text : List ℕ) (d : ℕ) → close_of text result ≡ (at_mark list_at mark (drop to text) (Some kind) d).1 }
-    ensures ended { (text : List ℕ) (outer : List Kind) → rest (after_mark mark (levels (drop to text)) (kind ∷ outer)) ≡ remaining text kind outer result }
     ensures place { IfOk result (λ stop. stop.to ≡ to) }
     ensures divided { IfOk result (λ stop. stop.divided ≡ true → kind ≡ Kind.Then) }
     ensures ends { (text : List ℕ) → drop (to - 1) text ≡ byte_of mark ∷ drop to text → IfOk result (λ stop. IsClosed text kind stop) }
@@ -93,8 +92,6 @@ fn skip_node(text: &[u8], token: Token, depth: usize) -> Result<usize, Code>
     requires node { closing_mark (instruction_in text.now token.kind) ≡ None }
     ensures closes { (k : Option Kind) (m : Modifiers) → (at_instruction list_at (instruction_in text.now token.kind) m (drop token.span.to text.now) k depth).1 ≡ (behind list_at k depth (past_of text.now result)).1 }
     ensures finds { (name : List ℕ) → is_tag name (instruction_in text.now token.kind) ≡ false → tag_at_instruction name (tag_at name) (instruction_in text.now token.kind) (drop token.span.to text.now) depth ≡ tag_behind (tag_at name) depth (past_of text.now result) }
-    ensures skipped { (kinds : List Kind) → length kinds ≡ depth → rest (after_instruction (instruction_in text.now token.kind) token.modifiers (levels (drop token.span.to text.now)) kinds) ≡ rest (whole_remaining text.now kinds result) }
-    ensures tags { (kinds : List Kind) (name : List ℕ) → length kinds ≡ depth → is_tag name (instruction_in text.now token.kind) ≡ false → tag_in name (after_instruction (instruction_in text.now token.kind) token.modifiers (levels (drop token.span.to text.now)) kinds) ≡ tag_in name (whole_remaining text.now kinds result) }
     ensures within { IfOk result (λ to. (token.span.to ≤ to) × (to ≤ length text.now)) }
     ensures fault { IfErr result (λ code. is_fault code ≡ true) }
 {
@@ -119,7 +116,6 @@ pub fn skip_block(text: &[u8], at: usize, kind: Kind, depth: usize) -> Result<St
     requires inside { at ≤ length text.now }
     requires few { depth ≤ 64 }
     ensures closes { close_of text.now result ≡ (list_at (Some kind) depth (drop at text.now)).1 }
-    ensures skipped { (outer : List Kind) → length outer + 1 ≡ depth → rest (levels (drop at text.now) (kind ∷ outer)) ≡ remaining text.now kind outer result }
     ensures within { IfOk result (λ stop. (at < stop.to) × (stop.to ≤ length text.now)) }
     ensures divided { IfOk result (λ stop. stop.divided ≡ true → kind ≡ Kind.Then) }
     ensures ends { IfOk result (λ stop. IsClosed text.now kind stop) }
@@ -148,7 +144,6 @@ pub fn skip_whole_block(text: &[u8], at: usize, kind: Kind, depth: usize) -> Res
     requires inside { at ≤ length text.now }
     requires few { depth ≤ 64 }
     ensures passes { past_of text.now result ≡ behind_block list_at kind depth (list_at (Some kind) depth (drop at text.now)).1 }
-    ensures skipped { (outer : List Kind) → length outer + 1 ≡ depth → after_block kind (levels (drop at text.now) (kind ∷ outer)) ≡ whole_remaining text.now outer result }
     ensures within { IfOk result (λ to. (at < to) × (to ≤ length text.now)) }
     ensures fault { IfErr result (λ code. is_fault code ≡ true) }
     ensures ends { IfOk result (λ to. IsWholeClosed text.now kind to) }
@@ -169,7 +164,6 @@ pub fn find_tag(text: &[u8], block_start: usize, depth: usize, name: &[u8]) -> O
     requires inside { block_start ≤ length text.now }
     requires few { depth ≤ 64 }
     ensures finds { tag_of text.now result ≡ tag_at name.now depth (drop block_start text.now) }
-    ensures found { (kinds : List Kind) → length kinds ≡ depth → GivesTag text.now kinds result (tag_in name.now (levels (drop block_start text.now) kinds)) }
     ensures within { IfSome result (λ to. (block_start < to) × (to ≤ length text.now)) }
     ensures ends { IfSome result (λ to. IsBehindTag text.now to) }
 {

@@ -1,6 +1,4 @@
 use Rattle.std.proofs.Common.{◌≡◌, ◌+◌, ◌≤◌, List, Some, ◌∷◌, length, drop, ◌-◌, ◌*◌}
-use Rattle.teco_scan.specs.declared.blocks.Kind.{Kind}
-use Rattle.teco_scan.specs.Tree.{levels, rest}
 use Rattle.teco_scan.specs.Lists.{list_at}
 use Rattle.teco_scan.proofs.blocks.+skip.Given as goal
 
@@ -13,13 +11,12 @@ decreases-skip_node l = 3 * (length l.text.now - l.token.span.to) + 2
 abbrev pub decreases-skip_whole_block : goal.decreases-skip_whole_block
 decreases-skip_whole_block l = 3 * (length l.text.now - l.at) + 1
 
--- the block goes on as from its beginning: what is left after it is the same
+-- the list closes as from its beginning
 abbrev pub invariant-skip_block-loop-code : goal.invariant-skip_block-loop-code
 invariant-skip_block-loop-code l = record {
   past : l.fn.at ≤ l.next;
   inside : l.next ≤ length l.text;
   closes : (list_at (Some l.kind) l.depth (drop l.next l.text)).1 ≡ (list_at (Some l.kind) l.depth (drop l.fn.at l.text)).1;
-  same : (outer : List Kind) → length outer + 1 ≡ l.depth → rest (levels (drop l.next l.text) (l.kind ∷ outer)) ≡ rest (levels (drop l.fn.at l.text) (l.kind ∷ outer));
 }
 
 abbrev pub decreases-skip_block-loop-code : goal.decreases-skip_block-loop-code

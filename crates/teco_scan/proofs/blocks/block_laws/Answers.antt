@@ -1,10 +1,9 @@
 use Rattle.teco_scan.proofs.ListUnrolls.{list_step, list_short}
 use Rattle.teco_scan.proofs.SearchUnrolls.{tag_step}
 use Rattle.teco_scan.proofs.SearchFinds.{tag_leads}
-use Rattle.teco_scan.proofs.TreeLists.{tree_is}
 use Rattle.teco_scan.proofs.ListFaults.{list_fault}
-use Rattle.teco_scan.proofs.Trees.{scan_short}
-use Rattle.teco_scan.proofs.Textual.{scan_fault}
+use Rattle.teco_scan.proofs.TokenShortens.{scan_short}
+use Rattle.teco_scan.proofs.ScanFaults.{scan_fault}
 use Rattle.teco_scan.proofs.blocks.block_laws.Goals as goal
 
 pub returns : goal.returns
@@ -16,5 +15,4 @@ returns c = record {
   search_finds = tag_leads;
   scan_faults = scan_fault;
   list_faults = list_fault;
-  tree_lists = tree_is;
 }

@@ -1,15 +1,11 @@
 use Rattle.std.proofs.Common.{◌≡◌, ℕ, List, drop, Option, Some, None, true, is_some, sym, ap, ◌∙◌, arith}
 use Rattle.teco_scan.specs.declared.command.BlockMark.{BlockMark}
-use Rattle.teco_scan.specs.Skip.{tag_in}
-use Rattle.teco_scan.specs.Tree.{levels}
 use Rattle.teco_scan.specs.Seen.{meaning_in, instruction_in}
-use Rattle.teco_scan.proofs.Skips.{tag_at_end, tag_at_fault, tag_here, closed_tag, tag_every, at_token}
 use Rattle.teco_scan.proofs.LastBytes.{tag_byte}
 use Rattle.teco_scan.specs.declared.token.Token.{Token}
 use Rattle.teco_scan.specs.Scan.{ended, fault, found, scan}
 use Rattle.teco_scan.specs.Lists.{tag_at, tag_at_instruction}
-use Rattle.teco_scan.proofs.SkipSteps.{tag_found, tag_closed}
-use Rattle.teco_scan.proofs.SkipSteps as tags
+use Rattle.teco_scan.proofs.SkipSteps.{tag_found, tag_here, tag_closed}
 use Rattle.teco_scan.proofs.blocks.find_tag.Goals as goal
 
 some_mark : (o : Option BlockMark) → is_some o ≡ true → (b : BlockMark) × (Some b ≡ o)
@@ -31,7 +27,7 @@ pub returns-then-is_tag-clause-finds : goal.returns-then-is_tag-clause-finds
 returns-then-is_tag-clause-finds c =
     let text = c.args.text.now in
     let k = c.in-Token.token in
-    sym (tags.tag_here c.args.name.now (drop k.span.to text) c.args.depth (instruction_in text k.kind) (sym c.is_tag.ensures ∙ c.if-is_tag.true))
+    sym (tag_here c.args.name.now (drop k.span.to text) c.args.depth (instruction_in text k.kind) (sym c.is_tag.ensures ∙ c.if-is_tag.true))
     ∙ sym (at_node c.args.name.now c.args.depth text c.loop-token.next k c.in-Token.ensures.read) ∙ c.loop-token.invariant.finds
 
 pub returns-then-is_some-clause-finds : goal.returns-then-is_some-clause-finds
@@ -48,47 +44,15 @@ returns-in-Err-clause-finds c =
     sym (c.in-Err.ensures.finds c.args.name.now (sym c.is_tag.ensures ∙ c.if-is_tag.false))
     ∙ sym (at_node c.args.name.now c.args.depth c.args.text.now c.loop-token.next c.in-Token.token c.in-Token.ensures.read) ∙ c.loop-token.invariant.finds
 
-pub returns-in-End-clause-found : goal.returns-in-End-clause-found
-returns-in-End-clause-found c = λ kinds long. sym (c.loop-token.invariant.same kinds long) ∙ tag_at_end (drop c.loop-token.next c.args.text.now) kinds c.args.name.now c.in-End.ensures.read
-
-pub returns-in-Fault-clause-found : goal.returns-in-Fault-clause-found
-returns-in-Fault-clause-found c = λ kinds long. sym (c.loop-token.invariant.same kinds long) ∙ tag_at_fault (drop c.loop-token.next c.args.text.now) kinds c.args.name.now _ c.in-Fault.ensures.read
-
-pub returns-then-is_tag-clause-found : goal.returns-then-is_tag-clause-found
-returns-then-is_tag-clause-found c = λ kinds long.
-    sym (c.loop-token.invariant.same kinds long)
-    ∙ ap (tag_in c.args.name.now) (at_token (drop c.loop-token.next c.args.text.now) (drop c.in-Token.token.span.to c.args.text.now) kinds (meaning_in c.args.text.now c.in-Token.token) c.in-Token.ensures.read)
-    ∙ tag_here c.in-Token.token.modifiers (levels (drop c.in-Token.token.span.to c.args.text.now)) kinds c.args.name.now (instruction_in c.args.text.now c.in-Token.token.kind) (sym c.is_tag.ensures ∙ c.if-is_tag.true)
-
 pub returns-then-is_tag-clause-ends : goal.returns-then-is_tag-clause-ends
 returns-then-is_tag-clause-ends c =
     let token = c.in-Token.token in
     let place = c.in-Token.ensures.place in
     tag_byte c.args.text.now c.loop-token.next token.span.from token.span.to (meaning_in c.args.text.now token) c.args.name.now c.in-Token.ensures.read (sym c.is_tag.ensures ∙ c.if-is_tag.true) place.begins place.long place.inside
 
-pub returns-then-is_some-clause-found : goal.returns-then-is_some-clause-found
-returns-then-is_some-clause-found c = λ kinds long.
-    let i = instruction_in c.args.text.now c.in-Token.token.kind in
-    let some : is_some c.closing_mark.result ≡ true = sym c.is_some.ensures ∙ c.if-is_some.true in
-    let b = some_mark c.closing_mark.result some in
-    sym (c.loop-token.invariant.same kinds long)
-    ∙ ap (tag_in c.args.name.now) (at_token (drop c.loop-token.next c.args.text.now) (drop c.in-Token.token.span.to c.args.text.now) kinds (meaning_in c.args.text.now c.in-Token.token) c.in-Token.ensures.read)
-    ∙ closed_tag c.in-Token.token.modifiers (levels (drop c.in-Token.token.span.to c.args.text.now)) c.args.name.now kinds i b.0 (b.1 ∙ c.closing_mark.ensures c.args.text.now)
-
 pub loop-token-preserved : goal.loop-token-preserved
 loop-token-preserved c = record {
   past = omega (arith, c.in-Token.ensures.place.after, c.in-Token.ensures.place.long, c.in-Ok.ensures.within.0);
   inside = c.in-Ok.ensures.within.1;
   finds = sym (c.in-Ok.ensures.finds c.args.name.now (sym c.is_tag.ensures ∙ c.if-is_tag.false)) ∙ sym (at_node c.args.name.now c.args.depth c.args.text.now c.loop-token.next c.in-Token.token c.in-Token.ensures.read) ∙ c.loop-token.invariant.finds;
-  same = λ kinds long.
-      sym (ap (tag_in c.args.name.now) (at_token (drop c.loop-token.next c.args.text.now) (drop c.in-Token.token.span.to c.args.text.now) kinds (meaning_in c.args.text.now c.in-Token.token) c.in-Token.ensures.read)
-      ∙ c.in-Ok.ensures.tags kinds c.args.name.now long (sym c.is_tag.ensures ∙ c.if-is_tag.false))
-      ∙ c.loop-token.invariant.same kinds long;
 }
-
-pub returns-in-Err-clause-found : goal.returns-in-Err-clause-found
-returns-in-Err-clause-found c = λ kinds long.
-    sym (c.loop-token.invariant.same kinds long)
-    ∙ ap (tag_in c.args.name.now) (at_token (drop c.loop-token.next c.args.text.now) (drop c.in-Token.token.span.to c.args.text.now) kinds (meaning_in c.args.text.now c.in-Token.token) c.in-Token.ensures.read)
-    ∙ c.in-Err.ensures.tags kinds c.args.name.now long (sym c.is_tag.ensures ∙ c.if-is_tag.false)
-    ∙ tag_every c.args.name.now kinds _

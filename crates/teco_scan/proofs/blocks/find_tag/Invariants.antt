@@ -1,8 +1,5 @@
 use Rattle.std.proofs.Common.{◌≡◌, ◌≤◌, List, length, drop, ◌-◌}
-use Rattle.teco_scan.specs.declared.blocks.Kind.{Kind}
-use Rattle.teco_scan.specs.Tree.{levels}
 use Rattle.teco_scan.specs.Lists.{tag_at}
-use Rattle.teco_scan.specs.Skip.{tag_in}
 use Rattle.teco_scan.proofs.blocks.find_tag.Given as goal
 
 -- no such tag so far
@@ -11,7 +8,6 @@ invariant-loop-token l = record {
   past : l.fn.block_start ≤ l.next;
   inside : l.next ≤ length l.text;
   finds : tag_at l.name l.depth (drop l.next l.text) ≡ tag_at l.name l.depth (drop l.fn.block_start l.text);
-  same : (kinds : List Kind) → length kinds ≡ l.depth → tag_in l.name (levels (drop l.next l.text) kinds) ≡ tag_in l.name (levels (drop l.fn.block_start l.text) kinds);
 }
 
 abbrev pub decreases-loop-token : goal.decreases-loop-token
