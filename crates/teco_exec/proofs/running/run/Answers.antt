@@ -12,17 +12,13 @@ returns g c =
     let begins = whole_begins c.machine_laws.ensures.means o (g.D.Desk.follows c.args.desk.now) (arguments c.new-args.result) c.new-args.ensures in
     let ends = whole_ends o _ _ (arguments c.run_text-exit.new.args) c.run_text-exit.result c.code.result c.code.ensures (omega (arith, c.run_text-exit.ensures.limit, c.run_text-exit.new.steps.within))
     (c.run_text-exit.ensures.leads o [] refl refl begins) in
+    let laws = c.meaning_laws.ensures in
     record {
       run = (ends.typed, ends.runs, ends.shows);
       again = ends.again;
       follows = ends.follows;
       no_memory = λ quiet. ends_quietly c.run_text-exit.result c.code.result c.code.ensures (c.run_text-exit.ensures.no_memory quiet);
+      exit = λ going over.
+          runs_exit laws.exit laws.more_limit o.state o.text o.limit going c.code.result c.run_text-exit.new.steps.done ends.typed _
+          (laws.within_limit o.state o.text o.limit) (laws.within_limit o.state o.text c.run_text-exit.new.steps.done) ends.runs over;
     }
-
-pub returns-clause-exit : goal.returns-clause-exit
-returns-clause-exit g c = λ going over.
-    let o : Origin = record { state = g.D.Desk.state c.args.desk.now; text = c.args.text.now; screen = g.T.Terminal.screen c.args.term.now; limit = c.args.limit } in
-    let w = whole_ends o _ _ (arguments c.run_text-exit.new.args) c.run_text-exit.result c.code.result c.code.ensures (omega (arith, c.run_text-exit.ensures.limit, c.run_text-exit.new.steps.within))
-    (c.run_text-exit.ensures.reaches o [] refl refl (whole_begins c.machine_laws.ensures.means o (g.D.Desk.follows c.args.desk.now) _ c.new-args.ensures)) in
-    let laws = c.meaning_laws.ensures in
-    runs_exit laws.exit laws.more_limit o.state o.text o.limit going c.code.result c.run_text-exit.new.steps.done w.typed _ (laws.within_limit o.state o.text o.limit) (laws.within_limit o.state o.text c.run_text-exit.new.steps.done) w.runs over

@@ -1,11 +1,13 @@
-use Rattle.std.proofs.Common.{[], None, Some, inr, subst, sym, arith}
+use Rattle.std.proofs.Common.{[], None, Some, inr, length, subst, sym, arith}
 use Rattle.teco_exec.specs.Running.{at_cursor, at_opening, at_return, at_token, flows, goes, host, over, Going, Reaches}
 use Rattle.teco_core.specs.ArgumentsView.{arguments}
+use Rattle.teco_exec.specs.Quiet.{QuietComing}
+use Rattle.teco_exec.specs.View.{IsStepFound, step_of}
 use Rattle.teco_exec.proofs.Going.{settles}
 use Rattle.teco_exec.proofs.Seeking.{comes_block, comes_fault, comes_over, comes_token, passes_on, passes_short, pending_comes}
-use Rattle.teco_exec.proofs.NoMemory.{comes_quietly}
+use Rattle.teco_exec.proofs.NoMemory.{comes_quietly, kind_quietly}
 use Rattle.teco_exec.proofs.Stepped.{ends_over}
-use Rattle.teco_exec.specs.declared.moves.Next.TheVariants.{Block}
+use Rattle.teco_exec.specs.declared.moves.Next.TheVariants.{Block, Step}
 use Rattle.teco_exec.proofs.stepping.step.Goals as goal
 
 pub returns-in-Some-clause-leads : goal.returns-in-Some-clause-leads
@@ -52,3 +54,11 @@ returns-in-Fault-clause-leads g c o callers limit at =
 pub returns-in-Block-clause-quiet : goal.returns-in-Block-clause-quiet
 returns-in-Block-clause-quiet g c q none =
     absurd (comes_quietly c.block_laws.ensures c.args.cursor.now c.pass.new.self c.token_at-found.result (Block c.in-Block.opening c.in-Block.to) c.in-Block.ensures.comes q)
+
+pub returns-in-Token-clause-quiet : goal.returns-in-Token-clause-quiet
+returns-in-Token-clause-quiet g c q none =
+    let to = c.pass.new.self in
+    let come = comes_quietly c.block_laws.ensures c.args.cursor.now to c.token_at-found.result Step c.in-Step.ensures.comes q in
+    let here = subst (λ f. QuietComing (step_of to f)) c.in-Token.is come in
+    let told = subst (λ f. IsStepFound to.text.now f) c.in-Token.is c.in-Step.ensures.told in
+    c.token_step-in-Token.ensures.quiet here.1 (kind_quietly to.text.now (length to.text.now) c.in-Token.token.kind told here.0)
