@@ -15,19 +15,21 @@ fn line_once(alloc: Global, words: &[&str]) -> Result<Line, LineFault> {
 }
 
 /// Whether memory was refused, to the parser or to us.
-fn is_memory(fault: &LineFault) -> bool {
-    match fault {
-        LineFault::NoMemory => true,
-        LineFault::Refused(error) => error.kind() == ErrorKind::OutOfMemory,
+fn lacks_memory(line: &Result<Line, LineFault>) -> bool {
+    match line {
+        Ok(_) => false,
+        Err(LineFault::NoMemory) => true,
+        Err(LineFault::Refused(error)) => error.kind() == ErrorKind::OutOfMemory,
     }
 }
 
 /// What the words say; where memory was refused, what they say a second time.
 fn line(alloc: Global, words: &[&str]) -> Result<Line, LineFault> {
-    match line_once(alloc, words) {
-        Err(fault) if is_memory(&fault) => line_once(alloc, words),
-        other => other,
+    let first = line_once(alloc, words);
+    if lacks_memory(&first) {
+        return line_once(alloc, words);
     }
+    first
 }
 
 fn says(
