@@ -5,7 +5,8 @@ use Rattle.std.proofs.lemmas.List.{at_drop_more, drop_all, get_or_at, take_at, l
 use Rattle.std.proofs.lemmas.List.Sums.{AllPass-from_list_all}
 use Rattle.std.specs.List.{list_all}
 use Rattle.teco.specs.Stream.{asked_by, undos_or_redos, undos_or_redos_in, times}
-use Rattle.teco_core.specs.Number.{is_digit, digits_value}
+use Rattle.teco_core.specs.Ascii.{is_digit}
+use Rattle.teco_core.specs.Number.{digits_value}
 
 is_digit-bounds : (d : ℕ) → is_digit d ≡ true → (48 ≤ d) × (d ≤ 57)
 is_digit-bounds d e = grind (arith, nat_tests)

@@ -1,7 +1,8 @@
 -- The stream of commands: the texts that end at pairs ESC ESC, and what each of them asks.
 use Rattle.std.specs.Prelude.{◌≡◌, ℕ, ◌-◌, List, [], ◌∷◌, ◌++◌, length, take, drop, map, slice_index, Bool, true, false, ◌&&◌, ◌||◌, ◌==◌, nat_le, if◌then◌else◌, Option, Some, None}
 use Rattle.std.specs.List.{list_all, prefix_len, suffix_len}
-use Rattle.teco_core.specs.Number.{is_digit, digits_value}
+use Rattle.teco_core.specs.Ascii.{is_digit}
+use Rattle.teco_core.specs.Number.{digits_value}
 
 abbrev pub ends_in_escape : List ℕ → Bool
 ends_in_escape [] = false

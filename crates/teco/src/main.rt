@@ -3,7 +3,7 @@
 
 ghost use Rattle.std.specs.IoError.{error_kind};
 ghost use Rattle.std.specs.Prelude.{◌≡◌, ◌≢◌, ◌≤◌, IfOk, vec_len};
-ghost use Rattle.teco_store.specs.State.{file_limit};
+ghost use Rattle.teco_core.specs.declared.limits.TheConstants.{FILE_LIMIT};
 
 mod ending;
 mod exchange;
@@ -47,7 +47,7 @@ fn fate_of(error: io::Error, other: Fate) -> Fate
 
 /// The whole input, or how the program ends without it.
 fn read_input(rt: &HostRuntime, name: &str) -> Result<Vec<u8>, Fate>
-    ensures { IfOk result (λ input. vec_len input ≤ file_limit) }
+    ensures { IfOk result (λ input. vec_len input ≤ FILE_LIMIT) }
 {
     let file = match File::open(rt, name) {
         Ok(file) => file,

@@ -4,7 +4,7 @@ ghost use Rattle.std.specs.Option.{option_map};
 ghost use Rattle.std.specs.Prelude.{◌≡◌, ℕ, ◌+◌, ◌-◌, ◌≤◌, ◌<◌, [], ◌++◌, length, take, drop, slice_index, vec_len, List, MatchOption, IfOk, OnOk, OnErr, IsTrue};
 ghost use Rattle.teco.specs.Cut.{AsksFirst, Cuts, IsHeld, value_of};
 ghost use Rattle.teco.specs.Stream.{IsText, asks_of, undos_or_redos, ends_in_escape, is_filler, texts_of, times, without_fillers, without_fillers_after, without_fillers_before};
-ghost use Rattle.teco_core.specs.Number.{is_digit};
+ghost use Rattle.teco_core.specs.Ascii.{is_digit};
 
 use std::alloc::Global;
 use std::marker::Model;

@@ -1,6 +1,5 @@
 -- Numbers: whole, from -2147483648 to 2147483647.
 use Rattle.std.specs.Prelude.{ℕ, zero, ◌+◌, ◌-◌, ◌*◌, ◌^◌, ◌&&◌, List, [], ◌∷◌, Result, Ok, Err, ℤ, pos, negsuc, ◌+ℤ◌, ◌-ℤ◌, ◌*ℤ◌, Bool, true, false, nat_lt, int_le, int_div, bit_and, bit_or, if◌then◌else◌}
-pub use Rattle.teco_core.specs.Ascii.{is_digit}
 use Rattle.teco_core.specs.declared.code.Code.{Code}
 use Rattle.teco_core.specs.declared.code.Code.TheVariants.{Ovf, Dvz}
 use Rattle.teco_core.specs.declared.number.Op.{Op}

@@ -1,7 +1,6 @@
 -- Registers: 36 of them, A to Z and 0 to 9, each with a number and a text.
 use Rattle.std.specs.Prelude.{ℕ, ◌+◌, ◌-◌, List, [], Option, Some, None, ℤ, pos, replicate, slice_index_or, slice_set, if◌then◌else◌}
-use Rattle.teco_core.specs.Ascii.{is_digit, is_upper}
-pub use Rattle.teco_core.specs.Ascii.{upper}
+use Rattle.teco_core.specs.Ascii.{is_digit, is_upper, upper}
 
 -- A to Z are the registers 0 to 25, 0 to 9 the registers 26 to 35
 abbrev pub register_named : ℕ → Option ℕ

@@ -7,8 +7,7 @@ use Rattle.std.proofs.lemmas.Bool.Decides.{nat_tests}
 use Rattle.teco_core.specs.declared.code.Code.{Code}
 use Rattle.teco_core.specs.declared.code.Code.TheVariants.{Ill, Utc}
 use Rattle.teco_core.specs.Refusal.{◌>>=◌}
-use Rattle.teco_core.specs.Number.{is_digit}
-use Rattle.teco_core.specs.Register.{upper}
+use Rattle.teco_core.specs.Ascii.{is_digit, upper}
 use Rattle.teco_scan.specs.declared.command.Bare.TheVariants as bares
 use Rattle.teco_scan.specs.declared.command.Command.TheVariants as commands
 use Rattle.teco_scan.specs.declared.command.Modifiers.{Modifiers}

@@ -1,6 +1,6 @@
 //! The tests of conditionals.
 ghost use Rattle.std.specs.Prelude.{◌≡◌, ◌&&◌, nat_le};
-ghost use Rattle.teco_core.specs.Number as number;
+ghost use Rattle.teco_core.specs.Ascii as ascii;
 ghost use Rattle.teco_exec.specs.Test as meant;
 
 use teco_scan::Test;
@@ -25,7 +25,7 @@ fn is_lower(n: i32) -> bool
 }
 
 fn is_digit(n: i32) -> bool
-    ensures { result ≡ meant.is_byte number.is_digit n }
+    ensures { result ≡ meant.is_byte ascii.is_digit n }
 {
     is_within(b'0', b'9', n)
 }

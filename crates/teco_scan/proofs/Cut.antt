@@ -6,8 +6,8 @@ use Rattle.std.specs.List.{list_all}
 use Rattle.teco_core.specs.declared.code.Code.{Code}
 use Rattle.teco_core.specs.declared.code.Code.TheVariants.{Ill, Iqc, Iqn, Utc}
 use Rattle.teco_core.specs.Refusal.{◌>>=◌}
-use Rattle.teco_core.specs.Number.{is_digit}
-use Rattle.teco_core.specs.Register.{upper, register_of}
+use Rattle.teco_core.specs.Ascii.{is_digit, upper}
+use Rattle.teco_core.specs.Register.{register_of}
 use Rattle.teco_scan.specs.declared.command.Row.{Row}
 use Rattle.teco_scan.specs.declared.command.Modifiers.{Modifiers}
 use Rattle.teco_scan.specs.declared.command.Name.{Name}

@@ -7,7 +7,7 @@ use Rattle.std.proofs.lemmas.List.{take_rest, get_or_default}
 use Rattle.teco_scan.proofs.Places.{front}
 use Rattle.teco_core.specs.declared.code.Code.TheVariants.{Ill, Utc}
 use Rattle.teco_core.specs.Refusal.{◌>>=◌}
-use Rattle.teco_core.specs.Register.{upper}
+use Rattle.teco_core.specs.Ascii.{upper}
 use Rattle.teco_scan.specs.declared.command.Modifiers.{Modifiers}
 use Rattle.teco_scan.specs.declared.command.Row.{Row}
 use Rattle.teco_scan.specs.declared.command.Name.{Name}

@@ -4,8 +4,7 @@ use Rattle.std.specs.Prelude.{◌==◌, ◌&&◌, ◌||◌, not, nat_le}
 use Rattle.std.proofs.lemmas.Bool.{false_from_ne_true}
 use Rattle.std.specs.List.{AllByRecursion, list_all}
 use Rattle.teco_core.specs.Refusal.{◌>>=◌}
-use Rattle.teco_core.specs.Number.{is_digit}
-use Rattle.teco_core.specs.Register.{upper}
+use Rattle.teco_core.specs.Ascii.{is_digit, upper}
 use Rattle.teco_core.specs.declared.code.Code.TheVariants.{Ill}
 use Rattle.teco_scan.specs.declared.command.Row.{Row}
 use Rattle.teco_scan.specs.declared.command.Modifiers.{Modifiers}

@@ -5,7 +5,7 @@ use Rattle.teco_core.specs.declared.code.Code.TheVariants.{Utc}
 use Rattle.std.proofs.Math.Seq.{take-append_seam}
 use Rattle.std.proofs.lemmas.List.{take_rest, drop-drop}
 use Rattle.teco_scan.specs.declared.table.TheConstants.{ROWS}
-use Rattle.teco_core.specs.Number.{is_digit}
+use Rattle.teco_core.specs.Ascii.{is_digit}
 use Rattle.teco_scan.specs.Scan.{text_at, run_of, after_run, after_fillers, token_from, scan, scan_here, scanned}
 
 pub front : (xs : List ℕ) (at : ℕ) → at < length xs → drop at xs ≡ get_or xs at 0 ∷ drop (at + 1) xs

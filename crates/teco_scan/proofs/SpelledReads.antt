@@ -3,7 +3,8 @@ use Rattle.std.proofs.Common.{leb-true, ◌≡◌, ◌≢◌, ℕ, ◌+◌, ◌<
 use Rattle.std.specs.Prelude.{◌||◌, not, ◌-◌, ◌&&◌}
 use Rattle.std.proofs.lemmas.Bool.{eqb-true, eq-eqb, false_from_ne_true}
 use Rattle.std.specs.List.{AllByRecursion, list_all, list_any}
-use Rattle.teco_core.specs.Register.{upper, register_of}
+use Rattle.teco_core.specs.Ascii.{upper}
+use Rattle.teco_core.specs.Register.{register_of}
 use Rattle.teco_scan.specs.declared.command.Modifiers.{Modifiers}
 use Rattle.teco_scan.specs.declared.command.Row.{Row}
 use Rattle.teco_scan.specs.declared.command.Name.{Name}

@@ -3,7 +3,7 @@ use Rattle.std.specs.Prelude.{ℕ, Bool, true, ◌&&◌, not, List, [], ◌∷�
 use Rattle.std.specs.List.{list_all}
 use Rattle.teco_core.specs.declared.code.Code.TheVariants.{Ill, Utc}
 use Rattle.teco_core.specs.Refusal.{◌>>=◌}
-use Rattle.teco_core.specs.Register.{upper}
+use Rattle.teco_core.specs.Ascii.{upper}
 use Rattle.teco_scan.specs.declared.command.Modifiers.{Modifiers}
 use Rattle.teco_scan.specs.declared.command.Row.{Row}
 use Rattle.teco_scan.specs.declared.command.Name.{Name}

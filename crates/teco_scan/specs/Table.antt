@@ -1,8 +1,7 @@
 -- What a table of commands must be, for the first row that fits to be the only one, or the one of the longest token.
 use Rattle.std.specs.Prelude.{ℕ, ◌+◌, ◌-◌, Bool, true, false, ◌&&◌, ◌||◌, not, List, [], ◌∷◌, ◌==◌, nat_le, if◌then◌else◌}
 use Rattle.std.specs.List.{list_all, list_any}
-use Rattle.teco_core.specs.Number.{is_digit}
-use Rattle.teco_core.specs.Register.{upper}
+use Rattle.teco_core.specs.Ascii.{is_digit, upper}
 use Rattle.teco_scan.specs.declared.command.Row.{Row}
 use Rattle.teco_scan.specs.declared.command.Name.{Name}
 use Rattle.teco_scan.specs.declared.command.Name.TheVariants.{One, Two, Three, Control}

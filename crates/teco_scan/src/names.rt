@@ -1,6 +1,6 @@
 //! Reading a command's modifiers and its name.
 ghost use Rattle.std.specs.Prelude.{◌≡◌, ◌<◌, ◌≤◌, ℕ, List, ◌∷◌, length, take, drop, IfOk, IfSome, Ok, true};
-ghost use Rattle.teco_core.specs.Register.{upper};
+ghost use Rattle.teco_core.specs.Ascii.{upper};
 ghost use Rattle.teco_scan.specs.Scan.{no_modifiers, admits, is_refused, after_name, ends_inside, row_at, is_cut, after_letter, modifiers_at};
 ghost use Rattle.teco_scan.specs.declared.command.Modifiers.{Modifiers};
 ghost use Rattle.teco_scan.specs.FirstRow.{form_at, named_at, picks};

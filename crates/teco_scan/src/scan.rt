@@ -1,6 +1,6 @@
 //! Reading tokens.
 ghost use Rattle.std.specs.Prelude.{◌≡◌, ◌<◌, ◌≤◌, ℕ, length, drop, IfOk, slice_index, true};
-ghost use Rattle.teco_core.specs.Number.{is_digit};
+ghost use Rattle.teco_core.specs.Ascii.{is_digit};
 ghost use Rattle.teco_scan.specs.Scan.{is_filler, token_from, scan, run_of, after_run, after_fillers};
 ghost use Rattle.teco_scan.specs.Spelling.{IsSpelled, IsLongest, IsCutExactly, LacksRegisterExactly, LacksTestExactly, IsIllExactly, IsFaultOfFour, PassesFillers};
 ghost use Rattle.teco_scan.specs.Written.{CommandsAreSpelled};

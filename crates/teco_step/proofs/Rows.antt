@@ -18,7 +18,8 @@ use Rattle.teco_scan.specs.declared.command.RegisterCommand.TheVariants as regis
 use Rattle.teco_scan.specs.declared.command.TextCommand.TheVariants.{Insert, Go}
 use Rattle.teco_scan.specs.Scan.{Item, no_modifiers}
 use Rattle.teco_scan.specs.Scan as token
-use Rattle.teco_store.specs.State.{State, beginning, text_limit}
+use Rattle.teco_core.specs.declared.limits.TheConstants.{TEXT_LIMIT}
+use Rattle.teco_store.specs.State.{State, beginning}
 use Rattle.teco_step.specs.Effect.{effect}
 use Rattle.teco_step.specs.Line.{line, line_ends_from}
 use Rattle.teco_step.specs.Step.{Setting, Step, End, on, leave, go, call, stop}
@@ -353,6 +354,6 @@ row_run_register_keeps_arguments : does (token.register register_command.Macro 0
 unfolding effect give operate taken_from digits_value line_ends_from
 row_run_register_keeps_arguments = refl
 
-row_set_text_past_the_limit : (text : List ℕ) → length text ≡ text_limit + 1 → does (token.set_text 0 text) seven no_arguments ≡ refused seven no_arguments Big
+row_set_text_past_the_limit : (text : List ℕ) → length text ≡ TEXT_LIMIT + 1 → does (token.set_text 0 text) seven no_arguments ≡ refused seven no_arguments Big
 unfolding effect give operate taken_from digits_value line_ends_from
 row_set_text_past_the_limit text is = rw is refl

@@ -6,7 +6,8 @@ use Rattle.teco_core.specs.declared.arguments.Taken.{Taken}
 use Rattle.teco_core.specs.declared.arguments.Taken.TheVariants as taken
 use Rattle.teco_core.specs.Refusal.{◌>>=◌}
 use Rattle.teco_core.specs.Arguments.{Arguments, taken_from}
-use Rattle.teco_store.specs.State.{State, spliced, pointed, text_limit}
+use Rattle.teco_core.specs.declared.limits.TheConstants.{TEXT_LIMIT}
+use Rattle.teco_store.specs.State.{State, spliced, pointed}
 use Rattle.teco_step.specs.Step.{Made, changes, takes_one_or, as_byte, place_or}
 use Rattle.teco_step.specs.Line.{line}
 
@@ -43,7 +44,7 @@ to_line s a = do
 
 -- A state whose text is within its limit; else BIG.
 abbrev pub with_text_in_limit : State → Result State Code
-with_text_in_limit s = if nat_le (length s.text) text_limit then Ok s else Err Big
+with_text_in_limit s = if nat_le (length s.text) TEXT_LIMIT then Ok s else Err Big
 
 -- These bytes come in for so many at a place, and the pointer goes after them.
 abbrev pub puts : ℕ → ℕ → List ℕ → State → Arguments → Made

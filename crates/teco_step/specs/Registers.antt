@@ -8,7 +8,8 @@ use Rattle.teco_core.specs.Number.{fitted}
 use Rattle.teco_core.specs.Arguments.{Arguments, give, level_of, emptied}
 use Rattle.teco_core.specs.Register.{content}
 use Rattle.teco_scan.specs.declared.command.Modifiers.{Modifiers}
-use Rattle.teco_store.specs.State.{State, text_limit, with_register_number, with_register_text}
+use Rattle.teco_core.specs.declared.limits.TheConstants.{TEXT_LIMIT}
+use Rattle.teco_store.specs.State.{State, with_register_number, with_register_text}
 use Rattle.teco_step.specs.Step.{Made, changes, edits, gives, types, takes_none, takes_one}
 use Rattle.teco_step.specs.Editing.{inserts}
 
@@ -47,7 +48,7 @@ increment q s a = increments q (level_of a.expression) s a
 -- The text of q becomes this one, which must be within its limit, else BIG. The load is that of the old and the new one.
 abbrev pub sets_text : ℕ → List ℕ → State → Made
 sets_text q text s =
-    if nat_le (length text) text_limit then changes (with_register_text s q text) (length (content s.registers q).text + length text) else Err Big
+    if nat_le (length text) TEXT_LIMIT then changes (with_register_text s q text) (length (content s.registers q).text + length text) else Err Big
 
 -- ^Uqtext$: the text of q becomes this one.
 abbrev pub set_text : ℕ → List ℕ → State → Arguments → Made

@@ -3,7 +3,7 @@ ghost use Rattle.std.specs.Prelude.{◌≡◌, ◌≤◌, length, pos, Err, IfEr
 ghost use Rattle.teco_core.specs.ArgumentsView.{arguments};
 ghost use Rattle.teco_core.specs.Arguments.{emptied, give};
 ghost use Rattle.teco_core.specs.Register.{content};
-ghost use Rattle.teco_store.specs.State.{text_limit};
+ghost use Rattle.teco_core.specs.declared.limits.TheConstants.{TEXT_LIMIT};
 ghost use Rattle.teco_step.specs.Families.{Acts, Does, Types};
 ghost use Rattle.teco_step.specs.Registers as registers;
 ghost use Rattle.teco_step.specs.Step.{at, goes};
@@ -22,7 +22,7 @@ use teco_store::Desk;
 /// The length of the text of `q`, in bytes.
 fn length_of<D: Desk>(desk: &D, q: Reg) -> usize
     ensures value { result ≡ length (content (D.state desk.now).registers q).text }
-    ensures small { length (content (D.state desk.now).registers q).text ≤ text_limit }
+    ensures small { length (content (D.state desk.now).registers q).text ≤ TEXT_LIMIT }
 {
     desk.registers().value(q).text.len()
 }

@@ -3,7 +3,7 @@ ghost use Rattle.std.specs.Prelude.{◌≡◌, ◌<◌, ◌≤◌, ◌^◌, ◌+
 ghost use Rattle.teco_core.specs.Arguments.{give, give_pair, operate, taken_from};
 ghost use Rattle.teco_core.specs.ArgumentsView.{arguments};
 ghost use Rattle.teco_core.specs.Number.{decimal_value, fitted};
-ghost use Rattle.teco_store.specs.State.{text_limit};
+ghost use Rattle.teco_core.specs.declared.limits.TheConstants.{TEXT_LIMIT};
 ghost use Rattle.teco_step.specs.Families.{IsRefusal, Takes, range_of};
 ghost use Rattle.teco_step.specs.Line.{line};
 ghost use Rattle.teco_step.specs.Step as step;
@@ -116,7 +116,7 @@ pub(crate) fn as_byte(n: i32) -> Result<u8, Failure>
 /// The length of the text of the buffer.
 pub(crate) fn text_length<D: Desk>(desk: &D) -> usize
     ensures value { result ≡ length (D.state desk.now).text }
-    ensures small { length (D.state desk.now).text ≤ text_limit }
+    ensures small { length (D.state desk.now).text ≤ TEXT_LIMIT }
 {
     let (before, after) = desk.halves();
     before.len() + after.len()

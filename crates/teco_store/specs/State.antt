@@ -38,13 +38,6 @@ beginning input = record {
   case_mode = Exact;
 }
 
--- two of the limits, for specs that do not name the constants
-abbrev pub text_limit : ℕ
-text_limit = TEXT_LIMIT
-
-abbrev pub file_limit : ℕ
-file_limit = FILE_LIMIT
-
 -- each of these texts is within its limit
 abbrev pub AreSmall : List Content → Type 0
 AreSmall contents = All (λ c. length c.text ≤ TEXT_LIMIT) contents

@@ -1,7 +1,7 @@
 use Rattle.std.proofs.Common.{◌≡◌, ℕ, ◌<◌, false, List, length, drop, sym, ap, ◌∙◌}
 use Rattle.std.specs.Prelude.{get_or}
 use Rattle.std.proofs.lemmas.Result.{err_from_is_err_and}
-use Rattle.teco_core.specs.Number.{is_digit}
+use Rattle.teco_core.specs.Ascii.{is_digit}
 use Rattle.teco_scan.specs.Scan.{begins_run}
 use Rattle.teco_scan.proofs.Places.{front}
 use Rattle.teco_scan.proofs.FirstRow.{token_named, with_operand, ordered}
