@@ -4,7 +4,7 @@ ghost use Rattle.std.specs.IoError.{error_kind};
 ghost use Rattle.std.specs.Prelude.{◌≡◌, ◌≢◌, ◌≤◌, IfErr, IfOk, false, map};
 ghost use Rattle.std.specs.String.{string_bytes};
 ghost use Rattle.std.specs.declared.io.ErrorKind.TheVariants as io_kind;
-ghost use Rattle.teco.specs.CommandLine.{IsLine, IsLineFault, fault_for, limit_rule, teco_app};
+ghost use Rattle.teco.specs.CommandLine.{IsLine, IsLineFault, fault_for, input_rule, limit_rule, output_rule, prompt_rule, teco_app};
 ghost use Rattle.teco.specs.Ending.{output_of};
 
 use clap::error::ErrorKind;
@@ -73,26 +73,44 @@ fn limit_arg<'a>(alloc: Global) -> Arg<'a>
         .default_value("1000000")
 }
 
+fn output_arg<'a>(alloc: Global) -> Arg<'a>
+    ensures rule { rule_of result ≡ output_rule }
+    ensures local { result.global ≡ false }
+{
+    Arg::new(alloc, "output")
+        .long("output")
+        .value_name("FILE")
+        .action(ArgAction::Set)
+}
+
+fn prompt_arg<'a>(alloc: Global) -> Arg<'a>
+    ensures rule { rule_of result ≡ prompt_rule }
+    ensures local { result.global ≡ false }
+{
+    Arg::new(alloc, "prompt")
+        .long("prompt")
+        .action(ArgAction::SetTrue)
+}
+
+fn input_arg<'a>(alloc: Global) -> Arg<'a>
+    ensures rule { rule_of result ≡ input_rule }
+    ensures local { result.global ≡ false }
+{
+    Arg::new(alloc, "input")
+        .value_name("INPUT")
+        .required(true)
+        .action(ArgAction::Set)
+}
+
 // The command that the words are read by.
 fn command<'a>(alloc: Global) -> Result<Command<'a>, NoMemory>
     ensures { IfOk result (λ command. app_of command ≡ teco_app) }
 {
-    let output = Arg::new(alloc, "output")
-        .long("output")
-        .value_name("FILE")
-        .action(ArgAction::Set);
-    let prompt = Arg::new(alloc, "prompt")
-        .long("prompt")
-        .action(ArgAction::SetTrue);
-    let input = Arg::new(alloc, "input")
-        .value_name("INPUT")
-        .required(true)
-        .action(ArgAction::Set);
     Command::new(alloc, "teco")
         .arg(limit_arg(alloc))?
-        .arg(output)?
-        .arg(prompt)?
-        .arg(input)
+        .arg(output_arg(alloc))?
+        .arg(prompt_arg(alloc))?
+        .arg(input_arg(alloc))
 }
 
 /// What the words say, the program's name first: `teco [--limit N] [--output FILE] [--prompt] INPUT`.

@@ -1,17 +1,14 @@
 use Rattle.std.proofs.Common.{rules, ap₂, codes, ◌≡◌, ◌∙◌}
 use Rattle.std.proofs.lemmas.Result.{IfOk-weaker}
-use Rattle.clap.specs.Words.{app_of, new_app, rule_of, with_rule}
-use Rattle.teco.specs.CommandLine.{limit_rule, output_rule, prompt_rule, input_rule}
+use Rattle.clap.specs.Words.{app_of, new_app, with_rule}
+use Rattle.teco.specs.CommandLine.{limit_rule, output_rule, prompt_rule}
 use Rattle.teco.proofs.line.command.Goals as goal
 
 pub returns : goal.returns
 returns c =
-    let output_is : rule_of c.action-output.result ≡ output_rule = search rules in
-    let prompt_is : rule_of c.action-prompt.result ≡ prompt_rule = search rules in
-    let input_is : rule_of c.action-input.result ≡ input_rule = search rules in
     let one_is : app_of c.in_ok-arg.field-0 ≡ with_rule (new_app (codes "teco")) limit_rule =
-    c.in_ok-arg.ensures.shape (search rules) ∙ ap₂ with_rule c.new-4.ensures.app c.limit_arg.ensures.rule in
+    c.in_ok-arg.ensures.shape (search rules) ∙ ap₂ with_rule c.new.ensures.app c.limit_arg.ensures.rule in
     let three_is : app_of c.in_ok-arg-3.field-0 ≡ with_rule (with_rule (with_rule (new_app (codes "teco")) limit_rule) output_rule) prompt_rule =
     c.in_ok-arg-3.ensures.shape (search rules) ∙ ap₂ with_rule (c.in_ok-arg-2.ensures.shape (search rules)
-    ∙ ap₂ with_rule one_is output_is) prompt_is in
-    IfOk-weaker c.arg-4.result _ _ (λ m h. h.shape (search rules) ∙ ap₂ with_rule three_is input_is) c.arg-4.ensures
+    ∙ ap₂ with_rule one_is c.output_arg.ensures.rule) c.prompt_arg.ensures.rule in
+    IfOk-weaker c.arg-4.result _ _ (λ m h. h.shape (search rules) ∙ ap₂ with_rule three_is c.input_arg.ensures.rule) c.arg-4.ensures
