@@ -1,13 +1,13 @@
 -- A name's first byte leads to the first row that it may be in.
-use Rattle.std.proofs.Common.{◌≡◌, ℕ, zero, suc, ◌<◌, ◌≤◌, Bool, true, false, cond, List, [], ◌∷◌, length, take, drop, Option, Some, None, Ok, Err, ◌⊎◌, inl, inr, refl, sym, ap, ◌∙◌, arith, leb-true, drop-cons}
-use Rattle.std.specs.Prelude.{◌&&◌, ◌||◌, not, ◌+◌, ◌-◌, ◌==◌, get_or, if◌then◌else◌, nat_le, nat_lt, slice_index, slice_index_or, ◌/◌, ◌%◌}
+use Rattle.std.proofs.Common.{◌≡◌, ℕ, zero, suc, ◌<◌, ◌≤◌, Bool, true, false, cond, List, [], ◌∷◌, length, take, drop, Option, Some, None, Ok, Err, inl, inr, refl, sym, ap, ◌∙◌, arith, leb-true, drop-cons}
+use Rattle.std.specs.Prelude.{◌&&◌, ◌||◌, not, ◌+◌, ◌-◌, ◌==◌, get_or, if◌then◌else◌, nat_le, nat_lt, slice_index_or, ◌/◌, ◌%◌}
 use Rattle.std.proofs.Math.Nat.{eq-or-lt_of_le}
 use Rattle.std.proofs.lemmas.Bool.{le-leb, lt-ltb}
 use Rattle.std.proofs.lemmas.List.{take_rest, get_or_default}
 use Rattle.teco_scan.proofs.Places.{front}
 use Rattle.teco_core.specs.declared.code.Code.TheVariants.{Ill, Utc}
 use Rattle.teco_core.specs.Refusal.{◌>>=◌}
-use Rattle.teco_core.specs.Ascii.{upper}
+use Rattle.teco_core.specs.Ascii.{is_digit, upper}
 use Rattle.teco_scan.specs.declared.command.Modifiers.{Modifiers}
 use Rattle.teco_scan.specs.declared.command.Row.{Row}
 use Rattle.teco_scan.specs.declared.command.Name.{Name}
@@ -154,3 +154,7 @@ by_modifiers (Ok m) = by_row m.0 m.1 (row_at ROWS m.0 m.1)
 pub token_named : (bs : List ℕ) → begins_run bs ≡ false → token_from ROWS bs ≡ with_operand (named_at ROWS bs)
 unfolding token_from named_at
 token_named bs e = rw e (by_modifiers (modifiers_at no_modifiers bs))
+
+-- no digit, no run of digits
+pub no_run : (xs : List ℕ) (at : ℕ) → at < length xs → is_digit (get_or xs at 0) ≡ false → begins_run (drop at xs) ≡ false
+no_run xs at lt e = ap begins_run (front xs at lt) ∙ e

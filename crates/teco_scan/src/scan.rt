@@ -1,5 +1,5 @@
 //! Reading tokens.
-ghost use Rattle.std.specs.Prelude.{◌≡◌, ◌<◌, ◌≤◌, ℕ, length, drop, IfOk, slice_index, true};
+ghost use Rattle.std.specs.Prelude.{◌≡◌, ◌<◌, ◌≤◌, ℕ, length, drop, IfOk, IfSome, Ok, slice_index, true};
 ghost use Rattle.teco_core.specs.Ascii.{is_digit};
 ghost use Rattle.teco_scan.specs.Scan.{is_filler, token_from, scan, run_of, after_run, after_fillers};
 ghost use Rattle.teco_scan.specs.Spelling.{IsSpelled, IsLongest, IsCutExactly, LacksRegisterExactly, LacksTestExactly, IsIllExactly, IsFaultOfFour, PassesFillers};
@@ -7,8 +7,8 @@ ghost use Rattle.teco_scan.specs.Written.{CommandsAreSpelled};
 ghost use Rattle.teco_scan.specs.Seen.{Gives, IsKindIn, IsKindPlaced, IsFoundAt, IsDetermined, bytes_in, instruction_in, found_in};
 
 use crate::command::Modifiers;
-use crate::names::named_at;
-use crate::operand::operand_at;
+use crate::names::{lone_form, named_at};
+use crate::operand::{operand_at, short_operand_at};
 use crate::table::{NONE, ROWS};
 use crate::token::{Found, Item, Span, Token, TokenKind};
 use teco_core::Code;
@@ -55,7 +55,29 @@ fn digits_end(text: &[u8], at: usize) -> usize
     to
 }
 
+/// A token of one byte without modifiers, or of that and a register, if one is here.
+#[inline]
+fn short_token_at(text: &[u8], at: usize) -> Option<Token>
+    requires { at < length text.now }
+    ensures read { IfSome result (λ t. token_from ROWS (drop at text.now) ≡ Ok (record { modifiers = t.modifiers; instruction = instruction_in text.now t.kind }, drop t.span.to text.now)) }
+    ensures span { IfSome result (λ t. (t.span.from ≡ at) × (at < t.span.to) × (t.span.to ≤ length text.now)) }
+    ensures spans { IfSome result (λ t. IsKindIn (length text.now) t.kind) }
+    ensures placed { IfSome result (λ t. IsKindPlaced t.span t.kind) }
+{
+    if is_digit(text[at]) {
+        return None;
+    }
+    let form = lone_form(text[at])?;
+    let (kind, to) = short_operand_at(form, text, at + 1)?;
+    Some(Token {
+        span: Span { from: at, to },
+        modifiers: NONE,
+        kind,
+    })
+}
+
 /// A token, from its first byte on: its modifiers, what it instructs and the place after it.
+#[inline(never)]
 #[tactic(auto, unfolding(crate::specs::Scan::token_from))]
 fn token_from(text: &[u8], at: usize) -> Result<(Modifiers, TokenKind, usize), Code>
     requires { at < length text.now }
@@ -86,6 +108,9 @@ pub fn token_at(text: &[u8], at: usize) -> Found
     let from = filler_end(text, at);
     if from == text.len() {
         return Found::End;
+    }
+    if let Some(token) = short_token_at(text, from) {
+        return Found::Token(token);
     }
     match token_from(text, from) {
         Ok((modifiers, kind, to)) => Found::Token(Token {

@@ -1,4 +1,4 @@
-use Rattle.std.proofs.Common.{◌≡◌, ℕ, List, drop, Option, Some, None, true, is_some, sym, ap, ◌∙◌, arith}
+use Rattle.std.proofs.Common.{◌≡◌, ℕ, List, drop, Option, Some, None, true, is_some, sym, ◌∙◌, arith}
 use Rattle.teco_scan.specs.declared.command.BlockMark.{BlockMark}
 use Rattle.teco_scan.specs.Seen.{meaning_in, instruction_in}
 use Rattle.teco_scan.proofs.LastBytes.{tag_byte}

@@ -1,4 +1,4 @@
-use Rattle.std.proofs.Common.{◌≡◌, ℕ, true, sym, ap, ◌∙◌, arith}
+use Rattle.std.proofs.Common.{ap, ◌∙◌, arith}
 use Rattle.teco_scan.specs.FirstRow.{picks}
 use Rattle.teco_scan.proofs.FirstRow.{picked_at}
 use Rattle.teco_scan.proofs.names.first_row.Goals as goal

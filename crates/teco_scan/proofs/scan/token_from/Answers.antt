@@ -1,14 +1,7 @@
-use Rattle.std.proofs.Common.{◌≡◌, ℕ, ◌<◌, false, List, length, drop, sym, ap, ◌∙◌}
-use Rattle.std.specs.Prelude.{get_or}
+use Rattle.std.proofs.Common.{drop, sym, ap, ◌∙◌}
 use Rattle.std.proofs.lemmas.Result.{err_from_is_err_and}
-use Rattle.teco_core.specs.Ascii.{is_digit}
-use Rattle.teco_scan.specs.Scan.{begins_run}
-use Rattle.teco_scan.proofs.Places.{front}
-use Rattle.teco_scan.proofs.FirstRow.{token_named, with_operand, ordered}
+use Rattle.teco_scan.proofs.FirstRow.{no_run, token_named, with_operand, ordered}
 use Rattle.teco_scan.proofs.scan.token_from.Goals as goal
-
-no_run : (xs : List ℕ) (at : ℕ) → at < length xs → is_digit (get_or xs at 0) ≡ false → begins_run (drop at xs) ≡ false
-no_run xs at lt e = ap begins_run (front xs at lt) ∙ e
 
 pub returns-in_err-modifiers-clause-read : goal.returns-in_err-modifiers-clause-read
 returns-in_err-modifiers-clause-read c =
