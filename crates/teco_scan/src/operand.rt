@@ -1,20 +1,18 @@
 //! Reading what follows a command's name.
-ghost use Rattle.std.specs.Prelude.{◌≡◌, ◌+◌, ◌<◌, ◌≤◌, ℕ, length, drop, IfOk, IfSome, Ok};
-ghost use Rattle.teco_scan.specs.Scan.{no_modifiers, test_of, byte_at, register_at, test_at, delimiter_at, text_at, operand_at};
+ghost use Rattle.std.specs.Prelude.{◌≡◌, ◌+◌, ◌<◌, ◌≤◌, ℕ, length, drop, IfOk};
+ghost use Rattle.teco_scan.specs.Scan.{test_of, byte_at, register_at, test_at, delimiter_at, text_at, operand_at};
 ghost use Rattle.teco_scan.specs.Seen.{Gives, IsSpanIn, IsKindIn, IsKindPlaced, bytes_in, instruction_in};
 
 use crate::command::{Form, Modifiers, Test};
-use crate::names::upper;
-use crate::table::ESCAPE;
 use crate::token::{Item, Span, TokenKind};
 use memchr::memchr;
-use teco_core::{Code, Reg};
+use teco_core::{Code, ESC, Reg};
 
 #[tactic(auto, unfolding(crate::specs::Scan::test_of))]
 fn test_of(b: u8) -> Option<Test>
     ensures { result ≡ test_of b }
 {
-    match upper(b) {
+    match b.to_ascii_uppercase() {
         b'E' => Some(Test::Zero),
         b'F' => Some(Test::Zero),
         b'U' => Some(Test::Zero),
@@ -45,7 +43,7 @@ fn byte_at(text: &[u8], at: usize) -> Result<(u8, usize), Code>
 }
 
 #[tactic(auto, unfolding(crate::specs::Scan::register_at))]
-fn register_at(text: &[u8], at: usize) -> Result<(Reg, usize), Code>
+pub(crate) fn register_at(text: &[u8], at: usize) -> Result<(Reg, usize), Code>
     ensures read { Gives (λ x. (x.0, drop x.1 text.now)) result (register_at (drop at text.now)) }
     ensures within { IfOk result (λ x. (at < x.1) × (x.1 ≤ length text.now)) }
 {
@@ -117,7 +115,7 @@ fn set_text_at(modifiers: Modifiers, text: &[u8], at: usize) -> Result<(TokenKin
     ensures placed { (from : ℕ) → IfOk result (λ x. IsKindPlaced (record { from = from; to = x.1 }) x.0) }
 {
     let (register, at) = register_at(text, at)?;
-    let (delimiter, at) = delimiter_at(modifiers, ESCAPE, text, at)?;
+    let (delimiter, at) = delimiter_at(modifiers, ESC, text, at)?;
     let (span, at) = text_at(delimiter, text, at)?;
     Ok((TokenKind::Item(Item::SetText(register, span)), at))
 }
@@ -131,32 +129,10 @@ fn replace_at(modifiers: Modifiers, text: &[u8], at: usize) -> Result<(TokenKind
     ensures spans { IfOk result (λ x. IsKindIn (length text.now) x.0) }
     ensures placed { (from : ℕ) → IfOk result (λ x. IsKindPlaced (record { from = from; to = x.1 }) x.0) }
 {
-    let (delimiter, at) = delimiter_at(modifiers, ESCAPE, text, at)?;
+    let (delimiter, at) = delimiter_at(modifiers, ESC, text, at)?;
     let (old, at) = text_at(delimiter, text, at)?;
     let (new, at) = text_at(delimiter, text, at)?;
     Ok((TokenKind::Item(Item::Replace(old, new)), at))
-}
-
-/// What follows a command's name without modifiers, where that is nothing or a register: so most tokens are read at once.
-#[inline]
-#[tactic(auto, unfolding(crate::specs::Scan::operand_at, crate::specs::Scan::register_at, crate::specs::Scan::byte_at))]
-pub(crate) fn short_operand_at(form: Form, text: &[u8], at: usize) -> Option<(TokenKind, usize)>
-    requires { at ≤ length text.now }
-    ensures read { IfSome result (λ x. operand_at form no_modifiers (drop at text.now) ≡ Ok (instruction_in text.now x.0, drop x.1 text.now)) }
-    ensures within { IfSome result (λ x. (at ≤ x.1) × (x.1 ≤ length text.now)) }
-    ensures spans { IfSome result (λ x. IsKindIn (length text.now) x.0) }
-    ensures placed { (from : ℕ) → IfSome result (λ x. IsKindPlaced (record { from = from; to = x.1 }) x.0) }
-{
-    match form {
-        Form::Bare(command) => Some((TokenKind::Item(Item::Bare(command)), at)),
-        Form::Mark(mark) => Some((TokenKind::Mark(mark), at)),
-        Form::Escape => Some((TokenKind::Escape, at)),
-        Form::Register(command) => match register_at(text, at) {
-            Ok((register, at)) => Some((TokenKind::Item(Item::Register(command, register)), at)),
-            Err(_) => None,
-        },
-        _ => None,
-    }
 }
 
 /// What follows a command's name.
