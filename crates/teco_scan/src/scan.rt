@@ -2,7 +2,7 @@
 ghost use Rattle.std.specs.Prelude.{◌≡◌, ◌<◌, ◌≤◌, ℕ, length, drop, IfOk, slice_index, true};
 ghost use Rattle.teco_core.specs.Ascii.{is_digit};
 ghost use Rattle.teco_scan.specs.FirstRow.{named_at, with_operand};
-ghost use Rattle.teco_scan.specs.Scan.{no_modifiers, token_from, scan, scanned, run_of, after_run, after_fillers};
+ghost use Rattle.teco_scan.specs.Scan.{no_modifiers, scan, scanned, run_of, after_run, after_fillers};
 ghost use Rattle.teco_scan.specs.Spelling.{IsSpelled, IsLongest, IsCutExactly, LacksRegisterExactly, LacksTestExactly, IsIllExactly, IsFaultOfFour, PassesFillers};
 ghost use Rattle.teco_scan.specs.Written.{CommandsAreSpelled};
 ghost use Rattle.teco_scan.specs.Seen.{Gives, IsKindIn, IsKindPlaced, IsFoundAt, IsDetermined, bytes_in, instruction_in, found_in};
@@ -86,32 +86,6 @@ fn command_here(text: &[u8], at: usize) -> Found
     }
 }
 
-/// The token whose first byte is here, or its fault. A run of digits and the most usual commands are read at once.
-#[inline]
-fn token_here(text: &[u8], at: usize) -> Found
-    requires { at < length text.now }
-    ensures read { found_in text.now result ≡ scanned (token_from ROWS (drop at text.now)) }
-    ensures place { (start : ℕ) → start ≤ at → drop at text.now ≡ after_fillers (drop start text.now) → IsFoundAt text.now start result }
-{
-    if text[at].is_ascii_digit() {
-        let to = digits_end(text, at);
-        let run = Span { from: at, to };
-        return plain(at, to, TokenKind::Item(Item::Digits(run)));
-    }
-    match lone_form(text[at]) {
-        Some(Form::Bare(command)) => plain(at, at + 1, TokenKind::Item(Item::Bare(command))),
-        Some(Form::Mark(mark)) => plain(at, at + 1, TokenKind::Mark(mark)),
-        Some(Form::Escape) => plain(at, at + 1, TokenKind::Escape),
-        Some(Form::Register(command)) => match register_at(text, at + 1) {
-            Ok((register, to)) => {
-                plain(at, to, TokenKind::Item(Item::Register(command, register)))
-            }
-            Err(code) => Found::Fault(code),
-        },
-        _ => command_here(text, at),
-    }
-}
-
 /// What is at a place, after fillers: a token, the end of the text, or a fault.
 ///
 /// The place counts the bytes before it. Of the tokens that the bytes begin with the longest is found. It takes no memory.
@@ -125,7 +99,25 @@ pub fn token_at(text: &[u8], at: usize) -> Found
     if from == text.len() {
         return Found::End;
     }
-    token_here(text, from)
+    if text[from].is_ascii_digit() {
+        let to = digits_end(text, from);
+        let run = Span { from, to };
+        return plain(from, to, TokenKind::Item(Item::Digits(run)));
+    }
+    match lone_form(text[from]) {
+        Some(Form::Bare(command)) => {
+            return plain(from, from + 1, TokenKind::Item(Item::Bare(command)));
+        }
+        Some(Form::Mark(mark)) => return plain(from, from + 1, TokenKind::Mark(mark)),
+        Some(Form::Escape) => return plain(from, from + 1, TokenKind::Escape),
+        Some(Form::Register(command)) => {
+            if let Ok((register, to)) = register_at(text, from + 1) {
+                return plain(from, to, TokenKind::Item(Item::Register(command, register)));
+            }
+        }
+        _ => {}
+    }
+    command_here(text, from)
 }
 
 /// The laws of spelling, as its clauses.

@@ -5,8 +5,9 @@ use Rattle.teco_scan.proofs.blocks.is_passed.Goals.{then-is_filler-via-then-is_f
 
 pub returns-then-is_filler : goal.returns-then-is_filler
 returns-then-is_filler c t bs = elim c.then-is_filler.branch [
-    then-is_filler-via-then-is_filler w ↦ filler_passed c.args.b bs (sym c.is_filler.ensures ∙ w.if-is_filler.true)
-    | then-is_filler-via-else-is_filler+then-is_ascii_digit w ↦ digit_passed c.args.b bs (sym w.is_ascii_digit.ensures.value ∙ w.if-is_ascii_digit.true) ]
+  | then-is_filler-via-then-is_filler w ↦ filler_passed c.args.b bs (sym c.is_filler.ensures ∙ w.if-is_filler.true)
+  | then-is_filler-via-else-is_filler+then-is_ascii_digit w ↦ digit_passed c.args.b bs (sym w.is_ascii_digit.ensures.value ∙ w.if-is_ascii_digit.true)
+]
 
 pub returns-in-Some-Bare : goal.returns-in-Some-Bare
 returns-in-Some-Bare c t bs =
