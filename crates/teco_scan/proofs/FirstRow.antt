@@ -4,7 +4,7 @@ use Rattle.std.specs.Prelude.{◌&&◌, ◌||◌, not, ◌+◌, ◌-◌, ◌==�
 use Rattle.std.proofs.Math.Nat.{eq-or-lt_of_le}
 use Rattle.std.proofs.lemmas.Bool.{le-leb}
 use Rattle.std.proofs.lemmas.List.{take_rest, get_or_default}
-use Rattle.teco_scan.proofs.Places.{front}
+use Rattle.teco_scan.proofs.Places.{front, scan_found}
 use Rattle.teco_core.specs.declared.code.Code.TheVariants.{Ill, Utc}
 use Rattle.teco_core.specs.Refusal.{◌>>=◌}
 use Rattle.teco_core.specs.Ascii.{is_digit, upper}
@@ -16,7 +16,7 @@ use Rattle.teco_scan.specs.declared.command.Form.{Form}
 use Rattle.teco_scan.specs.declared.command.Form.TheVariants.{Register}
 use Rattle.teco_scan.specs.declared.command.RegisterCommand.{RegisterCommand}
 use Rattle.teco_scan.specs.declared.table.TheConstants.{ROWS, FIRST}
-use Rattle.teco_scan.specs.Scan.{Reading, Instruction, TokenMeaning, no_modifiers, admits, after_letter, after_name, at_row, row_at, is_cut, of_row, command_at, modifiers_at, operand_at, begins_run, token_from, scanned, run_of, after_run, register_at, step, digits, register}
+use Rattle.teco_scan.specs.Scan.{Reading, Instruction, TokenMeaning, no_modifiers, admits, after_letter, after_name, at_row, row_at, is_cut, of_row, command_at, modifiers_at, operand_at, begins_run, token_from, scanned, scan, after_fillers, run_of, after_run, register_at, step, digits, register}
 use Rattle.teco_scan.specs.Table.{begins_with}
 use Rattle.teco_scan.specs.FirstRow.{none_begins, is_whole, is_whole_first, picks, form_of, form_at, named_at, with_operand}
 use Rattle.teco_scan.proofs.SpelledReads.{both}
@@ -171,3 +171,8 @@ pub register_read : (form : Form) (c : RegisterCommand) (bs : List ℕ) (r : Rea
     → operand_at form no_modifiers bs ≡ (r >>= (λ q. Ok (step (register c q.0), q.1)))
 unfolding operand_at
 register_read form c bs r is read = ap (λ (f : Form). operand_at f no_modifiers bs) is ∙ ap (λ (x : Reading ℕ). x >>= (λ q. Ok (step (register c q.0), q.1))) read
+
+-- what is scanned where no digit is, by the command that is read there
+pub command_read : (xs : List ℕ) (at from : ℕ) (r : Reading TokenMeaning) → from < length xs → drop from xs ≡ after_fillers (drop at xs) → is_digit (get_or xs from 0) ≡ false
+    → with_operand (named_at ROWS (drop from xs)) ≡ r → scanned r ≡ scan (drop at xs)
+command_read xs at from r lt rest e read = sym (scan_found xs at from lt rest ∙ ap scanned (token_named (drop from xs) (no_run xs from lt e) ∙ read))

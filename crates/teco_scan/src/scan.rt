@@ -57,6 +57,7 @@ fn plain(from: usize, to: usize, kind: TokenKind) -> Found
 }
 
 /// A command, from its first byte on: its modifiers, what it instructs and the place after it.
+#[inline(never)]
 fn command_from(text: &[u8], at: usize) -> Result<(Modifiers, TokenKind, usize), Code>
     requires { at < length text.now }
     ensures read { Gives (λ x. (record { modifiers = x.0; instruction = instruction_in text.now x.1 }, drop x.2 text.now)) result (with_operand (named_at ROWS (drop at text.now))) }
@@ -67,23 +68,6 @@ fn command_from(text: &[u8], at: usize) -> Result<(Modifiers, TokenKind, usize),
     let (modifiers, form, to) = named_at(text, at)?;
     let (kind, to) = operand_at(form, modifiers, text, to)?;
     Ok((modifiers, kind, to))
-}
-
-/// The command whose first byte is here, or its fault.
-#[inline(never)]
-fn command_here(text: &[u8], at: usize) -> Found
-    requires { at < length text.now }
-    ensures read { found_in text.now result ≡ scanned (with_operand (named_at ROWS (drop at text.now))) }
-    ensures place { (start : ℕ) → start ≤ at → drop at text.now ≡ after_fillers (drop start text.now) → IsFoundAt text.now start result }
-{
-    match command_from(text, at) {
-        Ok((modifiers, kind, to)) => Found::Token(Token {
-            span: Span { from: at, to },
-            modifiers,
-            kind,
-        }),
-        Err(code) => Found::Fault(code),
-    }
 }
 
 /// What is at a place, after fillers: a token, the end of the text, or a fault.
@@ -117,7 +101,14 @@ pub fn token_at(text: &[u8], at: usize) -> Found
         }
         _ => {}
     }
-    command_here(text, from)
+    match command_from(text, from) {
+        Ok((modifiers, kind, to)) => Found::Token(Token {
+            span: Span { from, to },
+            modifiers,
+            kind,
+        }),
+        Err(code) => Found::Fault(code),
+    }
 }
 
 /// The laws of spelling, as its clauses.
