@@ -1,5 +1,5 @@
 -- The nodes of some texts with blocks, and what comes after some tags, by computing.
-use Rattle.std.specs.Prelude.{◌≡◌, ℕ, zero, suc, true, [], ◌∷◌, replicate, ◌++◌, codes, Some, None}
+use Rattle.std.specs.Prelude.{◌≡◌, ℕ, zero, suc, true, [], replicate, ◌++◌, codes, Some, None}
 use Rattle.std.proofs.Common.{refl}
 use Prim.Native.String.{String}
 use Rattle.teco_core.specs.declared.code.Code.TheVariants.{Bni, Ill, Iqn, Iqc, Pdo, Utc}

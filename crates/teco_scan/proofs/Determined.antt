@@ -1,16 +1,14 @@
 -- What is found, and where, determines each place of the token.
-use Rattle.std.proofs.Common.{◌≡◌, ℕ, ◌+◌, ◌-◌, ◌<◌, ◌≤◌, List, length, take, drop, refl, sym, ap, ◌∙◌, arith, length-drop}
+use Rattle.std.proofs.Common.{◌≡◌, ℕ, ◌+◌, ◌-◌, ◌≤◌, List, length, drop, refl, sym, ap, ◌∙◌, arith, length-drop}
 use Rattle.std.proofs.lemmas.List.{length-take-le}
-use Rattle.teco_core.specs.declared.code.Code.{Code}
 use Rattle.teco_scan.specs.declared.token.Span.{Span}
 use Rattle.teco_scan.specs.declared.token.Token.{Token}
-use Rattle.teco_scan.specs.declared.token.Item.{Item as SpannedItem}
 use Rattle.teco_scan.specs.declared.token.Item.TheVariants as items
 use Rattle.teco_scan.specs.declared.token.TokenKind.{TokenKind}
 use Rattle.teco_scan.specs.declared.token.TokenKind.TheVariants as kinds
 use Rattle.teco_scan.specs.declared.token.Found.{Found}
 use Rattle.teco_scan.specs.declared.token.Found.TheVariants as places
-use Rattle.teco_scan.specs.Scan.{digits, bare, register, byte, text, set_text, replace, Instruction, step, mark, decide, tag, escape, TokenMeaning, Scanned, found, fault}
+use Rattle.teco_scan.specs.Scan.{digits, bare, register, byte, text, set_text, replace, Instruction, step, mark, decide, tag, escape, TokenMeaning}
 use Rattle.teco_scan.specs.Seen.{bytes_in, instruction_in, meaning_in, found_in, IsSpanIn, IsKindIn, IsKindPlaced, IsTokenAt, IsFoundAt}
 
 -- a text of so many bytes, of which this is the last place

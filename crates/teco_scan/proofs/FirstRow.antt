@@ -1,22 +1,24 @@
 -- A name's first byte leads to the first row that it may be in.
-use Rattle.std.proofs.Common.{◌≡◌, ℕ, zero, suc, ◌<◌, ◌≤◌, Bool, true, false, cond, List, [], ◌∷◌, length, take, drop, Option, Some, None, Ok, Err, ◌⊎◌, inl, inr, refl, sym, ap, ◌∙◌, arith, leb-true, drop-cons}
-use Rattle.std.specs.Prelude.{◌&&◌, ◌||◌, not, ◌+◌, ◌-◌, ◌==◌, get_or, if◌then◌else◌, nat_le, nat_lt, slice_index, slice_index_or, ◌/◌, ◌%◌}
+use Rattle.std.proofs.Common.{◌≡◌, ℕ, zero, suc, ◌<◌, ◌≤◌, Bool, true, false, cond, List, [], ◌∷◌, length, take, drop, Option, Some, None, Ok, Err, inl, inr, refl, sym, ap, ◌∙◌, arith, leb-true, drop-cons}
+use Rattle.std.specs.Prelude.{◌&&◌, ◌||◌, not, ◌+◌, ◌-◌, ◌==◌, get_or, if◌then◌else◌, nat_le, slice_index_or, ◌/◌, ◌%◌}
 use Rattle.std.proofs.Math.Nat.{eq-or-lt_of_le}
-use Rattle.std.proofs.lemmas.Bool.{le-leb, lt-ltb}
+use Rattle.std.proofs.lemmas.Bool.{le-leb}
 use Rattle.std.proofs.lemmas.List.{take_rest, get_or_default}
-use Rattle.teco_scan.proofs.Places.{front}
+use Rattle.teco_scan.proofs.Places.{front, scan_found}
 use Rattle.teco_core.specs.declared.code.Code.TheVariants.{Ill, Utc}
 use Rattle.teco_core.specs.Refusal.{◌>>=◌}
-use Rattle.teco_core.specs.Ascii.{upper}
+use Rattle.teco_core.specs.Ascii.{is_digit, upper}
 use Rattle.teco_scan.specs.declared.command.Modifiers.{Modifiers}
 use Rattle.teco_scan.specs.declared.command.Row.{Row}
 use Rattle.teco_scan.specs.declared.command.Name.{Name}
 use Rattle.teco_scan.specs.declared.command.Name.TheVariants.{One, Two, Three, Control}
 use Rattle.teco_scan.specs.declared.command.Form.{Form}
+use Rattle.teco_scan.specs.declared.command.Form.TheVariants.{Register}
+use Rattle.teco_scan.specs.declared.command.RegisterCommand.{RegisterCommand}
 use Rattle.teco_scan.specs.declared.table.TheConstants.{ROWS, FIRST}
-use Rattle.teco_scan.specs.Scan.{Reading, Instruction, TokenMeaning, no_modifiers, admits, after_letter, after_name, at_row, row_at, is_cut, of_row, command_at, modifiers_at, operand_at, begins_run, token_from}
+use Rattle.teco_scan.specs.Scan.{Reading, Instruction, TokenMeaning, no_modifiers, admits, after_letter, after_name, at_row, row_at, is_cut, of_row, command_at, modifiers_at, operand_at, begins_run, token_from, scanned, scan, after_fillers, run_of, after_run, register_at, step, digits, register}
 use Rattle.teco_scan.specs.Table.{begins_with}
-use Rattle.teco_scan.specs.FirstRow.{none_begins, is_whole, is_whole_first, picks, form_of, form_at, named_at}
+use Rattle.teco_scan.specs.FirstRow.{none_begins, is_whole, is_whole_first, picks, form_of, form_at, named_at, with_operand}
 use Rattle.teco_scan.proofs.SpelledReads.{both}
 
 unfoldable is_so_below : ℕ → (ℕ → Bool) → Bool
@@ -34,7 +36,7 @@ so_below (suc n) p h b lt =
 
 -- where a byte leads by the table of first rows
 abbrev pub row_of : ℕ → ℕ
-row_of b = if nat_lt (upper b) 128 then slice_index_or (slice_index_or FIRST (upper b / 16) []) (upper b % 16) 0 else length ROWS
+row_of b = slice_index_or (slice_index_or FIRST (b / 16) []) (b % 16) 0
 
 -- each byte leads to its row
 bytes_picked : is_so_below 256 (λ b. picks (row_of b) b) ≡ true
@@ -44,14 +46,11 @@ bytes_picked = refl
 pub picked : (b : ℕ) → b < 256 → picks (row_of b) b ≡ true
 picked b lt = so_below 256 (λ b. picks (row_of b) b) bytes_picked b lt
 
-pub picked_at : (b u : ℕ) (default : List ℕ) → b < 256 → u ≡ upper b → u < 128 → picks (slice_index_or (slice_index_or FIRST (u / 16) default) (u % 16) 0) b ≡ true
-picked_at b u default lt is small =
-    let line : slice_index_or FIRST (u / 16) default ≡ slice_index_or FIRST (u / 16) [] = get_or_default FIRST (u / 16) default [] (omega arith) in
-    let below : nat_lt (upper b) 128 ≡ true = ap (λ u. nat_lt u 128) (sym is) ∙ lt-ltb u 128 small in
-    let row : row_of b ≡ slice_index_or (slice_index_or FIRST (u / 16) default) (u % 16) 0 =
-    ap (λ v. if v then slice_index_or (slice_index_or FIRST (upper b / 16) []) (upper b % 16) 0 else length ROWS) below
-    ∙ ap (λ u. slice_index_or (slice_index_or FIRST (u / 16) []) (u % 16) 0) (sym is) ∙ ap (λ (l : List ℕ). slice_index_or l (u % 16) 0) (sym line) in
-    ap (λ n. picks n b) (sym row) ∙ picked b lt
+-- the table is read in lines
+pub row_is : (b u : ℕ) (default : List ℕ) → b < 256 → u ≡ b → slice_index_or (slice_index_or FIRST (u / 16) default) (u % 16) 0 ≡ row_of b
+row_is b u default lt is =
+    ap (λ (l : List ℕ). slice_index_or l (u % 16) 0) (get_or_default FIRST (u / 16) default [] (omega (arith, is)))
+    ∙ ap (λ u. slice_index_or (slice_index_or FIRST (u / 16) []) (u % 16) 0) is
 
 bytes_inside : is_so_below 256 (λ b. nat_le (row_of b) (length ROWS)) ≡ true
 unfolding is_so_below
@@ -125,13 +124,6 @@ rows_here n xs at lt h m =
 pub form_read : (n : ℕ) (m : Modifiers) (xs : List ℕ) (found : Option (Row × List ℕ)) → row_at (drop n ROWS) m xs ≡ row_at ROWS m xs → row_at (take (length ROWS - n) (drop n ROWS)) m xs ≡ found → form_at ROWS m xs ≡ form_of ROWS m xs found
 form_read n m xs found same read = ap (form_of ROWS m xs) (sym same ∙ ap (λ (rows : List Row). row_at rows m xs) (sym (take_rest ROWS n)) ∙ read)
 
--- a token of modifiers, a name and an operand
-abbrev pub with_operand : Reading (Modifiers × Form) → Reading TokenMeaning
-with_operand r = do
-  n ← r
-  i ← operand_at n.0.1 n.0.0 n.1
-  Ok (record { modifiers = n.0.0; instruction = i.0 }, i.1)
-
 abbrev pub ordered : Modifiers → Reading Instruction → Reading TokenMeaning
 ordered m r = do
   i ← r
@@ -154,3 +146,33 @@ by_modifiers (Ok m) = by_row m.0 m.1 (row_at ROWS m.0 m.1)
 pub token_named : (bs : List ℕ) → begins_run bs ≡ false → token_from ROWS bs ≡ with_operand (named_at ROWS bs)
 unfolding token_from named_at
 token_named bs e = rw e (by_modifiers (modifiers_at no_modifiers bs))
+
+-- no digit, no run of digits
+pub no_run : (xs : List ℕ) (at : ℕ) → at < length xs → is_digit (get_or xs at 0) ≡ false → begins_run (drop at xs) ≡ false
+no_run xs at lt e = ap begins_run (front xs at lt) ∙ e
+
+-- A run of digits is read.
+pub run_read : (xs : List ℕ) (at to : ℕ) → at < length xs → is_digit (get_or xs at 0) ≡ true → drop to xs ≡ after_run (drop at xs) → take (to - at) (drop at xs) ≡ run_of (drop at xs)
+    → token_from ROWS (drop at xs) ≡ Ok (record { modifiers = no_modifiers; instruction = step (digits (take (to - at) (drop at xs))) }, drop to xs)
+unfolding token_from
+run_read xs at to lt e rest run = rw (ap begins_run (front xs at lt) ∙ e, run, rest)
+
+-- what is scanned where the byte at a place alone names a command of this form, and this follows it
+pub lone_read : (xs : List ℕ) (at : ℕ) (form : Form) (r : Reading Instruction) → at < length xs → is_digit (get_or xs at 0) ≡ false
+    → ((bs : List ℕ) → named_at ROWS (get_or xs at 0 ∷ bs) ≡ Ok ((no_modifiers, form), bs))
+    → operand_at form no_modifiers (drop (at + 1) xs) ≡ r → scanned (ordered no_modifiers r) ≡ scanned (token_from ROWS (drop at xs))
+lone_read xs at form r lt e named operand =
+    let read : token_from ROWS (drop at xs) ≡ ordered no_modifiers (operand_at form no_modifiers (drop (at + 1) xs)) =
+    token_named (drop at xs) (no_run xs at lt e) ∙ ap with_operand (ap (named_at ROWS) (front xs at lt) ∙ named (drop (at + 1) xs)) in
+    sym (ap scanned (read ∙ ap (ordered no_modifiers) operand))
+
+-- what follows a command on a register
+pub register_read : (form : Form) (c : RegisterCommand) (bs : List ℕ) (r : Reading ℕ) → form ≡ Register c → register_at bs ≡ r
+    → operand_at form no_modifiers bs ≡ (r >>= (λ q. Ok (step (register c q.0), q.1)))
+unfolding operand_at
+register_read form c bs r is read = ap (λ (f : Form). operand_at f no_modifiers bs) is ∙ ap (λ (x : Reading ℕ). x >>= (λ q. Ok (step (register c q.0), q.1))) read
+
+-- what is scanned where no digit is, by the command that is read there
+pub command_read : (xs : List ℕ) (at from : ℕ) (r : Reading TokenMeaning) → from < length xs → drop from xs ≡ after_fillers (drop at xs) → is_digit (get_or xs from 0) ≡ false
+    → with_operand (named_at ROWS (drop from xs)) ≡ r → scanned r ≡ scan (drop at xs)
+command_read xs at from r lt rest e read = sym (scan_found xs at from lt rest ∙ ap scanned (token_named (drop from xs) (no_run xs from lt e) ∙ read))

@@ -15,6 +15,7 @@ pub mod ListUnrolls
 pub mod SearchUnrolls
 pub mod SearchFinds
 pub mod SkipSteps
+pub mod Passing
 pub mod ListFaults
 pub mod Written
 pub mod Determined

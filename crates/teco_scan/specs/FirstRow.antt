@@ -1,5 +1,5 @@
 -- Where a name's first byte leads in the table, and what comes before a command's operand.
-use Rattle.std.specs.Prelude.{ℕ, Bool, true, ◌&&◌, not, List, [], ◌∷◌, Option, Some, None, Result, Ok, Err, take, drop, ◌==◌, if◌then◌else◌}
+use Rattle.std.specs.Prelude.{ℕ, Bool, true, ◌&&◌, not, List, [], ◌∷◌, Option, Some, None, Ok, Err, take, drop, ◌==◌, if◌then◌else◌}
 use Rattle.std.specs.List.{list_all}
 use Rattle.teco_core.specs.declared.code.Code.TheVariants.{Ill, Utc}
 use Rattle.teco_core.specs.Refusal.{◌>>=◌}
@@ -10,7 +10,7 @@ use Rattle.teco_scan.specs.declared.command.Name.{Name}
 use Rattle.teco_scan.specs.declared.command.Name.TheVariants.{One, Two, Three, Control}
 use Rattle.teco_scan.specs.declared.command.Form.{Form}
 use Rattle.teco_scan.specs.declared.table.TheConstants.{ROWS}
-use Rattle.teco_scan.specs.Scan.{Reading, no_modifiers, modifiers_at, row_at, is_cut}
+use Rattle.teco_scan.specs.Scan.{Reading, TokenMeaning, no_modifiers, modifiers_at, operand_at, row_at, is_cut}
 use Rattle.teco_scan.specs.Table.{begins_with}
 
 -- no name of these rows begins with the byte
@@ -46,3 +46,10 @@ named_at rows bs = do
   m ← modifiers_at no_modifiers bs
   f ← form_at rows m.0 m.1
   Ok ((m.0, f.0), f.1)
+
+-- a command with its operand
+abbrev pub with_operand : Reading (Modifiers × Form) → Reading TokenMeaning
+with_operand r = do
+  n ← r
+  i ← operand_at n.0.1 n.0.0 n.1
+  Ok (record { modifiers = n.0.0; instruction = i.0 }, i.1)

@@ -4,6 +4,7 @@ use Rattle.teco_core.specs.declared.code.Code.{Code}
 use Rattle.teco_core.specs.declared.code.Code.TheVariants.{Ill, Iqn, Iqc, Utc}
 use Rattle.teco_core.specs.Refusal.{◌>>=◌}
 use Rattle.teco_core.specs.Ascii.{is_digit, upper}
+pub use Rattle.teco_core.specs.Ascii.{is_filler}
 use Rattle.teco_core.specs.Register.{register_of}
 use Rattle.teco_scan.specs.declared.command.Modifiers.{Modifiers}
 use Rattle.teco_scan.specs.declared.command.Row.{Row}
@@ -45,10 +46,6 @@ pub record TokenMeaning : Type 0 where
 -- something read, and the bytes after it; or the fault
 abbrev pub Reading : Type 0 → Type 0
 Reading A = Result (A × List ℕ) Code
-
--- Single bytes. NUL, LF, CR and SP are fillers.
-abbrev pub is_filler : ℕ → Bool
-is_filler b = b == 0 || b == 10 || b == 13 || b == 32
 
 abbrev pub test_named : ℕ → Option Test
 test_named b =

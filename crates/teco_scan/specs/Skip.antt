@@ -7,6 +7,7 @@ use Rattle.teco_scan.specs.declared.blocks.Kind.{Kind}
 use Rattle.teco_scan.specs.declared.blocks.Kind.TheVariants.{Iter, Then, Else}
 use Rattle.teco_scan.specs.declared.blocks.Stop.{Stop}
 use Rattle.teco_scan.specs.Scan.{Instruction, mark, decide, tag}
+use Rattle.teco_scan.specs.Lists.{list_at, tag_at}
 
 -- the last byte that a skip passes: `|` where the block is divided, else `>` of an iteration and `'` of a conditional
 abbrev pub closing_byte : Kind → Bool → ℕ
@@ -51,3 +52,8 @@ opened_kind _ = None
 abbrev pub is_tag : List ℕ → Instruction → Bool
 is_tag name (tag other) = bytes_eq other name
 is_tag name _ = false
+
+-- From these bytes and from those a list closes alike, and a search finds the same tag.
+pub record AreAlike (bs more : List ℕ) : Type 0 where
+  pub closes : (k : Option Kind) (d : ℕ) → (list_at k d bs).1 ≡ (list_at k d more).1
+  pub finds : (name : List ℕ) (d : ℕ) → tag_at name d bs ≡ tag_at name d more

@@ -1,7 +1,6 @@
 -- How some commands of the table are written. The table is a definition: it says what commands there are, and nothing proves
 -- it right; these facts are what a reader can check it by.
 use Rattle.std.specs.Prelude.{◌≡◌, ℕ, true, false, List, [], ◌∷◌, ◌++◌, codes}
-use Prim.Native.String.{String}
 use Rattle.teco_core.specs.declared.code.Code.TheVariants.{Ill}
 use Rattle.teco_scan.specs.declared.command.Bare.TheVariants as group
 use Rattle.teco_scan.specs.declared.command.Command.TheVariants.{Jump, Print}

@@ -1,16 +1,17 @@
 //! The nesting of blocks: skipping one, and finding a tag directly in one.
 ghost use Rattle.std.specs.Prelude.{◌≡◌, ◌≢◌, ◌+◌, ◌-◌, ◌<◌, ◌≤◌, ℕ, true, false, List, ◌∷◌, length, drop, IfOk, IfErr, IfSome, Option, Some, None};
 ghost use Rattle.teco_scan.specs.Tree.{is_fault};
-ghost use Rattle.teco_scan.specs.Skip.{byte_of, IsClosed, IsWholeClosed, IsBehindTag, closing_mark, opened_kind, is_tag};
+ghost use Rattle.teco_scan.specs.Skip.{AreAlike, byte_of, IsClosed, IsWholeClosed, IsBehindTag, closing_mark, opened_kind, is_tag};
 ghost use Rattle.teco_scan.specs.Seen.{instruction_in, IsKindIn, close_of, past_of, tag_of};
 ghost use Rattle.teco_scan.specs.Lists.{at_instruction, at_mark, behind, behind_block, list_at, tag_at, tag_at_instruction, tag_behind};
 ghost use Rattle.teco_scan.specs.ListLaws.{BlockLaws};
 ghost use Rattle.teco_scan.specs.declared.command.Modifiers.{Modifiers};
 
-use crate::command::BlockMark;
+use crate::command::{BlockMark, Form};
+use crate::names::lone_form;
 use crate::scan::token_at;
 use crate::token::{Found, Token, TokenKind};
-use teco_core::Code;
+use teco_core::{BLOCK_LIMIT, Code, is_filler};
 
 /// The kinds of open blocks: an iteration's body, a conditional's first part and its second.
 #[derive(Clone, Copy, Debug, PartialEq, Eq)]
@@ -26,9 +27,6 @@ pub struct Stop {
     pub to: usize,
     pub divided: bool,
 }
-
-/// The most blocks that may be open.
-const MOST_OPEN: usize = 64;
 
 /// The mark by which a block ends or is divided, if the token is one.
 fn closing_mark(kind: TokenKind) -> Option<BlockMark>
@@ -84,6 +82,36 @@ fn end_of_block(kind: Kind, mark: BlockMark, to: usize) -> Result<Stop, Code>
     }
 }
 
+/// Whether this byte can be passed by itself, whatever follows it: a filler, a digit, ESC, or a command that is one byte and has
+/// nothing after that, but no mark.
+#[inline]
+fn is_passed(b: u8) -> bool
+    ensures { result ≡ true → (bs : List ℕ) → AreAlike (b ∷ bs) bs }
+{
+    if is_filler(b) || b.is_ascii_digit() {
+        return true;
+    }
+    match lone_form(b) {
+        Some(Form::Bare(_)) => true,
+        Some(Form::Escape) => true,
+        _ => false,
+    }
+}
+
+/// The place after the bytes that are passed by themselves.
+#[inline]
+fn passed_end(text: &[u8], at: usize) -> usize
+    requires { at ≤ length text.now }
+    ensures alike { AreAlike (drop at text.now) (drop result text.now) }
+    ensures within { (at ≤ result) × (result ≤ length text.now) }
+{
+    let mut to = at;
+    while to < text.len() && is_passed(text[to]) {
+        to += 1;
+    }
+    to
+}
+
 /// The place after a token and, where it opens a block, after the whole of that.
 #[cycle(skip)]
 fn skip_node(text: &[u8], token: Token, depth: usize) -> Result<usize, Code>
@@ -98,7 +126,7 @@ fn skip_node(text: &[u8], token: Token, depth: usize) -> Result<usize, Code>
     match opened_kind(token.kind) {
         None => Ok(token.span.to),
         Some(kind) => {
-            if depth == MOST_OPEN {
+            if depth == BLOCK_LIMIT {
                 return Err(Code::Pdo);
             }
             skip_whole_block(text, token.span.to, kind, depth + 1)
@@ -123,7 +151,8 @@ pub fn skip_block(text: &[u8], at: usize, kind: Kind, depth: usize) -> Result<St
 {
     let mut next = at;
     loop {
-        match token_at(text, next) {
+        let start = passed_end(text, next);
+        match token_at(text, start) {
             Found::End => return Err(Code::Utc),
             Found::Fault(code) => return Err(code),
             Found::Token(token) => match closing_mark(token.kind) {
@@ -169,7 +198,8 @@ pub fn find_tag(text: &[u8], block_start: usize, depth: usize, name: &[u8]) -> O
 {
     let mut next = block_start;
     loop {
-        match token_at(text, next) {
+        let start = passed_end(text, next);
+        match token_at(text, start) {
             Found::End => return None,
             Found::Fault(_) => return None,
             Found::Token(token) => {

@@ -1,6 +1,5 @@
 //! Reading a command's modifiers and its name.
 ghost use Rattle.std.specs.Prelude.{◌≡◌, ◌<◌, ◌≤◌, ℕ, List, ◌∷◌, length, take, drop, IfOk, IfSome, Ok, true};
-ghost use Rattle.teco_core.specs.Ascii.{upper};
 ghost use Rattle.teco_scan.specs.Scan.{no_modifiers, admits, is_refused, after_name, ends_inside, row_at, is_cut, after_letter, modifiers_at};
 ghost use Rattle.teco_scan.specs.declared.command.Modifiers.{Modifiers};
 ghost use Rattle.teco_scan.specs.FirstRow.{form_at, named_at, picks};
@@ -9,12 +8,6 @@ ghost use Rattle.teco_scan.specs.Seen.{Gives, GivesSome};
 use crate::command::{Form, Modifiers, Name, Row};
 use crate::table::{FIRST, NONE, ROWS};
 use teco_core::Code;
-
-pub(crate) fn upper(b: u8) -> u8
-    ensures { result ≡ upper b }
-{
-    if b'a' <= b && b <= b'z' { b - 32 } else { b }
-}
 
 /// At most one `@` and two colons, in any order.
 #[tactic(auto, using(crate::proofs::Places::front, crate::proofs::Places::no_front), unfolding(crate::specs::Scan::modifiers_at))]
@@ -59,7 +52,7 @@ fn letter_end(letter: u8, text: &[u8], at: usize) -> Option<usize>
     ensures read { GivesSome (λ p. drop p text.now) result (after_letter letter (drop at text.now)) }
     ensures within { IfSome result (λ p. (at < p) × (p ≤ length text.now)) }
 {
-    if at < text.len() && upper(text[at]) == letter {
+    if at < text.len() && text[at].to_ascii_uppercase() == letter {
         Some(at + 1)
     } else {
         None
@@ -113,15 +106,17 @@ fn ends_inside(name: Name, text: &[u8], at: usize) -> bool
     if at + 1 == text.len() {
         return match name {
             Name::One(_) => false,
-            Name::Two(first, _) => upper(b) == first,
-            Name::Three(first, _, _) => upper(b) == first,
+            Name::Two(first, _) => b.to_ascii_uppercase() == first,
+            Name::Three(first, _, _) => b.to_ascii_uppercase() == first,
             Name::Control(_) => b == b'^',
         };
     }
     let c = text[at + 1];
     match name {
         Name::Three(first, second, _) => {
-            upper(b) == first && upper(c) == second && at + 2 == text.len()
+            b.to_ascii_uppercase() == first
+                && c.to_ascii_uppercase() == second
+                && at + 2 == text.len()
         }
         _ => false,
     }
@@ -169,16 +164,12 @@ fn first_row(b: u8) -> usize
     ensures within { result ≤ length ROWS }
 {
     let first: &[[u8; 16]] = &FIRST;
-    let b = usize::from(upper(b));
-    if b < 128 {
-        usize::from(first[b / 16][b % 16])
-    } else {
-        ROWS.len()
-    }
+    let b = usize::from(b);
+    usize::from(first[b / 16][b % 16])
 }
 
 /// The form of the command that this byte alone names, whatever follows it.
-fn lone_form(b: u8) -> Option<Form>
+pub(crate) fn lone_form(b: u8) -> Option<Form>
     ensures { IfSome result (λ form. (bs : List ℕ) → named_at ROWS (b ∷ bs) ≡ Ok ((no_modifiers, form), bs)) }
 {
     let rows: &[Row] = &ROWS;

@@ -4,17 +4,15 @@ ghost use Rattle.teco_scan.specs.Scan.{test_of, byte_at, register_at, test_at, d
 ghost use Rattle.teco_scan.specs.Seen.{Gives, IsSpanIn, IsKindIn, IsKindPlaced, bytes_in, instruction_in};
 
 use crate::command::{Form, Modifiers, Test};
-use crate::names::upper;
-use crate::table::ESCAPE;
 use crate::token::{Item, Span, TokenKind};
 use memchr::memchr;
-use teco_core::{Code, Reg};
+use teco_core::{Code, ESC, Reg};
 
 #[tactic(auto, unfolding(crate::specs::Scan::test_of))]
 fn test_of(b: u8) -> Option<Test>
     ensures { result ≡ test_of b }
 {
-    match upper(b) {
+    match b.to_ascii_uppercase() {
         b'E' => Some(Test::Zero),
         b'F' => Some(Test::Zero),
         b'U' => Some(Test::Zero),
@@ -45,7 +43,7 @@ fn byte_at(text: &[u8], at: usize) -> Result<(u8, usize), Code>
 }
 
 #[tactic(auto, unfolding(crate::specs::Scan::register_at))]
-fn register_at(text: &[u8], at: usize) -> Result<(Reg, usize), Code>
+pub(crate) fn register_at(text: &[u8], at: usize) -> Result<(Reg, usize), Code>
     ensures read { Gives (λ x. (x.0, drop x.1 text.now)) result (register_at (drop at text.now)) }
     ensures within { IfOk result (λ x. (at < x.1) × (x.1 ≤ length text.now)) }
 {
@@ -117,7 +115,7 @@ fn set_text_at(modifiers: Modifiers, text: &[u8], at: usize) -> Result<(TokenKin
     ensures placed { (from : ℕ) → IfOk result (λ x. IsKindPlaced (record { from = from; to = x.1 }) x.0) }
 {
     let (register, at) = register_at(text, at)?;
-    let (delimiter, at) = delimiter_at(modifiers, ESCAPE, text, at)?;
+    let (delimiter, at) = delimiter_at(modifiers, ESC, text, at)?;
     let (span, at) = text_at(delimiter, text, at)?;
     Ok((TokenKind::Item(Item::SetText(register, span)), at))
 }
@@ -131,7 +129,7 @@ fn replace_at(modifiers: Modifiers, text: &[u8], at: usize) -> Result<(TokenKind
     ensures spans { IfOk result (λ x. IsKindIn (length text.now) x.0) }
     ensures placed { (from : ℕ) → IfOk result (λ x. IsKindPlaced (record { from = from; to = x.1 }) x.0) }
 {
-    let (delimiter, at) = delimiter_at(modifiers, ESCAPE, text, at)?;
+    let (delimiter, at) = delimiter_at(modifiers, ESC, text, at)?;
     let (old, at) = text_at(delimiter, text, at)?;
     let (new, at) = text_at(delimiter, text, at)?;
     Ok((TokenKind::Item(Item::Replace(old, new)), at))

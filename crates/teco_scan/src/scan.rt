@@ -1,29 +1,18 @@
 //! Reading tokens.
 ghost use Rattle.std.specs.Prelude.{◌≡◌, ◌<◌, ◌≤◌, ℕ, length, drop, IfOk, slice_index, true};
 ghost use Rattle.teco_core.specs.Ascii.{is_digit};
-ghost use Rattle.teco_scan.specs.Scan.{is_filler, token_from, scan, run_of, after_run, after_fillers};
+ghost use Rattle.teco_scan.specs.FirstRow.{named_at, with_operand};
+ghost use Rattle.teco_scan.specs.Scan.{no_modifiers, scan, scanned, run_of, after_run, after_fillers};
 ghost use Rattle.teco_scan.specs.Spelling.{IsSpelled, IsLongest, IsCutExactly, LacksRegisterExactly, LacksTestExactly, IsIllExactly, IsFaultOfFour, PassesFillers};
 ghost use Rattle.teco_scan.specs.Written.{CommandsAreSpelled};
 ghost use Rattle.teco_scan.specs.Seen.{Gives, IsKindIn, IsKindPlaced, IsFoundAt, IsDetermined, bytes_in, instruction_in, found_in};
 
-use crate::command::Modifiers;
-use crate::names::named_at;
-use crate::operand::operand_at;
+use crate::command::{Form, Modifiers};
+use crate::names::{lone_form, named_at};
+use crate::operand::{operand_at, register_at};
 use crate::table::{NONE, ROWS};
 use crate::token::{Found, Item, Span, Token, TokenKind};
-use teco_core::Code;
-
-fn is_filler(b: u8) -> bool
-    ensures { result ≡ is_filler b }
-{
-    b == 0 || b == b'\n' || b == b'\r' || b == b' '
-}
-
-fn is_digit(b: u8) -> bool
-    ensures { result ≡ is_digit b }
-{
-    b'0' <= b && b <= b'9'
-}
+use teco_core::{Code, is_filler};
 
 /// The place after the fillers.
 #[tactic(auto, using(crate::proofs::Places::front, crate::proofs::Places::no_front), unfolding(crate::specs::Scan::after_fillers))]
@@ -49,29 +38,36 @@ fn digits_end(text: &[u8], at: usize) -> usize
     ensures within { (at < result) × (result ≤ length text.now) }
 {
     let mut to = at + 1;
-    while to < text.len() && is_digit(text[to]) {
+    while to < text.len() && text[to].is_ascii_digit() {
         to += 1;
     }
     to
 }
 
-/// A token, from its first byte on: its modifiers, what it instructs and the place after it.
-#[tactic(auto, unfolding(crate::specs::Scan::token_from))]
-fn token_from(text: &[u8], at: usize) -> Result<(Modifiers, TokenKind, usize), Code>
+/// A token without modifiers.
+#[inline]
+fn plain(from: usize, to: usize, kind: TokenKind) -> Found
+    ensures { result ≡ Found.Token (record { span = record { from = from; to = to }; modifiers = no_modifiers; kind = kind }) }
+{
+    Found::Token(Token {
+        span: Span { from, to },
+        modifiers: NONE,
+        kind,
+    })
+}
+
+/// A command, from its first byte on: its modifiers, what it instructs and the place after it.
+#[inline(never)]
+fn command_from(text: &[u8], at: usize) -> Result<(Modifiers, TokenKind, usize), Code>
     requires { at < length text.now }
-    ensures read { Gives (λ x. (record { modifiers = x.0; instruction = instruction_in text.now x.1 }, drop x.2 text.now)) result (token_from ROWS (drop at text.now)) }
+    ensures read { Gives (λ x. (record { modifiers = x.0; instruction = instruction_in text.now x.1 }, drop x.2 text.now)) result (with_operand (named_at ROWS (drop at text.now))) }
     ensures within { IfOk result (λ x. (at < x.2) × (x.2 ≤ length text.now)) }
     ensures spans { IfOk result (λ x. IsKindIn (length text.now) x.1) }
     ensures placed { IfOk result (λ x. IsKindPlaced (record { from = at; to = x.2 }) x.1) }
 {
-    if is_digit(text[at]) {
-        let to = digits_end(text, at);
-        let run = Item::Digits(Span { from: at, to });
-        return Ok((NONE, TokenKind::Item(run), to));
-    }
-    let (modifiers, form, at) = named_at(text, at)?;
-    let (kind, at) = operand_at(form, modifiers, text, at)?;
-    Ok((modifiers, kind, at))
+    let (modifiers, form, to) = named_at(text, at)?;
+    let (kind, to) = operand_at(form, modifiers, text, to)?;
+    Ok((modifiers, kind, to))
 }
 
 /// What is at a place, after fillers: a token, the end of the text, or a fault.
@@ -87,7 +83,25 @@ pub fn token_at(text: &[u8], at: usize) -> Found
     if from == text.len() {
         return Found::End;
     }
-    match token_from(text, from) {
+    if text[from].is_ascii_digit() {
+        let to = digits_end(text, from);
+        let run = Span { from, to };
+        return plain(from, to, TokenKind::Item(Item::Digits(run)));
+    }
+    match lone_form(text[from]) {
+        Some(Form::Bare(command)) => {
+            return plain(from, from + 1, TokenKind::Item(Item::Bare(command)));
+        }
+        Some(Form::Mark(mark)) => return plain(from, from + 1, TokenKind::Mark(mark)),
+        Some(Form::Escape) => return plain(from, from + 1, TokenKind::Escape),
+        Some(Form::Register(command)) => {
+            if let Ok((register, to)) = register_at(text, from + 1) {
+                return plain(from, to, TokenKind::Item(Item::Register(command, register)));
+            }
+        }
+        _ => {}
+    }
+    match command_from(text, from) {
         Ok((modifiers, kind, to)) => Found::Token(Token {
             span: Span { from, to },
             modifiers,

@@ -3,9 +3,7 @@ use crate::command::{
     Arithmetic, Bare, BlockMark, Command, Form, Modifiers, Name, Quantity, RegisterCommand, Row,
     TextCommand,
 };
-use teco_core::Op;
-
-pub(crate) const ESCAPE: u8 = 27;
+use teco_core::{ESC, Op};
 
 pub(crate) const NONE: Modifiers = Modifiers {
     at: false,
@@ -49,7 +47,7 @@ macro_rules! commands {
             One(b'D'), NONE, Form::Bare(Bare::Command(Command::Delete));
             One(b'T'), NONE, Form::Bare(Bare::Command(Command::TypeOut));
             One(b'='), NONE, Form::Bare(Bare::Command(Command::Print));
-            One(ESCAPE), NONE, Form::Escape;
+            One(ESC), NONE, Form::Escape;
             One(b'Q'), COLON, Form::Register(RegisterCommand::Number);
             One(b'%'), NONE, Form::Register(RegisterCommand::Increment);
             One(b'U'), NONE, Form::Register(RegisterCommand::Set);
@@ -63,8 +61,8 @@ macro_rules! commands {
             One(b'|'), NONE, Form::Mark(BlockMark::Otherwise);
             One(b'\''), NONE, Form::Mark(BlockMark::EndTest);
             One(b'!'), NONE, Form::Tag;
-            One(b'O'), AT, Form::Text(TextCommand::Go, ESCAPE);
-            One(b'I'), AT, Form::Text(TextCommand::Insert, ESCAPE);
+            One(b'O'), AT, Form::Text(TextCommand::Go, ESC);
+            One(b'I'), AT, Form::Text(TextCommand::Insert, ESC);
             Control(b'A'), AT, Form::Text(TextCommand::TypeOut, 1);
         }
     };
@@ -101,14 +99,26 @@ macro_rules! first_rows {
     };
 }
 
-/// For each byte that is no small letter, in lines of 16, the first row whose name may begin with it, or the number of rows.
-pub(crate) const FIRST: [[u8; 16]; 8] = [
+// No name begins with a byte from 128 on.
+const PAST_ASCII: [u8; 16] = [ROWS.len() as u8; 16];
+
+/// For each byte, in lines of 16, the first row whose name may begin with it, or the number of rows. A small letter is given as
+/// its capital.
+pub(crate) const FIRST: [[u8; 16]; 16] = [
     commands!(first_rows 0 1 2 3 4 5 6 7 8 9 10 11 12 13 14 15),
     commands!(first_rows 16 17 18 19 20 21 22 23 24 25 26 27 28 29 30 31),
     commands!(first_rows 32 33 34 35 36 37 38 39 40 41 42 43 44 45 46 47),
     commands!(first_rows 48 49 50 51 52 53 54 55 56 57 58 59 60 61 62 63),
     commands!(first_rows 64 65 66 67 68 69 70 71 72 73 74 75 76 77 78 79),
     commands!(first_rows 80 81 82 83 84 85 86 87 88 89 90 91 92 93 94 95),
-    commands!(first_rows 96 97 98 99 100 101 102 103 104 105 106 107 108 109 110 111),
-    commands!(first_rows 112 113 114 115 116 117 118 119 120 121 122 123 124 125 126 127),
+    commands!(first_rows 96 65 66 67 68 69 70 71 72 73 74 75 76 77 78 79),
+    commands!(first_rows 80 81 82 83 84 85 86 87 88 89 90 123 124 125 126 127),
+    PAST_ASCII,
+    PAST_ASCII,
+    PAST_ASCII,
+    PAST_ASCII,
+    PAST_ASCII,
+    PAST_ASCII,
+    PAST_ASCII,
+    PAST_ASCII,
 ];

@@ -1,4 +1,4 @@
-use Rattle.std.proofs.Common.{◌≡◌, ◌+◌, ◌≤◌, List, Some, ◌∷◌, length, drop, ◌-◌, ◌*◌}
+use Rattle.std.proofs.Common.{◌≡◌, ◌+◌, ◌≤◌, Some, length, drop, ◌-◌, ◌*◌}
 use Rattle.teco_scan.specs.Lists.{list_at}
 use Rattle.teco_scan.proofs.blocks.+skip.Given as goal
 

@@ -1,4 +1,4 @@
-use Rattle.std.proofs.Common.{◌≡◌, ◌≤◌, List, length, drop, ◌-◌}
+use Rattle.std.proofs.Common.{◌≡◌, ◌≤◌, length, drop, ◌-◌}
 use Rattle.teco_scan.specs.Lists.{tag_at}
 use Rattle.teco_scan.proofs.blocks.find_tag.Given as goal
 

@@ -1,7 +1,10 @@
-use Rattle.std.proofs.Common.{◌≡◌, ℕ, true, sym, ap, ◌∙◌, arith}
+use Rattle.std.proofs.Common.{ap, ◌∙◌, arith}
 use Rattle.teco_scan.specs.FirstRow.{picks}
-use Rattle.teco_scan.proofs.FirstRow.{picked_at}
+use Rattle.teco_scan.proofs.FirstRow.{row_is, picked, row_inside}
 use Rattle.teco_scan.proofs.names.first_row.Goals as goal
 
-pub returns-then-b-lt128-clause-picked : goal.returns-then-b-lt128-clause-picked
-returns-then-b-lt128-clause-picked c = ap (λ n. picks n c.args.b) c.from.ensures ∙ picked_at c.args.b c.from-b.result _ (omega arith) (c.from-b.ensures ∙ c.upper.ensures) c.if-b-lt128.true
+pub returns-clause-picked : goal.returns-clause-picked
+returns-clause-picked c = ap (λ n. picks n c.args.b) (c.from.ensures ∙ row_is c.args.b c.from-b.result _ (omega arith) c.from-b.ensures) ∙ picked c.args.b (omega arith)
+
+pub returns-clause-within : goal.returns-clause-within
+returns-clause-within c = omega (arith, c.from.ensures ∙ row_is c.args.b c.from-b.result _ (omega arith) c.from-b.ensures, row_inside c.args.b (omega arith))
