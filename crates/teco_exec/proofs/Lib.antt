@@ -20,6 +20,7 @@ pub mod Composing
 pub mod Going
 pub mod Unseen
 pub mod Stepped
+pub mod Tokens
 pub mod Seeking
 pub mod Calling
 pub mod Whole

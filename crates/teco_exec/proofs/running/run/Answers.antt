@@ -10,7 +10,7 @@ pub returns : goal.returns
 returns g c =
     let o : Origin = record { state = g.D.Desk.state c.args.desk.now; text = c.args.text.now; screen = g.T.Terminal.screen c.args.term.now; limit = c.args.limit } in
     let begins = whole_begins c.machine_laws.ensures.means o (g.D.Desk.follows c.args.desk.now) (arguments c.new-args.result) c.new-args.ensures in
-    let ends = whole_ends o _ _ (arguments c.run_text-exit.new.args) c.run_text-exit.result c.code.result c.code.ensures (omega (arith, c.run_text-exit.ensures.limit, c.run_text-exit.new.steps.within))
+    let ends = whole_ends o _ _ (arguments c.run_text-exit.new.args) c.run_text-exit.result c.code.result c.code.ensures (omega (arith, c.run_text-exit.ensures.counts.limit, c.run_text-exit.new.steps.within))
     (c.run_text-exit.ensures.leads o [] refl refl begins) in
     let laws = c.meaning_laws.ensures in
     record {
