@@ -17,12 +17,9 @@ use crate::flow::{Exit, Flow, Steps};
 use crate::laws::{machine_laws, meaning_laws};
 use crate::outcome::Outcome;
 use crate::stepping::step;
-use teco_core::{Args, Code};
+use teco_core::{Args, CALL_LIMIT, Code};
 use teco_step::Terminal;
 use teco_store::Desk;
-
-/// The most calls that may be open.
-const MOST_CALLS: usize = 32;
 
 /// Runs a command string on a desk and a terminal, for at most `limit` steps.
 ///
@@ -72,7 +69,7 @@ fn run_text<D: Desk, T: Terminal>(
         match step(desk, &mut cursor, steps, term) {
             Flow::On => continue 'running,
             Flow::Call(called) => {
-                if depth == MOST_CALLS {
+                if depth == CALL_LIMIT {
                     return Exit::Over(Some(Code::Pdo));
                 }
                 let mut left = cursor.args;

@@ -37,12 +37,12 @@ running-preserved-in-On g t c = record {
       since o _ _ _ (goes (at_cursor c.step.new.cursor None callers)) there.follows (c.in-On.ensures.leads o callers (limit ∙ sym c.running.invariant.counts.limit) there.going);
 }
 
-pub returns-then-depth-eq-MOST_CALLS-clause-leads : goal.returns-then-depth-eq-MOST_CALLS-clause-leads
-returns-then-depth-eq-MOST_CALLS-clause-leads g t c o callers limit deep e =
+pub returns-then-depth-eq-CALL_LIMIT-clause-leads : goal.returns-then-depth-eq-CALL_LIMIT-clause-leads
+returns-then-depth-eq-CALL_LIMIT-clause-leads g t c o callers limit deep e =
     let there = c.running.invariant.going o callers limit deep e in
     let here = c.in-Call.ensures.leads o callers (limit ∙ sym c.running.invariant.counts.limit) there.going in
     since o _ _ _ (over (Some _)) (λ floor p. here.follows floor (there.follows floor p))
-    (too_deep o _ c.step.new.cursor c.in-Call.called.items callers here.going (deep ∙ c.if-depth-eq-MOST_CALLS.true) (omega (arith, limit, c.running.invariant.counts.limit, c.in-Call.ensures.counts.limit, c.step.new.steps.within)))
+    (too_deep o _ c.step.new.cursor c.in-Call.called.items callers here.going (deep ∙ c.if-depth-eq-CALL_LIMIT.true) (omega (arith, limit, c.running.invariant.counts.limit, c.in-Call.ensures.counts.limit, c.step.new.steps.within)))
 
 pub running-smaller : goal.running-smaller
 running-smaller g t c =
@@ -66,7 +66,7 @@ running-preserved g t c = record {
   going = λ o callers limit deep e.
       let there = c.running.invariant.going o callers limit deep e in
       let here = c.in-Call.ensures.leads o callers (limit ∙ sym c.running.invariant.counts.limit) there.going in
-      let fewer : length callers < 32 = omega (arith, deep, c.requires, c.if-depth-eq-MOST_CALLS.false) in
+      let fewer : length callers < 32 = omega (arith, deep, c.requires, c.if-depth-eq-CALL_LIMIT.false) in
       let h = host (g.D.Desk.state c.step.new.desk) (g.D.Desk.follows c.step.new.desk) (g.T.Terminal.screen c.step.new.term) c.step.new.steps.done in
       let from = c.step.new.cursor in
       let called : Going o h (at_call from c.deref.result.now callers) = subst (λ x. Going o h (at_call from x callers)) (sym c.deref.ensures.value) here.going in
@@ -84,7 +84,7 @@ pub returns-in-Over-run_text-clause-leads : goal.returns-in-Over-run_text-clause
 returns-in-Over-run_text-clause-leads g t c o callers limit deep e =
     let there = c.running.invariant.going o callers limit deep e in
     let here = c.in-Call.ensures.leads o callers (limit ∙ sym c.running.invariant.counts.limit) there.going in
-    let fewer : length callers < 32 = omega (arith, deep, c.requires, c.if-depth-eq-MOST_CALLS.false) in
+    let fewer : length callers < 32 = omega (arith, deep, c.requires, c.if-depth-eq-CALL_LIMIT.false) in
     let h = host (g.D.Desk.state c.step.new.desk) (g.D.Desk.follows c.step.new.desk) (g.T.Terminal.screen c.step.new.term) c.step.new.steps.done in
     let from = c.step.new.cursor in
     let called : Going o h (at_call from c.deref.result.now callers) = subst (λ x. Going o h (at_call from x callers)) (sym c.deref.ensures.value) here.going in
