@@ -37,18 +37,11 @@ pub arrives_step : BlockLaws → (c : Config) → arrives (runs c) ≡ arriving 
 unfolding arrives arrives_within
 arrives_step laws c = arriving_same laws (arrives_within (weight (runs c))) arrives c c.further (λ m l. arrives_same laws (weight (runs c)) (suc (weight m)) m l (omega arith))
 
-pub arrives_halts : (c : Config) (e : Option Code) → arrives (halts c e) ≡ finished c e
-unfolding arrives arrives_within
-arrives_halts c e = refl
-
 -- A run is told by where it arrives.
 pub run_ready : (n : ℕ) (m : Machine) → run_within n m ≡ ready_run n (arrives m)
 unfolding run_within
 run_ready zero m = refl
 run_ready (suc n) m = refl
-
-pub same_runs : (m n : Machine) → arrives m ≡ arrives n → (fuel : ℕ) → run_within fuel m ≡ run_within fuel n
-same_runs m n e fuel = run_ready fuel m ∙ ap (ready_run fuel) e ∙ sym (run_ready fuel n)
 
 pub halted : (n : ℕ) (c : Config) (e : Option Code) → run_within n (halts c e) ≡ final n c e
 unfolding run_within arrives arrives_within

@@ -13,8 +13,7 @@ use Rattle.teco_exec.specs.StringMeaning.{Meant, string_meaning}
 use Rattle.teco_exec.specs.Runs.{Runs}
 use Rattle.teco_exec.specs.Laws.{ExitEndsWell, MoreLimitChangesNothing}
 use Rattle.teco_exec.specs.MachineLaws.{MachineMeans}
-use Rattle.teco_exec.specs.Machine.{Caller, Coming, moved, comes, at_block, ends, breaks, Config, Machine, runs, halts, Moved, going, called, resumed, returned, setting_of, Further, Ready, step, block, finished, Final, coming, arriving, arrives_within, arrives, pass, block_step, pays, paid, unpaid, run_within, start_config}
-use Rattle.teco_exec.specs.declared.outcome.Outcome.{Outcome}
+use Rattle.teco_exec.specs.Machine.{Caller, Coming, moved, comes, at_block, ends, breaks, Config, Machine, runs, halts, Moved, going, resumed, returned, setting_of, Further, Ready, step, block, finished, Final, coming, arriving, arrives_within, arrives, pass, block_step, pays, paid, unpaid, run_within, start_config}
 
 -- The session is as done as it was, or the run is over without a code.
 abbrev Stays : Bool → Machine → Type 0

@@ -11,7 +11,6 @@ pub mod MachineMeans
 pub mod MachineFollows
 pub mod Limits
 pub mod Sentences
-pub mod Quiet
 pub mod Texts
 pub mod RowsStraight
 pub mod RowsBlocks
