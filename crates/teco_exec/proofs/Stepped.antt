@@ -1,13 +1,12 @@
 -- Steps of a text, of tokens and of blocks.
-use Rattle.std.proofs.Common.{◌≡◌, ℕ, ◌+◌, ◌<◌, ◌≤◌, List, [], ◌∷◌, ◌++◌, length, drop, Option, Some, None, Result, Ok, Err, Bool, true, false, inl, inr, refl, sym, ap, subst, ◌∙◌, arith, append-nil}
-use Rattle.std.specs.Prelude.{◌==◌, if◌then◌else◌, MatchResult}
+use Rattle.std.proofs.Common.{◌≡◌, ℕ, ◌+◌, ◌<◌, ◌≤◌, List, [], ◌++◌, drop, Option, Some, None, Result, Ok, Err, Bool, true, false, inl, inr, sym, ap, subst, ◌∙◌, arith, append-nil}
+use Rattle.std.specs.Prelude.{MatchResult}
 use Rattle.teco_core.specs.declared.arguments.Args.{Args}
 use Rattle.teco_core.specs.declared.code.Code.{Code}
-use Rattle.teco_core.specs.declared.code.Code.TheVariants.{Mem, Tty, Pdo}
+use Rattle.teco_core.specs.declared.code.Code.TheVariants.{Mem, Tty}
 use Rattle.teco_core.specs.ArgumentsView.{arguments}
 use Rattle.teco_core.specs.Arguments.{Arguments}
-use Rattle.teco_scan.specs.Scan.{Item, scan}
-use Rattle.teco_scan.specs.declared.command.Modifiers.{Modifiers}
+use Rattle.teco_scan.specs.Scan.{scan}
 use Rattle.teco_scan.specs.declared.token.Token.{Token}
 use Rattle.teco_store.specs.State.{State}
 use Rattle.teco_store.specs.Trail.{Trail, moved, stepped}
@@ -15,10 +14,10 @@ use Rattle.teco_step.specs.declared.next.Next.{Next}
 use Rattle.teco_step.specs.declared.next.Next.TheVariants as next
 use Rattle.teco_step.specs.declared.next.Work.{Work}
 use Rattle.teco_step.specs.Effect.{effect}
-use Rattle.teco_step.specs.Step.{Step, End, at, on, leave, go, call, out, again, stop}
+use Rattle.teco_step.specs.Step.{Step, End, at}
 use Rattle.teco_step.specs.Stepping.{end_of, is_unfinished, is_unfinished_code, Steps, IsDone, trail_after, IsStepIn, name_in, token_effect}
 use Rattle.teco_step.specs.Terminal.{Screen}
-use Rattle.teco_exec.specs.Machine.{Caller, Config, Moved, Now, runs, halts, called, going, inside, leave_found, leaving, jumping, now_of, resumed, run_within, setting_of, arrives, block_step}
+use Rattle.teco_exec.specs.Machine.{Caller, Config, Moved, Now, runs, going, inside, leave_found, resumed, run_within, setting_of, arrives, block_step}
 use Rattle.teco_exec.specs.Search.{is_search}
 use Rattle.teco_exec.specs.View.{Finishes as MovesWell, cursor, item_at, moved_of, opening_of}
 use Rattle.teco_exec.specs.Running.{Origin, Host, host, Continuation, Going, Comes, Ended, Reached, Reaches, reached_run, ready_run, config, at_cursor, at_token, at_opening, flows, Finishes}
@@ -29,28 +28,8 @@ use Rattle.teco_exec.specs.declared.flow.Task.{Task}
 use Rattle.teco_exec.specs.declared.moves.Opening.{Opening}
 use Rattle.teco_exec.proofs.Composing.{Stays, arrives_stays, halted, run_ready}
 use Rattle.teco_exec.proofs.Going.{EndsByItself, Pays, advanced, since, settles, step_done, no_memory, no_terminal, shows_nothing}
+use Rattle.teco_exec.proofs.MachineFollows.{going_now, resumed_now}
 use Rattle.teco_exec.proofs.Unseen.{effect_here}
-
--- Where a step leads changes nothing of what is seen.
-going_now : (c : Config) (m : Moved) → now_of (going c m) ≡ now_of (runs c)
-going_now c (Ok cur) = refl
-going_now c (Err e) = refl
-
-called_now : (text : List ℕ) (c : Config) → now_of (called text c) ≡ now_of (runs c)
-called_now text c = by (length c.callers == 32)
-  where
-    by : (b : Bool) → now_of (if b then halts c (Some Pdo) else runs (record c { text = text; at = record { args = c.at.args; left = text; blocks = [] }; callers = record { text = c.text; left = c.at.left; blocks = c.at.blocks } ∷ c.callers })) ≡ now_of (runs c)
-    by true = refl
-    by false = refl
-
-resumed_now : (m : Modifiers) (i : Item) (e : End) (c : Config) → now_of (resumed m i e c) ≡ now_of (runs c)
-resumed_now m i on c = refl
-resumed_now m i leave c = going_now c (leaving c.at.blocks c.at.args c.at.left)
-resumed_now m i (go name) c = going_now c (jumping name c.text c.at.blocks c.at.args)
-resumed_now m i (call text) c = called_now text c
-resumed_now m i out c = refl
-resumed_now m i (again work) c = refl
-resumed_now m i (stop e) c = refl
 
 -- how the text goes on after a step
 module _ (callers : List Caller) (now : Now) (fuel : ℕ) where
