@@ -1,35 +1,91 @@
 -- Steps of a text, of tokens and of blocks.
-use Rattle.std.proofs.Common.{◌≡◌, ℕ, ◌+◌, ◌<◌, ◌≤◌, List, [], ◌++◌, drop, Option, Some, None, Result, Ok, Err, Bool, true, false, inl, inr, sym, ap, subst, ◌∙◌, arith, append-nil}
+use Rattle.std.proofs.Common.{◌≡◌, ℕ, List, length, Option, Bool, true, false, refl, ap, ◌∙◌, ◌+◌, ◌<◌, ◌≤◌, [], drop, Some, None, Result, Ok, Err, inl, inr, sym, subst, arith, append-nil}
+use Rattle.teco_core.specs.ArgumentsView.{arguments}
+use Rattle.teco_core.specs.Arguments.{Arguments}
+use Rattle.teco_scan.specs.Scan.{scan}
+use Rattle.teco_scan.specs.Seen.{item_in}
+use Rattle.teco_scan.specs.declared.command.Bare.TheVariants as bare
+use Rattle.teco_scan.specs.declared.command.Command.{Command}
+use Rattle.teco_scan.specs.declared.command.Command.TheVariants as command
+use Rattle.teco_scan.specs.declared.command.RegisterCommand.{RegisterCommand}
+use Rattle.teco_scan.specs.declared.command.RegisterCommand.TheVariants as register
+use Rattle.teco_scan.specs.declared.command.TextCommand.{TextCommand}
+use Rattle.teco_scan.specs.declared.command.TextCommand.TheVariants as texts
+use Rattle.teco_scan.specs.declared.token.Item.{Item}
+use Rattle.teco_scan.specs.declared.token.Item.TheVariants as item
+use Rattle.teco_scan.specs.declared.token.Span.{Span}
+use Rattle.teco_scan.specs.declared.token.Token.{Token}
+use Rattle.teco_scan.specs.declared.token.TokenKind.{TokenKind}
+use Rattle.teco_scan.specs.declared.token.TokenKind.TheVariants as kind
+use Rattle.teco_store.specs.State.{State}
+use Rattle.teco_step.specs.declared.next.Work.{Work}
+use Rattle.teco_step.specs.Effect.{effect, item_effect, command_effect, register_effect, text_effect}
+use Rattle.teco_step.specs.declared.next.Setting.{Setting}
+use Rattle.teco_step.specs.Step.{done_by, settled, Step, End, at}
+use Rattle.teco_step.specs.Stepping.{IsStepIn, IsStepKind, kind_effect, token_effect, end_of, is_unfinished, is_unfinished_code, Steps, IsDone, trail_after, name_in}
+use Rattle.teco_exec.specs.Machine.{inside, leave_found, setting_of, Caller, Config, Moved, Now, runs, going, resumed, run_within, arrives, block_step}
+use Rattle.teco_exec.specs.Search.{is_search}
+use Rattle.teco_exec.specs.View.{cursor, item_at, Finishes as MovesWell, moved_of, opening_of}
+use Rattle.teco_exec.specs.declared.cursor.Cursor.{Cursor}
 use Rattle.std.specs.Prelude.{MatchResult}
 use Rattle.teco_core.specs.declared.arguments.Args.{Args}
 use Rattle.teco_core.specs.declared.code.Code.{Code}
 use Rattle.teco_core.specs.declared.code.Code.TheVariants.{Mem, Tty}
-use Rattle.teco_core.specs.ArgumentsView.{arguments}
-use Rattle.teco_core.specs.Arguments.{Arguments}
-use Rattle.teco_scan.specs.Scan.{scan}
-use Rattle.teco_scan.specs.declared.token.Token.{Token}
-use Rattle.teco_store.specs.State.{State}
 use Rattle.teco_store.specs.Trail.{Trail, moved, stepped}
 use Rattle.teco_step.specs.declared.next.Next.{Next}
 use Rattle.teco_step.specs.declared.next.Next.TheVariants as next
-use Rattle.teco_step.specs.declared.next.Work.{Work}
-use Rattle.teco_step.specs.Effect.{effect}
-use Rattle.teco_step.specs.Step.{Step, End, at}
-use Rattle.teco_step.specs.Stepping.{end_of, is_unfinished, is_unfinished_code, Steps, IsDone, trail_after, IsStepIn, name_in, token_effect}
 use Rattle.teco_step.specs.Terminal.{Screen}
-use Rattle.teco_exec.specs.Machine.{Caller, Config, Moved, Now, runs, going, inside, leave_found, resumed, run_within, setting_of, arrives, block_step}
-use Rattle.teco_exec.specs.Search.{is_search}
-use Rattle.teco_exec.specs.View.{Finishes as MovesWell, cursor, item_at, moved_of, opening_of}
 use Rattle.teco_exec.specs.Running.{Origin, Host, host, Continuation, Going, Comes, Ended, Reached, Reaches, reached_run, ready_run, config, at_cursor, at_token, at_opening, flows, Finishes}
-use Rattle.teco_exec.specs.declared.cursor.Cursor.{Cursor}
 use Rattle.teco_exec.specs.declared.flow.Flow.{Flow}
 use Rattle.teco_exec.specs.declared.flow.Flow.TheVariants.{On, Call, Return, Over}
 use Rattle.teco_exec.specs.declared.flow.Task.{Task}
 use Rattle.teco_exec.specs.declared.moves.Opening.{Opening}
 use Rattle.teco_exec.proofs.Composing.{Stays, arrives_stays, halted, run_ready}
 use Rattle.teco_exec.proofs.Going.{EndsByItself, Pays, advanced, since, settles, step_done, no_memory, no_terminal, shows_nothing}
-use Rattle.teco_exec.proofs.MachineFollows.{going_now, resumed_now}
-use Rattle.teco_exec.proofs.Unseen.{effect_here}
+use Rattle.teco_exec.proofs.MachineMeans.{going_now, resumed_now}
+
+module _ (w : Setting) (b : Bool) where
+  by_command : (c : Command) → command_effect c w ≡ command_effect c (record w { before = b })
+  by_command command.Leave = refl
+  by_command c = refl
+
+  by_register : (c : RegisterCommand) (q : ℕ) → register_effect c q w ≡ register_effect c q (record w { before = b })
+  by_register register.Number q = refl
+  by_register c q = refl
+
+  by_text : (c : TextCommand) (span : Span) (name : List ℕ) → is_search (kind.Item (item.Text c span)) ≡ false → text_effect c name w ≡ text_effect c name (record w { before = b })
+  by_text texts.Search span name e = absurd cc
+  by_text texts.SearchPages span name e = absurd cc
+  by_text texts.SearchPagesQuietly span name e = absurd cc
+  by_text c span name e = refl
+
+  by_item : (text : List ℕ) (i : Item) → is_search (kind.Item i) ≡ false → item_effect (item_in text i) w ≡ item_effect (item_in text i) (record w { before = b })
+  by_item text (item.Bare (bare.Command c)) e = by_command c
+  by_item text (item.Register c q) e = by_register c q
+  by_item text (item.Text c s) e = by_text c s _ e
+  by_item text (item.Replace s t) e = absurd cc
+  by_item text i e = refl
+
+  unseen : (text : List ℕ) (i : Item) (s : State) (a : Arguments) → is_search (kind.Item i) ≡ false → effect (item_in text i) w s a ≡ effect (item_in text i) (record w { before = b }) s a
+  unfolding effect
+  unseen text i s a e = ap (λ x. settled s a (done_by x s a)) (by_item text i e)
+
+module _ (text : List ℕ) (w : Setting) (b : Bool) (s : State) (a : Arguments) where
+  by_seen : (i : Item) (is : Bool) → is_search (kind.Item i) ≡ is → (is ≡ true → w.before ≡ b) → effect (item_in text i) w s a ≡ effect (item_in text i) (record w { before = b }) s a
+  by_seen i true e h = ap (λ x. effect (item_in text i) (record w { before = x }) s a) (h refl)
+  by_seen i false e h = unseen w b text i s a e
+
+  by_kind : (k : TokenKind) → IsStepKind (length text) k → (is_search k ≡ true → w.before ≡ b) → kind_effect text k w s a ≡ effect (item_at text k) (record w { before = b }) s a
+  by_kind (kind.Item i) h e = by_seen i (is_search (kind.Item i)) refl e
+  by_kind k h e = absurd h
+
+-- The effect of a token is that of its item where it is.
+pub effect_here : (c : Cursor) (token : Token) (work : Option Work) (opens before : Bool) (s : State) → IsStepIn c.text.now token → opens ≡ inside (cursor c).blocks
+    → (is_search token.kind ≡ true → before ≡ leave_found (scan (cursor c).left))
+    → token_effect c.text.now token work opens before s (arguments c.args) ≡ effect (item_at c.text.now token.kind) (setting_of token.modifiers work (cursor c)) s (arguments c.args)
+effect_here c token work opens before s is looks sees =
+    by_kind c.text.now (record { modifiers = token.modifiers; work = work; inside = opens; before = before }) (leave_found (scan (cursor c).left)) s (arguments c.args) token.kind is sees
+    ∙ ap (λ x. effect (item_at c.text.now token.kind) (record { modifiers = token.modifiers; work = work; inside = x; before = leave_found (scan (cursor c).left) }) s (arguments c.args)) looks
 
 -- how the text goes on after a step
 module _ (callers : List Caller) (now : Now) (fuel : ℕ) where
@@ -87,11 +143,8 @@ module _ (c : Cursor) (token : Token) (work : Option Work) (callers : List Calle
 
     module _ (o : Origin) (h : Host) (g : Going o h (at_token c token work callers)) (lt : h.steps < o.limit) (name : List ℕ) (new : State) (args : Args) (w : Screen) (n : Next) (G : Trail → Type 0)
         (took : (u : Trail) → h.follows u → G (trail_after n u (effect_in h.state).load)) where
-      keeps : is_unfinished n ≡ true → (u : Trail) → h.follows u → G u
-      keeps e u f = subst (λ b. G (elim b [ true ↦ u | false ↦ moved u (effect_in h.state).load ])) e (took u f)
-
-      moves : is_unfinished n ≡ false → (u : Trail) → h.follows u → G (moved u (effect_in h.state).load)
-      moves e u f = subst (λ b. G (elim b [ true ↦ u | false ↦ moved u (effect_in h.state).load ])) e (took u f)
+      took_so : (b : Bool) → is_unfinished n ≡ b → (u : Trail) → h.follows u → G (elim b [ true ↦ u | false ↦ moved u (effect_in h.state).load ])
+      took_so b e u f = subst (λ b. G (elim b [ true ↦ u | false ↦ moved u (effect_in h.state).load ])) e (took u f)
 
       -- it was begun and not done
       pub token_fails : (code : Code) → n ≡ next.Error code → is_unfinished_code code ≡ true → Steps (effect_in h.state) name (at h.state (arguments c.args) h.screen) (at new (arguments args) w) n → Ended o h (host new G w h.steps) (Some code)
@@ -100,12 +153,12 @@ module _ (c : Cursor) (token : Token) (work : Option Work) (callers : List Calle
           let same : Mem ≡ code = let both : next.Error Mem ≡ next.Error code = sym lacks.code ∙ e in cc in
           let d = effect_in h.state in
           subst (λ k. Ended o h (host new G w h.steps) (Some k)) same
-          (no_memory o h (at_token c token work callers) g (after_token d.arguments d.end) d.state d.typed d.load (token_pays h.state) (after_stays d.arguments d.end) lt new lacks.state G (keeps (ap is_unfinished e ∙ unfinished)) w lacks.shows)
+          (no_memory o h (at_token c token work callers) g (after_token d.arguments d.end) d.state d.typed d.load (token_pays h.state) (after_stays d.arguments d.end) lt new lacks.state G (took_so true (ap is_unfinished e ∙ unfinished)) w lacks.shows)
       token_fails code e unfinished (inr (inr lacks)) =
           let same : Tty ≡ code = let both : next.Error Tty ≡ next.Error code = sym lacks.code ∙ e in cc in
           let d = effect_in h.state in
           subst (λ k. Ended o h (host new G w h.steps) (Some k)) same
-          (no_terminal o h (at_token c token work callers) g (after_token d.arguments d.end) d.state d.typed d.load (token_pays h.state) (after_stays d.arguments d.end) lt new lacks.state G (keeps (ap is_unfinished e ∙ unfinished)) w lacks.front lacks.types lacks.beginning lacks.shows)
+          (no_terminal o h (at_token c token work callers) g (after_token d.arguments d.end) d.state d.typed d.load (token_pays h.state) (after_stays d.arguments d.end) lt new lacks.state G (took_so true (ap is_unfinished e ∙ unfinished)) w lacks.front lacks.types lacks.beginning lacks.shows)
 
       finished_done : is_unfinished n ≡ false → Steps (effect_in h.state) name (at h.state (arguments c.args) h.screen) (at new (arguments args) w) n → IsDone (effect_in h.state) name (at h.state (arguments c.args) h.screen) (at new (arguments args) w) n
       finished_done f (inl done) = done
@@ -125,7 +178,7 @@ module _ (c : Cursor) (token : Token) (work : Option Work) (callers : List Calle
           let later : Host = host same H w steps in
           let to : Comes o h later (after_token e.arguments e.end) =
           step_done o h (at_token c token work callers) g (after_token e.arguments e.end) e.state e.typed e.load (token_pays h.state) (after_stays e.arguments e.end) later count (is_same ∙ done.state) done.shows
-          (λ u p none at state within. marks (moved u e.load) (moves f u p) (omega arith) (omega arith) (ap u.states count ∙ state ∙ sym done.state) (subst (λ k. u.load + e.load ≤ u.loads k) (sym count) within)) in
+          (λ u p none at state within. marks (moved u e.load) (took_so false f u p) (omega arith) (omega arith) (ap u.states count ∙ state ∙ sym done.state) (subst (λ k. u.load + e.load ≤ u.loads k) (sym count) within)) in
           let there : Comes o h later (after_token (arguments args) (end_of name n)) =
           subst (λ x. Comes o h later (after_token (arguments args) x)) (sym done.end) (subst (λ x. Comes o h later (after_token x e.end)) (sym done.arguments) to) in
           since o h later later d there.follows (settles o later (after_token (arguments args) (end_of name n)) there.going d fin (omega arith) (λ now fuel. sym (run_ready fuel _) ∙ leads now fuel))
@@ -144,10 +197,8 @@ module _ (c : Cursor) (b : Opening) (to : ℕ) (callers : List Caller) where
 
   still : (s : State) (now : Now) → now.state ≡ s → now ≡ advanced s [] 0 now
   still s now same =
-      let all : now.load ≡ now.load + 0 = omega arith in
-      ap (λ x. let y : Now = record now { state = x } in y) same
-      ∙ ap (λ x. let y : Now = record { state = s; typed = x; load = now.load } in y) (sym (append-nil now.typed))
-      ∙ ap (λ x. let y : Now = record { state = s; typed = now.typed ++ []; load = x } in y) all
+      let all : now.load + 0 ≡ now.load = omega arith in
+      rw (← same, append-nil now.typed, all)
 
   block_pays : (s : State) → Pays (at_opening c b to callers) after_block s s [] 0
   block_pays s now same fuel = run_ready fuel _ ∙ ap (λ x. ready_run fuel (after_block x)) (still s now same)

@@ -1,5 +1,4 @@
-use Rattle.teco_exec.proofs.MachineMeans.{machine_means}
-use Rattle.teco_exec.proofs.MachineFollows.{machine_follows}
+use Rattle.teco_exec.proofs.MachineMeans.{machine_means, machine_follows}
 use Rattle.teco_exec.proofs.laws.machine_laws.Goals as goal
 
 pub returns : goal.returns

@@ -3,7 +3,7 @@ use Rattle.std.proofs.lemmas.List.{length-drop}
 use Rattle.teco_core.specs.ArgumentsView.{arguments}
 use Rattle.teco_exec.specs.View.{cursor}
 use Rattle.teco_exec.specs.Running.{Going, IsPending, at_call, at_cursor, at_return, goes, host, over}
-use Rattle.teco_exec.proofs.Calling.{begins, caller, comes_back, enters, less_left, too_deep}
+use Rattle.teco_exec.proofs.Continuations.{begins, caller, comes_back, enters, less_left, too_deep}
 use Rattle.teco_exec.proofs.Going.{continues, since}
 use Rattle.teco_exec.proofs.NoMemory.{begins_quietly}
 use Rattle.teco_exec.proofs.running.+run_text.Goals as goal

@@ -4,7 +4,7 @@ use Rattle.teco_core.specs.ArgumentsView.{arguments}
 use Rattle.teco_exec.specs.Quiet.{QuietComing}
 use Rattle.teco_exec.specs.View.{IsStepFound, step_of}
 use Rattle.teco_exec.proofs.Going.{settles}
-use Rattle.teco_exec.proofs.Seeking.{comes_block, comes_fault, comes_over, comes_token, passes_on, passes_short, pending_comes}
+use Rattle.teco_exec.proofs.Continuations.{comes_block, comes_fault, comes_over, comes_token, passes_on, passes_short, pending_comes}
 use Rattle.teco_exec.proofs.NoMemory.{comes_quietly, kind_quietly}
 use Rattle.teco_exec.proofs.Stepped.{ends_over}
 use Rattle.teco_exec.specs.declared.moves.Next.TheVariants.{Block, Step}
