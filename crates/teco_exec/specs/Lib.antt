@@ -9,7 +9,6 @@ pub mod MachineLaws
 pub mod Frames
 pub mod Tokens
 pub mod View
-pub mod Search
 pub mod Runs
 pub mod Running
 pub mod Semicolon

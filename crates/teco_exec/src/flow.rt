@@ -2,15 +2,7 @@
 ghost use Rattle.std.specs.Prelude.{◌≡◌, ◌≤◌};
 
 use teco_core::Code;
-use teco_scan::Token;
 use teco_step::Work;
-
-/// A token with a further step, and the work that is left.
-#[derive(Clone, Copy, Debug)]
-pub(crate) struct Task {
-    pub token: Token,
-    pub work: Work,
-}
 
 /// What one step of a text leads to.
 #[derive(Debug, Drop)]

@@ -4,12 +4,10 @@ ghost use Rattle.teco_scan.specs.Scan.{scan};
 ghost use Rattle.teco_step.specs.Stepping.{IsStepIn, end_of, is_unfinished, is_unfinished_code, name_in, takes_nothing_in};
 ghost use Rattle.teco_step.specs.Terminal.{Screen};
 ghost use Rattle.teco_step.specs.declared.next.Next.TheVariants.{Error};
-ghost use Rattle.teco_exec.specs.Machine.{Caller, Now, leave_found, resumed, run_within};
-ghost use Rattle.teco_exec.specs.Machine as machine;
+ghost use Rattle.teco_exec.specs.Machine.{Caller, Now, inside, leave_found, resumed, run_within};
 ghost use Rattle.teco_exec.specs.Running.{GoesOn, GoesQuietly, Leads, at_cursor, at_opening, at_token, config, flows, host, reached_run};
-ghost use Rattle.teco_exec.specs.Tokens.{Continues, Counts, ProgressFinishes, ProgressesQuietly, asks_inside, progresses};
+ghost use Rattle.teco_exec.specs.Tokens.{Continues, Counts, ProgressFinishes, ProgressesQuietly, looks_around, progresses};
 ghost use Rattle.teco_exec.specs.Quiet.{IsQuiet, is_plain};
-ghost use Rattle.teco_exec.specs.Search.{is_search};
 ghost use Rattle.teco_exec.specs.View.{MayOpen, cursor as cursor_of, item_at};
 ghost use Rattle.teco_exec.specs.declared.flow.Flow.TheVariants as flow;
 
@@ -37,8 +35,8 @@ pub(crate) fn step<D: Desk, T: Terminal>(
     ensures advances { GoesOn result → (steps.old.done < steps.new.done) ⊎ (length (cursor_of cursor.new).left < length (cursor_of cursor.old).left) }
     ensures leads { Leads steps.old.limit (host (D.state desk.old) (D.follows desk.old) (T.screen term.old) steps.old.done)
         (host (D.state desk.new) (D.follows desk.new) (T.screen term.new) steps.new.done)
-        (at_cursor cursor.old None) (λ callers. flows cursor.new None callers result) }
-    ensures quiet { IsQuiet (cursor_of cursor.old) → GoesQuietly cursor.new None result }
+        (at_cursor cursor.old) (λ callers. flows cursor.new callers result) }
+    ensures quiet { IsQuiet (cursor_of cursor.old) → GoesQuietly cursor.new result }
 {
     block_laws();
     let found = token_at(cursor.text, cursor.at);
@@ -69,8 +67,8 @@ fn token_steps<D: Desk, T: Terminal>(
     ensures more { GoesOn result → steps.old.done < steps.new.done }
     ensures leads { Leads steps.old.limit (host (D.state desk.old) (D.follows desk.old) (T.screen term.old) steps.old.done)
         (host (D.state desk.new) (D.follows desk.new) (T.screen term.new) steps.new.done)
-        (at_token cursor.old token.now None) (λ callers. flows cursor.new None callers result) }
-    ensures quiet { IsQuiet (cursor_of cursor.old) → takes_nothing_in cursor.old.text.now token.now ≡ true → GoesQuietly cursor.new None result }
+        (at_token cursor.old token.now None) (λ callers. flows cursor.new callers result) }
+    ensures quiet { IsQuiet (cursor_of cursor.old) → takes_nothing_in cursor.old.text.now token.now ≡ true → GoesQuietly cursor.new result }
 {
     let mut work = None;
     'stepping: loop {
@@ -143,7 +141,7 @@ fn block_step<D: Desk>(
     ensures more { GoesOn result → steps.old.done < steps.new.done }
     ensures leads { (screen : Screen) → Leads steps.old.limit (host (D.state desk.old) (D.follows desk.old) screen steps.old.done)
         (host (D.state desk.new) (D.follows desk.new) screen steps.new.done)
-        (at_opening cursor.old opening to) (λ callers. flows cursor.new None callers result) }
+        (at_opening cursor.old opening to) (λ callers. flows cursor.new callers result) }
 {
     if steps.done == steps.limit {
         return over(Code::Lim);
@@ -181,25 +179,30 @@ fn resume(cursor: &mut Cursor, token: &Token, next: After) -> Progress
     }
 }
 
-/// Whether an iteration is open, where the token asks for it: only `;` does.
+/// Whether an iteration is open, where the token looks around.
 fn iteration_is_seen(cursor: &Cursor, token: &Token) -> bool
-    ensures { asks_inside token.now.kind ≡ true → result ≡ machine.inside (cursor_of cursor.now).blocks }
+    ensures { looks_around token.now.kind ≡ true → result ≡ inside (cursor_of cursor.now).blocks }
 {
-    match token.kind {
-        TokenKind::Item(Item::Bare(Bare::Command(Command::Leave))) => cursor.has_iteration(),
-        _ => false,
-    }
+    looks_around(token) && cursor.has_iteration()
 }
 
-/// Whether a plain `;` comes next, where the token asks for it: only a search does.
+/// Whether a plain `;` comes next, where the token looks around.
 fn leave_is_seen(cursor: &Cursor, token: &Token) -> bool
-    ensures { is_search token.now.kind ≡ true → result ≡ leave_found (scan (cursor_of cursor.now).left) }
+    ensures { looks_around token.now.kind ≡ true → result ≡ leave_found (scan (cursor_of cursor.now).left) }
+{
+    looks_around(token) && cursor.leave_is_next()
+}
+
+/// Whether a step of the token looks at what surrounds it: only `;` does, and a search.
+fn looks_around(token: &Token) -> bool
+    ensures { result ≡ looks_around token.now.kind }
 {
     match token.kind {
-        TokenKind::Item(Item::Text(TextCommand::Search, _)) => cursor.leave_is_next(),
-        TokenKind::Item(Item::Text(TextCommand::SearchPages, _)) => cursor.leave_is_next(),
-        TokenKind::Item(Item::Text(TextCommand::SearchPagesQuietly, _)) => cursor.leave_is_next(),
-        TokenKind::Item(Item::Replace(_, _)) => cursor.leave_is_next(),
+        TokenKind::Item(Item::Bare(Bare::Command(Command::Leave))) => true,
+        TokenKind::Item(Item::Text(TextCommand::Search, _)) => true,
+        TokenKind::Item(Item::Text(TextCommand::SearchPages, _)) => true,
+        TokenKind::Item(Item::Text(TextCommand::SearchPagesQuietly, _)) => true,
+        TokenKind::Item(Item::Replace(_, _)) => true,
         _ => false,
     }
 }

@@ -1,9 +1,9 @@
-use Rattle.std.proofs.Common.{◌≡◌, ◌<◌, ◌≤◌, ◌⊎◌, inl, inr, ◌+◌, ◌-◌, ◌*◌, ◌∷◌, length, drop, None, Some, refl, sym, subst, ap, ◌∙◌, arith}
+use Rattle.std.proofs.Common.{◌≡◌, ◌<◌, ◌≤◌, ◌⊎◌, inl, inr, ◌+◌, ◌-◌, ◌*◌, ◌∷◌, length, drop, Some, refl, sym, subst, ap, ◌∙◌, arith}
 use Rattle.std.proofs.lemmas.List.{length-drop}
 use Rattle.teco_core.specs.ArgumentsView.{arguments}
 use Rattle.teco_exec.specs.View.{cursor}
 use Rattle.teco_exec.specs.Running.{Going, at_call, at_cursor, at_return, goes, host, over}
-use Rattle.teco_exec.proofs.Calling.{begins, caller, comes_back, enters, less_left, too_deep}
+use Rattle.teco_exec.proofs.Continuations.{begins, caller, comes_back, enters, less_left, too_deep}
 use Rattle.teco_exec.proofs.Going.{continues, since}
 use Rattle.teco_exec.proofs.NoMemory.{begins_quietly}
 use Rattle.teco_exec.proofs.Tokens.{counts_on}
@@ -31,10 +31,10 @@ pub running-preserved-in-On : goal.running-preserved-in-On
 running-preserved-in-On g t c = record {
   text = ap (λ x. x.now) c.in-On.ensures.text ∙ c.running.invariant.text;
   counts = counts_on c.running.invariant.counts c.in-On.ensures.counts;
-  quiet = λ h. (c.in-On.ensures.quiet (c.running.invariant.quiet h)).0;
+  quiet = λ h. c.in-On.ensures.quiet (c.running.invariant.quiet h);
   going = λ o callers limit deep e.
       let there = c.running.invariant.going o callers limit deep e in
-      since o _ _ _ (goes (at_cursor c.step.new.cursor None callers)) there.follows (c.in-On.ensures.leads o callers (limit ∙ sym c.running.invariant.counts.limit) there.going);
+      since o _ _ _ (goes (at_cursor c.step.new.cursor callers)) there.follows (c.in-On.ensures.leads o callers (limit ∙ sym c.running.invariant.counts.limit) there.going);
 }
 
 pub returns-then-depth-eq-CALL_LIMIT-clause-leads : goal.returns-then-depth-eq-CALL_LIMIT-clause-leads
@@ -75,8 +75,8 @@ running-preserved g t c = record {
       let left = arguments c.run_text.new.args in
       let r = c.in-Return-run_text.ensures.leads o (caller from ∷ callers) (limit ∙ sym c.running.invariant.counts.limit ∙ sym c.in-Call.ensures.counts.limit) deeper into.going in
       let k = host (g.D.Desk.state c.run_text.new.desk) (g.D.Desk.follows c.run_text.new.desk) (g.T.Terminal.screen c.run_text.new.term) c.run_text.new.steps.done in
-      let back = continues o k (at_return left (caller from ∷ callers)) r.going (at_cursor c.go_on_with.new.cursor None callers)
-      (comes_back left from c.go_on_with.new.cursor None callers c.go_on_with.ensures.text c.go_on_with.ensures.args refl) in
+      let back = continues o k (at_return left (caller from ∷ callers)) r.going (at_cursor c.go_on_with.new.cursor callers)
+      (comes_back left from c.go_on_with.new.cursor callers c.go_on_with.ensures.text c.go_on_with.ensures.args) in
       record { going = back.going; follows = λ floor p. r.follows floor (here.follows floor (there.follows floor p)) };
 }
 

@@ -1,4 +1,4 @@
-use Rattle.std.proofs.Common.{◌≡◌, None, true, ◌-◌, ◌+◌, ◌*◌, List, length}
+use Rattle.std.proofs.Common.{◌≡◌, true, ◌-◌, ◌+◌, ◌*◌, List, length}
 use Rattle.teco_core.specs.ArgumentsView.{arguments}
 use Rattle.teco_exec.specs.Machine.{Caller}
 use Rattle.teco_scan.specs.Lists.{nodes}
@@ -19,7 +19,7 @@ invariant-running g l = record {
   going : (o : Origin) (callers : List Caller) → o.limit ≡ l.fn.steps.limit → length callers ≡ l.depth
       → Going o (host (g.D.Desk.state l.fn.desk) (g.D.Desk.follows l.fn.desk) (g.T.Terminal.screen l.fn.term) l.fn.steps.done) (at_beginning (arguments l.fn.args) l.text callers)
       → Comes o (host (g.D.Desk.state l.fn.desk) (g.D.Desk.follows l.fn.desk) (g.T.Terminal.screen l.fn.term) l.fn.steps.done)
-      (host (g.D.Desk.state l.desk) (g.D.Desk.follows l.desk) (g.T.Terminal.screen l.term) l.steps.done) (at_cursor l.cursor None callers);
+      (host (g.D.Desk.state l.desk) (g.D.Desk.follows l.desk) (g.T.Terminal.screen l.term) l.steps.done) (at_cursor l.cursor callers);
 }
 
 abbrev pub decreases-running : goal.decreases-running

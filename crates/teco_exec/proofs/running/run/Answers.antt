@@ -2,8 +2,8 @@ use Rattle.std.proofs.Common.{[], refl, arith}
 use Rattle.teco_core.specs.ArgumentsView.{arguments}
 use Rattle.teco_exec.specs.Running.{Origin}
 use Rattle.teco_exec.proofs.NoMemory.{ends_quietly}
-use Rattle.teco_exec.proofs.Whole.{whole_begins, whole_ends}
-use Rattle.teco_exec.proofs.Exits.{runs_exit}
+use Rattle.teco_exec.proofs.Continuations.{whole_begins, whole_ends}
+use Rattle.teco_exec.proofs.StringLaws.{runs_exit}
 use Rattle.teco_exec.proofs.running.run.Goals as goal
 
 pub returns : goal.returns
