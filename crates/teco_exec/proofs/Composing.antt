@@ -1,7 +1,7 @@
 -- How runs of the machine compose: what uses no step, a step, a call, the end.
 use Rattle.std.proofs.Common.{◌≡◌, ℕ, zero, suc, ◌+◌, ◌<◌, ◌≤◌, List, [], ◌∷◌, length, Option, Some, None, refl, sym, ap, ◌∙◌, arith}
 use Rattle.teco_core.specs.declared.code.Code.{Code}
-use Rattle.teco_exec.specs.Machine.{Caller, Coming, moved, ends, Config, Machine, runs, halts, Further, Ready, finished, final, Now, now_of, returned, coming, arriving, arrives_within, arrives, exec, waiting, weight, pass, pays, paid, unpaid, run_within}
+use Rattle.teco_exec.specs.Machine.{Caller, Coming, moved, ends, Config, Machine, runs, halts, Further, Ready, final, Now, now_of, returned, coming, arriving, arrives_within, arrives, exec, waiting, weight, pass, pays, paid, unpaid, run_within}
 use Rattle.teco_exec.specs.Running.{Continuation, ready_run}
 use Rattle.teco_scan.specs.ListLaws.{BlockLaws}
 use Rattle.teco_exec.proofs.Passing.{Shorter, pass_short}
@@ -38,22 +38,18 @@ arrives_step laws c = arriving_same laws (arrives_within (weight (runs c))) arri
 -- A run is told by where it arrives.
 pub run_ready : (n : ℕ) (m : Machine) → run_within n m ≡ ready_run n (arrives m)
 unfolding run_within
-run_ready zero m = refl
-run_ready (suc n) m = refl
+run_ready n m = grind arith
 
 pub halted : (n : ℕ) (c : Config) (e : Option Code) → run_within n (halts c e) ≡ final n c e
 unfolding run_within arrives arrives_within
-halted zero c e = refl
-halted (suc n) c e = refl
+halted n c e = grind arith
 
 -- no run gains fuel
 paid_fuel : (n : ℕ) (r : Ready) → (run_within n (pays r)).fuel ≤ n → (paid n (run_within n) r).fuel ≤ suc n
-paid_fuel n (finished c e) le = omega arith
-paid_fuel n r le = omega arith
+paid_fuel n r le = grind arith
 
 unpaid_fuel : (r : Ready) → (unpaid r).fuel ≤ 0
-unpaid_fuel (finished c e) = omega arith
-unpaid_fuel r = omega arith
+unpaid_fuel r = grind arith
 
 pub fuel_within : (n : ℕ) (m : Machine) → (run_within n m).fuel ≤ n
 unfolding run_within

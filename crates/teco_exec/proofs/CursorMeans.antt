@@ -1,22 +1,20 @@
 -- The moves of a cursor: what uses no step means nothing, and the steps of blocks mean what the machine does.
-use Rattle.std.proofs.Common.{◌≡◌, ℕ, zero, suc, Bool, true, false, List, [], ◌∷◌, length, Option, Some, None, Ok, Err, refl, sym, ap, ◌∙◌, Result, subst}
-use Rattle.std.specs.Prelude.{◌==◌, if◌then◌else◌, ℤ}
+use Rattle.std.proofs.Common.{arith, ◌≡◌, ℕ, zero, suc, Bool, true, false, List, [], ◌∷◌, length, Option, Some, None, Ok, Err, refl, sym, ap, ◌∙◌, Result, subst}
+use Rattle.std.specs.Prelude.{if◌then◌else◌, ℤ}
 use Rattle.teco_core.specs.declared.code.Code.{Code}
-use Rattle.teco_core.specs.declared.code.Code.TheVariants.{Lim, Naq, Pdo, Utc, Arg}
+use Rattle.teco_core.specs.declared.code.Code.TheVariants.{Lim, Naq, Utc, Arg}
 use Rattle.teco_core.specs.Arguments.{Arguments, no_arguments, taken_from}
 use Rattle.teco_scan.specs.declared.command.Modifiers.{Modifiers}
-use Rattle.teco_scan.specs.declared.command.BlockMark.TheVariants.{Iterate, EndIteration, Otherwise, EndTest}
 use Rattle.teco_scan.specs.declared.blocks.Kind.{Kind}
 use Rattle.teco_scan.specs.declared.blocks.Kind.TheVariants.{Iter, Then}
-use Rattle.teco_scan.specs.Scan.{Item, Instruction, TokenMeaning, Scanned, found, ended, fault, scan}
-use Rattle.teco_scan.specs.Scan as token
+use Rattle.teco_scan.specs.Scan.{Item, Scanned, scan}
 use Rattle.teco_scan.specs.Tree.{Nodes, done, item, escape, iter, cond, tag}
 use Rattle.teco_scan.specs.declared.command.Test.{Test}
 use Rattle.teco_step.specs.declared.next.Work.{Work}
 use Rattle.teco_step.specs.Step.{End, on, stop, takes_one, leave}
 use Rattle.teco_exec.specs.World.{World, Ran, pay, pay_from}
 use Rattle.teco_exec.specs.Meaning.{then_rest, steps, iterates, chooses, first_setting, leave_comes, list_by, meaning, part_end, turn, turns_of, turns_by}
-use Rattle.teco_scan.specs.Lists.{Close, closed, broken, Past, past, Listed, wrong, behind_block, put, second, at_instruction, at_scan, list_at}
+use Rattle.teco_scan.specs.Lists.{Close, closed, broken, Past, past, Listed, wrong, behind_block, put, second, at_scan, list_at}
 use Rattle.teco_scan.specs.ListLaws.{BlockLaws}
 use Rattle.teco_exec.specs.Machine.{Frame, Cursor, Moved, Coming, moved, comes, at_block, ends, breaks, BlockStep, Caller, Final, kind_of, inside, setting_of, leave_found, skipped, closes, passing, opening, pass_mark, pass_instruction, pass_scanned, pass, entered, counted, iterated, turned, second_part, decided, left_block, leaving}
 use Rattle.teco_exec.specs.Machine as machine
@@ -31,8 +29,7 @@ use Rattle.teco_exec.specs.Test.{holds}
 module _ (text : List ℕ) (depth : ℕ) (w : World) (c : Code) where
   block_end_stop : (k : Kind) (left : Option ℕ) (n : Nodes) → block_end k left n depth w (stop c) ≡ (w, stop c)
   unfolding block_end
-  block_end_stop Iter left n = refl
-  block_end_stop k left n = refl
+  block_end_stop k left n = grind arith
 
   pub around_stop : (bs : List Frame) (l : Close) → around text depth bs l w (stop c) ≡ (w, stop c)
   unfolding around
@@ -106,29 +103,11 @@ module _ (text : List ℕ) (cs : List Caller) (w : World) where
 -- what is paid for goes on
 pub pay_then : (n : ℕ) (v : World) (act : World → Ran) (f : World → End → Ran) → f v (stop Lim) ≡ (v, stop Lim)
     → pay_from n v (λ u. let r : Ran = act u in f r.0 r.1) ≡ (let r : Ran = pay_from n v act in f r.0 r.1)
-pay_then zero v act f h = sym h
-pay_then (suc n) v act f h = refl
+pay_then n v act f h = grind arith
 
 -- whether `;` comes next
-opened_leaves : (b : Bool) (l : Listed) → leave_comes l.0 ≡ false → leave_comes (if b then wrong Pdo else l).0 ≡ false
-opened_leaves true l e = refl
-opened_leaves false l e = e
-
 leave_at : (s : Scanned) (k : Option Kind) (d : ℕ) → leave_comes (at_scan list_at s k d).0 ≡ leave_found s
-leave_at ended None d = refl
-leave_at ended (Some k) d = refl
-leave_at (fault c) k d = refl
-leave_at (found t bs) k d = go t.instruction k
-  where
-    go : (i : Instruction) (k : Option Kind) → leave_comes (at_instruction list_at i t.modifiers bs k d).0 ≡ leave_found (found (record t { instruction = i }) bs)
-    go (token.mark Iterate) k = opened_leaves (d == 64) _ refl
-    go (token.mark EndIteration) (Some Iter) = refl
-    go (token.mark Otherwise) (Some Then) = refl
-    go (token.mark EndTest) (Some Iter) = refl
-    go (token.mark m) (Some k) = refl
-    go (token.mark m) None = refl
-    go (token.decide t) k = opened_leaves (d == 64) _ refl
-    go i k = refl
+leave_at s k d = grind arith
 
 pub leave_same : (laws : BlockLaws) (k : Option Kind) (d : ℕ) (bs : List ℕ) → leave_comes (list_at k d bs).0 ≡ leave_found (scan bs)
 leave_same laws k d bs = ap (λ (l : Listed). leave_comes l.0) (laws.list_unrolls k d bs) ∙ leave_at (scan bs) k d

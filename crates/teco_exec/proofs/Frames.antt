@@ -37,8 +37,7 @@ frames_either text f e (inl is) one other = ap f (frames_kind text e is) ∙ one
 frames_either text f e (inr is) one other = ap f (frames_kind text e is) ∙ other
 
 pub or_kind : {j k one other : Kind} → j ≡ k → (j ≡ one) ⊎ (j ≡ other) → (k ≡ one) ⊎ (k ≡ other)
-or_kind e (inl is) = inl (sym e ∙ is)
-or_kind e (inr is) = inr (sym e ∙ is)
+or_kind e is = grind arith
 
 pub frames_length : (text : List ℕ) (bs : List Block) → length (frames text bs) ≡ length bs
 unfolding frames
@@ -117,14 +116,10 @@ module _ (text more : List ℕ) (step : machine.BlockStep) (bs : List Block) (a 
 
 -- the text ends, or it ends in a block
 pub no_block : (text : List ℕ) (bs : List Block) → length bs ≡ 0 → ends ≡ at_end (frames text bs)
-unfolding frames
-no_block text [] e = refl
-no_block text (b ∷ bs) e = absurd (omega arith)
+no_block text bs e = grind (arith, frames_length)
 
 pub some_block : (text : List ℕ) (bs : List Block) → (length bs ≡ 0 → ⊥) → breaks Utc ≡ at_end (frames text bs)
-unfolding frames
-some_block text [] ne = absurd (ne refl)
-some_block text (b ∷ bs) ne = refl
+some_block text bs ne = grind (arith, frames_length)
 
 -- the depth at which the innermost block is, as the code counts it and as the machine does
 deep : {bs outer : List Block} {b : Block} {n : ℕ} (text : List ℕ) → bs ≡ b ∷ outer → n ≡ length bs → n ≡ suc (length (frames text outer))

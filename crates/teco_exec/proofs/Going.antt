@@ -31,9 +31,7 @@ well_runs s text limit (Some Tty) steps typed new f e = absurd cc
 well_runs s text limit (Some c) steps typed new f e = e
 
 well_shown : (code : Option Code) (steps : ℕ) → IsFinished code → false ≡ is_tty (ended_by code steps)
-well_shown None steps f = refl
-well_shown (Some Tty) steps f = cc
-well_shown (Some c) steps f = refl
+well_shown code steps f = grind arith
 
 abbrev meant_now : Meant → Now
 meant_now m = record { state = m.state; typed = m.typed; load = m.load }

@@ -1,5 +1,5 @@
 -- The machine does what the recursive meaning says, and where it is after some steps.
-use Rattle.std.proofs.Common.{◌≡◌, ℕ, zero, suc, ◌+◌, ◌-◌, false, List, [], ◌∷◌, ◌<◌, ◌++◌, length, Option, Some, None, refl, sym, ap, ◌∙◌, arith, Ok, Err}
+use Rattle.std.proofs.Common.{◌≡◌, ℕ, zero, suc, ◌+◌, ◌-◌, false, List, [], ◌∷◌, ◌<◌, ◌++◌, length, Option, Some, None, refl, sym, ap, ◌∙◌, arith}
 use Rattle.teco_core.specs.declared.code.Code.TheVariants.{Lim, Naq}
 use Rattle.teco_core.specs.Arguments.{Arguments, taken_from}
 use Rattle.teco_scan.specs.declared.command.Modifiers.{Modifiers}
@@ -7,7 +7,7 @@ use Rattle.teco_scan.specs.declared.blocks.Kind.TheVariants.{Iter}
 use Rattle.teco_scan.specs.Scan.{Item}
 use Rattle.teco_store.specs.State.{State}
 use Rattle.teco_step.specs.declared.next.Work.{Work}
-use Rattle.teco_step.specs.Step.{Step, on, stop, takes_one, End, leave, go, call}
+use Rattle.teco_step.specs.Step.{Step, on, stop, takes_one, End}
 use Rattle.teco_step.specs.Effect.{effect}
 use Rattle.teco_exec.specs.World.{World, Ran, cleared, pay_from}
 use Rattle.teco_exec.specs.Meaning.{meaning}
@@ -149,19 +149,8 @@ ready_now (step m i work c) = now_of (runs c)
 ready_now (block b bs c) = now_of (runs c)
 ready_now (finished c e) = now_of (runs c)
 
-module _ (next : Machine → Ready) (h : (m : Machine) → ready_now (next m) ≡ now_of m) where
-  back_now : (c : Config) (cs : List Caller) → ready_now (next (returned c cs)) ≡ now_of (runs c)
-  back_now c [] = h (halts c None)
-  back_now c (b ∷ bs) = h (returned c (b ∷ bs))
-
-  coming_now : (c : Config) (k : Coming) → ready_now (coming next c k) ≡ now_of (runs c)
-  coming_now c (moved d) = h (runs (record c { at = d }))
-  coming_now c ends = back_now c c.callers
-  coming_now c k = refl
-
-  arriving_now : (c : Config) (f : Option Further) → ready_now (arriving next c f) ≡ now_of (runs c)
-  arriving_now c (Some f) = refl
-  arriving_now c None = coming_now c (pass c.at)
+arriving_now : (next : Machine → Ready) → ((m : Machine) → ready_now (next m) ≡ now_of m) → (c : Config) (f : Option Further) → ready_now (arriving next c f) ≡ now_of (runs c)
+arriving_now next h c f = grind arith
 
 arrives_seen : (k : ℕ) (m : Machine) → ready_now (arrives_within k m) ≡ now_of m
 unfolding arrives_within
@@ -175,17 +164,10 @@ arrives_now m = arrives_seen (suc (weight m)) m
 
 -- Where a step leads changes nothing of what is seen.
 pub going_now : (c : Config) (m : Moved) → now_of (going c m) ≡ now_of (runs c)
-going_now c (Ok cur) = refl
-going_now c (Err e) = refl
-
-called_now : (text : List ℕ) (c : Config) → now_of (called text c) ≡ now_of (runs c)
-called_now text c = grind arith
+going_now c m = grind arith
 
 pub resumed_now : (m : Modifiers) (i : Item) (e : End) (c : Config) → now_of (resumed m i e c) ≡ now_of (runs c)
-resumed_now m i leave c = going_now c (leaving c.at.blocks c.at.args c.at.left)
-resumed_now m i (go name) c = going_now c (jumping name c.text c.at.blocks c.at.args)
-resumed_now m i (call text) c = called_now text c
-resumed_now m i e c = refl
+resumed_now m i e c = grind arith
 
 exec_halts : (n : ℕ) (c : Config) (e : Option Code) → exec n (halts c e) ≡ halts c e
 unfolding exec arrives arrives_within
@@ -196,8 +178,7 @@ abbrev pub final_now : Final → Now
 final_now f = record { state = f.state; typed = f.typed; load = f.load }
 
 unpaid_now : (r : Ready) → ready_now r ≡ final_now (unpaid r)
-unpaid_now (finished c e) = refl
-unpaid_now r = refl
+unpaid_now r = grind arith
 
 paid_now : (n : ℕ) (r : Ready) → now_of (exec n (pays r)) ≡ final_now (run_within n (pays r)) → now_of (exec n (pays r)) ≡ final_now (paid n (run_within n) r)
 paid_now n (finished c x) e = ap now_of (exec_halts n c x)

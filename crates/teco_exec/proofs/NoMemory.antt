@@ -1,5 +1,5 @@
 -- A text of values and arithmetic alone never ends for want of memory.
-use Rattle.std.proofs.Common.{◌≡◌, ℕ, Bool, true, false, List, [], Option, Some, None, refl, sym, ap, subst, ◌∙◌}
+use Rattle.std.proofs.Common.{arith, ◌≡◌, ℕ, Bool, true, List, [], Option, Some, None, refl, sym, ap, subst, ◌∙◌}
 use Rattle.std.specs.Prelude.{◌&&◌}
 use Rattle.teco_core.specs.declared.code.Code.{Code}
 use Rattle.teco_core.specs.declared.code.Code.TheVariants.{Mem}
@@ -22,8 +22,7 @@ use Rattle.teco_exec.proofs.Denoting.{here}
 use Rattle.teco_exec.proofs.Passing.{Passes, item_comes, tag_passes, escape_passes, iteration_opens, conditional_opens, turn_ends, part_ends, passes}
 
 both : (a b : Bool) → (a && b) ≡ true → (a ≡ true) × (b ≡ true)
-both true b e = (refl, e)
-both false b e = absurd cc
+both a b e = grind arith
 
 -- what comes in such a text
 quiet_here : (c : MachineCursor) (bs : List ℕ) (a : Arguments) → c.blocks ≡ [] → takes_no_memory (here c.blocks bs).0 ≡ true → IsQuiet (record c { args = a; left = bs })

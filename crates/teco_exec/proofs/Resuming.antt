@@ -5,7 +5,6 @@ use Rattle.teco_core.specs.declared.code.Code.TheVariants.{Pdo, Tag}
 use Rattle.teco_core.specs.Arguments.{Arguments}
 use Rattle.teco_scan.specs.declared.command.Modifiers.{Modifiers}
 use Rattle.teco_scan.specs.declared.blocks.Kind.{Kind}
-use Rattle.teco_scan.specs.declared.blocks.Kind.TheVariants.{Iter}
 use Rattle.teco_scan.specs.Scan.{Item}
 use Rattle.teco_scan.specs.Tree.{Nodes, after_tag}
 use Rattle.teco_step.specs.declared.next.Work.{Work}
@@ -24,8 +23,7 @@ use Rattle.teco_exec.proofs.CursorMeans.{around_stop, under_stop, given, from, a
 module _ (text : List ℕ) (depth : ℕ) (w : World) where
   out_block : (k : Kind) (left : Option ℕ) (n : Nodes) → block_end k left n depth w out ≡ (w, out)
   unfolding block_end
-  out_block Iter left n = refl
-  out_block k left n = refl
+  out_block k left n = grind arith
 
   around_out : (bs : List Frame) (l : Close) → around text depth bs l w out ≡ (w, out)
   unfolding around
@@ -37,8 +35,7 @@ module _ (text : List ℕ) (depth : ℕ) (w : World) where
   -- and so does a jump through one block
   pub go_block : (name : List ℕ) (k : Kind) (left : Option ℕ) (n : Nodes) → block_end k left n depth w (go name) ≡ (w, go name)
   unfolding block_end
-  go_block name Iter left n = refl
-  go_block name k left n = refl
+  go_block name k left n = grind arith
 
 under_out : (cs : List Caller) (w : World) → under cs w out ≡ finals w out
 unfolding under

@@ -192,14 +192,8 @@ no_fuel = record {
 
 -- A step of an item, by its end.
 module _ (whole rest : Nodes) (i : Item) (setting : Setting) (depth : ℕ) (u : World) where
-  called : (text : List ℕ) (b : Bool) → (let r : Ran = if b then (u, stop Pdo) else (let q : Ran = meaning.list (nodes text) (nodes text) u (depth + 1) false in returned q.0 q.1) in then_rest meaning whole rest depth setting.inside r.0 r.1)
-      ≡ (if b then (u, stop Pdo) else (let r : Ran = meaning.list (nodes text) (nodes text) u (depth + 1) false in let q : Ran = returned r.0 r.1 in then_rest meaning whole rest depth setting.inside q.0 q.1))
-  called text true = refl
-  called text false = refl
-
   carried : (e : End) → (let r : Ran = carries meaning i setting depth u e in then_rest meaning whole rest depth setting.inside r.0 r.1) ≡ comes_to whole rest i setting depth u e
-  carried (call text) = called text (depth == 32)
-  carried e = refl
+  carried e = grind arith
 
 pub step_ends : StepEnds
 unfolding list_by

@@ -4,22 +4,13 @@ use Rattle.teco_core.specs.ArgumentsView.{arguments}
 use Rattle.teco_core.specs.Arguments.{Arguments}
 use Rattle.teco_scan.specs.Scan.{scan}
 use Rattle.teco_scan.specs.Seen.{item_in}
-use Rattle.teco_scan.specs.declared.command.Bare.TheVariants as bare
-use Rattle.teco_scan.specs.declared.command.Command.{Command}
-use Rattle.teco_scan.specs.declared.command.Command.TheVariants as command
-use Rattle.teco_scan.specs.declared.command.RegisterCommand.{RegisterCommand}
-use Rattle.teco_scan.specs.declared.command.RegisterCommand.TheVariants as register
-use Rattle.teco_scan.specs.declared.command.TextCommand.{TextCommand}
-use Rattle.teco_scan.specs.declared.command.TextCommand.TheVariants as texts
 use Rattle.teco_scan.specs.declared.token.Item.{Item}
-use Rattle.teco_scan.specs.declared.token.Item.TheVariants as item
-use Rattle.teco_scan.specs.declared.token.Span.{Span}
 use Rattle.teco_scan.specs.declared.token.Token.{Token}
 use Rattle.teco_scan.specs.declared.token.TokenKind.{TokenKind}
 use Rattle.teco_scan.specs.declared.token.TokenKind.TheVariants as kind
 use Rattle.teco_store.specs.State.{State}
 use Rattle.teco_step.specs.declared.next.Work.{Work}
-use Rattle.teco_step.specs.Effect.{effect, item_effect, command_effect, register_effect, text_effect}
+use Rattle.teco_step.specs.Effect.{effect, item_effect}
 use Rattle.teco_step.specs.declared.next.Setting.{Setting}
 use Rattle.teco_step.specs.Step.{done_by, settled, Step, End, at}
 use Rattle.teco_step.specs.Stepping.{IsStepIn, IsStepKind, kind_effect, token_effect, end_of, is_unfinished, is_unfinished_code, Steps, IsDone, trail_after, name_in}
@@ -45,26 +36,8 @@ use Rattle.teco_exec.proofs.MachineMeans.{going_now, resumed_now}
 
 -- What surrounds a token is seen only where its step looks around.
 module _ (w : Setting) (i b : Bool) where
-  by_command : (c : Command) → looks_around (kind.Item (item.Bare (bare.Command c))) ≡ false → command_effect c w ≡ command_effect c (record w { inside = i; before = b })
-  by_command command.Leave e = absurd cc
-  by_command c e = refl
-
-  by_register : (c : RegisterCommand) (q : ℕ) → register_effect c q w ≡ register_effect c q (record w { inside = i; before = b })
-  by_register register.Number q = refl
-  by_register c q = refl
-
-  by_text : (c : TextCommand) (span : Span) (name : List ℕ) → looks_around (kind.Item (item.Text c span)) ≡ false → text_effect c name w ≡ text_effect c name (record w { inside = i; before = b })
-  by_text texts.Search span name e = absurd cc
-  by_text texts.SearchPages span name e = absurd cc
-  by_text texts.SearchPagesQuietly span name e = absurd cc
-  by_text c span name e = refl
-
   by_item : (text : List ℕ) (t : Item) → looks_around (kind.Item t) ≡ false → item_effect (item_in text t) w ≡ item_effect (item_in text t) (record w { inside = i; before = b })
-  by_item text (item.Bare (bare.Command c)) e = by_command c e
-  by_item text (item.Register c q) e = by_register c q
-  by_item text (item.Text c s) e = by_text c s _ e
-  by_item text (item.Replace s t) e = absurd cc
-  by_item text t e = refl
+  by_item text t e = grind arith
 
   unseen : (text : List ℕ) (t : Item) (s : State) (a : Arguments) → looks_around (kind.Item t) ≡ false → effect (item_in text t) w s a ≡ effect (item_in text t) (record w { inside = i; before = b }) s a
   unfolding effect
