@@ -1,11 +1,11 @@
 -- How runs of the machine compose: what uses no step, a step, a call, the end.
 use Rattle.std.proofs.Common.{◌≡◌, ℕ, zero, suc, ◌+◌, ◌<◌, ◌≤◌, List, [], ◌∷◌, length, Option, Some, None, refl, sym, ap, ◌∙◌, arith}
 use Rattle.teco_core.specs.declared.code.Code.{Code}
-use Rattle.teco_exec.specs.Machine.{Caller, Coming, moved, comes, at_block, ends, breaks, Config, Machine, runs, halts, Further, Ready, step, block, finished, final, Now, now_of, returned, coming, arriving, arrives_within, arrives, exec, waiting, weight, pass, pays, paid, unpaid, run_within}
+use Rattle.teco_exec.specs.Machine.{Caller, Coming, moved, ends, Config, Machine, runs, halts, Further, Ready, final, Now, now_of, returned, coming, arriving, arrives_within, arrives, exec, waiting, weight, pass, pays, paid, unpaid, run_within}
 use Rattle.teco_exec.specs.Running.{Continuation, ready_run}
 use Rattle.teco_scan.specs.ListLaws.{BlockLaws}
-use Rattle.teco_exec.proofs.Keeping.{Shorter, pass_short}
-use Rattle.teco_exec.proofs.MachineFollows.{exec_now, final_now}
+use Rattle.teco_exec.proofs.Passing.{Shorter, pass_short}
+use Rattle.teco_exec.proofs.MachineMeans.{exec_now, final_now}
 
 -- What uses no step takes as many moves as there are bytes, and no more change it.
 module _ (laws : BlockLaws) (f g : Machine → Ready) where
@@ -16,10 +16,8 @@ module _ (laws : BlockLaws) (f g : Machine → Ready) where
 
   coming_same : (c : Config) (k : Coming) → Shorter (length c.at.left) k → ((m : Machine) → weight m < suc (length c.at.left + waiting c.callers) → f m ≡ g m) → coming f c k ≡ coming g c k
   coming_same c (moved d) lt h = h (runs (record c { at = d })) (omega arith)
-  coming_same c (comes m i d) lt h = refl
-  coming_same c (at_block b bs) lt h = refl
   coming_same c ends lt h = back_same c c.callers h
-  coming_same c (breaks e) lt h = refl
+  coming_same c k lt h = refl
 
   arriving_same : (c : Config) (x : Option Further) → ((m : Machine) → weight m < suc (length c.at.left + waiting c.callers) → f m ≡ g m) → arriving f c x ≡ arriving g c x
   arriving_same c (Some x) h = refl
@@ -37,34 +35,21 @@ pub arrives_step : BlockLaws → (c : Config) → arrives (runs c) ≡ arriving 
 unfolding arrives arrives_within
 arrives_step laws c = arriving_same laws (arrives_within (weight (runs c))) arrives c c.further (λ m l. arrives_same laws (weight (runs c)) (suc (weight m)) m l (omega arith))
 
-pub arrives_halts : (c : Config) (e : Option Code) → arrives (halts c e) ≡ finished c e
-unfolding arrives arrives_within
-arrives_halts c e = refl
-
 -- A run is told by where it arrives.
 pub run_ready : (n : ℕ) (m : Machine) → run_within n m ≡ ready_run n (arrives m)
 unfolding run_within
-run_ready zero m = refl
-run_ready (suc n) m = refl
-
-pub same_runs : (m n : Machine) → arrives m ≡ arrives n → (fuel : ℕ) → run_within fuel m ≡ run_within fuel n
-same_runs m n e fuel = run_ready fuel m ∙ ap (ready_run fuel) e ∙ sym (run_ready fuel n)
+run_ready n m = grind arith
 
 pub halted : (n : ℕ) (c : Config) (e : Option Code) → run_within n (halts c e) ≡ final n c e
 unfolding run_within arrives arrives_within
-halted zero c e = refl
-halted (suc n) c e = refl
+halted n c e = grind arith
 
 -- no run gains fuel
 paid_fuel : (n : ℕ) (r : Ready) → (run_within n (pays r)).fuel ≤ n → (paid n (run_within n) r).fuel ≤ suc n
-paid_fuel n (step m i work c) le = omega arith
-paid_fuel n (block b bs c) le = omega arith
-paid_fuel n (finished c e) le = omega arith
+paid_fuel n r le = grind arith
 
 unpaid_fuel : (r : Ready) → (unpaid r).fuel ≤ 0
-unpaid_fuel (step m i work c) = omega arith
-unpaid_fuel (block b bs c) = omega arith
-unpaid_fuel (finished c e) = omega arith
+unpaid_fuel r = grind arith
 
 pub fuel_within : (n : ℕ) (m : Machine) → (run_within n m).fuel ≤ n
 unfolding run_within
@@ -75,14 +60,10 @@ pub ready_fuel : (n : ℕ) (r : Ready) → (ready_run n r).fuel ≤ n
 ready_fuel zero r = unpaid_fuel r
 ready_fuel (suc n) r = paid_fuel n r (fuel_within n (pays r))
 
--- without fuel a run is where it was
-pub stays : (m : Machine) → final_now (run_within 0 m) ≡ now_of m
-unfolding exec
-stays m = sym (exec_now 0 m)
-
 -- A continuation begins at the moment that it is given.
 abbrev pub Stays : Continuation → Now → Type 0
 Stays next now = final_now (ready_run 0 (next now)) ≡ now
 
 pub arrives_stays : (m : Machine) → final_now (ready_run 0 (arrives m)) ≡ now_of m
-arrives_stays m = ap final_now (sym (run_ready 0 m)) ∙ stays m
+unfolding exec
+arrives_stays m = ap final_now (sym (run_ready 0 m)) ∙ sym (exec_now 0 m)

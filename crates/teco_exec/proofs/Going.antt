@@ -1,6 +1,7 @@
 -- The run of a whole string by some moment: what uses no step, a step, and the end.
-use Rattle.std.proofs.Common.{◌≡◌, ◌≢◌, ℕ, suc, ◌+◌, ◌-◌, ◌<◌, ◌≤◌, List, [], ◌∷◌, ◌++◌, length, Option, Some, None, true, false, refl, sym, ap, subst, ◌∙◌, arith, append_assoc, append-nil, length-append}
+use Rattle.std.proofs.Common.{◌≡◌, ◌≢◌, ℕ, suc, ◌+◌, ◌-◌, ◌<◌, ◌≤◌, List, [], ◌++◌, Option, Some, None, true, false, refl, sym, ap, subst, ◌∙◌, arith, append_assoc, append-nil}
 use Rattle.std.specs.Prelude.{Bool}
+use Rattle.std.proofs.lemmas.List.{append_cancel_left}
 use Rattle.std.proofs.KnownBytes.{Appends-trans, Appends-nil}
 use Rattle.teco_core.specs.declared.code.Code.{Code}
 use Rattle.teco_core.specs.declared.code.Code.TheVariants.{Lim, Mem, Tty}
@@ -13,7 +14,7 @@ use Rattle.teco_exec.specs.Runs.{Runs, EndsWell, is_tty, trail_of}
 use Rattle.teco_exec.specs.Running.{Origin, Host, host, Continuation, Going, Follows, Comes, Ended, Reached, goes, over, Reaches, reached_run, ready_run, whole_run, now_at, ended_by, IsFinished}
 use Rattle.teco_exec.proofs.Composing.{Stays, ready_fuel}
 use Rattle.teco_exec.specs.MachineLaws.{MachineMeans}
-use Rattle.teco_exec.proofs.MachineFollows.{final_now}
+use Rattle.teco_exec.proofs.MachineMeans.{final_now}
 
 -- One piece of what a terminal shows after another.
 pub shows_nothing : (w : Screen) → Shows w w [] false
@@ -21,10 +22,6 @@ shows_nothing w = record { more = Appends-nil w.shown; count = refl }
 
 pub shows_on : {a b c : Screen} {xs ys : List ℕ} {failed : Bool} → Shows a b xs false → Shows b c ys failed → Shows a c (xs ++ ys) failed
 shows_on {failed} p q = record { more = Appends-trans _ _ _ _ _ p.more q.more; count = q.count ∙ ap (count_after failed) p.count }
-
-no_longer : (bytes more : List ℕ) → bytes ≡ bytes ++ more → more ≡ []
-no_longer bytes [] e = refl
-no_longer bytes (b ∷ more) e = let l : length bytes ≡ length (bytes ++ (b ∷ more)) = ap length e in absurd (omega (arith, simp length-append at l))
 
 -- A string that ends by itself ends well.
 well_runs : (s : State) (text : List ℕ) (limit : ℕ) (code : Option Code) (steps : ℕ) (typed : List ℕ) (new : State) → IsFinished code → EndsWell s text limit (ended_by code steps) typed new → Runs s text limit (ended_by code steps) typed new
@@ -34,9 +31,7 @@ well_runs s text limit (Some Tty) steps typed new f e = absurd cc
 well_runs s text limit (Some c) steps typed new f e = e
 
 well_shown : (code : Option Code) (steps : ℕ) → IsFinished code → false ≡ is_tty (ended_by code steps)
-well_shown None steps f = refl
-well_shown (Some Tty) steps f = cc
-well_shown (Some c) steps f = refl
+well_shown code steps f = grind arith
 
 abbrev meant_now : Meant → Now
 meant_now m = record { state = m.state; typed = m.typed; load = m.load }
@@ -170,7 +165,7 @@ module _ (o : Origin) (h : Host) (next : Continuation) (g : Going o h next) wher
             runs = record {
               before = more_steps;
               state = same ∙ g.state;
-              types = λ e. some (no_longer typed bytes (e ∙ typed_on));
+              types = λ e. some (sym (append_cancel_left typed [] bytes (append-nil typed ∙ e ∙ typed_on)));
               at_least = (front, refl);
               at_most = (part.0, typed_on ∙ ap (λ x. typed ++ x) part.1 ∙ sym (append_assoc typed front part.0));
             };

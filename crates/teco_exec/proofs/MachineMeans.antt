@@ -1,4 +1,4 @@
--- The machine does what the recursive meaning says.
+-- The machine does what the recursive meaning says, and where it is after some steps.
 use Rattle.std.proofs.Common.{◌≡◌, ℕ, zero, suc, ◌+◌, ◌-◌, false, List, [], ◌∷◌, ◌<◌, ◌++◌, length, Option, Some, None, refl, sym, ap, ◌∙◌, arith}
 use Rattle.teco_core.specs.declared.code.Code.TheVariants.{Lim, Naq}
 use Rattle.teco_core.specs.Arguments.{Arguments, taken_from}
@@ -7,22 +7,22 @@ use Rattle.teco_scan.specs.declared.blocks.Kind.TheVariants.{Iter}
 use Rattle.teco_scan.specs.Scan.{Item}
 use Rattle.teco_store.specs.State.{State}
 use Rattle.teco_step.specs.declared.next.Work.{Work}
-use Rattle.teco_step.specs.Step.{Step, on, stop, takes_one}
+use Rattle.teco_step.specs.Step.{Step, on, stop, takes_one, End}
 use Rattle.teco_step.specs.Effect.{effect}
 use Rattle.teco_exec.specs.World.{World, Ran, cleared, pay_from}
 use Rattle.teco_exec.specs.Meaning.{meaning}
 use Rattle.teco_exec.specs.StringMeaning.{run_of}
 use Rattle.teco_scan.specs.Lists.{closed}
 use Rattle.teco_scan.specs.ListLaws.{BlockLaws}
-use Rattle.teco_exec.specs.Machine.{Frame, Cursor, Moved, Coming, moved, comes, at_block, ends, breaks, BlockStep, Caller, Further, Config, Machine, runs, halts, Ready, step, block, finished, Final, final, kind_of, inside, leaving, jumping, setting_of, going, called, resumed, stepped, returned, coming, arriving, arrives_within, arrives, waiting, weight, pays, unpaid, paid, run_within, exec, start_config, pass, block_step}
+use Rattle.teco_exec.specs.Machine.{Frame, Cursor, Moved, Coming, moved, comes, at_block, ends, breaks, BlockStep, Caller, Further, Config, Machine, runs, halts, Ready, step, block, finished, Final, final, kind_of, inside, leaving, jumping, setting_of, going, called, resumed, stepped, returned, coming, arriving, arrives_within, arrives, waiting, weight, pays, unpaid, paid, run_within, exec, start_config, pass, block_step, Now, now_of}
 use Rattle.teco_exec.specs.Machine as machine
-use Rattle.teco_exec.specs.MachineLaws.{MachineMeans}
+use Rattle.teco_exec.specs.MachineLaws.{MachineMeans, MachineFollows}
 use Rattle.teco_step.specs.Laws.{LeavesInside}
 use Rattle.teco_exec.proofs.Denoting.{after_conditional, after_iteration, here, whole, block_end, around, finals, under, Fits, FitsAt, FitsUnder}
-use Rattle.teco_exec.proofs.Passes.{from, at_step, at_block_step, coming_means, pass_means}
-use Rattle.teco_exec.proofs.Pays.{stop_means, Leads, iterated_leads, turned_leads, decided_leads}
-use Rattle.teco_exec.proofs.Keeping.{TurnEnds, turn, FitsStep, FitsComing, Shorter, pass_keeps, pass_short}
+use Rattle.teco_exec.proofs.CursorMeans.{from, at_step, at_block_step, coming_means, pass_means, stop_means, Leads, iterated_leads, turned_leads, decided_leads}
+use Rattle.teco_exec.proofs.Passing.{TurnEnds, turn, FitsStep, FitsComing, Shorter, pass_keeps, pass_short}
 use Rattle.teco_exec.proofs.Resuming.{world_of, further_means, means, Good, going_leads, resumed_leads}
+use Rattle.teco_core.specs.declared.code.Code.{Code}
 
 abbrev ready_means : Ready → ℕ → Final
 ready_means (step m i work c) n = at_step c.text c.callers (world_of c n) m i work c.at
@@ -115,9 +115,8 @@ ready_leads laws inside_only (block b bs c) n g = going_leads c (block_step b bs
 ready_leads laws inside_only (finished c e) n g = (refl, tt)
 
 paid_same : (n : ℕ) (f h : Machine → Final) (r : Ready) → f (pays r) ≡ h (pays r) → paid n f r ≡ paid n h r
-paid_same n f h (step m i work c) e = e
-paid_same n f h (block b bs c) e = e
 paid_same n f h (finished c x) e = refl
+paid_same n f h r e = e
 
 -- A machine runs as it means.
 pub runs_right : (laws : BlockLaws) (inside_only : LeavesInside) (n : ℕ) (m : Machine) → Good m → run_within n m ≡ means m n
@@ -144,3 +143,51 @@ correct laws inside_only s text n =
 
 pub machine_means : BlockLaws → LeavesInside → MachineMeans
 machine_means laws inside_only s text limit = ap (λ (f : Final). record { state = f.state; typed = f.typed; code = f.code; steps = limit - f.fuel; load = f.load }) (correct laws inside_only s text limit)
+
+abbrev pub ready_now : Ready → Now
+ready_now (step m i work c) = now_of (runs c)
+ready_now (block b bs c) = now_of (runs c)
+ready_now (finished c e) = now_of (runs c)
+
+arriving_now : (next : Machine → Ready) → ((m : Machine) → ready_now (next m) ≡ now_of m) → (c : Config) (f : Option Further) → ready_now (arriving next c f) ≡ now_of (runs c)
+arriving_now next h c f = grind arith
+
+arrives_seen : (k : ℕ) (m : Machine) → ready_now (arrives_within k m) ≡ now_of m
+unfolding arrives_within
+arrives_seen zero (runs c) = refl
+arrives_seen (suc k) (runs c) = arriving_now (arrives_within k) (arrives_seen k) c c.further
+arrives_seen k (halts c e) = refl
+
+pub arrives_now : (m : Machine) → ready_now (arrives m) ≡ now_of m
+unfolding arrives
+arrives_now m = arrives_seen (suc (weight m)) m
+
+-- Where a step leads changes nothing of what is seen.
+pub going_now : (c : Config) (m : Moved) → now_of (going c m) ≡ now_of (runs c)
+going_now c m = grind arith
+
+pub resumed_now : (m : Modifiers) (i : Item) (e : End) (c : Config) → now_of (resumed m i e c) ≡ now_of (runs c)
+resumed_now m i e c = grind arith
+
+exec_halts : (n : ℕ) (c : Config) (e : Option Code) → exec n (halts c e) ≡ halts c e
+unfolding exec arrives arrives_within
+exec_halts zero c e = refl
+exec_halts (suc n) c e = exec_halts n c e
+
+abbrev pub final_now : Final → Now
+final_now f = record { state = f.state; typed = f.typed; load = f.load }
+
+unpaid_now : (r : Ready) → ready_now r ≡ final_now (unpaid r)
+unpaid_now r = grind arith
+
+paid_now : (n : ℕ) (r : Ready) → now_of (exec n (pays r)) ≡ final_now (run_within n (pays r)) → now_of (exec n (pays r)) ≡ final_now (paid n (run_within n) r)
+paid_now n (finished c x) e = ap now_of (exec_halts n c x)
+paid_now n r e = e
+
+pub exec_now : (n : ℕ) (m : Machine) → now_of (exec n m) ≡ final_now (run_within n m)
+unfolding exec run_within
+exec_now zero m = sym (arrives_now m) ∙ unpaid_now (arrives m)
+exec_now (suc n) m = paid_now n (arrives m) (exec_now n (pays (arrives m)))
+
+pub machine_follows : BlockLaws → LeavesInside → MachineFollows
+machine_follows laws inside_only s text i = exec_now i (runs (start_config s text)) ∙ ap final_now (correct laws inside_only s text i)

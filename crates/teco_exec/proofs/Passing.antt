@@ -1,4 +1,4 @@
--- What a cursor passes, told once: the list from there on, and what comes.
+-- What a cursor passes, told once: the list from there on, what comes, and what stays the same.
 use Rattle.std.proofs.Common.{◌≡◌, ℕ, suc, ◌<◌, Bool, true, false, List, [], ◌∷◌, length, Option, Some, Ok, Err, refl, sym, subst, arith}
 use Rattle.std.specs.Prelude.{◌==◌, if◌then◌else◌}
 use Rattle.teco_core.specs.Arguments.{Arguments, no_arguments}
@@ -15,8 +15,9 @@ use Rattle.teco_scan.specs.Lists.{Close, closed, broken, past, Listed, wrong, pu
 use Rattle.teco_scan.specs.Scan.{Item, Instruction, TokenMeaning, Scanned, found, ended, fault, scan}
 use Rattle.teco_scan.specs.Scan as token
 use Rattle.teco_scan.specs.Tree.{is_fault, done, item, escape, tag}
-use Rattle.teco_exec.specs.Machine.{Frame, Cursor, BlockStep, iterates, ends_turn, decides, Coming, moved, comes, at_block, ends, breaks, kind_of, skipped, passing, closes, pass_mark, pass_instruction, pass_scanned, pass}
-use Rattle.teco_exec.proofs.Denoting.{here}
+use Rattle.teco_exec.specs.Machine.{Frame, Cursor, BlockStep, iterates, ends_turn, decides, Coming, moved, comes, at_block, ends, breaks, kind_of, skipped, passing, closes, pass_mark, pass_instruction, pass_scanned, pass, Moved, inside, opening, counted, iterated, turned, second_part, decided, left_block, leaving, landed, jumping, block_step}
+use Rattle.teco_exec.proofs.Denoting.{here, after, after_iteration, after_conditional, Fits, FitsAt}
+use Rattle.teco_exec.specs.Machine as machine
 
 abbrev pub at : Arguments → List ℕ → List Frame → Cursor
 at a left blocks = record { args = a; left = left; blocks = blocks }
@@ -83,3 +84,48 @@ module _ (laws : BlockLaws) (a : Arguments) (left : List ℕ) where
 
 pub passes : BlockLaws → (c : Cursor) → Passes c (here c.blocks c.left) (pass c)
 passes laws c = subst (λ (l : Listed). Passes c l (pass c)) (sym (laws.list_unrolls (kind_of c.blocks) (length c.blocks) c.left)) (scanned laws c.args c.left (scan c.left) c.blocks (laws.token_shortens c.left) (laws.scan_faults c.left))
+
+-- The innermost block is an iteration, whose list closes so.
+pub data TurnEnds (bs : List ℕ) : List Frame → Type 0 where
+  turn : (start : List ℕ) (left : Option ℕ) (outer : List Frame) → Fits (record { kind = Iter; start = start; left = left } ∷ outer) (closed false bs) → TurnEnds bs (record { kind = Iter; start = start; left = left } ∷ outer)
+
+-- the blocks around a block step, and what closes the innermost list
+abbrev pub FitsStep : BlockStep → List ℕ → List Frame → Type 0
+FitsStep machine.iterates bs blocks = Fits blocks (after_iteration blocks bs).1
+FitsStep (machine.decides t) bs blocks = Fits blocks (after_conditional blocks bs).1
+FitsStep machine.ends_turn bs blocks = TurnEnds bs blocks
+
+abbrev pub FitsComing : Cursor → Coming → Type 0
+FitsComing c (moved d) = FitsAt d
+FitsComing c (comes m i d) = FitsAt d
+FitsComing c (at_block b bs) = FitsStep b bs c.blocks
+FitsComing c ends = Unit {0}
+FitsComing c (breaks e) = Unit {0}
+
+keeps : {c : Cursor} {l : Listed} {k : Coming} → Passes c l k → Fits c.blocks l.1 → FitsComing c k
+unfolding Fits
+keeps (item_comes c m i bs) f = f
+keeps (tag_passes c name bs lt) f = f
+keeps (escape_passes c bs lt) f = f
+keeps (iteration_opens c bs) f = f
+keeps (conditional_opens c t bs) f = f
+keeps (turn_ends a left start turns outer bs) f = turn start turns outer f
+keeps (part_ends a left b outer l bs part is lt) f = subst (λ x. Fits outer (after outer x).1) is f.1
+keeps p f = tt
+
+pub pass_keeps : BlockLaws → (c : Cursor) → FitsAt c → FitsComing c (pass c)
+pass_keeps laws c f = keeps (passes laws c) f
+
+-- What is passed has a byte.
+abbrev pub Shorter : ℕ → Coming → Type 0
+Shorter n (moved d) = length d.left < n
+Shorter n k = Unit {0}
+
+shorter : {c : Cursor} {l : Listed} {k : Coming} → Passes c l k → Shorter (length c.left) k
+shorter (tag_passes c name bs lt) = lt
+shorter (escape_passes c bs lt) = lt
+shorter (part_ends a left b outer l bs part is lt) = lt
+shorter p = tt
+
+pub pass_short : BlockLaws → (c : Cursor) → Shorter (length c.left) (pass c)
+pass_short laws c = shorter (passes laws c)

@@ -5,7 +5,6 @@ use Rattle.teco_core.specs.declared.code.Code.TheVariants.{Pdo, Tag}
 use Rattle.teco_core.specs.Arguments.{Arguments}
 use Rattle.teco_scan.specs.declared.command.Modifiers.{Modifiers}
 use Rattle.teco_scan.specs.declared.blocks.Kind.{Kind}
-use Rattle.teco_scan.specs.declared.blocks.Kind.TheVariants.{Iter}
 use Rattle.teco_scan.specs.Scan.{Item}
 use Rattle.teco_scan.specs.Tree.{Nodes, after_tag}
 use Rattle.teco_step.specs.declared.next.Work.{Work}
@@ -16,17 +15,15 @@ use Rattle.teco_exec.specs.Meaning as meant
 use Rattle.teco_scan.specs.Lists.{Close, Listed, list_at, tag_at, nodes}
 use Rattle.teco_scan.specs.ListLaws.{BlockLaws, Finds}
 use Rattle.teco_exec.specs.Machine.{Frame, Moved, Caller, Further, Config, Machine, runs, halts, Final, final, kind_of, inside, setting_of, going, landed, jumping, leaving, called, resumed}
-use Rattle.teco_exec.proofs.Unrolling.{further_is}
+use Rattle.teco_exec.proofs.Sentences.{unrolls}
 use Rattle.teco_exec.proofs.Denoting.{here, whole, block_end, follows, around, goes_on, finals, under, Fits, FitsAt, FitsUnder}
-use Rattle.teco_exec.proofs.Passes.{around_stop, under_stop, given, from, at_cursor, at_step}
-use Rattle.teco_exec.proofs.Pays.{stop_means, Leads, leaving_leads}
+use Rattle.teco_exec.proofs.CursorMeans.{around_stop, under_stop, given, from, at_cursor, at_step, stop_means, Leads, leaving_leads}
 
 -- an exit goes through all
 module _ (text : List ℕ) (depth : ℕ) (w : World) where
   out_block : (k : Kind) (left : Option ℕ) (n : Nodes) → block_end k left n depth w out ≡ (w, out)
   unfolding block_end
-  out_block Iter left n = refl
-  out_block k left n = refl
+  out_block k left n = grind arith
 
   around_out : (bs : List Frame) (l : Close) → around text depth bs l w out ≡ (w, out)
   unfolding around
@@ -38,8 +35,7 @@ module _ (text : List ℕ) (depth : ℕ) (w : World) where
   -- and so does a jump through one block
   pub go_block : (name : List ℕ) (k : Kind) (left : Option ℕ) (n : Nodes) → block_end k left n depth w (go name) ≡ (w, go name)
   unfolding block_end
-  go_block name Iter left n = refl
-  go_block name k left n = refl
+  go_block name k left n = grind arith
 
 under_out : (cs : List Caller) (w : World) → under cs w out ≡ finals w out
 unfolding under
@@ -129,5 +125,5 @@ resumed_leads laws m i work c n none f g leave inner = going_leads c (leaving c.
 resumed_leads laws m i work c n none f g (go name) inner = going_leads c (jumping name c.text c.at.blocks c.at.args) n _ none g (jumping_leads laws c.text c.callers (world_of c n) name c.at.args c.at.blocks (here c.at.blocks c.at.left).1 f)
 resumed_leads laws m i work c n none f g (call text) inner = called_leads c text n none f g
 resumed_leads laws m i work c n none f g out inner = (ap (λ (q : Ran). under c.callers q.0 q.1) (around_out c.text (length c.callers) (world_of c n) c.at.blocks (here c.at.blocks c.at.left).1) ∙ under_out c.callers (world_of c n), tt)
-resumed_leads laws m i work c n none f g (again left) inner = (ap (λ (r : Ran). goes_from c r.0 r.1) (further_is i (record (setting_of m work c.at) { work = Some left }) (world_of c n) (length c.callers)), (f, g))
+resumed_leads laws m i work c n none f g (again left) inner = (ap (λ (r : Ran). goes_from c r.0 r.1) (unrolls.further i (record (setting_of m work c.at) { work = Some left }) (world_of c n) (length c.callers)), (f, g))
 resumed_leads laws m i work c n none f g (stop e) inner = (stop_means c.text c.callers (world_of c n) c.at.blocks (here c.at.blocks c.at.left) (world_of c n) e, tt)

@@ -7,8 +7,8 @@ pub mod Quiet
 pub mod Machine
 pub mod MachineLaws
 pub mod Frames
+pub mod Tokens
 pub mod View
-pub mod Search
 pub mod Runs
 pub mod Running
 pub mod Semicolon

@@ -42,11 +42,6 @@ unfoldable pub inside : List Frame → Bool
 inside [] = false
 inside (b ∷ bs) = elim b.kind [ Iter ↦ true | Then ↦ inside bs | Else ↦ inside bs ]
 
--- where the innermost list begins
-abbrev pub begins : List ℕ → List Frame → List ℕ
-begins text [] = text
-begins text (b ∷ bs) = b.start
-
 -- A cursor goes on, or the run is over by an error.
 abbrev pub Moved : Type 0
 Moved = Result Cursor Code

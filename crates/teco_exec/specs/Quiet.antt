@@ -1,11 +1,10 @@
 -- Texts that take no memory.
-use Rattle.std.specs.Prelude.{◌≡◌, ℕ, List, [], Bool, true, false, ◌&&◌}
+use Rattle.std.specs.Prelude.{◌≡◌, [], Bool, true, false, ◌&&◌}
 use Rattle.teco_scan.specs.Lists.{nodes}
 use Rattle.teco_scan.specs.Tree.{Nodes, done, item, escape, iter, cond, tag, faulty}
 use Rattle.teco_step.specs.Step.{End, on, leave, go, call, out, again, stop}
 use Rattle.teco_step.specs.Stepping.{takes_nothing}
-use Rattle.teco_store.specs.State.{State}
-use Rattle.teco_exec.specs.Machine.{Cursor, Coming, moved, comes, at_block, ends, breaks, runs, Ready, step, block, finished, arrives, exec, start_config}
+use Rattle.teco_exec.specs.Machine.{Cursor, Coming, moved, comes, at_block, ends, breaks}
 
 -- Values and arithmetic alone, with ESC between them, and perhaps a fault at the end.
 abbrev pub takes_no_memory : Nodes → Bool
@@ -39,13 +38,3 @@ QuietComing (comes m i c) = (takes_nothing i ≡ true) × IsQuiet c
 QuietComing (at_block b bs) = ⊥
 QuietComing ends = Unit {0}
 QuietComing (breaks e) = Unit {0}
-
--- A run arrives at a step that takes nothing, or at its end.
-abbrev pub ArrivesQuietly : Ready → Type 0
-ArrivesQuietly (step m i work c) = takes_nothing i ≡ true
-ArrivesQuietly (block b bs c) = ⊥
-ArrivesQuietly (finished c e) = Unit {0}
-
--- So each step does of a text that takes no memory.
-abbrev pub QuietTextsArriveQuietly : Type 0
-QuietTextsArriveQuietly = (s : State) (text : List ℕ) (k : ℕ) → takes_no_memory (nodes text) ≡ true → ArrivesQuietly (arrives (exec k (runs (start_config s text))))

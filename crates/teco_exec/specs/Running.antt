@@ -8,7 +8,7 @@ use Rattle.teco_scan.specs.declared.token.Token.{Token}
 use Rattle.teco_store.specs.State.{State}
 use Rattle.teco_store.specs.Trail.{Trail}
 use Rattle.teco_step.specs.declared.next.Work.{Work}
-use Rattle.teco_step.specs.Stepping.{IsStepIn, is_unfinished_code}
+use Rattle.teco_step.specs.Stepping.{is_unfinished_code}
 use Rattle.teco_step.specs.Terminal.{Screen, Shows}
 use Rattle.teco_exec.specs.Machine.{Caller, Config, Further, Machine, runs, called, returned, Ready, step, block, Final, Now, arrives, paid, unpaid, run_within, start_config}
 use Rattle.teco_exec.specs.Machine as machine
@@ -22,7 +22,6 @@ use Rattle.teco_exec.specs.declared.flow.Exit.{Exit}
 use Rattle.teco_exec.specs.declared.flow.Exit.TheVariants as exit
 use Rattle.teco_exec.specs.declared.flow.Flow.{Flow}
 use Rattle.teco_exec.specs.declared.flow.Flow.TheVariants as flow
-use Rattle.teco_exec.specs.declared.flow.Task.{Task}
 use Rattle.teco_exec.specs.declared.moves.Opening.{Opening}
 use Rattle.teco_exec.specs.declared.outcome.Outcome.{Outcome}
 
@@ -113,14 +112,9 @@ abbrev pub config : List ℕ → machine.Cursor → Option Further → List Call
 config text c further callers now =
     record { state = now.state; typed = now.typed; load = now.load; text = text; at = c; callers = callers; further = further }
 
--- a further step that is pending
-abbrev pub further_of : List ℕ → Option Task → Option Further
-further_of text None = None
-further_of text (Some task) = Some (record { modifiers = task.token.modifiers; item = item_at text task.token.kind; work = task.work })
-
--- A text goes on at a cursor, or with its pending step.
-abbrev pub at_cursor : Cursor → Option Task → List Caller → Continuation
-at_cursor c pending callers now = arrives (runs (config c.text.now (cursor c) (further_of c.text.now pending) callers now))
+-- A text goes on at a cursor.
+abbrev pub at_cursor : Cursor → List Caller → Continuation
+at_cursor c callers now = arrives (runs (config c.text.now (cursor c) None callers now))
 
 -- It goes on with a step of this token, the first or a further one.
 abbrev pub at_token : Cursor → Token → Option Work → List Caller → Continuation
@@ -147,11 +141,11 @@ abbrev pub in_return : Arguments → machine.Cursor → machine.Cursor
 in_return a c = record { args = a; left = c.left; blocks = c.blocks }
 
 -- where a flow leads
-abbrev pub flows : Cursor → Option Task → List Caller → Flow → Reached
-flows c pending callers flow.On = goes (at_cursor c pending callers)
-flows c pending callers (flow.Call text) = goes (at_call c text.items callers)
-flows c pending callers flow.Return = goes (at_return (arguments c.args) callers)
-flows c pending callers (flow.Over code) = over code
+abbrev pub flows : Cursor → List Caller → Flow → Reached
+flows c callers flow.On = goes (at_cursor c callers)
+flows c callers (flow.Call text) = goes (at_call c text.items callers)
+flows c callers flow.Return = goes (at_return (arguments c.args) callers)
+flows c callers (flow.Over code) = over code
 
 -- where the end of a text leads
 abbrev pub exits : Arguments → List Caller → Exit → Reached
@@ -170,21 +164,12 @@ GoesOn (flow.Call text) = Unit {0}
 GoesOn flow.Return = ⊥
 GoesOn (flow.Over code) = ⊥
 
--- A pending step is one of a token of the text; only where the text goes on is one pending.
-abbrev pub IsPending : List ℕ → Option Task → Type 0
-IsPending text None = Unit {0}
-IsPending text (Some task) = IsStepIn text task.token
-
-abbrev pub Pends : List ℕ → Option Task → Flow → Type 0
-Pends text pending flow.On = IsPending text pending
-Pends text pending f = pending ≡ None
-
 -- A text of values and arithmetic alone goes on at such a text, or is over, but not for want of memory.
-abbrev pub GoesQuietly : Cursor → Option Task → Flow → Type 0
-GoesQuietly c pending flow.On = IsQuiet (cursor c) × (pending ≡ None)
-GoesQuietly c pending (flow.Call text) = ⊥
-GoesQuietly c pending flow.Return = Unit {0}
-GoesQuietly c pending (flow.Over code) = code ≢ Some Mem
+abbrev pub GoesQuietly : Cursor → Flow → Type 0
+GoesQuietly c flow.On = IsQuiet (cursor c)
+GoesQuietly c (flow.Call text) = ⊥
+GoesQuietly c flow.Return = Unit {0}
+GoesQuietly c (flow.Over code) = code ≢ Some Mem
 
 -- neither want of memory nor a failed terminal
 abbrev pub IsFinished : Option Code → Type 0

@@ -3,10 +3,8 @@ ghost use Rattle.std.specs.Prelude.{◌≡◌, ◌<◌, ◌≤◌, [], ◌∷◌
 ghost use Rattle.teco_exec.specs.Frames.{EndsTurn, has_iteration, kind_of, list_start, next_turn};
 
 use std::marker::Model;
+use teco_core::BLOCK_LIMIT;
 use teco_scan::Kind;
-
-/// The most blocks that may be open in one text.
-pub(crate) const MOST_BLOCKS: usize = 64;
 
 /// What an open block is.
 #[derive(Clone, Copy, Debug, PartialEq, Eq)]
@@ -45,7 +43,7 @@ pub(crate) struct Block {
 #[derive(Debug, Drop)]
 pub(crate) struct Blocks {
     /// The outermost first; after the open ones come blocks that mean nothing.
-    open: [Block; MOST_BLOCKS],
+    open: [Block; BLOCK_LIMIT],
     depth: usize,
 }
 
@@ -69,7 +67,7 @@ impl Blocks {
             open: [Block {
                 start: 0,
                 body: Body::Endless,
-            }; MOST_BLOCKS],
+            }; BLOCK_LIMIT],
             depth: 0,
         }
     }

@@ -6,6 +6,7 @@ ghost use Rattle.teco_exec.specs.Machine as machine;
 
 use crate::blocks::Blocks;
 use teco_core::Args;
+use teco_scan::spelling;
 
 /// Where a text is being run: how many of its bytes come before, the arguments so far, and the open blocks.
 #[derive(Debug, Drop)]
@@ -48,6 +49,7 @@ impl<'t> Cursor<'t> {
     pub fn leave_is_next(&self) -> bool
         ensures { result ≡ machine.leave_found (scan (cursor self.now).left) }
     {
+        spelling();
         is_leave_first(&self.text[self.at..])
     }
 }

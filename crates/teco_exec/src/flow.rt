@@ -2,20 +2,12 @@
 ghost use Rattle.std.specs.Prelude.{◌≡◌, ◌≤◌};
 
 use teco_core::Code;
-use teco_scan::Token;
 use teco_step::Work;
-
-/// A token with a further step, and the work that is left.
-#[derive(Clone, Copy, Debug)]
-pub(crate) struct Task {
-    pub token: Token,
-    pub work: Work,
-}
 
 /// What one step of a text leads to.
 #[derive(Debug, Drop)]
 pub(crate) enum Flow {
-    /// The text goes on: with the further step that is pending, or at the cursor.
+    /// The text goes on at the cursor.
     On,
     /// This text is run, and then its caller goes on at its cursor.
     Call(Vec<u8>),
@@ -23,6 +15,15 @@ pub(crate) enum Flow {
     Return,
     /// The whole run is over.
     Over(Option<Code>),
+}
+
+/// What one step of a token leads to.
+#[derive(Debug, Drop)]
+pub(crate) enum Progress {
+    /// A further step of the same token, with this work left.
+    Further(Work),
+    /// The token is done.
+    Done(Flow),
 }
 
 /// How a text came to its end.

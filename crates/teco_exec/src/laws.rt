@@ -1,7 +1,6 @@
 //! What the meaning of command strings says, and the machine beside it.
 ghost use Rattle.teco_exec.specs.Laws.{MeaningUnrolls, EmptyListEnds, FaultStops, TagIsPassed, EscapeDrops, NothingWithoutFuel, StepEnds, StepGoesOn, StepStops, JumpLands, JumpLeaves, CallReturns, CallTooDeep, FurtherStep, IterationCounts, IterationGoesOn, TurnEnds, LeavingEnds, ConditionalChooses, StepsWithinLimit, MoreLimitChangesNothing, EnoughIsEnough, ZeroLimitChangesNothing, ExitEndsWell};
 ghost use Rattle.teco_exec.specs.MachineLaws.{MachineMeans, MachineFollows};
-ghost use Rattle.teco_exec.specs.Quiet.{QuietTextsArriveQuietly};
 
 use teco_scan::block_laws;
 use teco_step::effect_laws;
@@ -41,7 +40,6 @@ pub fn meaning_laws()
 pub fn machine_laws()
     ensures means { MachineMeans }
     ensures follows { MachineFollows }
-    ensures quiet { QuietTextsArriveQuietly }
 {
     block_laws();
     effect_laws();

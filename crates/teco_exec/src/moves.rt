@@ -6,10 +6,10 @@ ghost use Rattle.teco_exec.specs.Frames.{EndsTurn, kind_of, turns_left};
 ghost use Rattle.teco_exec.specs.Machine as machine;
 ghost use Rattle.teco_exec.specs.View.{Finishes, MayOpen, Tells, coming_of, cursor, moved_of, opening_of};
 
-use crate::blocks::{Block, Body, MOST_BLOCKS};
+use crate::blocks::{Block, Body};
 use crate::conditions::holds;
 use crate::cursor::Cursor;
-use teco_core::{Code, Taken};
+use teco_core::{BLOCK_LIMIT, Code, Taken};
 use teco_scan::{
     BlockMark, Found, Kind, Test, TokenKind, block_laws, skip_block, skip_whole_block,
 };
@@ -102,7 +102,7 @@ impl<'t> Cursor<'t> {
         ensures comes { (found : Found) → coming_of self.now found result ≡ machine.opening (opening_of opening) (drop to self.now.text.now) (cursor self.now) }
         ensures told { (found : Found) → Tells self.now self.now found result }
     {
-        if self.blocks.len() == MOST_BLOCKS {
+        if self.blocks.len() == BLOCK_LIMIT {
             Next::Fault(Code::Pdo)
         } else {
             Next::Block(opening, to)

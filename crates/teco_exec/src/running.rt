@@ -5,6 +5,7 @@ ghost use Rattle.teco_core.specs.declared.code.Code.TheVariants.{Mem};
 ghost use Rattle.teco_scan.specs.Lists.{nodes};
 ghost use Rattle.teco_step.specs.Terminal.{Shows};
 ghost use Rattle.teco_exec.specs.Running.{LeadsAt, at_beginning, exits, host, in_return};
+ghost use Rattle.teco_exec.specs.Tokens.{Counts};
 ghost use Rattle.teco_exec.specs.View.{cursor as cursor_of};
 ghost use Rattle.teco_exec.specs.Quiet.{takes_no_memory};
 ghost use Rattle.teco_exec.specs.Runs.{Runs, is_tty, trail_of};
@@ -12,16 +13,13 @@ ghost use Rattle.teco_exec.specs.StringMeaning.{string_meaning};
 ghost use Rattle.teco_exec.specs.declared.flow.Exit.TheVariants as exit;
 
 use crate::cursor::Cursor;
-use crate::flow::{Exit, Flow, Steps, Task};
+use crate::flow::{Exit, Flow, Steps};
 use crate::laws::{machine_laws, meaning_laws};
 use crate::outcome::Outcome;
 use crate::stepping::step;
-use teco_core::{Args, Code};
+use teco_core::{Args, CALL_LIMIT, Code};
 use teco_step::Terminal;
 use teco_store::Desk;
-
-/// The most calls that may be open.
-const MOST_CALLS: usize = 32;
 
 /// Runs a command string on a desk and a terminal, for at most `limit` steps.
 ///
@@ -60,20 +58,18 @@ fn run_text<D: Desk, T: Terminal>(
     term: &mut T,
 ) -> Exit
     requires { depth ≤ 32 }
-    ensures limit { steps.new.limit ≡ steps.old.limit }
-    ensures after { steps.old.done ≤ steps.new.done }
+    ensures counts { Counts steps.old steps.new }
     ensures leads { LeadsAt depth steps.old.limit (host (D.state desk.old) (D.follows desk.old) (T.screen term.old) steps.old.done)
         (host (D.state desk.new) (D.follows desk.new) (T.screen term.new) steps.new.done)
         (at_beginning (arguments args.old) text.now) (λ callers. exits (arguments args.new) callers result) }
     ensures no_memory { takes_no_memory (nodes text.now) ≡ true → result ≡ exit.Over (Some Mem) → ⊥ }
 {
     let mut cursor = Cursor::begin(text, *args);
-    let mut pending: Option<Task> = None;
     'running: loop {
-        match step(desk, &mut cursor, &mut pending, steps, term) {
+        match step(desk, &mut cursor, steps, term) {
             Flow::On => continue 'running,
             Flow::Call(called) => {
-                if depth == MOST_CALLS {
+                if depth == CALL_LIMIT {
                     return Exit::Over(Some(Code::Pdo));
                 }
                 let mut left = cursor.args;

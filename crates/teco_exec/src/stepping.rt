@@ -4,23 +4,22 @@ ghost use Rattle.teco_scan.specs.Scan.{scan};
 ghost use Rattle.teco_step.specs.Stepping.{IsStepIn, end_of, is_unfinished, is_unfinished_code, name_in, takes_nothing_in};
 ghost use Rattle.teco_step.specs.Terminal.{Screen};
 ghost use Rattle.teco_step.specs.declared.next.Next.TheVariants.{Error};
-ghost use Rattle.teco_exec.specs.Machine.{Caller, Now, leave_found, resumed, run_within};
-ghost use Rattle.teco_exec.specs.Running.{Finishes, GoesOn, GoesQuietly, IsPending, Leads, Pends, at_cursor, at_opening, at_token, config, flows, host, reached_run};
+ghost use Rattle.teco_exec.specs.Machine.{Caller, Now, inside, leave_found, resumed, run_within};
+ghost use Rattle.teco_exec.specs.Running.{GoesOn, GoesQuietly, Leads, at_cursor, at_opening, at_token, config, flows, host, reached_run};
+ghost use Rattle.teco_exec.specs.Tokens.{Continues, Counts, ProgressFinishes, ProgressesQuietly, looks_around, progresses};
 ghost use Rattle.teco_exec.specs.Quiet.{IsQuiet, is_plain};
-ghost use Rattle.teco_exec.specs.Search.{is_search};
 ghost use Rattle.teco_exec.specs.View.{MayOpen, cursor as cursor_of, item_at};
 ghost use Rattle.teco_exec.specs.declared.flow.Flow.TheVariants as flow;
 
 use crate::cursor::Cursor;
-use crate::flow::{Flow, Steps, Task};
+use crate::flow::{Flow, Progress, Steps};
 use crate::moves::{Next, Opening};
 use teco_core::Code;
-use teco_scan::{Found, Item, TextCommand, Token, TokenKind, block_laws, token_at};
+use teco_scan::{Bare, Command, Found, Item, TextCommand, Token, TokenKind, block_laws, token_at};
 use teco_step::{Next as After, Terminal, Work, effect_laws, step_token};
 use teco_store::Desk;
 
-/// Does one step of a text: the further one that is pending, or else what comes at the cursor. What uses no step is passed one token
-/// at a time.
+/// Passes what comes at the cursor, where it uses no step, or else does its steps. What uses no step is passed one token at a time.
 ///
 /// Where the limit of steps is reached, the run is over. A step that ends for want of memory, or because the terminal fails, isn't
 /// counted.
@@ -28,39 +27,23 @@ use teco_store::Desk;
 pub(crate) fn step<D: Desk, T: Terminal>(
     desk: &mut D,
     cursor: &mut Cursor,
-    pending: &mut Option<Task>,
     steps: &mut Steps,
     term: &mut T,
 ) -> Flow
-    requires { IsPending cursor.old.text.now pending.old }
     ensures text { cursor.new.text ≡ cursor.old.text }
-    ensures limit { steps.new.limit ≡ steps.old.limit }
-    ensures after { steps.old.done ≤ steps.new.done }
+    ensures counts { Counts steps.old steps.new }
     ensures advances { GoesOn result → (steps.old.done < steps.new.done) ⊎ (length (cursor_of cursor.new).left < length (cursor_of cursor.old).left) }
-    ensures pending { Pends cursor.new.text.now pending.new result }
     ensures leads { Leads steps.old.limit (host (D.state desk.old) (D.follows desk.old) (T.screen term.old) steps.old.done)
         (host (D.state desk.new) (D.follows desk.new) (T.screen term.new) steps.new.done)
-        (at_cursor cursor.old pending.old) (λ callers. flows cursor.new pending.new callers result) }
-    ensures quiet { IsQuiet (cursor_of cursor.old) → pending.old ≡ None → GoesQuietly cursor.new pending.new result }
+        (at_cursor cursor.old) (λ callers. flows cursor.new callers result) }
+    ensures quiet { IsQuiet (cursor_of cursor.old) → GoesQuietly cursor.new result }
 {
     block_laws();
-    if let Some(task) = *pending {
-        *pending = None;
-        return token_step(
-            desk,
-            cursor,
-            &task.token,
-            Some(task.work),
-            pending,
-            steps,
-            term,
-        );
-    }
     let found = token_at(cursor.text, cursor.at);
     match cursor.pass(&found) {
         Next::Passed => Flow::On,
         Next::Step => match &found {
-            Found::Token(token) => token_step(desk, cursor, token, None, pending, steps, term),
+            Found::Token(token) => token_steps(desk, cursor, token, steps, term),
             Found::End | Found::Fault(_) => unreachable!(),
         },
         Next::Block(opening, to) => block_step(desk, cursor, opening, to, steps),
@@ -69,39 +52,64 @@ pub(crate) fn step<D: Desk, T: Terminal>(
     }
 }
 
-/// Does a step of a token, its first or a further one.
+/// Does the steps of a token, one after the other.
+#[inline]
+fn token_steps<D: Desk, T: Terminal>(
+    desk: &mut D,
+    cursor: &mut Cursor,
+    token: &Token,
+    steps: &mut Steps,
+    term: &mut T,
+) -> Flow
+    requires { IsStepIn cursor.old.text.now token.now }
+    ensures text { cursor.new.text ≡ cursor.old.text }
+    ensures counts { Counts steps.old steps.new }
+    ensures more { GoesOn result → steps.old.done < steps.new.done }
+    ensures leads { Leads steps.old.limit (host (D.state desk.old) (D.follows desk.old) (T.screen term.old) steps.old.done)
+        (host (D.state desk.new) (D.follows desk.new) (T.screen term.new) steps.new.done)
+        (at_token cursor.old token.now None) (λ callers. flows cursor.new callers result) }
+    ensures quiet { IsQuiet (cursor_of cursor.old) → takes_nothing_in cursor.old.text.now token.now ≡ true → GoesQuietly cursor.new result }
+{
+    let mut work = None;
+    'stepping: loop {
+        match token_step(desk, cursor, token, work, steps, term) {
+            Progress::Further(left) => {
+                work = Some(left);
+                continue 'stepping;
+            }
+            Progress::Done(flow) => return flow,
+        }
+    }
+}
+
+/// Does a step of a token, its first or a further one with this work left.
 #[inline]
 fn token_step<D: Desk, T: Terminal>(
     desk: &mut D,
     cursor: &mut Cursor,
     token: &Token,
     work: Option<Work>,
-    pending: &mut Option<Task>,
     steps: &mut Steps,
     term: &mut T,
-) -> Flow
-    requires token { IsStepIn cursor.old.text.now token.now }
-    requires none { pending.old ≡ None }
+) -> Progress
+    requires { IsStepIn cursor.old.text.now token.now }
     ensures text { cursor.new.text ≡ cursor.old.text }
-    ensures limit { steps.new.limit ≡ steps.old.limit }
-    ensures after { steps.old.done ≤ steps.new.done }
-    ensures counts { GoesOn result → steps.old.done < steps.new.done }
-    ensures pending { Pends cursor.new.text.now pending.new result }
+    ensures counts { Counts steps.old steps.new }
+    ensures more { Continues result → steps.old.done < steps.new.done }
     ensures leads { Leads steps.old.limit (host (D.state desk.old) (D.follows desk.old) (T.screen term.old) steps.old.done)
         (host (D.state desk.new) (D.follows desk.new) (T.screen term.new) steps.new.done)
-        (at_token cursor.old token.now work) (λ callers. flows cursor.new pending.new callers result) }
-    ensures quiet { IsQuiet (cursor_of cursor.old) → takes_nothing_in cursor.old.text.now token.now ≡ true → GoesQuietly cursor.new pending.new result }
+        (at_token cursor.old token.now work) (λ callers. progresses cursor.new token.now callers result) }
+    ensures quiet { IsQuiet (cursor_of cursor.old) → takes_nothing_in cursor.old.text.now token.now ≡ true → ProgressesQuietly cursor.new result }
 {
     effect_laws();
     if steps.done == steps.limit {
-        return over(Code::Lim);
+        return Progress::Done(over(Code::Lim));
     }
-    let inside = cursor.has_iteration();
+    let inside = iteration_is_seen(cursor, token);
     let before = leave_is_seen(cursor, token);
-    let text = cursor.text;
     let next = step_token(
         desk,
-        text,
+        cursor.text,
         token,
         work,
         &mut cursor.args,
@@ -110,11 +118,11 @@ fn token_step<D: Desk, T: Terminal>(
         term,
     );
     if let Some(code) = unfinished(&next) {
-        return over(code);
+        return Progress::Done(over(code));
     }
     steps.count();
     desk.step_done(steps.done);
-    resume(cursor, token, next, pending)
+    resume(cursor, token, next)
 }
 
 /// Does a step of a block.
@@ -129,12 +137,11 @@ fn block_step<D: Desk>(
     requires within { to ≤ length cursor.old.text.now }
     requires opens { MayOpen opening cursor.old.blocks }
     ensures text { cursor.new.text ≡ cursor.old.text }
-    ensures limit { steps.new.limit ≡ steps.old.limit }
-    ensures after { steps.old.done ≤ steps.new.done }
-    ensures counts { GoesOn result → steps.old.done < steps.new.done }
+    ensures counts { Counts steps.old steps.new }
+    ensures more { GoesOn result → steps.old.done < steps.new.done }
     ensures leads { (screen : Screen) → Leads steps.old.limit (host (D.state desk.old) (D.follows desk.old) screen steps.old.done)
         (host (D.state desk.new) (D.follows desk.new) screen steps.new.done)
-        (at_opening cursor.old opening to) (λ callers. flows cursor.new None callers result) }
+        (at_opening cursor.old opening to) (λ callers. flows cursor.new callers result) }
 {
     if steps.done == steps.limit {
         return over(Code::Lim);
@@ -147,48 +154,55 @@ fn block_step<D: Desk>(
 
 /// Goes on where a step of the token before the cursor has ended so.
 #[inline]
-fn resume(cursor: &mut Cursor, token: &Token, next: After, pending: &mut Option<Task>) -> Flow
+fn resume(cursor: &mut Cursor, token: &Token, next: After) -> Progress
     requires token { IsStepIn cursor.old.text.now token.now }
-    requires none { pending.old ≡ None }
     requires finished { is_unfinished next ≡ false }
     ensures text { cursor.new.text ≡ cursor.old.text }
-    ensures finished { Finishes result }
-    ensures pending { Pends cursor.new.text.now pending.new result }
+    ensures finished { ProgressFinishes result }
     ensures resumes { (callers : List Caller) (now : Now) (fuel : ℕ)
         → run_within fuel (resumed token.now.modifiers (item_at cursor.old.text.now token.now.kind) (end_of (name_in cursor.old.text.now token.now) next)
         (config cursor.old.text.now (cursor_of cursor.old) None callers now))
-        ≡ reached_run fuel now (flows cursor.new pending.new callers result) }
-    ensures quiet { IsQuiet (cursor_of cursor.old) → is_plain (end_of (name_in cursor.old.text.now token.now) next) ≡ true → GoesQuietly cursor.new pending.new result }
+        ≡ reached_run fuel now (progresses cursor.new token.now callers result) }
+    ensures quiet { IsQuiet (cursor_of cursor.old) → is_plain (end_of (name_in cursor.old.text.now token.now) next) ≡ true → ProgressesQuietly cursor.new result }
 {
     match next {
-        After::On => Flow::On,
-        After::Leave => on_unless(cursor.leave()),
+        After::Again(work) => Progress::Further(work),
+        After::On => Progress::Done(Flow::On),
+        After::Leave => Progress::Done(on_unless(cursor.leave())),
         After::Go => {
             let name = name_of(cursor.text, token);
-            on_unless(cursor.jump(name))
+            Progress::Done(on_unless(cursor.jump(name)))
         }
-        After::Call(called) => Flow::Call(called),
-        After::Again(work) => {
-            *pending = Some(Task {
-                token: *token,
-                work,
-            });
-            Flow::On
-        }
-        After::Out => Flow::Over(None),
-        After::Error(code) => over(code),
+        After::Call(called) => Progress::Done(Flow::Call(called)),
+        After::Out => Progress::Done(Flow::Over(None)),
+        After::Error(code) => Progress::Done(over(code)),
     }
 }
 
-/// Whether a plain `;` comes next, where the token asks for it: only a search does.
+/// Whether an iteration is open, where the token looks around.
+fn iteration_is_seen(cursor: &Cursor, token: &Token) -> bool
+    ensures { looks_around token.now.kind ≡ true → result ≡ inside (cursor_of cursor.now).blocks }
+{
+    looks_around(token) && cursor.has_iteration()
+}
+
+/// Whether a plain `;` comes next, where the token looks around.
 fn leave_is_seen(cursor: &Cursor, token: &Token) -> bool
-    ensures { is_search token.now.kind ≡ true → result ≡ leave_found (scan (cursor_of cursor.now).left) }
+    ensures { looks_around token.now.kind ≡ true → result ≡ leave_found (scan (cursor_of cursor.now).left) }
+{
+    looks_around(token) && cursor.leave_is_next()
+}
+
+/// Whether a step of the token looks at what surrounds it: only `;` does, and a search.
+fn looks_around(token: &Token) -> bool
+    ensures { result ≡ looks_around token.now.kind }
 {
     match token.kind {
-        TokenKind::Item(Item::Text(TextCommand::Search, _)) => cursor.leave_is_next(),
-        TokenKind::Item(Item::Text(TextCommand::SearchPages, _)) => cursor.leave_is_next(),
-        TokenKind::Item(Item::Text(TextCommand::SearchPagesQuietly, _)) => cursor.leave_is_next(),
-        TokenKind::Item(Item::Replace(_, _)) => cursor.leave_is_next(),
+        TokenKind::Item(Item::Bare(Bare::Command(Command::Leave))) => true,
+        TokenKind::Item(Item::Text(TextCommand::Search, _)) => true,
+        TokenKind::Item(Item::Text(TextCommand::SearchPages, _)) => true,
+        TokenKind::Item(Item::Text(TextCommand::SearchPagesQuietly, _)) => true,
+        TokenKind::Item(Item::Replace(_, _)) => true,
         _ => false,
     }
 }

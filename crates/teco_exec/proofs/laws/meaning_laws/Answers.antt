@@ -1,6 +1,5 @@
 use Rattle.teco_exec.proofs.Sentences as sentences
-use Rattle.teco_exec.proofs.Limits.{within_limit, more_limit, same_again, limit_zero}
-use Rattle.teco_exec.proofs.Exits.{exit_ends_well}
+use Rattle.teco_exec.proofs.StringLaws.{within_limit, more_limit, same_again, limit_zero, exit_ends_well}
 use Rattle.teco_exec.proofs.laws.meaning_laws.Goals as goal
 
 pub returns : goal.returns

@@ -2,19 +2,18 @@ use Rattle.std.proofs.Common.{◌≡◌, ◌<◌, ◌≤◌, ◌⊎◌, inl, inr
 use Rattle.std.proofs.lemmas.List.{length-drop}
 use Rattle.teco_core.specs.ArgumentsView.{arguments}
 use Rattle.teco_exec.specs.View.{cursor}
-use Rattle.teco_exec.specs.Running.{Going, IsPending, at_call, at_cursor, at_return, goes, host, over}
-use Rattle.teco_exec.proofs.Calling.{begins, caller, comes_back, enters, less_left, too_deep}
+use Rattle.teco_exec.specs.Running.{Going, at_call, at_cursor, at_return, goes, host, over}
+use Rattle.teco_exec.proofs.Continuations.{begins, caller, comes_back, enters, less_left, too_deep}
 use Rattle.teco_exec.proofs.Going.{continues, since}
 use Rattle.teco_exec.proofs.NoMemory.{begins_quietly}
+use Rattle.teco_exec.proofs.Tokens.{counts_on}
 use Rattle.teco_exec.proofs.running.+run_text.Goals as goal
 
 pub running-init : goal.running-init
 running-init g t c = record {
   text = c.begin-cursor.ensures.text;
-  limit = refl;
-  after = omega arith;
-  pending = tt;
-  quiet = λ h. (begins_quietly (arguments c.args.args.now) c.args.text.now (cursor c.begin-cursor.result) c.begin-cursor.ensures.begins h, refl);
+  counts = record { limit = refl; after = omega arith };
+  quiet = begins_quietly (arguments c.args.args.now) c.args.text.now (cursor c.begin-cursor.result) c.begin-cursor.ensures.begins;
   going = λ o callers limit deep e. begins o _ (arguments c.args.args.now) c.args.text.now c.begin-cursor.result callers c.begin-cursor.ensures.text c.begin-cursor.ensures.begins e;
 }
 
@@ -25,27 +24,25 @@ running-smaller-in-On g t c =
     let short : length (drop to.at to.text.now) ≤ length c.args.text.now =
     let same : length to.text.now ≡ length c.args.text.now = ap length (ap (λ x. x.now) c.in-On.ensures.text ∙ c.running.invariant.text) in
     omega (arith, same, length-drop to.at to.text.now) in
-    let less = less_left steps.limit c.running.steps.done steps.done (length c.args.text.now) (length (cursor c.running.cursor).left) (length (cursor to).left) c.in-On.ensures.after steps.within short (c.in-On.ensures.advances tt) in
-    subst (λ limit. (steps.limit - steps.done) * (length c.args.text.now + 1) + length (cursor to).left < (limit - c.running.steps.done) * (length c.args.text.now + 1) + length (cursor c.running.cursor).left) c.in-On.ensures.limit less
+    let less = less_left steps.limit c.running.steps.done steps.done (length c.args.text.now) (length (cursor c.running.cursor).left) (length (cursor to).left) c.in-On.ensures.counts.after steps.within short (c.in-On.ensures.advances tt) in
+    subst (λ limit. (steps.limit - steps.done) * (length c.args.text.now + 1) + length (cursor to).left < (limit - c.running.steps.done) * (length c.args.text.now + 1) + length (cursor c.running.cursor).left) c.in-On.ensures.counts.limit less
 
 pub running-preserved-in-On : goal.running-preserved-in-On
 running-preserved-in-On g t c = record {
   text = ap (λ x. x.now) c.in-On.ensures.text ∙ c.running.invariant.text;
-  limit = c.in-On.ensures.limit ∙ c.running.invariant.limit;
-  after = omega (arith, c.running.invariant.after, c.in-On.ensures.after);
-  pending = c.in-On.ensures.pending;
-  quiet = λ h. let q = c.running.invariant.quiet h in c.in-On.ensures.quiet q.0 q.1;
+  counts = counts_on c.running.invariant.counts c.in-On.ensures.counts;
+  quiet = λ h. c.in-On.ensures.quiet (c.running.invariant.quiet h);
   going = λ o callers limit deep e.
       let there = c.running.invariant.going o callers limit deep e in
-      since o _ _ _ (goes (at_cursor c.step.new.cursor c.step.new.pending callers)) there.follows (c.in-On.ensures.leads o callers (limit ∙ sym c.running.invariant.limit) there.going);
+      since o _ _ _ (goes (at_cursor c.step.new.cursor callers)) there.follows (c.in-On.ensures.leads o callers (limit ∙ sym c.running.invariant.counts.limit) there.going);
 }
 
-pub returns-then-depth-eq-MOST_CALLS-clause-leads : goal.returns-then-depth-eq-MOST_CALLS-clause-leads
-returns-then-depth-eq-MOST_CALLS-clause-leads g t c o callers limit deep e =
+pub returns-then-depth-eq-CALL_LIMIT-clause-leads : goal.returns-then-depth-eq-CALL_LIMIT-clause-leads
+returns-then-depth-eq-CALL_LIMIT-clause-leads g t c o callers limit deep e =
     let there = c.running.invariant.going o callers limit deep e in
-    let here = c.in-Call.ensures.leads o callers (limit ∙ sym c.running.invariant.limit) there.going in
+    let here = c.in-Call.ensures.leads o callers (limit ∙ sym c.running.invariant.counts.limit) there.going in
     since o _ _ _ (over (Some _)) (λ floor p. here.follows floor (there.follows floor p))
-    (too_deep o _ c.step.new.cursor c.in-Call.called.items callers here.going (deep ∙ c.if-depth-eq-MOST_CALLS.true) (omega (arith, limit, c.running.invariant.limit, c.in-Call.ensures.limit, c.step.new.steps.within)))
+    (too_deep o _ c.step.new.cursor c.in-Call.called.items callers here.going (deep ∙ c.if-depth-eq-CALL_LIMIT.true) (omega (arith, limit, c.running.invariant.counts.limit, c.in-Call.ensures.counts.limit, c.step.new.steps.within)))
 
 pub running-smaller : goal.running-smaller
 running-smaller g t c =
@@ -57,59 +54,57 @@ running-smaller g t c =
     let same : length to.text.now ≡ length c.args.text.now = ap length (ap (λ x. x.now) c.in-Call.ensures.text ∙ c.running.invariant.text) in
     omega (arith, same, left, length-drop to.at to.text.now) in
     let later : (c.running.steps.done < steps.done) ⊎ (length (cursor back).left < length (cursor c.running.cursor).left) =
-    elim (c.in-Call.ensures.advances tt) [ inl lt ↦ inl (omega (arith, lt, c.in-Return-run_text.ensures.after)) | inr lt ↦ inr (omega (arith, lt, left)) ] in
-    let less = less_left steps.limit c.running.steps.done steps.done (length c.args.text.now) (length (cursor c.running.cursor).left) (length (cursor back).left) (omega (arith, c.in-Call.ensures.after, c.in-Return-run_text.ensures.after)) steps.within short later in
-    subst (λ limit. (steps.limit - steps.done) * (length c.args.text.now + 1) + length (cursor back).left < (limit - c.running.steps.done) * (length c.args.text.now + 1) + length (cursor c.running.cursor).left) (c.in-Return-run_text.ensures.limit ∙ c.in-Call.ensures.limit) less
+    elim (c.in-Call.ensures.advances tt) [ inl lt ↦ inl (omega (arith, lt, c.in-Return-run_text.ensures.counts.after)) | inr lt ↦ inr (omega (arith, lt, left)) ] in
+    let less = less_left steps.limit c.running.steps.done steps.done (length c.args.text.now) (length (cursor c.running.cursor).left) (length (cursor back).left) (omega (arith, c.in-Call.ensures.counts.after, c.in-Return-run_text.ensures.counts.after)) steps.within short later in
+    subst (λ limit. (steps.limit - steps.done) * (length c.args.text.now + 1) + length (cursor back).left < (limit - c.running.steps.done) * (length c.args.text.now + 1) + length (cursor c.running.cursor).left) (c.in-Return-run_text.ensures.counts.limit ∙ c.in-Call.ensures.counts.limit) less
 
 pub running-preserved : goal.running-preserved
 running-preserved g t c = record {
   text = ap (λ x. x.now) (c.go_on_with.ensures.text ∙ c.in-Call.ensures.text) ∙ c.running.invariant.text;
-  limit = c.in-Return-run_text.ensures.limit ∙ c.in-Call.ensures.limit ∙ c.running.invariant.limit;
-  after = omega (arith, c.running.invariant.after, c.in-Call.ensures.after, c.in-Return-run_text.ensures.after);
-  pending = subst (IsPending c.go_on_with.new.cursor.text.now) (sym c.in-Call.ensures.pending) tt;
-  quiet = λ h. let q = c.running.invariant.quiet h in absurd (c.in-Call.ensures.quiet q.0 q.1);
+  counts = counts_on c.running.invariant.counts (counts_on c.in-Call.ensures.counts c.in-Return-run_text.ensures.counts);
+  quiet = λ h. absurd (c.in-Call.ensures.quiet (c.running.invariant.quiet h));
   going = λ o callers limit deep e.
       let there = c.running.invariant.going o callers limit deep e in
-      let here = c.in-Call.ensures.leads o callers (limit ∙ sym c.running.invariant.limit) there.going in
-      let fewer : length callers < 32 = omega (arith, deep, c.requires, c.if-depth-eq-MOST_CALLS.false) in
+      let here = c.in-Call.ensures.leads o callers (limit ∙ sym c.running.invariant.counts.limit) there.going in
+      let fewer : length callers < 32 = omega (arith, deep, c.requires, c.if-depth-eq-CALL_LIMIT.false) in
       let h = host (g.D.Desk.state c.step.new.desk) (g.D.Desk.follows c.step.new.desk) (g.T.Terminal.screen c.step.new.term) c.step.new.steps.done in
       let from = c.step.new.cursor in
       let called : Going o h (at_call from c.deref.result.now callers) = subst (λ x. Going o h (at_call from x callers)) (sym c.deref.ensures.value) here.going in
       let into = enters o h from c.deref.result.now callers called fewer in
       let deeper : length (caller from ∷ callers) ≡ c.args.depth + 1 = omega (arith, deep) in
       let left = arguments c.run_text.new.args in
-      let r = c.in-Return-run_text.ensures.leads o (caller from ∷ callers) (limit ∙ sym c.running.invariant.limit ∙ sym c.in-Call.ensures.limit) deeper into.going in
+      let r = c.in-Return-run_text.ensures.leads o (caller from ∷ callers) (limit ∙ sym c.running.invariant.counts.limit ∙ sym c.in-Call.ensures.counts.limit) deeper into.going in
       let k = host (g.D.Desk.state c.run_text.new.desk) (g.D.Desk.follows c.run_text.new.desk) (g.T.Terminal.screen c.run_text.new.term) c.run_text.new.steps.done in
-      let back = continues o k (at_return left (caller from ∷ callers)) r.going (at_cursor c.go_on_with.new.cursor c.step.new.pending callers)
-      (comes_back left from c.go_on_with.new.cursor c.step.new.pending callers c.go_on_with.ensures.text c.go_on_with.ensures.args c.in-Call.ensures.pending) in
+      let back = continues o k (at_return left (caller from ∷ callers)) r.going (at_cursor c.go_on_with.new.cursor callers)
+      (comes_back left from c.go_on_with.new.cursor callers c.go_on_with.ensures.text c.go_on_with.ensures.args) in
       record { going = back.going; follows = λ floor p. r.follows floor (here.follows floor (there.follows floor p)) };
 }
 
 pub returns-in-Over-run_text-clause-leads : goal.returns-in-Over-run_text-clause-leads
 returns-in-Over-run_text-clause-leads g t c o callers limit deep e =
     let there = c.running.invariant.going o callers limit deep e in
-    let here = c.in-Call.ensures.leads o callers (limit ∙ sym c.running.invariant.limit) there.going in
-    let fewer : length callers < 32 = omega (arith, deep, c.requires, c.if-depth-eq-MOST_CALLS.false) in
+    let here = c.in-Call.ensures.leads o callers (limit ∙ sym c.running.invariant.counts.limit) there.going in
+    let fewer : length callers < 32 = omega (arith, deep, c.requires, c.if-depth-eq-CALL_LIMIT.false) in
     let h = host (g.D.Desk.state c.step.new.desk) (g.D.Desk.follows c.step.new.desk) (g.T.Terminal.screen c.step.new.term) c.step.new.steps.done in
     let from = c.step.new.cursor in
     let called : Going o h (at_call from c.deref.result.now callers) = subst (λ x. Going o h (at_call from x callers)) (sym c.deref.ensures.value) here.going in
     let into = enters o h from c.deref.result.now callers called fewer in
     let deeper : length (caller from ∷ callers) ≡ c.args.depth + 1 = omega (arith, deep) in
-    let r = c.in-Over-run_text.ensures.leads o (caller from ∷ callers) (limit ∙ sym c.running.invariant.limit ∙ sym c.in-Call.ensures.limit) deeper into.going in
+    let r = c.in-Over-run_text.ensures.leads o (caller from ∷ callers) (limit ∙ sym c.running.invariant.counts.limit ∙ sym c.in-Call.ensures.counts.limit) deeper into.going in
     since o _ h _ (over c.in-Over-run_text.code) (λ floor p. here.follows floor (there.follows floor p)) r
 
 pub returns-in-Return-clause-leads : goal.returns-in-Return-clause-leads
 returns-in-Return-clause-leads g t c o callers limit deep e =
     let there = c.running.invariant.going o callers limit deep e in
-    since o _ _ _ (goes (at_return (arguments c.step.new.cursor.args) callers)) there.follows (c.in-Return.ensures.leads o callers (limit ∙ sym c.running.invariant.limit) there.going)
+    since o _ _ _ (goes (at_return (arguments c.step.new.cursor.args) callers)) there.follows (c.in-Return.ensures.leads o callers (limit ∙ sym c.running.invariant.counts.limit) there.going)
 
 pub returns-in-Over-clause-leads : goal.returns-in-Over-clause-leads
 returns-in-Over-clause-leads g t c o callers limit deep e =
     let there = c.running.invariant.going o callers limit deep e in
-    since o _ _ _ (over c.in-Over.code) there.follows (c.in-Over.ensures.leads o callers (limit ∙ sym c.running.invariant.limit) there.going)
+    since o _ _ _ (over c.in-Over.code) there.follows (c.in-Over.ensures.leads o callers (limit ∙ sym c.running.invariant.counts.limit) there.going)
 
 pub returns-in-Over-run_text-clause-no_memory : goal.returns-in-Over-run_text-clause-no_memory
-returns-in-Over-run_text-clause-no_memory g t c h e = let q = c.running.invariant.quiet h in c.in-Call.ensures.quiet q.0 q.1
+returns-in-Over-run_text-clause-no_memory g t c h e = c.in-Call.ensures.quiet (c.running.invariant.quiet h)
 
 pub returns-in-Over-clause-no_memory : goal.returns-in-Over-clause-no_memory
-returns-in-Over-clause-no_memory g t c h e = let q = c.running.invariant.quiet h in c.in-Over.ensures.quiet q.0 q.1 cc
+returns-in-Over-clause-no_memory g t c h e = c.in-Over.ensures.quiet (c.running.invariant.quiet h) cc

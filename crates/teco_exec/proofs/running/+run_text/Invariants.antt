@@ -1,10 +1,11 @@
-use Rattle.std.proofs.Common.{◌≡◌, ◌≤◌, None, true, ◌-◌, ◌+◌, ◌*◌, List, length}
+use Rattle.std.proofs.Common.{◌≡◌, true, ◌-◌, ◌+◌, ◌*◌, List, length}
 use Rattle.teco_core.specs.ArgumentsView.{arguments}
 use Rattle.teco_exec.specs.Machine.{Caller}
 use Rattle.teco_scan.specs.Lists.{nodes}
 use Rattle.teco_exec.specs.Quiet.{IsQuiet, takes_no_memory}
 use Rattle.teco_exec.specs.View.{cursor}
-use Rattle.teco_exec.specs.Running.{Comes, Going, IsPending, Origin, at_beginning, at_cursor, host}
+use Rattle.teco_exec.specs.Running.{Comes, Going, Origin, at_beginning, at_cursor, host}
+use Rattle.teco_exec.specs.Tokens.{Counts}
 use Rattle.teco_exec.proofs.running.+run_text.Given as goal
 
 abbrev pub decreases-run_text : goal.decreases-run_text
@@ -13,14 +14,12 @@ decreases-run_text g l = 32 - l.depth
 abbrev pub invariant-running : goal.invariant-running
 invariant-running g l = record {
   text : l.cursor.text.now ≡ l.text;
-  limit : l.steps.limit ≡ l.fn.steps.limit;
-  after : l.fn.steps.done ≤ l.steps.done;
-  pending : IsPending l.cursor.text.now l.pending;
-  quiet : takes_no_memory (nodes l.text) ≡ true → IsQuiet (cursor l.cursor) × (l.pending ≡ None);
+  counts : Counts l.fn.steps l.steps;
+  quiet : takes_no_memory (nodes l.text) ≡ true → IsQuiet (cursor l.cursor);
   going : (o : Origin) (callers : List Caller) → o.limit ≡ l.fn.steps.limit → length callers ≡ l.depth
       → Going o (host (g.D.Desk.state l.fn.desk) (g.D.Desk.follows l.fn.desk) (g.T.Terminal.screen l.fn.term) l.fn.steps.done) (at_beginning (arguments l.fn.args) l.text callers)
       → Comes o (host (g.D.Desk.state l.fn.desk) (g.D.Desk.follows l.fn.desk) (g.T.Terminal.screen l.fn.term) l.fn.steps.done)
-      (host (g.D.Desk.state l.desk) (g.D.Desk.follows l.desk) (g.T.Terminal.screen l.term) l.steps.done) (at_cursor l.cursor l.pending callers);
+      (host (g.D.Desk.state l.desk) (g.D.Desk.follows l.desk) (g.T.Terminal.screen l.term) l.steps.done) (at_cursor l.cursor callers);
 }
 
 abbrev pub decreases-running : goal.decreases-running

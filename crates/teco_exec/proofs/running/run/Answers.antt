@@ -2,15 +2,15 @@ use Rattle.std.proofs.Common.{[], refl, arith}
 use Rattle.teco_core.specs.ArgumentsView.{arguments}
 use Rattle.teco_exec.specs.Running.{Origin}
 use Rattle.teco_exec.proofs.NoMemory.{ends_quietly}
-use Rattle.teco_exec.proofs.Whole.{whole_begins, whole_ends}
-use Rattle.teco_exec.proofs.Exits.{runs_exit}
+use Rattle.teco_exec.proofs.Continuations.{whole_begins, whole_ends}
+use Rattle.teco_exec.proofs.StringLaws.{runs_exit}
 use Rattle.teco_exec.proofs.running.run.Goals as goal
 
 pub returns : goal.returns
 returns g c =
     let o : Origin = record { state = g.D.Desk.state c.args.desk.now; text = c.args.text.now; screen = g.T.Terminal.screen c.args.term.now; limit = c.args.limit } in
     let begins = whole_begins c.machine_laws.ensures.means o (g.D.Desk.follows c.args.desk.now) (arguments c.new-args.result) c.new-args.ensures in
-    let ends = whole_ends o _ _ (arguments c.run_text-exit.new.args) c.run_text-exit.result c.code.result c.code.ensures (omega (arith, c.run_text-exit.ensures.limit, c.run_text-exit.new.steps.within))
+    let ends = whole_ends o _ _ (arguments c.run_text-exit.new.args) c.run_text-exit.result c.code.result c.code.ensures (omega (arith, c.run_text-exit.ensures.counts.limit, c.run_text-exit.new.steps.within))
     (c.run_text-exit.ensures.leads o [] refl refl begins) in
     let laws = c.meaning_laws.ensures in
     record {

@@ -1,64 +1,54 @@
-use Rattle.std.proofs.Common.{[], None, Some, inr, length, subst, sym, arith}
-use Rattle.teco_exec.specs.Running.{at_cursor, at_opening, at_return, at_token, flows, goes, host, over, Going, Reaches}
+use Rattle.std.proofs.Common.{[], None, Some, inr, length, subst, arith}
+use Rattle.teco_exec.specs.Running.{at_cursor, at_opening, at_return, at_token, goes, over}
 use Rattle.teco_core.specs.ArgumentsView.{arguments}
 use Rattle.teco_exec.specs.Quiet.{QuietComing}
 use Rattle.teco_exec.specs.View.{IsStepFound, step_of}
 use Rattle.teco_exec.proofs.Going.{settles}
-use Rattle.teco_exec.proofs.Seeking.{comes_block, comes_fault, comes_over, comes_token, passes_on, passes_short, pending_comes}
+use Rattle.teco_exec.proofs.Continuations.{comes_block, comes_fault, comes_over, comes_token, passes_on, passes_short}
 use Rattle.teco_exec.proofs.NoMemory.{comes_quietly, kind_quietly}
 use Rattle.teco_exec.proofs.Stepped.{ends_over}
 use Rattle.teco_exec.specs.declared.moves.Next.TheVariants.{Block, Step}
 use Rattle.teco_exec.proofs.stepping.step.Goals as goal
 
-pub returns-in-Some-clause-leads : goal.returns-in-Some-clause-leads
-returns-in-Some-clause-leads g c o callers limit at =
-    let h = host (g.D.Desk.state c.args.desk.now) (g.D.Desk.follows c.args.desk.now) (g.T.Terminal.screen c.args.term.now) c.args.steps.now.done in
-    let there : Going o h (at_cursor c.args.cursor.now (Some c.in-Some.task) callers) = subst (λ p. Going o h (at_cursor c.args.cursor.now p callers)) c.in-Some.is at in
-    c.token_step.ensures.leads o callers limit
-    (settles o h (at_cursor c.args.cursor.now (Some c.in-Some.task) callers) there (goes (at_token c.args.cursor.now c.in-Some.task.token (Some c.in-Some.task.work) callers)) tt (omega (arith, limit, c.args.steps.now.within)) (pending_comes c.block_laws.ensures c.args.cursor.now c.in-Some.task callers)).going
-
 pub returns-in-Passed-clause-advances : goal.returns-in-Passed-clause-advances
-returns-in-Passed-clause-advances g c goes_on = inr (passes_short c.block_laws.ensures c.args.cursor.now c.pass.new.self c.token_at-found.result c.args.pending.now c.in_default.is [] c.in-Passed.ensures.comes)
+returns-in-Passed-clause-advances g c goes_on = inr (passes_short c.block_laws.ensures c.args.cursor.now c.pass.new.self c.token_at-found.result [] c.in-Passed.ensures.comes)
 
 pub returns-in-Passed-clause-leads : goal.returns-in-Passed-clause-leads
 returns-in-Passed-clause-leads g c o callers limit at =
-    settles o _ _ at (goes (at_cursor c.pass.new.self c.args.pending.now callers)) tt (omega (arith, limit, c.args.steps.now.within))
-    (passes_on c.block_laws.ensures c.args.cursor.now c.pass.new.self c.token_at-found.result c.args.pending.now c.in_default.is callers c.in-Passed.ensures.text c.in-Passed.ensures.comes)
+    settles o _ _ at (goes (at_cursor c.pass.new.self callers)) tt (omega (arith, limit, c.args.steps.now.within))
+    (passes_on c.block_laws.ensures c.args.cursor.now c.pass.new.self c.token_at-found.result callers c.in-Passed.ensures.text c.in-Passed.ensures.comes)
 
 pub returns-in-Token-clause-leads : goal.returns-in-Token-clause-leads
 returns-in-Token-clause-leads g c o callers limit at =
-    c.token_step-in-Token.ensures.leads o callers limit
+    c.token_steps.ensures.leads o callers limit
     (settles o _ _ at (goes (at_token c.pass.new.self c.in-Token.token None callers)) tt (omega (arith, limit, c.args.steps.now.within))
-    (comes_token c.block_laws.ensures c.args.cursor.now c.pass.new.self c.token_at-found.result c.args.pending.now c.in_default.is callers c.in-Step.ensures.text c.in-Token.token c.in-Token.is c.in-Step.ensures.comes)).going
+    (comes_token c.block_laws.ensures c.args.cursor.now c.pass.new.self c.token_at-found.result callers c.in-Step.ensures.text c.in-Token.token c.in-Token.is c.in-Step.ensures.comes)).going
 
 pub returns-in-Block-clause-leads : goal.returns-in-Block-clause-leads
 returns-in-Block-clause-leads g c o callers limit at =
-    let h = host (g.D.Desk.state c.args.desk.now) (g.D.Desk.follows c.args.desk.now) (g.T.Terminal.screen c.args.term.now) c.args.steps.now.done in
-    let k = host (g.D.Desk.state c.block_step.new.desk) (g.D.Desk.follows c.block_step.new.desk) (g.T.Terminal.screen c.args.term.now) c.block_step.new.steps.done in
-    subst (λ p. Reaches o h k (flows c.block_step.new.cursor p callers c.block_step.result)) (sym c.in_default.is)
-    (c.block_step.ensures.leads (g.T.Terminal.screen c.args.term.now) o callers limit
+    c.block_step.ensures.leads (g.T.Terminal.screen c.args.term.now) o callers limit
     (settles o _ _ at (goes (at_opening c.pass.new.self c.in-Block.opening c.in-Block.to callers)) tt (omega (arith, limit, c.args.steps.now.within))
-    (comes_block c.block_laws.ensures c.args.cursor.now c.pass.new.self c.token_at-found.result c.args.pending.now c.in_default.is callers c.in-Block.ensures.told.2 c.in-Block.opening c.in-Block.to c.in-Block.ensures.comes)).going)
+    (comes_block c.block_laws.ensures c.args.cursor.now c.pass.new.self c.token_at-found.result callers c.in-Block.ensures.told.2 c.in-Block.opening c.in-Block.to c.in-Block.ensures.comes)).going
 
 pub returns-in-Over-clause-leads : goal.returns-in-Over-clause-leads
 returns-in-Over-clause-leads g c o callers limit at =
     settles o _ _ at (goes (at_return (arguments c.pass.new.self.args) callers)) tt (omega (arith, limit, c.args.steps.now.within))
-    (comes_over c.block_laws.ensures c.args.cursor.now c.pass.new.self c.token_at-found.result c.args.pending.now c.in_default.is callers c.in-Over.ensures.told c.in-Over.ensures.comes)
+    (comes_over c.block_laws.ensures c.args.cursor.now c.pass.new.self c.token_at-found.result callers c.in-Over.ensures.told c.in-Over.ensures.comes)
 
 pub returns-in-Fault-clause-leads : goal.returns-in-Fault-clause-leads
 returns-in-Fault-clause-leads g c o callers limit at =
-    ends_over o _ _ c.pass.new.self c.args.pending.now callers c.over.result (Some c.in-Fault.code) c.over.ensures
+    ends_over o _ _ c.pass.new.self callers c.over.result (Some c.in-Fault.code) c.over.ensures
     (settles o _ _ at (over (Some c.in-Fault.code)) c.in-Fault.ensures.told (omega (arith, limit, c.args.steps.now.within))
-    (comes_fault c.block_laws.ensures c.args.cursor.now c.pass.new.self c.token_at-found.result c.args.pending.now c.in_default.is callers c.in-Fault.code c.in-Fault.ensures.comes))
+    (comes_fault c.block_laws.ensures c.args.cursor.now c.pass.new.self c.token_at-found.result callers c.in-Fault.code c.in-Fault.ensures.comes))
 
 pub returns-in-Block-clause-quiet : goal.returns-in-Block-clause-quiet
-returns-in-Block-clause-quiet g c q none =
+returns-in-Block-clause-quiet g c q =
     absurd (comes_quietly c.block_laws.ensures c.args.cursor.now c.pass.new.self c.token_at-found.result (Block c.in-Block.opening c.in-Block.to) c.in-Block.ensures.comes q)
 
 pub returns-in-Token-clause-quiet : goal.returns-in-Token-clause-quiet
-returns-in-Token-clause-quiet g c q none =
+returns-in-Token-clause-quiet g c q =
     let to = c.pass.new.self in
     let come = comes_quietly c.block_laws.ensures c.args.cursor.now to c.token_at-found.result Step c.in-Step.ensures.comes q in
     let here = subst (λ f. QuietComing (step_of to f)) c.in-Token.is come in
     let told = subst (λ f. IsStepFound to.text.now f) c.in-Token.is c.in-Step.ensures.told in
-    c.token_step-in-Token.ensures.quiet here.1 (kind_quietly to.text.now (length to.text.now) c.in-Token.token.kind told here.0)
+    c.token_steps.ensures.quiet here.1 (kind_quietly to.text.now (length to.text.now) c.in-Token.token.kind told here.0)

@@ -1,29 +1,34 @@
 use Rattle.std.proofs.Common.{Some, refl, subst, sym, ◌∙◌, arith}
 use Rattle.teco_step.specs.Stepping.{name_in}
 use Rattle.teco_exec.specs.Running.{Reaches, flows, host}
+use Rattle.teco_exec.specs.Tokens.{progresses}
 use Rattle.teco_exec.proofs.Going.{limit_ends}
-use Rattle.teco_exec.proofs.Stepped.{ends_over, finishes, token_fails, token_goes}
+use Rattle.teco_exec.proofs.Stepped.{ends_over, token_fails, token_goes}
+use Rattle.teco_exec.proofs.Tokens.{progress_finishes}
 use Rattle.teco_exec.proofs.stepping.token_step.Goals as goal
 
 pub returns-then-steps-clause-leads : goal.returns-then-steps-clause-leads
 returns-then-steps-clause-leads g c o callers limit at =
     let h = host (g.D.Desk.state c.args.desk.now) (g.D.Desk.follows c.args.desk.now) (g.T.Terminal.screen c.args.term.now) c.args.steps.now.done in
-    subst (λ f. Reaches o h h (flows c.args.cursor.now c.args.pending.now callers f)) (sym c.over.ensures)
+    subst (λ f. Reaches o h h (flows c.args.cursor.now callers f)) (sym c.over.ensures)
     (limit_ends o h _ at (c.if-steps.true ∙ sym limit) (λ now. refl))
 
 pub returns-in-Some-clause-leads : goal.returns-in-Some-clause-leads
 returns-in-Some-clause-leads g c o callers limit at =
-    let desk = c.step_token-next.new.desk in
-    ends_over o _ _ (record c.args.cursor.now { args = c.step_token-next.new.args }) c.args.pending.now callers c.over-in-Some.result (Some c.in-Some.code) c.over-in-Some.ensures
-    (token_fails c.args.cursor.now c.args.token.now c.args.work callers c.has_iteration-inside.result c.leave_is_seen-before.result c.requires.token c.has_iteration-inside.ensures c.leave_is_seen-before.ensures
-    o _ at (omega (arith, limit, c.if-steps.false)) (name_in c.args.cursor.now.text.now c.args.token.now) (g.D.Desk.state desk) c.step_token-next.new.args (g.T.Terminal.screen c.step_token-next.new.term) c.step_token-next.result (g.D.Desk.follows desk) c.step_token-next.ensures.follows
-    c.in-Some.code c.in-Some.ensures.0 c.in-Some.ensures.1 c.step_token-next.ensures.steps)
+    let from = c.args.cursor.now in
+    let step = c.step_token-next in
+    ends_over o _ _ (record from { args = step.new.args }) callers c.over-in-Some.result (Some c.in-Some.code) c.over-in-Some.ensures
+    (token_fails from c.args.token.now c.args.work callers c.iteration_is_seen-inside.result c.leave_is_seen-before.result c.requires c.iteration_is_seen-inside.ensures c.leave_is_seen-before.ensures
+    o _ at (omega (arith, limit, c.if-steps.false)) (name_in from.text.now c.args.token.now) (g.D.Desk.state step.new.desk) step.new.args (g.T.Terminal.screen step.new.term) step.result (g.D.Desk.follows step.new.desk) step.ensures.follows
+    c.in-Some.code c.in-Some.ensures.0 c.in-Some.ensures.1 step.ensures.steps)
 
 pub returns-clause-leads : goal.returns-clause-leads
 returns-clause-leads g c o callers limit at =
-    let desk = c.step_token-next.new.desk in
-    token_goes c.args.cursor.now c.args.token.now c.args.work callers c.has_iteration-inside.result c.leave_is_seen-before.result c.requires.token c.has_iteration-inside.ensures c.leave_is_seen-before.ensures
-    o _ at (omega (arith, limit, c.if-steps.false)) (name_in c.args.cursor.now.text.now c.args.token.now) (g.D.Desk.state desk) c.step_token-next.new.args (g.T.Terminal.screen c.step_token-next.new.term) c.step_token-next.result (g.D.Desk.follows desk) c.step_token-next.ensures.follows
-    c.in_default.ensures c.step_token-next.ensures.steps c.count.new.self.done c.count.ensures.done (g.D.Desk.state c.step_done.new.self) c.step_done.ensures.state (g.D.Desk.follows c.step_done.new.self) c.step_done.ensures.follows
-    (flows c.resume.new.cursor c.resume.new.pending callers c.resume.result) (finishes c.resume.new.cursor c.resume.new.pending callers c.resume.result c.resume.ensures.finished)
+    let from = c.args.cursor.now in
+    let step = c.step_token-next in
+    let to = c.resume.new.cursor in
+    token_goes from c.args.token.now c.args.work callers c.iteration_is_seen-inside.result c.leave_is_seen-before.result c.requires c.iteration_is_seen-inside.ensures c.leave_is_seen-before.ensures
+    o _ at (omega (arith, limit, c.if-steps.false)) (name_in from.text.now c.args.token.now) (g.D.Desk.state step.new.desk) step.new.args (g.T.Terminal.screen step.new.term) step.result (g.D.Desk.follows step.new.desk) step.ensures.follows
+    c.in_default.ensures step.ensures.steps c.count.new.self.done c.count.ensures.done (g.D.Desk.state c.step_done.new.self) c.step_done.ensures.state (g.D.Desk.follows c.step_done.new.self) c.step_done.ensures.follows
+    (progresses to c.args.token.now callers c.resume.result) (progress_finishes to c.args.token.now callers c.resume.result c.resume.ensures.finished)
     (λ now fuel. c.resume.ensures.resumes callers now fuel)

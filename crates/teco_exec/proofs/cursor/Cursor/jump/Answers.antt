@@ -1,6 +1,6 @@
-use Rattle.std.proofs.Common.{None, Some, drop, refl, ◌∙◌}
+use Rattle.std.proofs.Common.{None, Some, drop, ap, sym, ◌∙◌}
 use Rattle.teco_core.specs.ArgumentsView.{arguments}
-use Rattle.teco_exec.proofs.Frames.{begin_closed, jumps, jumps_nowhere, jumps_on}
+use Rattle.teco_exec.proofs.Frames.{around, begin_closed, jumps}
 use Rattle.teco_exec.proofs.cursor.Cursor.jump.Goals as goal
 
 pub returns-in-Some-clause-moves : goal.returns-in-Some-clause-moves
@@ -17,12 +17,14 @@ jumping-preserved c =
     let s = c.jumping.self in
     record {
       text = c.jumping.invariant.text;
-      same = jumps_on s.text.now c.args.name.now (arguments s.args) s.blocks None c.len-depth.ensures.value c.list_start-start.ensures c.in-None.ensures.finds refl c.in-Some-pop.ensures
+      same = ap (around s.text.now c.args.name.now (arguments s.args)) (sym c.in-Some-pop.ensures)
+          ∙ jumps s.text.now c.args.name.now (arguments s.args) s.blocks None c.len-depth.ensures.value c.list_start-start.ensures c.in-None.ensures.finds
           ∙ c.jumping.invariant.same;
     }
 
 pub returns-in-None-pop-clause-moves : goal.returns-in-None-pop-clause-moves
 returns-in-None-pop-clause-moves c =
     let s = c.jumping.self in
-    jumps_nowhere s.text.now c.args.name.now (arguments s.args) s.blocks None c.len-depth.ensures.value c.list_start-start.ensures c.in-None.ensures.finds refl c.in-None-pop.ensures.0
+    ap (around s.text.now c.args.name.now (arguments s.args)) (sym c.in-None-pop.ensures.0)
+    ∙ jumps s.text.now c.args.name.now (arguments s.args) s.blocks None c.len-depth.ensures.value c.list_start-start.ensures c.in-None.ensures.finds
     ∙ c.jumping.invariant.same

@@ -1,7 +1,7 @@
 use Rattle.std.proofs.Common.{Err, Ok, drop, refl, ◌∙◌}
 use Rattle.std.proofs.lemmas.Result.{err_from_is_err_and}
 use Rattle.teco_core.specs.ArgumentsView.{arguments}
-use Rattle.teco_exec.proofs.Frames.{begin_outer, leaving_none, leaving_fails, leaving_ends, leaving_goes_on}
+use Rattle.teco_exec.proofs.Frames.{begin_outer, leaves, leaves_part, leaving_none}
 use Rattle.teco_exec.proofs.cursor.Cursor.leave.Goals as goal
 
 pub returns-in_default-clause-moves : goal.returns-in_default-clause-moves
@@ -17,14 +17,14 @@ returns-in_err-self-clause-moves c =
     let s = c.leaving.self in
     let p = err_from_is_err_and c.from_residual.result c.from_residual.ensures.1 in
     rw (p.1, p.2)
-    (leaving_fails s.text.now (drop s.at s.text.now) (arguments s.args) c.kind-kind.result (Err c.in_err-self.field-0.0) c.in-Some.ensures c.kind-kind.ensures c.len-depth.ensures.value c.in_err-self.ensures.passes c.in_err-self.field-0.0 refl
+    (leaves s.text.now (drop s.at s.text.now) (arguments s.args) c.kind-kind.result (Err c.in_err-self.field-0.0) c.in-Some.ensures c.kind-kind.ensures c.len-depth.ensures.value c.in_err-self.ensures.passes refl
     ∙ c.leaving.invariant.same)
 
 pub returns-in-Iter-clause-moves : goal.returns-in-Iter-clause-moves
 returns-in-Iter-clause-moves c =
     let s = c.leaving.self in
     let more = drop c.in_ok-self.field-0 s.text.now in
-    leaving_ends s.text.now (drop s.at s.text.now) (arguments s.args) c.kind-kind.result (Ok more) c.in-Some.ensures c.kind-kind.ensures c.len-depth.ensures.value c.in_ok-self.ensures.passes more refl c.in-Iter.is
+    leaves s.text.now (drop s.at s.text.now) (arguments s.args) c.kind-kind.result (Ok more) c.in-Some.ensures c.kind-kind.ensures c.len-depth.ensures.value c.in_ok-self.ensures.passes c.in-Iter.is
     ∙ c.leaving.invariant.same
 
 pub leaving-preserved : goal.leaving-preserved
@@ -33,6 +33,6 @@ leaving-preserved c =
     let more = drop c.in_ok-self.field-0 s.text.now in
     record {
       text = c.leaving.invariant.text;
-      same = leaving_goes_on s.text.now (drop s.at s.text.now) (arguments s.args) c.kind-kind.result (Ok more) c.in-Some.ensures c.kind-kind.ensures c.len-depth.ensures.value c.in_ok-self.ensures.passes more refl c.in-Then.is
+      same = leaves_part s.text.now (drop s.at s.text.now) (arguments s.args) c.kind-kind.result (Ok more) c.in-Some.ensures c.kind-kind.ensures c.len-depth.ensures.value c.in_ok-self.ensures.passes more refl c.in-Then.is
           ∙ c.leaving.invariant.same;
     }

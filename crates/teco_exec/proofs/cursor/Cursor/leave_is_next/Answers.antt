@@ -10,4 +10,4 @@ returns c =
     let s = c.args.self.now in
     let rest = drop s.at s.text.now in
     let whole : take (length s.text.now - s.at) rest ≡ rest = take_all (length s.text.now - s.at) rest (omega (arith, length-drop s.at s.text.now)) in
-    c.is_leave_first.ensures ∙ ap (λ bs. is_semicolon (after_fillers bs)) whole ∙ leave_comes rest
+    c.is_leave_first.ensures ∙ ap (λ bs. is_semicolon (after_fillers bs)) whole ∙ leave_comes c.spelling.ensures.spelled rest

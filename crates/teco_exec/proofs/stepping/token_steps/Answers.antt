@@ -1,0 +1,20 @@
+use Rattle.std.proofs.Common.{◌≡◌, Some, true, subst, sym, ◌∙◌, arith}
+use Rattle.teco_step.specs.Stepping.{takes_nothing_in}
+use Rattle.teco_exec.specs.Running.{at_token, flows, goes}
+use Rattle.teco_exec.proofs.Going.{since}
+use Rattle.teco_exec.proofs.stepping.token_steps.Goals as goal
+
+pub stepping-preserved : goal.stepping-preserved
+stepping-preserved g c = record {
+  text = c.in-Further.ensures.text ∙ c.stepping.invariant.text;
+  counts = record { limit = c.in-Further.ensures.counts.limit ∙ c.stepping.invariant.counts.limit; after = omega (arith, c.stepping.invariant.counts.after, c.in-Further.ensures.counts.after) };
+  quiet = λ q h. absurd (c.in-Further.ensures.quiet (c.stepping.invariant.quiet q h) (subst (λ t. takes_nothing_in t.now c.args.token.now ≡ true) (sym c.stepping.invariant.text) h));
+  going = λ o callers limit at.
+      let there = c.stepping.invariant.going o callers limit at in
+      since o _ _ _ (goes (at_token c.token_step.new.cursor c.args.token.now (Some c.in-Further.left) callers)) there.follows (c.in-Further.ensures.leads o callers (limit ∙ sym c.stepping.invariant.counts.limit) there.going);
+}
+
+pub returns-in-Done-clause-leads : goal.returns-in-Done-clause-leads
+returns-in-Done-clause-leads g c o callers limit at =
+    let there = c.stepping.invariant.going o callers limit at in
+    since o _ _ _ (flows c.token_step.new.cursor callers c.in-Done.flow) there.follows (c.in-Done.ensures.leads o callers (limit ∙ sym c.stepping.invariant.counts.limit) there.going)

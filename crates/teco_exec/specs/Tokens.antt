@@ -1,0 +1,49 @@
+-- Steps of tokens: what they count, what they look at around them, and where they lead.
+use Rattle.std.specs.Prelude.{◌≡◌, ◌≤◌, Bool, true, false, List, Some}
+use Rattle.teco_scan.specs.declared.command.Bare.TheVariants.{Command}
+use Rattle.teco_scan.specs.declared.command.Command.TheVariants.{Leave}
+use Rattle.teco_scan.specs.declared.command.TextCommand.TheVariants.{Search, SearchPages, SearchPagesQuietly}
+use Rattle.teco_scan.specs.declared.token.Item.TheVariants.{Bare, Replace, Text}
+use Rattle.teco_scan.specs.declared.token.Token.{Token}
+use Rattle.teco_scan.specs.declared.token.TokenKind.{TokenKind}
+use Rattle.teco_scan.specs.declared.token.TokenKind.TheVariants.{Item}
+use Rattle.teco_exec.specs.Machine.{Caller}
+use Rattle.teco_exec.specs.Running.{Finishes, GoesOn, GoesQuietly, Reached, at_token, flows, goes}
+use Rattle.teco_exec.specs.declared.cursor.Cursor.{Cursor}
+use Rattle.teco_exec.specs.declared.flow.Progress.{Progress}
+use Rattle.teco_exec.specs.declared.flow.Progress.TheVariants.{Further, Done}
+use Rattle.teco_exec.specs.declared.flow.Steps.{Steps}
+
+-- No step is taken back, and the limit stays.
+pub record Counts (old new : Steps) : Type 0 where
+  pub limit : new.limit ≡ old.limit
+  pub after : old.done ≤ new.done
+
+-- Tokens whose step looks around: whether an iteration is open, or a plain `;` comes next.
+abbrev pub looks_around : TokenKind → Bool
+looks_around (Item (Bare (Command Leave))) = true
+looks_around (Item (Text Search span)) = true
+looks_around (Item (Text SearchPages span)) = true
+looks_around (Item (Text SearchPagesQuietly span)) = true
+looks_around (Item (Replace old new)) = true
+looks_around k = false
+
+-- where a step of a token leads
+abbrev pub progresses : Cursor → Token → List Caller → Progress → Reached
+progresses c token callers (Further work) = goes (at_token c token (Some work) callers)
+progresses c token callers (Done flow) = flows c callers flow
+
+-- the token goes on, or the text
+abbrev pub Continues : Progress → Type 0
+Continues (Further work) = Unit {0}
+Continues (Done flow) = GoesOn flow
+
+-- neither want of memory nor a failed terminal
+abbrev pub ProgressFinishes : Progress → Type 0
+ProgressFinishes (Further work) = Unit {0}
+ProgressFinishes (Done flow) = Finishes flow
+
+-- A token that takes nothing has one step.
+abbrev pub ProgressesQuietly : Cursor → Progress → Type 0
+ProgressesQuietly c (Further work) = ⊥
+ProgressesQuietly c (Done flow) = GoesQuietly c flow
