@@ -69,7 +69,10 @@ fn item_at(text: &[u8], at: usize) -> Result<(Item, usize), Code>
         CONTROL_Q => Ok((Item::Byte(byte_at(text, at)?), at + 1)),
         CONTROL_E => {
             let letter = byte_at(text, at)?;
-            Ok((Item::Class(class_named(letter.to_ascii_uppercase())?), at + 1))
+            Ok((
+                Item::Class(class_named(letter.to_ascii_uppercase())?),
+                at + 1,
+            ))
         }
         CONTROL_X => Ok((Item::Class(Class::Any), at)),
         CONTROL_S => Ok((Item::Class(Class::Other), at)),

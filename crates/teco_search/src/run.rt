@@ -23,6 +23,7 @@ struct Try {
 /// The beginning of the spaces and tabs before a place.
 fn blanks_start(text: &Joined, at: usize) -> usize
     ensures before { result ≤ at }
+    ensures first { 0 < result → blanks_at text.now (result - 1) ≡ 0 }
     ensures run { (k : ℕ) → result ≤ k → k ≤ at → k + blanks_at text.now k ≡ at + blanks_at text.now at }
 {
     let mut start = at;
@@ -46,7 +47,11 @@ fn tried(mode: CaseMode, elements: &[Element], text: &Joined, start: usize) -> T
     let mut place = start;
     'elements: for (i, element) in elements.iter().enumerate() {
         let Some(end) = element_end(mode, element, text, place) else {
-            return Try { end: None, run: place, blanks: 0 };
+            return Try {
+                end: None,
+                run: place,
+                blanks: 0,
+            };
         };
         if element.is_run() {
             return Try {
@@ -57,7 +62,11 @@ fn tried(mode: CaseMode, elements: &[Element], text: &Joined, start: usize) -> T
         }
         place = end;
     }
-    Try { end: Some(place), run: place, blanks: 0 }
+    Try {
+        end: Some(place),
+        run: place,
+        blanks: 0,
+    }
 }
 
 /// The end of the match at a start; or, where there is none, how many starts after it have none either.

@@ -81,11 +81,7 @@ pub(crate) fn count_forward(search: &Forward, text: &Joined, from: usize) -> usi
 }
 
 /// The occurrence of highest start at or before a place.
-fn last_by_start(
-    search: &Backward,
-    text: &Joined,
-    from: usize,
-) -> Option<(usize, usize)>
+fn last_by_start(search: &Backward, text: &Joined, from: usize) -> Option<(usize, usize)>
     requires ready { IsReadyBackward search.now }
     requires within { from ≤ length text.now }
     ensures value { let sought = sought_backward search.now in BeginsBackward sought text.now (backward sought text.now from) result }
