@@ -48,7 +48,7 @@ begins_here mode (Among c) text p q is = let b = byte_begins (λ x. admits mode 
 begins_here mode (Except c) text p q is = let b = byte_begins (λ x. not (admits mode c x)) text p q is in record { byte = b.0; here = b.1; passes = b.2 }
 begins_here mode Blanks text p q is = blanks_begin mode text p q is
 
-ends_next : (mode : CaseMode) (e : Element) (text : List ℕ) (p q : ℕ) → e ≢ Blanks → element_end mode e text p ≡ Some q → q ≡ p + 1
+pub ends_next : (mode : CaseMode) (e : Element) (text : List ℕ) (p q : ℕ) → e ≢ Blanks → element_end mode e text p ≡ Some q → q ≡ p + 1
 unfolding element_end
 ends_next mode (Among c) text p q single is = (byte_begins (λ x. admits mode c x) text p q is).3
 ends_next mode (Except c) text p q single is = (byte_begins (λ x. not (admits mode c x)) text p q is).3
@@ -136,10 +136,13 @@ module _ (mode : CaseMode) (es : List Element) (anchor : Anchor) (anchored : IsA
           (λ late. none_from (match_end mode es text k) (λ q is. nowhere (k + anchor.offset) late (anchor_within k q is) (anchor_passes k q is)))
           (cases_lt (k + anchor.offset) at)
 
-      pub none_more : (place : ℕ) → NoneBefore (Passes (contains anchor.bytes) text) at (length text) place → match_end mode es text (place - anchor.offset) ≡ None → (k : ℕ) → from ≤ k → k + anchor.offset < place + 1 → match_end mode es text k ≡ None
-      none_more place first here k low below =
+      pub none_more :
+          (place others : ℕ) → NoneBefore (Passes (contains anchor.bytes) text) at (length text) place
+          → ((k : ℕ) → place - anchor.offset ≤ k → k ≤ place - anchor.offset + others → match_end mode es text k ≡ None)
+          → (k : ℕ) → from ≤ k → k + anchor.offset ≤ place + others → match_end mode es text k ≡ None
+      none_more place others first here k low below =
           ⊎_elim (λ early. none_before place first k low early)
-          (λ late. let same : k ≡ place - anchor.offset = omega arith in ap (match_end mode es text) same ∙ here)
+          (λ late. here k (omega arith) (omega arith))
           (cases_lt (k + anchor.offset) place)
 
     -- Backward: the starts whose anchor is below a place, and not below another, match to beyond a place.
@@ -153,11 +156,12 @@ module _ (mode : CaseMode) (es : List Element) (anchor : Anchor) (anchored : IsA
           ⊎_elim (λ early. absurd (nowhere (k + anchor.offset) (omega arith) early (anchor_passes k q is))) (λ late. none k q late under is) (cases_lt (k + anchor.offset) at)
 
       pub late_more :
-          (place : ℕ) → NoneAfter (Passes (contains anchor.bytes) text) 0 at place → anchor.offset ≤ place → ((q : ℕ) → match_end mode es text (place - anchor.offset) ≡ Some q → to < q)
-          → (k q : ℕ) → place ≤ k + anchor.offset → k + anchor.offset < below → match_end mode es text k ≡ Some q → to < q
-      late_more place last reached here k q above under is =
+          (place others : ℕ) → NoneAfter (Passes (contains anchor.bytes) text) 0 at place → anchor.offset ≤ place
+          → ((k q : ℕ) → k ≤ place - anchor.offset → place - anchor.offset ≤ k + others → match_end mode es text k ≡ Some q → to < q)
+          → (k q : ℕ) → place - others ≤ k + anchor.offset → k + anchor.offset < below → match_end mode es text k ≡ Some q → to < q
+      late_more place others last reached here k q above under is =
           ⊎_elim (λ later. late_after place last k q later under is)
-          (λ not_later. let same : k ≡ place - anchor.offset = omega arith in here q (ap (match_end mode es text) (sym same) ∙ is))
+          (λ not_later. here k q (omega arith) (omega arith) is)
           (cases_lt place (k + anchor.offset))
 
       pub last_none : ((k q : ℕ) → k + anchor.offset < below → match_end mode es text k ≡ Some q → to < q) → FindsLastBelow (looked_for mode es) text anchor.offset below to None

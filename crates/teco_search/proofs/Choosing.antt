@@ -86,7 +86,7 @@ module _ (f : ℕ → Option Span) (placed : (k : ℕ) (m : Span) → f k ≡ So
     forward_none from none =
         chosen_none (λ m. starts_from m.1) (starts_from from) (filter_map f (range_with_len 0 n)) (fails_within (starts_from from) 0 n
         (λ k m low high is. ⊎_elim (λ before. rw (placed k m is).0 (lt-leb from k before))
-        (λ behind. absurd (none-some m (sym (none k behind (omega arith)) ∙ is))) (cases_lt k from)))
+        (λ passed. absurd (none-some m (sym (none k passed (omega arith)) ∙ is))) (cases_lt k from)))
 
     -- Forward: the first from a place on.
     pub forward_hit :
@@ -97,7 +97,7 @@ module _ (f : ℕ → Option Span) (placed : (k : ℕ) (m : Span) → f k ≡ So
         let split = found_split n k m high is in
         rw split (chosen_hit (λ o. starts_from o.1) (starts_from from) (filter_map f (range_with_len 0 k)) m (filter_map f (range_with_len (k + 1) (n - k - 1)))
         (fails_within (starts_from from) 0 k (λ j o a b at. ⊎_elim (λ before. rw (placed j o at).0 (lt-leb from j before))
-        (λ behind. absurd (none-some o (sym (none j behind (omega arith)) ∙ at))) (cases_lt j from)))
+        (λ passed. absurd (none-some o (sym (none j passed (omega arith)) ∙ at))) (cases_lt j from)))
         (le-leb from m.0 (omega (arith, here.0)))
         (fails_within (starts_from m.1) 0 k (λ j o a b at. lt-leb m.1 o.0 (omega (arith, here.1, (placed j o at).0))))
         (lt-leb m.1 m.0 (omega (arith, here.0, here.1))))

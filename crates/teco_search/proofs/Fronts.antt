@@ -9,7 +9,7 @@ use Rattle.std.proofs.lemmas.Option.{slice_get_within, slice_get_cases, get_or_f
 use Rattle.teco_core.specs.Refusal.{◌>>=◌}
 use Rattle.teco_core.specs.declared.code.Code.{Code}
 use Rattle.teco_core.specs.declared.code.Code.TheVariants.{Ice}
-use Rattle.teco_search.specs.Reading.{stands_at, byte_at}
+use Rattle.teco_search.specs.Reading.{occurs_at, byte_at}
 
 -- What was read after another thing: that, and then this.
 pub bind_ok : {A B : Type 0} (r : Result A Code) (k : A → Result B Code) (y : B) → (r >>= k) ≡ Ok y → (x : A) × (r ≡ Ok x) × (k x ≡ Ok y)
@@ -52,19 +52,19 @@ module _ (text : List ℕ) where
   unfolding byte_at
   some_byte at b here = rw here
 
-  pub stands_some : (at b : ℕ) → stands_at text at b ≡ true → slice_get text at ≡ Some b
-  stands_some at b is = by (slice_get text at) is
+  pub occurs_some : (at b : ℕ) → occurs_at text at b ≡ true → slice_get text at ≡ Some b
+  occurs_some at b is = by (slice_get text at) is
     where
       by : (o : Option ℕ) → option_map_or (λ x. eqb x b) o false ≡ true → o ≡ Some b
       by None e = absurd (false≢true e)
       by (Some x) e = ap (λ y. let o : Option ℕ = Some y in o) (eqb-true x b e)
 
-  pub some_stands : (at b : ℕ) → slice_get text at ≡ Some b → stands_at text at b ≡ true
-  some_stands at b here = rw here (eq-eqb b b refl)
+  pub some_occurs : (at b : ℕ) → slice_get text at ≡ Some b → occurs_at text at b ≡ true
+  some_occurs at b here = rw here (eq-eqb b b refl)
 
   -- Another byte is there, or none.
-  pub stands_not : (at b : ℕ) → (slice_get text at ≡ Some b → ⊥) → stands_at text at b ≡ false
-  stands_not at b no_is = by (slice_get text at) refl
+  pub occurs_not : (at b : ℕ) → (slice_get text at ≡ Some b → ⊥) → occurs_at text at b ≡ false
+  occurs_not at b no_is = by (slice_get text at) refl
     where
       by : (o : Option ℕ) → slice_get text at ≡ o → option_map_or (λ x. eqb x b) o false ≡ false
       by None e = refl

@@ -92,7 +92,7 @@ module _ (sought : Sought) (text : List ℕ) (some : 0 < length sought.elements)
       rw (forward-some sought text some from first.place first.value first.low first.is first.none) (
         record {
           matches = first.is;
-          behind = first.low;
+          after = first.low;
           least = λ k q low is. ⊎_elim (λ early. absurd (none-some q (sym (first.none k low early) ∙ is))) (λ late. late) (cases_lt k first.place);
         },
         are_forward n first.value (omega (arith, ends.0, first.low)),
@@ -105,7 +105,7 @@ module _ (sought : Sought) (text : List ℕ) (some : 0 < length sought.elements)
   only_forward from (m ∷ ms) are =
       let first = are.0 in
       ap (λ os. m ∷ os) (only_forward m.1 ms are.1)
-      ∙ sym (forward-some sought text some from m.0 m.1 first.behind first.matches (λ j low below.
+      ∙ sym (forward-some sought text some from m.0 m.1 first.after first.matches (λ j low below.
       none_from (match_end sought.mode sought.elements text j) (λ q is. let least = first.least j q low is in absurd (omega arith))))
 
   pub forward_law : (from : ℕ) (ms : List Span) → (AreForward sought text from ms → ms ≡ forward sought text from) × (ms ≡ forward sought text from → AreForward sought text from ms)
@@ -177,18 +177,18 @@ module _ (sought : Sought) (text : List ℕ) (some : 0 < length sought.elements)
   backward_law from ms = (only_backward from ms, λ same. subst (AreBackward sought text from) (sym same) (are_backward from))
 
   -- Forward they rise and don't overlap.
-  all_behind : (from : ℕ) (ms : List Span) → AreForward sought text from ms → All (λ o. from ≤ o.0) ms
+  all_after : (from : ℕ) (ms : List Span) → AreForward sought text from ms → All (λ o. from ≤ o.0) ms
   unfolding AreForward
-  all_behind from [] are = All-nil (λ o. from ≤ o.0)
-  all_behind from (m ∷ ms) are =
+  all_after from [] are = All-nil (λ o. from ≤ o.0)
+  all_after from (m ∷ ms) are =
       let first = are.0 in
       let ends = long m.0 m.1 first.matches in
-      All-cons (λ o. from ≤ o.0) m ms first.behind (All-weaker (λ o. m.1 ≤ o.0) (λ o. from ≤ o.0) (λ o later. omega (arith, first.behind, ends.0)) ms (all_behind m.1 ms are.1))
+      All-cons (λ o. from ≤ o.0) m ms first.after (All-weaker (λ o. m.1 ≤ o.0) (λ o. from ≤ o.0) (λ o later. omega (arith, first.after, ends.0)) ms (all_after m.1 ms are.1))
 
   rise : (from : ℕ) (ms : List Span) → AreForward sought text from ms → AllPairs (λ m o. m.1 ≤ o.0) ms
   unfolding AreForward
   rise from [] are = λ i j d below inside. absurd (omega arith)
-  rise from (m ∷ ms) are = AllPairs-cons (λ a b. a.1 ≤ b.0) m ms (all_behind m.1 ms are.1) (rise m.1 ms are.1)
+  rise from (m ∷ ms) are = AllPairs-cons (λ a b. a.1 ≤ b.0) m ms (all_after m.1 ms are.1) (rise m.1 ms are.1)
 
   pub rising : (from : ℕ) → AllPairs (λ m o. m.1 ≤ o.0) (forward sought text from)
   rising from = rise from (forward sought text from) (are_forward (length text) from (omega arith))

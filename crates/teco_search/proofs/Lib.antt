@@ -17,3 +17,4 @@ pub mod OnlyIce
 pub mod Scans
 pub mod Tables
 pub mod Anchored
+pub mod Tried

@@ -7,7 +7,7 @@ use Rattle.teco_core.specs.declared.code.Code.{Code}
 use Rattle.teco_core.specs.declared.code.Code.TheVariants.{Ice}
 use Rattle.teco_search.specs.declared.element.Item.{Item}
 use Rattle.teco_search.specs.declared.element.Element.{Element}
-use Rattle.teco_search.specs.Reading.{Reading, byte_at, listed_at, items_at, behind_item, element_at, elements_at, read}
+use Rattle.teco_search.specs.Reading.{Reading, byte_at, listed_at, items_at, after_item, element_at, elements_at, read}
 
 -- some items, and then those that are read
 abbrev pub with_front : List Item → Reading (List Item) → Reading (List Item)
@@ -32,60 +32,60 @@ unfolding items_at
 step_refused zero text at e = refl
 step_refused (suc n) text at e = rw e
 
-step_cut : (n : ℕ) (text : List ℕ) (at : ℕ) (i : Item) (behind : ℕ) → listed_at text at ≡ Ok (i, behind) → byte_at text behind ≡ Err Ice → items_at n text at ≡ Err Ice
+step_cut : (n : ℕ) (text : List ℕ) (at : ℕ) (i : Item) (after : ℕ) → listed_at text at ≡ Ok (i, after) → byte_at text after ≡ Err Ice → items_at n text at ≡ Err Ice
 unfolding items_at
-step_cut zero text at i behind e f = refl
-step_cut (suc n) text at i behind e f = rw (e, f)
+step_cut zero text at i after e f = refl
+step_cut (suc n) text at i after e f = rw (e, f)
 
-pub step_read : (n : ℕ) (text : List ℕ) (at : ℕ) (i : Item) (behind b : ℕ) → listed_at text at ≡ Ok (i, behind) → byte_at text behind ≡ Ok b → items_at (suc n) text at ≡ behind_item b i (items_at n text (behind + 1)) (behind + 1)
+pub step_read : (n : ℕ) (text : List ℕ) (at : ℕ) (i : Item) (after b : ℕ) → listed_at text at ≡ Ok (i, after) → byte_at text after ≡ Ok b → items_at (suc n) text at ≡ after_item b i (items_at n text (after + 1)) (after + 1)
 unfolding items_at
-step_read n text at i behind b e f = rw (e, f)
+step_read n text at i after b e f = rw (e, f)
 
-step_other : (n : ℕ) (text : List ℕ) (at : ℕ) (i : Item) (behind b : ℕ) → listed_at text at ≡ Ok (i, behind) → byte_at text behind ≡ Ok b → b ≢ 93 → b ≢ 44 → items_at n text at ≡ Err Ice
+step_other : (n : ℕ) (text : List ℕ) (at : ℕ) (i : Item) (after b : ℕ) → listed_at text at ≡ Ok (i, after) → byte_at text after ≡ Ok b → b ≢ 93 → b ≢ 44 → items_at n text at ≡ Err Ice
 unfolding items_at
-step_other zero text at i behind b e f no_end no_comma = refl
-step_other (suc n) text at i behind b e f no_end no_comma = rw (e, f, ne_eqb b 93 no_end, ne_eqb b 44 no_comma)
+step_other zero text at i after b e f no_end no_comma = refl
+step_other (suc n) text at i after b e f no_end no_comma = rw (e, f, ne_eqb b 93 no_end, ne_eqb b 44 no_comma)
 
 module _ (text : List ℕ) (start : ℕ) (is : List Item) (at : ℕ) (so_far : ItemsSoFar text start is at) where
   pub items_refused : listed_at text at ≡ Err Ice → items_at (length text) text start ≡ Err Ice
   items_refused e = so_far.same ∙ ap (with_front is) (step_refused so_far.left text at e)
 
-  pub items_cut : (i : Item) (behind : ℕ) → listed_at text at ≡ Ok (i, behind) → byte_at text behind ≡ Err Ice → items_at (length text) text start ≡ Err Ice
-  items_cut i behind e f = so_far.same ∙ ap (with_front is) (step_cut so_far.left text at i behind e f)
+  pub items_cut : (i : Item) (after : ℕ) → listed_at text at ≡ Ok (i, after) → byte_at text after ≡ Err Ice → items_at (length text) text start ≡ Err Ice
+  items_cut i after e f = so_far.same ∙ ap (with_front is) (step_cut so_far.left text at i after e f)
 
-  pub items_other : (i : Item) (behind b : ℕ) → listed_at text at ≡ Ok (i, behind) → byte_at text behind ≡ Ok b → b ≢ 93 → b ≢ 44 → items_at (length text) text start ≡ Err Ice
-  items_other i behind b e f no_end no_comma = so_far.same ∙ ap (with_front is) (step_other so_far.left text at i behind b e f no_end no_comma)
+  pub items_other : (i : Item) (after b : ℕ) → listed_at text at ≡ Ok (i, after) → byte_at text after ≡ Ok b → b ≢ 93 → b ≢ 44 → items_at (length text) text start ≡ Err Ice
+  items_other i after b e f no_end no_comma = so_far.same ∙ ap (with_front is) (step_other so_far.left text at i after b e f no_end no_comma)
 
 with_last : (is : List Item) (i : Item) (r : Reading (List Item)) → with_front is (with_front (i ∷ []) r) ≡ with_front (is ++ i ∷ []) r
 with_last is i (Ok x) = ap (λ js. let whole : Reading (List Item) = Ok (js, x.1) in whole) (sym (append_assoc is (i ∷ []) x.0))
 with_last is i (Err e) = refl
 
-comma_step : (i : Item) (r : Reading (List Item)) (at : ℕ) → behind_item 44 i r at ≡ with_front (i ∷ []) r
+comma_step : (i : Item) (r : Reading (List Item)) (at : ℕ) → after_item 44 i r at ≡ with_front (i ∷ []) r
 comma_step i (Ok x) at = refl
 comma_step i (Err e) at = refl
 
 pub items_done :
-    (text : List ℕ) (start : ℕ) (is : List Item) (at : ℕ) (so_far : ItemsSoFar text start is at) (i : Item) (behind : ℕ)
-    → listed_at text at ≡ Ok (i, behind) → at < behind → behind ≤ length text → byte_at text behind ≡ Ok 93
-    → items_at (length text) text start ≡ Ok (is ++ i ∷ [], behind + 1)
-items_done text start is at so_far i behind e past within f = so_far.same ∙ by so_far.left so_far.room
+    (text : List ℕ) (start : ℕ) (is : List Item) (at : ℕ) (so_far : ItemsSoFar text start is at) (i : Item) (after : ℕ)
+    → listed_at text at ≡ Ok (i, after) → at < after → after ≤ length text → byte_at text after ≡ Ok 93
+    → items_at (length text) text start ≡ Ok (is ++ i ∷ [], after + 1)
+items_done text start is at so_far i after e past within f = so_far.same ∙ by so_far.left so_far.room
   where
-    by : (n : ℕ) → length text ≤ at + n → with_front is (items_at n text at) ≡ Ok (is ++ i ∷ [], behind + 1)
+    by : (n : ℕ) → length text ≤ at + n → with_front is (items_at n text at) ≡ Ok (is ++ i ∷ [], after + 1)
     by zero room = absurd (omega arith)
-    by (suc n) room = ap (with_front is) (step_read n text at i behind 93 e f)
+    by (suc n) room = ap (with_front is) (step_read n text at i after 93 e f)
 
 pub items_more :
-    (text : List ℕ) (start : ℕ) (is : List Item) (at : ℕ) (so_far : ItemsSoFar text start is at) (i : Item) (behind : ℕ)
-    → listed_at text at ≡ Ok (i, behind) → at < behind → behind ≤ length text → byte_at text behind ≡ Ok 44
-    → ItemsSoFar text start (is ++ i ∷ []) (behind + 1)
-items_more text start is at so_far i behind e past within f = by so_far.left so_far.room so_far.same
+    (text : List ℕ) (start : ℕ) (is : List Item) (at : ℕ) (so_far : ItemsSoFar text start is at) (i : Item) (after : ℕ)
+    → listed_at text at ≡ Ok (i, after) → at < after → after ≤ length text → byte_at text after ≡ Ok 44
+    → ItemsSoFar text start (is ++ i ∷ []) (after + 1)
+items_more text start is at so_far i after e past within f = by so_far.left so_far.room so_far.same
   where
-    by : (n : ℕ) → length text ≤ at + n → items_at (length text) text start ≡ with_front is (items_at n text at) → ItemsSoFar text start (is ++ i ∷ []) (behind + 1)
+    by : (n : ℕ) → length text ≤ at + n → items_at (length text) text start ≡ with_front is (items_at n text at) → ItemsSoFar text start (is ++ i ∷ []) (after + 1)
     by zero room same = absurd (omega arith)
     by (suc n) room same = record {
       left = n;
       room = omega arith;
-      same = same ∙ ap (with_front is) (step_read n text at i behind 44 e f ∙ comma_step i (items_at n text (behind + 1)) (behind + 1)) ∙ with_last is i (items_at n text (behind + 1));
+      same = same ∙ ap (with_front is) (step_read n text at i after 44 e f ∙ comma_step i (items_at n text (after + 1)) (after + 1)) ∙ with_last is i (items_at n text (after + 1));
     }
 
 -- some elements, and then those that are read
@@ -111,9 +111,9 @@ elements_last : (es : List Element) (e : Element) (r : Result (List Element) Cod
 elements_last es e (Ok x) = ap (λ js. let whole : Result (List Element) Code = Ok js in whole) (sym (append_assoc es (e ∷ []) x))
 elements_last es e (Err c) = refl
 
-pub element_step : (n : ℕ) (text : List ℕ) (at : ℕ) (e : Element) (behind : ℕ) → at < length text → element_at text at ≡ Ok (e, behind) → elements_at (suc n) text at ≡ with_elements (e ∷ []) (elements_at n text behind)
+pub element_step : (n : ℕ) (text : List ℕ) (at : ℕ) (e : Element) (after : ℕ) → at < length text → element_at text at ≡ Ok (e, after) → elements_at (suc n) text at ≡ with_elements (e ∷ []) (elements_at n text after)
 unfolding elements_at
-element_step n text at e behind inside is = rw (lt-leb (length text) at inside, is) (by (elements_at n text behind))
+element_step n text at e after inside is = rw (lt-leb (length text) at inside, is) (by (elements_at n text after))
   where
     by : (r : Result (List Element) Code) → (do
       es ← r
@@ -138,13 +138,13 @@ module _ (text : List ℕ) (es : List Element) (at : ℕ) (so_far : ElementsSoFa
   pub elements_refused : at < length text → element_at text at ≡ Err Ice → read text ≡ Err Ice
   elements_refused inside e = so_far.same ∙ ap (with_elements es) (elements_stop so_far.left text at inside so_far.room e)
 
-  pub elements_more : (e : Element) (behind : ℕ) → at < length text → element_at text at ≡ Ok (e, behind) → at < behind → ElementsSoFar text (es ++ e ∷ []) behind
-  elements_more e behind inside is past = by so_far.left so_far.room so_far.same
+  pub elements_more : (e : Element) (after : ℕ) → at < length text → element_at text at ≡ Ok (e, after) → at < after → ElementsSoFar text (es ++ e ∷ []) after
+  elements_more e after inside is past = by so_far.left so_far.room so_far.same
     where
-      by : (n : ℕ) → length text ≤ at + n → read text ≡ with_elements es (elements_at n text at) → ElementsSoFar text (es ++ e ∷ []) behind
+      by : (n : ℕ) → length text ≤ at + n → read text ≡ with_elements es (elements_at n text at) → ElementsSoFar text (es ++ e ∷ []) after
       by zero room same = absurd (omega arith)
       by (suc n) room same = record {
         left = n;
         room = omega arith;
-        same = same ∙ ap (with_elements es) (element_step n text at e behind inside is) ∙ elements_last es e (elements_at n text behind);
+        same = same ∙ ap (with_elements es) (element_step n text at e after inside is) ∙ elements_last es e (elements_at n text after);
       }

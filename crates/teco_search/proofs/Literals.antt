@@ -1,11 +1,12 @@
 -- Search texts of bytes that admit themselves alone: they match where they are.
-use Rattle.std.proofs.Common.{◌≡◌, ℕ, zero, suc, ◌+◌, ◌-◌, ◌<◌, ◌≤◌, Bool, true, false, eqb, leb, List, [], ◌∷◌, ◌++◌, length, get_or, map, Result, Option, Some, None, Ok, Err, refl, sym, ap, subst, ◌∙◌, arith, ⊎_elim}
+use Rattle.std.proofs.Common.{◌≡◌, ℕ, zero, suc, ◌+◌, ◌<◌, ◌≤◌, Bool, true, false, eqb, leb, List, [], ◌∷◌, ◌++◌, length, get_or, map, Result, Option, Some, None, Ok, Err, refl, sym, ap, subst, ◌∙◌, arith, ⊎_elim}
 use Rattle.std.specs.Prelude.{slice_get}
 use Rattle.std.specs.Global.{Vec}
 use Rattle.std.specs.List.{list_all}
-use Rattle.std.proofs.lemmas.Bool.{eqb-true, eq-eqb, ne_eqb, false≢true, le-leb, and_from, cases_Bool, or_parts, and_parts, leb-true, not-true}
+use Rattle.std.proofs.lemmas.Bool.{eqb-true, eq-eqb, ne_eqb, false≢true, le-leb, and_from, cases_Bool, or_parts, and_parts, leb-true, not-true, cases_lt}
 use Rattle.std.proofs.lemmas.List.{length-map}
 use Rattle.std.proofs.lemmas.Option.{same_Some, slice_get-get_or, slice_get_within, get_or_from_slice_get, option_and_then_some, cond_some}
+use Rattle.std.proofs.lemmas.Str.Ascii.{uppercase_is}
 use Rattle.memchr.specs.Find.{OccursAt}
 use Rattle.teco_core.specs.declared.code.Code.{Code}
 use Rattle.teco_core.specs.declared.code.Code.TheVariants.{Ice}
@@ -18,7 +19,8 @@ use Rattle.teco_search.specs.declared.element.Item.{Item}
 use Rattle.teco_search.specs.declared.element.Item.TheVariants as item
 use Rattle.teco_search.specs.declared.element.Item.TheVariants.{Byte}
 use Rattle.teco_search.specs.declared.element.OneByte.TheVariants.{Single}
-use Rattle.teco_search.specs.Element.{is_lower, is_upper, is_letter, upper, item_admits, admits}
+use Rattle.teco_core.specs.Ascii.{is_lower, is_upper, is_letter, upper}
+use Rattle.teco_search.specs.Element.{item_admits, admits}
 use Rattle.teco_search.specs.Reading.{Reading, class_named, byte_at, item_by, item_at, one_byte_at, element_at}
 use Rattle.teco_search.specs.Literal.{plain, is_exact, IsLiteral}
 use Rattle.teco_search.specs.declared.pattern.Form.{Form}
@@ -26,17 +28,30 @@ use Rattle.teco_search.specs.declared.pattern.Form.TheVariants.{Literal, Element
 use Rattle.teco_search.specs.Pattern.{elements_of, IsSound}
 use Rattle.teco_search.specs.Occurrence.{Sought, looked_for, element_end, match_end}
 
+-- A small letter is 32 above its capital.
+pub upper_of_lower : (x : ℕ) → is_lower x ≡ true → (97 ≤ x) × (x ≤ 122) × (upper x + 32 ≡ x)
+upper_of_lower x yes_is =
+    let parts = and_parts (leb 97 x) (leb x 122) yes_is in
+    let low : 97 ≤ x = leb-true 97 x parts.0 in
+    let high : x ≤ 122 = leb-true x 122 parts.1 in
+    (low, high, (uppercase_is x).0 (low, high))
+
 -- A byte that is no small letter is its own capital.
-upper_of_other : (x : ℕ) → is_lower x ≡ false → upper x ≡ x
-upper_of_other x no_is = rw no_is
+pub upper_of_other : (x : ℕ) → is_lower x ≡ false → upper x ≡ x
+upper_of_other x no_is =
+    ⊎_elim
+    (λ before. (uppercase_is x).1 before)
+    (λ from. ⊎_elim
+    (λ inside. absurd (false≢true (sym no_is ∙ and_from (leb 97 x) (leb x 122) (le-leb 97 x from) (le-leb x 122 (omega arith)))))
+    (λ after. (uppercase_is x).2 after)
+    (cases_lt x 123))
+    (cases_lt x 97)
 
 -- The capital of a small letter is a capital letter.
 upper_is_upper : (x : ℕ) → is_lower x ≡ true → is_upper (upper x) ≡ true
 upper_is_upper x yes_is =
-    let parts = and_parts (leb 97 x) (leb x 122) yes_is in
-    let low : 97 ≤ x = leb-true 97 x parts.0 in
-    let high : x ≤ 122 = leb-true x 122 parts.1 in
-    rw yes_is (and_from (leb 65 (x - 32)) (leb (x - 32) 90) (le-leb 65 (x - 32) (omega arith)) (le-leb (x - 32) 90 (omega arith)))
+    let small = upper_of_lower x yes_is in
+    and_from (leb 65 (upper x)) (leb (upper x) 90) (le-leb 65 (upper x) (omega (arith, small.0, small.2))) (le-leb (upper x) 90 (omega (arith, small.1, small.2)))
 
 tells_apart : (test : ℕ → Bool) (a b : ℕ) → test a ≡ false → test b ≡ true → eqb a b ≡ false
 tells_apart test a b no_is yes_is = ne_eqb a b (λ same. false≢true (sym no_is ∙ ap test same ∙ yes_is))
@@ -46,10 +61,10 @@ pub exact_admits : (mode : CaseMode) (b x : ℕ) → is_exact mode b ≡ true �
 unfolding item_admits
 exact_admits Exact b x exact = refl
 exact_admits Either b x exact =
-    let none = or_parts (is_lower b) (is_upper b) (not-true (is_letter b) exact) in
-    let own = upper_of_other b none.0 in
+    let none = or_parts (is_upper b) (is_lower b) (not-true (is_letter b) exact) in
+    let own = upper_of_other b none.1 in
     ⊎_elim
-    (λ small. ap (λ c. eqb c (upper x)) own ∙ tells_apart is_upper b (upper x) none.1 (upper_is_upper x small) ∙ sym (tells_apart is_lower b x none.0 small))
+    (λ small. ap (λ c. eqb c (upper x)) own ∙ tells_apart is_upper b (upper x) none.0 (upper_is_upper x small) ∙ sym (tells_apart is_lower b x none.1 small))
     (λ other. ap (λ c. eqb c (upper x)) own ∙ ap (eqb b) (upper_of_other x other))
     (cases_Bool (is_lower x))
 

@@ -12,8 +12,8 @@ use Rattle.teco_search.specs.declared.element.OneByte.{OneByte}
 use Rattle.teco_search.specs.declared.element.OneByte.TheVariants as one
 use Rattle.teco_search.specs.declared.element.Element.{Element}
 use Rattle.teco_search.specs.declared.element.Element.TheVariants as element
-use Rattle.teco_search.specs.Element.{upper}
-use Rattle.teco_search.specs.Reading.{Reading, stands_at, byte_at, class_named, is_refused, item_by, item_at, listed_at, behind_item, items_at, one_byte_at, element_at, elements_at}
+use Rattle.teco_core.specs.Ascii.{upper}
+use Rattle.teco_search.specs.Reading.{Reading, occurs_at, byte_at, class_named, is_refused, item_by, item_at, listed_at, after_item, items_at, one_byte_at, element_at, elements_at}
 
 abbrev pub OnlyIce : {A : Type 0} → Result A Code → Type 0
 OnlyIce (Ok x) = Unit {0}
@@ -61,9 +61,9 @@ module _ (text : List ℕ) where
 
   listed_ice : (at : ℕ) → OnlyIce (listed_at text at)
   unfolding listed_at
-  listed_ice at = either_ice (stands_at text at 44 || stands_at text at 93) (Err Ice) (item_at text at) refl (item_ice at)
+  listed_ice at = either_ice (occurs_at text at 44 || occurs_at text at 93) (Err Ice) (item_at text at) refl (item_ice at)
 
-  after_ice : (b : ℕ) (i : Item) (others : Reading (List Item)) (at : ℕ) → OnlyIce others → OnlyIce (behind_item b i others at)
+  after_ice : (b : ℕ) (i : Item) (others : Reading (List Item)) (at : ℕ) → OnlyIce others → OnlyIce (after_item b i others at)
   after_ice b i others at later =
       either_ice (eqb b 93) (Ok (i ∷ [], at)) _ tt
       (either_ice (eqb b 44) (others >>= (λ js. let r : Reading (List Item) = Ok (i ∷ js.0, js.1) in r)) (Err Ice) (then_ice others (λ js. let r : Reading (List Item) = Ok (i ∷ js.0, js.1) in r) later (λ js. tt)) refl)
@@ -71,21 +71,21 @@ module _ (text : List ℕ) where
   items_ice : (n at : ℕ) → OnlyIce (items_at n text at)
   unfolding items_at
   items_ice zero at = refl
-  items_ice (suc n) at = then_ice (listed_at text at) (λ i. byte_at text i.1 >>= (λ b. behind_item b i.0 (items_at n text (i.1 + 1)) (i.1 + 1))) (listed_ice at) (λ i.
-      then_ice (byte_at text i.1) (λ b. behind_item b i.0 (items_at n text (i.1 + 1)) (i.1 + 1)) (byte_ice i.1) (λ b. after_ice b i.0 (items_at n text (i.1 + 1)) (i.1 + 1) (items_ice n (i.1 + 1))))
+  items_ice (suc n) at = then_ice (listed_at text at) (λ i. byte_at text i.1 >>= (λ b. after_item b i.0 (items_at n text (i.1 + 1)) (i.1 + 1))) (listed_ice at) (λ i.
+      then_ice (byte_at text i.1) (λ b. after_item b i.0 (items_at n text (i.1 + 1)) (i.1 + 1)) (byte_ice i.1) (λ b. after_ice b i.0 (items_at n text (i.1 + 1)) (i.1 + 1) (items_ice n (i.1 + 1))))
 
   one_byte_ice : (at : ℕ) → OnlyIce (one_byte_at text at)
   unfolding one_byte_at
   one_byte_ice at =
-      either_ice (stands_at text at 5 && stands_at text (at + 1) 91) (items_at (length text) text (at + 2) >>= (λ js. let r : Reading OneByte = Ok (one.Listed js.0, js.1) in r)) (item_at text at >>= (λ i. let r : Reading OneByte = Ok (one.Single i.0, i.1) in r))
+      either_ice (occurs_at text at 5 && occurs_at text (at + 1) 91) (items_at (length text) text (at + 2) >>= (λ js. let r : Reading OneByte = Ok (one.Listed js.0, js.1) in r)) (item_at text at >>= (λ i. let r : Reading OneByte = Ok (one.Single i.0, i.1) in r))
       (then_ice (items_at (length text) text (at + 2)) (λ js. let r : Reading OneByte = Ok (one.Listed js.0, js.1) in r) (items_ice (length text) (at + 2)) (λ js. tt))
       (then_ice (item_at text at) (λ i. let r : Reading OneByte = Ok (one.Single i.0, i.1) in r) (item_ice at) (λ i. tt))
 
   element_ice : (at : ℕ) → OnlyIce (element_at text at)
   unfolding element_at
   element_ice at =
-      either_ice (stands_at text at 5 && (stands_at text (at + 1) 83 || stands_at text (at + 1) 115)) (Ok (element.Blanks, at + 2)) _ tt
-      (either_ice (stands_at text at 14) (one_byte_at text (at + 1) >>= (λ c. let r : Reading Element = Ok (element.Except c.0, c.1) in r)) (one_byte_at text at >>= (λ c. let r : Reading Element = Ok (element.Among c.0, c.1) in r))
+      either_ice (occurs_at text at 5 && (occurs_at text (at + 1) 83 || occurs_at text (at + 1) 115)) (Ok (element.Blanks, at + 2)) _ tt
+      (either_ice (occurs_at text at 14) (one_byte_at text (at + 1) >>= (λ c. let r : Reading Element = Ok (element.Except c.0, c.1) in r)) (one_byte_at text at >>= (λ c. let r : Reading Element = Ok (element.Among c.0, c.1) in r))
       (then_ice (one_byte_at text (at + 1)) (λ c. let r : Reading Element = Ok (element.Except c.0, c.1) in r) (one_byte_ice (at + 1)) (λ c. tt))
       (then_ice (one_byte_at text at) (λ c. let r : Reading Element = Ok (element.Among c.0, c.1) in r) (one_byte_ice at) (λ c. tt)))
 

@@ -14,10 +14,10 @@ use Rattle.teco_search.specs.declared.element.OneByte.{OneByte}
 use Rattle.teco_search.specs.declared.element.OneByte.TheVariants as one
 use Rattle.teco_search.specs.declared.element.Element.{Element}
 use Rattle.teco_search.specs.declared.element.Element.TheVariants as element
-use Rattle.teco_search.specs.Element.{upper}
-use Rattle.teco_search.specs.Reading.{Reading, stands_at, byte_at, class_named, is_refused, item_by, item_at, listed_at, behind_item, items_at, one_byte_at, element_at, elements_at}
+use Rattle.teco_core.specs.Ascii.{upper}
+use Rattle.teco_search.specs.Reading.{Reading, occurs_at, byte_at, class_named, is_refused, item_by, item_at, listed_at, after_item, items_at, one_byte_at, element_at, elements_at}
 use Rattle.teco_search.specs.Spelling.{SpellsItem, SpellsListed, SpellsItems, SpellsOne, SpellsElement, Spells, letter_of}
-use Rattle.teco_search.proofs.Fronts.{bind_ok, front_some, some_front, byte_some, stands_some, some_stands}
+use Rattle.teco_search.proofs.Fronts.{bind_ok, front_some, some_front, byte_some, occurs_some, some_occurs}
 use Rattle.teco_search.proofs.Literals.{read_by, read_none}
 
 -- what lies from a place to another spells something
@@ -124,40 +124,40 @@ module _ (text : List ℕ) where
       ⊎_elim (λ yes_is. let refused = rw yes_is at is in cc)
       (λ no_is.
       let cut = item_cut at end i (rw no_is at is) in
-      let none = or_parts (stands_at text at 44) (stands_at text at 93) no_is in
+      let none = or_parts (occurs_at text at 44) (occurs_at text at 93) no_is in
       record {
         front = cut.front;
         whole = cut.whole;
         spelled = record { spelled = cut.spelled; no_comma = other 44 cut.front cut.whole none.0; no_end = other 93 cut.front cut.whole none.1 };
       })
-      (cases_Bool (stands_at text at 44 || stands_at text at 93))
+      (cases_Bool (occurs_at text at 44 || occurs_at text at 93))
     where
-      other : (b : ℕ) (front : List ℕ) → drop at text ≡ front ++ drop end text → stands_at text at b ≡ false → front ≢ (b ∷ [])
+      other : (b : ℕ) (front : List ℕ) → drop at text ≡ front ++ drop end text → occurs_at text at b ≡ false → front ≢ (b ∷ [])
       other b front whole no_is same =
           let here = (some_front text at b (drop end text) (whole ∙ ap (λ f. f ++ drop end text) same)).0 in
-          false≢true (sym no_is ∙ some_stands text at b here)
+          false≢true (sym no_is ∙ some_occurs text at b here)
 
   items_cut : (n at end : ℕ) (is : List Item) → items_at n text at ≡ Ok (is, end) → Cut text at end (λ t. SpellsItems t is)
   unfolding items_at
   items_cut zero at end is e = cc
   items_cut (suc n) at end is e =
-      let i = bind_ok (listed_at text at) (λ i. byte_at text i.1 >>= (λ b. behind_item b i.0 (items_at n text (i.1 + 1)) (i.1 + 1))) (is, end) e in
-      let b = bind_ok (byte_at text i.0.1) (λ b. behind_item b i.0.0 (items_at n text (i.0.1 + 1)) (i.0.1 + 1)) (is, end) i.2 in
+      let i = bind_ok (listed_at text at) (λ i. byte_at text i.1 >>= (λ b. after_item b i.0 (items_at n text (i.1 + 1)) (i.1 + 1))) (is, end) e in
+      let b = bind_ok (byte_at text i.0.1) (λ b. after_item b i.0.0 (items_at n text (i.0.1 + 1)) (i.0.1 + 1)) (is, end) i.2 in
       by (λ place last js f. items_cut n place last js f) i.0.0 i.0.1 b.0 (listed_cut at i.0.1 i.0.0 i.1) (front_some text i.0.1 b.0 (byte_some text i.0.1 b.0 b.1)) b.2
     where
       by :
           ((place last : ℕ) (js : List Item) → items_at n text place ≡ Ok (js, last) → Cut text place last (λ t. SpellsItems t js))
-          → (i : Item) (place b : ℕ) → Cut text at place (λ t. SpellsListed t i) → drop place text ≡ b ∷ drop (place + 1) text → behind_item b i (items_at n text (place + 1)) (place + 1) ≡ Ok (is, end) → Cut text at end (λ t. SpellsItems t is)
+          → (i : Item) (place b : ℕ) → Cut text at place (λ t. SpellsListed t i) → drop place text ≡ b ∷ drop (place + 1) text → after_item b i (items_at n text (place + 1)) (place + 1) ≡ Ok (is, end) → Cut text at end (λ t. SpellsItems t is)
       by others_cut i place b first here e =
           ⊎_elim (λ is93.
-          let same : ◌≡◌ {A = List Item × ℕ} (i ∷ [], place + 1) (is, end) = let done = subst (λ k. behind_item k i (items_at n text (place + 1)) (place + 1) ≡ Ok (is, end)) is93 e in cc in
+          let same : ◌≡◌ {A = List Item × ℕ} (i ∷ [], place + 1) (is, end) = let done = subst (λ k. after_item k i (items_at n text (place + 1)) (place + 1) ≡ Ok (is, end)) is93 e in cc in
           record {
             front = first.front ++ 93 ∷ [];
             whole = first.whole ∙ ap (λ r. first.front ++ r) (here ∙ ap (λ k. k ∷ drop (place + 1) text) is93 ∙ ap (λ k. 93 ∷ drop k text) (ap (λ s. s.1) same)) ∙ sym (append_assoc first.front (93 ∷ []) (drop end text));
             spelled = subst (λ js. SpellsItems (first.front ++ 93 ∷ []) js) (ap (λ s. s.0) same) (SpellsItems.last first.front i first.spelled);
           })
           (λ n93. ⊎_elim (λ is44.
-          let others = bind_ok (items_at n text (place + 1)) (λ js. let r : Reading (List Item) = Ok (i ∷ js.0, js.1) in r) (is, end) (subst (λ k. behind_item k i (items_at n text (place + 1)) (place + 1) ≡ Ok (is, end)) is44 e) in
+          let others = bind_ok (items_at n text (place + 1)) (λ js. let r : Reading (List Item) = Ok (i ∷ js.0, js.1) in r) (is, end) (subst (λ k. after_item k i (items_at n text (place + 1)) (place + 1) ≡ Ok (is, end)) is44 e) in
           let same : ◌≡◌ {A = List Item × ℕ} (i ∷ others.0.0, others.0.1) (is, end) = let done = others.2 in cc in
           let later = others_cut (place + 1) others.0.1 others.0.0 others.1 in
           record {
@@ -174,14 +174,14 @@ module _ (text : List ℕ) where
   unfolding one_byte_at
   one_byte_cut at end c is =
       ⊎_elim (λ yes_is.
-      let parts = and_parts (stands_at text at 5) (stands_at text (at + 1) 91) yes_is in
+      let parts = and_parts (occurs_at text at 5) (occurs_at text (at + 1) 91) yes_is in
       let js = bind_ok (items_at (length text) text (at + 2)) (λ js. let r : Reading OneByte = Ok (one.Listed js.0, js.1) in r) (c, end) (rw yes_is at is) in
       let same : ◌≡◌ {A = OneByte × ℕ} (one.Listed js.0.0, js.0.1) (c, end) = let done = js.2 in cc in
       let list = items_cut (length text) (at + 2) js.0.1 js.0.0 js.1 in
       let two : at + 1 + 1 ≡ at + 2 = omega arith in
       record {
         front = 5 ∷ 91 ∷ list.front;
-        whole = front_some text at 5 (stands_some text at 5 parts.0) ∙ ap (λ r. 5 ∷ r) (front_some text (at + 1) 91 (stands_some text (at + 1) 91 parts.1)
+        whole = front_some text at 5 (occurs_some text at 5 parts.0) ∙ ap (λ r. 5 ∷ r) (front_some text (at + 1) 91 (occurs_some text (at + 1) 91 parts.1)
             ∙ ap (λ r. 91 ∷ r) (ap (λ k. drop k text) two ∙ list.whole ∙ ap (λ k. list.front ++ drop k text) (ap (λ s. s.1) same)));
         spelled = subst (λ d. SpellsOne (5 ∷ 91 ∷ list.front) d) (ap (λ s. s.0) same) (SpellsOne.listed list.front js.0.0 list.spelled);
       })
@@ -194,7 +194,7 @@ module _ (text : List ℕ) where
         whole = cut.whole ∙ ap (λ k. cut.front ++ drop k text) (ap (λ s. s.1) same);
         spelled = subst (λ d. SpellsOne cut.front d) (ap (λ s. s.0) same) (SpellsOne.single cut.front i.0.0 cut.spelled);
       })
-      (cases_Bool (stands_at text at 5 && stands_at text (at + 1) 91))
+      (cases_Bool (occurs_at text at 5 && occurs_at text (at + 1) 91))
 
   blanks_cut : (at end b : ℕ) (e : Element) → slice_get text at ≡ Some 5 → slice_get text (at + 1) ≡ Some b → upper b ≡ 83 → ◌≡◌ {A = Reading Element} (Ok (element.Blanks, at + 2)) (Ok (e, end)) → Cut text at end (λ t. SpellsElement t e)
   blanks_cut at end b e here letter capital is =
@@ -208,7 +208,7 @@ module _ (text : List ℕ) where
 
   other_cut :
       (at end : ℕ) (e : Element)
-      → (if stands_at text at 14 then one_byte_at text (at + 1) >>= (λ c. let r : Reading Element = Ok (element.Except c.0, c.1) in r) else one_byte_at text at >>= (λ c. let r : Reading Element = Ok (element.Among c.0, c.1) in r)) ≡ Ok (e, end)
+      → (if occurs_at text at 14 then one_byte_at text (at + 1) >>= (λ c. let r : Reading Element = Ok (element.Except c.0, c.1) in r) else one_byte_at text at >>= (λ c. let r : Reading Element = Ok (element.Among c.0, c.1) in r)) ≡ Ok (e, end)
       → Cut text at end (λ t. SpellsElement t e)
   other_cut at end e is =
       ⊎_elim (λ opposite.
@@ -217,7 +217,7 @@ module _ (text : List ℕ) where
       let cut = one_byte_cut (at + 1) c.0.1 c.0.0 c.1 in
       record {
         front = 14 ∷ cut.front;
-        whole = front_some text at 14 (stands_some text at 14 opposite) ∙ ap (λ r. 14 ∷ r) (cut.whole ∙ ap (λ k. cut.front ++ drop k text) (ap (λ s. s.1) same));
+        whole = front_some text at 14 (occurs_some text at 14 opposite) ∙ ap (λ r. 14 ∷ r) (cut.whole ∙ ap (λ k. cut.front ++ drop k text) (ap (λ s. s.1) same));
         spelled = subst (λ d. SpellsElement (14 ∷ cut.front) d) (ap (λ s. s.0) same) (SpellsElement.except cut.front c.0.0 cut.spelled);
       })
       (λ itself.
@@ -229,20 +229,20 @@ module _ (text : List ℕ) where
         whole = cut.whole ∙ ap (λ k. cut.front ++ drop k text) (ap (λ s. s.1) same);
         spelled = subst (λ d. SpellsElement cut.front d) (ap (λ s. s.0) same) (SpellsElement.among cut.front c.0.0 cut.spelled);
       })
-      (cases_Bool (stands_at text at 14))
+      (cases_Bool (occurs_at text at 14))
 
   element_cut : (at end : ℕ) (e : Element) → element_at text at ≡ Ok (e, end) → Cut text at end (λ t. SpellsElement t e)
   unfolding element_at
   element_cut at end e is =
       ⊎_elim (λ yes_is.
-      let parts = and_parts (stands_at text at 5) (stands_at text (at + 1) 83 || stands_at text (at + 1) 115) yes_is in
-      let here = stands_some text at 5 parts.0 in
+      let parts = and_parts (occurs_at text at 5) (occurs_at text (at + 1) 83 || occurs_at text (at + 1) 115) yes_is in
+      let here = occurs_some text at 5 parts.0 in
       let done = rw yes_is at is in
-      ⊎_elim (λ capital. blanks_cut at end 83 e here (stands_some text (at + 1) 83 capital) refl done)
-      (λ not_capital. blanks_cut at end 115 e here (stands_some text (at + 1) 115 (rw not_capital at parts.1)) refl done)
-      (cases_Bool (stands_at text (at + 1) 83)))
+      ⊎_elim (λ capital. blanks_cut at end 83 e here (occurs_some text (at + 1) 83 capital) refl done)
+      (λ not_capital. blanks_cut at end 115 e here (occurs_some text (at + 1) 115 (rw not_capital at parts.1)) refl done)
+      (cases_Bool (occurs_at text (at + 1) 83)))
       (λ no_is. other_cut at end e (rw no_is at is))
-      (cases_Bool (stands_at text at 5 && (stands_at text (at + 1) 83 || stands_at text (at + 1) 115)))
+      (cases_Bool (occurs_at text at 5 && (occurs_at text (at + 1) 83 || occurs_at text (at + 1) 115)))
 
   -- From a place to the end, if there is room to read so many.
   pub elements_spelled : (n at : ℕ) (es : List Element) → length text ≤ at + n → elements_at n text at ≡ Ok es → Spells (drop at text) es

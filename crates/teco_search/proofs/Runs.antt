@@ -1,16 +1,14 @@
 -- Runs of spaces and tabs from a place on.
-use Rattle.std.proofs.Common.{◌≡◌, ℕ, ◌+◌, ◌<◌, ◌≤◌, inl, inr, true, false, List, length, Some, None, refl, sym, ap, ◌∙◌, arith, ◌∷◌, get_or, drop}
+use Rattle.std.proofs.Common.{◌≡◌, ℕ, zero, suc, ◌+◌, ◌<◌, ◌≤◌, inl, inr, true, false, cond, eqb, List, length, Option, Some, None, refl, sym, ap, ◌∙◌, arith, ◌∷◌, ⊎_elim, add-zero}
 use Rattle.std.specs.List.{slice_get}
-use Rattle.std.proofs.lemmas.Option.{slice_get_within, slice_get_cases, none-some, get_or_from_slice_get}
-use Rattle.std.proofs.lemmas.List.{at_drop_more}
+use Rattle.std.proofs.lemmas.Option.{slice_get_within, slice_get_cases, none-some, same_Some, get_or_from_slice_get}
 use Rattle.std.proofs.lemmas.List.Sums.{prefix_len-drop_yes, prefix_len-drop_no, prefix_len-drop_all}
-use Rattle.std.proofs.lemmas.Bool.{ne_eqb}
+use Rattle.std.proofs.lemmas.Bool.{ne_eqb, cases_Bool}
 use Rattle.teco_core.specs.declared.case_mode.CaseMode.{CaseMode}
 use Rattle.teco_search.specs.declared.element.Element.{Element}
-use Rattle.teco_search.specs.declared.element.Element.TheVariants.{Blanks, Among, Except}
+use Rattle.teco_search.specs.declared.element.Element.TheVariants.{Blanks}
 use Rattle.teco_search.specs.Element.{is_blank}
 use Rattle.teco_search.specs.Occurrence.{blanks_at, element_end, match_end}
-use Rattle.teco_search.specs.Run.{behind_run}
 
 -- a run has one more before its first
 pub blanks_more : (text : List ℕ) (p b : ℕ) → slice_get text p ≡ Some b → is_blank b ≡ true → blanks_at text p ≡ 1 + blanks_at text (p + 1)
@@ -44,22 +42,26 @@ pub match_no_run : (mode : CaseMode) (rest : List Element) (text : List ℕ) (p 
 unfolding match_end element_end
 match_no_run mode rest text p none = rw none
 
--- The elements after the first run are those after it,
-pub behind_here : (es : List Element) → behind_run (Blanks ∷ es) ≡ es
-unfolding behind_run
-behind_here es = refl
+-- The places of a run come to one end.
+pub inside_run : (text : List ℕ) (p d : ℕ) → d < blanks_at text p → p + d + blanks_at text (p + d) ≡ p + blanks_at text p
+inside_run text p zero inside = ap (λ i. i + blanks_at text i) (add-zero p)
+inside_run text p (suc d) inside = by (inside_run text p d (omega arith)) (slice_get text (p + d)) refl
+  where
+    next : p + d + 1 ≡ p + suc d
+    next = omega arith
 
--- and those of the others where a list begins otherwise.
-pub behind_other : (e : Element) (es : List Element) → (e ≡ Blanks → ⊥) → behind_run (e ∷ es) ≡ behind_run es
-unfolding behind_run
-behind_other (Among c) es other = refl
-behind_other (Except c) es other = refl
-behind_other Blanks es other = absurd (other refl)
+    by : p + d + blanks_at text (p + d) ≡ p + blanks_at text p → (o : Option ℕ) → slice_get text (p + d) ≡ o → p + suc d + blanks_at text (p + suc d) ≡ p + blanks_at text p
+    by before None here = absurd (omega (arith, before, blanks_none text (p + d) here))
+    by before (Some b) here = ⊎_elim
+        (λ blank. ap (λ i. i + blanks_at text i) (sym next) ∙ omega (arith, before, blanks_more text (p + d) b here blank))
+        (λ other. absurd (omega (arith, before, blanks_stop text (p + d) b here other)))
+        (cases_Bool (is_blank b))
 
--- From a place of a list on.
-pub behind_at : (es : List Element) (i : ℕ) (e : Element) → i < length es → e ≡ get_or es i e → e ≡ Blanks → behind_run (drop i es) ≡ drop (i + 1) es
-behind_at es i e inside here is = at_drop_more behind_run es i e inside ∙ ap (λ x. behind_run (x ∷ drop (i + 1) es)) (sym here ∙ is) ∙ behind_here (drop (i + 1) es)
-
-pub behind_next : (es : List Element) (i : ℕ) (e : Element) → i < length es → e ≡ get_or es i e → (e ≡ Blanks → ⊥) → behind_run (drop i es) ≡ behind_run (drop (i + 1) es)
-behind_next es i e inside here other =
-    at_drop_more behind_run es i e inside ∙ ap (λ x. behind_run (x ∷ drop (i + 1) es)) (sym here) ∙ behind_other e (drop (i + 1) es) other
+-- What a run matches.
+pub run_ends : (mode : CaseMode) (text : List ℕ) (p q : ℕ) → element_end mode Blanks text p ≡ Some q → (q ≡ p + blanks_at text p) × (0 < blanks_at text p)
+unfolding element_end
+run_ends mode text p q is = by (blanks_at text p) is
+  where
+    by : (n : ℕ) → cond (eqb n 0) None (Some (p + n)) ≡ Some q → (q ≡ p + n) × (0 < n)
+    by zero e = absurd (none-some q e)
+    by (suc n) e = let same = same_Some (p + suc n) q (rw (ne_eqb (suc n) 0 (λ zero_is. omega (arith, zero_is))) at e) in (sym same, omega arith)

@@ -1,7 +1,7 @@
 -- What a text spells from a place on is what is read there, and nothing else is refused but by ICE.
-use Rattle.std.proofs.Common.{◌≡◌, ◌≢◌, ℕ, zero, suc, ◌+◌, ◌-◌, ◌<◌, ◌≤◌, Bool, true, false, eqb, leb, List, [], ◌∷◌, ◌++◌, length, drop, Option, Some, Result, Ok, Err, refl, sym, ap, ◌∙◌, arith, ⊎_elim, length-drop, length-append}
+use Rattle.std.proofs.Common.{◌≡◌, ◌≢◌, ℕ, zero, suc, ◌+◌, ◌<◌, ◌≤◌, Bool, true, false, eqb, List, [], ◌∷◌, ◌++◌, length, drop, Option, Some, Result, Ok, Err, refl, sym, ap, ◌∙◌, arith, ⊎_elim, length-drop, length-append}
 use Rattle.std.specs.Prelude.{slice_get, ◌&&◌, ◌||◌}
-use Rattle.std.proofs.lemmas.Bool.{cases_Bool, or_parts, or_from, and_parts, leb-true, both_ways}
+use Rattle.std.proofs.lemmas.Bool.{cases_Bool, or_parts, or_from, both_ways}
 use Rattle.std.proofs.Math.Bool.{and-false}
 use Rattle.std.proofs.lemmas.List.{append_assoc}
 use Rattle.std.proofs.lemmas.Option.{same_Some}
@@ -16,12 +16,12 @@ use Rattle.teco_search.specs.declared.element.OneByte.{OneByte}
 use Rattle.teco_search.specs.declared.element.OneByte.TheVariants as one
 use Rattle.teco_search.specs.declared.element.Element.{Element}
 use Rattle.teco_search.specs.declared.element.Element.TheVariants as element
-use Rattle.teco_search.specs.Element.{upper, is_lower}
-use Rattle.teco_search.specs.Reading.{Reading, stands_at, byte_at, class_named, item_at, listed_at, items_at, one_byte_at, element_at, elements_at}
+use Rattle.teco_core.specs.Ascii.{upper, is_lower}
+use Rattle.teco_search.specs.Reading.{Reading, occurs_at, byte_at, class_named, item_at, listed_at, items_at, one_byte_at, element_at, elements_at}
 use Rattle.teco_search.specs.Spelling.{SpellsItem, SpellsListed, SpellsItems, SpellsOne, SpellsElement, Spells, letter_of, is_control}
-use Rattle.teco_search.proofs.Fronts.{some_front, later_front, some_byte, some_stands, stands_not}
+use Rattle.teco_search.proofs.Fronts.{some_front, later_front, some_byte, some_occurs, occurs_not}
 use Rattle.teco_search.proofs.Lists.{step_read, element_step, elements_end, with_elements}
-use Rattle.teco_search.proofs.Literals.{read_by}
+use Rattle.teco_search.proofs.Literals.{read_by, upper_of_lower, upper_of_other}
 use Rattle.teco_search.proofs.ReadIsSpelled.{element_some}
 
 named_all : (c : Class) → class_named (letter_of c) ≡ Ok c
@@ -81,8 +81,8 @@ module _ (text : List ℕ) where
   item_read t rest at i SpellsItem.other whole = read_by text at 19 (some_front text at 19 rest whole).0
 
   -- Only a byte that is itself begins with this byte, which is no control.
-  not_first : (t rest : List ℕ) (at b : ℕ) (i : Item) → SpellsItem t i → drop at text ≡ t ++ rest → is_control b ≡ false → t ≢ (b ∷ []) → stands_at text at b ≡ false
-  not_first t rest at b i spelled whole plain other = stands_not text at b (λ here. by t i spelled whole other here)
+  not_first : (t rest : List ℕ) (at b : ℕ) (i : Item) → SpellsItem t i → drop at text ≡ t ++ rest → is_control b ≡ false → t ≢ (b ∷ []) → occurs_at text at b ≡ false
+  not_first t rest at b i spelled whole plain other = occurs_not text at b (λ here. by t i spelled whole other here)
     where
       by : (t : List ℕ) (i : Item) → SpellsItem t i → drop at text ≡ t ++ rest → t ≢ (b ∷ []) → slice_get text at ≡ Some b → ⊥
       by t i (SpellsItem.itself c itself) whole other here = let same : c ≡ b = same_Some c b (sym (some_front text at c rest whole).0 ∙ here) in other (ap (λ x. x ∷ []) same)
@@ -126,8 +126,8 @@ module _ (text : List ℕ) where
       ∙ ap (λ r. r >>= (λ os. let a : Reading (List Item) = Ok (i ∷ os.0, os.1) in a)) others ∙ ap (λ k. let r : Reading (List Item) = Ok (i ∷ js, k) in r) end
 
   -- An item begins with ^Q, ^E, ^X, ^S or a byte that is no control.
-  never_first : (t rest : List ℕ) (at k : ℕ) (i : Item) → SpellsItem t i → drop at text ≡ t ++ rest → is_control k ≡ true → k ≢ 17 → k ≢ 5 → k ≢ 24 → k ≢ 19 → stands_at text at k ≡ false
-  never_first t rest at k i spelled whole control n17 n5 n24 n19 = stands_not text at k (λ here. by t i spelled whole here)
+  never_first : (t rest : List ℕ) (at k : ℕ) (i : Item) → SpellsItem t i → drop at text ≡ t ++ rest → is_control k ≡ true → k ≢ 17 → k ≢ 5 → k ≢ 24 → k ≢ 19 → occurs_at text at k ≡ false
+  never_first t rest at k i spelled whole control n17 n5 n24 n19 = occurs_not text at k (λ here. by t i spelled whole here)
     where
       by : (t : List ℕ) (i : Item) → SpellsItem t i → drop at text ≡ t ++ rest → slice_get text at ≡ Some k → ⊥
       by t i (SpellsItem.itself c itself) whole here = let same : c ≡ k = same_Some c k (sym (some_front text at c rest whole).0 ∙ here) in both_ways (is_control k) (ap is_control (sym same) ∙ itself) control
@@ -137,25 +137,25 @@ module _ (text : List ℕ) where
       by t i SpellsItem.other whole here = n19 (sym (same_Some 19 k (sym (some_front text at 19 rest whole).0 ∙ here)))
 
   -- A byte that names no kind does not come after its ^E.
-  never_pair : (t rest : List ℕ) (at k : ℕ) (i : Item) → SpellsItem t i → drop at text ≡ t ++ rest → class_named (upper k) ≡ Err Ice → (stands_at text at 5 && stands_at text (at + 1) k) ≡ false
+  never_pair : (t rest : List ℕ) (at k : ℕ) (i : Item) → SpellsItem t i → drop at text ≡ t ++ rest → class_named (upper k) ≡ Err Ice → (occurs_at text at 5 && occurs_at text (at + 1) k) ≡ false
   never_pair t rest at k i (SpellsItem.itself b plain) whole unnamed =
-      rw (stands_not text at 5 (λ here. let same : b ≡ 5 = same_Some b 5 (sym (some_front text at b rest whole).0 ∙ here) in both_ways (is_control b) plain (ap is_control same))) refl
+      rw (occurs_not text at 5 (λ here. let same : b ≡ 5 = same_Some b 5 (sym (some_front text at b rest whole).0 ∙ here) in both_ways (is_control b) plain (ap is_control same))) refl
   never_pair t rest at k i (SpellsItem.quoted b) whole unnamed =
-      rw (stands_not text at 5 (λ here. let same : 17 ≡ 5 = same_Some 17 5 (sym (some_front text at 17 (b ∷ rest) whole).0 ∙ here) in absurd (omega arith))) refl
+      rw (occurs_not text at 5 (λ here. let same : 17 ≡ 5 = same_Some 17 5 (sym (some_front text at 17 (b ∷ rest) whole).0 ∙ here) in absurd (omega arith))) refl
   never_pair t rest at k i (SpellsItem.named b c is) whole unnamed =
       let here = some_front text at 5 (b ∷ rest) whole in
       let next = some_front text (at + 1) b rest here.1 in
-      rw (stands_not text (at + 1) k (λ there.
+      rw (occurs_not text (at + 1) k (λ there.
       let same : b ≡ k = same_Some b k (sym next.0 ∙ there) in
       let named : class_named (upper k) ≡ Ok c = ap (λ x. class_named (upper x)) (sym same) ∙ ap class_named is ∙ named_all c in
-      none c (sym unnamed ∙ named))) (and-false (stands_at text at 5))
+      none c (sym unnamed ∙ named))) (and-false (occurs_at text at 5))
     where
       none : (c : Class) → ◌≡◌ {A = Result Class Code} (Err Ice) (Ok c) → ⊥
       none c e = cc
   never_pair t rest at k i SpellsItem.any whole unnamed =
-      rw (stands_not text at 5 (λ here. let same : 24 ≡ 5 = same_Some 24 5 (sym (some_front text at 24 rest whole).0 ∙ here) in absurd (omega arith))) refl
+      rw (occurs_not text at 5 (λ here. let same : 24 ≡ 5 = same_Some 24 5 (sym (some_front text at 24 rest whole).0 ∙ here) in absurd (omega arith))) refl
   never_pair t rest at k i SpellsItem.other whole unnamed =
-      rw (stands_not text at 5 (λ here. let same : 19 ≡ 5 = same_Some 19 5 (sym (some_front text at 19 rest whole).0 ∙ here) in absurd (omega arith))) refl
+      rw (occurs_not text at 5 (λ here. let same : 19 ≡ 5 = same_Some 19 5 (sym (some_front text at 19 rest whole).0 ∙ here) in absurd (omega arith))) refl
 
   one_byte_read : (t rest : List ℕ) (at : ℕ) (c : OneByte) → SpellsOne t c → drop at text ≡ t ++ rest → one_byte_at text at ≡ Ok (c, at + length t)
   unfolding one_byte_at
@@ -167,39 +167,37 @@ module _ (text : List ℕ) where
       let two : at + 2 ≡ at + 1 + 1 = omega arith in
       let end : at + 2 + length u ≡ at + suc (suc (length u)) = omega arith in
       let list = items_read (length text) (at + 2) u rest is spelled (omega arith) (ap (λ k. drop k text) two ∙ next.1) in
-      rw (some_stands text at 5 here.0, some_stands text (at + 1) 91 next.0) (ap (λ r. r >>= (λ js. let a : Reading OneByte = Ok (one.Listed js.0, js.1) in a)) list ∙ ap (λ k. let a : Reading OneByte = Ok (one.Listed is, k) in a) end)
+      rw (some_occurs text at 5 here.0, some_occurs text (at + 1) 91 next.0) (ap (λ r. r >>= (λ js. let a : Reading OneByte = Ok (one.Listed js.0, js.1) in a)) list ∙ ap (λ k. let a : Reading OneByte = Ok (one.Listed is, k) in a) end)
 
   -- What one byte may be is no run of blanks and no opposite.
-  not_blanks : (t rest : List ℕ) (at : ℕ) (c : OneByte) → SpellsOne t c → drop at text ≡ t ++ rest → (stands_at text at 5 && (stands_at text (at + 1) 83 || stands_at text (at + 1) 115)) ≡ false
+  not_blanks : (t rest : List ℕ) (at : ℕ) (c : OneByte) → SpellsOne t c → drop at text ≡ t ++ rest → (occurs_at text at 5 && (occurs_at text (at + 1) 83 || occurs_at text (at + 1) 115)) ≡ false
   not_blanks t rest at c (SpellsOne.single u i spelled) whole =
-      and_or (stands_at text at 5) (stands_at text (at + 1) 83) (stands_at text (at + 1) 115) (never_pair u rest at 83 i spelled whole refl) (never_pair u rest at 115 i spelled whole refl)
+      and_or (occurs_at text at 5) (occurs_at text (at + 1) 83) (occurs_at text (at + 1) 115) (never_pair u rest at 83 i spelled whole refl) (never_pair u rest at 115 i spelled whole refl)
   not_blanks t rest at c (SpellsOne.listed u is spelled) whole =
       let here = some_front text at 5 (91 ∷ u ++ rest) whole in
       let next = some_front text (at + 1) 91 (u ++ rest) here.1 in
-      let no_capital = stands_not text (at + 1) 83 (λ there. let same : 91 ≡ 83 = same_Some 91 83 (sym next.0 ∙ there) in absurd (omega arith)) in
-      let no_small = stands_not text (at + 1) 115 (λ there. let same : 91 ≡ 115 = same_Some 91 115 (sym next.0 ∙ there) in absurd (omega arith)) in
-      rw (no_capital, no_small) (and-false (stands_at text at 5))
+      let no_capital = occurs_not text (at + 1) 83 (λ there. let same : 91 ≡ 83 = same_Some 91 83 (sym next.0 ∙ there) in absurd (omega arith)) in
+      let no_small = occurs_not text (at + 1) 115 (λ there. let same : 91 ≡ 115 = same_Some 91 115 (sym next.0 ∙ there) in absurd (omega arith)) in
+      rw (no_capital, no_small) (and-false (occurs_at text at 5))
 
-  not_opposite : (t rest : List ℕ) (at : ℕ) (c : OneByte) → SpellsOne t c → drop at text ≡ t ++ rest → stands_at text at 14 ≡ false
+  not_opposite : (t rest : List ℕ) (at : ℕ) (c : OneByte) → SpellsOne t c → drop at text ≡ t ++ rest → occurs_at text at 14 ≡ false
   not_opposite t rest at c (SpellsOne.single u i spelled) whole =
       never_first u rest at 14 i spelled whole refl (λ same. omega (arith, same)) (λ same. omega (arith, same)) (λ same. omega (arith, same)) (λ same. omega (arith, same))
   not_opposite t rest at c (SpellsOne.listed u is spelled) whole =
-      stands_not text at 14 (λ there. let same : 5 ≡ 14 = same_Some 5 14 (sym (some_front text at 5 (91 ∷ u ++ rest) whole).0 ∙ there) in absurd (omega arith))
+      occurs_not text at 14 (λ there. let same : 5 ≡ 14 = same_Some 5 14 (sym (some_front text at 5 (91 ∷ u ++ rest) whole).0 ∙ there) in absurd (omega arith))
 
   blanks_read : (at b : ℕ) → slice_get text at ≡ Some 5 → slice_get text (at + 1) ≡ Some b → upper b ≡ 83 → element_at text at ≡ Ok (element.Blanks, at + 2)
   unfolding element_at
   blanks_read at b here next capital =
       ⊎_elim
       (λ small.
-      let parts = and_parts (leb 97 b) (leb b 122) small in
-      let low : 97 ≤ b = leb-true 97 b parts.0 in
-      let less : b - 32 ≡ 83 = rw small at capital in
-      let same : b ≡ 115 = omega arith in
+      let above = upper_of_lower b small in
+      let same : b ≡ 115 = omega (arith, above.2, capital) in
       let there : slice_get text (at + 1) ≡ Some 115 = next ∙ ap (λ x. let o : Option ℕ = Some x in o) same in
-      rw (some_stands text at 5 here, stands_not text (at + 1) 83 (λ other. let no_is : 115 ≡ 83 = same_Some 115 83 (sym there ∙ other) in absurd (omega arith)), some_stands text (at + 1) 115 there) refl)
+      rw (some_occurs text at 5 here, occurs_not text (at + 1) 83 (λ other. let no_is : 115 ≡ 83 = same_Some 115 83 (sym there ∙ other) in absurd (omega arith)), some_occurs text (at + 1) 115 there) refl)
       (λ large.
-      let same : b ≡ 83 = rw large at capital in
-      rw (some_stands text at 5 here, some_stands text (at + 1) 83 (next ∙ ap (λ x. let o : Option ℕ = Some x in o) same)) refl)
+      let same : b ≡ 83 = sym (upper_of_other b large) ∙ capital in
+      rw (some_occurs text at 5 here, some_occurs text (at + 1) 83 (next ∙ ap (λ x. let o : Option ℕ = Some x in o) same)) refl)
       (cases_Bool (is_lower b))
 
   element_read : (t rest : List ℕ) (at : ℕ) (e : Element) → SpellsElement t e → drop at text ≡ t ++ rest → element_at text at ≡ Ok (e, at + length t)
@@ -213,8 +211,8 @@ module _ (text : List ℕ) where
   element_read t rest at e (SpellsElement.except u c spelled) whole =
       let here = some_front text at 14 (u ++ rest) whole in
       let end : at + 1 + length u ≡ at + suc (length u) = omega arith in
-      let other = stands_not text at 5 (λ there. let same : 14 ≡ 5 = same_Some 14 5 (sym here.0 ∙ there) in absurd (omega arith)) in
-      rw (other, some_stands text at 14 here.0)
+      let other = occurs_not text at 5 (λ there. let same : 14 ≡ 5 = same_Some 14 5 (sym here.0 ∙ there) in absurd (omega arith)) in
+      rw (other, some_occurs text at 14 here.0)
       (ap (λ r. r >>= (λ d. let a : Reading Element = Ok (element.Except d.0, d.1) in a)) (one_byte_read u rest (at + 1) c spelled here.1) ∙ ap (λ k. let a : Reading Element = Ok (element.Except c, k) in a) end)
 
   pub elements_read : (n at : ℕ) (t : List ℕ) (es : List Element) → Spells t es → length text ≤ at + n → drop at text ≡ t → elements_at n text at ≡ Ok es

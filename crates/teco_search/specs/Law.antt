@@ -12,7 +12,7 @@ MatchesAreLong sought text = (p q : ℕ) → MatchesTo sought text p q → (p < 
 -- the match of least start at or after a place
 pub record IsNext (sought : Sought) (text : List ℕ) (from : ℕ) (m : Span) : Type 0 where
   pub matches : MatchesTo sought text m.0 m.1
-  pub behind : from ≤ m.0
+  pub after : from ≤ m.0
   pub least : (k q : ℕ) → from ≤ k → MatchesTo sought text k q → m.0 ≤ k
 
 -- the match of highest start among those that end at or before a place

@@ -7,7 +7,7 @@ use Rattle.teco_search.specs.declared.element.Item.TheVariants.{Byte}
 use Rattle.teco_search.specs.declared.element.OneByte.TheVariants.{Single}
 use Rattle.teco_search.specs.declared.element.Element.{Element}
 use Rattle.teco_search.specs.declared.element.Element.TheVariants.{Among}
-use Rattle.teco_search.specs.Element.{is_letter}
+use Rattle.teco_core.specs.Ascii.{is_letter}
 
 -- the element that is a byte itself
 abbrev pub plain : ℕ → Element

@@ -12,17 +12,17 @@ use Rattle.teco_search.specs.declared.element.OneByte.{OneByte}
 use Rattle.teco_search.specs.declared.element.OneByte.TheVariants as one
 use Rattle.teco_search.specs.declared.element.Element.{Element}
 use Rattle.teco_search.specs.declared.element.Element.TheVariants as element
-use Rattle.teco_search.specs.Element.{upper}
+use Rattle.teco_core.specs.Ascii.{upper}
 
 -- something read, and the place after it
 abbrev pub Reading : Type 0 → Type 0
 Reading A = Result (A × ℕ) Code
 
 -- whether this byte is there
-abbrev pub stands_at : List ℕ → ℕ → ℕ → Bool
-stands_at text at b = option_map_or (λ x. x == b) (slice_get text at) false
+abbrev pub occurs_at : List ℕ → ℕ → ℕ → Bool
+occurs_at text at b = option_map_or (λ x. x == b) (slice_get text at) false
 
--- Behind ^Q, ^N and ^E something has to come.
+-- After ^Q, ^N and ^E something has to come.
 unfoldable pub byte_at : List ℕ → ℕ → Result ℕ Code
 byte_at text at = option_map_or (λ b. Ok b) (slice_get text at) (Err Ice)
 
@@ -58,11 +58,11 @@ item_at text at = do
 
 -- No item of a list begins with a comma or ].
 unfoldable pub listed_at : List ℕ → ℕ → Reading Item
-listed_at text at = if stands_at text at 44 || stands_at text at 93 then Err Ice else item_at text at
+listed_at text at = if occurs_at text at 44 || occurs_at text at 93 then Err Ice else item_at text at
 
--- Behind an item of a list comes ] as its end, or a comma and the next item.
-abbrev pub behind_item : ℕ → Item → Reading (List Item) → ℕ → Reading (List Item)
-behind_item b i others at =
+-- After an item of a list comes ] as its end, or a comma and the next item.
+abbrev pub after_item : ℕ → Item → Reading (List Item) → ℕ → Reading (List Item)
+after_item b i others at =
     if b == 93 then Ok (i ∷ [], at) else (if b == 44 then (do
       is ← others
       Ok (i ∷ is.0, is.1)) else Err Ice)
@@ -73,12 +73,12 @@ items_at zero text at = Err Ice
 items_at (suc n) text at = do
   i ← listed_at text at
   b ← byte_at text i.1
-  behind_item b i.0 (items_at n text (i.1 + 1)) (i.1 + 1)
+  after_item b i.0 (items_at n text (i.1 + 1)) (i.1 + 1)
 
 -- ^E[ and a list, or one item
 unfoldable pub one_byte_at : List ℕ → ℕ → Reading OneByte
 one_byte_at text at =
-    if stands_at text at 5 && stands_at text (at + 1) 91 then (do
+    if occurs_at text at 5 && occurs_at text (at + 1) 91 then (do
       is ← items_at (length text) text (at + 2)
       Ok (one.Listed is.0, is.1))
     else (do
@@ -88,8 +88,8 @@ one_byte_at text at =
 -- ^ES, or ^N and what is not to be there, or what is to be there
 unfoldable pub element_at : List ℕ → ℕ → Reading Element
 element_at text at =
-    if stands_at text at 5 && (stands_at text (at + 1) 83 || stands_at text (at + 1) 115) then Ok (element.Blanks, at + 2)
-    else (if stands_at text at 14 then (do
+    if occurs_at text at 5 && (occurs_at text (at + 1) 83 || occurs_at text (at + 1) 115) then Ok (element.Blanks, at + 2)
+    else (if occurs_at text at 14 then (do
       c ← one_byte_at text (at + 1)
       Ok (element.Except c.0, c.1))
     else (do

@@ -1,23 +1,15 @@
--- What is remembered of a run of spaces and tabs, so that no run is looked at again for each start before it.
-use Rattle.std.specs.Prelude.{◌≡◌, ℕ, ◌+◌, ◌<◌, ◌≤◌, List, [], ◌∷◌}
+-- What a try of a match at one start tells of other starts.
+use Rattle.std.specs.Prelude.{◌≡◌, ℕ, ◌+◌, ◌<◌, ◌≤◌, List, Some}
 use Rattle.teco_core.specs.declared.case_mode.CaseMode.{CaseMode}
 use Rattle.teco_search.specs.declared.element.Element.{Element}
-use Rattle.teco_search.specs.declared.element.Element.TheVariants.{Among, Except, Blanks}
-use Rattle.teco_search.specs.declared.run.Run.{Run}
-use Rattle.teco_search.specs.Occurrence.{Sought, blanks_at, match_end}
+use Rattle.teco_search.specs.declared.run.Try.{Try}
+use Rattle.teco_search.specs.Occurrence.{blanks_at, match_end}
 
--- the elements after the first run
-unfoldable pub behind_run : List Element → List Element
-behind_run [] = []
-behind_run (Blanks ∷ es) = es
-behind_run (Among c ∷ es) = behind_run es
-behind_run (Except c ∷ es) = behind_run es
-
--- Spaces and tabs reach from a place to an end, none is at the end, and these elements match from there to this outcome.
-pub record Remembers (mode : CaseMode) (es : List Element) (text : List ℕ) (run : Run) : Type 0 where
-  pub blanks : (k : ℕ) → run.from ≤ k → k < run.end → k + blanks_at text k ≡ run.end
-  pub outcome : run.from < run.end → run.outcome ≡ match_end mode es text run.end
-
--- what a search remembers
-abbrev pub Knows : Sought → List ℕ → Run → Type 0
-Knows sought text run = Remembers sought.mode (behind_run sought.elements) text run
+-- The end of the match; the spaces and tabs of the first run, if it was come to; and where another start comes to a place p of that run, it
+-- has no other end.
+pub record IsTry (mode : CaseMode) (es : List Element) (text : List ℕ) (start : ℕ) (tried : Try) : Type 0 where
+  pub end : tried.end ≡ match_end mode es text start
+  pub from : start ≤ tried.run
+  pub blanks : 0 < tried.blanks → tried.blanks ≡ blanks_at text tried.run
+  pub shared : (k p q : ℕ) → 0 < tried.blanks → k + tried.run ≡ start + p → p < tried.run + tried.blanks → p + blanks_at text p ≡ tried.run + tried.blanks
+      → match_end mode es text k ≡ Some q → tried.end ≡ Some q

@@ -8,7 +8,7 @@ use Rattle.teco_search.specs.declared.element.OneByte.{OneByte}
 use Rattle.teco_search.specs.declared.element.OneByte.TheVariants as one
 use Rattle.teco_search.specs.declared.element.Element.{Element}
 use Rattle.teco_search.specs.declared.element.Element.TheVariants as element
-use Rattle.teco_search.specs.Element.{upper}
+use Rattle.teco_core.specs.Ascii.{upper}
 
 -- the controls that mean something in a search text: ^Q, ^E, ^X, ^S, ^N, ^R, ^V and ^W
 abbrev pub is_control : ℕ → Bool

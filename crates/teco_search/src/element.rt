@@ -2,13 +2,13 @@
 ghost use Rattle.std.specs.Prelude.{◌≡◌, ◌↔◌, IsTrue, Some};
 ghost use Rattle.std.specs.List.{list_any};
 ghost use Rattle.teco_search.specs.Anchor.{begins};
-ghost use Rattle.teco_search.specs.Element.{is_lower, is_upper, is_letter, is_digit, is_blank, is_line_end, upper, is_in, item_admits, admits};
+ghost use Rattle.teco_search.specs.Element.{is_blank, is_in, item_admits, admits};
 ghost use Rattle.teco_search.specs.Literal.{is_exact};
 ghost use Rattle.teco_search.specs.Shown.{shown_byte, shown_class, shown_element, shown_item, shown_items, shown_one};
 
 use std::fmt;
 use std::marker::Model;
-use teco_core::CaseMode;
+use teco_core::{CaseMode, is_line_end};
 
 /// A kind of bytes. Letters and digits are those of ASCII.
 #[derive(Clone, Copy, Debug, PartialEq, Eq)]
@@ -66,41 +66,6 @@ pub enum Element {
     Blanks,
 }
 
-#[inline]
-fn is_lower(byte: u8) -> bool
-    ensures { result ≡ is_lower byte }
-{
-    b'a' <= byte && byte <= b'z'
-}
-
-#[inline]
-fn is_upper(byte: u8) -> bool
-    ensures { result ≡ is_upper byte }
-{
-    b'A' <= byte && byte <= b'Z'
-}
-
-#[inline]
-fn is_letter(byte: u8) -> bool
-    ensures { result ≡ is_letter byte }
-{
-    is_lower(byte) || is_upper(byte)
-}
-
-#[inline]
-fn is_digit(byte: u8) -> bool
-    ensures { result ≡ is_digit byte }
-{
-    b'0' <= byte && byte <= b'9'
-}
-
-#[inline]
-fn is_line_end(byte: u8) -> bool
-    ensures { result ≡ is_line_end byte }
-{
-    byte == b'\n' || byte == 11 || byte == 12
-}
-
 /// Whether a byte is a space or a tab.
 #[inline]
 pub(crate) fn is_blank(byte: u8) -> bool
@@ -109,21 +74,13 @@ pub(crate) fn is_blank(byte: u8) -> bool
     byte == b' ' || byte == b'\t'
 }
 
-/// The byte, a small letter as its capital.
-#[inline]
-pub(crate) fn upper(byte: u8) -> u8
-    ensures { result ≡ upper byte }
-{
-    if is_lower(byte) { byte - 32 } else { byte }
-}
-
 /// Whether a byte as an item admits itself alone.
 pub(crate) fn is_exact(mode: CaseMode, byte: u8) -> bool
     ensures { result ≡ is_exact mode byte }
 {
     match mode {
         CaseMode::Exact => true,
-        CaseMode::Either => !is_letter(byte),
+        CaseMode::Either => !byte.is_ascii_alphabetic(),
     }
 }
 
@@ -136,13 +93,13 @@ impl Class {
     {
         match self {
             Class::Any => true,
-            Class::Other => !is_letter(byte) && !is_digit(byte),
-            Class::Letter => is_letter(byte),
-            Class::Digit => is_digit(byte),
+            Class::Other => !byte.is_ascii_alphabetic() && !byte.is_ascii_digit(),
+            Class::Letter => byte.is_ascii_alphabetic(),
+            Class::Digit => byte.is_ascii_digit(),
             Class::LineEnd => is_line_end(byte),
-            Class::LetterOrDigit => is_letter(byte) || is_digit(byte),
-            Class::LowerCase => is_lower(byte),
-            Class::UpperCase => is_upper(byte),
+            Class::LetterOrDigit => byte.is_ascii_alphabetic() || byte.is_ascii_digit(),
+            Class::LowerCase => byte.is_ascii_lowercase(),
+            Class::UpperCase => byte.is_ascii_uppercase(),
         }
     }
 }
@@ -158,7 +115,7 @@ impl Item {
             Item::Class(class) => class.contains(byte),
             Item::Byte(own) => match mode {
                 CaseMode::Exact => own == byte,
-                CaseMode::Either => upper(own) == upper(byte),
+                CaseMode::Either => own.to_ascii_uppercase() == byte.to_ascii_uppercase(),
             },
         }
     }

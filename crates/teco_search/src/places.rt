@@ -2,12 +2,11 @@
 ghost use Rattle.std.specs.Prelude.{◌≡◌, ◌+◌, ◌<◌, ◌≤◌, length, IfSome};
 ghost use Rattle.teco_search.specs.Anchor.{IsAnchored, FindsLastBelow};
 ghost use Rattle.teco_search.specs.Occurrence.{looked_for, BeginsForward, BeginsBackward, before, backward};
-ghost use Rattle.teco_search.specs.Run.{Remembers, behind_run};
 
 use crate::anchor::Anchor;
 use crate::element::Element;
 use crate::joined::Joined;
-use crate::run::{Run, match_end_by};
+use crate::run::{match_back, match_from};
 use teco_core::CaseMode;
 
 /// The match of least start at or after a place.
@@ -15,16 +14,13 @@ pub(crate) fn first_from(
     mode: CaseMode,
     elements: &[Element],
     anchor: &Anchor,
-    run: &mut Run,
     text: &Joined,
     from: usize,
 ) -> Option<(usize, usize)>
     requires anchored { IsAnchored mode elements.now anchor.now }
     requires within { from ≤ length text.now }
-    requires knows { Remembers mode (behind_run elements.now) text.now run.old }
     ensures value { BeginsForward (looked_for mode elements.now) text.now from result }
     ensures within { IfSome result (λ m. (from ≤ m.0) × (m.0 < m.1) × (m.1 ≤ length text.now)) }
-    ensures knows { Remembers mode (behind_run elements.now) text.now run.new }
 {
     if anchor.offset >= text.len() - from {
         return None;
@@ -32,10 +28,10 @@ pub(crate) fn first_from(
     let mut at = from + anchor.offset;
     'places: while let Some(place) = text.first_of(&anchor.bytes, at) {
         let start = place - anchor.offset;
-        if let Some(end) = match_end_by(mode, elements, run, text, start) {
-            return Some((start, end));
+        match match_from(mode, elements, text, start) {
+            Ok(end) => return Some((start, end)),
+            Err(others) => at = (place + 1).saturating_add(others).min(text.len()),
         }
-        at = place + 1;
     }
     None
 }
@@ -45,15 +41,12 @@ fn last_below(
     mode: CaseMode,
     elements: &[Element],
     anchor: &Anchor,
-    run: &mut Run,
     text: &Joined,
     below: usize,
     to: usize,
 ) -> Option<(usize, usize)>
     requires anchored { IsAnchored mode elements.now anchor.now }
-    requires knows { Remembers mode (behind_run elements.now) text.now run.old }
-    ensures value { FindsLastBelow (looked_for mode elements.now) text.now anchor.now.offset below to result }
-    ensures knows { Remembers mode (behind_run elements.now) text.now run.new }
+    ensures { FindsLastBelow (looked_for mode elements.now) text.now anchor.now.offset below to result }
 {
     let mut at = below.min(text.len());
     'places: while let Some(place) = text.last_of(&anchor.bytes, at) {
@@ -61,12 +54,10 @@ fn last_below(
             return None;
         }
         let start = place - anchor.offset;
-        if let Some(end) = match_end_by(mode, elements, run, text, start) {
-            if end <= to {
-                return Some((start, end));
-            }
+        match match_back(mode, elements, text, start, to) {
+            Ok(end) => return Some((start, end)),
+            Err(others) => at = place.saturating_sub(others),
         }
-        at = place;
     }
     None
 }
@@ -76,16 +67,13 @@ pub(crate) fn last_by_start(
     mode: CaseMode,
     elements: &[Element],
     anchor: &Anchor,
-    run: &mut Run,
     text: &Joined,
     from: usize,
 ) -> Option<(usize, usize)>
     requires anchored { IsAnchored mode elements.now anchor.now }
     requires within { from ≤ length text.now }
-    requires knows { Remembers mode (behind_run elements.now) text.now run.old }
     ensures value { let sought = looked_for mode elements.now in BeginsBackward sought text.now (backward sought text.now from) result }
     ensures within { IfSome result (λ m. (m.0 < m.1) × (m.1 ≤ length text.now)) }
-    ensures knows { Remembers mode (behind_run elements.now) text.now run.new }
 {
     let len = text.len();
     let below = if anchor.offset < len - from {
@@ -93,7 +81,7 @@ pub(crate) fn last_by_start(
     } else {
         len
     };
-    last_below(mode, elements, anchor, run, text, below, len)
+    last_below(mode, elements, anchor, text, below, len)
 }
 
 /// The match of highest start among those that end at or before a place.
@@ -101,16 +89,13 @@ pub(crate) fn last_by_end(
     mode: CaseMode,
     elements: &[Element],
     anchor: &Anchor,
-    run: &mut Run,
     text: &Joined,
     to: usize,
 ) -> Option<(usize, usize)>
     requires anchored { IsAnchored mode elements.now anchor.now }
     requires within { to ≤ length text.now }
-    requires knows { Remembers mode (behind_run elements.now) text.now run.old }
     ensures value { let sought = looked_for mode elements.now in BeginsBackward sought text.now (before sought text.now to) result }
     ensures within { IfSome result (λ m. (m.0 < m.1) × (m.1 ≤ to)) }
-    ensures knows { Remembers mode (behind_run elements.now) text.now run.new }
 {
-    last_below(mode, elements, anchor, run, text, to, to)
+    last_below(mode, elements, anchor, text, to, to)
 }

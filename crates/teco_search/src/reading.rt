@@ -2,9 +2,9 @@
 ghost use Rattle.std.specs.Prelude.{◌≡◌, ◌⊎◌, ◌<◌, ◌≤◌, ◌++◌, ◌∷◌, [], length, map, true, IfOk, IfErr, IfSome, OnOk};
 ghost use Rattle.std.specs.List.{list_all};
 ghost use Rattle.teco_search.specs.Literal.{plain, is_exact};
-ghost use Rattle.teco_search.specs.Reading.{Reads, stands_at, byte_at, class_named, item_at, listed_at, items_at, one_byte_at, element_at, read};
+ghost use Rattle.teco_search.specs.Reading.{Reads, occurs_at, byte_at, class_named, item_at, listed_at, items_at, one_byte_at, element_at, read};
 
-use crate::element::{Class, Element, Item, Items, OneByte, is_exact, upper};
+use crate::element::{Class, Element, Item, Items, OneByte, is_exact};
 use std::alloc::Global;
 use teco_core::{CaseMode, Code};
 
@@ -24,8 +24,8 @@ const CONTROL_W: u8 = 23;
 
 const CONTROL_X: u8 = 24;
 
-fn stands_at(text: &[u8], at: usize, byte: u8) -> bool
-    ensures { result ≡ stands_at text.now at byte }
+fn occurs_at(text: &[u8], at: usize, byte: u8) -> bool
+    ensures { result ≡ occurs_at text.now at byte }
 {
     text.get(at) == Some(&byte)
 }
@@ -69,7 +69,10 @@ fn item_at(text: &[u8], at: usize) -> Result<(Item, usize), Code>
         CONTROL_Q => Ok((Item::Byte(byte_at(text, at)?), at + 1)),
         CONTROL_E => {
             let letter = byte_at(text, at)?;
-            Ok((Item::Class(class_named(upper(letter))?), at + 1))
+            Ok((
+                Item::Class(class_named(letter.to_ascii_uppercase())?),
+                at + 1,
+            ))
         }
         CONTROL_X => Ok((Item::Class(Class::Any), at)),
         CONTROL_S => Ok((Item::Class(Class::Other), at)),
@@ -85,7 +88,7 @@ fn listed_at(text: &[u8], at: usize) -> Result<(Item, usize), Code>
     ensures only { IfErr result (λ e. e ≡ Code.Ice) }
     ensures within { IfOk result (λ i. (at < i.1) × (i.1 ≤ length text.now)) }
 {
-    if stands_at(text, at, b',') || stands_at(text, at, b']') {
+    if occurs_at(text, at, b',') || occurs_at(text, at, b']') {
         Err(Code::Ice)
     } else {
         item_at(text, at)
@@ -111,16 +114,16 @@ fn items_at(alloc: Global, text: &[u8], at: usize) -> Result<(Items, usize), Cod
     let mut items = Vec::new(alloc);
     let mut at = at;
     'items: loop {
-        let (item, behind) = listed_at(text, at)?;
+        let (item, after) = listed_at(text, at)?;
         keep(&mut items, item)?;
-        let byte = byte_at(text, behind)?;
+        let byte = byte_at(text, after)?;
         if byte == b']' {
-            return Ok((Items::new(items), behind + 1));
+            return Ok((Items::new(items), after + 1));
         }
         if byte != b',' {
             return Err(Code::Ice);
         }
-        at = behind + 1;
+        at = after + 1;
     }
 }
 
@@ -131,7 +134,7 @@ fn one_byte_at(alloc: Global, text: &[u8], at: usize) -> Result<(OneByte, usize)
     ensures read { Reads result (one_byte_at text.now at) }
     ensures within { IfOk result (λ i. (at < i.1) × (i.1 ≤ length text.now)) }
 {
-    if stands_at(text, at, CONTROL_E) && stands_at(text, at + 1, b'[') {
+    if occurs_at(text, at, CONTROL_E) && occurs_at(text, at + 1, b'[') {
         let (items, at) = items_at(alloc, text, at + 2)?;
         Ok((OneByte::Listed(items), at))
     } else {
@@ -146,12 +149,12 @@ fn element_at(alloc: Global, text: &[u8], at: usize) -> Result<(Element, usize),
     ensures read { Reads result (element_at text.now at) }
     ensures within { IfOk result (λ i. (at < i.1) × (i.1 ≤ length text.now)) }
 {
-    if stands_at(text, at, CONTROL_E)
-        && (stands_at(text, at + 1, b'S') || stands_at(text, at + 1, b's'))
+    if occurs_at(text, at, CONTROL_E)
+        && (occurs_at(text, at + 1, b'S') || occurs_at(text, at + 1, b's'))
     {
         return Ok((Element::Blanks, at + 2));
     }
-    if stands_at(text, at, CONTROL_N) {
+    if occurs_at(text, at, CONTROL_N) {
         let (one, at) = one_byte_at(alloc, text, at + 1)?;
         Ok((Element::Except(one), at))
     } else {
@@ -169,9 +172,9 @@ pub(crate) fn read(alloc: Global, text: &[u8]) -> Result<Vec<Element>, Code>
     let mut elements = Vec::new(alloc);
     let mut at = 0;
     'elements: while at < text.len() {
-        let (element, behind) = element_at(alloc, text, at)?;
+        let (element, after) = element_at(alloc, text, at)?;
         keep(&mut elements, element)?;
-        at = behind;
+        at = after;
     }
     Ok(elements)
 }
@@ -186,14 +189,14 @@ pub(crate) fn literal(alloc: Global, text: &[u8], mode: CaseMode) -> Result<Opti
     let mut bytes = Vec::new(alloc);
     let mut at = 0;
     'bytes: while at < text.len() {
-        let Ok((Item::Byte(byte), behind)) = item_at(text, at) else {
+        let Ok((Item::Byte(byte), after)) = item_at(text, at) else {
             return Ok(None);
         };
         if !is_exact(mode, byte) {
             return Ok(None);
         }
         keep(&mut bytes, byte)?;
-        at = behind;
+        at = after;
     }
     Ok(Some(bytes))
 }

@@ -1,132 +1,112 @@
-//! Matching at one place after another, with a memory of the last run of spaces and tabs.
-ghost use Rattle.std.specs.Prelude.{◌≡◌, ◌⊎◌, ◌↔◌, ◌+◌, ◌<◌, ◌≤◌, ◌∷◌, ℕ, IsTrue};
+//! Trying a match at one start, and what that tells of the starts beside it.
+ghost use Rattle.std.specs.Prelude.{◌≡◌, ◌+◌, ◌-◌, ◌<◌, ◌≤◌, ℕ, None, Some, IfOk, IfErr};
 ghost use Rattle.teco_search.specs.Occurrence.{blanks_at, match_end};
-ghost use Rattle.teco_search.specs.Run.{Remembers, behind_run};
+ghost use Rattle.teco_search.specs.Run.{IsTry};
 
 use crate::element::{Element, is_blank};
 use crate::joined::Joined;
 use crate::matching::{element_end, match_end};
 use teco_core::CaseMode;
 
-/// The last run of spaces and tabs that the first run of a pattern was matched with, and the end of the match of the elements after it.
+/// The end of a pattern's match at a start, if it has one, and what its first run of spaces and tabs matched there.
 ///
-/// Starts that reach the same run end up at the same end. So each run is looked at once, and the elements after it are matched once.
-#[derive(Drop)]
-pub(crate) struct Run {
-    from: usize,
-    end: usize,
-    outcome: Option<usize>,
+/// All starts that come to the same run end up at the same end.
+#[derive(Clone, Copy)]
+struct Try {
+    end: Option<usize>,
+    /// Where the first run was come to.
+    run: usize,
+    /// How many spaces and tabs there are from there on; 0 where no run was come to.
+    blanks: usize,
 }
 
-impl Run {
-    /// No run yet.
-    pub(crate) fn none() -> Self
-        ensures { result.end ≡ 0 }
-    {
-        Run {
-            from: 0,
-            end: 0,
-            outcome: None,
-        }
-    }
-
-    /// Whether a place lies in the run.
-    fn holds(&self, at: usize) -> bool
-        ensures { IsTrue result ↔ ((self.now.from ≤ at) × (at < self.now.end)) }
-    {
-        self.from <= at && at < self.end
-    }
-
-    /// Where a look at the run from a place may stop: where this run begins after it, or at the end of the text.
-    fn stop(&self, at: usize, len: usize) -> usize
-        ensures { (result ≡ len) ⊎ ((result ≡ self.now.from) × (at < self.now.from) × (self.now.from < self.now.end)) }
-    {
-        if at < self.from && self.from < self.end {
-            self.from
-        } else {
-            len
-        }
-    }
-
-    /// Whether spaces and tabs from a place to an end go on as this run.
-    fn goes_on(&self, at: usize, end: usize) -> bool
-        ensures { IsTrue result ↔ ((end ≡ self.now.from) × (at < self.now.from) × (self.now.from < self.now.end)) }
-    {
-        end == self.from && at < self.from && self.from < self.end
-    }
-}
-
-/// The end of the spaces and tabs from a place on, or a stop before that.
-fn blanks_until(text: &Joined, at: usize, stop: usize) -> usize
-    ensures past { at ≤ result }
-    ensures short { at ≤ stop → result ≤ stop }
-    ensures run { (k : ℕ) → at ≤ k → k ≤ result → k + blanks_at text.now k ≡ at + blanks_at text.now at }
-    ensures stops { result < stop → blanks_at text.now result ≡ 0 }
+/// The beginning of the spaces and tabs before a place.
+fn blanks_start(text: &Joined, at: usize) -> usize
+    ensures before { result ≤ at }
+    ensures first { 0 < result → blanks_at text.now (result - 1) ≡ 0 }
+    ensures run { (k : ℕ) → result ≤ k → k ≤ at → k + blanks_at text.now k ≡ at + blanks_at text.now at }
 {
-    let mut end = at;
-    'blanks: while end < stop {
-        let Some(byte) = text.get(end) else {
-            return end;
+    let mut start = at;
+    'blanks: while start > 0 {
+        let Some(byte) = text.get(start - 1) else {
+            return start;
         };
         if !is_blank(byte) {
-            return end;
+            return start;
         }
-        end += 1;
+        start -= 1;
     }
-    end
+    start
 }
 
-/// The end of the match of a run, and then of other elements, at a place.
-fn run_end(
-    mode: CaseMode,
-    rest: &[Element],
-    run: &mut Run,
-    text: &Joined,
-    at: usize,
-) -> Option<usize>
-    requires { Remembers mode rest.now text.now run.old }
-    ensures value { result ≡ match_end mode (Element.Blanks ∷ rest.now) text.now at }
-    ensures remembers { Remembers mode rest.now text.now run.new }
-{
-    if run.holds(at) {
-        return run.outcome;
-    }
-    let end = blanks_until(text, at, run.stop(at, text.len()));
-    if end == at {
-        return None;
-    }
-    if run.goes_on(at, end) {
-        run.from = at;
-        return run.outcome;
-    }
-    let outcome = match_end(mode, rest, text, end);
-    *run = Run {
-        from: at,
-        end,
-        outcome,
-    };
-    outcome
-}
-
-/// The end of the elements' match at a place, with what is remembered of the last run.
+/// Tries the elements at a start.
 #[inline]
-pub(crate) fn match_end_by(
+fn tried(mode: CaseMode, elements: &[Element], text: &Joined, start: usize) -> Try
+    ensures { IsTry mode elements.now text.now start result }
+{
+    let mut place = start;
+    'elements: for (i, element) in elements.iter().enumerate() {
+        let Some(end) = element_end(mode, element, text, place) else {
+            return Try {
+                end: None,
+                run: place,
+                blanks: 0,
+            };
+        };
+        if element.is_run() {
+            return Try {
+                end: match_end(mode, &elements[i + 1..], text, end),
+                run: place,
+                blanks: end - place,
+            };
+        }
+        place = end;
+    }
+    Try {
+        end: Some(place),
+        run: place,
+        blanks: 0,
+    }
+}
+
+/// The end of the match at a start; or, where there is none, how many starts after it have none either.
+#[inline]
+pub(crate) fn match_from(
     mode: CaseMode,
     elements: &[Element],
-    run: &mut Run,
     text: &Joined,
-    at: usize,
-) -> Option<usize>
-    requires { Remembers mode (behind_run elements.now) text.now run.old }
-    ensures value { result ≡ match_end mode elements.now text.now at }
-    ensures remembers { Remembers mode (behind_run elements.now) text.now run.new }
+    start: usize,
+) -> Result<usize, usize>
+    ensures some { IfOk result (λ end. match_end mode elements.now text.now start ≡ Some end) }
+    ensures none { IfErr result (λ n. (k : ℕ) → start ≤ k → k ≤ start + n → match_end mode elements.now text.now k ≡ None) }
 {
-    let mut place = at;
-    'elements: for (i, element) in elements.iter().enumerate() {
-        if element.is_run() {
-            return run_end(mode, &elements[i + 1..], run, text, place);
-        }
-        place = element_end(mode, element, text, place)?;
+    let tried = tried(mode, elements, text, start);
+    match tried.end {
+        Some(end) => Ok(end),
+        None => Err(tried.blanks.saturating_sub(1)),
     }
-    Some(place)
+}
+
+/// The end of the match at a start, if it is at or before a place; or, where there is none, how many starts before it have none either.
+#[inline]
+pub(crate) fn match_back(
+    mode: CaseMode,
+    elements: &[Element],
+    text: &Joined,
+    start: usize,
+    to: usize,
+) -> Result<usize, usize>
+    ensures some { IfOk result (λ end. (match_end mode elements.now text.now start ≡ Some end) × (end ≤ to)) }
+    ensures none { IfErr result (λ n. (k q : ℕ) → k ≤ start → start ≤ k + n → match_end mode elements.now text.now k ≡ Some q → to < q) }
+{
+    let tried = tried(mode, elements, text, start);
+    if let Some(end) = tried.end {
+        if end <= to {
+            return Ok(end);
+        }
+    }
+    if tried.blanks == 0 {
+        return Err(0);
+    }
+    Err(tried.run - blanks_start(text, tried.run))
 }

@@ -1,13 +1,11 @@
 //! The occurrences of a pattern, one after the other.
 ghost use Rattle.std.specs.Prelude.{◌≡◌, ◌-◌, ◌<◌, ◌≤◌, length, IfSome, slice_get};
 ghost use Rattle.teco_search.specs.Occurrence.{BeginsForward, BeginsBackward, forward, before, backward};
-ghost use Rattle.teco_search.specs.Run.{Knows};
 ghost use Rattle.teco_search.specs.Search.{sought_forward, sought_backward, IsReadyForward, IsReadyBackward};
 
 use crate::anchor::Anchor;
 use crate::element::Element;
 use crate::joined::Joined;
-use crate::run::Run;
 use crate::{literal, places};
 use memchr::memmem::{Finder, FinderRev};
 use teco_core::CaseMode;
@@ -27,13 +25,11 @@ pub(crate) enum Backward<'p> {
 }
 
 /// The occurrence of least start at or after a place.
-fn first_from(search: &Forward, run: &mut Run, text: &Joined, from: usize) -> Option<(usize, usize)>
+fn first_from(search: &Forward, text: &Joined, from: usize) -> Option<(usize, usize)>
     requires ready { IsReadyForward search.now }
     requires within { from ≤ length text.now }
-    requires knows { Knows (sought_forward search.now) text.now run.old }
     ensures value { BeginsForward (sought_forward search.now) text.now from result }
     ensures within { IfSome result (λ m. (from ≤ m.0) × (m.0 < m.1) × (m.1 ≤ length text.now)) }
-    ensures knows { Knows (sought_forward search.now) text.now run.new }
 {
     match search {
         Forward::Literal(_, finder) => {
@@ -41,7 +37,7 @@ fn first_from(search: &Forward, run: &mut Run, text: &Joined, from: usize) -> Op
             Some((start, start + finder.needle().len()))
         }
         Forward::Elements(mode, elements, anchor) => places::first_from(
-            *mode, elements, anchor, run, text, from,
+            *mode, elements, anchor, text, from,
         ),
     }
 }
@@ -58,13 +54,12 @@ pub(crate) fn nth_forward(
     requires some { 0 < n }
     ensures { result ≡ slice_get (forward (sought_forward search.now) text.now from) (n - 1) }
 {
-    let mut run = Run::none();
     let mut at = from;
     'skipped: for _passed in 1..n {
-        let (_, end) = first_from(search, &mut run, text, at)?;
+        let (_, end) = first_from(search, text, at)?;
         at = end;
     }
-    first_from(search, &mut run, text, at)
+    first_from(search, text, at)
 }
 
 /// How many occurrences there are forward.
@@ -76,10 +71,9 @@ pub(crate) fn count_forward(search: &Forward, text: &Joined, from: usize) -> usi
     if from >= text.len() {
         return 0;
     }
-    let mut run = Run::none();
     let mut at = from;
     let mut count = 0usize;
-    'counted: while let Some((_, end)) = first_from(search, &mut run, text, at) {
+    'counted: while let Some((_, end)) = first_from(search, text, at) {
         count += 1;
         at = end;
     }
@@ -87,18 +81,11 @@ pub(crate) fn count_forward(search: &Forward, text: &Joined, from: usize) -> usi
 }
 
 /// The occurrence of highest start at or before a place.
-fn last_by_start(
-    search: &Backward,
-    run: &mut Run,
-    text: &Joined,
-    from: usize,
-) -> Option<(usize, usize)>
+fn last_by_start(search: &Backward, text: &Joined, from: usize) -> Option<(usize, usize)>
     requires ready { IsReadyBackward search.now }
     requires within { from ≤ length text.now }
-    requires knows { Knows (sought_backward search.now) text.now run.old }
     ensures value { let sought = sought_backward search.now in BeginsBackward sought text.now (backward sought text.now from) result }
     ensures within { IfSome result (λ m. (m.0 < m.1) × (m.1 ≤ length text.now)) }
-    ensures knows { Knows (sought_backward search.now) text.now run.new }
 {
     match search {
         Backward::Literal(_, finder) => {
@@ -109,19 +96,17 @@ fn last_by_start(
             Some((start, start + len))
         }
         Backward::Elements(mode, elements, anchor) => places::last_by_start(
-            *mode, elements, anchor, run, text, from,
+            *mode, elements, anchor, text, from,
         ),
     }
 }
 
 /// The occurrence of highest start among those that end at or before a place.
-fn last_by_end(search: &Backward, run: &mut Run, text: &Joined, to: usize) -> Option<(usize, usize)>
+fn last_by_end(search: &Backward, text: &Joined, to: usize) -> Option<(usize, usize)>
     requires ready { IsReadyBackward search.now }
     requires within { to ≤ length text.now }
-    requires knows { Knows (sought_backward search.now) text.now run.old }
     ensures value { let sought = sought_backward search.now in BeginsBackward sought text.now (before sought text.now to) result }
     ensures within { IfSome result (λ m. (m.0 < m.1) × (m.1 ≤ to)) }
-    ensures knows { Knows (sought_backward search.now) text.now run.new }
 {
     match search {
         Backward::Literal(_, finder) => {
@@ -129,7 +114,7 @@ fn last_by_end(search: &Backward, run: &mut Run, text: &Joined, to: usize) -> Op
             Some((start, start + finder.needle().len()))
         }
         Backward::Elements(mode, elements, anchor) => places::last_by_end(
-            *mode, elements, anchor, run, text, to,
+            *mode, elements, anchor, text, to,
         ),
     }
 }
@@ -146,10 +131,9 @@ pub(crate) fn nth_backward(
     requires some { 0 < n }
     ensures { result ≡ slice_get (backward (sought_backward search.now) text.now from) (n - 1) }
 {
-    let mut run = Run::none();
-    let mut last = last_by_start(search, &mut run, text, from)?;
+    let mut last = last_by_start(search, text, from)?;
     'skipped: for _passed in 1..n {
-        last = last_by_end(search, &mut run, text, last.0)?;
+        last = last_by_end(search, text, last.0)?;
     }
     Some(last)
 }

@@ -3,7 +3,8 @@ use Rattle.std.proofs.Common.{◌≡◌, ◌∙◌, ap, sym, refl, ℕ, zero, su
 use Rattle.std.proofs.lemmas.List.{append-nil, length-take-le, reverse-append, take-append-drop, take_more}
 use Rattle.std.proofs.Math.ListN.{drop_of_length-le}
 use Rattle.std.proofs.lemmas.List.Elements.{filter-append}
-use Rattle.teco_step.specs.Line.{is_line_end, line_ends_from, line_ends, one_past, line}
+use Rattle.teco_core.specs.Ascii.{is_line_end}
+use Rattle.teco_step.specs.Line.{line_ends_from, line_ends, one_past, line}
 
 pub line_ends_from-append : (p : ℕ) (xs ys : List ℕ) → line_ends_from p (xs ++ ys) ≡ line_ends_from p xs ++ line_ends_from (p + length xs) ys
 unfolding line_ends_from

@@ -1,8 +1,6 @@
 -- Lines: a line ends at a line feed, a vertical tab or a form feed.
-use Rattle.std.specs.Prelude.{if◌then◌else◌, ℕ, suc, ◌+◌, Bool, ◌||◌, List, [], ◌∷◌, length, reverse, filter, slice_get, Option, Some, None, ℤ, pos, nat_abs, nat_le, nat_lt, ◌==◌}
-
-abbrev pub is_line_end : ℕ → Bool
-is_line_end b = b == 10 || b == 11 || b == 12
+use Rattle.std.specs.Prelude.{if◌then◌else◌, ℕ, suc, ◌+◌, List, [], ◌∷◌, length, reverse, filter, slice_get, Option, Some, None, ℤ, pos, nat_abs, nat_le, nat_lt}
+use Rattle.teco_core.specs.Ascii.{is_line_end}
 
 -- the places of the line ends of bytes that begin at a place, rising
 unfoldable pub line_ends_from : ℕ → List ℕ → List ℕ

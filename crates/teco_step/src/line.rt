@@ -2,6 +2,8 @@
 ghost use Rattle.std.specs.Prelude.{◌≡◌, ◌<◌, ◌≤◌, ◌++◌, length, drop, take, reverse, slice_get, slice_index};
 ghost use Rattle.teco_step.specs.Line.{one_past, line, line_ends_from};
 
+use teco_core::is_line_end;
+
 /// The byte at a place of a text in two halves.
 fn byte_at(before: &[u8], after: &[u8], place: usize) -> u8
     requires { place < length (before.now ++ after.now) }
@@ -11,13 +13,6 @@ fn byte_at(before: &[u8], after: &[u8], place: usize) -> u8
         return before[place];
     }
     after[place - before.len()]
-}
-
-/// Whether the byte ends a line: LF, VT and FF do.
-fn is_line_end(byte: u8) -> bool
-    ensures { result ≡ Rattle.teco_step.specs.Line.is_line_end byte }
-{
-    byte == b'\n' || byte == 0x0B || byte == 0x0C
 }
 
 /// One past the first line end from a place on, after passing over `skip` of them; the length where there are fewer.

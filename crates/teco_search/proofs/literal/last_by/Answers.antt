@@ -20,13 +20,13 @@ beyond_front :
     → (r : Option ℕ) → FindsLastNeedle before bytes r → FindsLastNeedleBy (before ++ after) bytes to r
 beyond_front before after bytes to some beyond late None h = λ k low high occurs. ⊎_elim
     (λ early. front_by_nowhere bytes before after (length before) (omega arith) (subst (λ xs. FindsLastNeedle xs bytes None) (sym (take_all (length before) before (omega arith))) h) k (omega arith) occurs)
-    (λ behind. late k (omega arith) (omega arith) occurs) (cases_lt (k + length bytes) (length before + 1))
+    (λ passed. late k (omega arith) (omega arith) occurs) (cases_lt (k + length bytes) (length before + 1))
 beyond_front before after bytes to some beyond late (Some s) h =
     let hit = front_by_hit bytes before after (length before) s (omega arith) (subst (λ xs. FindsLastNeedle xs bytes (Some s)) (sym (take_all (length before) before (omega arith))) h) in (
       record {
         low = omega arith;
         high = omega (arith, hit.1);
-        after = λ k above high occurs. ⊎_elim (λ early. hit.2 k (omega arith) (omega arith) occurs) (λ behind. late k (omega arith) (omega arith) occurs) (cases_lt (k + length bytes) (length before + 1));
+        after = λ k above high occurs. ⊎_elim (λ early. hit.2 k (omega arith) (omega arith) occurs) (λ passed. late k (omega arith) (omega arith) occurs) (cases_lt (k + length bytes) (length before + 1));
       },
       hit.0,
     )

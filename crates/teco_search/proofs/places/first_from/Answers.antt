@@ -1,4 +1,4 @@
-use Rattle.std.proofs.Common.{◌<◌, ◌≤◌, ◌-◌, length, sym, ◌∙◌, arith}
+use Rattle.std.proofs.Common.{◌<◌, ◌≤◌, ◌-◌, length, arith}
 use Rattle.teco_search.specs.Occurrence.{looked_for}
 use Rattle.teco_search.proofs.Anchored.{none_before, none_after, none_more, none_fits}
 use Rattle.teco_search.proofs.Occurring.{ends_past, forward-none, forward-some}
@@ -14,24 +14,23 @@ pub places-preserved : goal.places-preserved
 places-preserved c =
     let place = c.in-Some.ensures.0 in
     record {
-      low = omega (arith, place.low, c.places.invariant.low);
-      high = omega (arith, place.high);
-      none = none_more c.args.mode c.args.elements.now c.args.anchor.now c.requires.anchored c.args.text.now c.len.ensures.bytes c.args.from c.places.at c.places.invariant.none c.in-Some.place place
-          (sym c.match_end_by.ensures.value ∙ c.in_default-match_end_by.is);
-      knows = c.match_end_by.ensures.remembers;
+      low = omega (arith, place.low, place.high, c.places.invariant.low, c.saturating_add.ensures, c.min-at.ensures);
+      high = omega (arith, c.min-at.ensures);
+      none = λ k from_k below. none_more c.args.mode c.args.elements.now c.args.anchor.now c.requires.anchored c.args.text.now c.len.ensures.bytes c.args.from c.places.at c.places.invariant.none c.in-Some.place c.in-Err.others place
+          c.in-Err.ensures.none k from_k (omega (arith, below, c.saturating_add.ensures, c.min-at.ensures));
     }
 
-pub returns-in-Some-match_end_by-clause-value : goal.returns-in-Some-match_end_by-clause-value
-returns-in-Some-match_end_by-clause-value c =
+pub returns-in-Ok-clause-value : goal.returns-in-Ok-clause-value
+returns-in-Ok-clause-value c =
     let some : 0 < length c.args.elements.now = omega (arith, c.requires.anchored.within) in
     let place = c.in-Some.ensures.0 in
-    forward-some (looked_for c.args.mode c.args.elements.now) c.args.text.now some c.args.from (c.in-Some.place - c.args.anchor.now.offset) c.in-Some-match_end_by.end (omega (arith, place.low, c.places.invariant.low)) (sym c.in-Some-match_end_by.ensures.value)
+    forward-some (looked_for c.args.mode c.args.elements.now) c.args.text.now some c.args.from (c.in-Some.place - c.args.anchor.now.offset) c.in-Ok.end (omega (arith, place.low, c.places.invariant.low)) c.in-Ok.ensures.some
     (λ j low below. none_before c.args.mode c.args.elements.now c.args.anchor.now c.requires.anchored c.args.text.now c.len.ensures.bytes c.args.from c.places.at c.places.invariant.none c.in-Some.place place j low (omega arith))
 
-pub returns-in-Some-match_end_by-clause-within : goal.returns-in-Some-match_end_by-clause-within
-returns-in-Some-match_end_by-clause-within c =
+pub returns-in-Ok-clause-within : goal.returns-in-Ok-clause-within
+returns-in-Ok-clause-within c =
     let some : 0 < length c.args.elements.now = omega (arith, c.requires.anchored.within) in
-    let ends = ends_past (looked_for c.args.mode c.args.elements.now) c.args.text.now some (c.in-Some.place - c.args.anchor.now.offset) c.in-Some-match_end_by.end (sym c.in-Some-match_end_by.ensures.value) in
+    let ends = ends_past (looked_for c.args.mode c.args.elements.now) c.args.text.now some (c.in-Some.place - c.args.anchor.now.offset) c.in-Ok.end c.in-Ok.ensures.some in
     (omega (arith, c.in-Some.ensures.0.low, c.places.invariant.low), ends.past, ends.within)
 
 pub returns-clause-value : goal.returns-clause-value

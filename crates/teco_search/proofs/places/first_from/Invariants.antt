@@ -1,6 +1,5 @@
 use Rattle.std.proofs.Common.{◌≡◌, ◌+◌, ◌-◌, ◌<◌, ◌≤◌, ℕ, None, length}
 use Rattle.teco_search.specs.Occurrence.{match_end}
-use Rattle.teco_search.specs.Run.{Remembers, behind_run}
 use Rattle.teco_search.proofs.places.first_from.Given as goal
 
 abbrev pub invariant-places : goal.invariant-places
@@ -8,7 +7,6 @@ invariant-places l = record {
   low : l.from + l.anchor.offset ≤ l.at;
   high : l.at ≤ length l.text;
   none : (k : ℕ) → l.from ≤ k → k + l.anchor.offset < l.at → match_end l.mode l.elements l.text k ≡ None;
-  knows : Remembers l.mode (behind_run l.elements) l.text l.run;
 }
 
 abbrev pub decreases-places : goal.decreases-places

@@ -22,9 +22,9 @@ returns-clause-value c =
     ]) in
     begins_by_start c.args.mode c.args.elements.now c.args.anchor.now c.requires.anchored c.args.text.now c.args.from c.if-anchor-len.below c.last_below.result
     (λ k low inside. below.into k low (omega (arith, c.len-len.ensures.value))) below.out
-    (subst (λ n. FindsLastBelow (looked_for c.args.mode c.args.elements.now) c.args.text.now c.args.anchor.now.offset c.if-anchor-len.below n c.last_below.result) c.len-len.ensures.value c.last_below.ensures.value)
+    (subst (λ n. FindsLastBelow (looked_for c.args.mode c.args.elements.now) c.args.text.now c.args.anchor.now.offset c.if-anchor-len.below n c.last_below.result) c.len-len.ensures.value c.last_below.ensures)
 
 pub returns-clause-within : goal.returns-clause-within
 returns-clause-within c =
     within_by c.args.mode c.args.elements.now c.args.anchor.now c.requires.anchored c.args.text.now c.if-anchor-len.below (length c.args.text.now) c.last_below.result
-    (subst (λ n. FindsLastBelow (looked_for c.args.mode c.args.elements.now) c.args.text.now c.args.anchor.now.offset c.if-anchor-len.below n c.last_below.result) c.len-len.ensures.value c.last_below.ensures.value)
+    (subst (λ n. FindsLastBelow (looked_for c.args.mode c.args.elements.now) c.args.text.now c.args.anchor.now.offset c.if-anchor-len.below n c.last_below.result) c.len-len.ensures.value c.last_below.ensures)

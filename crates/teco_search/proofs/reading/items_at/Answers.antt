@@ -17,33 +17,33 @@ returns-in_err-item-clause-read c =
 pub returns-in_err-byte-clause-read : goal.returns-in_err-byte-clause-read
 returns-in_err-byte-clause-read c =
     let p = err_from_is_err_and c.from_residual-in_err-byte.result c.from_residual-in_err-byte.ensures.1 in
-    let cut : byte_at c.args.text.now c.in_ok-item.behind ≡ Err Ice = cc (c.in_err-byte.ensures.read, c.in_err-byte.ensures.only) in
+    let cut : byte_at c.args.text.now c.in_ok-item.after ≡ Err Ice = cc (c.in_err-byte.ensures.read, c.in_err-byte.ensures.only) in
     rw (p.1, p.2) (inr (
       c.in_err-byte.ensures.only,
-      items_cut c.args.text.now c.args.at c.items.items.items c.items.at c.items.invariant.so_far c.in_ok-item.item c.in_ok-item.behind (sym c.in_ok-item.ensures.read) cut,
+      items_cut c.args.text.now c.args.at c.items.items.items c.items.at c.items.invariant.so_far c.in_ok-item.item c.in_ok-item.after (sym c.in_ok-item.ensures.read) cut,
     ))
 
 pub returns-then-byte-eq93-clause-read : goal.returns-then-byte-eq93-clause-read
 returns-then-byte-eq93-clause-read c =
-    let end : byte_at c.args.text.now c.in_ok-item.behind ≡ Ok 93 = cc (c.in_ok-byte.ensures.read, c.if-byte-eq93.true) in
+    let end : byte_at c.args.text.now c.in_ok-item.after ≡ Ok 93 = cc (c.in_ok-byte.ensures.read, c.if-byte-eq93.true) in
     let list : c.new.result ≡ c.items.items.items ++ c.in_ok-item.item ∷ [] = c.new.ensures ∙ c.in_ok-keep.ensures.ok in
-    rw list (items_done c.args.text.now c.args.at c.items.items.items c.items.at c.items.invariant.so_far c.in_ok-item.item c.in_ok-item.behind
+    rw list (items_done c.args.text.now c.args.at c.items.items.items c.items.at c.items.invariant.so_far c.in_ok-item.item c.in_ok-item.after
     (sym c.in_ok-item.ensures.read) c.in_ok-item.ensures.within.0 c.in_ok-item.ensures.within.1 end)
 
 pub returns-then-byte-ne44-clause-read : goal.returns-then-byte-ne44-clause-read
 returns-then-byte-ne44-clause-read c =
     inr (
       refl,
-      items_other c.args.text.now c.args.at c.items.items.items c.items.at c.items.invariant.so_far c.in_ok-item.item c.in_ok-item.behind c.in_ok-byte.byte
+      items_other c.args.text.now c.args.at c.items.items.items c.items.at c.items.invariant.so_far c.in_ok-item.item c.in_ok-item.after c.in_ok-byte.byte
           (sym c.in_ok-item.ensures.read) (sym c.in_ok-byte.ensures.read) c.if-byte-eq93.false c.if-byte-ne44.true,
     )
 
 pub items-preserved : goal.items-preserved
 items-preserved c =
-    let comma : byte_at c.args.text.now c.in_ok-item.behind ≡ Ok 44 = cc (c.in_ok-byte.ensures.read, c.if-byte-ne44.false) in
-    let past : c.items.at < c.in_ok-item.behind = c.in_ok-item.ensures.within.0 in
+    let comma : byte_at c.args.text.now c.in_ok-item.after ≡ Ok 44 = cc (c.in_ok-byte.ensures.read, c.if-byte-ne44.false) in
+    let past : c.items.at < c.in_ok-item.after = c.in_ok-item.ensures.within.0 in
     record {
       past = omega arith;
-      so_far = rw c.in_ok-keep.ensures.ok (items_more c.args.text.now c.args.at c.items.items.items c.items.at c.items.invariant.so_far c.in_ok-item.item c.in_ok-item.behind
+      so_far = rw c.in_ok-keep.ensures.ok (items_more c.args.text.now c.args.at c.items.items.items c.items.at c.items.invariant.so_far c.in_ok-item.item c.in_ok-item.after
           (sym c.in_ok-item.ensures.read) past c.in_ok-item.ensures.within.1 comma);
     }

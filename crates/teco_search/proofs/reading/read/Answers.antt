@@ -23,7 +23,7 @@ elements-preserved c =
     let inside : c.elements.at < length c.args.text.now = omega arith in
     record {
       within = c.in_ok-element.ensures.within.1;
-      so_far = rw c.in_ok-keep.ensures.ok (elements_more c.args.text.now c.elements.elements.items c.elements.at c.elements.invariant.so_far c.in_ok-element.element c.in_ok-element.behind
+      so_far = rw c.in_ok-keep.ensures.ok (elements_more c.args.text.now c.elements.elements.items c.elements.at c.elements.invariant.so_far c.in_ok-element.element c.in_ok-element.after
           inside c.in_ok-element.ensures.read c.in_ok-element.ensures.within.0);
       some = λ past. omega (arith, ap length c.in_ok-keep.ensures.ok, length_push c.elements.elements.items c.in_ok-element.element);
     }

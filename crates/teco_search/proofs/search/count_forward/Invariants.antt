@@ -1,6 +1,5 @@
 use Rattle.std.proofs.Common.{◌≡◌, ◌+◌, ◌≤◌, ◌-◌, length}
 use Rattle.teco_search.specs.Occurrence.{forward}
-use Rattle.teco_search.specs.Run.{Knows}
 use Rattle.teco_search.specs.Search.{sought_forward}
 use Rattle.teco_search.proofs.search.count_forward.Given as goal
 
@@ -9,7 +8,6 @@ invariant-counted l = record {
   within : l.at ≤ length l.text;
   few : l.count ≤ l.at;
   same : length (forward (sought_forward l.search) l.text l.from) ≡ l.count + length (forward (sought_forward l.search) l.text l.at);
-  knows : Knows (sought_forward l.search) l.text l.run;
 }
 
 abbrev pub decreases-counted : goal.decreases-counted

@@ -1,7 +1,6 @@
 use Rattle.std.proofs.Common.{◌≡◌, ◌≤◌, ◌-◌, ◌∷◌, length}
 use Rattle.std.specs.Prelude.{slice_get}
 use Rattle.teco_search.specs.Occurrence.{backward, before}
-use Rattle.teco_search.specs.Run.{Knows}
 use Rattle.teco_search.specs.Search.{sought_backward}
 use Rattle.teco_search.proofs.search.nth_backward.Given as goal
 
@@ -9,5 +8,4 @@ abbrev pub invariant-skipped : goal.invariant-skipped
 invariant-skipped l = record {
   within : l.last.0 ≤ length l.text;
   same : slice_get (backward (sought_backward l.search) l.text l.from) (l.n - 1) ≡ slice_get (l.last ∷ before (sought_backward l.search) l.text l.last.0) (l.n - l._passed);
-  knows : Knows (sought_backward l.search) l.text l.run;
 }

@@ -1,5 +1,6 @@
 use Rattle.std.proofs.Common.{◌≡◌, ◌∙◌, ◌++◌, ◌<◌, ap, arith, false, get_or, length, length-append, slice_get, sym, true}
-use Rattle.teco_step.specs.Line.{one_past, is_line_end}
+use Rattle.teco_core.specs.Ascii.{is_line_end}
+use Rattle.teco_step.specs.Line.{one_past}
 use Rattle.teco_step.proofs.Lines.{ahead_end, ahead_found, ahead_passed, ahead_plain}
 use Rattle.teco_step.proofs.line.line_ahead.Goals as goal
 use Rattle.teco_step.proofs.line.line_ahead.Goals.{else-is_line_end, then-is_line_end+else-left-eq0}

@@ -1,5 +1,6 @@
 use Rattle.std.proofs.Common.{◌≡◌, ◌∙◌, ◌+◌, ◌-◌, ◌++◌, ◌<◌, ap, arith, false, get_or, length, reverse, slice_get, sym, take, true}
-use Rattle.teco_step.specs.Line.{one_past, is_line_end, line_ends_from}
+use Rattle.teco_core.specs.Ascii.{is_line_end}
+use Rattle.teco_step.specs.Line.{one_past, line_ends_from}
 use Rattle.teco_step.proofs.Lines.{back_end, back_found, back_passed, back_plain}
 use Rattle.teco_step.proofs.line.line_back.Goals as goal
 use Rattle.teco_step.proofs.line.line_back.Goals.{else-is_line_end, then-is_line_end+else-left-eq0}
