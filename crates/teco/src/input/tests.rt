@@ -25,7 +25,7 @@ fn fault(rt: &impl Abort, alloc: Global, fails: bool, max: usize) -> Option<Inpu
             Err(InputFault::Memory) => {}
             Err(fault) => return Some(fault),
             Ok(input) => {
-                assert_eq!(rt; input.as_slice(), b"12345678");
+                assert_eq!(rt; input.as_slice(), b"12345678".as_slice());
                 return None;
             }
         }
