@@ -374,7 +374,3 @@ fault_is c words error is passes kinds =
       not_taken (takes teco_app words) error (λ e. passes (ap (λ a. takes a words) is ∙ e)) other,
       among (fault_of teco_app words) error kinds_are other,
     ))
-
-pub same_fault : {T : Type 0} (r : Result T LineFault) (words : List Text) (fault : LineFault) → IsErrAnd r (λ x. x ≡ fault) → IsLineFault words fault → IfErr r (IsLineFault words)
-same_fault (Ok x) words fault same h = tt
-same_fault (Err x) words fault same h = subst (IsLineFault words) (sym same) h

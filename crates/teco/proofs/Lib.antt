@@ -1,6 +1,7 @@
 pub mod Counts
 pub mod Pieces
 pub mod Showing
+pub mod Sources
 pub mod Exchanges
 pub mod Servings
 pub mod Texts

@@ -1,9 +1,6 @@
 -- Lemmas on exchanges one after another, and on servings.
 use Rattle.std.proofs.Common.{◌≡◌, ℕ, List, [], ◌∷◌, ◌++◌, map, Bool, true, false, Option, Some, refl, sym, ap, ◌∙◌, arith, subst, append-nil, append_assoc, length-append, true≢false, inr}
-use Rattle.std.proofs.KnownBytes.{Consumes-nil, Consumes-trans}
-use Rattle.teco_step.specs.Terminal.{count_after}
 use Rattle.teco_session.specs.History.{History}
-use Rattle.teco.specs.Source.{Gives}
 use Rattle.teco.specs.Message.{star}
 use Rattle.teco.specs.Exchange.{BreaksOff, Exchange, exchange_shown}
 use Rattle.teco.specs.Stream.{Asks, asks_of, requests, texts_of}
@@ -72,17 +69,6 @@ pub exchange_more : (limit : ℕ) (start mid new : History) (h0 h1 h2 : List ℕ
     → Exchanges limit start (exchanges ++ exchange ∷ []) new × CutsOff h0 (exchanges ++ exchange ∷ []) h2
 exchange_more limit start mid new h0 h1 h2 exchanges exchange asked p q first t =
     (Exchanges-more limit start mid new exchanges exchange (value_of asked) p t, CutsOff-append h0 h1 h2 exchanges (exchange ∷ []) q (CutsOff-cut h1 h2 exchange asked first t.asked_is))
-
-pub Gives-nil : {S : Type 0} (coming : S → Option (List ℕ)) (bound : S → ℕ) (failures : S → ℕ) (s : S) → Gives coming bound failures s s [] false
-Gives-nil coming bound failures s = record { given = Consumes-nil (coming s); less = omega arith; count = refl }
-
-pub Gives-more : {S : Type 0} {coming : S → Option (List ℕ)} {bound failures : S → ℕ} {a b c : S} {xs ys : List ℕ} {failed : Bool}
-    → Gives coming bound failures a b xs false → Gives coming bound failures b c ys failed → Gives coming bound failures a c (xs ++ ys) failed
-Gives-more {xs} {ys} {failed} p q = record {
-  given = Consumes-trans _ _ _ _ _ p.given q.given;
-  less = simp length-append (let e = p.less in let f = q.less in omega arith);
-  count = q.count ∙ ap (count_after failed) p.count;
-}
 
 joined : (prompt : Bool) (xs ys : List Exchange) → all_shown prompt xs ++ exchanges_shown prompt ys ≡ all_shown prompt (xs ++ ys)
 joined prompt xs ys = append_assoc (star prompt) (exchanges_shown prompt xs) (exchanges_shown prompt ys) ∙ ap (λ l. star prompt ++ l) (sym (exchanges_shown-append prompt xs ys))

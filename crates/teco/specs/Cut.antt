@@ -1,5 +1,6 @@
 -- What the splitter cuts off the bytes that it holds.
 use Rattle.std.specs.Prelude.{◌≡◌, ◌≤◌, ℕ, ◌+◌, List, [], ◌∷◌, ◌++◌, length, take, drop, Option, Some, None}
+use Rattle.teco_core.specs.declared.ascii.TheConstants.{ESC}
 use Rattle.teco.specs.Stream.{Asks, texts_of, IsText, asks_of, requests}
 use Rattle.teco.specs.Stream.Asks.{Run, Undo, Redo}
 use Rattle.teco.specs.declared.splitter.Asked.{Asked}
@@ -13,7 +14,7 @@ value_of (asked.Redo n) = Redo n
 -- From the held bytes the text up to the leftmost pair is cut, and the pair is gone; or none, and then no pair is held.
 abbrev pub Cuts : List ℕ → Option Asked → List ℕ → Type 0
 Cuts old None new = (texts_of old ≡ []) × (new ≡ old)
-Cuts old (Some asked) new = (text : List ℕ) × IsText text × (old ≡ text ++ 27 ∷ new) × (value_of asked ≡ asks_of text)
+Cuts old (Some asked) new = (text : List ℕ) × IsText text × (old ≡ text ++ ESC ∷ new) × (value_of asked ≡ asks_of text)
 
 abbrev pub asked_first : Option Asked → List Asks
 asked_first None = []

@@ -1,6 +1,8 @@
 -- How the program ends: its status, and what it prints on standard error.
 use Rattle.std.specs.Prelude.{ℕ, List, [], ◌∷◌, ◌++◌, Some, None, codes}
 use Rattle.std.specs.String.{string_bytes}
+use Rattle.teco.specs.declared.input.InputFault.{InputFault}
+use Rattle.teco.specs.declared.input.InputFault.TheVariants as input
 use Rattle.teco.specs.declared.line.Line.{Line}
 use Rattle.teco.specs.declared.ending.Fate.{Fate}
 use Rattle.teco.specs.declared.ending.Fate.TheVariants.{NoInput, LargeInput, NoMemory, NoOutput, Ended}
@@ -9,6 +11,12 @@ use Rattle.teco.specs.declared.served.Served.TheVariants as served
 -- the name of the output file: the one given, or the input's followed by .out
 abbrev pub output_of : Line → List ℕ
 output_of line = elim line.output [ Some name ↦ string_bytes name | None ↦ string_bytes line.input ++ codes ".out" ]
+
+-- how the program ends where the input is not read
+abbrev pub fate_without_input : InputFault → Fate
+fate_without_input input.Read = NoInput
+fate_without_input input.TooLarge = LargeInput
+fate_without_input input.Memory = NoMemory
 
 abbrev pub status_of : Fate → ℕ
 status_of NoInput = 1

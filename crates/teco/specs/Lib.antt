@@ -1,6 +1,7 @@
 pub mod Stream
 pub mod Cut
 pub mod Source
+pub mod Input
 pub mod Pieces
 pub mod Message
 pub mod Exchange

@@ -1,18 +1,19 @@
 -- The stream of commands: the texts that end at pairs ESC ESC, and what each of them asks.
-use Rattle.std.specs.Prelude.{◌≡◌, ℕ, ◌-◌, List, [], ◌∷◌, ◌++◌, length, take, drop, map, slice_index, Bool, true, false, ◌&&◌, ◌||◌, ◌==◌, nat_le, if◌then◌else◌, Option, Some, None}
+use Rattle.std.specs.Prelude.{◌≡◌, ℕ, ◌-◌, List, [], ◌∷◌, ◌++◌, length, take, drop, map, slice_index, Bool, true, false, ◌&&◌, ◌==◌, nat_le, if◌then◌else◌, Option, Some, None}
 use Rattle.std.specs.List.{list_all, prefix_len, suffix_len}
-use Rattle.teco_core.specs.Ascii.{is_digit}
+use Rattle.teco_core.specs.Ascii.{is_digit, is_filler}
 use Rattle.teco_core.specs.Number.{digits_value}
+use Rattle.teco_core.specs.declared.ascii.TheConstants.{ESC}
 
 abbrev pub ends_in_escape : List ℕ → Bool
 ends_in_escape [] = false
-ends_in_escape (b ∷ []) = b == 27
+ends_in_escape (b ∷ []) = b == ESC
 ends_in_escape (b ∷ c ∷ bs) = ends_in_escape (c ∷ bs)
 
 -- A stream is cut at the leftmost pair ESC ESC, again and again. A text includes the first ESC of its pair; `held` is what came since the pair before.
 abbrev pub texts_from : List ℕ → List ℕ → List (List ℕ)
 texts_from held [] = []
-texts_from held (b ∷ bs) = if b == 27 && ends_in_escape held then held ∷ texts_from [] bs else texts_from (held ++ b ∷ []) bs
+texts_from held (b ∷ bs) = if b == ESC && ends_in_escape held then held ∷ texts_from [] bs else texts_from (held ++ b ∷ []) bs
 
 -- the texts of a stream; bytes after the last pair are unfinished and no text
 abbrev pub texts_of : List ℕ → List (List ℕ)
@@ -28,10 +29,6 @@ pub data Asks : Type 0 where
   Run : List ℕ → Asks
   Undo : ℕ → Asks
   Redo : ℕ → Asks
-
--- SP, CR, LF and NUL
-abbrev pub is_filler : ℕ → Bool
-is_filler b = b == 32 || b == 13 || b == 10 || b == 0
 
 abbrev pub without_fillers_before : List ℕ → List ℕ
 without_fillers_before bs = drop (prefix_len is_filler bs) bs

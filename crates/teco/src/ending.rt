@@ -3,17 +3,18 @@ ghost use Rattle.std.specs.Prelude.{◌≡◌, ◌++◌, codes, IfOk};
 ghost use Rattle.std.specs.String.{string_bytes};
 ghost use Rattle.teco.specs.Ending.{said, status_of, text_of};
 
+use crate::input::InputFault;
 use crate::line::{Line, output_name};
 use crate::served::Served;
 use std::alloc::Global;
 use teco_core::NoMemory;
 
-/// How the program ends, once its line is read.
+/// How the program ends, once its command line is read.
 #[derive(Clone, Copy, Debug, PartialEq, Eq)]
 pub enum Fate {
     /// The input cannot be read.
     NoInput,
-    /// The input is above its limit.
+    /// The input has more bytes than it may have.
     LargeInput,
     /// Memory was refused before the serving, or after it.
     NoMemory,
@@ -21,6 +22,20 @@ pub enum Fate {
     NoOutput,
     /// The serving ended; after [`Served::Exit`] the output is written.
     Ended(Served),
+}
+
+impl From<InputFault> for Fate {
+    ghost use Rattle.teco.specs.Ending.{fate_without_input};
+
+    ghost from_gives = { λ fault fate. fate ≡ fate_without_input fault };
+
+    fn from(fault: InputFault) -> Fate {
+        match fault {
+            InputFault::Read => Fate::NoInput,
+            InputFault::TooLarge => Fate::LargeInput,
+            InputFault::Memory => Fate::NoMemory,
+        }
+    }
 }
 
 fn status(fate: Fate) -> u8

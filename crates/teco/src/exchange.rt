@@ -43,7 +43,7 @@ pub fn show_prompt<T: Terminal>(prompt: bool, term: &mut T) -> Result<(), Termin
     if prompt { term.put(b"*") } else { Ok(()) }
 }
 
-/// Asks for an undo or a redo so many times, or up to the first that is refused, whose message is shown.
+/// Asks for an undo or a redo `n` times. It stops after the first that is refused, and shows its message.
 fn repeat<T: Terminal>(
     request: &Request,
     n: u32,
@@ -84,7 +84,8 @@ fn run_text<T: Terminal>(
     show_message(answer, term)
 }
 
-/// Does what a text asks, and shows the messages of the answers. No put follows one that failed, and none fails after an exit.
+/// Does what a text asks, and shows the messages of the answers. No put follows one that failed. Where a run made the session done,
+/// none fails.
 fn do_asked<T: Terminal>(
     asked: &Asked,
     session: &mut Session,
@@ -110,8 +111,8 @@ fn exits(asked: &Asked, was_done: bool, is_done: bool) -> bool
     matches!(asked, Asked::Run(_)) && !was_done && is_done
 }
 
-/// Does what a text asks, and shows what is shown of it, with a star unless it ends the serving; says how the serving ends, if it
-/// does.
+/// Does what a text asks and shows its answers, and then a star unless a run has made the session done. Says how the serving ends,
+/// if it does.
 pub fn do_exchange<T: Terminal>(
     asked: &Asked,
     session: &mut Session,

@@ -26,17 +26,17 @@ pub struct Line {
     pub output: Option<String>,
     /// The most steps that each command string may take, at most [`MOST_STEPS`].
     pub limit: u64,
-    /// Whether a star asks for commands.
+    /// Whether a star is shown where commands are wanted.
     pub prompt: bool,
 }
 
 /// Why there is no [`Line`].
 #[derive(Debug, Drop, Error)]
 pub enum LineFault {
-    /// The line is faulty, or the parser found no memory: the parser's text, or the help that the line asks for.
+    /// The parser's error: the line is faulty or asks for the help, or the parser was refused memory.
     #[error("{0}")]
     Refused(clap::Error),
-    /// Memory was refused, and not to the parser.
+    /// Memory was refused to the program itself.
     #[error("no memory")]
     NoMemory,
 }
@@ -102,7 +102,7 @@ fn input_arg<'a>(alloc: Global) -> Arg<'a>
         .action(ArgAction::Set)
 }
 
-// The command that the words are read by.
+/// The command that the parser reads the words by.
 fn command<'a>(alloc: Global) -> Result<Command<'a>, NoMemory>
     ensures { IfOk result (λ command. app_of command ≡ teco_app) }
 {
@@ -141,7 +141,7 @@ pub fn not_text(alloc: Global) -> Result<clap::Error, NoMemory>
     command(alloc)?.error(ErrorKind::InvalidValue, "an argument is not UTF-8 text")
 }
 
-/// Why there are no words: memory was refused to copy them; or one of them is not UTF-8, and the line is faulty.
+/// Why the program's words were not given: memory was refused to copy them, or one of them is not UTF-8 and the line is faulty.
 pub fn fault_of_words(error: io::Error, not_text: Result<clap::Error, NoMemory>) -> LineFault
     ensures memory { error_kind error ≡ io_kind.OutOfMemory → result ≡ LineFault.NoMemory }
     ensures other { error_kind error ≢ io_kind.OutOfMemory → result ≡ fault_for not_text }

@@ -1,12 +1,13 @@
-//! The editor: a stream of commands, served.
+//! The program: reads the input file, serves the commands on standard input, and writes the output file.
 #![tactic(auto)]
 
 ghost use Rattle.std.specs.IoError.{error_kind};
-ghost use Rattle.std.specs.Prelude.{◌≡◌, ◌≢◌, ◌≤◌, IfOk, vec_len};
+ghost use Rattle.std.specs.Prelude.{◌≡◌, ◌≢◌, ◌≤◌, vec_len};
 ghost use Rattle.teco_core.specs.declared.limits.TheConstants.{FILE_LIMIT};
 
 mod ending;
 mod exchange;
+mod input;
 mod line;
 mod memory_source;
 mod reader_source;
@@ -16,6 +17,7 @@ mod source;
 mod splitter;
 
 use crate::ending::{Fate, ending};
+use crate::input::read_input;
 use crate::line::{
     Line, LineFault, fault_of_words, line_of, not_text, output_name, refused_status,
 };
@@ -23,18 +25,15 @@ use crate::reader_source::ReaderSource;
 use crate::served::Served;
 use crate::serving::serve;
 use std::fs::File;
-use std::io::{ErrorKind, Read};
+use std::io::ErrorKind;
 use std::process::ExitCode;
 use std::{fs, io};
-use teco_core::NoMemory;
+use teco_core::{FILE_LIMIT, NoMemory};
 use teco_session::Session;
 use teco_step::WriterTerminal;
 use teco_store::Desk;
 
-/// The most bytes of the input.
-const INPUT_LIMIT: usize = 1 << 30;
-
-/// How the program ends at an error of the system: where it lacked memory, without it, and else so.
+/// How the program ends at an error of the system: by want of memory where the error is that, otherwise as given.
 fn fate_of(error: io::Error, other: Fate) -> Fate
     ensures memory { error_kind error ≡ ErrorKind.OutOfMemory → result ≡ Fate.NoMemory }
     ensures other { error_kind error ≢ ErrorKind.OutOfMemory → result ≡ other }
@@ -45,29 +44,11 @@ fn fate_of(error: io::Error, other: Fate) -> Fate
     }
 }
 
-/// The whole input, or how the program ends without it.
-fn read_input(rt: &HostRuntime, name: &str) -> Result<Vec<u8>, Fate>
-    ensures { IfOk result (λ input. vec_len input ≤ FILE_LIMIT) }
+/// Serves the commands over the input. After an exit it writes the output file.
+fn serve_input(rt: &HostRuntime, line: &Line, input: Vec<u8>) -> Fate
+    requires { vec_len input ≤ FILE_LIMIT }
 {
-    let file = match File::open(rt, name) {
-        Ok(file) => file,
-        Err(error) => return Err(fate_of(error, Fate::NoInput)),
-    };
-    let mut input = Vec::new(rt.alloc());
-    match file.take(INPUT_LIMIT as u64 + 1).read_to_end(&mut input) {
-        Err(error) => Err(fate_of(error, Fate::NoInput)),
-        Ok(_) if input.len() > INPUT_LIMIT => Err(Fate::LargeInput),
-        Ok(_) => Ok(input),
-    }
-}
-
-/// Reads the input, serves the commands, and writes the output after an exit.
-fn run(rt: &HostRuntime, line: &Line) -> Fate {
     let alloc = rt.alloc();
-    let input = match read_input(rt, line.input.as_str()) {
-        Ok(input) => input,
-        Err(fate) => return fate,
-    };
     let Ok(output) = output_name(alloc, line) else {
         return Fate::NoMemory;
     };
@@ -88,6 +69,18 @@ fn run(rt: &HostRuntime, line: &Line) -> Fate {
         }
     }
     Fate::Ended(served)
+}
+
+/// Reads the input file whole, and serves the commands over it.
+fn run(rt: &HostRuntime, line: &Line) -> Fate {
+    let file = match File::open(rt, line.input.as_str()) {
+        Ok(file) => file,
+        Err(error) => return fate_of(error, Fate::NoInput),
+    };
+    match read_input(rt.alloc(), &mut ReaderSource::new(file), FILE_LIMIT) {
+        Ok(input) => serve_input(rt, line, input),
+        Err(fault) => Fate::from(fault),
+    }
 }
 
 /// The line that the program was called with.

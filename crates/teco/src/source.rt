@@ -1,4 +1,4 @@
-//! Where the commands come from.
+//! Where bytes come from.
 ghost use Rattle.std.specs.Prelude.{◌≡◌, ◌≤◌, ◌<◌, ◌⊎◌, ℕ, List, Option, Bool, [], length, take, true, false, IfOk, OnErr};
 ghost use Rattle.teco.specs.Source.{Gives, HasEnded};
 
@@ -9,7 +9,7 @@ use thiserror::Error;
 #[error("cannot read")]
 pub struct SourceFault;
 
-/// Where the commands come from.
+/// Where bytes come from: the commands, or the input.
 pub trait Source {
     // the bytes still to come, where the source tells them
     ghost coming: { Self → Option (List ℕ) };
@@ -23,8 +23,8 @@ pub trait Source {
     // how often a read has failed, modulo 2^64
     ghost failures: { Self → ℕ };
 
-    /// Reads into the front of the piece, and says how many bytes. It ends where a piece with room gets none.
-    /// Where it fails it gives none, and the count of failures rises by one.
+    /// Reads into the front of the piece, and says how many bytes it read. Where a piece with room gets none, the source has ended.
+    /// A read that fails gives no byte, and the count of failures rises by one.
     fn read(&mut self, piece: &mut [u8]) -> Result<usize, SourceFault>
         ensures fits { IfOk result (λ n. n ≤ length piece.new) }
         ensures ok { IfOk result (λ n. Gives coming bound failures self.old self.new (take n piece.new) false) }

@@ -3,14 +3,13 @@ ghost use Rattle.std.specs.List.{list_all, prefix_len, suffix_len};
 ghost use Rattle.std.specs.Option.{option_map};
 ghost use Rattle.std.specs.Prelude.{◌≡◌, ℕ, ◌+◌, ◌-◌, ◌≤◌, ◌<◌, [], ◌++◌, length, take, drop, slice_index, vec_len, List, MatchOption, IfOk, OnOk, OnErr, IsTrue};
 ghost use Rattle.teco.specs.Cut.{AsksFirst, Cuts, IsHeld, value_of};
-ghost use Rattle.teco.specs.Stream.{IsText, asks_of, undos_or_redos, ends_in_escape, is_filler, texts_of, times, without_fillers, without_fillers_after, without_fillers_before};
+ghost use Rattle.teco.specs.Stream.{IsText, asks_of, undos_or_redos, ends_in_escape, texts_of, times, without_fillers, without_fillers_after, without_fillers_before};
 ghost use Rattle.teco_core.specs.Ascii.{is_digit};
+ghost use Rattle.teco_core.specs.declared.ascii.TheConstants.{ESC};
 
 use std::alloc::Global;
 use std::marker::Model;
-use teco_core::NoMemory;
-
-const ESCAPE: u8 = 27;
+use teco_core::{ESC, NoMemory, is_filler};
 
 /// What a text of the stream asks.
 #[derive(Debug, Drop, PartialEq, Eq)]
@@ -21,12 +20,6 @@ pub enum Asked {
     Undo(u32),
     /// So many redos.
     Redo(u32),
-}
-
-fn is_filler(byte: u8) -> bool
-    ensures { result ≡ is_filler byte }
-{
-    byte == b' ' || byte == b'\r' || byte == b'\n' || byte == 0
 }
 
 fn after_fillers(bytes: &[u8]) -> &[u8]
@@ -49,19 +42,13 @@ fn before_fillers(bytes: &[u8]) -> &[u8]
     &bytes[..end]
 }
 
-fn is_digit(byte: u8) -> bool
-    ensures { result ≡ is_digit byte }
-{
-    b'0' <= byte && byte <= b'9'
-}
-
 fn are_digits(bytes: &[u8]) -> bool
     ensures { result ≡ list_all is_digit bytes.now }
 {
-    bytes.iter().all(|byte| is_digit(*byte))
+    bytes.iter().all(|byte| byte.is_ascii_digit())
 }
 
-/// The number that at most 9 digits say, 1 without digits.
+/// The number that the digits say, of which there are at most 9; 1 where there are none.
 fn times(digits: &[u8]) -> u32
     requires few { length digits.now ≤ 9 }
     requires digits { IsTrue (list_all is_digit digits.now) }
@@ -77,7 +64,7 @@ fn times(digits: &[u8]) -> u32
     number
 }
 
-/// The undos or redos that are asked by at most 9 digits and a brace.
+/// The undos or redos that the bytes ask, if they are at most 9 digits and a brace.
 fn undos_or_redos(bytes: &[u8]) -> Option<Asked>
     ensures { option_map value_of result ≡ undos_or_redos bytes.now }
 {
@@ -108,21 +95,21 @@ fn ends_in_escape(bytes: &[u8]) -> bool
     ensures { result ≡ ends_in_escape bytes.now }
 {
     match bytes.split_last() {
-        Some((last, _)) => *last == ESCAPE,
+        Some((last, _)) => *last == ESC,
         None => false,
     }
 }
 
-/// The place of the second ESC of the leftmost pair, which does not end before `from`.
+/// The place of the second ESC of the leftmost pair, if there is a pair. No pair ends before `from`.
 fn pair_end(bytes: &[u8], from: usize) -> Option<usize>
     requires within { from ≤ length bytes.now }
     requires none { texts_of (take from bytes.now) ≡ [] }
     ensures { MatchOption result (texts_of bytes.now ≡ [])
-        (λ at. (at < length bytes.now) × (slice_index bytes.now at ≡ 27) × IsText (take at bytes.now)) }
+        (λ at. (at < length bytes.now) × (slice_index bytes.now at ≡ ESC) × IsText (take at bytes.now)) }
 {
     let mut escape = ends_in_escape(&bytes[..from]);
     for at in from..bytes.len() {
-        let is_escape = bytes[at] == ESCAPE;
+        let is_escape = bytes[at] == ESC;
         if is_escape && escape {
             return Some(at);
         }
@@ -131,7 +118,7 @@ fn pair_end(bytes: &[u8], from: usize) -> Option<usize>
     None
 }
 
-/// Drops the bytes before `start` once they are at least as many as those from there on, and gives the place of the first byte that is held.
+/// Drops the bytes before `start` if they are at least as many as those from there on. Gives the place of the first byte that is held.
 fn compacted(bytes: &mut Vec<u8>, start: usize) -> usize
     requires { start ≤ vec_len bytes.old }
     ensures within { result ≤ vec_len bytes.new }

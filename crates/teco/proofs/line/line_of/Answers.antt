@@ -3,9 +3,11 @@ use Rattle.std.specs.Prelude.{option_map}
 use Rattle.std.specs.String.{string_bytes}
 use Rattle.std.specs.Str.Parse.{ParsesBool, ParsesUnsigned, ExplainsUnsignedError, HasUnsignedDigitsIfOk}
 use Rattle.clap.proofs.CallerLemmas.{some_of_text}
+use Rattle.clap.proofs.TakesLemmas.{passed_up}
 use Rattle.clap.specs.Words.{first_value, found_of, one_text}
 use Rattle.teco.specs.declared.line.LineFault.TheVariants.{Refused}
-use Rattle.teco.proofs.CommandLines.{fault_is, flag_read, input_text, limit_read, line_is, same_fault, taken_is}
+use Rattle.teco.specs.CommandLine.{IsLineFault}
+use Rattle.teco.proofs.CommandLines.{fault_is, flag_read, input_text, limit_read, line_is, taken_is}
 use Rattle.teco.proofs.line.line_of.Goals as goal
 use Rattle.teco.proofs.line.line_of.Goals.{in-Some+in_ok-from_str-in-Some, in-None}
 
@@ -14,7 +16,7 @@ pub returns-in_err-matches-clause-refused : goal.returns-in_err-matches-clause-r
 returns-in_err-matches-clause-refused c =
     let error = c.in_err-matches.field-0.0 in
     let words = map (λ x. string_bytes x) c.args.words.now in
-    same_fault c.from_residual-in_err-matches.result words (Refused error) c.from_residual-in_err-matches.ensures.1
+    passed_up c.from_residual-in_err-matches.result (Refused error) (IsLineFault words) c.from_residual-in_err-matches.ensures.1
     (fault_is c.in_ok-command.field-0 words error c.in_ok-command.ensures c.in_err-matches.ensures.passes c.in_err-matches.ensures.kinds)
 
 -- the input is required

@@ -5,7 +5,8 @@ use Rattle.teco.specs.Source.{Gives}
 use Rattle.teco.specs.Stream.{requests, texts_of}
 use Rattle.teco.specs.Message.{star}
 use Rattle.teco.proofs.Showing.{Shows-joins}
-use Rattle.teco.proofs.Servings.{Gives-nil, Gives-more, CutsOff-none, CutsOff-fed, CutsOff-append, CutsOff-first, CutsOff-all, Exchanges-append, GoOn-append, held_shows, ends_from}
+use Rattle.teco.proofs.Sources.{Gives-nil, Gives-more, Gives-on}
+use Rattle.teco.proofs.Servings.{CutsOff-none, CutsOff-fed, CutsOff-append, CutsOff-first, CutsOff-all, Exchanges-append, GoOn-append, held_shows, ends_from}
 use Rattle.teco.proofs.serving.serve.Goals as goal
 
 pub returns-in-Err : goal.returns-in-Err
@@ -45,7 +46,7 @@ returns-in-Err-read g c =
     let inv = c.pieces.invariant in
     record {
       bytes = inv.0;
-      read = subst (λ l. Gives g.S.Source.coming g.S.Source.bound g.S.Source.failures c.args.source.now c.read.new.self l true) (append-nil inv.0) (Gives-more inv.2 c.in-Err-read.ensures.err.0);
+      read = Gives-on inv.2 c.in-Err-read.ensures.err.0;
       exchanges = inv.1;
       done = inv.3;
       first = CutsOff-first inv.0 c.pieces.splitter inv.1 inv.4;
@@ -61,7 +62,7 @@ returns-then-n-eq0 g c =
     let none = subst (λ k. Gives g.S.Source.coming g.S.Source.bound g.S.Source.failures c.pieces.source c.read.new.self (take k c.read.new.piece) false) c.if-n-eq0.true c.in-Ok.ensures.ok in
     record {
       bytes = inv.0;
-      read = subst (λ l. Gives g.S.Source.coming g.S.Source.bound g.S.Source.failures c.args.source.now c.read.new.self l false) (append-nil inv.0) (Gives-more inv.2 none);
+      read = Gives-on inv.2 none;
       exchanges = inv.1;
       done = inv.3;
       first = CutsOff-first inv.0 c.pieces.splitter inv.1 inv.4;

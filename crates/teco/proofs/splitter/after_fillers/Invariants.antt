@@ -1,6 +1,6 @@
 use Rattle.std.proofs.Common.{◌≡◌, ◌+◌, ◌-◌, ◌≤◌, length, drop}
 use Rattle.std.specs.List.{prefix_len}
-use Rattle.teco.specs.Stream.{is_filler}
+use Rattle.teco_core.specs.Ascii.{is_filler}
 use Rattle.teco.proofs.splitter.after_fillers.Given as goal
 
 abbrev pub invariant-loop-start : goal.invariant-loop-start

@@ -1,6 +1,6 @@
 use Rattle.std.proofs.Common.{◌≡◌, ◌+◌, ◌≤◌, length, take}
 use Rattle.std.specs.List.{suffix_len}
-use Rattle.teco.specs.Stream.{is_filler}
+use Rattle.teco_core.specs.Ascii.{is_filler}
 use Rattle.teco.proofs.splitter.before_fillers.Given as goal
 
 abbrev pub invariant-loop-end : goal.invariant-loop-end

@@ -1,6 +1,7 @@
 use Rattle.std.proofs.Common.{◌≡◌, ◌+◌, ◌<◌, ◌∷◌, ◌++◌, length, take, drop, get_or, arith, rules, ap, sym, ◌∙◌}
 use Rattle.std.proofs.lemmas.Grind.{common_steps}
 use Rattle.std.proofs.lemmas.List.{drop-drop}
+use Rattle.teco_core.specs.declared.ascii.TheConstants.{ESC}
 use Rattle.teco.specs.Cut.{value_of}
 use Rattle.teco.specs.Stream.{IsText, asks_of, requests}
 use Rattle.teco.proofs.Texts.{requests-cut}
@@ -12,7 +13,7 @@ returns-clause-first c = λ more.
     let start = c.self.inside.start in
     let at = c.in-Some.at in
     let held = drop start bytes in
-    let found : (at < length held) × (get_or held at 0 ≡ 27) × IsText (take at held) = search (rules, common_steps, c.in-Some.ensures) in
+    let found : (at < length held) × (get_or held at 0 ≡ ESC) × IsText (take at held) = search (rules, common_steps, c.in-Some.ensures) in
     let asks : value_of c.in_ok-asked.asked ≡ asks_of (take at held) = search (rules, common_steps, c.in_ok-asked.ensures) in
     let left : drop c.compacted-self-inside.result c.compacted-self-inside.new.bytes.items ≡ drop (at + 1) held =
     let place : start + at + 1 ≡ start + (at + 1) = omega arith in
