@@ -8,6 +8,8 @@ unfolding computing
 written = record {
   J_jumps = refl;
   j_jumps_too = refl;
+  C_moves_forward = refl;
+  R_moves_back = refl;
   digits_are_a_number = refl;
   equals_prints = refl;
   three_equals_are_refused = refl;

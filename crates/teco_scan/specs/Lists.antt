@@ -3,6 +3,7 @@ use Rattle.std.specs.Prelude.{Bool, true, false, ℕ, zero, suc, List, length, O
 use Rattle.std.specs.Str.{bytes_eq}
 use Rattle.teco_core.specs.declared.code.Code.{Code}
 use Rattle.teco_core.specs.declared.code.Code.TheVariants.{Bni, Ill, Pdo, Utc}
+use Rattle.teco_core.specs.declared.limits.TheConstants.{BLOCK_LIMIT}
 use Rattle.teco_scan.specs.declared.command.Modifiers.{Modifiers}
 use Rattle.teco_scan.specs.declared.command.Test.{Test}
 use Rattle.teco_scan.specs.declared.command.BlockMark.{BlockMark}
@@ -64,9 +65,9 @@ iter_at go k d body = put (iter body.0) (behind go k d (past body.1))
 abbrev pub cond_at : Lister → Option Kind → ℕ → Test → Listed → Listed
 cond_at go k d t one = let other : Listed = second go (suc d) one.1 in put (cond t one.0 other.0) (behind go k d (past other.1))
 
--- A block is opened where fewer than 64 are; the 65th is PDO.
+-- A block is opened where fewer than the most blocks are open; one more is PDO.
 abbrev pub opened : ℕ → Listed → Listed
-opened d l = if d == 64 then wrong Pdo else l
+opened d l = if d == BLOCK_LIMIT then wrong Pdo else l
 
 -- `>` ends an iteration, else it is BNI; `|` ends a conditional's first part and `'` either part, else they are ILL.
 abbrev pub at_mark : Lister → BlockMark → List ℕ → Option Kind → ℕ → Listed
@@ -115,7 +116,7 @@ tag_behind go d (Ok bs) = go d bs
 tag_behind go d (Err c) = None
 
 abbrev pub tag_opened : ℕ → Option (List ℕ) → Option (List ℕ)
-tag_opened d o = if d == 64 then None else o
+tag_opened d o = if d == BLOCK_LIMIT then None else o
 
 -- Blocks are passed whole; the mark that closes the list ends the search.
 abbrev pub tag_at_instruction : List ℕ → Finder → Instruction → List ℕ → ℕ → Option (List ℕ)

@@ -3,7 +3,7 @@
 use Rattle.std.specs.Prelude.{◌≡◌, ℕ, true, false, List, [], ◌∷◌, ◌++◌, codes}
 use Rattle.teco_core.specs.declared.code.Code.TheVariants.{Ill}
 use Rattle.teco_scan.specs.declared.command.Bare.TheVariants as group
-use Rattle.teco_scan.specs.declared.command.Command.TheVariants.{Jump, Print}
+use Rattle.teco_scan.specs.declared.command.Command.TheVariants.{Jump, Forward, Back, Print}
 use Rattle.teco_scan.specs.declared.command.RegisterCommand.TheVariants.{Number, Macro}
 use Rattle.teco_scan.specs.declared.command.TextCommand.TheVariants as texts
 use Rattle.teco_scan.specs.declared.command.BlockMark.TheVariants.{Iterate, EndIteration}
@@ -28,6 +28,8 @@ IsToken bs order = scan bs ≡ found order []
 pub record CommandsAreSpelled : Type 0 where
   pub J_jumps : IsToken (codes "J") (plain (step (bare (group.Command Jump))))
   pub j_jumps_too : IsToken (codes "j") (plain (step (bare (group.Command Jump))))
+  pub C_moves_forward : IsToken (codes "C") (plain (step (bare (group.Command Forward))))
+  pub R_moves_back : IsToken (codes "R") (plain (step (bare (group.Command Back))))
   pub digits_are_a_number : IsToken (codes "907") (plain (step (digits (codes "907"))))
   pub equals_prints : IsToken (codes "=") (plain (step (bare (group.Command Print))))
   pub three_equals_are_refused : scan (codes "===") ≡ fault Ill

@@ -1,5 +1,6 @@
 //! The nesting of blocks: skipping one, and finding a tag directly in one.
 ghost use Rattle.std.specs.Prelude.{◌≡◌, ◌≢◌, ◌+◌, ◌-◌, ◌<◌, ◌≤◌, ℕ, true, false, List, ◌∷◌, length, drop, IfOk, IfErr, IfSome, Option, Some, None};
+ghost use Rattle.teco_core.specs.declared.limits.TheConstants.{BLOCK_LIMIT};
 ghost use Rattle.teco_scan.specs.Tree.{is_fault};
 ghost use Rattle.teco_scan.specs.Skip.{AreAlike, byte_of, IsClosed, IsWholeClosed, IsBehindTag, closing_mark, opened_kind, is_tag};
 ghost use Rattle.teco_scan.specs.Seen.{instruction_in, IsKindIn, close_of, past_of, tag_of};
@@ -116,7 +117,7 @@ fn passed_end(text: &[u8], at: usize) -> usize
 #[cycle(skip)]
 fn skip_node(text: &[u8], token: Token, depth: usize) -> Result<usize, Code>
     requires inside { token.span.to ≤ length text.now }
-    requires few { depth ≤ 64 }
+    requires few { depth ≤ BLOCK_LIMIT }
     requires node { closing_mark (instruction_in text.now token.kind) ≡ None }
     ensures closes { (k : Option Kind) (m : Modifiers) → (at_instruction list_at (instruction_in text.now token.kind) m (drop token.span.to text.now) k depth).1 ≡ (behind list_at k depth (past_of text.now result)).1 }
     ensures finds { (name : List ℕ) → is_tag name (instruction_in text.now token.kind) ≡ false → tag_at_instruction name (tag_at name) (instruction_in text.now token.kind) (drop token.span.to text.now) depth ≡ tag_behind (tag_at name) depth (past_of text.now result) }
@@ -142,7 +143,7 @@ fn skip_node(text: &[u8], token: Token, depth: usize) -> Result<usize, Code>
 #[cycle(skip)]
 pub fn skip_block(text: &[u8], at: usize, kind: Kind, depth: usize) -> Result<Stop, Code>
     requires inside { at ≤ length text.now }
-    requires few { depth ≤ 64 }
+    requires few { depth ≤ BLOCK_LIMIT }
     ensures closes { close_of text.now result ≡ (list_at (Some kind) depth (drop at text.now)).1 }
     ensures within { IfOk result (λ stop. (at < stop.to) × (stop.to ≤ length text.now)) }
     ensures divided { IfOk result (λ stop. stop.divided ≡ true → kind ≡ Kind.Then) }
@@ -171,7 +172,7 @@ pub fn skip_block(text: &[u8], at: usize, kind: Kind, depth: usize) -> Result<St
 #[cycle(skip)]
 pub fn skip_whole_block(text: &[u8], at: usize, kind: Kind, depth: usize) -> Result<usize, Code>
     requires inside { at ≤ length text.now }
-    requires few { depth ≤ 64 }
+    requires few { depth ≤ BLOCK_LIMIT }
     ensures passes { past_of text.now result ≡ behind_block list_at kind depth (list_at (Some kind) depth (drop at text.now)).1 }
     ensures within { IfOk result (λ to. (at < to) × (to ≤ length text.now)) }
     ensures fault { IfErr result (λ code. is_fault code ≡ true) }
@@ -191,7 +192,7 @@ pub fn skip_whole_block(text: &[u8], at: usize, kind: Kind, depth: usize) -> Res
 /// where the block ends, is divided or has a fault before such a tag. It takes no memory.
 pub fn find_tag(text: &[u8], block_start: usize, depth: usize, name: &[u8]) -> Option<usize>
     requires inside { block_start ≤ length text.now }
-    requires few { depth ≤ 64 }
+    requires few { depth ≤ BLOCK_LIMIT }
     ensures finds { tag_of text.now result ≡ tag_at name.now depth (drop block_start text.now) }
     ensures within { IfSome result (λ to. (block_start < to) × (to ≤ length text.now)) }
     ensures ends { IfSome result (λ to. IsBehindTag text.now to) }
