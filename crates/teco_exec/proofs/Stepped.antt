@@ -35,6 +35,7 @@ use Rattle.teco_exec.proofs.Composing.{Stays, arrives_stays, halted, run_ready}
 use Rattle.teco_exec.proofs.Going.{EndsByItself, Pays, advanced, since, settles, step_done, no_memory, no_terminal, shows_nothing}
 use Rattle.teco_exec.proofs.MachineMeans.{going_now, resumed_now}
 
+-- Whether a plain `;` comes next is seen by searches alone.
 module _ (w : Setting) (b : Bool) where
   by_item : (text : List ℕ) (i : Item) → is_search (kind.Item i) ≡ false → item_effect (item_in text i) w ≡ item_effect (item_in text i) (record w { before = b })
   by_item text i e = grind arith
