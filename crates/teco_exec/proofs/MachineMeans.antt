@@ -144,6 +144,7 @@ correct laws inside_only s text n =
 pub machine_means : BlockLaws → LeavesInside → MachineMeans
 machine_means laws inside_only s text limit = ap (λ (f : Final). record { state = f.state; typed = f.typed; code = f.code; steps = limit - f.fuel; load = f.load }) (correct laws inside_only s text limit)
 
+-- what is seen where a run arrives
 abbrev pub ready_now : Ready → Now
 ready_now (step m i work c) = now_of (runs c)
 ready_now (block b bs c) = now_of (runs c)

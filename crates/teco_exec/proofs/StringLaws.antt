@@ -89,7 +89,7 @@ limit_zero follows s text =
     let now : now_of (runs (start_config s text)) ≡ now_meant (string_meaning s text 0) = follows s text 0 in
     record { state = sym (ap (λ (x : Now). x.state) now); typed = sym (ap (λ (x : Now). x.typed) now); load = sym (ap (λ (x : Now). x.load) now); steps = omega arith }
 
--- The session is as done as it was, or the run is over without a code.
+-- What makes the session done: it is as done as it was, or the run is over without a code.
 abbrev Keeps : Bool → State → Option Code → Type 0
 Keeps k s None = Unit {0}
 Keeps k s (Some e) = s.is_done ≡ k
