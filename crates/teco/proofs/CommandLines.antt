@@ -38,7 +38,6 @@ use Rattle.clap.proofs.SimpleLemmas.{all_simple, plain_fields, ready_simple, sim
 use Rattle.clap.proofs.WalkLemmas.{first_value-rows, one_text-rows}
 use Rattle.teco.specs.CommandLine.{IsLine, IsLineFault, input_rule, limit_rule, teco_app}
 use Rattle.teco.specs.declared.line.Line.{Line}
-use Rattle.teco.specs.declared.line.LineFault.{LineFault}
 use Rattle.teco.specs.declared.line.LineFault.TheVariants.{Refused}
 
 -- the command is one whose matches the parser's contract says, and no argument has a rule on another
