@@ -1,6 +1,6 @@
 -- What a parse by the program's command gives.
 use Rattle.std.proofs.Common.{◌≡◌, ◌∙◌, ◌<◌, ◌≤◌, ℕ, Bool, true, false, zero, suc, refl, sym, ap, subst, arith, List, [], ◌∷◌, length, is_some, codes, Option, Some, None, Result, Ok, Err, inl, inr, true≢false}
-use Rattle.std.specs.Prelude.{find, map, option_map, slice_get, unwrap_or, IfErr, IsErrAnd, IsTrue, ◌↔◌}
+use Rattle.std.specs.Prelude.{find, map, option_map, slice_get, unwrap_or, IsTrue, ◌↔◌}
 use Rattle.std.specs.List.{All, list_all, slice_index_or}
 use Rattle.std.specs.Str.{bytes_eq}
 use Rattle.std.specs.Str.Parse.{ParsesBool, ParsesUnsigned, digits_value, without_leading_plus}
@@ -38,7 +38,6 @@ use Rattle.clap.proofs.SimpleLemmas.{all_simple, plain_fields, ready_simple, sim
 use Rattle.clap.proofs.WalkLemmas.{first_value-rows, one_text-rows}
 use Rattle.teco.specs.CommandLine.{IsLine, IsLineFault, input_rule, limit_rule, teco_app}
 use Rattle.teco.specs.declared.line.Line.{Line}
-use Rattle.teco.specs.declared.line.LineFault.{LineFault}
 use Rattle.teco.specs.declared.line.LineFault.TheVariants.{Refused}
 
 -- the command is one whose matches the parser's contract says, and no argument has a rule on another

@@ -1,5 +1,5 @@
 -- Lemmas on exchanges one after another, and on servings.
-use Rattle.std.proofs.Common.{◌≡◌, ℕ, List, [], ◌∷◌, ◌++◌, map, Bool, true, false, Option, Some, refl, sym, ap, ◌∙◌, arith, subst, append-nil, append_assoc, length-append, true≢false, inr}
+use Rattle.std.proofs.Common.{◌≡◌, ℕ, List, [], ◌∷◌, ◌++◌, map, Bool, true, false, Some, refl, sym, ap, ◌∙◌, subst, append-nil, append_assoc, true≢false, inr}
 use Rattle.teco_session.specs.History.{History}
 use Rattle.teco.specs.Message.{star}
 use Rattle.teco.specs.Exchange.{BreaksOff, Exchange, exchange_shown}

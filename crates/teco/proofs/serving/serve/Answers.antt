@@ -1,4 +1,4 @@
-use Rattle.std.proofs.Common.{◌≡◌, [], ◌++◌, take, true, false, refl, sym, ap, subst, append-nil, arith, rules, true≢false, inl}
+use Rattle.std.proofs.Common.{◌≡◌, [], ◌++◌, take, false, refl, sym, ap, subst, append-nil, arith, rules, true≢false, inl}
 use Rattle.std.proofs.lemmas.Grind.{common_steps}
 use Rattle.teco_step.specs.Terminal.{Shows}
 use Rattle.teco.specs.Source.{Gives}
