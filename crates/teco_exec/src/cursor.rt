@@ -1,11 +1,11 @@
 //! A place in a text that is being run.
 ghost use Rattle.std.specs.Prelude.{◌≡◌, ◌≤◌, ℕ, All, List, length};
-ghost use Rattle.teco_scan.specs.Scan.{after_fillers, is_filler};
+ghost use Rattle.teco_scan.specs.Scan.{after_fillers};
 ghost use Rattle.teco_exec.specs.Semicolon.{is_semicolon};
 ghost use Rattle.teco_exec.specs.Machine as machine;
 
 use crate::blocks::Blocks;
-use teco_core::Args;
+use teco_core::{Args, is_filler};
 use teco_scan::spelling;
 
 /// Where a text is being run: how many of its bytes come before, the arguments so far, and the open blocks.
@@ -64,10 +64,4 @@ fn is_leave_first(text: &[u8]) -> bool
         }
     }
     false
-}
-
-fn is_filler(byte: u8) -> bool
-    ensures { result ≡ is_filler byte }
-{
-    matches!(byte, 0 | b'\n' | b'\r' | b' ')
 }

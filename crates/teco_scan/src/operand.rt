@@ -3,7 +3,7 @@ ghost use Rattle.std.specs.Prelude.{◌≡◌, ◌+◌, ◌<◌, ◌≤◌, ℕ,
 ghost use Rattle.teco_scan.specs.Scan.{test_of, byte_at, register_at, test_at, delimiter_at, text_at, operand_at};
 ghost use Rattle.teco_scan.specs.Seen.{Gives, IsSpanIn, IsKindIn, IsKindPlaced, bytes_in, instruction_in};
 
-use crate::command::{Form, Modifiers, Test};
+use crate::command::{Form, Modifiers, Test, TextCommand};
 use crate::token::{Item, Span, TokenKind};
 use memchr::memchr;
 use teco_core::{Code, ESC, Reg};
@@ -86,7 +86,7 @@ fn delimiter_at(
 }
 
 /// The bytes before the next delimiter, and the place after it.
-fn text_at(delimiter: u8, text: &[u8], at: usize) -> Result<(Span, usize), Code>
+pub(crate) fn text_at(delimiter: u8, text: &[u8], at: usize) -> Result<(Span, usize), Code>
     requires { at ≤ length text.now }
     ensures read { Gives (λ x. (bytes_in text.now x.0, drop x.1 text.now)) result (text_at delimiter (drop at text.now)) }
     ensures within { IfOk result (λ x. (at ≤ x.1) × (x.1 ≤ length text.now)) }
@@ -103,6 +103,26 @@ fn text_at(delimiter: u8, text: &[u8], at: usize) -> Result<(Span, usize), Code>
             at + n + 1,
         )),
     }
+}
+
+/// The text of a command.
+#[tactic(auto, unfolding(crate::specs::Scan::operand_at))]
+fn one_text_at(
+    command: TextCommand,
+    usual: u8,
+    modifiers: Modifiers,
+    text: &[u8],
+    at: usize,
+) -> Result<(TokenKind, usize), Code>
+    requires { at ≤ length text.now }
+    ensures read { Gives (λ x. (instruction_in text.now x.0, drop x.1 text.now)) result (operand_at (Form.Text command usual) modifiers (drop at text.now)) }
+    ensures within { IfOk result (λ x. (at ≤ x.1) × (x.1 ≤ length text.now)) }
+    ensures spans { IfOk result (λ x. IsKindIn (length text.now) x.0) }
+    ensures placed { (from : ℕ) → IfOk result (λ x. IsKindPlaced (record { from = from; to = x.1 }) x.0) }
+{
+    let (delimiter, at) = delimiter_at(modifiers, usual, text, at)?;
+    let (span, at) = text_at(delimiter, text, at)?;
+    Ok((TokenKind::Item(Item::Text(command, span)), at))
 }
 
 /// A register and its new text.
@@ -165,11 +185,7 @@ pub(crate) fn operand_at(
             let (test, at) = test_at(text, at)?;
             Ok((TokenKind::Test(test), at))
         }
-        Form::Text(command, usual) => {
-            let (delimiter, at) = delimiter_at(modifiers, usual, text, at)?;
-            let (span, at) = text_at(delimiter, text, at)?;
-            Ok((TokenKind::Item(Item::Text(command, span)), at))
-        }
+        Form::Text(command, usual) => one_text_at(command, usual, modifiers, text, at),
         Form::Tag => {
             let (name, at) = text_at(b'!', text, at)?;
             Ok((TokenKind::Tag(name), at))

@@ -9,7 +9,7 @@ ghost use Rattle.teco_scan.specs.Seen.{Gives, IsKindIn, IsKindPlaced, IsFoundAt,
 
 use crate::command::{Form, Modifiers};
 use crate::names::{lone_form, named_at};
-use crate::operand::{operand_at, register_at};
+use crate::operand::{operand_at, register_at, text_at};
 use crate::table::{NONE, ROWS};
 use crate::token::{Found, Item, Span, Token, TokenKind};
 use teco_core::{Code, is_filler};
@@ -85,8 +85,7 @@ pub fn token_at(text: &[u8], at: usize) -> Found
     }
     if text[from].is_ascii_digit() {
         let to = digits_end(text, from);
-        let run = Span { from, to };
-        return plain(from, to, TokenKind::Item(Item::Digits(run)));
+        return plain(from, to, TokenKind::Item(Item::Digits(Span { from, to })));
     }
     match lone_form(text[from]) {
         Some(Form::Bare(command)) => {
@@ -97,6 +96,11 @@ pub fn token_at(text: &[u8], at: usize) -> Found
         Some(Form::Register(command)) => {
             if let Ok((register, to)) = register_at(text, from + 1) {
                 return plain(from, to, TokenKind::Item(Item::Register(command, register)));
+            }
+        }
+        Some(Form::Tag) => {
+            if let Ok((name, to)) = text_at(b'!', text, from + 1) {
+                return plain(from, to, TokenKind::Tag(name));
             }
         }
         _ => {}
