@@ -3,10 +3,11 @@ use Rattle.std.proofs.Common.{◌≡◌, ℕ, Bool, true, false, ◌⊎◌, cond
 use Rattle.std.specs.List.{AllByRecursion}
 use Rattle.teco_core.specs.declared.code.Code.{Code}
 use Rattle.teco_core.specs.declared.code.Code.TheVariants.{Ill, Iqc, Iqn, Utc}
+use Rattle.teco_core.specs.Ascii.{is_filler}
 use Rattle.teco_scan.specs.declared.command.Row.{Row}
 use Rattle.teco_scan.specs.declared.command.Modifiers.{Modifiers}
 use Rattle.teco_scan.specs.Table.{is_table}
-use Rattle.teco_scan.specs.Scan.{Reading, TokenMeaning, is_refused, is_filler, modifiers_at, row_at, token_from, no_modifiers, after_fillers, scan_here, scan}
+use Rattle.teco_scan.specs.Scan.{Reading, TokenMeaning, is_refused, modifiers_at, row_at, token_from, no_modifiers, after_fillers, scan_here, scan}
 use Rattle.teco_scan.specs.Spelling.{Marks, BeginsWithToken, IsRefused, LeavesAtMost, IsNothing, IsCutExactly, IsIllExactly, BeginsNoFiller, PassesFillers}
 use Rattle.teco_scan.proofs.IsSpelled.{Takes, marks_take, TakesRow, row_takes, spelled}
 use Rattle.teco_scan.proofs.IsLongest.{Finds, finds, longest, refused_found, refused_form, refused_is_ill}
