@@ -3,8 +3,11 @@
 
 mod desk;
 mod editor;
+mod noting;
+mod pages;
 #[cfg(test)]
 mod tests;
 
 pub use desk::{Desk, Refused};
 pub use editor::Editor;
+pub use pages::part;

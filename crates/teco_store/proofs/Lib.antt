@@ -1,0 +1,2 @@
+pub mod FormFeeds
+pub mod Halves
