@@ -1,6 +1,8 @@
 //! The editing state, and the desk on which it is changed.
 #![tactic(auto)]
 
+#[cfg(test)]
+mod call_tests;
 mod desk;
 mod editor;
 mod noting;
