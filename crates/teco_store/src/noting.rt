@@ -1,5 +1,5 @@
 //! The text that a search leaves.
-ghost use Rattle.std.specs.Prelude.{◌≡◌, ◌↔◌, ◌<◌, List, ℕ, Option, true, option_map, OnOk, OnErr, IsOk, IsTrue, Some};
+ghost use Rattle.std.specs.Prelude.{◌≡◌, ◌↔◌, ◌<◌, List, ℕ, true, option_map, OnOk, OnErr, IsOk, IsTrue, Some};
 ghost use Rattle.std.specs.Option.{option_copied};
 ghost use Rattle.teco_store.specs.Search.{is_last, length_of, text_after};
 

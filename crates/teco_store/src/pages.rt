@@ -1,7 +1,7 @@
 //! Pages of the input, and how they are written.
 ghost use Rattle.std.specs.Prelude.{◌≡◌, ◌+◌, ◌-◌, ◌<◌, ◌≤◌, ◌^◌, ◌++◌, ◌↔◌, length, take, drop, OnOk, OnErr, IsTrue, if◌then◌else◌};
 ghost use Rattle.std.specs.Vec.{vec_capacity};
-ghost use Rattle.teco_store.specs.Page.{page_of, is_ended, page_span, form_feed_if};
+ghost use Rattle.teco_store.specs.Page.{page_of, is_ended, form_feed_if};
 
 use memchr::memchr;
 use teco_core::NoMemory;
