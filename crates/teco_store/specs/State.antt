@@ -1,10 +1,10 @@
 -- The editing state, its beginning, and its limits.
-use Rattle.std.specs.Prelude.{◌≡◌, ℕ, ◌≤◌, Bool, false, List, [], ◌++◌, ◌+◌, length, take, drop, Option, Some, None, ℤ}
+use Rattle.std.specs.Prelude.{◌≡◌, ℕ, ◌≤◌, Bool, false, List, [], ◌∷◌, ◌++◌, ◌+◌, length, take, drop, slice_index_or, Option, Some, None, ℤ}
 use Rattle.std.specs.List.{All}
 use Rattle.std.specs.Option.{ForSome}
 use Rattle.teco_core.specs.declared.case_mode.CaseMode.{CaseMode}
 use Rattle.teco_core.specs.declared.case_mode.CaseMode.TheVariants.{Exact}
-use Rattle.teco_core.specs.Register.{Content, blank_registers, with_number, with_text}
+use Rattle.teco_core.specs.Register.{Content, blank, blank_registers, content, with_content, with_number, with_text}
 use Rattle.teco_core.specs.declared.limits.TheConstants.{FILE_LIMIT, PUSHED_LIMIT, TEXT_LIMIT}
 
 pub record State : Type 0 where
@@ -77,6 +77,21 @@ with_register_number s q n = record s { registers = with_number s.registers q n 
 
 abbrev pub with_register_text : State → ℕ → List ℕ → State
 with_register_text s q text = record s { registers = with_text s.registers q text }
+
+-- What the register q holds goes onto the push-down list.
+abbrev pub pushed_from : State → ℕ → State
+pushed_from s q = record s { pushed = content s.registers q ∷ s.pushed }
+
+-- what was pushed last
+abbrev pub last_pushed : State → Content
+last_pushed s = slice_index_or s.pushed 0 blank
+
+-- What was pushed last goes off the list, and into the register q.
+abbrev pub popped_into : State → ℕ → State
+popped_into s q = record s { registers = with_content s.registers q (last_pushed s); pushed = drop 1 s.pushed }
+
+abbrev pub with_case : State → CaseMode → State
+with_case s mode = record s { case_mode = mode }
 
 -- What contracts see of an editor. Clauses name its state by `state_of`, and nothing else of it.
 pub record EditorView : Type 0 where

@@ -4,6 +4,8 @@ ghost use Rattle.teco_gap.specs.Gap.{text};
 ghost use Rattle.teco_store.specs.State.{beginning, state_of};
 
 use crate::desk::{Desk, Refused};
+use crate::noting::{is_long, note_text};
+use crate::pages::{append, is_past, next_page, part};
 use std::alloc::Global;
 use std::marker::Model;
 use teco_core::{CaseMode, FILE_LIMIT, NoMemory, PushList, Reg, Registers, TEXT_LIMIT};
@@ -127,6 +129,10 @@ impl Desk for Editor {
         self.place
     }
 
+    fn is_input_over(&self) -> bool {
+        self.place == self.input.len()
+    }
+
     fn output(&self) -> &[u8] {
         &self.output
     }
@@ -190,6 +196,136 @@ impl Desk for Editor {
             return Err(Refused::Big);
         }
         self.registers.set_text(q, text);
+        Ok(())
+    }
+
+    fn push(&mut self, q: Reg) -> Result<(), Refused> {
+        let value = self.registers.value(q).copy()?;
+        self.pushed.push(value);
+        Ok(())
+    }
+
+    fn pop(&mut self, q: Reg) -> Result<(), Refused> {
+        let value = self.pushed.pop();
+        self.registers.set(q, value);
+        Ok(())
+    }
+
+    fn read_page(&mut self) -> Result<(), Refused> {
+        let page = next_page(&self.input[self.place..]);
+        if page.bytes.len() > TEXT_LIMIT {
+            return Err(Refused::Big);
+        }
+        let len = self.text.len();
+        self.text
+            .reserve(*self.input.allocator(), page.bytes.len())?;
+        self.text.splice(0, len, page.bytes);
+        self.pointer = 0;
+        self.place += page.bytes.len() + usize::from(page.form_feed);
+        self.form_feed = page.form_feed;
+        Ok(())
+    }
+
+    fn append_page(&mut self) -> Result<(), Refused> {
+        if self.place == self.input.len() {
+            return Ok(());
+        }
+        let page = next_page(&self.input[self.place..]);
+        let end = self.text.len();
+        if is_past(TEXT_LIMIT, end, page.bytes.len()) {
+            return Err(Refused::Big);
+        }
+        self.text
+            .reserve(*self.input.allocator(), end + page.bytes.len())?;
+        self.text.splice(end, 0, page.bytes);
+        self.place += page.bytes.len() + usize::from(page.form_feed);
+        self.form_feed = page.form_feed;
+        Ok(())
+    }
+
+    fn turn_page(&mut self) -> Result<(), Refused> {
+        let page = next_page(&self.input[self.place..]);
+        let len = self.text.len();
+        let written = len + usize::from(self.form_feed);
+        if page.bytes.len() > TEXT_LIMIT || is_past(FILE_LIMIT, self.output.len(), written) {
+            return Err(Refused::Big);
+        }
+        self.text
+            .reserve(*self.input.allocator(), page.bytes.len())?;
+        let (before, after) = self.text.halves();
+        append(&mut self.output, before, after, self.form_feed, &[])?;
+        self.text.splice(0, len, page.bytes);
+        self.pointer = 0;
+        self.place += page.bytes.len() + usize::from(page.form_feed);
+        self.form_feed = page.form_feed;
+        Ok(())
+    }
+
+    fn write_out(&mut self, from: usize, to: usize, form_feed: bool) -> Result<(), Refused> {
+        let (before, after) = self.text.halves();
+        let written = to - from + usize::from(form_feed);
+        if is_past(FILE_LIMIT, self.output.len(), written) {
+            return Err(Refused::Big);
+        }
+        let (before, after) = part(before, after, from, to);
+        append(&mut self.output, before, after, form_feed, &[])?;
+        Ok(())
+    }
+
+    fn note_search(
+        &mut self,
+        text: Option<&[u8]>,
+        found: bool,
+        place: usize,
+    ) -> Result<(), Refused> {
+        if is_long(text) {
+            return Err(Refused::Big);
+        }
+        note_text(*self.input.allocator(), &mut self.last_search, text)?;
+        self.last_found = found;
+        self.pointer = place;
+        Ok(())
+    }
+
+    fn note_replace(
+        &mut self,
+        text: Option<&[u8]>,
+        at: usize,
+        del: usize,
+        ins: &[u8],
+    ) -> Result<(), Refused> {
+        let kept = self.text.len() - del;
+        if is_long(text) || is_past(TEXT_LIMIT, kept, ins.len()) {
+            return Err(Refused::Big);
+        }
+        let alloc = *self.input.allocator();
+        self.text.reserve(alloc, kept + ins.len())?;
+        note_text(alloc, &mut self.last_search, text)?;
+        self.text.splice(at, del, ins);
+        self.last_found = true;
+        self.pointer = at + ins.len();
+        Ok(())
+    }
+
+    fn finish(&mut self) -> Result<(), Refused> {
+        let (before, after) = self.text.halves();
+        let rest = &self.input[self.place..];
+        let written = before.len() + after.len() + usize::from(self.form_feed) + rest.len();
+        if is_past(FILE_LIMIT, self.output.len(), written) {
+            return Err(Refused::Big);
+        }
+        append(&mut self.output, before, after, self.form_feed, rest)?;
+        let len = self.text.len();
+        self.text.splice(0, len, &[]);
+        self.pointer = 0;
+        self.place = self.input.len();
+        self.form_feed = false;
+        self.done = true;
+        Ok(())
+    }
+
+    fn set_case(&mut self, mode: CaseMode) -> Result<(), Refused> {
+        self.case_mode = mode;
         Ok(())
     }
 

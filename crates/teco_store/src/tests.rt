@@ -8,20 +8,20 @@ use std::alloc::Global;
 use std::test::*;
 use teco_core::{NoMemory, Reg};
 
-fn length_of(editor: &Editor) -> usize
+pub(crate) fn length_of(editor: &Editor) -> usize
     ensures { result ≡ length (state_of editor.now).text }
 {
     let (before, after) = editor.halves();
     before.len() + after.len()
 }
 
-fn holds(editor: &Editor, text: &[u8]) -> bool {
+pub(crate) fn holds(editor: &Editor, text: &[u8]) -> bool {
     let (before, after) = editor.halves();
     before.iter().chain(after.iter()).eq(text.iter())
 }
 
 /// So many bytes; where memory was refused, a second time.
-fn long_text(alloc: Global, len: usize) -> Result<Vec<u8>, NoMemory> {
+pub(crate) fn long_text(alloc: Global, len: usize) -> Result<Vec<u8>, NoMemory> {
     let mut text = Vec::new(alloc);
     if text.resize(len, b'x').is_err() {
         text.resize(len, b'x')?;

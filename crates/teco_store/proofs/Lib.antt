@@ -1,0 +1,3 @@
+pub mod FormFeeds
+pub mod Halves
+pub mod Rows

@@ -1,0 +1,67 @@
+-- Pages: the input is read, and the output written, page by page.
+use Rattle.std.specs.Prelude.{ℕ, ◌+◌, Bool, true, false, not, List, [], ◌∷◌, ◌++◌, length, take, drop, take_while, nat_lt, ◌==◌, if◌then◌else◌}
+use Rattle.teco_store.specs.State.{State}
+
+-- A page is what is left of the input, up to its first form feed.
+unfoldable pub page_of : List ℕ → List ℕ
+page_of left = take_while (λ b. not (b == 12)) left
+
+-- whether a form feed ends it
+abbrev pub is_ended : List ℕ → Bool
+is_ended left = nat_lt (length (page_of left)) (length left)
+
+-- the bytes that reading it takes, its form feed too
+abbrev pub page_span : List ℕ → ℕ
+page_span left = length (page_of left) + (if is_ended left then 1 else 0)
+
+-- what is left of the input
+abbrev pub left_of : State → List ℕ
+left_of s = drop s.place s.input
+
+abbrev pub is_input_over : State → Bool
+is_input_over s = s.place == length s.input
+
+-- the next page
+abbrev pub page : State → List ℕ
+page s = page_of (left_of s)
+
+-- The place is after the next page and its form feed, and the flag says whether it had one.
+abbrev pub past_page : State → State
+past_page s = record s { place = s.place + page_span (left_of s); form_feed = is_ended (left_of s) }
+
+-- The next page replaces the buffer; the pointer is at its beginning.
+abbrev pub with_page : State → State
+with_page s = record (past_page s) { text = page s; pointer = 0 }
+
+-- The next page comes after the buffer's text, and the pointer stays. With no input left nothing changes.
+abbrev pub with_more : State → State
+with_more s = if is_input_over s then s else record (past_page s) { text = s.text ++ page s }
+
+-- a form feed, where one is to be written
+abbrev pub form_feed_if : Bool → List ℕ
+form_feed_if true = 12 ∷ []
+form_feed_if false = []
+
+-- the page that is in the buffer as it goes to the output: with a form feed where one ended it
+abbrev pub written : State → List ℕ
+written s = s.text ++ form_feed_if s.form_feed
+
+abbrev pub with_output : State → List ℕ → State
+with_output s bytes = record s { output = s.output ++ bytes }
+
+-- The page in the buffer is written, and the next one replaces it.
+abbrev pub turned : State → State
+turned s = with_output (with_page s) (written s)
+
+-- The bytes between two places are written, with a form feed where one is asked for.
+abbrev pub with_range_written : State → ℕ → ℕ → Bool → State
+with_range_written s low high form_feed = with_output s (drop low (take high s.text) ++ form_feed_if form_feed)
+
+-- The page in the buffer is written, then the rest of the input as it is, and the session is done.
+abbrev pub finished : State → State
+finished s =
+    record (with_output s (written s ++ left_of s)) { text = []; pointer = 0; place = length s.input; form_feed = false; is_done = true }
+
+-- the load of a page that replaces the buffer
+abbrev pub page_load : State → ℕ
+page_load s = length s.text + length (page s)

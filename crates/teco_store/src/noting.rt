@@ -1,0 +1,46 @@
+//! The text that a search leaves.
+ghost use Rattle.std.specs.Prelude.{◌≡◌, ◌↔◌, ◌<◌, List, ℕ, true, option_map, OnOk, OnErr, IsOk, IsTrue, Some};
+ghost use Rattle.std.specs.Option.{option_copied};
+ghost use Rattle.teco_store.specs.Search.{is_last, length_of, text_after};
+
+use std::alloc::Global;
+use teco_core::{NoMemory, TEXT_LIMIT};
+
+// Whether a text is the last search text.
+fn is_noted(last: &Option<Vec<u8>>, text: &[u8]) -> bool
+    ensures { result ≡ is_last (option_map (λ v. v.items) last.now) text.now }
+{
+    match last {
+        None => false,
+        Some(last) => text == last.as_slice(),
+    }
+}
+
+// Whether a text is past its limit.
+pub(crate) fn is_long(text: Option<&[u8]>) -> bool
+    ensures { IsTrue result ↔ (TEXT_LIMIT < length_of (option_copied text.entry)) }
+{
+    match text {
+        None => false,
+        Some(text) => text.len() > TEXT_LIMIT,
+    }
+}
+
+// Makes a text the last search text; none leaves it. The same text again takes no memory.
+pub(crate) fn note_text(
+    alloc: Global,
+    last: &mut Option<Vec<u8>>,
+    text: Option<&[u8]>,
+) -> Result<(), NoMemory>
+    ensures ok { OnOk result (option_map (λ v. v.items) last.new ≡ text_after (option_map (λ v. v.items) last.old) (option_copied text.entry)) }
+    ensures err { OnErr result (option_map (λ v. v.items) last.new ≡ option_map (λ v. v.items) last.old) }
+    ensures same { (again : List ℕ) → option_copied text.entry ≡ Some again → is_last (option_map (λ v. v.items) last.old) again ≡ true → IsOk result }
+{
+    let Some(text) = text else {
+        return Ok(());
+    };
+    if !is_noted(last, text) {
+        *last = Some(Vec::from_slice(alloc, text)?);
+    }
+    Ok(())
+}

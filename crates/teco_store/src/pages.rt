@@ -1,0 +1,96 @@
+//! Pages of the input, and how they are written.
+ghost use Rattle.std.specs.Prelude.{◌≡◌, ◌+◌, ◌-◌, ◌<◌, ◌≤◌, ◌^◌, ◌++◌, ◌↔◌, length, take, drop, OnOk, OnErr, IsTrue, if◌then◌else◌};
+ghost use Rattle.std.specs.Vec.{vec_capacity};
+ghost use Rattle.teco_store.specs.Page.{page_of, is_ended, form_feed_if};
+
+use memchr::memchr;
+use teco_core::NoMemory;
+
+const FORM_FEED: u8 = 12;
+
+/// A page of the input.
+#[derive(Clone, Copy)]
+pub(crate) struct Page<'a> {
+    pub(crate) bytes: &'a [u8],
+    /// Whether a form feed ended it.
+    pub(crate) form_feed: bool,
+}
+
+// The next page of what is left of the input.
+pub(crate) fn next_page(left: &[u8]) -> Page<'_>
+    ensures bytes { result.bytes.now ≡ page_of left.now }
+    ensures form_feed { result.form_feed ≡ is_ended left.now }
+    ensures within { length result.bytes.now + (if result.form_feed then 1 else 0) ≤ length left.now }
+{
+    match memchr(FORM_FEED, left) {
+        None => Page {
+            bytes: left,
+            form_feed: false,
+        },
+        Some(end) => Page {
+            bytes: &left[..end],
+            form_feed: true,
+        },
+    }
+}
+
+// Whether so many more bytes would pass a limit.
+pub(crate) fn is_past(limit: usize, there: usize, more: usize) -> bool
+    requires { there ≤ limit }
+    ensures { IsTrue result ↔ (limit < there + more) }
+{
+    more > limit - there
+}
+
+// A form feed, where one is to be written.
+fn form_feed_bytes(form_feed: bool) -> &'static [u8]
+    ensures { result.now ≡ form_feed_if form_feed }
+{
+    if form_feed { b"\x0c" } else { b"" }
+}
+
+// Appends bytes for which there is room.
+fn append_within(bytes: &mut Vec<u8>, more: &[u8])
+    requires { length bytes.old.items + length more.now ≤ vec_capacity bytes.old }
+    ensures items { bytes.new.items ≡ bytes.old.items ++ more.now }
+    ensures capacity { vec_capacity bytes.old ≤ vec_capacity bytes.new }
+{
+    if bytes.extend_from_slice(more).is_err() {
+        unreachable!();
+    }
+}
+
+// Appends the two parts of a text, a form feed where one is asked for, and the rest; or nothing, where memory is refused.
+pub(crate) fn append(
+    output: &mut Vec<u8>,
+    before: &[u8],
+    after: &[u8],
+    form_feed: bool,
+    rest: &[u8],
+) -> Result<(), NoMemory>
+    requires { length before.now + length after.now + length rest.now + 1 < 2 ^ 64 }
+    ensures ok { OnOk result (output.new.items ≡ output.old.items ++ (((before.now ++ after.now) ++ form_feed_if form_feed) ++ rest.now)) }
+    ensures err { OnErr result (output.new.items ≡ output.old.items) }
+{
+    let end = form_feed_bytes(form_feed);
+    output.reserve(before.len() + after.len() + rest.len() + end.len())?;
+    append_within(output, before);
+    append_within(output, after);
+    append_within(output, end);
+    append_within(output, rest);
+    Ok(())
+}
+
+/// The bytes between two places of a text in two parts, in two parts.
+pub fn part<'a>(before: &'a [u8], after: &'a [u8], from: usize, to: usize) -> (&'a [u8], &'a [u8])
+    requires ordered { from ≤ to }
+    requires there { to ≤ length (before.now ++ after.now) }
+    ensures joined { result.0.now ++ result.1.now ≡ drop from (take to (before.now ++ after.now)) }
+    ensures long { length result.0.now + length result.1.now ≡ to - from }
+{
+    let middle = before.len();
+    (
+        &before[from.min(middle)..to.min(middle)],
+        &after[from.saturating_sub(middle)..to.saturating_sub(middle)],
+    )
+}
