@@ -46,11 +46,27 @@ fn assert_whole_steps(rt: &impl Abort, alloc: Global, text: &[u8], ran: &Ran) {
     }
 }
 
-// Where memory was refused, the string is run a second time.
+/// A text and its limit, and the code, the steps and the typed bytes of its run.
+type Row = (&'static [u8], u64, Option<Code>, u64, &'static [u8]);
+
+/// The text ends so. Where memory was refused, its whole steps did what they do, and it is run a second time.
+fn assert_ends(rt: &impl Abort, alloc: Global, row: Row) {
+    let (text, limit, code, steps, typed) = row;
+    let mut ran = run_anew(alloc, text, limit);
+    if lacks_memory(&ran) {
+        assert!(rt; ran.outcome.steps < steps);
+        assert!(rt; typed.starts_with(ran.terminal.bytes()));
+        assert_whole_steps(rt, alloc, text, &ran);
+        ran = run_anew(alloc, text, limit);
+    }
+    assert_eq!(rt; ran.outcome, Outcome { code, steps });
+    assert_eq!(rt; ran.terminal.bytes(), typed);
+}
+
 #[test]
-fn ends_as_it_means(rt: HostRuntime) {
+fn straight_texts_end_as_they_mean(rt: HostRuntime) {
     meaning_laws();
-    let rows: [(&[u8], u64, Option<Code>, u64, &[u8]); 36] = [
+    let rows: [Row; 13] = [
         (b"Ihello\x1b0J3C.=\x1b", 1000, None, 7, b"3\r\n"),
         (b"2+3*4=\x1b", 1000, None, 6, b"20\r\n"),
         (b"2147483647+1=\x1b", 1000, Some(Code::Ovf), 3, b""),
@@ -64,6 +80,16 @@ fn ends_as_it_means(rt: HostRuntime) {
         (b"7=Iab", 1000, Some(Code::Utc), 2, b"7\r\n"),
         (b"1\x1b=", 1000, Some(Code::Nae), 2, b""),
         (b"Ia\nb\x1b0T-T\x1b", 1000, None, 5, b"ba\nb"),
+    ];
+    for row in rows {
+        assert_ends(&rt, rt.alloc(), row);
+    }
+}
+
+#[test]
+fn blocks_end_as_they_mean(rt: HostRuntime) {
+    meaning_laws();
+    let rows: [Row; 10] = [
         (b"0<?>1=\x1b", 1000, Some(Code::Ill), 2, b""),
         (b"1=>2=\x1b", 1000, Some(Code::Bni), 2, b"1\r\n"),
         (b"1\"G2=|3='4=\x1b", 1000, None, 6, b"2\r\n4\r\n"),
@@ -80,6 +106,16 @@ fn ends_as_it_means(rt: HostRuntime) {
         ),
         (b"0\"Z1='\x1b", 1000, Some(Code::Iqc), 1, b""),
         (b"\"E1='\x1b", 1000, Some(Code::Naq), 1, b""),
+    ];
+    for row in rows {
+        assert_ends(&rt, rt.alloc(), row);
+    }
+}
+
+#[test]
+fn jumps_and_macros_end_as_they_mean(rt: HostRuntime) {
+    meaning_laws();
+    let rows: [Row; 13] = [
         (b"!x!Ox\x1b", 5, Some(Code::Lim), 5, b""),
         (b"Ox\x1b?!x!\x1b", 1000, Some(Code::Tag), 1, b""),
         (b"Ox\x1b0<!x!>\x1b", 1000, Some(Code::Tag), 1, b""),
@@ -106,16 +142,8 @@ fn ends_as_it_means(rt: HostRuntime) {
             b"1\r\n2\r\n4\r\n",
         ),
     ];
-    for (text, limit, code, steps, typed) in rows {
-        let mut ran = run_anew(rt.alloc(), text, limit);
-        if lacks_memory(&ran) {
-            assert!(rt; ran.outcome.steps < steps);
-            assert!(rt; typed.starts_with(ran.terminal.bytes()));
-            assert_whole_steps(&rt, rt.alloc(), text, &ran);
-            ran = run_anew(rt.alloc(), text, limit);
-        }
-        assert_eq!(rt; ran.outcome, Outcome { code, steps });
-        assert_eq!(rt; ran.terminal.bytes(), typed);
+    for row in rows {
+        assert_ends(&rt, rt.alloc(), row);
     }
 }
 

@@ -3,6 +3,7 @@ use crate::command::{
     Arithmetic, Bare, BlockMark, Command, Modifiers, Quantity, RegisterCommand, Test, TextCommand,
 };
 use crate::scan::{spelling, token_at};
+use crate::table::NONE;
 use crate::token::{Found, Item, Span, Token, TokenKind};
 use teco_core::{Code, Op, Reg};
 
@@ -34,14 +35,9 @@ fn finds_each_token(rt: HostRuntime) {
     ];
     let mut at = 0;
     for (from, to, kind) in want {
-        let modifiers = Modifiers {
-            at: false,
-            colons: 0,
-        };
-        let span = Span { from, to };
         let token = Token {
-            span,
-            modifiers,
+            span: Span { from, to },
+            modifiers: NONE,
             kind,
         };
         assert!(rt; at <= text.len());

@@ -298,6 +298,23 @@ fn compare(rt: &impl Abort, pattern: &Pattern, wants: &[Want], text: &[u8]) {
     }
 }
 
+/// The digits of a number to a base of 2 or 3, as letters.
+fn text_of(base: usize, number: usize) -> [u8; 5]
+    requires { 0 < base }
+{
+    let mut text = [0u8; 5];
+    let mut rest = number;
+    for byte in text.iter_mut() {
+        *byte = match rest % base {
+            0 => b'a',
+            1 => b' ',
+            _ => b'b',
+        };
+        rest /= base;
+    }
+    text
+}
+
 #[test]
 fn beside_a_slow_search(rt: HostRuntime) -> Result<(), Fail> {
     let a = Want::Byte(b'a');
@@ -320,28 +337,15 @@ fn beside_a_slow_search(rt: HostRuntime) -> Result<(), Fail> {
         (b"\x18\x05Sb", &[any, run, b]),
         (b"\x05S\x18\x05S", &[run, any, run]),
     ];
-    let alphabet = *b"ab ";
     for (search, wants) in rows {
         let pattern = pattern(&rt, rt.alloc(), search, CaseMode::Exact).ok_or("read")?;
         for (len, most) in [(0, 1), (1, 3), (2, 9), (3, 27), (4, 81usize)] {
             for number in 0..most {
-                let mut text = [0u8; 4];
-                let mut rest = number;
-                for byte in text.iter_mut() {
-                    *byte = alphabet[rest % 3];
-                    rest /= 3;
-                }
-                compare(&rt, &pattern, wants, &text[..len]);
+                compare(&rt, &pattern, wants, &text_of(3, number)[..len]);
             }
         }
         for number in 0..32usize {
-            let mut text = [0u8; 5];
-            let mut rest = number;
-            for byte in text.iter_mut() {
-                *byte = if rest % 2 == 0 { b'a' } else { b' ' };
-                rest /= 2;
-            }
-            compare(&rt, &pattern, wants, &text);
+            compare(&rt, &pattern, wants, &text_of(2, number));
         }
     }
     Ok(())
