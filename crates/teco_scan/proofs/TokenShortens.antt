@@ -1,7 +1,8 @@
 -- Each token has a byte.
 use Rattle.std.proofs.Common.{◌≡◌, ◌<◌, ◌≤◌, ℕ, true, false, cond as choose, List, [], ◌∷◌, length, Ok, Err, ap, arith, length-append}
 use Rattle.teco_scan.specs.declared.table.TheConstants.{ROWS}
-use Rattle.teco_scan.specs.Scan.{Reading, TokenMeaning, found, scan, scan_here, scanned, after_fillers, token_from, is_filler}
+use Rattle.teco_core.specs.Ascii.{is_filler}
+use Rattle.teco_scan.specs.Scan.{Reading, TokenMeaning, found, scan, scan_here, scanned, after_fillers, token_from}
 use Rattle.teco_scan.specs.Spelling.{Spells}
 use Rattle.teco_scan.proofs.IsSpelled.{Takes, token_takes, spelled_long}
 

@@ -3,8 +3,7 @@ use Rattle.std.specs.Prelude.{ℕ, option_and_then, ◌+◌, Bool, true, false, 
 use Rattle.teco_core.specs.declared.code.Code.{Code}
 use Rattle.teco_core.specs.declared.code.Code.TheVariants.{Ill, Iqn, Iqc, Utc}
 use Rattle.teco_core.specs.Refusal.{◌>>=◌}
-use Rattle.teco_core.specs.Ascii.{is_digit, upper}
-pub use Rattle.teco_core.specs.Ascii.{is_filler}
+use Rattle.teco_core.specs.Ascii.{is_digit, is_filler, upper}
 use Rattle.teco_core.specs.Register.{register_of}
 use Rattle.teco_scan.specs.declared.command.Modifiers.{Modifiers}
 use Rattle.teco_scan.specs.declared.command.Row.{Row}

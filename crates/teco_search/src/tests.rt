@@ -1,4 +1,6 @@
 //! What no clause says: rows by hand, and a plain slow search beside the real one on all short texts.
+ghost use Rattle.std.specs.Prelude.{◌<◌};
+
 use crate::{Pattern, count, find, matches_at};
 use std::alloc::Global;
 use std::process::Abort;
