@@ -9,11 +9,12 @@ ghost use Rattle.teco_step.specs.Typing as typing;
 
 use crate::failure::Failure;
 use crate::next::Next;
-use crate::taking::{takes_none, takes_one, takes_reach};
+use crate::taking::{as_byte, line_around, takes_none, takes_one, takes_reach};
 use crate::terminal::{Terminal, TerminalFault};
 use itoa::Buffer;
 use std::ops::Range;
 use teco_core::{Args, Code};
+use teco_scan::Modifiers;
 use teco_store::Desk;
 
 /// Shows the bytes, and puts nothing where there are none.
@@ -79,6 +80,22 @@ pub(crate) fn type_out<D: Desk, T: Terminal>(
     Ok(Next::On)
 }
 
+/// `V` types the line that the pointer is in.
+pub(crate) fn view<D: Desk, T: Terminal>(
+    desk: &D,
+    args: &mut Args,
+    term: &mut T,
+) -> Result<Next, Failure>
+    ensures { Types (goes typing.view) (D.state desk.now) (arguments args.old) (arguments args.new) (T.screen term.old) (T.screen term.new) result }
+{
+    takes_none(args)?;
+    let range = line_around(desk);
+    let (before, after) = desk.halves();
+    put_range(before, after, range, term)?;
+    args.clear();
+    Ok(Next::On)
+}
+
 /// `^Atext^A` types its text.
 pub(crate) fn type_text<D: Desk, T: Terminal>(
     desk: &D,
@@ -92,29 +109,62 @@ pub(crate) fn type_text<D: Desk, T: Terminal>(
     show(desk, text, args, term)
 }
 
-/// Shows a number in decimal, and then CR LF.
-fn put_number<T: Terminal>(n: i32, term: &mut T) -> Result<(), TerminalFault>
-    ensures { Puts (T.screen term.old) (T.screen term.new) (signed_decimal n ++ 13 ∷ 10 ∷ []) result }
-{
-    let mut buffer = Buffer::new();
-    let digits = buffer.format(n).as_bytes();
-    let end = digits.len();
-    let mut line = [0; 13];
-    line[..end].copy_from_slice(digits);
-    line[end..end + 2].copy_from_slice(b"\r\n");
-    term.put(&line[..end + 2])
-}
-
-/// `n=` types n in decimal, and then CR LF.
-pub(crate) fn print<D: Desk, T: Terminal>(
+/// `n^T` types the byte n.
+pub(crate) fn type_byte<D: Desk, T: Terminal>(
     desk: &D,
     args: &mut Args,
     term: &mut T,
 ) -> Result<Next, Failure>
-    ensures { Types (goes typing.print) (D.state desk.now) (arguments args.old) (arguments args.new) (T.screen term.old) (T.screen term.new) result }
+    ensures { Types (goes typing.type_byte) (D.state desk.now) (arguments args.old) (arguments args.new) (T.screen term.old) (T.screen term.new) result }
+{
+    let byte = as_byte(takes_one(args, Code::Arg)?)?;
+    show(desk, &[byte], args, term)
+}
+
+/// Shows a few bytes as a line, which ends with CR LF; with a colon nothing follows them.
+fn put_line<T: Terminal>(
+    bytes: &[u8],
+    modifiers: Modifiers,
+    term: &mut T,
+) -> Result<(), TerminalFault>
+    requires { length bytes.now ≤ 11 }
+    ensures puts { Puts (T.screen term.old) (T.screen term.new) (typing.ended modifiers bytes.now) result }
+    ensures some { OnErr result (typing.ended modifiers bytes.now ≢ []) }
+{
+    if modifiers.colons == 1 {
+        return put_some(bytes, term);
+    }
+    let end = bytes.len();
+    let mut line = [0; 13];
+    line[..end].copy_from_slice(bytes);
+    line[end..end + 2].copy_from_slice(b"\r\n");
+    put_some(&line[..end + 2], term)
+}
+
+/// Shows a number in decimal.
+fn put_number<T: Terminal>(
+    n: i32,
+    modifiers: Modifiers,
+    term: &mut T,
+) -> Result<(), TerminalFault>
+    ensures puts { Puts (T.screen term.old) (T.screen term.new) (typing.ended modifiers (signed_decimal n)) result }
+    ensures some { OnErr result (typing.ended modifiers (signed_decimal n) ≢ []) }
+{
+    let mut buffer = Buffer::new();
+    put_line(buffer.format(n).as_bytes(), modifiers, term)
+}
+
+/// `n=` types n in decimal.
+pub(crate) fn print<D: Desk, T: Terminal>(
+    desk: &D,
+    modifiers: Modifiers,
+    args: &mut Args,
+    term: &mut T,
+) -> Result<Next, Failure>
+    ensures { Types (goes (typing.print modifiers)) (D.state desk.now) (arguments args.old) (arguments args.new) (T.screen term.old) (T.screen term.new) result }
 {
     let n = takes_one(args, Code::Nae)?;
-    put_number(n, term)?;
+    put_number(n, modifiers, term)?;
     args.clear();
     Ok(Next::On)
 }
