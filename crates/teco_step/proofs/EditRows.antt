@@ -1,5 +1,5 @@
 -- Deletions, the push-down list and what types, by computing.
-use Rattle.std.proofs.Common.{◌≡◌, ℕ, List, [], ◌∷◌, replicate, pos, negsuc, refl}
+use Rattle.std.proofs.Common.{◌≡◌, ℕ, List, [], ◌∷◌, ◌++◌, replicate, pos, negsuc, refl}
 use Rattle.std.specs.Prelude.{codes}
 use Rattle.std.specs.Fmt.{digits}
 use Rattle.teco_core.specs.declared.code.Code.TheVariants.{Arg, Cpq, Iia, Mrp, Nae, Pdo, Pop}
@@ -130,3 +130,19 @@ row_print_with_a_colon = refl
 row_print_nothing_with_a_colon : effect (token.bare (bare.Command command.Print)) with_colon seven no_arguments ≡ refused seven no_arguments Nae
 unfolding effect give operate taken_from digits_value line_ends_from
 row_print_nothing_with_a_colon = refl
+
+row_print_octal : does (token.bare (bare.Command command.PrintOctal)) seven (value (negsuc 0)) ≡ goes seven no_arguments (codes "37777777777" ++ 13 ∷ 10 ∷ []) 0
+unfolding effect give operate taken_from digits_value line_ends_from digits
+row_print_octal = refl
+
+row_print_octal_of_0 : does (token.bare (bare.Command command.PrintOctal)) seven (value (pos 0)) ≡ goes seven no_arguments (48 ∷ 13 ∷ 10 ∷ []) 0
+unfolding effect give operate taken_from digits_value line_ends_from digits
+row_print_octal_of_0 = refl
+
+row_print_octal_with_a_colon : effect (token.bare (bare.Command command.PrintOctal)) with_colon seven (value (pos 511)) ≡ goes seven no_arguments (codes "777") 0
+unfolding effect give operate taken_from digits_value line_ends_from digits
+row_print_octal_with_a_colon = refl
+
+row_print_octal_of_nothing : does (token.bare (bare.Command command.PrintOctal)) seven no_arguments ≡ refused seven no_arguments Nae
+unfolding effect give operate taken_from digits_value line_ends_from
+row_print_octal_of_nothing = refl

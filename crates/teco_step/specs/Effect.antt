@@ -15,7 +15,7 @@ use Rattle.teco_store.specs.State.{State}
 use Rattle.teco_step.specs.Step.{Setting, Step, Action, goes, steers, done_by, settled, none_such}
 use Rattle.teco_step.specs.Values.{number, give_quantity, build}
 use Rattle.teco_step.specs.Editing.{jump, forward, back, to_line, delete, kill, insert, insert_tab}
-use Rattle.teco_step.specs.Typing.{type_out, view, type_text, type_byte, print}
+use Rattle.teco_step.specs.Typing.{type_out, view, type_text, type_byte, print, print_octal}
 use Rattle.teco_step.specs.Registers.{register_value, set_number, increment, set_text, extract, push, pop, get}
 use Rattle.teco_step.specs.Control.{leave_or_not, jump_to, run_register}
 
@@ -31,6 +31,7 @@ command_effect command.TypeOut w = goes type_out
 command_effect command.View w = goes view
 command_effect command.TypeByte w = goes type_byte
 command_effect command.Print w = goes (print w.modifiers)
+command_effect command.PrintOctal w = goes (print_octal w.modifiers)
 command_effect command.Leave w = steers (leave_or_not w.inside)
 command_effect c w = none_such
 

@@ -1,8 +1,9 @@
 -- Typing.
-use Rattle.std.specs.Prelude.{ℕ, List, [], ◌∷◌, ◌++◌, take, drop, pos, ◌==◌, if◌then◌else◌}
-use Rattle.std.specs.Fmt.{signed_decimal}
+use Rattle.std.specs.Prelude.{ℕ, List, [], ◌∷◌, ◌++◌, take, drop, pos, false, ◌==◌, if◌then◌else◌}
+use Rattle.std.specs.Fmt.{digits, signed_decimal}
 use Rattle.teco_core.specs.declared.code.Code.TheVariants.{Arg, Nae}
 use Rattle.teco_core.specs.Refusal.{◌>>=◌}
+use Rattle.teco_core.specs.Number.{to_word}
 use Rattle.teco_core.specs.Arguments.{Arguments}
 use Rattle.teco_scan.specs.declared.command.Modifiers.{Modifiers}
 use Rattle.teco_store.specs.State.{State}
@@ -49,6 +50,12 @@ abbrev pub print : Modifiers → State → Arguments → Made
 print m s a = do
   n ← takes_one Nae a
   types s (ended m (signed_decimal n))
+
+-- n==: types the 32-bit two's complement of n in octal.
+abbrev pub print_octal : Modifiers → State → Arguments → Made
+print_octal m s a = do
+  n ← takes_one Nae a
+  types s (ended m (digits 8 false (to_word n)))
 
 -- ^Atext^A: types its text.
 abbrev pub type_text : List ℕ → State → Arguments → Made

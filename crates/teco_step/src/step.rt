@@ -16,11 +16,9 @@ use crate::control::{jump_to, leave_or_not, run_register};
 use crate::edit::{back, delete, forward, insert, insert_tab, jump, kill, to_line};
 use crate::failure::{Failure, next_of};
 use crate::next::{Next, Setting, Work};
-use crate::registers::{
-    extract, get, increment, pop, push, register_value, set_number, set_text,
-};
+use crate::registers::{extract, get, increment, pop, push, register_value, set_number, set_text};
 use crate::terminal::Terminal;
-use crate::typing::{print, type_byte, type_out, type_text, view};
+use crate::typing::{print, print_octal, type_byte, type_out, type_text, view};
 use crate::value::{arithmetic, number, quantity};
 use teco_core::{Args, Code, Reg};
 use teco_scan::{Bare, Command, Item, RegisterCommand, TextCommand, Token, TokenKind};
@@ -44,13 +42,13 @@ fn command_step<D: Desk, T: Terminal>(
         Command::View => view(desk, args, term),
         Command::TypeByte => type_byte(desk, args, term),
         Command::Print => print(desk, setting.modifiers, args, term),
+        Command::PrintOctal => print_octal(desk, setting.modifiers, args, term),
         Command::Leave => leave_or_not(desk, setting.inside, args),
         Command::Back => back(desk, args),
         Command::Line => to_line(desk, args),
         Command::Delete => delete(desk, args),
         Command::Kill => kill(desk, args),
-        Command::PrintOctal
-        | Command::NextPage
+        Command::NextPage
         | Command::TurnPages
         | Command::WritePage
         | Command::Exit

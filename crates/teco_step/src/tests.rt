@@ -203,7 +203,7 @@ fn texts_are_taken_into_registers(rt: HostRuntime) {
 
 #[test]
 fn bytes_and_lines_are_typed(rt: HostRuntime) {
-    let rows: [(&[u8], &[u8], Option<Code>); 8] = [
+    let rows: [(&[u8], &[u8], Option<Code>); 11] = [
         (b"Ione\ntwo\nthree\x1b-L2CV.=", b"two\n6\r\n", None),
         (b"V", b"", None),
         (b"Ione\x1b1V", b"", Some(Code::Arg)),
@@ -212,6 +212,13 @@ fn bytes_and_lines_are_typed(rt: HostRuntime) {
         (b"256^T", b"", Some(Code::Arg)),
         (b"12:=-3:=", b"12-3", None),
         (b":=", b"", Some(Code::Nae)),
+        (b"-1==8:==0==", b"37777777777\r\n100\r\n", None),
+        (
+            b"-2147483647-1==2147483647:==",
+            b"20000000000\r\n17777777777",
+            None,
+        ),
+        (b"==", b"", Some(Code::Nae)),
     ];
     for (text, typed, code) in rows {
         check(&rt, rt.alloc(), text, typed, code);

@@ -170,6 +170,8 @@ fn serves_lines_and_ranges(rt: HostRuntime) {
         plain_row("Ione\ntwo$V$$", "two", "one\ntwo"),
         plain_row("72^T105^T$$", "Hi", ""),
         plain_row("12:=3=$$", "123\r\n", ""),
+        plain_row("-1==$$", "37777777777\r\n", ""),
+        plain_row("8:==$$", "10", ""),
         Row {
             register: "one\n",
             ..plain_row("Ione\ntwo$JXA:GA$$", "one\n", "one\ntwo")
