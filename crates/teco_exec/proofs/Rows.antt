@@ -26,7 +26,7 @@ limits_and_faults :
     × (within 1 "1=$" ≡ types "" (Some code.Lim) 1)
     × (within 2 "1=$" ≡ types "1\r\n" None 2)
     -- A fault is met where it is, and no sooner.
-    × (does "1==$" ≡ types "" (Some code.Ill) 1)
+    × (does "1===$" ≡ types "" (Some code.Ill) 1)
     × (does "Iab" ≡ types "" (Some code.Utc) 0)
     × (does "7=Iab" ≡ types "7\r\n" (Some code.Utc) 2)
     × (does "5JIab" ≡ types "" (Some code.Pop) 2)

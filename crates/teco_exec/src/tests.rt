@@ -76,7 +76,7 @@ fn straight_texts_end_as_they_mean(rt: HostRuntime) {
         (b"1=\x1b", 1, Some(Code::Lim), 1, b""),
         (b"1=\x1b", 2, None, 2, b"1\r\n"),
         (b"\x1b", 1000, None, 0, b""),
-        (b"1==\x1b", 1000, Some(Code::Ill), 1, b""),
+        (b"1===\x1b", 1000, Some(Code::Ill), 1, b""),
         (b"7=Iab", 1000, Some(Code::Utc), 2, b"7\r\n"),
         (b"1\x1b=", 1000, Some(Code::Nae), 2, b""),
         (b"Ia\nb\x1b0T-T\x1b", 1000, None, 5, b"ba\nb"),

@@ -7,9 +7,9 @@ use Rattle.teco_core.specs.declared.code.Code.TheVariants.{Ill, Iqc, Iqn, Utc}
 use Rattle.teco_scan.specs.declared.command.Bare.TheVariants as group
 use Rattle.teco_scan.specs.declared.command.Quantity.TheVariants.{Pointer, End}
 use Rattle.teco_scan.specs.declared.command.Arithmetic.TheVariants.{Operator}
-use Rattle.teco_scan.specs.declared.command.Command.TheVariants.{Jump, TypeOut, Print, Leave}
-use Rattle.teco_scan.specs.declared.command.RegisterCommand.TheVariants.{Number, Increment, Set, Macro}
-use Rattle.teco_scan.specs.declared.command.TextCommand.TheVariants.{Insert, Go}
+use Rattle.teco_scan.specs.declared.command.Command.TheVariants.{Jump, Kill, TypeOut, View, TypeByte, Print, PrintOctal, Leave}
+use Rattle.teco_scan.specs.declared.command.RegisterCommand.TheVariants.{Number, Increment, Set, Extract, Macro, Push, Pop}
+use Rattle.teco_scan.specs.declared.command.TextCommand.TheVariants.{Insert, InsertTab, Go}
 use Rattle.teco_scan.specs.declared.command.BlockMark.TheVariants.{Iterate, EndIteration, Otherwise, EndTest}
 use Rattle.teco_scan.specs.declared.command.Test.TheVariants.{Zero, NotZero, Above, Below, Letter, Digit, LetterOrDigit, Lower, Upper}
 use Rattle.teco_scan.specs.Scan.{digits, bare, register, text, set_text, Instruction, step, mark, decide, tag, Scanned, found, ended, fault, no_modifiers, test_of, byte_at, register_at, test_at, delimiter_at, text_at, operand_at, modifiers_at, after_letter, after_name, ends_inside, row_at, is_cut, command_at, run_of, after_run, token_from, after_fillers, scan}
@@ -171,10 +171,12 @@ found_none : scans "" ended
     × scans "   " ended
     × scans "I" (fault Utc)
     × scans "Iab" (fault Utc)
-    × scans "==" (fault Ill)
     × scans "===" (fault Ill)
-    × scans "==3" (fault Ill)
-    × scans ":=" (fault Ill)
+    × scans "===3" (fault Ill)
+    × scans "::=" (fault Ill)
+    × scans "::==" (fault Ill)
+    × scans "@=" (fault Ill)
+    × scans "@==" (fault Ill)
     × scans ":===" (fault Ill)
     × scans "@@I" (fault Ill)
     × scans ":::=" (fault Ill)
@@ -182,7 +184,42 @@ found_none : scans "" ended
     × scans "?" (fault Ill)
     × scans "I ? " (fault Utc)
 unfolding computing
-found_none = (refl, refl, refl, refl, refl, refl, refl, refl, refl, refl, refl, refl, refl, refl)
+found_none = (refl, refl, refl, refl, refl, refl, refl, refl, refl, refl, refl, refl, refl, refl, refl, refl)
+
+-- deletions, the push-down list, and what types; ^T is its byte, or a caret and its letter, and TAB is its byte alone
+found_edits : scans "K2" (plain (step (bare (group.Command Kill))) "2")
+    × scans "kT" (plain (step (bare (group.Command Kill))) "T")
+    × scans "V=" (plain (step (bare (group.Command View))) "=")
+    × scans "Xa=" (plain (step (register Extract 0)) "=")
+    × scans "xZ" (plain (step (register Extract 25)) "")
+    × scans "[9" (plain (step (register Push 35)) "")
+    × scans "]bT" (plain (step (register Pop 1)) "T")
+    × (scan (20 ∷ keys "=") ≡ plain (step (bare (group.Command TypeByte))) "=")
+    × scans "^tT" (plain (step (bare (group.Command TypeByte))) "T")
+    × (scan (9 ∷ keys " a$2") ≡ plain (step (text InsertTab (codes " a"))) "2")
+    × scans "==" (plain (step (bare (group.Command PrintOctal))) "")
+    × scans "== =" (plain (step (bare (group.Command PrintOctal))) " =")
+    × scans ":=" (colon (step (bare (group.Command Print))) "")
+    × scans ":==3" (colon (step (bare (group.Command PrintOctal))) "3")
+unfolding computing
+found_edits = (refl, refl, refl, refl, refl, refl, refl, refl, refl, refl, refl, refl, refl, refl)
+
+found_no_edits : scans ":K" (fault Ill)
+    × scans "@V" (fault Ill)
+    × scans ":^T" (fault Ill)
+    × scans "X" (fault Utc)
+    × scans "X?" (fault Iqn)
+    × scans ":Xa" (fault Ill)
+    × scans "@Xa" (fault Ill)
+    × scans "[" (fault Utc)
+    × scans "]?" (fault Iqn)
+    × scans ":]a" (fault Ill)
+    × (scan (9 ∷ []) ≡ fault Utc)
+    × (scan (9 ∷ codes "ab") ≡ fault Utc)
+    × (scan (64 ∷ 9 ∷ codes "/a/") ≡ fault Ill)
+    × scans "^Ia$" (fault Ill)
+unfolding computing
+found_no_edits = (refl, refl, refl, refl, refl, refl, refl, refl, refl, refl, refl, refl, refl, refl)
 
 up_to : ℕ → List ℕ
 up_to zero = []
@@ -193,7 +230,7 @@ is_token (found t bs) = true
 is_token _ = false
 
 -- the bytes that are a token alone
-single_bytes : filter (λ b. is_token (scan (b ∷ []))) (up_to 256) ≡ 27 ∷ codes "'*+-./0123456789;<=>BCDHJLRTZbcdhjlrtz|"
+single_bytes : filter (λ b. is_token (scan (b ∷ []))) (up_to 256) ≡ 20 ∷ 27 ∷ codes "'*+-./0123456789;<=>BCDHJKLRTVZbcdhjklrtvz|"
 unfolding computing up_to is_token
 single_bytes = refl
 

@@ -31,7 +31,7 @@ macro_rules! commands {
         $value! {
             [$($byte)*]
             Three(b'=', b'=', b'='), ANY, Form::Refused;
-            Two(b'=', b'='), NONE, Form::Refused;
+            Two(b'=', b'='), COLON, Form::Bare(Bare::Command(Command::PrintOctal));
             One(b'B'), NONE, Form::Bare(Bare::Quantity(Quantity::Beginning));
             One(b'Z'), NONE, Form::Bare(Bare::Quantity(Quantity::End));
             One(b'.'), NONE, Form::Bare(Bare::Quantity(Quantity::Pointer));
@@ -45,12 +45,19 @@ macro_rules! commands {
             One(b'R'), NONE, Form::Bare(Bare::Command(Command::Back));
             One(b'L'), NONE, Form::Bare(Bare::Command(Command::Line));
             One(b'D'), NONE, Form::Bare(Bare::Command(Command::Delete));
+            One(b'K'), NONE, Form::Bare(Bare::Command(Command::Kill));
+            One(b'V'), NONE, Form::Bare(Bare::Command(Command::View));
+            Control(b'T'), NONE, Form::Bare(Bare::Command(Command::TypeByte));
+            One(b'\t'), NONE, Form::Text(TextCommand::InsertTab, ESC);
             One(b'T'), NONE, Form::Bare(Bare::Command(Command::TypeOut));
-            One(b'='), NONE, Form::Bare(Bare::Command(Command::Print));
+            One(b'='), COLON, Form::Bare(Bare::Command(Command::Print));
             One(ESC), NONE, Form::Escape;
             One(b'Q'), COLON, Form::Register(RegisterCommand::Number);
             One(b'%'), NONE, Form::Register(RegisterCommand::Increment);
             One(b'U'), NONE, Form::Register(RegisterCommand::Set);
+            One(b'X'), NONE, Form::Register(RegisterCommand::Extract);
+            One(b'['), NONE, Form::Register(RegisterCommand::Push);
+            One(b']'), NONE, Form::Register(RegisterCommand::Pop);
             One(b'G'), COLON, Form::Register(RegisterCommand::Get);
             Control(b'U'), AT, Form::SetText;
             One(b'M'), NONE, Form::Register(RegisterCommand::Macro);
@@ -76,7 +83,7 @@ macro_rules! rows {
 
 /// Every command but the run of digits. The table is a definition: it says what commands there are. A longer name comes before one
 /// that begins it.
-pub const ROWS: [Row; 34] = commands!(rows);
+pub const ROWS: [Row; 41] = commands!(rows);
 
 // The first row whose name may begin with the byte.
 macro_rules! first_row {

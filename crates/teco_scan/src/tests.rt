@@ -49,6 +49,41 @@ fn finds_each_token(rt: HostRuntime) {
 }
 
 #[test]
+fn finds_edits(rt: HostRuntime) {
+    let command = |command| TokenKind::Item(Item::Bare(Bare::Command(command)));
+    let Some(a) = Reg::of(b'A') else {
+        return;
+    };
+    let on = |command| TokenKind::Item(Item::Register(command, a));
+    let text = b"kV\x14^tXa[A]a\t b\x1b==:==";
+    let tab = TokenKind::Item(Item::Text(
+        TextCommand::InsertTab,
+        Span { from: 12, to: 14 },
+    ));
+    let want = [
+        (0, 1, 0, command(Command::Kill)),
+        (1, 2, 0, command(Command::View)),
+        (2, 3, 0, command(Command::TypeByte)),
+        (3, 5, 0, command(Command::TypeByte)),
+        (5, 7, 0, on(RegisterCommand::Extract)),
+        (7, 9, 0, on(RegisterCommand::Push)),
+        (9, 11, 0, on(RegisterCommand::Pop)),
+        (11, 15, 0, tab),
+        (15, 17, 0, command(Command::PrintOctal)),
+        (17, 20, 1, command(Command::PrintOctal)),
+    ];
+    for (from, to, colons, kind) in want {
+        let token = Token {
+            span: Span { from, to },
+            modifiers: Modifiers { at: false, colons },
+            kind,
+        };
+        assert!(rt; from <= text.len());
+        assert_eq!(rt; token_at(text, from), Found::Token(token));
+    }
+}
+
+#[test]
 fn finds_registers(rt: HostRuntime) {
     let mut marked = Modifiers {
         at: false,
@@ -111,12 +146,17 @@ fn finds_control_structure(rt: HostRuntime) {
 
 #[test]
 fn names_each_fault(rt: HostRuntime) {
-    let faults: [(&[u8], Code); 17] = [
+    let faults: [(&[u8], Code); 22] = [
         (b"I", Code::Utc),
         (b"Iab", Code::Utc),
-        (b"==", Code::Ill),
         (b"===", Code::Ill),
-        (b":=", Code::Ill),
+        (b"::==", Code::Ill),
+        (b"@=", Code::Ill),
+        (b"X", Code::Utc),
+        (b"[?", Code::Iqn),
+        (b"@]a", Code::Ill),
+        (b"\ta", Code::Utc),
+        (b"^Ia\x1b", Code::Ill),
         (b":::=", Code::Ill),
         (b"@I/a", Code::Utc),
         (b"\"?", Code::Iqc),

@@ -25,7 +25,7 @@ use Rattle.teco_step.specs.Line.{line, line_ends_from}
 use Rattle.teco_step.specs.Step.{Setting, Step, End, on, leave, go, call, stop}
 
 -- a LF b VT FF c: the line ends are at 1, 3 and 4
-abbrev lines : List ℕ
+abbrev pub lines : List ℕ
 lines = 97 ∷ 10 ∷ 98 ∷ 11 ∷ 12 ∷ 99 ∷ []
 
 lines_are_at : (line lines 3 (pos 1) ≡ 4)
@@ -46,23 +46,23 @@ lines_are_at : (line lines 3 (pos 1) ≡ 4)
 unfolding line_ends_from
 lines_are_at = (refl, refl, refl, refl, refl, refl, refl, refl, refl, refl, refl, refl, refl, refl, refl)
 
-abbrev alone : Setting
+abbrev pub alone : Setting
 alone = record { modifiers = no_modifiers; work = None; inside = false; before = false }
 
-abbrev holds : List ℕ → ℕ → State
+abbrev pub holds : List ℕ → ℕ → State
 holds text place = record (beginning []) { text = text; pointer = place }
 
-abbrev value : ℤ → Arguments
+abbrev pub value : ℤ → Arguments
 value n = record no_arguments { expression = Number n }
 
-abbrev does : Item → State → Arguments → Step
+abbrev pub does : Item → State → Arguments → Step
 does i s a = effect i alone s a
 
 -- it goes on with these
-abbrev goes : State → Arguments → List ℕ → ℕ → Step
+abbrev pub goes : State → Arguments → List ℕ → ℕ → Step
 goes s a typed load = record { state = s; arguments = a; typed = typed; load = load; end = on }
 
-abbrev refused : State → Arguments → Code → Step
+abbrev pub refused : State → Arguments → Code → Step
 refused s a c = record { state = s; arguments = a; typed = []; load = 0; end = stop c }
 
 row_digits : does (token.digits (codes "042")) (holds (codes "abc") 1) (no_arguments) ≡ goes (holds (codes "abc") 1) (value (pos 42)) [] 0
@@ -181,18 +181,18 @@ row_print_nothing : does (token.bare (bare.Command command.Print)) (holds (codes
 unfolding effect give operate taken_from digits_value line_ends_from
 row_print_nothing = refl
 
-row_not_built : does (token.bare (bare.Command command.Kill)) (holds (codes "abc") 1) (no_arguments) ≡ refused (holds (codes "abc") 1) no_arguments Ill
+row_not_built : does (token.bare (bare.Command command.NextPage)) (holds (codes "abc") 1) (no_arguments) ≡ refused (holds (codes "abc") 1) no_arguments Ill
 unfolding effect give operate taken_from digits_value line_ends_from
 row_not_built = refl
 
 -- the register A holds these, the others nothing
-abbrev keeps : ℤ → List ℕ → State
+abbrev pub keeps : ℤ → List ℕ → State
 keeps n text = record (beginning []) { registers = record { number = n; text = text } ∷ replicate 35 blank }
 
-abbrev seven : State
+abbrev pub seven : State
 seven = keeps (pos 7) (codes "abc")
 
-abbrev with_colon : Setting
+abbrev pub with_colon : Setting
 with_colon = record alone { modifiers = record { at = false; colons = 1 } }
 
 abbrev inside : Setting
@@ -202,10 +202,10 @@ abbrev found : Bool → State
 found was = record (beginning []) { last_found = was }
 
 -- the arguments m,n
-abbrev pair : ℤ → ℤ → Arguments
+abbrev pub pair : ℤ → ℤ → Arguments
 pair m n = record (value n) { first = Some m }
 
-abbrev opened : Arguments
+abbrev pub opened : Arguments
 opened = record no_arguments { outer = Nothing ∷ [] }
 
 -- a value or a sign that waits
@@ -215,7 +215,7 @@ waits n = record no_arguments { expression = Operation n Plus }
 abbrev over : ℤ → Arguments
 over n = record no_arguments { expression = Operation n Over }
 
-abbrev minus : Arguments
+abbrev pub minus : Arguments
 minus = record no_arguments { expression = Signed Negative }
 
 -- it ends so

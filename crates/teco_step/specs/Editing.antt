@@ -8,7 +8,7 @@ use Rattle.teco_core.specs.Refusal.{◌>>=◌}
 use Rattle.teco_core.specs.Arguments.{Arguments, taken_from}
 use Rattle.teco_core.specs.declared.limits.TheConstants.{TEXT_LIMIT}
 use Rattle.teco_store.specs.State.{State, spliced, pointed}
-use Rattle.teco_step.specs.Step.{Made, changes, takes_one_or, as_byte, place_or}
+use Rattle.teco_step.specs.Step.{Made, changes, takes_one_or, takes_reach, as_byte, place_or}
 use Rattle.teco_step.specs.Line.{line}
 
 -- The pointer goes to a place.
@@ -63,6 +63,12 @@ delete s a = do
   place ← place_or Dtb s (pos s.pointer +ℤ n)
   puts (min s.pointer place) (max s.pointer place - min s.pointer place) [] s a
 
+-- nK: what n lines reach is deleted; m,nK: the range is.
+abbrev pub kill : State → Arguments → Made
+kill s a = do
+  r ← takes_reach s a
+  puts r.low (r.high - r.low) [] s a
+
 -- What I inserts: its text; or with n and no text the byte n.
 abbrev pub inserted : List ℕ → Taken → Result (List ℕ) Code
 inserted text taken.None = Ok text
@@ -82,3 +88,16 @@ insert text s a = do
   t ← taken_from a
   bytes ← inserted text t
   inserts bytes s a
+
+-- Anything that was taken is IIA.
+abbrev pub untaken : Taken → Result (Unit {0}) Code
+untaken taken.None = Ok tt
+untaken (taken.One n) = Err Iia
+untaken (taken.Two m n) = Err Iia
+
+-- TAB text$: a TAB and the text come in at the pointer. It takes nothing.
+abbrev pub insert_tab : List ℕ → State → Arguments → Made
+insert_tab text s a = do
+  t ← taken_from a
+  none ← untaken t
+  inserts (9 ∷ text) s a

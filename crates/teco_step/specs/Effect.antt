@@ -14,9 +14,9 @@ use Rattle.teco_core.specs.Arguments.{Arguments}
 use Rattle.teco_store.specs.State.{State}
 use Rattle.teco_step.specs.Step.{Setting, Step, Action, goes, steers, done_by, settled, none_such}
 use Rattle.teco_step.specs.Values.{number, give_quantity, build}
-use Rattle.teco_step.specs.Editing.{jump, forward, back, to_line, delete, insert}
-use Rattle.teco_step.specs.Typing.{type_out, type_text, print}
-use Rattle.teco_step.specs.Registers.{register_value, set_number, increment, set_text, get}
+use Rattle.teco_step.specs.Editing.{jump, forward, back, to_line, delete, kill, insert, insert_tab}
+use Rattle.teco_step.specs.Typing.{type_out, view, type_text, type_byte, print, print_octal}
+use Rattle.teco_step.specs.Registers.{register_value, set_number, increment, set_text, extract, push, pop, get}
 use Rattle.teco_step.specs.Control.{leave_or_not, jump_to, run_register}
 
 -- Commands without an operand.
@@ -26,8 +26,12 @@ command_effect command.Forward w = goes forward
 command_effect command.Back w = goes back
 command_effect command.Line w = goes to_line
 command_effect command.Delete w = goes delete
+command_effect command.Kill w = goes kill
 command_effect command.TypeOut w = goes type_out
-command_effect command.Print w = goes print
+command_effect command.View w = goes view
+command_effect command.TypeByte w = goes type_byte
+command_effect command.Print w = goes (print w.modifiers)
+command_effect command.PrintOctal w = goes (print_octal w.modifiers)
 command_effect command.Leave w = steers (leave_or_not w.inside)
 command_effect c w = none_such
 
@@ -42,12 +46,15 @@ abbrev pub register_effect : RegisterCommand → ℕ → Setting → Action
 register_effect register_command.Number q w = goes (register_value w.modifiers q)
 register_effect register_command.Increment q w = goes (increment q)
 register_effect register_command.Set q w = goes (set_number q)
+register_effect register_command.Extract q w = goes (extract q)
+register_effect register_command.Push q w = goes (push q)
+register_effect register_command.Pop q w = goes (pop q)
 register_effect register_command.Get q w = goes (get w.modifiers q)
 register_effect register_command.Macro q w = steers (run_register q)
-register_effect c q w = none_such
 
 abbrev pub text_effect : TextCommand → List ℕ → Setting → Action
 text_effect text_command.Insert text w = goes (insert text)
+text_effect text_command.InsertTab text w = goes (insert_tab text)
 text_effect text_command.TypeOut text w = goes (type_text text)
 text_effect text_command.Go text w = steers (jump_to text)
 text_effect c text w = none_such

@@ -1,6 +1,6 @@
 -- Registers.
 use Rattle.std.specs.Prelude.{ℕ, ◌+◌, List, length, Err, ℤ, pos, ◌+ℤ◌, nat_le, ◌==◌, if◌then◌else◌}
-use Rattle.teco_core.specs.declared.code.Code.TheVariants.{Big, Nau}
+use Rattle.teco_core.specs.declared.code.Code.TheVariants.{Big, Cpq, Nau, Pdo}
 use Rattle.teco_core.specs.declared.arguments.Level.{Level}
 use Rattle.teco_core.specs.declared.arguments.Level.TheVariants as level
 use Rattle.teco_core.specs.Refusal.{◌>>=◌}
@@ -8,10 +8,11 @@ use Rattle.teco_core.specs.Number.{fitted}
 use Rattle.teco_core.specs.Arguments.{Arguments, give, level_of, emptied}
 use Rattle.teco_core.specs.Register.{content}
 use Rattle.teco_scan.specs.declared.command.Modifiers.{Modifiers}
-use Rattle.teco_core.specs.declared.limits.TheConstants.{TEXT_LIMIT}
-use Rattle.teco_store.specs.State.{State, with_register_number, with_register_text}
-use Rattle.teco_step.specs.Step.{Made, changes, edits, gives, types, takes_none, takes_one}
+use Rattle.teco_core.specs.declared.limits.TheConstants.{PUSHED_LIMIT, TEXT_LIMIT}
+use Rattle.teco_store.specs.State.{State, with_register_number, with_register_text, pushed_from, last_pushed, popped_into}
+use Rattle.teco_step.specs.Step.{Made, changes, edits, gives, types, takes_none, takes_one, takes_reach}
 use Rattle.teco_step.specs.Editing.{inserts}
+use Rattle.teco_step.specs.Typing.{part}
 
 -- Qq gives the number of q; with a colon the length of its text.
 abbrev pub register_value : Modifiers → ℕ → State → Arguments → Made
@@ -55,6 +56,22 @@ abbrev pub set_text : ℕ → List ℕ → State → Arguments → Made
 set_text q text s a = do
   none ← takes_none a
   sets_text q text s
+
+-- nXq: what n lines reach becomes the text of q; m,nXq: the range does.
+abbrev pub extract : ℕ → State → Arguments → Made
+extract q s a = do
+  r ← takes_reach s a
+  sets_text q (part s r) s
+
+-- [q: what q holds is pushed, and PDO where no more can be. The arguments stay.
+abbrev pub push : ℕ → State → Arguments → Made
+push q s a = if length s.pushed == PUSHED_LIMIT then Err Pdo else edits (pushed_from s q) a (length (content s.registers q).text)
+
+-- ]q: what was pushed last goes into q, and CPQ where nothing is pushed. The arguments stay. The load is that of the old and the new text.
+abbrev pub pop : ℕ → State → Arguments → Made
+pop q s a =
+    if length s.pushed == 0 then Err Cpq
+    else edits (popped_into s q) a (length (content s.registers q).text + length (last_pushed s).text)
 
 -- :Gq: types the text of q.
 abbrev pub type_text : ℕ → State → Arguments → Made

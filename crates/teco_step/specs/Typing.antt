@@ -1,11 +1,14 @@
 -- Typing.
-use Rattle.std.specs.Prelude.{ℕ, List, [], ◌∷◌, ◌++◌, take, drop}
-use Rattle.std.specs.Fmt.{signed_decimal}
-use Rattle.teco_core.specs.declared.code.Code.TheVariants.{Nae}
+use Rattle.std.specs.Prelude.{ℕ, List, [], ◌∷◌, ◌++◌, take, drop, pos, false, ◌==◌, if◌then◌else◌}
+use Rattle.std.specs.Fmt.{digits, signed_decimal}
+use Rattle.teco_core.specs.declared.code.Code.TheVariants.{Arg, Nae}
 use Rattle.teco_core.specs.Refusal.{◌>>=◌}
+use Rattle.teco_core.specs.Number.{to_word}
 use Rattle.teco_core.specs.Arguments.{Arguments}
+use Rattle.teco_scan.specs.declared.command.Modifiers.{Modifiers}
 use Rattle.teco_store.specs.State.{State}
-use Rattle.teco_step.specs.Step.{Made, types, takes_none, takes_one, takes_reach, Range}
+use Rattle.teco_step.specs.Line.{line}
+use Rattle.teco_step.specs.Step.{Made, types, takes_none, takes_one, takes_reach, as_byte, rising, Range}
 
 -- the bytes of the text in a range
 abbrev pub part : State → Range → List ℕ
@@ -21,11 +24,38 @@ type_out s a = do
   r ← takes_reach s a
   types s (part s r)
 
--- n=: types n in decimal, and then CR LF.
-abbrev pub print : State → Arguments → Made
-print s a = do
+-- what 0T and T reach together: the line that the pointer is in
+abbrev pub around : State → Range
+around s = record { low = (rising s.pointer (line s.text s.pointer (pos 0))).low; high = (rising s.pointer (line s.text s.pointer (pos 1))).high }
+
+-- V: types the line that the pointer is in.
+abbrev pub view : State → Arguments → Made
+view s a = do
+  none ← takes_none a
+  types s (part s (around s))
+
+-- n^T: types the byte n.
+abbrev pub type_byte : State → Arguments → Made
+type_byte s a = do
+  n ← takes_one Arg a
+  b ← as_byte n
+  types s (b ∷ [])
+
+-- bytes that are a line, and so end with CR LF; with a colon nothing follows them
+abbrev pub ended : Modifiers → List ℕ → List ℕ
+ended m bytes = if m.colons == 1 then bytes else bytes ++ 13 ∷ 10 ∷ []
+
+-- n=: types n in decimal.
+abbrev pub print : Modifiers → State → Arguments → Made
+print m s a = do
   n ← takes_one Nae a
-  types s (signed_decimal n ++ 13 ∷ 10 ∷ [])
+  types s (ended m (signed_decimal n))
+
+-- n==: types the 32-bit two's complement of n in octal.
+abbrev pub print_octal : Modifiers → State → Arguments → Made
+print_octal m s a = do
+  n ← takes_one Nae a
+  types s (ended m (digits 8 false (to_word n)))
 
 -- ^Atext^A: types its text.
 abbrev pub type_text : List ℕ → State → Arguments → Made

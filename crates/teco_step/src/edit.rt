@@ -6,8 +6,9 @@ ghost use Rattle.teco_step.specs.Families.{Acts, Takes};
 ghost use Rattle.teco_step.specs.Step.{goes};
 
 use crate::failure::Failure;
+use crate::joining::joined;
 use crate::next::Next;
-use crate::taking::{as_byte, line_from, place_in, taken, takes_one_or};
+use crate::taking::{as_byte, line_from, place_in, taken, takes_one_or, takes_reach};
 use teco_core::{Args, Code, Taken};
 use teco_store::Desk;
 
@@ -92,6 +93,15 @@ pub(crate) fn delete<D: Desk>(desk: &mut D, args: &mut Args) -> Result<Next, Fai
     put(desk, low, pointer.max(place) - low, &[], args)
 }
 
+/// `nK` deletes what n lines reach, and `m,nK` the range. The pointer goes where they began.
+pub(crate) fn kill<D: Desk>(desk: &mut D, args: &mut Args) -> Result<Next, Failure>
+    ensures { Acts (goes editing.kill) (D.state desk.old) (D.state desk.new) (arguments args.old) (arguments args.new)
+        (D.follows desk.old) (D.follows desk.new) result }
+{
+    let range = takes_reach(desk, args)?;
+    put(desk, range.start, range.end - range.start, &[], args)
+}
+
 /// What `I` inserts where it has no text: the byte of the number that it takes.
 fn inserted_byte(text: &[u8], taken: Taken) -> Result<Option<u8>, Failure>
     ensures { Takes (editing.or_byte text.now) result (editing.inserted text.now taken) }
@@ -118,4 +128,30 @@ pub(crate) fn insert<D: Desk>(desk: &mut D, text: &[u8], args: &mut Args) -> Res
         None => put(desk, pointer, 0, text, args),
         Some(byte) => put(desk, pointer, 0, &[byte], args),
     }
+}
+
+/// Of a command that takes nothing: anything taken is [`Code::Iia`].
+fn untaken(taken: Taken) -> Result<(), Failure>
+    ensures { Takes (λ u. u) result (editing.untaken taken) }
+{
+    match taken {
+        Taken::None => Ok(()),
+        Taken::One(_) => Err(Failure::Command(Code::Iia)),
+        Taken::Two(..) => Err(Failure::Command(Code::Iia)),
+    }
+}
+
+/// TAB `text$`: a TAB and the text come in.
+pub(crate) fn insert_tab<D: Desk>(
+    desk: &mut D,
+    text: &[u8],
+    args: &mut Args,
+) -> Result<Next, Failure>
+    ensures { Acts (goes (editing.insert_tab text.now)) (D.state desk.old) (D.state desk.new) (arguments args.old) (arguments args.new)
+        (D.follows desk.old) (D.follows desk.new) result }
+{
+    untaken(taken(args)?)?;
+    let bytes = joined(desk, b"\t", text)?;
+    let pointer = desk.pointer();
+    put(desk, pointer, 0, &bytes, args)
 }

@@ -4,6 +4,7 @@
 mod control;
 mod edit;
 mod failure;
+mod joining;
 mod laws;
 mod line;
 mod memory_terminal;

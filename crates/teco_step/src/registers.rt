@@ -11,13 +11,14 @@ ghost use Rattle.teco_step.specs.declared.failure.Failure.TheVariants.{Memory};
 
 use crate::edit::put;
 use crate::failure::Failure;
+use crate::joining::joined;
 use crate::next::Next;
-use crate::taking::{give, sum, takes_none, takes_one};
+use crate::taking::{give, sum, takes_none, takes_one, takes_reach};
 use crate::terminal::Terminal;
 use crate::typing::show;
 use teco_core::{Args, Code, Level, Reg};
 use teco_scan::Modifiers;
-use teco_store::Desk;
+use teco_store::{Desk, part};
 
 /// The length of the text of `q`, in bytes.
 fn length_of<D: Desk>(desk: &D, q: Reg) -> usize
@@ -131,6 +132,44 @@ pub(crate) fn set_text<D: Desk>(
     let text = copy(desk, q, text)?;
     desk.set_text(q, text)?;
     args.clear();
+    Ok(Next::On)
+}
+
+/// `nXq`: what n lines reach becomes the text of q, and with `m,nXq` the range.
+pub(crate) fn extract<D: Desk>(desk: &mut D, q: Reg, args: &mut Args) -> Result<Next, Failure>
+    ensures { Acts (goes (registers.extract q)) (D.state desk.old) (D.state desk.new) (arguments args.old) (arguments args.new)
+        (D.follows desk.old) (D.follows desk.new) result }
+{
+    let range = takes_reach(desk, args)?;
+    let (before, after) = desk.halves();
+    let (first, second) = part(before, after, range.start, range.end);
+    let text = joined(desk, first, second)?;
+    desk.set_text(q, text)?;
+    args.clear();
+    Ok(Next::On)
+}
+
+/// `[q` pushes what q holds. The arguments stay.
+pub(crate) fn push<D: Desk>(desk: &mut D, q: Reg, args: &Args) -> Result<Next, Failure>
+    ensures { Acts (goes (registers.push q)) (D.state desk.old) (D.state desk.new) (arguments args.now) (arguments args.now)
+        (D.follows desk.old) (D.follows desk.new) result }
+{
+    if desk.pushed().is_full() {
+        return Err(Failure::Command(Code::Pdo));
+    }
+    desk.push(q)?;
+    Ok(Next::On)
+}
+
+/// `]q` takes off what was pushed last, and puts it into q. The arguments stay.
+pub(crate) fn pop<D: Desk>(desk: &mut D, q: Reg, args: &Args) -> Result<Next, Failure>
+    ensures { Acts (goes (registers.pop q)) (D.state desk.old) (D.state desk.new) (arguments args.now) (arguments args.now)
+        (D.follows desk.old) (D.follows desk.new) result }
+{
+    if desk.pushed().is_empty() {
+        return Err(Failure::Command(Code::Cpq));
+    }
+    desk.pop(q)?;
     Ok(Next::On)
 }
 

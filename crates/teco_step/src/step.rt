@@ -13,12 +13,12 @@ ghost use Rattle.teco_step.specs.declared.failure.Failure.TheVariants.{Memory};
 ghost use Rattle.teco_step.specs.declared.next.Next.TheVariants.{Error};
 
 use crate::control::{jump_to, leave_or_not, run_register};
-use crate::edit::{back, delete, forward, insert, jump, to_line};
+use crate::edit::{back, delete, forward, insert, insert_tab, jump, kill, to_line};
 use crate::failure::{Failure, next_of};
 use crate::next::{Next, Setting, Work};
-use crate::registers::{get, increment, register_value, set_number, set_text};
+use crate::registers::{extract, get, increment, pop, push, register_value, set_number, set_text};
 use crate::terminal::Terminal;
-use crate::typing::{print, type_out, type_text};
+use crate::typing::{print, print_octal, type_byte, type_out, type_text, view};
 use crate::value::{arithmetic, number, quantity};
 use teco_core::{Args, Code, Reg};
 use teco_scan::{Bare, Command, Item, RegisterCommand, TextCommand, Token, TokenKind};
@@ -39,16 +39,16 @@ fn command_step<D: Desk, T: Terminal>(
         Command::Jump => jump(desk, args),
         Command::Forward => forward(desk, args),
         Command::TypeOut => type_out(desk, args, term),
-        Command::Print => print(desk, args, term),
+        Command::View => view(desk, args, term),
+        Command::TypeByte => type_byte(desk, args, term),
+        Command::Print => print(desk, setting.modifiers, args, term),
+        Command::PrintOctal => print_octal(desk, setting.modifiers, args, term),
         Command::Leave => leave_or_not(desk, setting.inside, args),
         Command::Back => back(desk, args),
         Command::Line => to_line(desk, args),
         Command::Delete => delete(desk, args),
-        Command::Kill
-        | Command::View
-        | Command::TypeByte
-        | Command::PrintOctal
-        | Command::NextPage
+        Command::Kill => kill(desk, args),
+        Command::NextPage
         | Command::TurnPages
         | Command::WritePage
         | Command::Exit
@@ -94,10 +94,10 @@ fn register_step<D: Desk, T: Terminal>(
         RegisterCommand::Increment => increment(desk, q, args),
         RegisterCommand::Set => set_number(desk, q, args),
         RegisterCommand::Macro => run_register(desk, q, args),
-        RegisterCommand::Extract => Err(Failure::Command(Code::Ill)),
+        RegisterCommand::Extract => extract(desk, q, args),
         RegisterCommand::Get => get(desk, setting.modifiers, q, args, term),
-        RegisterCommand::Push => Err(Failure::Command(Code::Ill)),
-        RegisterCommand::Pop => Err(Failure::Command(Code::Ill)),
+        RegisterCommand::Push => push(desk, q, args),
+        RegisterCommand::Pop => pop(desk, q, args),
     }
 }
 
@@ -116,7 +116,7 @@ fn text_step<D: Desk, T: Terminal>(
     match command {
         TextCommand::Insert => insert(desk, text, args),
         TextCommand::Go => jump_to(desk, text, args),
-        TextCommand::InsertTab => Err(Failure::Command(Code::Ill)),
+        TextCommand::InsertTab => insert_tab(desk, text, args),
         TextCommand::TypeOut => type_text(desk, text, args, term),
         TextCommand::Search => Err(Failure::Command(Code::Ill)),
         TextCommand::SearchPages => Err(Failure::Command(Code::Ill)),

@@ -8,6 +8,7 @@ ghost use Rattle.teco_step.specs.Families.{IsRefusal, Takes, range_of};
 ghost use Rattle.teco_step.specs.Line.{line};
 ghost use Rattle.teco_step.specs.Step as step;
 ghost use Rattle.teco_step.specs.Stepping.{is_unfinished_code};
+ghost use Rattle.teco_step.specs.Typing as typing;
 
 use crate::failure::Failure;
 use crate::line::line_place;
@@ -158,6 +159,16 @@ fn lines<D: Desk>(desk: &D, n: i32) -> Range<usize>
     ensures within { result.end ≤ length (D.state desk.now).text }
 {
     rising(desk.pointer(), line_from(desk, n))
+}
+
+/// The line that the pointer is in.
+pub(crate) fn line_around<D: Desk>(desk: &D) -> Range<usize>
+    ensures value { range_of result ≡ typing.around (D.state desk.now) }
+    ensures ordered { result.start ≤ result.end }
+    ensures within { result.end ≤ length (D.state desk.now).text }
+{
+    let pointer = desk.pointer();
+    pointer.min(line_from(desk, 0))..pointer.max(line_from(desk, 1))
 }
 
 /// What a command reaches: `n` lines from the pointer, one where it takes nothing; or the range `m,n`, where an end outside the text

@@ -1,7 +1,8 @@
 //! Commands that type. They change no state and take no memory, and one that is not done keeps the arguments.
-ghost use Rattle.std.specs.Prelude.{◌≡◌, ◌≢◌, ◌≤◌, ◌++◌, ◌∷◌, [], length, drop, take, OnErr};
-ghost use Rattle.std.specs.Fmt.{signed_decimal};
+ghost use Rattle.std.specs.Prelude.{◌≡◌, ◌≢◌, ◌≤◌, ◌++◌, [], false, length, drop, take, OnErr};
+ghost use Rattle.std.specs.Fmt.{digits, signed_decimal};
 ghost use Rattle.teco_core.specs.ArgumentsView.{arguments};
+ghost use Rattle.teco_core.specs.Number.{to_word};
 ghost use Rattle.teco_step.specs.Families.{Types};
 ghost use Rattle.teco_step.specs.Step.{goes};
 ghost use Rattle.teco_step.specs.Terminal.{Puts};
@@ -9,11 +10,12 @@ ghost use Rattle.teco_step.specs.Typing as typing;
 
 use crate::failure::Failure;
 use crate::next::Next;
-use crate::taking::{takes_none, takes_one, takes_reach};
+use crate::taking::{as_byte, line_around, takes_none, takes_one, takes_reach};
 use crate::terminal::{Terminal, TerminalFault};
 use itoa::Buffer;
 use std::ops::Range;
 use teco_core::{Args, Code};
+use teco_scan::Modifiers;
 use teco_store::Desk;
 
 /// Shows the bytes, and puts nothing where there are none.
@@ -79,6 +81,22 @@ pub(crate) fn type_out<D: Desk, T: Terminal>(
     Ok(Next::On)
 }
 
+/// `V` types the line that the pointer is in.
+pub(crate) fn view<D: Desk, T: Terminal>(
+    desk: &D,
+    args: &mut Args,
+    term: &mut T,
+) -> Result<Next, Failure>
+    ensures { Types (goes typing.view) (D.state desk.now) (arguments args.old) (arguments args.new) (T.screen term.old) (T.screen term.new) result }
+{
+    takes_none(args)?;
+    let range = line_around(desk);
+    let (before, after) = desk.halves();
+    put_range(before, after, range, term)?;
+    args.clear();
+    Ok(Next::On)
+}
+
 /// `^Atext^A` types its text.
 pub(crate) fn type_text<D: Desk, T: Terminal>(
     desk: &D,
@@ -92,29 +110,109 @@ pub(crate) fn type_text<D: Desk, T: Terminal>(
     show(desk, text, args, term)
 }
 
-/// Shows a number in decimal, and then CR LF.
-fn put_number<T: Terminal>(n: i32, term: &mut T) -> Result<(), TerminalFault>
-    ensures { Puts (T.screen term.old) (T.screen term.new) (signed_decimal n ++ 13 ∷ 10 ∷ []) result }
-{
-    let mut buffer = Buffer::new();
-    let digits = buffer.format(n).as_bytes();
-    let end = digits.len();
-    let mut line = [0; 13];
-    line[..end].copy_from_slice(digits);
-    line[end..end + 2].copy_from_slice(b"\r\n");
-    term.put(&line[..end + 2])
-}
-
-/// `n=` types n in decimal, and then CR LF.
-pub(crate) fn print<D: Desk, T: Terminal>(
+/// `n^T` types the byte n.
+pub(crate) fn type_byte<D: Desk, T: Terminal>(
     desk: &D,
     args: &mut Args,
     term: &mut T,
 ) -> Result<Next, Failure>
-    ensures { Types (goes typing.print) (D.state desk.now) (arguments args.old) (arguments args.new) (T.screen term.old) (T.screen term.new) result }
+    ensures { Types (goes typing.type_byte) (D.state desk.now) (arguments args.old) (arguments args.new) (T.screen term.old) (T.screen term.new) result }
+{
+    let byte = as_byte(takes_one(args, Code::Arg)?)?;
+    show(desk, &[byte], args, term)
+}
+
+/// Shows a few bytes as a line, which ends with CR LF; with a colon nothing follows them.
+fn put_line<T: Terminal>(
+    bytes: &[u8],
+    modifiers: Modifiers,
+    term: &mut T,
+) -> Result<(), TerminalFault>
+    requires { length bytes.now ≤ 64 }
+    ensures puts { Puts (T.screen term.old) (T.screen term.new) (typing.ended modifiers bytes.now) result }
+    ensures some { OnErr result (typing.ended modifiers bytes.now ≢ []) }
+{
+    if modifiers.colons == 1 {
+        return put_some(bytes, term);
+    }
+    let end = bytes.len();
+    let mut line = [0; 66];
+    line[..end].copy_from_slice(bytes);
+    line[end..end + 2].copy_from_slice(b"\r\n");
+    put_some(&line[..end + 2], term)
+}
+
+/// Shows a number in decimal.
+fn put_number<T: Terminal>(n: i32, modifiers: Modifiers, term: &mut T) -> Result<(), TerminalFault>
+    ensures puts { Puts (T.screen term.old) (T.screen term.new) (typing.ended modifiers (signed_decimal n)) result }
+    ensures some { OnErr result (typing.ended modifiers (signed_decimal n) ≢ []) }
+{
+    let mut buffer = Buffer::new();
+    put_line(buffer.format(n).as_bytes(), modifiers, term)
+}
+
+/// `n=` types n in decimal.
+pub(crate) fn print<D: Desk, T: Terminal>(
+    desk: &D,
+    modifiers: Modifiers,
+    args: &mut Args,
+    term: &mut T,
+) -> Result<Next, Failure>
+    ensures { Types (goes (typing.print modifiers)) (D.state desk.now) (arguments args.old) (arguments args.new) (T.screen term.old) (T.screen term.new) result }
 {
     let n = takes_one(args, Code::Nae)?;
-    put_number(n, term)?;
+    put_number(n, modifiers, term)?;
+    args.clear();
+    Ok(Next::On)
+}
+
+/// Writes a number in octal at the end of the bytes, and says where it begins.
+fn octal(n: u32, bytes: &mut [u8; 64]) -> usize
+    ensures value { drop result bytes.new ≡ digits 8 false n }
+    ensures within { result ≤ 64 }
+{
+    let mut start = 64;
+    let mut left = n;
+    while start > 0 {
+        start -= 1;
+        bytes[start] = b'0' + (left % 8) as u8;
+        left /= 8;
+        if left == 0 {
+            break;
+        }
+    }
+    start
+}
+
+/// The 32 bits of a number, as the number that they are without a sign.
+#[tactic(auto, using(crate::proofs::Octal::same_word))]
+fn word(n: i32) -> u32
+    ensures { result ≡ to_word n }
+{
+    n.cast_unsigned()
+}
+
+/// Shows a number in octal, by its 32 bits.
+fn put_octal<T: Terminal>(n: i32, modifiers: Modifiers, term: &mut T) -> Result<(), TerminalFault>
+    ensures puts { Puts (T.screen term.old) (T.screen term.new) (typing.ended modifiers (digits 8 false (to_word n))) result }
+    ensures some { OnErr result (typing.ended modifiers (digits 8 false (to_word n)) ≢ []) }
+{
+    let mut bytes = [0; 64];
+    let start = octal(word(n), &mut bytes);
+    put_line(&bytes[start..], modifiers, term)
+}
+
+/// `n==` types n in octal.
+pub(crate) fn print_octal<D: Desk, T: Terminal>(
+    desk: &D,
+    modifiers: Modifiers,
+    args: &mut Args,
+    term: &mut T,
+) -> Result<Next, Failure>
+    ensures { Types (goes (typing.print_octal modifiers)) (D.state desk.now) (arguments args.old) (arguments args.new) (T.screen term.old) (T.screen term.new) result }
+{
+    let n = takes_one(args, Code::Nae)?;
+    put_octal(n, modifiers, term)?;
     args.clear();
     Ok(Next::On)
 }

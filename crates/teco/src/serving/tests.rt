@@ -161,6 +161,37 @@ fn serves_edits(rt: HostRuntime) {
 }
 
 #[test]
+fn serves_lines_and_ranges(rt: HostRuntime) {
+    for row in [
+        plain_row("Ione\ntwo\n$-LKHT$$", "one\n", "one\n"),
+        plain_row("Ihello$HKZ=$$", "0\r\n", ""),
+        plain_row("\tx$0JHTZ=$$", "\tx2\r\n", "\tx"),
+        plain_row("1\tx$$", "?IIA\r\n", ""),
+        plain_row("Ione\ntwo$V$$", "two", "one\ntwo"),
+        plain_row("72^T105^T$$", "Hi", ""),
+        plain_row("12:=3=$$", "123\r\n", ""),
+        plain_row("-1==$$", "37777777777\r\n", ""),
+        plain_row("8:==$$", "10", ""),
+        Row {
+            register: "one\n",
+            ..plain_row("Ione\ntwo$JXA:GA$$", "one\n", "one\ntwo")
+        },
+        Row {
+            register: "hello",
+            ..plain_row("Ihello$HXAGAHT$$", "hellohello", "hellohello")
+        },
+        Row {
+            number: 2,
+            ..plain_row("1UA[A2UA]BQA=QB=$$", "2\r\n1\r\n", "")
+        },
+        plain_row("]A$$", "?CPQ\r\n", ""),
+        plain_row("65<[A>$${$$]A$$", "?PDO\r\n?CPQ\r\n", ""),
+    ] {
+        holds(&rt, rt.alloc(), row);
+    }
+}
+
+#[test]
 fn serves_programs(rt: HostRuntime) {
     for row in [
         Row {
