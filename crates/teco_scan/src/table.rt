@@ -40,6 +40,14 @@ macro_rules! commands {
             One(b'-'), NONE, Form::Bare(Bare::Arithmetic(Arithmetic::Operator(Op::Minus)));
             One(b'*'), NONE, Form::Bare(Bare::Arithmetic(Arithmetic::Operator(Op::Times)));
             One(b'/'), NONE, Form::Bare(Bare::Arithmetic(Arithmetic::Operator(Op::Over)));
+            One(b'&'), NONE, Form::Bare(Bare::Arithmetic(Arithmetic::Operator(Op::And)));
+            One(b'#'), NONE, Form::Bare(Bare::Arithmetic(Arithmetic::Operator(Op::Or)));
+            One(b'('), NONE, Form::Bare(Bare::Arithmetic(Arithmetic::Open));
+            One(b')'), NONE, Form::Bare(Bare::Arithmetic(Arithmetic::Close));
+            One(b','), NONE, Form::Bare(Bare::Arithmetic(Arithmetic::Comma));
+            Control(b'E'), NONE, Form::Bare(Bare::Quantity(Quantity::FormFeed));
+            Control(b'N'), NONE, Form::Bare(Bare::Quantity(Quantity::InputEnd));
+            Control(b'^'), NONE, Form::Byte;
             One(b'J'), NONE, Form::Bare(Bare::Command(Command::Jump));
             One(b'C'), NONE, Form::Bare(Bare::Command(Command::Forward));
             One(b'R'), NONE, Form::Bare(Bare::Command(Command::Back));
@@ -76,7 +84,7 @@ macro_rules! rows {
 
 /// Every command but the run of digits. The table is a definition: it says what commands there are. A longer name comes before one
 /// that begins it.
-pub const ROWS: [Row; 34] = commands!(rows);
+pub const ROWS: [Row; 42] = commands!(rows);
 
 // The first row whose name may begin with the byte.
 macro_rules! first_row {

@@ -49,6 +49,37 @@ fn finds_each_token(rt: HostRuntime) {
 }
 
 #[test]
+fn finds_arguments(rt: HostRuntime) {
+    let arithmetic = |which| TokenKind::Item(Item::Bare(Bare::Arithmetic(which)));
+    let quantity = |quantity| TokenKind::Item(Item::Bare(Bare::Quantity(quantity)));
+    let text = b"(),&#^e\x05^N\x0e^^(\x1e\0";
+    let want = [
+        (0, 1, arithmetic(Arithmetic::Open)),
+        (1, 2, arithmetic(Arithmetic::Close)),
+        (2, 3, arithmetic(Arithmetic::Comma)),
+        (3, 4, arithmetic(Arithmetic::Operator(Op::And))),
+        (4, 5, arithmetic(Arithmetic::Operator(Op::Or))),
+        (5, 7, quantity(Quantity::FormFeed)),
+        (7, 8, quantity(Quantity::FormFeed)),
+        (8, 10, quantity(Quantity::InputEnd)),
+        (10, 11, quantity(Quantity::InputEnd)),
+        (11, 14, TokenKind::Item(Item::Byte(b'('))),
+        (14, 16, TokenKind::Item(Item::Byte(0))),
+    ];
+    for (from, to, kind) in want {
+        let token = Token {
+            span: Span { from, to },
+            modifiers: NONE,
+            kind,
+        };
+        assert!(rt; from <= text.len());
+        assert_eq!(rt; token_at(text, from), Found::Token(token));
+    }
+    assert_eq!(rt; token_at(b"^^", 0), Found::Fault(Code::Utc));
+    assert_eq!(rt; token_at(b":(", 0), Found::Fault(Code::Ill));
+}
+
+#[test]
 fn finds_registers(rt: HostRuntime) {
     let mut marked = Modifiers {
         at: false,
