@@ -46,23 +46,23 @@ lines_are_at : (line lines 3 (pos 1) ≡ 4)
 unfolding line_ends_from
 lines_are_at = (refl, refl, refl, refl, refl, refl, refl, refl, refl, refl, refl, refl, refl, refl, refl)
 
-abbrev alone : Setting
+abbrev pub alone : Setting
 alone = record { modifiers = no_modifiers; work = None; inside = false; before = false }
 
-abbrev holds : List ℕ → ℕ → State
+abbrev pub holds : List ℕ → ℕ → State
 holds text place = record (beginning []) { text = text; pointer = place }
 
-abbrev value : ℤ → Arguments
+abbrev pub value : ℤ → Arguments
 value n = record no_arguments { expression = Number n }
 
-abbrev does : Item → State → Arguments → Step
+abbrev pub does : Item → State → Arguments → Step
 does i s a = effect i alone s a
 
 -- it goes on with these
-abbrev goes : State → Arguments → List ℕ → ℕ → Step
+abbrev pub goes : State → Arguments → List ℕ → ℕ → Step
 goes s a typed load = record { state = s; arguments = a; typed = typed; load = load; end = on }
 
-abbrev refused : State → Arguments → Code → Step
+abbrev pub refused : State → Arguments → Code → Step
 refused s a c = record { state = s; arguments = a; typed = []; load = 0; end = stop c }
 
 row_digits : does (token.digits (codes "042")) (holds (codes "abc") 1) (no_arguments) ≡ goes (holds (codes "abc") 1) (value (pos 42)) [] 0
@@ -202,20 +202,20 @@ abbrev found : Bool → State
 found was = record (beginning []) { last_found = was }
 
 -- the arguments m,n
-abbrev pair : ℤ → ℤ → Arguments
+abbrev pub pair : ℤ → ℤ → Arguments
 pair m n = record (value n) { first = Some m }
 
-abbrev opened : Arguments
+abbrev pub opened : Arguments
 opened = record no_arguments { outer = Nothing ∷ [] }
 
 -- a value or a sign that waits
-abbrev waits : ℤ → Arguments
+abbrev pub waits : ℤ → Arguments
 waits n = record no_arguments { expression = Operation n Plus }
 
-abbrev over : ℤ → Arguments
+abbrev pub over : ℤ → Arguments
 over n = record no_arguments { expression = Operation n Over }
 
-abbrev minus : Arguments
+abbrev pub minus : Arguments
 minus = record no_arguments { expression = Signed Negative }
 
 -- it ends so

@@ -13,7 +13,7 @@ use Rattle.teco_scan.specs.Scan as token
 use Rattle.teco_core.specs.Arguments.{Arguments}
 use Rattle.teco_store.specs.State.{State}
 use Rattle.teco_step.specs.Step.{Setting, Step, Action, goes, steers, done_by, settled, none_such}
-use Rattle.teco_step.specs.Values.{number, give_quantity, build}
+use Rattle.teco_step.specs.Values.{number, give_quantity, give_byte, build}
 use Rattle.teco_step.specs.Editing.{jump, forward, back, to_line, delete, insert}
 use Rattle.teco_step.specs.Typing.{type_out, type_text, print}
 use Rattle.teco_step.specs.Registers.{register_value, set_number, increment, set_text, get}
@@ -58,6 +58,7 @@ item_effect (token.bare b) w = bare_effect b w
 item_effect (token.register c q) w = register_effect c q w
 item_effect (token.text c text) w = text_effect c text w
 item_effect (token.set_text q text) w = goes (set_text q text)
+item_effect (token.byte b) w = goes (give_byte b)
 item_effect i w = none_such
 
 -- One step of a token, its first or a further one.

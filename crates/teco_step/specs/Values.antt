@@ -1,14 +1,16 @@
 -- Values, and what builds arguments.
-use Rattle.std.specs.Prelude.{ℕ, List, length, pos}
+use Rattle.std.specs.Prelude.{ℕ, List, length, Result, pos}
+use Rattle.teco_core.specs.declared.code.Code.{Code}
 use Rattle.teco_core.specs.Refusal.{◌>>=◌}
-use Rattle.teco_core.specs.Number.{decimal_value}
-use Rattle.teco_core.specs.Arguments.{Arguments, operate, give_pair}
+use Rattle.teco_core.specs.Number.{decimal_value, truth}
+use Rattle.teco_core.specs.Arguments.{Arguments, operate, open_level, close_level, comma, give_pair}
 use Rattle.teco_scan.specs.declared.command.Arithmetic.{Arithmetic}
 use Rattle.teco_scan.specs.declared.command.Arithmetic.TheVariants as arithmetic
 use Rattle.teco_scan.specs.declared.command.Quantity.{Quantity}
 use Rattle.teco_scan.specs.declared.command.Quantity.TheVariants as quantity
 use Rattle.teco_store.specs.State.{State}
-use Rattle.teco_step.specs.Step.{Made, leaves, gives, unbuilt}
+use Rattle.teco_store.specs.Page.{is_input_over}
+use Rattle.teco_step.specs.Step.{Made, leaves, gives}
 
 -- A run of digits gives its decimal value.
 abbrev pub number : List ℕ → State → Arguments → Made
@@ -16,22 +18,28 @@ number digits s a = do
   n ← decimal_value digits
   gives s a n
 
--- B gives 0, Z the length of the text, and a point the pointer.
+-- B gives 0, Z the length of the text, and a point the pointer; ^E gives -1 where a form feed ended the page, ^N where no input is
+-- left, and else 0.
 abbrev pub give_quantity : Quantity → State → Arguments → Made
 give_quantity quantity.Beginning s a = gives s a (pos 0)
 give_quantity quantity.End s a = gives s a (pos (length s.text))
 give_quantity quantity.Pointer s a = gives s a (pos s.pointer)
-give_quantity quantity.FormFeed s a = unbuilt
-give_quantity quantity.InputEnd s a = unbuilt
+give_quantity quantity.FormFeed s a = gives s a (truth s.form_feed)
+give_quantity quantity.InputEnd s a = gives s a (truth (is_input_over s))
 
--- An operator waits for the next value.
+-- ^^ and a byte gives the byte's code.
+abbrev pub give_byte : ℕ → State → Arguments → Made
+give_byte b s a = gives s a (pos b)
+
+-- What H, an operator, ( and ) and a comma make of arguments, where the text has this length.
+abbrev pub built : Arithmetic → ℕ → Arguments → Result Arguments Code
+built arithmetic.Whole z a = give_pair z a
+built (arithmetic.Operator o) z a = operate o a
+built arithmetic.Open z a = open_level a
+built arithmetic.Close z a = close_level a
+built arithmetic.Comma z a = comma a
+
 abbrev pub build : Arithmetic → State → Arguments → Made
-build (arithmetic.Operator o) s a = do
-  built ← operate o a
-  leaves s built
-build arithmetic.Whole s a = do
-  whole ← give_pair (length s.text) a
-  leaves s whole
-build arithmetic.Open s a = unbuilt
-build arithmetic.Close s a = unbuilt
-build arithmetic.Comma s a = unbuilt
+build b s a = do
+  built_up ← built b (length s.text) a
+  leaves s built_up

@@ -19,7 +19,7 @@ use crate::next::{Next, Setting, Work};
 use crate::registers::{get, increment, register_value, set_number, set_text};
 use crate::terminal::Terminal;
 use crate::typing::{print, type_out, type_text};
-use crate::value::{arithmetic, number, quantity};
+use crate::value::{arithmetic, byte, number, quantity};
 use teco_core::{Args, Code, Reg};
 use teco_scan::{Bare, Command, Item, RegisterCommand, TextCommand, Token, TokenKind};
 use teco_store::Desk;
@@ -153,7 +153,7 @@ fn item_step<D: Desk, T: Terminal>(
             )
         }
         Item::SetText(q, span) => set_text(desk, q, &text[span.from..span.to], args),
-        Item::Byte(_) => Err(Failure::Command(Code::Ill)),
+        Item::Byte(code) => byte(desk, code, args),
         Item::Replace(..) => Err(Failure::Command(Code::Ill)),
     }
 }
