@@ -7,6 +7,7 @@ use Rattle.teco_core.specs.declared.code.Code.TheVariants.{Ill, Iqc, Iqn, Utc}
 use Rattle.teco_scan.specs.declared.command.Bare.TheVariants as group
 use Rattle.teco_scan.specs.declared.command.Quantity.TheVariants.{Pointer, End, FormFeed, InputEnd}
 use Rattle.teco_scan.specs.declared.command.Arithmetic.TheVariants.{Operator, Open, Close, Comma}
+use Rattle.teco_scan.specs.declared.command.LevelCommand.TheVariants.{Append}
 use Rattle.teco_scan.specs.declared.command.Command.TheVariants.{Jump, TypeOut, Print, Leave}
 use Rattle.teco_scan.specs.declared.command.RegisterCommand.TheVariants.{Number, Increment, Set, Macro}
 use Rattle.teco_scan.specs.declared.command.TextCommand.TheVariants.{Insert, Go}
@@ -70,12 +71,13 @@ found_arguments : scans "(3" (plain (step (bare (group.Arithmetic Open))) "3")
     × (scan (30 ∷ codes "aa") ≡ plain (step (token.byte 97)) "a")
     × scans "^^" (fault Utc)
     × (scan (30 ∷ []) ≡ fault Utc)
+    × scans "a=" (plain (step (bare (group.Level Append))) "=")
     × scans ":(" (fault Ill)
     × scans "@," (fault Ill)
     × scans ":^E" (fault Ill)
     × scans "@^^a" (fault Ill)
 unfolding computing
-found_arguments = (refl, refl, refl, refl, refl, refl, refl, refl, refl, refl, refl, refl, refl, refl, refl, refl, refl, refl, refl)
+found_arguments = (refl, refl, refl, refl, refl, refl, refl, refl, refl, refl, refl, refl, refl, refl, refl, refl, refl, refl, refl, refl)
 
 -- marks of blocks, tags, jumps and macros; @ before I and O names the delimiter
 found_marks : scans "<J" (plain (mark Iterate) "J")
@@ -216,7 +218,7 @@ is_token (found t bs) = true
 is_token _ = false
 
 -- the bytes that are a token alone
-single_bytes : filter (λ b. is_token (scan (b ∷ []))) (up_to 256) ≡ 5 ∷ 14 ∷ 27 ∷ codes "#&'()*+,-./0123456789;<=>BCDHJLRTZbcdhjlrtz|"
+single_bytes : filter (λ b. is_token (scan (b ∷ []))) (up_to 256) ≡ 5 ∷ 14 ∷ 27 ∷ codes "#&'()*+,-./0123456789;<=>ABCDHJLRTZabcdhjlrtz|"
 unfolding computing up_to is_token
 single_bytes = refl
 

@@ -1,6 +1,7 @@
 //! Tests of reading tokens.
 use crate::command::{
-    Arithmetic, Bare, BlockMark, Command, Modifiers, Quantity, RegisterCommand, Test, TextCommand,
+    Arithmetic, Bare, BlockMark, Command, LevelCommand, Modifiers, Quantity, RegisterCommand, Test,
+    TextCommand,
 };
 use crate::scan::{spelling, token_at};
 use crate::table::NONE;
@@ -52,7 +53,7 @@ fn finds_each_token(rt: HostRuntime) {
 fn finds_arguments(rt: HostRuntime) {
     let arithmetic = |which| TokenKind::Item(Item::Bare(Bare::Arithmetic(which)));
     let quantity = |quantity| TokenKind::Item(Item::Bare(Bare::Quantity(quantity)));
-    let text = b"(),&#^e\x05^N\x0e^^(\x1e\0";
+    let text = b"(),&#^e\x05^N\x0e^^(\x1e\0a";
     let want = [
         (0, 1, arithmetic(Arithmetic::Open)),
         (1, 2, arithmetic(Arithmetic::Close)),
@@ -65,6 +66,7 @@ fn finds_arguments(rt: HostRuntime) {
         (10, 11, quantity(Quantity::InputEnd)),
         (11, 14, TokenKind::Item(Item::Byte(b'('))),
         (14, 16, TokenKind::Item(Item::Byte(0))),
+        (16, 17, TokenKind::Item(Item::Bare(Bare::Level(LevelCommand::Append)))),
     ];
     for (from, to, kind) in want {
         let token = Token {

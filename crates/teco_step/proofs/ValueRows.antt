@@ -1,7 +1,7 @@
 -- Steps of what gives a value or builds arguments, one row each, by computing.
 use Rattle.std.proofs.Common.{◌≡◌, ℕ, ◌^◌, ◌-◌, [], ◌∷◌, replicate, Some, pos, negsuc, true, refl}
 use Rattle.std.specs.Prelude.{codes}
-use Rattle.teco_core.specs.declared.code.Code.TheVariants.{Arg, Ovf, Pdo}
+use Rattle.teco_core.specs.declared.code.Code.TheVariants.{Arg, Ill, Ovf, Pdo}
 use Rattle.teco_core.specs.declared.number.Op.TheVariants.{Plus, Times, And, Or}
 use Rattle.teco_core.specs.declared.arguments.Expression.TheVariants.{Nothing, Number, Operation, Signed}
 use Rattle.teco_core.specs.declared.arguments.Sign.TheVariants.{Negative}
@@ -9,6 +9,7 @@ use Rattle.teco_core.specs.Arguments.{Arguments, no_arguments, give, operate, op
 use Rattle.teco_core.specs.Number.{digits_value}
 use Rattle.teco_scan.specs.declared.command.Bare.TheVariants as bare
 use Rattle.teco_scan.specs.declared.command.Arithmetic.TheVariants.{Operator, Open, Close, Comma}
+use Rattle.teco_scan.specs.declared.command.LevelCommand.TheVariants.{Append}
 use Rattle.teco_scan.specs.declared.command.Quantity.TheVariants as quantity
 use Rattle.teco_scan.specs.Scan as token
 use Rattle.teco_store.specs.State.{beginning}
@@ -150,3 +151,39 @@ row_byte = refl
 row_byte_after_a_value : does (token.byte 65) (holds (codes "abc") 1) (value (pos 1)) ≡ refused (holds (codes "abc") 1) (value (pos 1)) Arg
 unfolding effect give operate open_level close_level comma digits_value
 row_byte_after_a_value = refl
+
+row_code : does (token.bare (bare.Level Append)) (holds (codes "abc") 1) (value (pos 0)) ≡ goes (holds (codes "abc") 1) (value (pos 98)) [] 0
+unfolding effect give operate open_level close_level comma digits_value
+row_code = refl
+
+row_code_before : does (token.bare (bare.Level Append)) (holds (codes "abc") 1) minus ≡ goes (holds (codes "abc") 1) (value (pos 97)) [] 0
+unfolding effect give operate open_level close_level comma digits_value
+row_code_before = refl
+
+row_code_after : does (token.bare (bare.Level Append)) (holds (codes "abc") 1) (value (pos 1)) ≡ goes (holds (codes "abc") 1) (value (pos 99)) [] 0
+unfolding effect give operate open_level close_level comma digits_value
+row_code_after = refl
+
+row_code_past_the_end : does (token.bare (bare.Level Append)) (holds (codes "abc") 1) (value (pos 2)) ≡ goes (holds (codes "abc") 1) (value (negsuc 0)) [] 0
+unfolding effect give operate open_level close_level comma digits_value
+row_code_past_the_end = refl
+
+row_code_before_0 : does (token.bare (bare.Level Append)) (holds (codes "abc") 1) (value (negsuc 1)) ≡ goes (holds (codes "abc") 1) (value (negsuc 0)) [] 0
+unfolding effect give operate open_level close_level comma digits_value
+row_code_before_0 = refl
+
+row_code_keeps_a_first_value : does (token.bare (bare.Level Append)) (holds (codes "abc") 1) (pair (pos 1) (pos 0)) ≡ goes (holds (codes "abc") 1) (pair (pos 1) (pos 98)) [] 0
+unfolding effect give operate open_level close_level comma digits_value
+row_code_keeps_a_first_value = refl
+
+row_code_in_parentheses : does (token.bare (bare.Level Append)) (holds (codes "abc") 1) (record (value (pos 0)) { outer = Nothing ∷ [] }) ≡ goes (holds (codes "abc") 1) (record opened { expression = Number (pos 98) }) [] 0
+unfolding effect give operate open_level close_level comma digits_value
+row_code_in_parentheses = refl
+
+row_code_after_an_operator : does (token.bare (bare.Level Append)) (holds (codes "abc") 1) (waits (pos 2)) ≡ refused (holds (codes "abc") 1) (waits (pos 2)) Arg
+unfolding effect give operate open_level close_level comma digits_value
+row_code_after_an_operator = refl
+
+row_append_not_built : does (token.bare (bare.Level Append)) (holds (codes "abc") 1) no_arguments ≡ refused (holds (codes "abc") 1) no_arguments Ill
+unfolding effect give operate open_level close_level comma digits_value
+row_append_not_built = refl

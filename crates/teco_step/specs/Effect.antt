@@ -13,7 +13,7 @@ use Rattle.teco_scan.specs.Scan as token
 use Rattle.teco_core.specs.Arguments.{Arguments}
 use Rattle.teco_store.specs.State.{State}
 use Rattle.teco_step.specs.Step.{Setting, Step, Action, goes, steers, done_by, settled, none_such}
-use Rattle.teco_step.specs.Values.{number, give_quantity, give_byte, build}
+use Rattle.teco_step.specs.Values.{number, give_quantity, give_byte, build, at_level}
 use Rattle.teco_step.specs.Editing.{jump, forward, back, to_line, delete, insert}
 use Rattle.teco_step.specs.Typing.{type_out, type_text, print}
 use Rattle.teco_step.specs.Registers.{register_value, set_number, increment, set_text, get}
@@ -35,7 +35,7 @@ abbrev pub bare_effect : Bare → Setting → Action
 bare_effect (bare.Quantity q) w = goes (give_quantity q)
 bare_effect (bare.Arithmetic b) w = goes (build b)
 bare_effect (bare.Command c) w = command_effect c w
-bare_effect (bare.Level l) w = none_such
+bare_effect (bare.Level l) w = goes (at_level l)
 
 -- Commands on a register.
 abbrev pub register_effect : RegisterCommand → ℕ → Setting → Action

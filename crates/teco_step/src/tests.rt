@@ -142,6 +142,20 @@ fn arguments_are_built(rt: HostRuntime) {
 }
 
 #[test]
+fn codes_of_characters_are_given(rt: HostRuntime) {
+    let rows: [(&[u8], &[u8], Option<Code>); 5] = [
+        (b"Ihello\x1bJ0A=4A=5A=-A=", b"104\r\n111\r\n-1\r\n-1\r\n", None),
+        (b"Ihello\x1b-A=0A=-5A+1=-6A=", b"111\r\n-1\r\n105\r\n-1\r\n", None),
+        (b"Ihello\x1b1,(-A-108)T", b"el", None),
+        (b"1+A", b"", Some(Code::Arg)),
+        (b"A", b"", Some(Code::Ill)),
+    ];
+    for (text, typed, code) in rows {
+        check(&rt, rt.alloc(), text, typed, code);
+    }
+}
+
+#[test]
 fn the_pointer_is_moved(rt: HostRuntime) {
     let rows: [(&[u8], &[u8], Option<Code>); 9] = [
         (b"Ihello\x1b0J3C.=", b"3\r\n", None),
