@@ -2,14 +2,15 @@
 use Rattle.std.specs.Prelude.{◌≡◌, ℕ, zero, suc, Bool, true, false, List, [], ◌∷◌, ◌++◌, map, filter, codes, ◌==◌, if◌then◌else◌}
 use Rattle.std.proofs.Common.{refl}
 use Prim.Native.String.{String}
-use Rattle.teco_core.specs.declared.number.Op.TheVariants.{Plus, Over}
+use Rattle.teco_core.specs.declared.number.Op.TheVariants.{Plus, Over, And, Or}
 use Rattle.teco_core.specs.declared.code.Code.TheVariants.{Ill, Iqc, Iqn, Utc}
 use Rattle.teco_scan.specs.declared.command.Bare.TheVariants as group
-use Rattle.teco_scan.specs.declared.command.Quantity.TheVariants.{Pointer, End}
-use Rattle.teco_scan.specs.declared.command.Arithmetic.TheVariants.{Operator}
+use Rattle.teco_scan.specs.declared.command.Quantity.TheVariants.{Pointer, End, FormFeed, InputEnd}
+use Rattle.teco_scan.specs.declared.command.Arithmetic.TheVariants.{Operator, Open, Close, Comma}
 use Rattle.teco_scan.specs.declared.command.Command.TheVariants.{Jump, Kill, TypeOut, View, TypeByte, Print, PrintOctal, Leave}
 use Rattle.teco_scan.specs.declared.command.RegisterCommand.TheVariants.{Number, Increment, Set, Extract, Macro, Push, Pop}
 use Rattle.teco_scan.specs.declared.command.TextCommand.TheVariants.{Insert, InsertTab, Go}
+use Rattle.teco_scan.specs.declared.command.LevelCommand.TheVariants.{Append}
 use Rattle.teco_scan.specs.declared.command.BlockMark.TheVariants.{Iterate, EndIteration, Otherwise, EndTest}
 use Rattle.teco_scan.specs.declared.command.Test.TheVariants.{Zero, NotZero, Above, Below, Letter, Digit, LetterOrDigit, Lower, Upper}
 use Rattle.teco_scan.specs.Scan.{digits, bare, register, text, set_text, Instruction, step, mark, decide, tag, Scanned, found, ended, fault, no_modifiers, test_of, byte_at, register_at, test_at, delimiter_at, text_at, operand_at, modifiers_at, after_letter, after_name, ends_inside, row_at, is_cut, command_at, run_of, after_run, token_from, after_fillers, scan}
@@ -53,6 +54,30 @@ found_tokens : scans "20+3" (plain (step (digits (codes "20"))) "+3")
     × scans "$3" (plain token.escape "3")
 unfolding computing
 found_tokens = (refl, refl, refl, refl, refl, refl, refl, refl, refl, refl, refl)
+
+-- what builds arguments; ^E, ^N and ^^ are their bytes, or a caret and a letter or a caret
+found_arguments : scans "(3" (plain (step (bare (group.Arithmetic Open))) "3")
+    × scans ")=" (plain (step (bare (group.Arithmetic Close))) "=")
+    × scans ",Z" (plain (step (bare (group.Arithmetic Comma))) "Z")
+    × scans "&5" (plain (step (bare (group.Arithmetic (Operator And)))) "5")
+    × scans "#5" (plain (step (bare (group.Arithmetic (Operator Or)))) "5")
+    × scans "^E=" (plain (step (bare (group.Quantity FormFeed))) "=")
+    × scans "^e" (plain (step (bare (group.Quantity FormFeed))) "")
+    × (scan (5 ∷ codes "E") ≡ plain (step (bare (group.Quantity FormFeed))) "E")
+    × scans "^n=" (plain (step (bare (group.Quantity InputEnd))) "=")
+    × (scan (14 ∷ []) ≡ plain (step (bare (group.Quantity InputEnd))) "")
+    × scans "^^A=" (plain (step (token.byte 65)) "=")
+    × scans "^^ 2" (plain (step (token.byte 32)) "2")
+    × (scan (30 ∷ codes "aa") ≡ plain (step (token.byte 97)) "a")
+    × scans "^^" (fault Utc)
+    × (scan (30 ∷ []) ≡ fault Utc)
+    × scans "a=" (plain (step (bare (group.Level Append))) "=")
+    × scans ":(" (fault Ill)
+    × scans "@," (fault Ill)
+    × scans ":^E" (fault Ill)
+    × scans "@^^a" (fault Ill)
+unfolding computing
+found_arguments = (refl, refl, refl, refl, refl, refl, refl, refl, refl, refl, refl, refl, refl, refl, refl, refl, refl, refl, refl, refl)
 
 -- marks of blocks, tags, jumps and macros; @ before I and O names the delimiter
 found_marks : scans "<J" (plain (mark Iterate) "J")
@@ -230,7 +255,7 @@ is_token (found t bs) = true
 is_token _ = false
 
 -- the bytes that are a token alone
-single_bytes : filter (λ b. is_token (scan (b ∷ []))) (up_to 256) ≡ 20 ∷ 27 ∷ codes "'*+-./0123456789;<=>BCDHJKLRTVZbcdhjklrtvz|"
+single_bytes : filter (λ b. is_token (scan (b ∷ []))) (up_to 256) ≡ 5 ∷ 14 ∷ 20 ∷ 27 ∷ codes "#&'()*+,-./0123456789;<=>ABCDHJKLRTVZabcdhjklrtvz|"
 unfolding computing up_to is_token
 single_bytes = refl
 

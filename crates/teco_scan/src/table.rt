@@ -1,7 +1,7 @@
 //! The table of commands.
 use crate::command::{
-    Arithmetic, Bare, BlockMark, Command, Form, Modifiers, Name, Quantity, RegisterCommand, Row,
-    TextCommand,
+    Arithmetic, Bare, BlockMark, Command, Form, LevelCommand, Modifiers, Name, Quantity,
+    RegisterCommand, Row, TextCommand,
 };
 use teco_core::{ESC, Op};
 
@@ -40,6 +40,15 @@ macro_rules! commands {
             One(b'-'), NONE, Form::Bare(Bare::Arithmetic(Arithmetic::Operator(Op::Minus)));
             One(b'*'), NONE, Form::Bare(Bare::Arithmetic(Arithmetic::Operator(Op::Times)));
             One(b'/'), NONE, Form::Bare(Bare::Arithmetic(Arithmetic::Operator(Op::Over)));
+            One(b'&'), NONE, Form::Bare(Bare::Arithmetic(Arithmetic::Operator(Op::And)));
+            One(b'#'), NONE, Form::Bare(Bare::Arithmetic(Arithmetic::Operator(Op::Or)));
+            One(b'('), NONE, Form::Bare(Bare::Arithmetic(Arithmetic::Open));
+            One(b')'), NONE, Form::Bare(Bare::Arithmetic(Arithmetic::Close));
+            One(b','), NONE, Form::Bare(Bare::Arithmetic(Arithmetic::Comma));
+            Control(b'E'), NONE, Form::Bare(Bare::Quantity(Quantity::FormFeed));
+            Control(b'N'), NONE, Form::Bare(Bare::Quantity(Quantity::InputEnd));
+            Control(b'^'), NONE, Form::Byte;
+            One(b'A'), NONE, Form::Bare(Bare::Level(LevelCommand::Append));
             One(b'J'), NONE, Form::Bare(Bare::Command(Command::Jump));
             One(b'C'), NONE, Form::Bare(Bare::Command(Command::Forward));
             One(b'R'), NONE, Form::Bare(Bare::Command(Command::Back));
@@ -83,7 +92,7 @@ macro_rules! rows {
 
 /// Every command but the run of digits. The table is a definition: it says what commands there are. A longer name comes before one
 /// that begins it.
-pub const ROWS: [Row; 41] = commands!(rows);
+pub const ROWS: [Row; 50] = commands!(rows);
 
 // The first row whose name may begin with the byte.
 macro_rules! first_row {

@@ -1,6 +1,7 @@
 //! Tests of reading tokens.
 use crate::command::{
-    Arithmetic, Bare, BlockMark, Command, Modifiers, Quantity, RegisterCommand, Test, TextCommand,
+    Arithmetic, Bare, BlockMark, Command, LevelCommand, Modifiers, Quantity, RegisterCommand, Test,
+    TextCommand,
 };
 use crate::scan::{spelling, token_at};
 use crate::table::NONE;
@@ -56,10 +57,7 @@ fn finds_edits(rt: HostRuntime) {
     };
     let on = |command| TokenKind::Item(Item::Register(command, a));
     let text = b"kV\x14^tXa[A]a\t b\x1b==:==";
-    let tab = TokenKind::Item(Item::Text(
-        TextCommand::InsertTab,
-        Span { from: 12, to: 14 },
-    ));
+    let tab = TokenKind::Item(Item::Text(TextCommand::InsertTab, Span { from: 12, to: 14 }));
     let want = [
         (0, 1, 0, command(Command::Kill)),
         (1, 2, 0, command(Command::View)),
@@ -81,6 +79,42 @@ fn finds_edits(rt: HostRuntime) {
         assert!(rt; from <= text.len());
         assert_eq!(rt; token_at(text, from), Found::Token(token));
     }
+}
+
+#[test]
+fn finds_arguments(rt: HostRuntime) {
+    let arithmetic = |which| TokenKind::Item(Item::Bare(Bare::Arithmetic(which)));
+    let quantity = |quantity| TokenKind::Item(Item::Bare(Bare::Quantity(quantity)));
+    let text = b"(),&#^e\x05^N\x0e^^(\x1e\0a";
+    let want = [
+        (0, 1, arithmetic(Arithmetic::Open)),
+        (1, 2, arithmetic(Arithmetic::Close)),
+        (2, 3, arithmetic(Arithmetic::Comma)),
+        (3, 4, arithmetic(Arithmetic::Operator(Op::And))),
+        (4, 5, arithmetic(Arithmetic::Operator(Op::Or))),
+        (5, 7, quantity(Quantity::FormFeed)),
+        (7, 8, quantity(Quantity::FormFeed)),
+        (8, 10, quantity(Quantity::InputEnd)),
+        (10, 11, quantity(Quantity::InputEnd)),
+        (11, 14, TokenKind::Item(Item::Byte(b'('))),
+        (14, 16, TokenKind::Item(Item::Byte(0))),
+        (
+            16,
+            17,
+            TokenKind::Item(Item::Bare(Bare::Level(LevelCommand::Append))),
+        ),
+    ];
+    for (from, to, kind) in want {
+        let token = Token {
+            span: Span { from, to },
+            modifiers: NONE,
+            kind,
+        };
+        assert!(rt; from <= text.len());
+        assert_eq!(rt; token_at(text, from), Found::Token(token));
+    }
+    assert_eq!(rt; token_at(b"^^", 0), Found::Fault(Code::Utc));
+    assert_eq!(rt; token_at(b":(", 0), Found::Fault(Code::Ill));
 }
 
 #[test]

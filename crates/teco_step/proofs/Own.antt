@@ -10,7 +10,7 @@ use Rattle.teco_core.specs.declared.arguments.Expression.{Expression}
 use Rattle.teco_core.specs.declared.arguments.Expression.TheVariants.{Nothing, Number, Signed, Operation}
 use Rattle.teco_core.specs.Refusal.{◌>>=◌}
 use Rattle.teco_core.specs.Number.{fitted, quotient, operation, decimal_value, digits_value}
-use Rattle.teco_core.specs.Arguments.{Arguments, given, give, waiting, operate, ground_value, with_first, taken_on, taken_from, paired, give_pair}
+use Rattle.teco_core.specs.Arguments.{Arguments, given, give, waiting, operate, opened_after, open_level, closed_into, close_level, divided, comma, ground_value, with_first, taken_on, taken_from, paired, give_pair}
 use Rattle.teco_step.specs.Stepping.{is_unfinished_code}
 
 -- where it is refused, the code is one of its own
@@ -118,3 +118,32 @@ own_paired z _ _ _ = refl
 pub own_pair : (z : ℕ) (a : Arguments) (c : Code) → give_pair z a ≡ Err c → is_unfinished_code c ≡ false
 unfolding give_pair
 own_pair z a c e = own_code (paired z a.first a.outer a.expression) c (own_paired z a.first a.outer a.expression) e
+
+own_opened : (e : Expression) (a : Arguments) → IsOwn (opened_after e a)
+own_opened (Number v) a = refl
+own_opened Nothing a = own_if _ (Err code.Pdo) (Ok _) refl tt
+own_opened (Signed s) a = own_if _ (Err code.Pdo) (Ok _) refl tt
+own_opened (Operation v o) a = own_if _ (Err code.Pdo) (Ok _) refl tt
+
+pub own_opening : (a : Arguments) (c : Code) → open_level a ≡ Err c → is_unfinished_code c ≡ false
+unfolding open_level
+own_opening a c e = own_code (opened_after a.expression a) c (own_opened a.expression a) e
+
+own_closed : (e : Expression) (es : List Expression) (first : Option ℤ) → IsOwn (closed_into e es first)
+own_closed (Number v) (e ∷ es) first = own_give v _
+own_closed (Number v) [] first = refl
+own_closed Nothing es first = refl
+own_closed (Signed s) es first = refl
+own_closed (Operation v o) es first = refl
+
+pub own_closing : (a : Arguments) (c : Code) → close_level a ≡ Err c → is_unfinished_code c ≡ false
+unfolding close_level
+own_closing a c e = own_code (closed_into a.expression a.outer a.first) c (own_closed a.expression a.outer a.first) e
+
+own_divided : (first : Option ℤ) (es : List Expression) (e : Expression) → IsOwn (divided first es e)
+own_divided None [] (Number v) = tt
+own_divided _ _ _ = refl
+
+pub own_comma : (a : Arguments) (c : Code) → comma a ≡ Err c → is_unfinished_code c ≡ false
+unfolding comma
+own_comma a c e = own_code (divided a.first a.outer a.expression) c (own_divided a.first a.outer a.expression) e

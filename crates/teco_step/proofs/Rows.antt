@@ -209,10 +209,10 @@ abbrev pub opened : Arguments
 opened = record no_arguments { outer = Nothing ∷ [] }
 
 -- a value or a sign that waits
-abbrev waits : ℤ → Arguments
+abbrev pub waits : ℤ → Arguments
 waits n = record no_arguments { expression = Operation n Plus }
 
-abbrev over : ℤ → Arguments
+abbrev pub over : ℤ → Arguments
 over n = record no_arguments { expression = Operation n Over }
 
 abbrev pub minus : Arguments

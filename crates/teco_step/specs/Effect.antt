@@ -13,7 +13,7 @@ use Rattle.teco_scan.specs.Scan as token
 use Rattle.teco_core.specs.Arguments.{Arguments}
 use Rattle.teco_store.specs.State.{State}
 use Rattle.teco_step.specs.Step.{Setting, Step, Action, goes, steers, done_by, settled, none_such}
-use Rattle.teco_step.specs.Values.{number, give_quantity, build}
+use Rattle.teco_step.specs.Values.{number, give_quantity, build, give_byte, at_level}
 use Rattle.teco_step.specs.Editing.{jump, forward, back, to_line, delete, kill, insert, insert_tab}
 use Rattle.teco_step.specs.Typing.{type_out, view, type_text, type_byte, print, print_octal}
 use Rattle.teco_step.specs.Registers.{register_value, set_number, increment, set_text, extract, push, pop, get}
@@ -39,7 +39,7 @@ abbrev pub bare_effect : Bare → Setting → Action
 bare_effect (bare.Quantity q) w = goes (give_quantity q)
 bare_effect (bare.Arithmetic b) w = goes (build b)
 bare_effect (bare.Command c) w = command_effect c w
-bare_effect (bare.Level l) w = none_such
+bare_effect (bare.Level l) w = goes (at_level l)
 
 -- Commands on a register.
 abbrev pub register_effect : RegisterCommand → ℕ → Setting → Action
@@ -65,6 +65,7 @@ item_effect (token.bare b) w = bare_effect b w
 item_effect (token.register c q) w = register_effect c q w
 item_effect (token.text c text) w = text_effect c text w
 item_effect (token.set_text q text) w = goes (set_text q text)
+item_effect (token.byte b) w = goes (give_byte b)
 item_effect i w = none_such
 
 -- One step of a token, its first or a further one.

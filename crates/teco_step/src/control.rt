@@ -1,7 +1,5 @@
 //! Commands that leave an iteration, jump, or run a text. They change no state, and one that is not done keeps the arguments.
-ghost use Rattle.std.specs.Prelude.{◌≡◌};
 ghost use Rattle.teco_core.specs.ArgumentsView.{arguments};
-ghost use Rattle.teco_core.specs.Number as number;
 ghost use Rattle.teco_step.specs.Control as control;
 ghost use Rattle.teco_step.specs.Families.{Acts};
 ghost use Rattle.teco_step.specs.Step.{steers};
@@ -9,16 +7,9 @@ ghost use Rattle.teco_step.specs.Step.{steers};
 use crate::failure::Failure;
 use crate::next::Next;
 use crate::registers::copy;
-use crate::taking::{takes_none, takes_one_or};
+use crate::taking::{takes_none, takes_one_or, truth};
 use teco_core::{Args, Code, Reg};
 use teco_store::Desk;
-
-/// An answer as a number: -1 for yes, 0 for no.
-fn truth(answer: bool) -> i32
-    ensures { result ≡ number.truth answer }
-{
-    if answer { -1 } else { 0 }
-}
 
 /// `n;` leaves the innermost iteration where n is at least 0, and without n by the last search result. Where no iteration of the same
 /// text is open it is [`Code::Sni`]. Takes no memory.

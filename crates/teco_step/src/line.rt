@@ -5,7 +5,7 @@ ghost use Rattle.teco_step.specs.Line.{one_past, line, line_ends_from};
 use teco_core::is_line_end;
 
 /// The byte at a place of a text in two halves.
-fn byte_at(before: &[u8], after: &[u8], place: usize) -> u8
+pub(crate) fn byte_at(before: &[u8], after: &[u8], place: usize) -> u8
     requires { place < length (before.now ++ after.now) }
     ensures { result ≡ slice_index (before.now ++ after.now) place }
 {

@@ -60,7 +60,7 @@ pub(crate) fn set_number<D: Desk>(desk: &mut D, q: Reg, args: &mut Args) -> Resu
 
 /// Gives a value in place of what the level has, which no level refuses.
 #[tactic(auto, unfolding(teco_core::specs::Arguments::give))]
-fn give_alone(args: &mut Args, value: i32)
+pub(crate) fn give_alone(args: &mut Args, value: i32)
     ensures { give value (emptied (arguments args.old)) ≡ Ok (arguments args.new) }
 {
     args.empty_level();

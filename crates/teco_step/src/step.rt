@@ -19,7 +19,7 @@ use crate::next::{Next, Setting, Work};
 use crate::registers::{extract, get, increment, pop, push, register_value, set_number, set_text};
 use crate::terminal::Terminal;
 use crate::typing::{print, print_octal, type_byte, type_out, type_text, view};
-use crate::value::{arithmetic, number, quantity};
+use crate::value::{arithmetic, at_level, byte, number, quantity};
 use teco_core::{Args, Code, Reg};
 use teco_scan::{Bare, Command, Item, RegisterCommand, TextCommand, Token, TokenKind};
 use teco_store::Desk;
@@ -72,7 +72,7 @@ fn bare_step<D: Desk, T: Terminal>(
         Bare::Quantity(which) => quantity(desk, which, args),
         Bare::Arithmetic(which) => arithmetic(desk, which, args),
         Bare::Command(command) => command_step(desk, command, setting, args, term),
-        Bare::Level(_) => Err(Failure::Command(Code::Ill)),
+        Bare::Level(command) => at_level(desk, command, args),
     }
 }
 
@@ -153,7 +153,7 @@ fn item_step<D: Desk, T: Terminal>(
             )
         }
         Item::SetText(q, span) => set_text(desk, q, &text[span.from..span.to], args),
-        Item::Byte(_) => Err(Failure::Command(Code::Ill)),
+        Item::Byte(code) => byte(desk, code, args),
         Item::Replace(..) => Err(Failure::Command(Code::Ill)),
     }
 }

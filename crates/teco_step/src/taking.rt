@@ -1,7 +1,8 @@
 //! What commands take: a number, a byte, a place, or a range of the text.
 ghost use Rattle.std.specs.Prelude.{◌≡◌, ◌<◌, ◌≤◌, ◌^◌, ◌+ℤ◌, false, length, IfErr, IfOk, Ok, OnErr, OnOk};
-ghost use Rattle.teco_core.specs.Arguments.{give, give_pair, operate, taken_from};
+ghost use Rattle.teco_core.specs.Arguments.{close_level, comma, give, give_pair, open_level, operate, taken_from};
 ghost use Rattle.teco_core.specs.ArgumentsView.{arguments};
+ghost use Rattle.teco_core.specs.Number as number;
 ghost use Rattle.teco_core.specs.Number.{decimal_value, fitted};
 ghost use Rattle.teco_core.specs.declared.limits.TheConstants.{TEXT_LIMIT};
 ghost use Rattle.teco_step.specs.Families.{IsRefusal, Takes, range_of};
@@ -32,6 +33,13 @@ pub(crate) fn sum(m: i32, n: i32) -> Result<i32, Failure>
     Ok(teco_core::operation(Op::Plus, m, n)?)
 }
 
+/// An answer as a number: -1 for yes, 0 for no.
+pub(crate) fn truth(answer: bool) -> i32
+    ensures { result ≡ number.truth answer }
+{
+    if answer { -1 } else { 0 }
+}
+
 /// Gives a value.
 pub(crate) fn give(args: &mut Args, value: i32) -> Result<(), Failure>
     ensures ok { OnOk result (give value (arguments args.old) ≡ Ok (arguments args.new)) }
@@ -60,6 +68,36 @@ pub(crate) fn pair(args: &mut Args, length: usize) -> Result<(), Failure>
     ensures unchanged { OnErr result (args.new ≡ args.old) }
 {
     Ok(args.pair(length)?)
+}
+
+/// Opens a parenthesis.
+#[tactic(auto, using(crate::proofs::Own::own_opening))]
+pub(crate) fn open(args: &mut Args) -> Result<(), Failure>
+    ensures ok { OnOk result (open_level (arguments args.old) ≡ Ok (arguments args.new)) }
+    ensures err { IfErr result (λ failure. IsRefusal failure (open_level (arguments args.old))) }
+    ensures unchanged { OnErr result (args.new ≡ args.old) }
+{
+    Ok(args.open()?)
+}
+
+/// Closes a parenthesis, whose value is given to what is around it.
+#[tactic(auto, using(crate::proofs::Own::own_closing))]
+pub(crate) fn close(args: &mut Args) -> Result<(), Failure>
+    ensures ok { OnOk result (close_level (arguments args.old) ≡ Ok (arguments args.new)) }
+    ensures err { IfErr result (λ failure. IsRefusal failure (close_level (arguments args.old))) }
+    ensures unchanged { OnErr result (args.new ≡ args.old) }
+{
+    Ok(args.close()?)
+}
+
+/// Makes a value the first of two.
+#[tactic(auto, using(crate::proofs::Own::own_comma))]
+pub(crate) fn divide(args: &mut Args) -> Result<(), Failure>
+    ensures ok { OnOk result (comma (arguments args.old) ≡ Ok (arguments args.new)) }
+    ensures err { IfErr result (λ failure. IsRefusal failure (comma (arguments args.old))) }
+    ensures unchanged { OnErr result (args.new ≡ args.old) }
+{
+    Ok(args.comma()?)
 }
 
 /// What a command takes. The arguments stay until it is done.

@@ -112,6 +112,52 @@ fn values_are_typed(rt: HostRuntime) {
 }
 
 #[test]
+fn arguments_are_built(rt: HostRuntime) {
+    let rows: [(&[u8], &[u8], Option<Code>); 14] = [
+        (b"(1+2)*(3+4)=", b"21\r\n", None),
+        (b"-(2-(3*4))=", b"10\r\n", None),
+        (b"12&10#(1+4)=", b"13\r\n", None),
+        (b"Ihello\x1b1,3TB,2T", b"elhe", None),
+        (b"^^A=^^(+^^\x00=", b"65\r\n40\r\n", None),
+        (b"^N=^E=\x0e+1=", b"-1\r\n0\r\n0\r\n", None),
+        (b"2(", b"", Some(Code::Arg)),
+        (b"()", b"", Some(Code::Arg)),
+        (b"1)", b"", Some(Code::Arg)),
+        (b"(1=", b"", Some(Code::Mrp)),
+        (b"1,=", b"", Some(Code::Arg)),
+        (b"1,2,", b"", Some(Code::Arg)),
+        (b"(1,2", b"", Some(Code::Arg)),
+        (b"((((((((((((((((1))))))))))))))))=", b"1\r\n", None),
+    ];
+    for (text, typed, code) in rows {
+        check(&rt, rt.alloc(), text, typed, code);
+    }
+    check(&rt, rt.alloc(), b"(((((((((((((((((", b"", Some(Code::Pdo));
+}
+
+#[test]
+fn codes_of_characters_are_given(rt: HostRuntime) {
+    let rows: [(&[u8], &[u8], Option<Code>); 5] = [
+        (
+            b"Ihello\x1bJ0A=4A=5A=-A=",
+            b"104\r\n111\r\n-1\r\n-1\r\n",
+            None,
+        ),
+        (
+            b"Ihello\x1b-A=0A=-5A+1=-6A=",
+            b"111\r\n-1\r\n105\r\n-1\r\n",
+            None,
+        ),
+        (b"Ihello\x1b1,(-A-108)T", b"el", None),
+        (b"1+A", b"", Some(Code::Arg)),
+        (b"A", b"", Some(Code::Ill)),
+    ];
+    for (text, typed, code) in rows {
+        check(&rt, rt.alloc(), text, typed, code);
+    }
+}
+
+#[test]
 fn the_pointer_is_moved(rt: HostRuntime) {
     let rows: [(&[u8], &[u8], Option<Code>); 9] = [
         (b"Ihello\x1b0J3C.=", b"3\r\n", None),

@@ -1,5 +1,5 @@
 //! Tokens that give a value or build arguments. They change no state and take no memory, and one that is refused keeps the arguments.
-ghost use Rattle.std.specs.Prelude.{◌≡◌, Err};
+ghost use Rattle.std.specs.Prelude.{◌≡◌, ◌+ℤ◌, pos, Err};
 ghost use Rattle.teco_core.specs.ArgumentsView.{arguments};
 ghost use Rattle.teco_step.specs.Families.{Acts};
 ghost use Rattle.teco_step.specs.Step.{goes};
@@ -7,10 +7,12 @@ ghost use Rattle.teco_step.specs.Values as values;
 ghost use Rattle.teco_step.specs.declared.failure.Failure.TheVariants.{Memory};
 
 use crate::failure::Failure;
+use crate::line::byte_at;
 use crate::next::Next;
-use crate::taking::{decimal, give, operator, pair, text_length};
-use teco_core::{Args, Code};
-use teco_scan::{Arithmetic, Quantity};
+use crate::registers::give_alone;
+use crate::taking::{close, decimal, divide, give, open, operator, pair, text_length, truth};
+use teco_core::{Args, Code, Level};
+use teco_scan::{Arithmetic, LevelCommand, Quantity};
 use teco_store::Desk;
 
 /// A run of digits gives its value.
@@ -23,7 +25,7 @@ pub(crate) fn number<D: Desk>(desk: &D, digits: &[u8], args: &mut Args) -> Resul
     Ok(Next::On)
 }
 
-/// `B`, `Z` and `.` give their places.
+/// `B`, `Z` and `.` give their places, `^E` whether a form feed ended the page, and `^N` whether no input is left.
 pub(crate) fn quantity<D: Desk>(
     desk: &D,
     quantity: Quantity,
@@ -37,13 +39,23 @@ pub(crate) fn quantity<D: Desk>(
         Quantity::Beginning => give(args, 0)?,
         Quantity::End => give(args, text_length(desk) as i32)?,
         Quantity::Pointer => give(args, desk.pointer() as i32)?,
-        Quantity::FormFeed => return Err(Failure::Command(Code::Ill)),
-        Quantity::InputEnd => return Err(Failure::Command(Code::Ill)),
+        Quantity::FormFeed => give(args, truth(desk.flag()))?,
+        Quantity::InputEnd => give(args, truth(desk.is_input_over()))?,
     }
     Ok(Next::On)
 }
 
-/// An operator waits for the next value.
+/// `^^` and a byte gives the byte's code.
+pub(crate) fn byte<D: Desk>(desk: &D, byte: u8, args: &mut Args) -> Result<Next, Failure>
+    ensures does { Acts (goes (values.give_byte byte)) (D.state desk.now) (D.state desk.now) (arguments args.old) (arguments args.new)
+        (D.follows desk.now) (D.follows desk.now) result }
+    ensures no_memory { result ≡ Err Memory → ⊥ }
+{
+    give(args, i32::from(byte))?;
+    Ok(Next::On)
+}
+
+/// `H` gives a pair, an operator waits for the next value, a parenthesis opens or closes, and a comma makes a value the first of two.
 pub(crate) fn arithmetic<D: Desk>(
     desk: &D,
     arithmetic: Arithmetic,
@@ -54,16 +66,67 @@ pub(crate) fn arithmetic<D: Desk>(
     ensures no_memory { result ≡ Err Memory → ⊥ }
 {
     match arithmetic {
-        Arithmetic::Operator(op) => {
-            operator(args, op)?;
-            Ok(Next::On)
-        }
-        Arithmetic::Whole => {
-            pair(args, text_length(desk))?;
-            Ok(Next::On)
-        }
-        Arithmetic::Open => Err(Failure::Command(Code::Ill)),
-        Arithmetic::Close => Err(Failure::Command(Code::Ill)),
-        Arithmetic::Comma => Err(Failure::Command(Code::Ill)),
+        Arithmetic::Whole => pair(args, text_length(desk))?,
+        Arithmetic::Operator(op) => operator(args, op)?,
+        Arithmetic::Open => open(args)?,
+        Arithmetic::Close => close(args)?,
+        Arithmetic::Comma => divide(args)?,
+    }
+    Ok(Next::On)
+}
+
+/// The code of the byte at a place, or -1 where none is.
+fn code_at<D: Desk>(desk: &D, place: i64) -> i32
+    ensures { result ≡ values.code_at (D.state desk.now).text place }
+{
+    let (before, after) = desk.halves();
+    if place < 0 || place >= (before.len() + after.len()) as i64 {
+        return -1;
+    }
+    i32::from(byte_at(before, after, place as usize))
+}
+
+/// The code of the character `n` after the pointer, or -1 where none is.
+fn code_near<D: Desk>(desk: &D, n: i32) -> i32
+    ensures { let s = D.state desk.now in result ≡ values.code_at s.text (pos s.pointer +ℤ n) }
+{
+    code_at(desk, desk.pointer() as i64 + i64::from(n))
+}
+
+/// Gives the code of the character `n` after the pointer, in place of what the level has.
+fn give_code<D: Desk>(desk: &D, n: i32, args: &mut Args) -> Result<Next, Failure>
+    ensures { Acts (goes (values.gives_code n)) (D.state desk.now) (D.state desk.now) (arguments args.old) (arguments args.new)
+        (D.follows desk.now) (D.follows desk.now) result }
+{
+    let code = code_near(desk, n);
+    give_alone(args, code);
+    Ok(Next::On)
+}
+
+/// `nA` gives the code of a character. Without n it is no command yet.
+fn append<D: Desk>(desk: &D, args: &mut Args) -> Result<Next, Failure>
+    ensures { Acts (goes values.append) (D.state desk.now) (D.state desk.now) (arguments args.old) (arguments args.new)
+        (D.follows desk.now) (D.follows desk.now) result }
+{
+    match args.level() {
+        Level::Value(n) => give_code(desk, n, args),
+        Level::Sign(n) => give_code(desk, n, args),
+        Level::Empty => Err(Failure::Command(Code::Ill)),
+        Level::Waits => Err(Failure::Command(Code::Arg)),
+    }
+}
+
+/// A value or a command, by what the level has.
+pub(crate) fn at_level<D: Desk>(
+    desk: &D,
+    command: LevelCommand,
+    args: &mut Args,
+) -> Result<Next, Failure>
+    ensures { Acts (goes (values.at_level command)) (D.state desk.now) (D.state desk.now) (arguments args.old) (arguments args.new)
+        (D.follows desk.now) (D.follows desk.now) result }
+{
+    match command {
+        LevelCommand::Append => append(desk, args),
+        LevelCommand::Decimal => Err(Failure::Command(Code::Ill)),
     }
 }

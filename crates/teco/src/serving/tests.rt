@@ -192,6 +192,25 @@ fn serves_lines_and_ranges(rt: HostRuntime) {
 }
 
 #[test]
+fn serves_arguments(rt: HostRuntime) {
+    for row in [
+        plain_row("2*(3+4)=$$", "14\r\n", ""),
+        plain_row("12&10=12#3=$$", "8\r\n15\r\n", ""),
+        plain_row("Ihello$1,3T$$", "el", "hello"),
+        plain_row("Ihello$1,6T$$", "?POP\r\n", "hello"),
+        plain_row("^^A=$$", "65\r\n", ""),
+        plain_row("^N=^E=$$", "-1\r\n0\r\n", ""),
+        plain_row("Ihello$J0A=$$", "104\r\n", "hello"),
+        plain_row("Ihello$-A=0A=$$", "111\r\n-1\r\n", "hello"),
+        plain_row("(1=$$", "?MRP\r\n", ""),
+        plain_row("1,2J$$", "?ARG\r\n", ""),
+        plain_row("(((((((((((((((((1$$", "?PDO\r\n", ""),
+    ] {
+        holds(&rt, rt.alloc(), row);
+    }
+}
+
+#[test]
 fn serves_programs(rt: HostRuntime) {
     for row in [
         Row {
