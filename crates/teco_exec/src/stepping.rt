@@ -23,7 +23,7 @@ use teco_store::Desk;
 ///
 /// Where the limit of steps is reached, the run is over. A step that ends for want of memory, or because the terminal fails, isn't
 /// counted.
-#[inline]
+#[inline(always)]
 pub(crate) fn step<D: Desk, T: Terminal>(
     desk: &mut D,
     cursor: &mut Cursor,
@@ -53,7 +53,7 @@ pub(crate) fn step<D: Desk, T: Terminal>(
 }
 
 /// Does the steps of a token, one after the other.
-#[inline]
+#[inline(always)]
 fn token_steps<D: Desk, T: Terminal>(
     desk: &mut D,
     cursor: &mut Cursor,
@@ -83,7 +83,7 @@ fn token_steps<D: Desk, T: Terminal>(
 }
 
 /// Does a step of a token, its first or a further one with this work left.
-#[inline]
+#[inline(always)]
 fn token_step<D: Desk, T: Terminal>(
     desk: &mut D,
     cursor: &mut Cursor,
