@@ -165,7 +165,7 @@ pub enum Test {
 }
 
 /// What follows a command's name, and so what the command is.
-#[derive(Clone, Copy, Debug, PartialEq, Eq)]
+#[derive(Clone, Copy)]
 pub enum Form {
     /// Nothing.
     Bare(Bare),
@@ -192,7 +192,7 @@ pub enum Form {
 }
 
 /// How a command is called; letters in upper case.
-#[derive(Clone, Copy, Debug, PartialEq, Eq)]
+#[derive(Clone, Copy)]
 pub enum Name {
     One(u8),
     Two(u8, u8),
@@ -209,7 +209,7 @@ pub struct Modifiers {
 }
 
 /// A command: its name, the most modifiers that it allows, and what follows the name.
-#[derive(Clone, Copy, Debug, PartialEq, Eq)]
+#[derive(Clone, Copy)]
 pub struct Row {
     pub name: Name,
     pub allows: Modifiers,

@@ -125,7 +125,7 @@ fn ends_inside(name: Name, text: &[u8], at: usize) -> bool
 fn is_refused(form: Form) -> bool
     ensures { result ≡ is_refused form }
 {
-    form == Form::Refused
+    matches!(form, Form::Refused)
 }
 
 /// The first row that admits the modifiers and whose name is here, and the place after it.
