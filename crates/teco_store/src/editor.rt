@@ -1,5 +1,5 @@
 //! The editor: one editing state.
-ghost use Rattle.std.specs.Prelude.{◌≡◌, ◌≤◌, [], vec_len, IfOk, OnOk};
+ghost use Rattle.std.specs.Prelude.{◌≡◌, ◌≤◌, option_map, vec_len, IfOk};
 ghost use Rattle.teco_gap.specs.Gap.{text};
 ghost use Rattle.teco_store.specs.State.{beginning, state_of};
 
@@ -67,20 +67,18 @@ impl Editor {
     pub fn copy(&self) -> Result<Editor, NoMemory>
         ensures { IfOk result (λ editor. state_of editor ≡ state_of self.now) }
     {
-        let last_search = match &self.last_search {
-            None => None,
-            Some(text) => Some(text.clone()?),
-        };
-        let mut text = GapBuffer::new();
-        copy_text(*self.input.allocator(), &self.text, &mut text)?;
+        let (registers, pushed) = copy_values(&self.registers, &self.pushed)?;
+        let (input, output) = copy_files(&self.input, &self.output)?;
+        let text = copy_text(*self.input.allocator(), &self.text)?;
+        let last_search = copy_noted(&self.last_search)?;
         Ok(Editor {
             text,
             pointer: self.pointer,
-            registers: self.registers.copy()?,
-            pushed: self.pushed.copy()?,
-            input: self.input.clone()?,
+            registers,
+            pushed,
+            input,
             place: self.place,
-            output: self.output.clone()?,
+            output,
             form_feed: self.form_feed,
             last_search,
             last_found: self.last_found,
@@ -90,16 +88,40 @@ impl Editor {
     }
 }
 
-// Puts the text of a buffer into an empty one.
-fn copy_text(alloc: Global, from: &GapBuffer, to: &mut GapBuffer) -> Result<(), NoMemory>
-    requires { text to.old ≡ [] }
-    ensures { OnOk result (text to.new ≡ text from.now) }
+// The same text, in memory of its own.
+fn copy_text(alloc: Global, from: &GapBuffer) -> Result<GapBuffer, NoMemory>
+    ensures { IfOk result (λ to. text to ≡ text from.now) }
 {
     let (before, after) = from.halves();
+    let mut to = GapBuffer::new();
     to.reserve(alloc, before.len() + after.len())?;
     to.splice(0, 0, before);
     to.splice(before.len(), 0, after);
-    Ok(())
+    Ok(to)
+}
+
+// Registers and a push-down list that hold the same, in memory of their own.
+fn copy_values(registers: &Registers, pushed: &PushList) -> Result<(Registers, PushList), NoMemory>
+    ensures { IfOk result (λ copies. (copies.0 ≡ registers.now) × (copies.1 ≡ pushed.now)) }
+{
+    Ok((registers.copy()?, pushed.copy()?))
+}
+
+// The same input and output, in memory of their own.
+fn copy_files(input: &Vec<u8>, output: &Vec<u8>) -> Result<(Vec<u8>, Vec<u8>), NoMemory>
+    ensures { IfOk result (λ copies. (copies.0.items ≡ input.now.items) × (copies.1.items ≡ output.now.items)) }
+{
+    Ok((input.clone()?, output.clone()?))
+}
+
+// The same text that a search left, in memory of its own.
+fn copy_noted(last: &Option<Vec<u8>>) -> Result<Option<Vec<u8>>, NoMemory>
+    ensures { IfOk result (λ copy. option_map (λ v. v.items) copy ≡ option_map (λ v. v.items) last.now) }
+{
+    match last {
+        None => Ok(None),
+        Some(text) => Ok(Some(text.clone()?)),
+    }
 }
 
 impl Desk for Editor {
