@@ -1,12 +1,11 @@
 //! The editor: one editing state.
-ghost use Rattle.std.specs.Prelude.{◌≡◌, ◌≤◌, option_map, vec_len, IfOk};
-ghost use Rattle.teco_gap.specs.Gap.{text};
+ghost use Rattle.std.specs.Prelude.{◌≡◌, ◌≤◌, vec_len, IfOk};
 ghost use Rattle.teco_store.specs.State.{beginning, state_of};
 
+use crate::copies::{copy_files, copy_noted, copy_text, copy_values};
 use crate::desk::{Desk, Refused};
 use crate::noting::{is_long, note_text};
-use crate::pages::{append, is_past, next_page, part};
-use std::alloc::Global;
+use crate::pages::{append, is_past, make_room, next_page, part, replace_text};
 use std::marker::Model;
 use teco_core::{CaseMode, FILE_LIMIT, NoMemory, PushList, Reg, Registers, TEXT_LIMIT};
 use teco_gap::GapBuffer;
@@ -85,42 +84,6 @@ impl Editor {
             done: self.done,
             case_mode: self.case_mode,
         })
-    }
-}
-
-// The same text, in memory of its own.
-fn copy_text(alloc: Global, from: &GapBuffer) -> Result<GapBuffer, NoMemory>
-    ensures { IfOk result (λ to. text to ≡ text from.now) }
-{
-    let (before, after) = from.halves();
-    let mut to = GapBuffer::new();
-    to.reserve(alloc, before.len() + after.len())?;
-    to.splice(0, 0, before);
-    to.splice(before.len(), 0, after);
-    Ok(to)
-}
-
-// Registers and a push-down list that hold the same, in memory of their own.
-fn copy_values(registers: &Registers, pushed: &PushList) -> Result<(Registers, PushList), NoMemory>
-    ensures { IfOk result (λ copies. (copies.0 ≡ registers.now) × (copies.1 ≡ pushed.now)) }
-{
-    Ok((registers.copy()?, pushed.copy()?))
-}
-
-// The same input and output, in memory of their own.
-fn copy_files(input: &Vec<u8>, output: &Vec<u8>) -> Result<(Vec<u8>, Vec<u8>), NoMemory>
-    ensures { IfOk result (λ copies. (copies.0.items ≡ input.now.items) × (copies.1.items ≡ output.now.items)) }
-{
-    Ok((input.clone()?, output.clone()?))
-}
-
-// The same text that a search left, in memory of its own.
-fn copy_noted(last: &Option<Vec<u8>>) -> Result<Option<Vec<u8>>, NoMemory>
-    ensures { IfOk result (λ copy. option_map (λ v. v.items) copy ≡ option_map (λ v. v.items) last.now) }
-{
-    match last {
-        None => Ok(None),
-        Some(text) => Ok(Some(text.clone()?)),
     }
 }
 
@@ -238,10 +201,8 @@ impl Desk for Editor {
         if page.bytes.len() > TEXT_LIMIT {
             return Err(Refused::Big);
         }
-        let len = self.text.len();
-        self.text
-            .reserve(*self.input.allocator(), page.bytes.len())?;
-        self.text.splice(0, len, page.bytes);
+        make_room(*self.input.allocator(), &mut self.text, page.bytes.len())?;
+        replace_text(&mut self.text, page.bytes);
         self.pointer = 0;
         self.place += page.bytes.len() + usize::from(page.form_feed);
         self.form_feed = page.form_feed;
@@ -257,8 +218,11 @@ impl Desk for Editor {
         if is_past(TEXT_LIMIT, end, page.bytes.len()) {
             return Err(Refused::Big);
         }
-        self.text
-            .reserve(*self.input.allocator(), end + page.bytes.len())?;
+        make_room(
+            *self.input.allocator(),
+            &mut self.text,
+            end + page.bytes.len(),
+        )?;
         self.text.splice(end, 0, page.bytes);
         self.place += page.bytes.len() + usize::from(page.form_feed);
         self.form_feed = page.form_feed;
@@ -267,16 +231,14 @@ impl Desk for Editor {
 
     fn turn_page(&mut self) -> Result<(), Refused> {
         let page = next_page(&self.input[self.place..]);
-        let len = self.text.len();
-        let written = len + usize::from(self.form_feed);
+        let written = self.text.len() + usize::from(self.form_feed);
         if page.bytes.len() > TEXT_LIMIT || is_past(FILE_LIMIT, self.output.len(), written) {
             return Err(Refused::Big);
         }
-        self.text
-            .reserve(*self.input.allocator(), page.bytes.len())?;
+        make_room(*self.input.allocator(), &mut self.text, page.bytes.len())?;
         let (before, after) = self.text.halves();
         append(&mut self.output, before, after, self.form_feed, &[])?;
-        self.text.splice(0, len, page.bytes);
+        replace_text(&mut self.text, page.bytes);
         self.pointer = 0;
         self.place += page.bytes.len() + usize::from(page.form_feed);
         self.form_feed = page.form_feed;
@@ -337,8 +299,7 @@ impl Desk for Editor {
             return Err(Refused::Big);
         }
         append(&mut self.output, before, after, self.form_feed, rest)?;
-        let len = self.text.len();
-        self.text.splice(0, len, &[]);
+        replace_text(&mut self.text, &[]);
         self.pointer = 0;
         self.place = self.input.len();
         self.form_feed = false;

@@ -3,6 +3,7 @@
 
 #[cfg(test)]
 mod call_tests;
+mod copies;
 mod desk;
 mod editor;
 mod noting;

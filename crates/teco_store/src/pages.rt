@@ -1,10 +1,13 @@
 //! Pages of the input, and how they are written.
 ghost use Rattle.std.specs.Prelude.{◌≡◌, ◌+◌, ◌-◌, ◌<◌, ◌≤◌, ◌^◌, ◌++◌, ◌↔◌, length, take, drop, OnOk, OnErr, IsTrue, if◌then◌else◌};
 ghost use Rattle.std.specs.Vec.{vec_capacity};
+ghost use Rattle.teco_gap.specs.Gap.{text};
 ghost use Rattle.teco_store.specs.Page.{page_of, is_ended, form_feed_if};
 
 use memchr::memchr;
+use std::alloc::Global;
 use teco_core::NoMemory;
+use teco_gap::GapBuffer;
 
 const FORM_FEED: u8 = 12;
 
@@ -32,6 +35,23 @@ pub(crate) fn next_page(left: &[u8]) -> Page<'_>
             form_feed: true,
         },
     }
+}
+
+// Makes room in a buffer for so many bytes in all. Its text stays.
+pub(crate) fn make_room(alloc: Global, buffer: &mut GapBuffer, bytes: usize) -> Result<(), NoMemory>
+    ensures same { text buffer.new ≡ text buffer.old }
+    ensures room { OnOk result (bytes ≤ buffer.new.cap) }
+{
+    buffer.reserve(alloc, bytes)
+}
+
+// Puts a page in place of the text of a buffer, which has room for it.
+pub(crate) fn replace_text(buffer: &mut GapBuffer, page: &[u8])
+    requires { length page.now ≤ buffer.old.cap }
+    ensures { text buffer.new ≡ page.now }
+{
+    let len = buffer.len();
+    buffer.splice(0, len, page);
 }
 
 // Whether so many more bytes would pass a limit.
