@@ -9,7 +9,7 @@ use Rattle.teco_scan.specs.declared.command.Quantity.TheVariants.{Pointer, End, 
 use Rattle.teco_scan.specs.declared.command.Arithmetic.TheVariants.{Operator, Open, Close, Comma}
 use Rattle.teco_scan.specs.declared.command.Command.TheVariants.{Jump, Kill, TypeOut, View, TypeByte, Print, PrintOctal, Leave}
 use Rattle.teco_scan.specs.declared.command.RegisterCommand.TheVariants.{Number, Increment, Set, Extract, Macro, Push, Pop}
-use Rattle.teco_scan.specs.declared.command.TextCommand.TheVariants.{Insert, InsertTab, Go}
+use Rattle.teco_scan.specs.declared.command.TextCommand.TheVariants.{Insert, InsertTab, Search, Go}
 use Rattle.teco_scan.specs.declared.command.LevelCommand.TheVariants.{Append}
 use Rattle.teco_scan.specs.declared.command.BlockMark.TheVariants.{Iterate, EndIteration, Otherwise, EndTest}
 use Rattle.teco_scan.specs.declared.command.Test.TheVariants.{Zero, NotZero, Above, Below, Letter, Digit, LetterOrDigit, Lower, Upper}
@@ -188,7 +188,7 @@ found_no_registers : scans "Q" (fault Utc)
     × scans ":^" (fault Ill)
     × scans "^?" (fault Ill)
     × scans ":" (fault Utc)
-    × scans "::" (fault Ill)
+    × scans "::" (fault Utc)
 unfolding computing
 found_no_registers = (refl, refl, refl, refl, refl, refl, refl, refl, refl, refl, refl, refl, refl, refl, refl, refl, refl, refl, refl, refl, refl, refl, refl, refl, refl)
 
@@ -245,6 +245,34 @@ found_no_edits : scans ":K" (fault Ill)
     × scans "^Ia$" (fault Ill)
 unfolding computing
 found_no_edits = (refl, refl, refl, refl, refl, refl, refl, refl, refl, refl, refl, refl, refl, refl)
+
+-- searches: with @ the byte after the name ends each text
+found_searches : scans "Sab$=" (plain (step (text Search (codes "ab"))) "=")
+    × scans "s$T" (plain (step (text Search [])) "T")
+    × scans ":Sa$" (colon (step (text Search (codes "a"))) "")
+    × scans "@S/a$/2" (at_sign (step (text Search (keys "a$"))) "2")
+    × (scan (keys "::Sa$=") ≡ found (record { modifiers = record { at = false; colons = 2 }; instruction = step (text Search (codes "a")) }) (codes "="))
+    × (scan (keys ":@:S//") ≡ found (record { modifiers = record { at = true; colons = 2 }; instruction = step (text Search []) }) [])
+    × scans "FSa$b$2" (plain (step (token.replace (codes "a") (codes "b"))) "2")
+    × scans "fs$$=" (plain (step (token.replace [] [])) "=")
+    × scans ":FSa$$" (colon (step (token.replace (codes "a") [])) "")
+    × scans "@FS/a/b$/2" (at_sign (step (token.replace (codes "a") (keys "b$"))) "2")
+unfolding computing
+found_searches = (refl, refl, refl, refl, refl, refl, refl, refl, refl, refl)
+
+found_no_searches : scans "S" (fault Utc)
+    × scans "Sab" (fault Utc)
+    × scans ":::S" (fault Ill)
+    × scans "F" (fault Utc)
+    × scans "F S" (fault Ill)
+    × scans "FA" (fault Ill)
+    × scans "FSa" (fault Utc)
+    × scans "FSa$b" (fault Utc)
+    × scans "@FS" (fault Utc)
+    × scans "@FS/a/b" (fault Utc)
+    × scans "::FSa$b$" (fault Ill)
+unfolding computing
+found_no_searches = (refl, refl, refl, refl, refl, refl, refl, refl, refl, refl, refl)
 
 up_to : ℕ → List ℕ
 up_to zero = []

@@ -20,6 +20,11 @@ const COLON: Modifiers = Modifiers {
     colons: 1,
 };
 
+const AT_AND_COLON: Modifiers = Modifiers {
+    at: true,
+    colons: 1,
+};
+
 const ANY: Modifiers = Modifiers {
     at: true,
     colons: 2,
@@ -79,6 +84,8 @@ macro_rules! commands {
             One(b'!'), NONE, Form::Tag;
             One(b'O'), AT, Form::Text(TextCommand::Go, ESC);
             One(b'I'), AT, Form::Text(TextCommand::Insert, ESC);
+            One(b'S'), ANY, Form::Text(TextCommand::Search, ESC);
+            Two(b'F', b'S'), AT_AND_COLON, Form::Replace;
             Control(b'A'), AT, Form::Text(TextCommand::TypeOut, 1);
         }
     };
@@ -92,7 +99,7 @@ macro_rules! rows {
 
 /// Every command but the run of digits. The table is a definition: it says what commands there are. A longer name comes before one
 /// that begins it.
-pub const ROWS: [Row; 50] = commands!(rows);
+pub const ROWS: [Row; 52] = commands!(rows);
 
 // The first row whose name may begin with the byte.
 macro_rules! first_row {

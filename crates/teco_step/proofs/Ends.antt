@@ -20,7 +20,9 @@ use Rattle.teco_scan.specs.Scan.{Item}
 use Rattle.teco_scan.specs.Scan as token
 use Rattle.teco_step.specs.Effect.{effect, command_effect, bare_effect, register_effect, text_effect, item_effect}
 use Rattle.teco_step.specs.Step.{Setting, Attempt, Made, Action, goes, steers, goes_on, done_by, End, on, leave, go, again, stop, settled, ends, takes_none, takes_one_or}
+use Rattle.teco_step.specs.Searching.{search_or_compare, search_and_replace}
 use Rattle.teco_step.specs.declared.next.Work.{Work}
+use Rattle.teco_step.proofs.Searches.{Searches, searches, replacement_searches}
 use Rattle.teco_step.specs.Stepping.{name_of, takes_nothing}
 
 -- An end that a token of this name may have, inside an iteration or not.
@@ -58,6 +60,11 @@ ends_then : (inside : Bool) (name : List ℕ) {A : Type 0} (r : Result A Code) (
 ends_then inside name (Ok x) f h = h x
 ends_then inside name (Err c) f h = tt
 
+search_ends : (inside : Bool) (name : List ℕ) (s : State) (t : Attempt) → Searches s t → AttemptMayEnd inside name t
+search_ends inside name s (Ok step) (inl e, keeps) = subst (λ (end : End). MayEnd inside name end) (sym e) tt
+search_ends inside name s (Ok step) (inr e, keeps) = subst (λ (end : End). MayEnd inside name end) (sym e) tt
+search_ends inside name s (Err c) h = tt
+
 -- the actions that say how they end, as the effect dispatches them
 command_ends : (name : List ℕ) (c : Command) (w : Setting) → ActionMayEnd w.inside name (command_effect c w)
 command_ends name command.Leave w = λ s a.
@@ -75,12 +82,14 @@ register_ends name _ q w = tt
 
 text_ends : (c : TextCommand) (text : List ℕ) (w : Setting) → ActionMayEnd w.inside text (text_effect c text w)
 text_ends text_command.Go text w = λ s a. ends_then w.inside text (takes_none a) _ (λ none. refl)
+text_ends text_command.Search text w = λ s a. search_ends w.inside text s (search_or_compare text w s a) (searches text w s a)
 text_ends _ text w = tt
 
 item_ends : (i : Item) (w : Setting) → ActionMayEnd w.inside (name_of i) (item_effect i w)
 item_ends (token.bare b) w = bare_ends [] b w
 item_ends (token.register c q) w = register_ends [] c q w
 item_ends (token.text c text) w = text_ends c text w
+item_ends (token.replace old new) w = λ s a. search_ends w.inside [] s (search_and_replace old new w s a) (replacement_searches old new w s a)
 item_ends _ w = tt
 
 settled_ends : (inside : Bool) (name : List ℕ) (t : Attempt) (s : State) (a : Arguments) → AttemptMayEnd inside name t → MayEnd inside name (settled s a t).end

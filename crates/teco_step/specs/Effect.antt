@@ -17,6 +17,7 @@ use Rattle.teco_step.specs.Values.{number, give_quantity, build, give_byte, at_l
 use Rattle.teco_step.specs.Editing.{jump, forward, back, to_line, delete, kill, insert, insert_tab}
 use Rattle.teco_step.specs.Typing.{type_out, view, type_text, type_byte, print, print_octal}
 use Rattle.teco_step.specs.Registers.{register_value, set_number, increment, set_text, extract, push, pop, get}
+use Rattle.teco_step.specs.Searching.{search_or_compare, search_and_replace}
 use Rattle.teco_step.specs.Control.{leave_or_not, jump_to, run_register}
 
 -- Commands without an operand.
@@ -57,6 +58,7 @@ text_effect text_command.Insert text w = goes (insert text)
 text_effect text_command.InsertTab text w = goes (insert_tab text)
 text_effect text_command.TypeOut text w = goes (type_text text)
 text_effect text_command.Go text w = steers (jump_to text)
+text_effect text_command.Search text w = steers (search_or_compare text w)
 text_effect c text w = none_such
 
 abbrev pub item_effect : Item → Setting → Action
@@ -65,8 +67,8 @@ item_effect (token.bare b) w = bare_effect b w
 item_effect (token.register c q) w = register_effect c q w
 item_effect (token.text c text) w = text_effect c text w
 item_effect (token.set_text q text) w = goes (set_text q text)
+item_effect (token.replace old new) w = steers (search_and_replace old new w)
 item_effect (token.byte b) w = goes (give_byte b)
-item_effect i w = none_such
 
 -- One step of a token, its first or a further one.
 unfoldable pub effect : Item → Setting → State → Arguments → Step

@@ -10,6 +10,7 @@ mod line;
 mod memory_terminal;
 mod next;
 mod registers;
+mod searching;
 mod step;
 mod taking;
 mod terminal;

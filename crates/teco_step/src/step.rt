@@ -17,6 +17,7 @@ use crate::edit::{back, delete, forward, insert, insert_tab, jump, kill, to_line
 use crate::failure::{Failure, next_of};
 use crate::next::{Next, Setting, Work};
 use crate::registers::{extract, get, increment, pop, push, register_value, set_number, set_text};
+use crate::searching::{search_and_replace, search_or_compare};
 use crate::terminal::Terminal;
 use crate::typing::{print, print_octal, type_byte, type_out, type_text, view};
 use crate::value::{arithmetic, at_level, byte, number, quantity};
@@ -118,7 +119,7 @@ fn text_step<D: Desk, T: Terminal>(
         TextCommand::Go => jump_to(desk, text, args),
         TextCommand::InsertTab => insert_tab(desk, text, args),
         TextCommand::TypeOut => type_text(desk, text, args, term),
-        TextCommand::Search => Err(Failure::Command(Code::Ill)),
+        TextCommand::Search => search_or_compare(desk, text, setting, args),
         TextCommand::SearchPages => Err(Failure::Command(Code::Ill)),
         TextCommand::SearchPagesQuietly => Err(Failure::Command(Code::Ill)),
     }
@@ -154,7 +155,15 @@ fn item_step<D: Desk, T: Terminal>(
         }
         Item::SetText(q, span) => set_text(desk, q, &text[span.from..span.to], args),
         Item::Byte(code) => byte(desk, code, args),
-        Item::Replace(..) => Err(Failure::Command(Code::Ill)),
+        Item::Replace(old, new) => {
+            search_and_replace(
+                desk,
+                &text[old.from..old.to],
+                &text[new.from..new.to],
+                setting,
+                args,
+            )
+        }
     }
 }
 

@@ -61,16 +61,14 @@ fn run(rt: &impl Abort, seat: &mut Seat, text: &[u8]) -> Option<Code> {
             continue;
         };
         let before = measures(seat);
-        match step_at(seat, text, &token, false) {
-            Next::Error(Code::Mem) => {
-                assert_eq!(rt; before, measures(seat));
-                assert!(rt; matches!(step_at(seat, text, &token, false), Next::On));
-            }
-            Next::Error(code) => {
-                assert!(rt; code != Code::Tty || before == measures(seat));
-                return Some(code);
-            }
-            _ => {}
+        let mut next = step_at(seat, text, &token, false);
+        if matches!(next, Next::Error(Code::Mem)) {
+            assert_eq!(rt; before, measures(seat));
+            next = step_at(seat, text, &token, false);
+        }
+        if let Next::Error(code) = next {
+            assert!(rt; code != Code::Tty || before == measures(seat));
+            return Some(code);
         }
     }
     None
@@ -360,3 +358,4 @@ fn registers_are_run_with_the_arguments(rt: HostRuntime) {
 }
 
 mod edits;
+mod searches;

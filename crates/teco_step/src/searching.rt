@@ -1,0 +1,182 @@
+//! Searches. One that is not done keeps the arguments and the state; one that fails is done.
+ghost use Rattle.std.specs.Prelude.{◌≡◌, ◌⊎◌, ◌<◌, ◌≤◌, IfErr, IfOk, IfSome, Ok, length};
+ghost use Rattle.std.specs.Option.{option_copied};
+ghost use Rattle.teco_core.specs.ArgumentsView.{arguments};
+ghost use Rattle.teco_step.specs.Families.{Acts, IsRefusal, Takes};
+ghost use Rattle.teco_step.specs.Searching as searching;
+ghost use Rattle.teco_step.specs.Step.{steers};
+ghost use Rattle.teco_step.specs.declared.failure.Failure.TheVariants.{Memory};
+
+use crate::failure::Failure;
+use crate::joining::allocator;
+use crate::next::{Next, Setting};
+use crate::registers::give_alone;
+use crate::taking::{takes_none, takes_one_or, truth};
+use teco_core::{Args, Code};
+use teco_search::{Pattern, find, matches_at};
+use teco_store::Desk;
+
+/// The text that a search means: an empty one means the last one.
+fn meant<'a, D: Desk>(desk: &'a D, text: &'a [u8]) -> &'a [u8]
+    ensures { result.now ≡ searching.meant text.now (D.state desk.now) }
+{
+    if !text.is_empty() {
+        return text;
+    }
+    match desk.last_search() {
+        None => &[],
+        Some(last) => last,
+    }
+}
+
+/// What a search looks for. No text, and none before it, is [`Code::Iss`]; a text that spells nothing is [`Code::Ice`].
+fn sought<D: Desk>(desk: &D, text: &[u8]) -> Result<Pattern, Failure>
+    ensures ok { IfOk result (λ pattern. searching.sought text.now (D.state desk.now) ≡ Ok pattern) }
+    ensures err { IfErr result (λ failure. IsRefusal failure (searching.sought text.now (D.state desk.now)) ⊎ (failure ≡ Memory)) }
+{
+    let meant = meant(desk, text);
+    if meant.is_empty() {
+        return Err(Failure::Command(Code::Iss));
+    }
+    match Pattern::read(allocator(desk), meant, desk.case_mode()) {
+        Ok(pattern) => Ok(pattern),
+        Err(Code::Mem) => Err(Failure::Memory),
+        Err(code) => Err(Failure::Command(code)),
+    }
+}
+
+/// The number that a search takes, which may not be 0.
+fn takes_count(args: &Args) -> Result<i32, Failure>
+    ensures { Takes (λ n. n) result (searching.takes_count (arguments args.now)) }
+{
+    let n = takes_one_or(args, 1)?;
+    if n == 0 {
+        return Err(Failure::Command(Code::Isa));
+    }
+    Ok(n)
+}
+
+/// Where the nth occurrence of a text from the pointer begins and ends, if there is one.
+fn found<D: Desk>(desk: &D, text: &[u8], args: &Args) -> Result<Option<(usize, usize)>, Failure>
+    ensures ok { IfOk result (λ m. searching.found text.now (D.state desk.now) (arguments args.now) ≡ Ok m) }
+    ensures err { IfErr result (λ failure. IsRefusal failure (searching.found text.now (D.state desk.now) (arguments args.now)) ⊎ (failure ≡ Memory)) }
+    ensures within { IfOk result (λ found. IfSome found (λ m. (m.0 ≤ m.1) × (m.1 ≤ length (D.state desk.now).text))) }
+{
+    let n = takes_count(args)?;
+    let pattern = sought(desk, text)?;
+    Ok(find(&pattern, desk.halves(), desk.pointer(), n))
+}
+
+/// The text that a search notes: an empty one leaves the last one.
+fn noted_text(text: &[u8]) -> Option<&[u8]>
+    ensures { option_copied result ≡ searching.noted_text text.now }
+{
+    if text.is_empty() { None } else { Some(text) }
+}
+
+/// Leaves the result as the one argument.
+#[tactic(auto, unfolding(teco_core::specs::Arguments::give))]
+fn answer(found: bool, args: &mut Args)
+    ensures { arguments args.new ≡ searching.answer found }
+{
+    args.clear();
+    give_alone(args, truth(found));
+}
+
+/// Leaves the result as the one argument where there is a colon, else none.
+fn answer_colon(setting: Setting, found: bool, args: &mut Args)
+    ensures { arguments args.new ≡ searching.answers setting found }
+{
+    if setting.modifiers.colons == 1 {
+        return answer(found, args);
+    }
+    args.clear();
+}
+
+/// The search failed: the pointer goes to 0, and the string ends unless a colon asks or a `;` comes next in an iteration.
+fn fail<D: Desk>(
+    desk: &mut D,
+    text: &[u8],
+    setting: Setting,
+    args: &mut Args,
+) -> Result<Next, Failure>
+    ensures { Acts (steers (searching.fails text.now setting)) (D.state desk.old) (D.state desk.new) (arguments args.old) (arguments args.new)
+        (D.follows desk.old) (D.follows desk.new) result }
+{
+    desk.note_search(noted_text(text), false, 0)?;
+    answer_colon(setting, false, args);
+    if setting.modifiers.colons == 1 || (setting.inside && setting.before) {
+        return Ok(Next::On);
+    }
+    Ok(Next::Error(Code::Srh))
+}
+
+/// `nS` looks for the nth occurrence of the text, and puts the pointer after it.
+fn search<D: Desk>(
+    desk: &mut D,
+    text: &[u8],
+    setting: Setting,
+    args: &mut Args,
+) -> Result<Next, Failure>
+    ensures { Acts (steers (searching.search text.now setting)) (D.state desk.old) (D.state desk.new) (arguments args.old) (arguments args.new)
+        (D.follows desk.old) (D.follows desk.new) result }
+{
+    let Some((_, end)) = found(desk, text, args)? else {
+        return fail(desk, text, setting, args);
+    };
+    desk.note_search(noted_text(text), true, end)?;
+    answer_colon(setting, true, args);
+    Ok(Next::On)
+}
+
+/// `::S` tells whether the text is at the pointer, and puts the pointer after it.
+fn compare<D: Desk>(desk: &mut D, text: &[u8], args: &mut Args) -> Result<Next, Failure>
+    ensures { Acts (steers (searching.compare text.now)) (D.state desk.old) (D.state desk.new) (arguments args.old) (arguments args.new)
+        (D.follows desk.old) (D.follows desk.new) result }
+{
+    takes_none(args)?;
+    let pattern = sought(desk, text)?;
+    let end = matches_at(&pattern, desk.halves(), desk.pointer());
+    desk.note_search(
+        noted_text(text),
+        end.is_some(),
+        end.unwrap_or(desk.pointer()),
+    )?;
+    answer(end.is_some(), args);
+    Ok(Next::On)
+}
+
+/// `S`, and `::S`.
+pub(crate) fn search_or_compare<D: Desk>(
+    desk: &mut D,
+    text: &[u8],
+    setting: Setting,
+    args: &mut Args,
+) -> Result<Next, Failure>
+    ensures { Acts (steers (searching.search_or_compare text.now setting)) (D.state desk.old) (D.state desk.new) (arguments args.old) (arguments args.new)
+        (D.follows desk.old) (D.follows desk.new) result }
+{
+    if setting.modifiers.colons == 2 {
+        return compare(desk, text, args);
+    }
+    search(desk, text, setting, args)
+}
+
+/// `nFS` looks for the nth occurrence of the text, and puts the bytes in its place.
+pub(crate) fn search_and_replace<D: Desk>(
+    desk: &mut D,
+    text: &[u8],
+    bytes: &[u8],
+    setting: Setting,
+    args: &mut Args,
+) -> Result<Next, Failure>
+    ensures { Acts (steers (searching.search_and_replace text.now bytes.now setting)) (D.state desk.old) (D.state desk.new) (arguments args.old) (arguments args.new)
+        (D.follows desk.old) (D.follows desk.new) result }
+{
+    let Some((start, end)) = found(desk, text, args)? else {
+        return fail(desk, text, setting, args);
+    };
+    desk.note_replace(noted_text(text), start, end - start, bytes)?;
+    answer_colon(setting, true, args);
+    Ok(Next::On)
+}
