@@ -64,7 +64,7 @@ fn run(rt: &impl Abort, seat: &mut Seat, text: &[u8]) -> Option<Code> {
         match step_at(seat, text, &token, false) {
             Next::Error(Code::Mem) => {
                 assert_eq!(rt; before, measures(seat));
-                assert!(rt; matches!(step_at(seat, text, &token, false), Next::On));
+                assert!(rt; !matches!(step_at(seat, text, &token, false), Next::Error(_)));
             }
             Next::Error(code) => {
                 assert!(rt; code != Code::Tty || before == measures(seat));
@@ -150,7 +150,7 @@ fn codes_of_characters_are_given(rt: HostRuntime) {
         ),
         (b"Ihello\x1b1,(-A-108)T", b"el", None),
         (b"1+A", b"", Some(Code::Arg)),
-        (b"A", b"", Some(Code::Ill)),
+        (b"(A", b"", Some(Code::Mrp)),
     ];
     for (text, typed, code) in rows {
         check(&rt, rt.alloc(), text, typed, code);
@@ -360,3 +360,4 @@ fn registers_are_run_with_the_arguments(rt: HostRuntime) {
 }
 
 mod edits;
+mod pages;
