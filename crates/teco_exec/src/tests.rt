@@ -251,3 +251,5 @@ fn ends_where_the_terminal_fails(rt: HostRuntime) {
         assert_eq!(rt; editor.pointer(), 0);
     }
 }
+
+mod pages;

@@ -7,10 +7,10 @@ use Rattle.teco_core.specs.declared.code.Code.TheVariants.{Ill, Iqc, Iqn, Utc}
 use Rattle.teco_scan.specs.declared.command.Bare.TheVariants as group
 use Rattle.teco_scan.specs.declared.command.Quantity.TheVariants.{Pointer, End, FormFeed, InputEnd}
 use Rattle.teco_scan.specs.declared.command.Arithmetic.TheVariants.{Operator, Open, Close, Comma}
-use Rattle.teco_scan.specs.declared.command.Command.TheVariants.{Jump, Kill, TypeOut, View, TypeByte, Print, PrintOctal, Leave}
+use Rattle.teco_scan.specs.declared.command.Command.TheVariants.{Jump, Kill, TypeOut, View, TypeByte, Print, PrintOctal, NextPage, TurnPages, WritePage, Exit, CaseMode, Leave}
 use Rattle.teco_scan.specs.declared.command.RegisterCommand.TheVariants.{Number, Increment, Set, Extract, Macro, Push, Pop}
 use Rattle.teco_scan.specs.declared.command.TextCommand.TheVariants.{Insert, InsertTab, Search, Go}
-use Rattle.teco_scan.specs.declared.command.LevelCommand.TheVariants.{Append}
+use Rattle.teco_scan.specs.declared.command.LevelCommand.TheVariants.{Append, Decimal}
 use Rattle.teco_scan.specs.declared.command.BlockMark.TheVariants.{Iterate, EndIteration, Otherwise, EndTest}
 use Rattle.teco_scan.specs.declared.command.Test.TheVariants.{Zero, NotZero, Above, Below, Letter, Digit, LetterOrDigit, Lower, Upper}
 use Rattle.teco_scan.specs.Scan.{digits, bare, register, text, set_text, Instruction, step, mark, decide, tag, Scanned, found, ended, fault, no_modifiers, test_of, byte_at, register_at, test_at, delimiter_at, text_at, operand_at, modifiers_at, after_letter, after_name, ends_inside, row_at, is_cut, command_at, run_of, after_run, token_from, after_fillers, scan}
@@ -274,6 +274,26 @@ found_no_searches : scans "S" (fault Utc)
 unfolding computing
 found_no_searches = (refl, refl, refl, refl, refl, refl, refl, refl, refl, refl, refl)
 
+-- pages and numbers in the buffer; PW is one token, and a lone E is cut; ^X is its byte, or a caret and its letter
+found_pages : scans "Y2" (plain (step (bare (group.Command NextPage))) "2")
+    × scans "pP" (plain (step (bare (group.Command TurnPages))) "P")
+    × scans "PW=" (plain (step (bare (group.Command WritePage))) "=")
+    × scans "pwp" (plain (step (bare (group.Command WritePage))) "p")
+    × scans "P W" (plain (step (bare (group.Command TurnPages))) " W")
+    × scans "eX=" (plain (step (bare (group.Command Exit))) "=")
+    × scans "\\=" (plain (step (bare (group.Level Decimal))) "=")
+    × (scan (24 ∷ keys "=") ≡ plain (step (bare (group.Command CaseMode))) "=")
+    × scans "^x=" (plain (step (bare (group.Command CaseMode))) "=")
+    × scans "E" (fault Utc)
+    × scans "E=" (fault Ill)
+    × scans "E X" (fault Ill)
+    × scans "@Y" (fault Ill)
+    × scans ":PW" (fault Ill)
+    × scans ":\\" (fault Ill)
+    × scans ":^X" (fault Ill)
+unfolding computing
+found_pages = (refl, refl, refl, refl, refl, refl, refl, refl, refl, refl, refl, refl, refl, refl, refl, refl)
+
 up_to : ℕ → List ℕ
 up_to zero = []
 up_to (suc n) = up_to n ++ n ∷ []
@@ -283,7 +303,7 @@ is_token (found t bs) = true
 is_token _ = false
 
 -- the bytes that are a token alone
-single_bytes : filter (λ b. is_token (scan (b ∷ []))) (up_to 256) ≡ 5 ∷ 14 ∷ 20 ∷ 27 ∷ codes "#&'()*+,-./0123456789;<=>ABCDHJKLRTVZabcdhjklrtvz|"
+single_bytes : filter (λ b. is_token (scan (b ∷ []))) (up_to 256) ≡ 5 ∷ 14 ∷ 20 ∷ 24 ∷ 27 ∷ codes "#&'()*+,-./0123456789;<=>ABCDHJKLPRTVYZ\\abcdhjklprtvyz|"
 unfolding computing up_to is_token
 single_bytes = refl
 

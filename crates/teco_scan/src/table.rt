@@ -54,6 +54,7 @@ macro_rules! commands {
             Control(b'N'), NONE, Form::Bare(Bare::Quantity(Quantity::InputEnd));
             Control(b'^'), NONE, Form::Byte;
             One(b'A'), NONE, Form::Bare(Bare::Level(LevelCommand::Append));
+            One(b'\\'), NONE, Form::Bare(Bare::Level(LevelCommand::Decimal));
             One(b'J'), NONE, Form::Bare(Bare::Command(Command::Jump));
             One(b'C'), NONE, Form::Bare(Bare::Command(Command::Forward));
             One(b'R'), NONE, Form::Bare(Bare::Command(Command::Back));
@@ -65,6 +66,11 @@ macro_rules! commands {
             One(b'\t'), NONE, Form::Text(TextCommand::InsertTab, ESC);
             One(b'T'), NONE, Form::Bare(Bare::Command(Command::TypeOut));
             One(b'='), COLON, Form::Bare(Bare::Command(Command::Print));
+            One(b'Y'), NONE, Form::Bare(Bare::Command(Command::NextPage));
+            Two(b'P', b'W'), NONE, Form::Bare(Bare::Command(Command::WritePage));
+            One(b'P'), NONE, Form::Bare(Bare::Command(Command::TurnPages));
+            Two(b'E', b'X'), NONE, Form::Bare(Bare::Command(Command::Exit));
+            Control(b'X'), NONE, Form::Bare(Bare::Command(Command::CaseMode));
             One(ESC), NONE, Form::Escape;
             One(b'Q'), COLON, Form::Register(RegisterCommand::Number);
             One(b'%'), NONE, Form::Register(RegisterCommand::Increment);
@@ -99,7 +105,7 @@ macro_rules! rows {
 
 /// Every command but the run of digits. The table is a definition: it says what commands there are. A longer name comes before one
 /// that begins it.
-pub const ROWS: [Row; 52] = commands!(rows);
+pub const ROWS: [Row; 58] = commands!(rows);
 
 // The first row whose name may begin with the byte.
 macro_rules! first_row {

@@ -82,6 +82,31 @@ fn finds_edits(rt: HostRuntime) {
 }
 
 #[test]
+fn finds_pages(rt: HostRuntime) {
+    let command = |command| TokenKind::Item(Item::Bare(Bare::Command(command)));
+    let decimal = TokenKind::Item(Item::Bare(Bare::Level(LevelCommand::Decimal)));
+    let text = b"YPpwex\\^X\x18";
+    let want = [
+        (0, 1, command(Command::NextPage)),
+        (1, 2, command(Command::TurnPages)),
+        (2, 4, command(Command::WritePage)),
+        (4, 6, command(Command::Exit)),
+        (6, 7, decimal),
+        (7, 9, command(Command::CaseMode)),
+        (9, 10, command(Command::CaseMode)),
+    ];
+    for (from, to, kind) in want {
+        let token = Token {
+            span: Span { from, to },
+            modifiers: NONE,
+            kind,
+        };
+        assert!(rt; from <= text.len());
+        assert_eq!(rt; token_at(text, from), Found::Token(token));
+    }
+}
+
+#[test]
 fn finds_arguments(rt: HostRuntime) {
     let arithmetic = |which| TokenKind::Item(Item::Bare(Bare::Arithmetic(which)));
     let quantity = |quantity| TokenKind::Item(Item::Bare(Bare::Quantity(quantity)));

@@ -1,25 +1,26 @@
 -- From what a function for a token did to what a step may do.
-use Rattle.std.proofs.Common.{◌≡◌, ◌∙◌, sym, ap, subst, refl, ℕ, List, [], true, false, Bool, Result, Ok, Err, inl, inr}
+use Rattle.std.proofs.Common.{◌≡◌, ◌∙◌, sym, ap, subst, refl, ℕ, [], true, false, Bool, Result, Ok, Err, inl, inr}
+use Rattle.teco_scan.specs.Scan.{Item}
 use Rattle.teco_store.specs.Trail.{Trail, moved}
 use Rattle.teco_step.specs.declared.failure.Failure.{Failure}
 use Rattle.teco_step.specs.declared.next.Next.{Next}
 use Rattle.teco_step.specs.declared.next.Next.TheVariants as next
 use Rattle.teco_step.specs.Step.{Attempt, Step, Action, done_by, End, go, Moment, settled}
 use Rattle.teco_step.specs.Families.{next_of, code_of_failure, tag_of, IsRefusal, Acts, Types, Does, Carries}
-use Rattle.teco_step.specs.Stepping.{Steps, end_of, is_unfinished, trail_after}
+use Rattle.teco_step.specs.Stepping.{Steps, end_of, is_unfinished, name_of, trail_after}
 use Rattle.teco_step.specs.Terminal.{Screen, Shows}
 use Rattle.teco_step.proofs.Ends.{MayEnd}
 use Rattle.teco_step.proofs.Shown.{Shows-nil}
 
--- an end that a token of this name may have is told by what it leads to
-end_is : (inside : Bool) (name : List ℕ) (n : Next) (e : End) → end_of (tag_of e) n ≡ e → MayEnd inside name e → end_of name n ≡ e
-end_is inside name next.On e l m = l
-end_is inside name next.Leave e l m = l
-end_is inside name next.Go e l m = ap go (sym (subst (λ (e : End). MayEnd inside name e) (sym l) m)) ∙ l
-end_is inside name (next.Call text) e l m = l
-end_is inside name next.Out e l m = l
-end_is inside name (next.Again work) e l m = l
-end_is inside name (next.Error c) e l m = l
+-- an end that a token may have is told by what it leads to
+end_is : (inside : Bool) (i : Item) (n : Next) (e : End) → end_of (tag_of e) n ≡ e → MayEnd inside i e → end_of (name_of i) n ≡ e
+end_is inside i next.On e l m = l
+end_is inside i next.Leave e l m = l
+end_is inside i next.Go e l m = ap go (sym (subst (λ (e : End). MayEnd inside i e) (sym l) m)) ∙ l
+end_is inside i (next.Call text) e l m = l
+end_is inside i next.Out e l m = l
+end_is inside i (next.Again work) e l m = l
+end_is inside i (next.Error c) e l m = l
 
 still_shows : (old new : Screen) → new ≡ old → Shows old new [] false
 still_shows old new same = subst (λ (w : Screen). Shows old w [] false) (sym same) (Shows-nil old)
@@ -27,47 +28,47 @@ still_shows old new same = subst (λ (w : Screen). Shows old w [] false) (sym sa
 finished : (n : Next) (t : Trail) (load : ℕ) → is_unfinished n ≡ false → trail_after n t load ≡ moved t load
 finished n t load is = ap (λ b. elim b as (λ _. Trail) [ true ↦ t | false ↦ moved t load ]) is
 
-module _ (inside : Bool) (name : List ℕ) (old new : Moment) where
+module _ (inside : Bool) (i : Item) (old new : Moment) where
   -- the step of what is meant
   abbrev pub meant : Attempt → Step
   meant attempt = settled old.state old.arguments attempt
 
-  acts_steps : (attempt : Attempt) (F G : Trail → Type 0) (r : Result Next Failure) (f : Action) → attempt ≡ done_by f old.state old.arguments → MayEnd inside name (meant attempt).end
-      → new.screen ≡ old.screen → Acts f old.state new.state old.arguments new.arguments F G r → Steps (meant attempt) name old new (next_of r)
+  acts_steps : (attempt : Attempt) (F G : Trail → Type 0) (r : Result Next Failure) (f : Action) → attempt ≡ done_by f old.state old.arguments → MayEnd inside i (meant attempt).end
+      → new.screen ≡ old.screen → Acts f old.state new.state old.arguments new.arguments F G r → Steps (meant attempt) (name_of i) old new (next_of r)
   acts_steps attempt F G (Ok n) f is may same m =
       let e = is ∙ m.step in
-      let may_here = subst (λ (u : Attempt). MayEnd inside name (meant u).end) e may in
-      subst (λ (u : Attempt). Steps (meant u) name old new n) (sym e)
+      let may_here = subst (λ (u : Attempt). MayEnd inside i (meant u).end) e may in
+      subst (λ (u : Attempt). Steps (meant u) (name_of i) old new n) (sym e)
       (inl (record {
         state = refl;
         arguments = refl;
-        end = end_is inside name n m.end m.leads may_here;
+        end = end_is inside i n m.end m.leads may_here;
         finished = m.finished;
         shows = still_shows old.screen new.screen same;
       }))
   acts_steps attempt F G (Err h) f is may same u =
       elim u.why [
         | inl r ↦
-            subst (λ (g : Failure). Steps (meant attempt) name old new (next.Error (code_of_failure g))) (sym r.is)
-            (subst (λ (t : Attempt). Steps (meant t) name old new (next.Error r.code)) (sym (is ∙ r.refused))
+            subst (λ (g : Failure). Steps (meant attempt) (name_of i) old new (next.Error (code_of_failure g))) (sym r.is)
+            (subst (λ (t : Attempt). Steps (meant t) (name_of i) old new (next.Error r.code)) (sym (is ∙ r.refused))
             (inl (record { state = u.state; arguments = u.arguments; end = refl; finished = r.own; shows = still_shows old.screen new.screen same })))
         | inr memory ↦
             inr (inl (record { code = ap (λ (g : Failure). next.Error (code_of_failure g)) memory; state = u.state; arguments = u.arguments; shows = still_shows old.screen new.screen same }))
       ]
 
   types_steps : (attempt : Attempt) (r : Result Next Failure) (f : Action) → attempt ≡ done_by f old.state old.arguments → new.state ≡ old.state
-      → Types f old.state old.arguments new.arguments old.screen new.screen r → Steps (meant attempt) name old new (next_of r)
+      → Types f old.state old.arguments new.arguments old.screen new.screen r → Steps (meant attempt) (name_of i) old new (next_of r)
   types_steps attempt (Ok n) f is same m =
-      subst (λ (k : Next). Steps (meant attempt) name old new k) (sym m.goes_on)
-      (subst (λ (u : Attempt). Steps (meant u) name old new next.On) (sym (is ∙ m.step))
+      subst (λ (k : Next). Steps (meant attempt) (name_of i) old new k) (sym m.goes_on)
+      (subst (λ (u : Attempt). Steps (meant u) (name_of i) old new next.On) (sym (is ∙ m.step))
       (inl (record { state = same; arguments = m.arguments; end = refl; finished = refl; shows = m.shows })))
   types_steps attempt (Err h) f is same (inl u) =
       let r = u.why in
-      subst (λ (g : Failure). Steps (meant attempt) name old new (next.Error (code_of_failure g))) (sym r.is)
-      (subst (λ (t : Attempt). Steps (meant t) name old new (next.Error r.code)) (sym (is ∙ r.refused))
+      subst (λ (g : Failure). Steps (meant attempt) (name_of i) old new (next.Error (code_of_failure g))) (sym r.is)
+      (subst (λ (t : Attempt). Steps (meant t) (name_of i) old new (next.Error r.code)) (sym (is ∙ r.refused))
       (inl (record { state = same; arguments = u.arguments; end = refl; finished = r.own; shows = still_shows old.screen new.screen u.screen })))
   types_steps attempt (Err h) f is same (inr u) =
-      subst (λ (t : Attempt). Steps (meant t) name old new (next.Error (code_of_failure h))) (sym (is ∙ u.step))
+      subst (λ (t : Attempt). Steps (meant t) (name_of i) old new (next.Error (code_of_failure h))) (sym (is ∙ u.step))
       (inr (inr (record {
         code = ap (λ (g : Failure). next.Error (code_of_failure g)) u.is;
         state = same;
@@ -78,8 +79,8 @@ module _ (inside : Bool) (name : List ℕ) (old new : Moment) where
         shows = u.shows;
       })))
 
-  pub does_steps : (f : Action) (F G : Trail → Type 0) (r : Result Next Failure) → MayEnd inside name (meant (done_by f old.state old.arguments)).end
-      → Does f old new F G r → Steps (meant (done_by f old.state old.arguments)) name old new (next_of r)
+  pub does_steps : (f : Action) (F G : Trail → Type 0) (r : Result Next Failure) → MayEnd inside i (meant (done_by f old.state old.arguments)).end
+      → Does f old new F G r → Steps (meant (done_by f old.state old.arguments)) (name_of i) old new (next_of r)
   does_steps f F G r may (inl d) = acts_steps (done_by f old.state old.arguments) F G r f refl may d.0 d.1
   does_steps f F G r may (inr d) = types_steps (done_by f old.state old.arguments) r f refl d.0 d.2
 

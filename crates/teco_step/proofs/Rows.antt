@@ -15,7 +15,7 @@ use Rattle.teco_scan.specs.declared.command.Arithmetic.TheVariants.{Operator}
 use Rattle.teco_scan.specs.declared.command.Quantity.TheVariants as quantity
 use Rattle.teco_scan.specs.declared.command.Command.TheVariants as command
 use Rattle.teco_scan.specs.declared.command.RegisterCommand.TheVariants as register_command
-use Rattle.teco_scan.specs.declared.command.TextCommand.TheVariants.{Insert, Go}
+use Rattle.teco_scan.specs.declared.command.TextCommand.TheVariants.{Insert, Go, SearchPages}
 use Rattle.teco_scan.specs.Scan.{Item, no_modifiers}
 use Rattle.teco_scan.specs.Scan as token
 use Rattle.teco_core.specs.declared.limits.TheConstants.{TEXT_LIMIT}
@@ -181,7 +181,7 @@ row_print_nothing : does (token.bare (bare.Command command.Print)) (holds (codes
 unfolding effect give operate taken_from digits_value line_ends_from
 row_print_nothing = refl
 
-row_not_built : does (token.bare (bare.Command command.NextPage)) (holds (codes "abc") 1) (no_arguments) ≡ refused (holds (codes "abc") 1) no_arguments Ill
+row_not_built : does (token.text SearchPages (codes "x")) (holds (codes "abc") 1) (no_arguments) ≡ refused (holds (codes "abc") 1) no_arguments Ill
 unfolding effect give operate taken_from digits_value line_ends_from
 row_not_built = refl
 

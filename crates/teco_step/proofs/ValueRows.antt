@@ -1,7 +1,7 @@
 -- Steps of what gives a value or builds arguments, one row each, by computing.
 use Rattle.std.proofs.Common.{◌≡◌, ℕ, ◌^◌, ◌-◌, [], ◌∷◌, replicate, Some, pos, negsuc, true, refl}
 use Rattle.std.specs.Prelude.{codes}
-use Rattle.teco_core.specs.declared.code.Code.TheVariants.{Arg, Ill, Ovf, Pdo}
+use Rattle.teco_core.specs.declared.code.Code.TheVariants.{Arg, Ovf, Pdo}
 use Rattle.teco_core.specs.declared.number.Op.TheVariants.{Plus, Times, And, Or}
 use Rattle.teco_core.specs.declared.arguments.Expression.TheVariants.{Nothing, Number, Operation, Signed}
 use Rattle.teco_core.specs.declared.arguments.Sign.TheVariants.{Negative}
@@ -183,7 +183,3 @@ row_code_in_parentheses = refl
 row_code_after_an_operator : does (token.bare (bare.Level Append)) (holds (codes "abc") 1) (waits (pos 2)) ≡ refused (holds (codes "abc") 1) (waits (pos 2)) Arg
 unfolding effect give operate open_level close_level comma digits_value
 row_code_after_an_operator = refl
-
-row_append_not_built : does (token.bare (bare.Level Append)) (holds (codes "abc") 1) no_arguments ≡ refused (holds (codes "abc") 1) no_arguments Ill
-unfolding effect give operate open_level close_level comma digits_value
-row_append_not_built = refl

@@ -19,6 +19,8 @@ use Rattle.teco_step.specs.Typing.{type_out, view, type_text, type_byte, print, 
 use Rattle.teco_step.specs.Registers.{register_value, set_number, increment, set_text, extract, push, pop, get}
 use Rattle.teco_step.specs.Searching.{search_or_compare, search_and_replace}
 use Rattle.teco_step.specs.Control.{leave_or_not, jump_to, run_register}
+use Rattle.teco_step.specs.Pages.{next_page, turn_pages, write_page, exit}
+use Rattle.teco_step.specs.Case.{set_case}
 
 -- Commands without an operand.
 abbrev pub command_effect : Command → Setting → Action
@@ -34,7 +36,11 @@ command_effect command.TypeByte w = goes type_byte
 command_effect command.Print w = goes (print w.modifiers)
 command_effect command.PrintOctal w = goes (print_octal w.modifiers)
 command_effect command.Leave w = steers (leave_or_not w.inside)
-command_effect c w = none_such
+command_effect command.NextPage w = goes next_page
+command_effect command.TurnPages w = steers (turn_pages w.work)
+command_effect command.WritePage w = goes write_page
+command_effect command.Exit w = steers exit
+command_effect command.CaseMode w = goes set_case
 
 abbrev pub bare_effect : Bare → Setting → Action
 bare_effect (bare.Quantity q) w = goes (give_quantity q)

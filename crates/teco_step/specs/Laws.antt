@@ -6,7 +6,7 @@ use Rattle.teco_scan.specs.Scan.{Item}
 use Rattle.teco_store.specs.State.{State}
 use Rattle.teco_step.specs.Effect.{effect}
 use Rattle.teco_step.specs.Step.{Setting, on, leave, go, again, out, stop}
-use Rattle.teco_step.specs.Stepping.{name_of, takes_nothing}
+use Rattle.teco_step.specs.Stepping.{may_go_further, name_of, takes_nothing}
 use Rattle.teco_step.specs.Terminal.{Screen, Shows}
 use Rattle.teco_step.specs.declared.next.Work.{Work}
 
@@ -18,9 +18,9 @@ LeavesInside = (i : Item) (w : Setting) (s : State) (a : Arguments) → (effect 
 abbrev pub JumpsToItsName : Type 0
 JumpsToItsName = (i : Item) (w : Setting) (s : State) (a : Arguments) (name : List ℕ) → (effect i w s a).end ≡ go name → name_of i ≡ name
 
--- No token has a further step.
-abbrev pub HasNoFurtherStep : Type 0
-HasNoFurtherStep = (i : Item) (w : Setting) (s : State) (a : Arguments) (work : Work) → (effect i w s a).end ≡ again work → ⊥
+-- A further step is of a token that may have some.
+abbrev pub GoesFurtherIfItMay : Type 0
+GoesFurtherIfItMay = (i : Item) (w : Setting) (s : State) (a : Arguments) (work : Work) → (effect i w s a).end ≡ again work → may_go_further i ≡ true
 
 -- After a value or arithmetic the string goes on, or ends by an error.
 abbrev pub ValueGoesOn : Type 0

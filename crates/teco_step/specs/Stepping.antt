@@ -6,6 +6,7 @@ use Rattle.teco_core.specs.Arguments.{Arguments}
 use Rattle.teco_scan.specs.Scan.{Item}
 use Rattle.teco_scan.specs.Scan as token
 use Rattle.teco_scan.specs.declared.command.Bare.TheVariants as bare
+use Rattle.teco_scan.specs.declared.command.Command.TheVariants as command
 use Rattle.teco_scan.specs.declared.command.RegisterCommand.TheVariants as register_command
 use Rattle.teco_store.specs.State.{State}
 use Rattle.teco_store.specs.Trail.{Trail, moved}
@@ -80,6 +81,11 @@ takes_nothing (token.bare (bare.Arithmetic b)) = true
 takes_nothing (token.byte b) = true
 takes_nothing (token.register register_command.Number q) = true
 takes_nothing i = false
+
+-- The tokens that may have further steps: P turns its pages one by one.
+abbrev pub may_go_further : Item → Bool
+may_go_further (token.bare (bare.Command command.TurnPages)) = true
+may_go_further i = false
 
 -- a token that is one step, and whose texts lie in the text
 abbrev pub IsStepKind : ℕ → TokenKind → Type 0

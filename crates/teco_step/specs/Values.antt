@@ -15,7 +15,9 @@ use Rattle.teco_scan.specs.declared.command.Quantity.{Quantity}
 use Rattle.teco_scan.specs.declared.command.Quantity.TheVariants as quantity
 use Rattle.teco_store.specs.State.{State}
 use Rattle.teco_store.specs.Page.{is_input_over}
-use Rattle.teco_step.specs.Step.{Made, leaves, gives, unbuilt}
+use Rattle.teco_step.specs.Step.{Made, leaves, gives}
+use Rattle.teco_step.specs.Pages.{append_page}
+use Rattle.teco_step.specs.Decimal.{decimal}
 
 -- A run of digits gives its decimal value.
 abbrev pub number : List ℕ → State → Arguments → Made
@@ -62,14 +64,14 @@ gives_code n s a = gives s (emptied a) (code_at s.text (pos s.pointer +ℤ n))
 abbrev pub appends : Level → State → Arguments → Made
 appends (level.Value n) s a = gives_code n s a
 appends (level.Sign n) s a = gives_code n s a
-appends level.Empty s a = unbuilt
+appends level.Empty s a = append_page s a
 appends level.Waits s a = Err Arg
 
--- nA gives the code of the character after the place n from the pointer, or -1 where none is there.
+-- nA gives the code of the character after the place n from the pointer, or -1 where none is there; A reads a page.
 abbrev pub append : State → Arguments → Made
 append s a = appends (level_of a.expression) s a
 
 -- A value or a command, by what the level has.
 abbrev pub at_level : LevelCommand → State → Arguments → Made
 at_level level_command.Append s a = append s a
-at_level level_command.Decimal s a = unbuilt
+at_level level_command.Decimal s a = decimal s a

@@ -1,11 +1,11 @@
 //! What the effect of a token and what a terminal shows always say.
-ghost use Rattle.teco_step.specs.Laws.{HasNoFurtherStep, JumpsToItsName, LeavesInside, OnlyExits, ShowsMore, StillShows, ValueGoesOn};
+ghost use Rattle.teco_step.specs.Laws.{GoesFurtherIfItMay, JumpsToItsName, LeavesInside, OnlyExits, ShowsMore, StillShows, ValueGoesOn};
 
 /// How the step of a token may end. It does nothing: its clauses are laws.
 pub fn effect_laws()
     ensures leave { LeavesInside }
     ensures jump { JumpsToItsName }
-    ensures further { HasNoFurtherStep }
+    ensures further { GoesFurtherIfItMay }
     ensures value { ValueGoesOn }
     ensures done { OnlyExits }
 {}

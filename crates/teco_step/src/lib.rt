@@ -1,7 +1,9 @@
 //! One step of a token, line places, and terminals.
 #![tactic(auto)]
 
+mod case;
 mod control;
+mod decimal;
 mod edit;
 mod failure;
 mod joining;
@@ -9,6 +11,7 @@ mod laws;
 mod line;
 mod memory_terminal;
 mod next;
+mod pages;
 mod registers;
 mod searching;
 mod step;

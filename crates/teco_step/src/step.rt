@@ -12,10 +12,12 @@ ghost use Rattle.teco_step.specs.Stepping.{IsStepIn, Steps, name_in, takes_nothi
 ghost use Rattle.teco_step.specs.declared.failure.Failure.TheVariants.{Memory};
 ghost use Rattle.teco_step.specs.declared.next.Next.TheVariants.{Error};
 
+use crate::case::set_case;
 use crate::control::{jump_to, leave_or_not, run_register};
 use crate::edit::{back, delete, forward, insert, insert_tab, jump, kill, to_line};
 use crate::failure::{Failure, next_of};
 use crate::next::{Next, Setting, Work};
+use crate::pages::{exit, next_page, turn_pages, write_page};
 use crate::registers::{extract, get, increment, pop, push, register_value, set_number, set_text};
 use crate::searching::{search_and_replace, search_or_compare};
 use crate::terminal::Terminal;
@@ -49,11 +51,11 @@ fn command_step<D: Desk, T: Terminal>(
         Command::Line => to_line(desk, args),
         Command::Delete => delete(desk, args),
         Command::Kill => kill(desk, args),
-        Command::NextPage
-        | Command::TurnPages
-        | Command::WritePage
-        | Command::Exit
-        | Command::CaseMode => Err(Failure::Command(Code::Ill)),
+        Command::NextPage => next_page(desk, args),
+        Command::TurnPages => turn_pages(desk, setting.work, args),
+        Command::WritePage => write_page(desk, args),
+        Command::Exit => exit(desk, args),
+        Command::CaseMode => set_case(desk, args),
     }
 }
 

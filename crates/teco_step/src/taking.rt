@@ -4,6 +4,7 @@ ghost use Rattle.teco_core.specs.Arguments.{close_level, comma, give, give_pair,
 ghost use Rattle.teco_core.specs.ArgumentsView.{arguments};
 ghost use Rattle.teco_core.specs.Number as number;
 ghost use Rattle.teco_core.specs.Number.{decimal_value, fitted};
+ghost use Rattle.teco_core.specs.declared.arguments.Taken.TheVariants.{Two};
 ghost use Rattle.teco_core.specs.declared.limits.TheConstants.{TEXT_LIMIT};
 ghost use Rattle.teco_step.specs.Families.{IsRefusal, Takes, range_of};
 ghost use Rattle.teco_step.specs.Line.{line};
@@ -209,6 +210,17 @@ pub(crate) fn line_around<D: Desk>(desk: &D) -> Range<usize>
     pointer.min(line_from(desk, 0))..pointer.max(line_from(desk, 1))
 }
 
+/// The range `m,n` of the text. An end outside the text is [`Code::Pop`].
+pub(crate) fn range_between<D: Desk>(desk: &D, m: i32, n: i32) -> Result<Range<usize>, Failure>
+    ensures value { Takes range_of result (step.reached (D.state desk.now) (Two m n)) }
+    ensures ordered { IfOk result (λ range. range.start ≤ range.end) }
+    ensures within { IfOk result (λ range. range.end ≤ length (D.state desk.now).text) }
+{
+    let one = place_in(desk, Code::Pop, i64::from(m))?;
+    let other = place_in(desk, Code::Pop, i64::from(n))?;
+    Ok(rising(one, other))
+}
+
 /// What a command reaches: `n` lines from the pointer, one where it takes nothing; or the range `m,n`, where an end outside the text
 /// is [`Code::Pop`].
 pub(crate) fn takes_reach<D: Desk>(desk: &D, args: &Args) -> Result<Range<usize>, Failure>
@@ -219,10 +231,6 @@ pub(crate) fn takes_reach<D: Desk>(desk: &D, args: &Args) -> Result<Range<usize>
     match taken(args)? {
         Taken::None => Ok(lines(desk, 1)),
         Taken::One(n) => Ok(lines(desk, n)),
-        Taken::Two(m, n) => {
-            let one = place_in(desk, Code::Pop, i64::from(m))?;
-            let other = place_in(desk, Code::Pop, i64::from(n))?;
-            Ok(rising(one, other))
-        }
+        Taken::Two(m, n) => range_between(desk, m, n),
     }
 }

@@ -148,7 +148,7 @@ fn codes_of_characters_are_given(rt: HostRuntime) {
         ),
         (b"Ihello\x1b1,(-A-108)T", b"el", None),
         (b"1+A", b"", Some(Code::Arg)),
-        (b"A", b"", Some(Code::Ill)),
+        (b"(A", b"", Some(Code::Mrp)),
     ];
     for (text, typed, code) in rows {
         check(&rt, rt.alloc(), text, typed, code);
@@ -359,3 +359,4 @@ fn registers_are_run_with_the_arguments(rt: HostRuntime) {
 
 mod edits;
 mod searches;
+mod pages;

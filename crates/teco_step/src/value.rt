@@ -1,4 +1,5 @@
-//! Tokens that give a value or build arguments. They change no state and take no memory, and one that is refused keeps the arguments.
+//! Tokens that give a value or build arguments. But for the commands that the level decides on, they change no state and take no
+//! memory. One that is refused keeps the arguments.
 ghost use Rattle.std.specs.Prelude.{◌≡◌, ◌+ℤ◌, pos, Err};
 ghost use Rattle.teco_core.specs.ArgumentsView.{arguments};
 ghost use Rattle.teco_step.specs.Families.{Acts};
@@ -6,9 +7,11 @@ ghost use Rattle.teco_step.specs.Step.{goes};
 ghost use Rattle.teco_step.specs.Values as values;
 ghost use Rattle.teco_step.specs.declared.failure.Failure.TheVariants.{Memory};
 
+use crate::decimal::decimal as decimal_at_level;
 use crate::failure::Failure;
 use crate::line::byte_at;
 use crate::next::Next;
+use crate::pages::append_page;
 use crate::registers::give_alone;
 use crate::taking::{close, comma, decimal, give, open, operator, pair, text_length, truth};
 use teco_core::{Args, Code, Level};
@@ -103,30 +106,30 @@ fn give_code<D: Desk>(desk: &D, n: i32, args: &mut Args) -> Result<Next, Failure
     Ok(Next::On)
 }
 
-/// `nA` gives the code of a character. Without n it is no command yet.
-fn append<D: Desk>(desk: &D, args: &mut Args) -> Result<Next, Failure>
-    ensures { Acts (goes values.append) (D.state desk.now) (D.state desk.now) (arguments args.old) (arguments args.new)
-        (D.follows desk.now) (D.follows desk.now) result }
+/// `nA` gives the code of a character. `A` without n reads a page.
+fn append<D: Desk>(desk: &mut D, args: &mut Args) -> Result<Next, Failure>
+    ensures { Acts (goes values.append) (D.state desk.old) (D.state desk.new) (arguments args.old) (arguments args.new)
+        (D.follows desk.old) (D.follows desk.new) result }
 {
     match args.level() {
         Level::Value(n) => give_code(desk, n, args),
         Level::Sign(n) => give_code(desk, n, args),
-        Level::Empty => Err(Failure::Command(Code::Ill)),
+        Level::Empty => append_page(desk, args),
         Level::Waits => Err(Failure::Command(Code::Arg)),
     }
 }
 
 /// A value or a command, by what the level has.
 pub(crate) fn at_level<D: Desk>(
-    desk: &D,
+    desk: &mut D,
     command: LevelCommand,
     args: &mut Args,
 ) -> Result<Next, Failure>
-    ensures { Acts (goes (values.at_level command)) (D.state desk.now) (D.state desk.now) (arguments args.old) (arguments args.new)
-        (D.follows desk.now) (D.follows desk.now) result }
+    ensures { Acts (goes (values.at_level command)) (D.state desk.old) (D.state desk.new) (arguments args.old) (arguments args.new)
+        (D.follows desk.old) (D.follows desk.new) result }
 {
     match command {
         LevelCommand::Append => append(desk, args),
-        LevelCommand::Decimal => Err(Failure::Command(Code::Ill)),
+        LevelCommand::Decimal => decimal_at_level(desk, args),
     }
 }

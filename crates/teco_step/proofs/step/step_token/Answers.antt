@@ -24,10 +24,10 @@ returns-in-Item g c =
     record {
       steps = subst (λ (k : TokenKind). Steps (kind_effect text k w s a) (kind_name text k) old new c.next_of.result) (sym c.in-Item.is)
           (subst (λ (n : Next). Steps (effect i w s a) (name_of i) old new n) (sym c.next_of.ensures)
-          (does_steps c.args.inside (name_of i) old new (item_effect i w) _ _ c.item_step.result (effect_ends i w s a) c.item_step.ensures.does));
+          (does_steps c.args.inside i old new (item_effect i w) _ _ c.item_step.result (effect_ends i w s a) c.item_step.ensures.does));
       follows = λ t h.
           subst (λ (k : TokenKind). G (trail_after c.next_of.result t (kind_effect text k w s a).load)) (sym c.in-Item.is)
           (subst (λ (n : Next). G (trail_after n t (effect i w s a).load)) (sym c.next_of.ensures)
-          (does_follows c.args.inside (name_of i) old new (item_effect i w) _ G c.item_step.result c.item_step.ensures.does (λ u f. g.met.D.Desk.eases c.item_step.new.desk u f) t h));
+          (does_follows c.args.inside i old new (item_effect i w) _ G c.item_step.result c.item_step.ensures.does (λ u f. g.met.D.Desk.eases c.item_step.new.desk u f) t h));
       no_memory = search rules;
     }

@@ -1,0 +1,33 @@
+//! The case mode of searches.
+ghost use Rattle.teco_core.specs.ArgumentsView.{arguments};
+ghost use Rattle.teco_step.specs.Case as case;
+ghost use Rattle.teco_step.specs.Families.{Acts, Takes};
+ghost use Rattle.teco_step.specs.Step.{goes};
+
+use crate::failure::Failure;
+use crate::next::Next;
+use crate::taking::takes_one;
+use teco_core::{Args, CaseMode, Code};
+use teco_store::Desk;
+
+/// The case mode of a number: -1 is exact case, 0 either case, and any other is [`Code::Arg`].
+fn mode_of(n: i32) -> Result<CaseMode, Failure>
+    ensures { Takes (λ mode. mode) result (case.mode_of n) }
+{
+    match n {
+        -1 => Ok(CaseMode::Exact),
+        0 => Ok(CaseMode::Either),
+        _ => Err(Failure::Command(Code::Arg)),
+    }
+}
+
+/// `n^X` lets searches tell the cases of a letter apart, or not.
+pub(crate) fn set_case<D: Desk>(desk: &mut D, args: &mut Args) -> Result<Next, Failure>
+    ensures { Acts (goes case.set_case) (D.state desk.old) (D.state desk.new) (arguments args.old) (arguments args.new)
+        (D.follows desk.old) (D.follows desk.new) result }
+{
+    let mode = mode_of(takes_one(args, Code::Arg)?)?;
+    desk.set_case(mode)?;
+    args.clear();
+    Ok(Next::On)
+}

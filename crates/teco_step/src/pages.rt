@@ -1,0 +1,121 @@
+//! Pages of the input, what is written to the output, and the exit. A command that is not done keeps the arguments and the state.
+ghost use Rattle.std.specs.Prelude.{◌≤◌, length};
+ghost use Rattle.teco_core.specs.ArgumentsView.{arguments};
+ghost use Rattle.teco_step.specs.Families.{Acts, Takes};
+ghost use Rattle.teco_step.specs.Pages as pages;
+ghost use Rattle.teco_step.specs.Step.{goes, steers};
+
+use crate::failure::Failure;
+use crate::next::{Next, Work};
+use crate::taking::{range_between, taken, takes_none, takes_one_or, text_length};
+use std::ops::Range;
+use teco_core::{Args, Code, Taken};
+use teco_store::Desk;
+
+/// `Y`: the next page replaces the buffer. Where the buffer isn't empty it is [`Code::Yca`].
+pub(crate) fn next_page<D: Desk>(desk: &mut D, args: &mut Args) -> Result<Next, Failure>
+    ensures { Acts (goes pages.next_page) (D.state desk.old) (D.state desk.new) (arguments args.old) (arguments args.new)
+        (D.follows desk.old) (D.follows desk.new) result }
+{
+    takes_none(args)?;
+    if text_length(desk) > 0 {
+        return Err(Failure::Command(Code::Yca));
+    }
+    desk.read_page()?;
+    args.clear();
+    Ok(Next::On)
+}
+
+/// `A`: the next page comes after the text of the buffer, and the pointer stays. With no input left nothing changes.
+pub(crate) fn append_page<D: Desk>(desk: &mut D, args: &mut Args) -> Result<Next, Failure>
+    ensures { Acts (goes pages.append_page) (D.state desk.old) (D.state desk.new) (arguments args.old) (arguments args.new)
+        (D.follows desk.old) (D.follows desk.new) result }
+{
+    takes_none(args)?;
+    desk.append_page()?;
+    args.clear();
+    Ok(Next::On)
+}
+
+/// The pages that are left to turn. A number that isn't above 0 is [`Code::Ipa`].
+fn pages_left(work: Option<Work>, args: &Args) -> Result<i32, Failure>
+    ensures { Takes (λ n. n) result (pages.pages_left work (arguments args.now)) }
+{
+    match work {
+        Some(work) => Ok(work.left),
+        None => {
+            let n = takes_one_or(args, 1)?;
+            if n <= 0 {
+                return Err(Failure::Command(Code::Ipa));
+            }
+            Ok(n)
+        }
+    }
+}
+
+/// `nP`: one page is written, and the next one replaces it; the pages that are left after it are further steps.
+pub(crate) fn turn_pages<D: Desk>(
+    desk: &mut D,
+    work: Option<Work>,
+    args: &mut Args,
+) -> Result<Next, Failure>
+    ensures { Acts (steers (pages.turn_pages work)) (D.state desk.old) (D.state desk.new) (arguments args.old) (arguments args.new)
+        (D.follows desk.old) (D.follows desk.new) result }
+{
+    let n = pages_left(work, args)?;
+    desk.turn_page()?;
+    args.clear();
+    if n <= 1 {
+        return Ok(Next::On);
+    }
+    Ok(Next::Again(Work {
+        left: n - 1,
+        search: false,
+    }))
+}
+
+/// Writes a range of the buffer, and a form feed where one is asked for. The command is then done, and its arguments gone.
+fn write_out<D: Desk>(
+    desk: &mut D,
+    range: Range<usize>,
+    form_feed: bool,
+    args: &mut Args,
+) -> Result<Next, Failure>
+    requires ordered { range.start ≤ range.end }
+    requires within { range.end ≤ length (D.state desk.old).text }
+    ensures { Acts (goes (pages.writes range.start range.end form_feed)) (D.state desk.old) (D.state desk.new) (arguments args.old) (arguments args.new)
+        (D.follows desk.old) (D.follows desk.new) result }
+{
+    desk.write_out(range.start, range.end, form_feed)?;
+    args.clear();
+    Ok(Next::On)
+}
+
+/// `PW` writes the buffer and a form feed, and `m,nPW` the range alone.
+pub(crate) fn write_page<D: Desk>(desk: &mut D, args: &mut Args) -> Result<Next, Failure>
+    ensures { Acts (goes pages.write_page) (D.state desk.old) (D.state desk.new) (arguments args.old) (arguments args.new)
+        (D.follows desk.old) (D.follows desk.new) result }
+{
+    match taken(args)? {
+        Taken::None => {
+            let whole = 0..text_length(desk);
+            write_out(desk, whole, true, args)
+        }
+        Taken::One(_) => Err(Failure::Command(Code::Arg)),
+        Taken::Two(m, n) => {
+            let range = range_between(desk, m, n)?;
+            write_out(desk, range, false, args)
+        }
+    }
+}
+
+/// `EX`: the page in the buffer and the rest of the input are written, and the session is done.
+pub(crate) fn exit<D: Desk>(desk: &mut D, args: &mut Args) -> Result<Next, Failure>
+    ensures { Acts (steers pages.exit) (D.state desk.old) (D.state desk.new) (arguments args.old) (arguments args.new)
+        (D.follows desk.old) (D.follows desk.new) result }
+{
+    takes_none(args)?;
+    desk.finish()?;
+    args.clear();
+    Ok(Next::Out)
+}
