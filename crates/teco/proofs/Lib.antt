@@ -6,4 +6,5 @@ pub mod Exchanges
 pub mod Servings
 pub mod Texts
 pub mod CommandLines
+pub mod Disks
 mod CommandRows

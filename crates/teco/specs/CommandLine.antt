@@ -2,6 +2,7 @@
 use Rattle.std.specs.Prelude.{◌≡◌, List, [], ◌∷◌, Some, IsTrue, ◌↔◌, codes, true, false, option_map, ⊤, ◌⊎◌, Result, Ok, Err}
 use Rattle.std.specs.String.{string_bytes}
 use Rattle.std.specs.Str.Parse.{digits_value, without_leading_plus}
+use Rattle.clap.specs.Simple.{on_top}
 use Rattle.clap.specs.Words.{App, IsAmong, Rule, Text, fault_of, first_of, kind_of, matches_of, new_app, new_rule, one_of, takes, with_rule}
 use Rattle.clap.specs.declared.builder.action.ArgAction.TheVariants.{Set, SetTrue}
 use Rattle.clap.specs.declared.builder.value_parser.ValueParser.TheVariants as parser
@@ -44,9 +45,13 @@ input_rule = record (new_rule (codes "input")) {
   action = Some Set;
 }
 
+-- the command tells its version, and so has the parser's argument --version
+abbrev pub with_version : App → App
+with_version app = on_top (λ shape. record shape { has_version = true }) app
+
 -- The command that the words are read by: the parser's rules for a command with these arguments and no others of its own.
 abbrev pub teco_app : App
-teco_app = with_rule (with_rule (with_rule (with_rule (new_app (codes "teco")) limit_rule) output_rule) prompt_rule) input_rule
+teco_app = with_rule (with_rule (with_rule (with_rule (with_version (new_app (codes "teco"))) limit_rule) output_rule) prompt_rule) input_rule
 
 -- The line has what the parse of these words gives for each argument. `first_of` is an argument's value as text; `one_of` is its text where it is read as a number or as a flag.
 pub record IsLine (words : List Text) (line : Line) : Type 0 where

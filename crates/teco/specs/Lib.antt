@@ -8,4 +8,5 @@ pub mod Exchange
 pub mod Serving
 pub mod Held
 pub mod Ending
+pub mod Disk
 pub mod CommandLine

@@ -17,6 +17,14 @@ use thiserror::Error;
 /// The most steps that a command string may be given.
 pub const MOST_STEPS: u64 = 1_000_000_000_000;
 
+/// The version that the program tells.
+const VERSION: &str = "0.1.0";
+
+/// What the help says of the commands, after the options.
+const AFTER_HELP: &str =
+    "Commands are read from standard input, and what they type goes to standard output. Two ESC end a
+command string, which is then run; EX writes the output and ends the program.";
+
 /// What the command line says.
 #[derive(Debug, Drop)]
 pub struct Line {
@@ -33,7 +41,7 @@ pub struct Line {
 /// Why there is no [`Line`].
 #[derive(Debug, Drop, Error)]
 pub enum LineFault {
-    /// The parser's error: the line is faulty or asks for the help, or the parser was refused memory.
+    /// The parser's error: the line is faulty, asks for the help or the version, or the parser was refused memory.
     #[error("{0}")]
     Refused(clap::Error),
     /// Memory was refused to the program itself.
@@ -71,6 +79,7 @@ fn limit_arg<'a>(alloc: Global) -> Arg<'a>
         .action(ArgAction::Set)
         .value_parser(clap::value_parser!(u64).range(0..=MOST_STEPS as i64))
         .default_value("1000000")
+        .help("The most steps that each command string may take, at most 1000000000000")
 }
 
 fn output_arg<'a>(alloc: Global) -> Arg<'a>
@@ -81,6 +90,7 @@ fn output_arg<'a>(alloc: Global) -> Arg<'a>
         .long("output")
         .value_name("FILE")
         .action(ArgAction::Set)
+        .help("Where the output goes after an exit; INPUT.out where it is not given")
 }
 
 fn prompt_arg<'a>(alloc: Global) -> Arg<'a>
@@ -90,6 +100,7 @@ fn prompt_arg<'a>(alloc: Global) -> Arg<'a>
     Arg::new(alloc, "prompt")
         .long("prompt")
         .action(ArgAction::SetTrue)
+        .help("Types * where a command string is awaited")
 }
 
 fn input_arg<'a>(alloc: Global) -> Arg<'a>
@@ -100,6 +111,7 @@ fn input_arg<'a>(alloc: Global) -> Arg<'a>
         .value_name("INPUT")
         .required(true)
         .action(ArgAction::Set)
+        .help("The file to edit; it stays as it is, unless --output names it too")
 }
 
 /// The command that the parser reads the words by.
@@ -107,6 +119,9 @@ fn command<'a>(alloc: Global) -> Result<Command<'a>, NoMemory>
     ensures { IfOk result (λ command. app_of command ≡ teco_app) }
 {
     Command::new(alloc, "teco")
+        .about("TECO, a text editor whose commands are programs, and each can be undone")
+        .after_help(AFTER_HELP)
+        .version(VERSION)
         .arg(limit_arg(alloc))?
         .arg(output_arg(alloc))?
         .arg(prompt_arg(alloc))?
@@ -155,9 +170,10 @@ pub fn fault_of_words(error: io::Error, not_text: Result<clap::Error, NoMemory>)
     }
 }
 
-/// The status of a refused line: 3, or 0 where it asks for the help.
+/// The status of a refused line: 3, or 0 where it asks for the help or the version.
 pub fn refused_status(error: &clap::Error) -> u8
     ensures help { kind_of error.now ≡ ErrorKind.DisplayHelp → result ≡ 0 }
+    ensures version { kind_of error.now ≡ ErrorKind.DisplayVersion → result ≡ 0 }
     ensures fault { kind_of error.now ≢ ErrorKind.DisplayHelp → kind_of error.now ≢ ErrorKind.DisplayVersion → result ≡ 3 }
 {
     if error.use_stderr() { 3 } else { 0 }

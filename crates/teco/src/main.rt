@@ -5,11 +5,15 @@ ghost use Rattle.std.specs.IoError.{error_kind};
 ghost use Rattle.std.specs.Prelude.{◌≡◌, ◌≢◌, ◌≤◌, vec_len};
 ghost use Rattle.teco_core.specs.declared.limits.TheConstants.{FILE_LIMIT};
 
+mod disk;
 mod ending;
 mod exchange;
+mod file_disk;
 mod input;
 mod line;
 mod memory_source;
+mod output;
+mod place;
 mod reader_source;
 mod served;
 mod serving;
@@ -21,13 +25,14 @@ use crate::input::read_input;
 use crate::line::{
     Line, LineFault, fault_of_words, line_of, not_text, output_name, refused_status,
 };
+use crate::output::write_output;
 use crate::reader_source::ReaderSource;
 use crate::served::Served;
 use crate::serving::serve;
 use std::fs::File;
 use std::io::ErrorKind;
 use std::process::ExitCode;
-use std::{fs, io};
+use std::{io, process};
 use teco_core::{FILE_LIMIT, NoMemory};
 use teco_session::Session;
 use teco_step::WriterTerminal;
@@ -64,7 +69,8 @@ fn serve_input(rt: &HostRuntime, line: &Line, input: Vec<u8>) -> Fate
         &mut term,
     );
     if let Served::Exit = served {
-        if let Err(error) = fs::write(rt, output.as_str(), session.editor().output()) {
+        let id = process::id(rt.process());
+        if let Err(error) = write_output(rt, output.as_str(), id, session.editor().output()) {
             return fate_of(error, Fate::NoOutput);
         }
     }

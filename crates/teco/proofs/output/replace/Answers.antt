@@ -1,0 +1,12 @@
+use Rattle.teco.proofs.Disks.{passes_making, passes_renaming, passes_removing}
+use Rattle.teco.proofs.output.replace.Goals as goal
+
+pub returns-in_err-create-clause-moments : goal.returns-in_err-create-clause-moments
+returns-in_err-create-clause-moments g c = passes_making c.requires c.create.ensures.moments
+
+pub returns-in-Err-clause-moments : goal.returns-in-Err-clause-moments
+returns-in-Err-clause-moments g c =
+    passes_removing c.requires c.create.ensures.moments c.in_ok-create.ensures.ok c.rename.ensures.moments c.in-Err.ensures.err c.remove.ensures.moments
+
+pub returns-clause-moments : goal.returns-clause-moments
+returns-clause-moments g c = passes_renaming c.requires c.create.ensures.moments c.in_ok-create.ensures.ok c.rename.ensures.moments

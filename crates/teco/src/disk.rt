@@ -1,0 +1,39 @@
+//! Where files are.
+ghost use Rattle.std.specs.Prelude.{◌≡◌, ◌≢◌, ◌⊎◌, ℕ, List, Option, OnErr, OnOk};
+ghost use Rattle.teco.specs.Disk.{Changes, Counts, Creates, Files, LeavesFiles, Passes, Renames, Same, SameBut};
+
+use std::io;
+
+/// Where files are, by their names.
+pub trait Disk {
+    // the files, where the disk tells them
+    ghost files: { Self → Option Files };
+
+    // what a crash at some moment so far might have left
+    ghost left: { Self → Files → Type 0 };
+
+    // how often a call has failed, modulo 2^64
+    ghost failures: { Self → ℕ };
+
+    /// Makes a new file with these bytes. A file that has the name already is not touched, and the call fails.
+    fn create(&mut self, name: &str, bytes: &[u8]) -> io::Result<()>
+        ensures ok { OnOk result (Changes (files self.old) (files self.new) (Creates name.now bytes.now)) }
+        ensures err { OnErr result (Changes (files self.old) (files self.new) (LeavesFiles name.now)) }
+        ensures moments { Passes (files self.old) (left self.old) (left self.new) (SameBut name.now) }
+        ensures count { Counts result (failures self.old) (failures self.new) };
+
+    /// Gives a file another name, in one moment. What had that name before is gone.
+    fn rename(&mut self, from: &str, to: &str) -> io::Result<()>
+        requires { from.now ≢ to.now }
+        ensures ok { OnOk result (Changes (files self.old) (files self.new) (Renames from.now to.now)) }
+        ensures err { OnErr result (Changes (files self.old) (files self.new) Same) }
+        ensures moments { Passes (files self.old) (left self.old) (left self.new)
+            (λ before now. Same before now ⊎ Renames from.now to.now before now) }
+        ensures count { Counts result (failures self.old) (failures self.new) };
+
+    /// Removes a file, if it can.
+    fn remove(&mut self, name: &str)
+        ensures removes { Changes (files self.old) (files self.new) (SameBut name.now) }
+        ensures moments { Passes (files self.old) (left self.old) (left self.new) (SameBut name.now) }
+        ensures count { failures self.new ≡ failures self.old };
+}

@@ -1,0 +1,67 @@
+//! Writing the output.
+ghost use Rattle.std.specs.Prelude.{◌≢◌, IfOk, OnErr, OnOk};
+ghost use Rattle.std.specs.String.{string_bytes};
+ghost use Rattle.teco.specs.Disk.{Changes, Counts, IsWhole, LeavesFiles, Passes, Replaces};
+
+use crate::disk::Disk;
+use crate::file_disk::FileDisk;
+use crate::place::{Place, append, place_of};
+use std::alloc::Global;
+use std::fs::Files;
+use std::io;
+use std::path::Path;
+use teco_core::NoMemory;
+
+/// Gives a file these bytes in the place of what it has. They are written to a new file, the draft, which then takes the file's name.
+///
+/// So at no moment has the file a part of them. Where a call fails, each file stays as it was, and no draft is left that can be
+/// removed.
+pub fn replace<D: Disk>(disk: &mut D, file: &str, draft: &str, bytes: &[u8]) -> io::Result<()>
+    requires { draft.now ≢ file.now }
+    ensures ok { OnOk result (Changes (D.files disk.old) (D.files disk.new) (Replaces file.now bytes.now)) }
+    ensures err { OnErr result (Changes (D.files disk.old) (D.files disk.new) (LeavesFiles draft.now)) }
+    ensures moments { Passes (D.files disk.old) (D.left disk.old) (D.left disk.new) (IsWhole file.now draft.now bytes.now) }
+    ensures count { Counts result (D.failures disk.old) (D.failures disk.new) }
+{
+    disk.create(draft, bytes)?;
+    if let Err(error) = disk.rename(draft, file) {
+        disk.remove(draft);
+        return Err(error);
+    }
+    Ok(())
+}
+
+/// A name for a draft: in the folder of the file, and not the file's.
+fn draft_name(alloc: Global, file: &str, process: u32) -> Result<String, NoMemory>
+    ensures { IfOk result (λ draft. string_bytes draft ≢ file.now) }
+{
+    let name = format!(in alloc; ".teco-{process}")?;
+    let mut draft = Path::new(file)
+        .with_file_name(alloc, name.as_str())?
+        .into_string();
+    if draft.as_str() == file {
+        draft.push_str("-")?;
+    }
+    Ok(draft)
+}
+
+/// Writes the output. A file that is new or is replaced has it whole or stays as it was; a device, a pipe and an open file get it
+/// after what they have.
+pub fn write_output<R: Files + AllocGlobal>(
+    rt: &R,
+    name: &str,
+    process: u32,
+    output: &[u8],
+) -> io::Result<()> {
+    match place_of(rt, name)? {
+        Place::Stream => append(rt, name, output),
+        Place::File(name, old) => {
+            let draft = draft_name(rt.alloc(), name.as_str(), process)?;
+            let mut disk = FileDisk::new(rt, old);
+            replace(&mut disk, name.as_str(), draft.as_str(), output)
+        }
+    }
+}
+
+#[cfg(test)]
+mod tests;
