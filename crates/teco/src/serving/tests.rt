@@ -384,3 +384,5 @@ fn reads_no_further_than_it_shows(rt: HostRuntime) {
     let held = stops_before_the_next_read(rt.alloc()) || stops_before_the_next_read(rt.alloc());
     assert!(rt; held);
 }
+
+mod pages;
