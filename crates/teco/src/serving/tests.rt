@@ -386,3 +386,4 @@ fn reads_no_further_than_it_shows(rt: HostRuntime) {
 }
 
 mod searches;
+mod pages;
