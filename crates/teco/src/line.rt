@@ -119,7 +119,9 @@ fn command<'a>(alloc: Global) -> Result<Command<'a>, NoMemory>
     ensures { IfOk result (λ command. app_of command ≡ teco_app) }
 {
     Command::new(alloc, "teco")
-        .about("TECO, a text editor whose commands are programs, and each can be undone")
+        .about(
+            "TECO, a text editor whose command strings are programs, each of which can be undone",
+        )
         .after_help(AFTER_HELP)
         .version(VERSION)
         .arg(limit_arg(alloc))?

@@ -7,10 +7,14 @@ use crate::disk::Disk;
 use crate::file_disk::FileDisk;
 use crate::place::{Place, append, place_of};
 use std::alloc::Global;
-use std::fs::Files;
+use std::fs::{Files, Metadata};
 use std::io;
+use std::io::ErrorKind;
 use std::path::Path;
 use teco_core::NoMemory;
+
+/// How many names are tried for a draft.
+const DRAFTS: u32 = 100;
 
 /// Gives a file these bytes in the place of what it has. They are written to a new file, the draft, which then takes the file's name.
 ///
@@ -32,10 +36,10 @@ pub fn replace<D: Disk>(disk: &mut D, file: &str, draft: &str, bytes: &[u8]) -> 
 }
 
 /// A name for a draft: in the folder of the file, and not the file's.
-fn draft_name(alloc: Global, file: &str, process: u32) -> Result<String, NoMemory>
+fn draft_name(alloc: Global, file: &str, number: u32) -> Result<String, NoMemory>
     ensures { IfOk result (λ draft. string_bytes draft ≢ file.now) }
 {
-    let name = format!(in alloc; ".teco-{process}")?;
+    let name = format!(in alloc; ".teco-{number}")?;
     let mut draft = Path::new(file)
         .with_file_name(alloc, name.as_str())?
         .into_string();
@@ -45,8 +49,27 @@ fn draft_name(alloc: Global, file: &str, process: u32) -> Result<String, NoMemor
     Ok(draft)
 }
 
+/// Replaces a file, by the first draft whose name is free.
+fn replace_file<R: Files + AllocGlobal>(
+    rt: &R,
+    file: &str,
+    old: Option<Metadata>,
+    process: u32,
+    bytes: &[u8],
+) -> io::Result<()> {
+    let mut disk = FileDisk::new(rt, old);
+    for number in process..process.saturating_add(DRAFTS) {
+        let draft = draft_name(rt.alloc(), file, number)?;
+        match replace(&mut disk, file, draft.as_str(), bytes) {
+            Err(error) if error.kind() == ErrorKind::AlreadyExists => {}
+            done => return done,
+        }
+    }
+    Err(io::Error::from(ErrorKind::AlreadyExists))
+}
+
 /// Writes the output. A file that is new or is replaced has it whole or stays as it was; a device, a pipe and an open file get it
-/// after what they have.
+/// after what they have. The number of the process is for the name of a draft.
 pub fn write_output<R: Files + AllocGlobal>(
     rt: &R,
     name: &str,
@@ -55,11 +78,7 @@ pub fn write_output<R: Files + AllocGlobal>(
 ) -> io::Result<()> {
     match place_of(rt, name)? {
         Place::Stream => append(rt, name, output),
-        Place::File(name, old) => {
-            let draft = draft_name(rt.alloc(), name.as_str(), process)?;
-            let mut disk = FileDisk::new(rt, old);
-            replace(&mut disk, name.as_str(), draft.as_str(), output)
-        }
+        Place::File(file, old) => replace_file(rt, file.as_str(), old, process, output),
     }
 }
 

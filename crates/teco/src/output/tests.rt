@@ -1,6 +1,5 @@
 use super::*;
 use std::fs;
-use std::io::ErrorKind;
 use std::os::unix::fs::{MetadataExt, PermissionsExt, symlink};
 
 const FOLDER: &str = "teco_output_test";
@@ -30,21 +29,25 @@ fn writes_files(rt: &HostRuntime) -> io::Result<bool> {
     Ok(right && holds(rt, FILE, b"led to")? && !fs::exists(rt, DRAFT)?)
 }
 
-/// No folder, a folder, a name that no file can take, and a draft that is someone else's.
+/// No folder, a folder, and a name that no file can take.
 fn refuses(rt: &HostRuntime) -> io::Result<bool> {
     let mut right = write_output(rt, "teco_output_test/no/file", 7, b"a").is_err();
     right &= write_output(rt, FOLDER, 7, b"a").is_err();
     right &= write_output(rt, "teco_output_test/none/", 7, b"a").is_err();
-    right &= !fs::exists(rt, DRAFT)?;
+    Ok(right && !fs::exists(rt, DRAFT)?)
+}
+
+/// A draft of someone else's stays as it is, and another name is taken.
+fn leaves_a_draft(rt: &HostRuntime) -> io::Result<bool> {
     fs::write(rt, DRAFT, b"theirs".as_slice())?;
-    right &= write_output(rt, FILE, 7, b"a").is_err();
-    Ok(right && holds(rt, DRAFT, b"theirs")? && holds(rt, FILE, b"led to")?)
+    write_output(rt, FILE, 7, b"ours")?;
+    Ok(holds(rt, DRAFT, b"theirs")? && holds(rt, FILE, b"ours")?)
 }
 
 fn writes_and_refuses(rt: &HostRuntime) -> io::Result<bool> {
     let _ = fs::remove_dir_all(rt, FOLDER);
     fs::create_dir(rt, FOLDER)?;
-    let right = writes_files(rt)? && refuses(rt)?;
+    let right = writes_files(rt)? && refuses(rt)? && leaves_a_draft(rt)?;
     write_output(rt, "/dev/null", 7, b"a")?;
     fs::remove_dir_all(rt, FOLDER)?;
     Ok(right)
