@@ -7,7 +7,7 @@ use teco_core::BLOCK_LIMIT;
 use teco_scan::Kind;
 
 /// What an open block is.
-#[derive(Clone, Copy, Debug, PartialEq, Eq)]
+#[derive(Clone, Copy)]
 pub(crate) enum Body {
     /// An iteration without end.
     Endless,
@@ -33,14 +33,14 @@ impl Body {
 }
 
 /// An open block: the place at which its list of commands begins, and what it is.
-#[derive(Clone, Copy, Debug, PartialEq, Eq)]
+#[derive(Clone, Copy)]
 pub(crate) struct Block {
     pub start: usize,
     pub body: Body,
 }
 
 /// The open blocks of one text, at most 64. A clause sees them as a list, the innermost first. They take no memory.
-#[derive(Debug, Drop)]
+#[derive(Drop)]
 pub(crate) struct Blocks {
     /// The outermost first; after the open ones come blocks that mean nothing.
     open: [Block; BLOCK_LIMIT],

@@ -9,7 +9,7 @@ use teco_core::{Args, is_filler};
 use teco_scan::spelling;
 
 /// Where a text is being run: how many of its bytes come before, the arguments so far, and the open blocks.
-#[derive(Debug, Drop)]
+#[derive(Drop)]
 pub(crate) struct Cursor<'t> {
     pub text: &'t [u8],
     pub at: usize,

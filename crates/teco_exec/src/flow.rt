@@ -5,7 +5,7 @@ use teco_core::Code;
 use teco_step::Work;
 
 /// What one step of a text leads to.
-#[derive(Debug, Drop)]
+#[derive(Drop)]
 pub(crate) enum Flow {
     /// The text goes on at the cursor.
     On,
@@ -18,7 +18,7 @@ pub(crate) enum Flow {
 }
 
 /// What one step of a token leads to.
-#[derive(Debug, Drop)]
+#[derive(Drop)]
 pub(crate) enum Progress {
     /// A further step of the same token, with this work left.
     Further(Work),
@@ -27,7 +27,7 @@ pub(crate) enum Progress {
 }
 
 /// How a text came to its end.
-#[derive(Clone, Copy, Debug, PartialEq, Eq)]
+#[derive(Clone, Copy)]
 pub(crate) enum Exit {
     /// Its caller goes on.
     Return,
@@ -50,7 +50,7 @@ impl Exit {
 }
 
 /// The steps that are done, at most as many as the limit.
-#[derive(Debug, Drop)]
+#[derive(Drop)]
 pub(crate) struct Steps {
     pub done: u64,
     pub limit: u64,

@@ -15,7 +15,7 @@ use teco_scan::{
 };
 
 /// What opens a block or ends a turn: a step that no item makes.
-#[derive(Clone, Copy, Debug)]
+#[derive(Clone, Copy)]
 pub(crate) enum Opening {
     Iterate,
     EndTurn,
@@ -23,7 +23,7 @@ pub(crate) enum Opening {
 }
 
 /// What comes next in a text, or that something was passed that uses no step.
-#[derive(Clone, Copy, Debug)]
+#[derive(Clone, Copy)]
 pub(crate) enum Next {
     Passed,
     /// A step of the token that was found, after which the cursor is.

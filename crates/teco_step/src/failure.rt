@@ -10,7 +10,7 @@ use teco_core::Code;
 use teco_store::Refused;
 
 /// Why a step was not done.
-#[derive(Clone, Copy, Debug, PartialEq, Eq)]
+#[derive(Clone, Copy)]
 pub(crate) enum Failure {
     /// The command is refused, by a code of the language.
     Command(Code),

@@ -92,7 +92,7 @@ pub(crate) fn close(args: &mut Args) -> Result<(), Failure>
 
 /// Makes a value the first of two.
 #[tactic(auto, using(crate::proofs::Own::own_comma))]
-pub(crate) fn divide(args: &mut Args) -> Result<(), Failure>
+pub(crate) fn comma(args: &mut Args) -> Result<(), Failure>
     ensures ok { OnOk result (comma (arguments args.old) ≡ Ok (arguments args.new)) }
     ensures err { IfErr result (λ failure. IsRefusal failure (comma (arguments args.old))) }
     ensures unchanged { OnErr result (args.new ≡ args.old) }

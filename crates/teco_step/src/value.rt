@@ -10,7 +10,7 @@ use crate::failure::Failure;
 use crate::line::byte_at;
 use crate::next::Next;
 use crate::registers::give_alone;
-use crate::taking::{close, decimal, divide, give, open, operator, pair, text_length, truth};
+use crate::taking::{close, comma, decimal, give, open, operator, pair, text_length, truth};
 use teco_core::{Args, Code, Level};
 use teco_scan::{Arithmetic, LevelCommand, Quantity};
 use teco_store::Desk;
@@ -70,7 +70,7 @@ pub(crate) fn arithmetic<D: Desk>(
         Arithmetic::Operator(op) => operator(args, op)?,
         Arithmetic::Open => open(args)?,
         Arithmetic::Close => close(args)?,
-        Arithmetic::Comma => divide(args)?,
+        Arithmetic::Comma => comma(args)?,
     }
     Ok(Next::On)
 }
