@@ -15,6 +15,8 @@ mod served;
 mod serving;
 mod source;
 mod splitter;
+#[cfg(test)]
+mod tests;
 
 use crate::ending::{Fate, ending};
 use crate::input::read_input;

@@ -13,8 +13,6 @@ mod registers;
 mod step;
 mod taking;
 mod terminal;
-#[cfg(test)]
-mod tests;
 mod typing;
 mod value;
 mod writer_terminal;

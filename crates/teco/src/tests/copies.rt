@@ -1,56 +1,8 @@
-use super::*;
+//! Copies of values, of registers and of the push-down list.
 use std::alloc::Global;
 use std::process::Abort;
 use std::test::Fail;
-
-const CODES: [(Code, u8, [u8; 3]); 32] = [
-    (Code::Arg, 1, *b"ARG"),
-    (Code::Bni, 2, *b"BNI"),
-    (Code::Cpq, 3, *b"CPQ"),
-    (Code::Dtb, 4, *b"DTB"),
-    (Code::Ice, 5, *b"ICE"),
-    (Code::Iia, 6, *b"IIA"),
-    (Code::Ill, 7, *b"ILL"),
-    (Code::Ipa, 8, *b"IPA"),
-    (Code::Iqc, 9, *b"IQC"),
-    (Code::Iqn, 10, *b"IQN"),
-    (Code::Isa, 11, *b"ISA"),
-    (Code::Iss, 12, *b"ISS"),
-    (Code::Mrp, 13, *b"MRP"),
-    (Code::Nae, 14, *b"NAE"),
-    (Code::Naq, 15, *b"NAQ"),
-    (Code::Nau, 16, *b"NAU"),
-    (Code::Ovf, 17, *b"OVF"),
-    (Code::Dvz, 18, *b"DVZ"),
-    (Code::Pdo, 19, *b"PDO"),
-    (Code::Pop, 20, *b"POP"),
-    (Code::Sni, 21, *b"SNI"),
-    (Code::Srh, 22, *b"SRH"),
-    (Code::Tag, 23, *b"TAG"),
-    (Code::Utc, 24, *b"UTC"),
-    (Code::Yca, 25, *b"YCA"),
-    (Code::Big, 26, *b"BIG"),
-    (Code::Lim, 27, *b"LIM"),
-    (Code::Mem, 28, *b"MEM"),
-    (Code::Tty, 29, *b"TTY"),
-    (Code::Ntu, 30, *b"NTU"),
-    (Code::Ntr, 31, *b"NTR"),
-    (Code::End, 32, *b"END"),
-];
-
-#[test]
-fn codes_have_their_numbers_and_letters(rt: HostRuntime) -> Result<(), Fail> {
-    for (code, number, letters) in CODES {
-        assert_eq!(rt; code.number(), number, "{code:?}");
-        assert_eq!(rt; code.letters(), letters);
-        let shown = match format!(in rt.alloc(); "{code}") {
-            Ok(shown) => shown,
-            Err(_) => format!(in rt.alloc(); "{code}")?,
-        };
-        assert_eq!(rt; shown.as_bytes(), letters.as_slice());
-    }
-    Ok(())
-}
+use teco_core::{NoMemory, PushList, Reg, Registers, Value};
 
 /// The value 7 with `text`.
 fn some_value(alloc: Global, text: &str) -> Result<Value, NoMemory> {
@@ -144,32 +96,5 @@ fn copies_hold_the_same(rt: HostRuntime) -> Result<(), Fail> {
     if assert_list_copies(&rt, rt.alloc()).is_err() {
         assert_list_copies(&rt, rt.alloc())?;
     }
-    Ok(())
-}
-
-/// `2+3*4`, `1,(-5)` with the sign emptied away, a whole text, and nothing.
-#[test]
-fn arguments_are_taken(rt: HostRuntime) -> Result<(), Code> {
-    let mut args = Args::new();
-    args.give(decimal(b"2")?)?;
-    args.operator(Op::Plus)?;
-    args.give(3)?;
-    args.operator(Op::Times)?;
-    args.give(4)?;
-    assert_eq!(rt; args.level(), Level::Value(20));
-    assert_eq!(rt; args.take()?, Taken::One(20));
-    args.give(1)?;
-    args.comma()?;
-    args.open()?;
-    args.operator(Op::Minus)?;
-    args.empty_level();
-    args.give(5)?;
-    args.close()?;
-    assert_eq!(rt; args.take()?, Taken::Two(1, 5));
-    args.pair(12)?;
-    assert_eq!(rt; args.take()?, Taken::Two(0, 12));
-    args.give(1)?;
-    args.clear();
-    assert_eq!(rt; args.take()?, Taken::None);
     Ok(())
 }
