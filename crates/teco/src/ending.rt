@@ -10,7 +10,7 @@ use std::alloc::Global;
 use teco_core::NoMemory;
 
 /// How the program ends, once its command line is read.
-#[derive(Clone, Copy, Debug, PartialEq, Eq)]
+#[derive(Clone, Copy)]
 pub enum Fate {
     /// The input cannot be read.
     NoInput,

@@ -18,7 +18,7 @@ use thiserror::Error;
 pub const MOST_STEPS: u64 = 1_000_000_000_000;
 
 /// What the command line says.
-#[derive(Debug, Drop)]
+#[derive(Drop)]
 pub struct Line {
     /// The name of the input file.
     pub input: String,
@@ -155,9 +155,10 @@ pub fn fault_of_words(error: io::Error, not_text: Result<clap::Error, NoMemory>)
     }
 }
 
-/// The status of a refused line: 3, or 0 where it asks for the help.
+/// The status of a refused line: 3, or 0 where it asks for the help or the version.
 pub fn refused_status(error: &clap::Error) -> u8
     ensures help { kind_of error.now ≡ ErrorKind.DisplayHelp → result ≡ 0 }
+    ensures version { kind_of error.now ≡ ErrorKind.DisplayVersion → result ≡ 0 }
     ensures fault { kind_of error.now ≢ ErrorKind.DisplayHelp → kind_of error.now ≢ ErrorKind.DisplayVersion → result ≡ 3 }
 {
     if error.use_stderr() { 3 } else { 0 }
