@@ -66,14 +66,14 @@ fn a_page_past_its_limit_is_big(rt: HostRuntime) {
 // A text that is full takes an empty page, and no byte more.
 #[test]
 fn a_page_fills_the_text(rt: HostRuntime) {
-    let full = [Look::Length(16_777_216), Look::Place(16_777_217)];
     all_go_on_pages(
         &rt,
         rt.alloc(),
         &[16_777_216, 0, 1],
         &[
             Step::Does(Call::AppendPage),
-            Step::Shows(Look::RegisterLength(b'9', 16_777_216)),
+            Step::Shows(Look::Length(16_777_216)),
+            Step::Shows(Look::Place(16_777_217)),
             Step::Does(Call::AppendPage),
             Step::Shows(Look::Length(16_777_216)),
             Step::Shows(Look::Place(16_777_218)),
