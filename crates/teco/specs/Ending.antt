@@ -1,5 +1,5 @@
 -- How the program ends: its status, and what it prints on standard error.
-use Rattle.std.specs.Prelude.{ℕ, List, [], ◌∷◌, ◌++◌, Some, None, codes}
+use Rattle.std.specs.Prelude.{◌≡◌, ℕ, List, [], ◌∷◌, ◌++◌, Some, None, codes}
 use Rattle.std.specs.String.{string_bytes}
 use Rattle.teco.specs.declared.input.InputFault.{InputFault}
 use Rattle.teco.specs.declared.input.InputFault.TheVariants as input
@@ -43,3 +43,7 @@ text_of line (Ended served.EndOfCommands) = []
 text_of line (Ended served.ReadFault) = said (codes "cannot read commands")
 text_of line (Ended served.ShowFault) = said (codes "cannot show")
 text_of line (Ended served.NoMemory) = said (codes "no memory")
+
+-- the status and what is printed belong to one way that the program ends
+abbrev pub IsEnding : Line → ℕ → List ℕ → Type 0
+IsEnding line status text = (fate : Fate) × (status ≡ status_of fate) × (text ≡ text_of line fate)

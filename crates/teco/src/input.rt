@@ -12,7 +12,7 @@ use thiserror::Error;
 const PIECE: usize = 1 << 16;
 
 /// Why there is no input.
-#[derive(Clone, Copy, Debug, PartialEq, Eq, Drop, Error)]
+#[derive(Clone, Copy, Debug, Drop, Error)]
 pub enum InputFault {
     /// A read failed.
     #[error("cannot read")]

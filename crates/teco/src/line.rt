@@ -26,7 +26,7 @@ const AFTER_HELP: &str =
 command string, which is then run; EX writes the output and ends the program.";
 
 /// What the command line says.
-#[derive(Debug, Drop)]
+#[derive(Drop)]
 pub struct Line {
     /// The name of the input file.
     pub input: String,

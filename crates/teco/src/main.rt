@@ -2,7 +2,9 @@
 #![tactic(auto)]
 
 ghost use Rattle.std.specs.IoError.{error_kind};
-ghost use Rattle.std.specs.Prelude.{◌≡◌, ◌≢◌, ◌≤◌, vec_len};
+ghost use Rattle.std.specs.Prelude.{◌≡◌, ◌≢◌, ◌≤◌, IfOk, vec_len};
+ghost use Rattle.std.specs.String.{string_bytes};
+ghost use Rattle.teco.specs.Ending.{IsEnding};
 ghost use Rattle.teco_core.specs.declared.limits.TheConstants.{FILE_LIMIT};
 
 mod disk;
@@ -19,6 +21,8 @@ mod served;
 mod serving;
 mod source;
 mod splitter;
+#[cfg(test)]
+mod tests;
 
 use crate::ending::{Fate, ending};
 use crate::input::read_input;
@@ -100,7 +104,9 @@ fn line_given(rt: &HostRuntime) -> Result<Line, LineFault> {
 }
 
 /// Runs the program, and gives its status and what it prints on standard error.
-fn conclusion(rt: &HostRuntime, line: &Line) -> Result<(u8, String), NoMemory> {
+fn conclusion(rt: &HostRuntime, line: &Line) -> Result<(u8, String), NoMemory>
+    ensures { IfOk result (λ ending. IsEnding line.now ending.0 (string_bytes ending.1)) }
+{
     ending(rt.alloc(), line, run(rt, line))
 }
 

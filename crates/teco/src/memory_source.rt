@@ -154,31 +154,43 @@ mod tests {
         }
     }
 
+    /// Whether the next piece, of at most two bytes, is this.
+    fn gives(source: &mut MemorySource, wanted: &str) -> bool {
+        let mut room = [0; 2];
+        match source.read(&mut room) {
+            Ok(n) => &room[..n.min(2)] == wanted.as_bytes(),
+            Err(SourceFault) => false,
+        }
+    }
+
+    /// Whether a source that is read so often after its last piece ends, or fails.
+    fn is_over(source: &mut MemorySource, fails: bool, count: u64) -> bool {
+        if source.ended && count == 1 {
+            return false;
+        }
+        let last = source.read(&mut [0; 2]);
+        if fails {
+            last.is_err() && source.failures == count
+        } else {
+            matches!(last, Ok(0)) && source.ended
+        }
+    }
+
     // Empty pieces are left out, and a piece longer than the room comes in parts.
+    fn gives_its_pieces(source: &mut MemorySource, fails: bool) -> bool {
+        matches!(source.read(&mut []), Ok(0))
+            && ["he", "ll", "o", "!"]
+                .iter()
+                .all(|piece| gives(source, piece))
+            && is_over(source, fails, 1)
+            && is_over(source, fails, 2)
+    }
+
     #[test]
-    fn gives_its_pieces(rt: HostRuntime) {
+    fn gives_its_pieces_and_ends(rt: HostRuntime) {
         for fails in [false, true] {
             let mut source = source_again(&rt, rt.alloc(), fails);
-            let mut room = [0; 2];
-            assert!(rt; matches!(source.read(&mut []), Ok(0)));
-            for wanted in ["he", "ll", "o", "!"] {
-                let Ok(n) = source.read(&mut room) else {
-                    panic!(rt; "failed before {wanted}");
-                };
-                assert!(rt; n <= 2);
-                assert_eq!(rt; &room[..n], wanted.as_bytes());
-            }
-            for count in 1..=2 {
-                assert!(rt; !source.ended || count == 2);
-                let last = source.read(&mut room);
-                if fails {
-                    assert!(rt; last.is_err());
-                    assert_eq!(rt; source.failures, count);
-                } else {
-                    assert!(rt; matches!(last, Ok(0)));
-                    assert!(rt; source.ended);
-                }
-            }
+            assert!(rt; gives_its_pieces(&mut source, fails), "fails: {fails}");
         }
     }
 }

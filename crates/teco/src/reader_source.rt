@@ -70,6 +70,7 @@ impl<R: Read + Drop> Source for ReaderSource<R> {
 mod tests {
     use super::*;
     use std::io;
+    use std::process::Abort;
 
     /// Gives one byte a read, but fails at its second read, and ends after its fourth.
     #[derive(Drop)]
@@ -92,22 +93,39 @@ mod tests {
         }
     }
 
+    /// A read into so much room: what it gives, or that it fails; then whether the source has ended, and how often a read failed.
+    type Row<'a> = (usize, Option<&'a [u8]>, bool, u64);
+
+    fn reads<R: Read + Drop>(source: &mut ReaderSource<R>, row: &Row) -> bool {
+        let mut room = [0; 4];
+        let given = match source.read(&mut room[..row.0.min(4)]) {
+            Ok(n) => row.1 == Some(&room[..n.min(4)]),
+            Err(_) => row.1.is_none(),
+        };
+        given && source.ended == row.2 && source.failures == row.3
+    }
+
+    fn all_read<R: Read + Drop>(rt: &impl Abort, source: &mut ReaderSource<R>, rows: &[Row]) {
+        for (at, row) in rows.iter().enumerate() {
+            assert!(rt; reads(source, row), "the read {at}");
+        }
+    }
+
     #[test]
     fn fails_where_the_reader_does(rt: HostRuntime) {
         let mut source = ReaderSource::new(Stumbling { reads: 0 });
-        let mut room = [0; 4];
-        assert!(rt; matches!(source.read(&mut room), Ok(1)));
-        assert_eq!(rt; room[0], b'a');
-        assert!(rt; source.read(&mut room).is_err());
-        assert_eq!(rt; source.failures, 1);
-        assert!(rt; matches!(source.read(&mut room), Ok(1)));
-        assert_eq!(rt; room[0], b'c');
-        assert!(rt; matches!(source.read(&mut []), Ok(0)));
-        assert!(rt; !source.ended);
-        assert!(rt; matches!(source.read(&mut room), Ok(1)));
-        assert!(rt; matches!(source.read(&mut room), Ok(0)));
-        assert!(rt; source.ended);
-        assert_eq!(rt; source.failures, 1);
+        all_read(
+            &rt,
+            &mut source,
+            &[
+                (4, Some(b"a"), false, 0),
+                (4, None, false, 1),
+                (4, Some(b"c"), false, 1),
+                (0, Some(b""), false, 1),
+                (4, Some(b"d"), false, 1),
+                (4, Some(b""), true, 1),
+            ],
+        );
     }
 
     // The last byte that may come, and the failure after it.
@@ -115,10 +133,10 @@ mod tests {
     fn fails_after_the_most_bytes(rt: HostRuntime) {
         let mut source = ReaderSource::new(b"ab".as_slice());
         source.left = 1;
-        let mut room = [0; 4];
-        assert!(rt; matches!(source.read(&mut room), Ok(1)));
-        assert_eq!(rt; room[0], b'a');
-        assert!(rt; source.read(&mut room).is_err());
-        assert_eq!(rt; source.failures, 1);
+        all_read(
+            &rt,
+            &mut source,
+            &[(4, Some(b"a"), false, 0), (4, None, false, 1)],
+        );
     }
 }

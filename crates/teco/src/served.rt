@@ -1,7 +1,7 @@
 //! How a serving ends.
 
 /// How a serving ends.
-#[derive(Clone, Copy, Debug, PartialEq, Eq)]
+#[derive(Clone, Copy, PartialEq)]
 pub enum Served {
     /// A command string exited.
     Exit,

@@ -12,7 +12,7 @@ use std::marker::Model;
 use teco_core::{ESC, NoMemory, is_filler};
 
 /// What a text of the stream asks.
-#[derive(Debug, Drop, PartialEq, Eq)]
+#[derive(Drop)]
 pub enum Asked {
     /// To run the text, which includes the first ESC of its pair.
     Run(Vec<u8>),

@@ -10,8 +10,6 @@ mod limits;
 mod number;
 mod push_down;
 mod register;
-#[cfg(test)]
-mod tests;
 
 pub use arguments::{Args, Expression, Level, Sign, Taken};
 pub use ascii::{ESC, is_filler, is_line_end};

@@ -11,8 +11,6 @@ mod moves;
 mod outcome;
 mod running;
 mod stepping;
-#[cfg(test)]
-mod tests;
 
 pub use laws::{machine_laws, meaning_laws};
 pub use outcome::Outcome;

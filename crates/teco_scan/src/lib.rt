@@ -7,8 +7,6 @@ mod names;
 mod operand;
 mod scan;
 mod table;
-#[cfg(test)]
-mod tests;
 mod token;
 
 pub use blocks::{Kind, Stop, block_laws, find_tag, skip_block, skip_whole_block};

@@ -11,7 +11,7 @@ use std::marker::Model;
 use teco_core::{CaseMode, is_line_end};
 
 /// A kind of bytes. Letters and digits are those of ASCII.
-#[derive(Clone, Copy, Debug, PartialEq, Eq)]
+#[derive(Clone, Copy)]
 pub enum Class {
     /// Any byte.
     Any,
@@ -27,14 +27,14 @@ pub enum Class {
 }
 
 /// What one byte may be: a given byte, or one of a kind.
-#[derive(Clone, Copy, Debug, PartialEq, Eq)]
+#[derive(Clone, Copy)]
 pub enum Item {
     Byte(u8),
     Class(Class),
 }
 
 /// The items of a list, at least one.
-#[derive(Debug, Drop)]
+#[derive(Drop)]
 pub struct Items {
     items: Vec<Item>,
 }
@@ -49,14 +49,14 @@ impl Model for Items {
 }
 
 /// One item, or a list of them.
-#[derive(Debug, Drop)]
+#[derive(Drop)]
 pub enum OneByte {
     Single(Item),
     Listed(Items),
 }
 
 /// A part of a search text that matches by itself.
-#[derive(Debug, Drop)]
+#[derive(Drop)]
 pub enum Element {
     /// A byte that one of these admits.
     Among(OneByte),
@@ -194,7 +194,7 @@ impl fmt::Display for Class {
 }
 
 /// A byte shown as itself, or by its code where it is no ASCII character that shows.
-#[derive(Clone, Copy, Debug)]
+#[derive(Clone, Copy)]
 pub(crate) struct Shown(pub u8);
 
 impl fmt::Display for Shown {

@@ -13,8 +13,6 @@ mod places;
 mod reading;
 mod run;
 mod search;
-#[cfg(test)]
-mod tests;
 
 pub use element::{Class, Element, Item, Items, OneByte};
 pub use law::{occurrences, search_texts};

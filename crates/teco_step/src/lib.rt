@@ -17,8 +17,6 @@ mod searching;
 mod step;
 mod taking;
 mod terminal;
-#[cfg(test)]
-mod tests;
 mod typing;
 mod value;
 mod writer_terminal;

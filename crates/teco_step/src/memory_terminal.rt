@@ -46,25 +46,3 @@ impl Terminal for MemoryTerminal {
         Ok(())
     }
 }
-
-#[cfg(test)]
-mod tests {
-    use super::*;
-
-    // A put that is refused adds nothing, and the same put can be tried again.
-    #[test]
-    fn keeps_what_is_shown(rt: HostRuntime) {
-        let mut terminal = MemoryTerminal::new(rt.alloc());
-        if terminal.put(b"1").is_err() {
-            assert_eq!(rt; terminal.bytes(), b"".as_slice());
-            assert_eq!(rt; terminal.failures, 1);
-            assert!(rt; terminal.put(b"1").is_ok());
-        }
-        assert!(rt; terminal.put(b"").is_ok());
-        if terminal.put(b"=23456789012345\r\n").is_err() {
-            assert_eq!(rt; terminal.bytes(), b"1".as_slice());
-            assert!(rt; terminal.put(b"=23456789012345\r\n").is_ok());
-        }
-        assert_eq!(rt; terminal.bytes(), b"1=23456789012345\r\n".as_slice());
-    }
-}

@@ -42,26 +42,34 @@ fn cut(rt: &impl Abort, splitter: &mut Splitter, wanted: &[Wanted], done: usize)
     done
 }
 
-/// The stream asks what is wanted, in one piece, byte by byte, and cut in two at each place.
-fn asks(rt: &impl Abort, alloc: Global, stream: &[u8], wanted: &[Wanted]) {
-    for place in 0..=stream.len() {
-        let mut splitter = Splitter::new(alloc);
-        feed(rt, &mut splitter, &stream[..place]);
-        let done = cut(rt, &mut splitter, wanted, 0);
-        feed(rt, &mut splitter, &stream[place..]);
-        assert_eq!(rt;
-            cut(rt, &mut splitter, wanted, done),
-            wanted.len(),
-            "cut at {place}"
-        );
-    }
+/// The stream asks what is wanted, cut in two at a place.
+fn asks_cut(rt: &impl Abort, alloc: Global, stream: &[u8], wanted: &[Wanted], place: usize) {
+    assert!(rt; place <= stream.len());
+    let mut splitter = Splitter::new(alloc);
+    feed(rt, &mut splitter, &stream[..place]);
+    let done = cut(rt, &mut splitter, wanted, 0);
+    feed(rt, &mut splitter, &stream[place..]);
+    let done = cut(rt, &mut splitter, wanted, done);
+    assert!(rt; done == wanted.len(), "cut at {place}");
+}
+
+/// The stream asks what is wanted, byte by byte.
+fn asks_in_bytes(rt: &impl Abort, alloc: Global, stream: &[u8], wanted: &[Wanted]) {
     let mut splitter = Splitter::new(alloc);
     let mut done = 0;
-    for place in 0..stream.len() {
-        feed(rt, &mut splitter, &stream[place..place + 1]);
+    for byte in stream {
+        feed(rt, &mut splitter, &[*byte]);
         done = cut(rt, &mut splitter, wanted, done);
     }
-    assert_eq!(rt; done, wanted.len());
+    assert!(rt; done == wanted.len());
+}
+
+/// The stream asks what is wanted, in one piece, cut in two at each place, and byte by byte.
+fn asks(rt: &impl Abort, alloc: Global, stream: &[u8], wanted: &[Wanted]) {
+    for place in 0..=stream.len() {
+        asks_cut(rt, alloc, stream, wanted, place);
+    }
+    asks_in_bytes(rt, alloc, stream, wanted);
 }
 
 #[test]

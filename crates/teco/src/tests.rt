@@ -1,0 +1,31 @@
+//! What no clause says of the crates below: that calls succeed where memory is ample, what is left where it is refused, and rows of
+//! commands with what they do. A row whose call is refused memory is tried a second time.
+use std::process::Abort;
+
+mod arguments;
+mod codes;
+mod conditionals;
+mod copies;
+mod editor;
+mod editor_limits;
+mod exits;
+mod failing_terminals;
+mod gap_buffer;
+mod history;
+mod iterations;
+mod jumps;
+mod laws;
+mod lists_of_blocks;
+mod page_turns;
+mod patterns;
+mod single_steps;
+mod slow_search;
+mod steps;
+mod strings;
+mod terminals;
+mod tokens;
+
+/// Ends the test where what is said of a text does not hold.
+fn assert_of(rt: &impl Abort, text: &str, holds: bool) {
+    assert!(rt; holds, "{text:?}");
+}
