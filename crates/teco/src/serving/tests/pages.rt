@@ -16,10 +16,7 @@ use teco_store::Desk;
 type Row<'a> = (&'a str, &'a str, &'a str);
 
 fn three_pages(alloc: Global) -> Result<Session, NoMemory> {
-    Ok(Session::new(Vec::from_slice(
-        alloc,
-        b"one\n\x0ctwo\n\x0cthree\n",
-    )?))
+    Ok(Session::new(Vec::from_slice(alloc, b"one\n\x0ctwo\n\x0cthree\n")?))
 }
 
 /// Whether serving a source over the three pages gives what the row says.
@@ -45,8 +42,8 @@ fn holds_once(alloc: Global, served: Served, row: &Row, single: bool) -> bool {
 fn all_hold(rt: &impl Abort, alloc: Global, served: Served, rows: &[Row]) {
     for row in rows {
         for single in [false, true] {
-            let held =
-                holds_once(alloc, served, row, single) || holds_once(alloc, served, row, single);
+            let held = holds_once(alloc, served, row, single)
+                || holds_once(alloc, served, row, single);
             assert!(rt; held, "{} in single bytes: {single}", row.0);
         }
     }
@@ -84,11 +81,7 @@ fn serves_to_an_exit(rt: HostRuntime) {
         Served::Exit,
         &[
             ("EX$$1=$$", "", "one\n\x0ctwo\n\x0cthree\n"),
-            (
-                "YHT$$PI2: $$EX$$",
-                "one\n",
-                "one\n\x0c2: two\n\x0cthree\n",
-            ),
+            ("YHT$$PI2: $$EX$$", "one\n", "one\n\x0c2: two\n\x0cthree\n"),
         ],
     );
 }

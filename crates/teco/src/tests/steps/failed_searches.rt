@@ -92,4 +92,3 @@ fn a_failed_search_is_pardoned_in_an_iteration_before_a_semicolon(rt: HostRuntim
         assert!(rt; fails(rt.alloc(), inside, before, colons) == ends);
     }
 }
-

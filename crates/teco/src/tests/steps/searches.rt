@@ -38,9 +38,17 @@ fn what_is_found_is_replaced(rt: HostRuntime) {
             ("Icat\x1b0J@FS/a/oa/HT.=", "coat3\r\n", None),
             ("Iabc\x1bJ:FSb\x1bxyz\x1b=HT.=", "-1\r\naxyzc4\r\n", None),
             ("Iabcabc\x1b-2FSb\x1bQ\x1bHT.=", "aQcabc2\r\n", None),
-            ("Iaba\x1bJ2FSa\x1b\x1b.=HT@FS///", "2\r\nab", Some(Code::Srh)),
+            (
+                "Iaba\x1bJ2FSa\x1b\x1b.=HT@FS///",
+                "2\r\nab",
+                Some(Code::Srh),
+            ),
             ("Iabc\x1bJ:FSz\x1bx\x1b=HT", "0\r\nabc", None),
-            ("Iab\x1bJFSb\x1bcd\x1bISb\x1b0J:@FS//b/=HT", "-1\r\nacdSb", None),
+            (
+                "Iab\x1bJFSb\x1bcd\x1bISb\x1b0J:@FS//b/=HT",
+                "-1\r\nacdSb",
+                None,
+            ),
         ],
     );
 }
