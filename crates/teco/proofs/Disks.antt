@@ -1,5 +1,5 @@
 -- The moments of a replacement.
-use Rattle.std.proofs.Common.{◌≡◌, ◌≢◌, ◌⊎◌, inl, inr, ℕ, List, Option, sym, ◌∙◌}
+use Rattle.std.proofs.Common.{◌≢◌, ◌⊎◌, inl, inr, ℕ, List, Option, sym, ◌∙◌}
 use Rattle.teco.specs.Disk.{Changes, Creates, Files, IsWhole, Passes, Renames, Same, SameBut}
 
 -- at a moment while the draft takes the file's name
