@@ -83,50 +83,20 @@ fn all_lead(rt: &impl Abort, alloc: Global, rows: &[Row]) {
 #[test]
 fn registers_hold_what_they_are_set_to(rt: HostRuntime) {
     let most = 2_147_483_647;
+    let (on, past) = (Wanted::On, Wanted::Error(Code::Ovf));
+    let unset = Wanted::Error(Code::Nau);
+    let (three, sum) = (Some(Taken::One(3)), Some(Taken::One(42)));
     let all = Some(Taken::One(most));
-    let past = Wanted::Error(Code::Ovf);
     all_lead(
         &rt,
         rt.alloc(),
         &[
-            (None, b"^UAabc\x1b", false, Wanted::On, None, 0, b"abc"),
-            (
-                None,
-                b"UA",
-                false,
-                Wanted::Error(Code::Nau),
-                None,
-                0,
-                b"abc",
-            ),
-            (Some(41), b"UA", false, Wanted::On, None, 41, b"abc"),
-            (
-                None,
-                b"%A",
-                false,
-                Wanted::On,
-                Some(Taken::One(42)),
-                42,
-                b"abc",
-            ),
-            (
-                None,
-                b":QA",
-                false,
-                Wanted::On,
-                Some(Taken::One(3)),
-                42,
-                b"abc",
-            ),
-            (
-                None,
-                b"QA",
-                false,
-                Wanted::On,
-                Some(Taken::One(42)),
-                42,
-                b"abc",
-            ),
+            (None, b"^UAabc\x1b", false, on, None, 0, b"abc"),
+            (None, b"UA", false, unset, None, 0, b"abc"),
+            (Some(41), b"UA", false, on, None, 41, b"abc"),
+            (None, b"%A", false, on, sum, 42, b"abc"),
+            (None, b":QA", false, on, three, 42, b"abc"),
+            (None, b"QA", false, on, sum, 42, b"abc"),
             (Some(most), b"%A", false, past, all, 42, b"abc"),
         ],
     );
