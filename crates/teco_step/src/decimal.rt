@@ -12,7 +12,7 @@ use crate::edit::put;
 use crate::failure::Failure;
 use crate::line::byte_at;
 use crate::next::Next;
-use crate::taking::{give, takes_one};
+use crate::taking::{given, takes_one};
 use itoa::Buffer;
 use teco_core::{Args, Code, Level};
 use teco_store::Desk;
@@ -21,7 +21,7 @@ use teco_store::Desk;
 const PAST_NUMBERS: u64 = 1 << 32;
 
 /// A number that is written in a text: its value, or one that is out of range as well; and the place after it.
-#[derive(Clone, Copy, Debug)]
+#[derive(Clone, Copy)]
 struct Numeral {
     value: i64,
     end: usize,
@@ -99,8 +99,7 @@ fn read_number<D: Desk>(desk: &mut D, args: &mut Args) -> Result<Next, Failure>
     let (before, after) = desk.halves();
     let written = numeral_at(before, after, desk.pointer());
     let number = fit(written.value)?;
-    let mut left = *args;
-    give(&mut left, number)?;
+    let left = given(args, number)?;
     desk.point(written.end)?;
     *args = left;
     Ok(Next::On)

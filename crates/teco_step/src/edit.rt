@@ -8,7 +8,10 @@ ghost use Rattle.teco_step.specs.Step.{goes};
 use crate::failure::Failure;
 use crate::joining::joined;
 use crate::next::Next;
-use crate::taking::{as_byte, line_from, place_in, taken, takes_one_or, takes_reach};
+use crate::taking::{
+    as_byte, line_from, place_after, place_before, place_in, rising, taken, takes_one_or,
+    takes_reach,
+};
 use teco_core::{Args, Code, Taken};
 use teco_store::Desk;
 
@@ -39,7 +42,7 @@ pub(crate) fn forward<D: Desk>(desk: &mut D, args: &mut Args) -> Result<Next, Fa
         (D.follows desk.old) (D.follows desk.new) result }
 {
     let n = takes_one_or(args, 1)?;
-    let place = place_in(desk, Code::Pop, desk.pointer() as i64 + i64::from(n))?;
+    let place = place_after(desk, Code::Pop, n)?;
     move_to(desk, place, args)
 }
 
@@ -49,7 +52,7 @@ pub(crate) fn back<D: Desk>(desk: &mut D, args: &mut Args) -> Result<Next, Failu
         (D.follows desk.old) (D.follows desk.new) result }
 {
     let n = takes_one_or(args, 1)?;
-    let place = place_in(desk, Code::Pop, desk.pointer() as i64 - i64::from(n))?;
+    let place = place_before(desk, n)?;
     move_to(desk, place, args)
 }
 
@@ -87,10 +90,8 @@ pub(crate) fn delete<D: Desk>(desk: &mut D, args: &mut Args) -> Result<Next, Fai
         (D.follows desk.old) (D.follows desk.new) result }
 {
     let n = takes_one_or(args, 1)?;
-    let pointer = desk.pointer();
-    let place = place_in(desk, Code::Dtb, pointer as i64 + i64::from(n))?;
-    let low = pointer.min(place);
-    put(desk, low, pointer.max(place) - low, &[], args)
+    let range = rising(desk.pointer(), place_after(desk, Code::Dtb, n)?);
+    put(desk, range.start, range.end - range.start, &[], args)
 }
 
 /// `nK` deletes what n lines reach, and `m,nK` the range. The pointer goes where they began.

@@ -1,9 +1,10 @@
 //! Pages of the input, what is written to the output, and the exit. A command that is not done keeps the arguments and the state.
-ghost use Rattle.std.specs.Prelude.{◌≤◌, length};
+ghost use Rattle.std.specs.Prelude.{◌≡◌, ◌≤◌, [], false, length};
 ghost use Rattle.teco_core.specs.ArgumentsView.{arguments};
 ghost use Rattle.teco_step.specs.Families.{Acts, Takes};
 ghost use Rattle.teco_step.specs.Pages as pages;
 ghost use Rattle.teco_step.specs.Step.{goes, steers};
+ghost use Rattle.teco_step.specs.Stepping.{end_of, is_unfinished};
 
 use crate::failure::Failure;
 use crate::next::{Next, Work};
@@ -53,6 +54,20 @@ fn pages_left(work: Option<Work>, args: &Args) -> Result<i32, Failure>
     }
 }
 
+/// What comes after one of so many pages.
+fn after_page(n: i32) -> Next
+    ensures leads { end_of [] result ≡ pages.after_page n }
+    ensures finished { is_unfinished result ≡ false }
+{
+    if n <= 1 {
+        return Next::On;
+    }
+    Next::Again(Work {
+        left: n - 1,
+        search: false,
+    })
+}
+
 /// `nP`: one page is written, and the next one replaces it; the pages that are left after it are further steps.
 pub(crate) fn turn_pages<D: Desk>(
     desk: &mut D,
@@ -65,13 +80,7 @@ pub(crate) fn turn_pages<D: Desk>(
     let n = pages_left(work, args)?;
     desk.turn_page()?;
     args.clear();
-    if n <= 1 {
-        return Ok(Next::On);
-    }
-    Ok(Next::Again(Work {
-        left: n - 1,
-        search: false,
-    }))
+    Ok(after_page(n))
 }
 
 /// Writes a range of the buffer, and a form feed where one is asked for. The command is then done, and its arguments gone.

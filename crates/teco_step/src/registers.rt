@@ -13,7 +13,7 @@ use crate::edit::put;
 use crate::failure::Failure;
 use crate::joining::joined;
 use crate::next::Next;
-use crate::taking::{give, sum, takes_none, takes_one, takes_reach};
+use crate::taking::{give, given, sum, takes_none, takes_one, takes_reach};
 use crate::terminal::Terminal;
 use crate::typing::show;
 use teco_core::{Args, Code, Level, Reg};
@@ -28,6 +28,16 @@ fn length_of<D: Desk>(desk: &D, q: Reg) -> usize
     desk.registers().value(q).text.len()
 }
 
+/// The number of `q`, or with a colon the length of its text.
+fn value_of<D: Desk>(desk: &D, modifiers: Modifiers, q: Reg) -> i32
+    ensures { result ≡ registers.value_of modifiers q (D.state desk.now) }
+{
+    if modifiers.colons == 1 {
+        return length_of(desk, q) as i32;
+    }
+    desk.registers().number(q)
+}
+
 /// `Qq` gives the number of q, and with a colon the length of its text.
 pub(crate) fn register_value<D: Desk>(
     desk: &D,
@@ -39,11 +49,7 @@ pub(crate) fn register_value<D: Desk>(
         (D.follows desk.now) (D.follows desk.now) result }
     ensures no_memory { result ≡ Err Memory → ⊥ }
 {
-    if modifiers.colons == 1 {
-        give(args, length_of(desk, q) as i32)?;
-    } else {
-        give(args, desk.registers().number(q))?;
-    }
+    give(args, value_of(desk, modifiers, q))?;
     Ok(Next::On)
 }
 
@@ -86,9 +92,8 @@ fn add_one<D: Desk>(desk: &mut D, q: Reg, args: &mut Args) -> Result<Next, Failu
     ensures { Acts (goes (registers.adds q (pos 1))) (D.state desk.old) (D.state desk.new) (arguments args.old) (arguments args.new)
         (D.follows desk.old) (D.follows desk.new) result }
 {
-    let mut left = *args;
     let sum = sum(desk.registers().number(q), 1)?;
-    give(&mut left, sum)?;
+    let left = given(args, sum)?;
     desk.set_number(q, sum)?;
     *args = left;
     Ok(Next::On)

@@ -1,10 +1,11 @@
 //! What commands take: a number, a byte, a place, or a range of the text.
-ghost use Rattle.std.specs.Prelude.{◌≡◌, ◌<◌, ◌≤◌, ◌^◌, ◌+ℤ◌, false, length, IfErr, IfOk, Ok, OnErr, OnOk};
+ghost use Rattle.std.specs.Prelude.{◌≡◌, ◌<◌, ◌≤◌, ◌^◌, ◌+ℤ◌, ◌-ℤ◌, false, length, IfErr, IfOk, Ok, OnErr, OnOk, pos};
 ghost use Rattle.teco_core.specs.Arguments.{close_level, comma, give, give_pair, open_level, operate, taken_from};
 ghost use Rattle.teco_core.specs.ArgumentsView.{arguments};
 ghost use Rattle.teco_core.specs.Number as number;
 ghost use Rattle.teco_core.specs.Number.{decimal_value, fitted};
 ghost use Rattle.teco_core.specs.declared.arguments.Taken.TheVariants.{Two};
+ghost use Rattle.teco_core.specs.declared.code.Code.TheVariants.{Pop};
 ghost use Rattle.teco_core.specs.declared.limits.TheConstants.{TEXT_LIMIT};
 ghost use Rattle.teco_step.specs.Families.{IsRefusal, Takes, range_of};
 ghost use Rattle.teco_step.specs.Line.{line};
@@ -48,6 +49,15 @@ pub(crate) fn give(args: &mut Args, value: i32) -> Result<(), Failure>
     ensures unchanged { OnErr result (args.new ≡ args.old) }
 {
     Ok(args.give(value)?)
+}
+
+/// The arguments with a value given.
+pub(crate) fn given(args: &Args, value: i32) -> Result<Args, Failure>
+    ensures { Takes arguments result (give value (arguments args.now)) }
+{
+    let mut left = *args;
+    give(&mut left, value)?;
+    Ok(left)
 }
 
 /// Lets an operator wait.
@@ -174,6 +184,23 @@ pub(crate) fn place_in<D: Desk>(desk: &D, code: Code, place: i64) -> Result<usiz
     Ok(place as usize)
 }
 
+/// The place `n` characters after the pointer. One outside the text is refused by this code.
+pub(crate) fn place_after<D: Desk>(desk: &D, code: Code, n: i32) -> Result<usize, Failure>
+    requires { is_unfinished_code code ≡ false }
+    ensures value { let s = D.state desk.now in Takes (λ p. p) result (step.place_or code s (pos s.pointer +ℤ n)) }
+    ensures within { IfOk result (λ place. place ≤ length (D.state desk.now).text) }
+{
+    place_in(desk, code, desk.pointer() as i64 + i64::from(n))
+}
+
+/// The place `n` characters before the pointer. One outside the text is [`Code::Pop`].
+pub(crate) fn place_before<D: Desk>(desk: &D, n: i32) -> Result<usize, Failure>
+    ensures value { let s = D.state desk.now in Takes (λ p. p) result (step.place_or Pop s (pos s.pointer -ℤ n)) }
+    ensures within { IfOk result (λ place. place ≤ length (D.state desk.now).text) }
+{
+    place_in(desk, Code::Pop, desk.pointer() as i64 - i64::from(n))
+}
+
 /// The place of line `n`, as seen from the pointer.
 pub(crate) fn line_from<D: Desk>(desk: &D, n: i32) -> usize
     ensures value { let s = D.state desk.now in result ≡ line s.text s.pointer n }
@@ -184,7 +211,7 @@ pub(crate) fn line_from<D: Desk>(desk: &D, n: i32) -> usize
 }
 
 /// From one place up to another.
-fn rising(one: usize, other: usize) -> Range<usize>
+pub(crate) fn rising(one: usize, other: usize) -> Range<usize>
     ensures value { range_of result ≡ step.rising one other }
     ensures ordered { result.start ≤ result.end }
 {

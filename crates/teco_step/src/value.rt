@@ -28,7 +28,20 @@ pub(crate) fn number<D: Desk>(desk: &D, digits: &[u8], args: &mut Args) -> Resul
     Ok(Next::On)
 }
 
-/// `B`, `Z` and `.` give their places, `^E` whether a form feed ended the page, and `^N` whether no input is left.
+/// The places of `B`, `Z` and `.`, whether a form feed ended the page, and whether no input is left.
+fn value_of<D: Desk>(desk: &D, quantity: Quantity) -> i32
+    ensures { result ≡ values.value_of quantity (D.state desk.now) }
+{
+    match quantity {
+        Quantity::Beginning => 0,
+        Quantity::End => text_length(desk) as i32,
+        Quantity::Pointer => desk.pointer() as i32,
+        Quantity::FormFeed => truth(desk.flag()),
+        Quantity::InputEnd => truth(desk.is_input_over()),
+    }
+}
+
+/// `B`, `Z`, `.`, `^E` and `^N` give their value.
 pub(crate) fn quantity<D: Desk>(
     desk: &D,
     quantity: Quantity,
@@ -38,13 +51,7 @@ pub(crate) fn quantity<D: Desk>(
         (D.follows desk.now) (D.follows desk.now) result }
     ensures no_memory { result ≡ Err Memory → ⊥ }
 {
-    match quantity {
-        Quantity::Beginning => give(args, 0)?,
-        Quantity::End => give(args, text_length(desk) as i32)?,
-        Quantity::Pointer => give(args, desk.pointer() as i32)?,
-        Quantity::FormFeed => give(args, truth(desk.flag()))?,
-        Quantity::InputEnd => give(args, truth(desk.is_input_over()))?,
-    }
+    give(args, value_of(desk, quantity))?;
     Ok(Next::On)
 }
 
@@ -83,10 +90,10 @@ fn code_at<D: Desk>(desk: &D, place: i64) -> i32
     ensures { result ≡ values.code_at (D.state desk.now).text place }
 {
     let (before, after) = desk.halves();
-    if place < 0 || place >= (before.len() + after.len()) as i64 {
-        return -1;
+    match usize::try_from(place) {
+        Ok(place) if place < before.len() + after.len() => i32::from(byte_at(before, after, place)),
+        _ => -1,
     }
-    i32::from(byte_at(before, after, place as usize))
 }
 
 /// The code of the character `n` after the pointer, or -1 where none is.
