@@ -1,8 +1,11 @@
-//! Commands that leave an iteration, jump, or run a text. They change no state, and one that is not done keeps the arguments.
+//! Commands that leave an iteration, jump, or run a text. They change no state, and one that is not done keeps the arguments. Only a
+//! text that is run takes memory.
+ghost use Rattle.std.specs.Prelude.{◌≡◌, Err};
 ghost use Rattle.teco_core.specs.ArgumentsView.{arguments};
 ghost use Rattle.teco_step.specs.Control as control;
 ghost use Rattle.teco_step.specs.Families.{Acts};
 ghost use Rattle.teco_step.specs.Step.{steers};
+ghost use Rattle.teco_step.specs.declared.failure.Failure.TheVariants.{Memory};
 
 use crate::failure::Failure;
 use crate::next::Next;
@@ -12,14 +15,15 @@ use teco_core::{Args, Code, Reg};
 use teco_store::Desk;
 
 /// `n;` leaves the innermost iteration where n is at least 0, and without n by the last search result. Where no iteration of the same
-/// text is open it is [`Code::Sni`]. Takes no memory.
+/// text is open it is [`Code::Sni`].
 pub(crate) fn leave_or_not<D: Desk>(
     desk: &D,
     inside: bool,
     args: &mut Args,
 ) -> Result<Next, Failure>
-    ensures { Acts (steers (control.leave_or_not inside)) (D.state desk.now) (D.state desk.now) (arguments args.old) (arguments args.new)
+    ensures does { Acts (steers (control.leave_or_not inside)) (D.state desk.now) (D.state desk.now) (arguments args.old) (arguments args.new)
         (D.follows desk.now) (D.follows desk.now) result }
+    ensures no_memory { result ≡ Err Memory → ⊥ }
 {
     let n = takes_one_or(args, truth(desk.last_result()))?;
     if !inside {
@@ -32,10 +36,11 @@ pub(crate) fn leave_or_not<D: Desk>(
     Ok(Next::Leave)
 }
 
-/// `Oname$` goes on after the tag of the name that the token has. Takes no memory.
+/// `Oname$` goes on after the tag of the name that the token has.
 pub(crate) fn jump_to<D: Desk>(desk: &D, name: &[u8], args: &mut Args) -> Result<Next, Failure>
-    ensures { Acts (steers (control.jump_to name.now)) (D.state desk.now) (D.state desk.now) (arguments args.old) (arguments args.new)
+    ensures does { Acts (steers (control.jump_to name.now)) (D.state desk.now) (D.state desk.now) (arguments args.old) (arguments args.new)
         (D.follows desk.now) (D.follows desk.now) result }
+    ensures no_memory { result ≡ Err Memory → ⊥ }
 {
     takes_none(args)?;
     args.clear();

@@ -105,8 +105,9 @@ fn code_near<D: Desk>(desk: &D, n: i32) -> i32
 
 /// Gives the code of the character `n` after the pointer, in place of what the level has.
 fn give_code<D: Desk>(desk: &D, n: i32, args: &mut Args) -> Result<Next, Failure>
-    ensures { Acts (goes (values.gives_code n)) (D.state desk.now) (D.state desk.now) (arguments args.old) (arguments args.new)
+    ensures does { Acts (goes (values.gives_code n)) (D.state desk.now) (D.state desk.now) (arguments args.old) (arguments args.new)
         (D.follows desk.now) (D.follows desk.now) result }
+    ensures no_memory { result ≡ Err Memory → ⊥ }
 {
     let code = code_near(desk, n);
     give_alone(args, code);
