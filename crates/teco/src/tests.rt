@@ -1,13 +1,10 @@
 //! What no clause says of the crates below: that calls succeed where memory is ample, what is left where it is refused, and rows of
-//! commands with what they do. A row whose call is refused memory is tried a second time.
+//! commands with what they do. A row that is refused memory is tried a second time.
 use std::process::Abort;
 
 mod arguments;
 mod codes;
 mod conditionals;
-mod copies;
-mod editor;
-mod editor_limits;
 mod exits;
 mod failing_terminals;
 mod gap_buffer;
@@ -15,11 +12,10 @@ mod history;
 mod iterations;
 mod jumps;
 mod laws;
+mod limits;
 mod lists_of_blocks;
 mod page_turns;
 mod patterns;
-mod single_steps;
-mod slow_search;
 mod steps;
 mod strings;
 mod terminals;

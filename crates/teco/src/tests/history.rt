@@ -1,7 +1,7 @@
 //! Sessions: strings that are undone and redone, and requests that are refused only where memory is.
 use std::alloc::Global;
 use std::process::Abort;
-use teco_core::{Code, Reg};
+use teco_core::Reg;
 use teco_session::{Answer, Request, Session};
 use teco_step::MemoryTerminal;
 use teco_store::Desk;
@@ -93,59 +93,9 @@ fn plays_in_order(rt: HostRuntime) {
     assert!(rt; played, "refused twice");
 }
 
-/// The answer to a letter: to `{` and `}` of an undo and a redo, to others of a string that inserts the letter.
-fn answer(session: &mut Session, letter: u8, term: &mut MemoryTerminal) -> Answer {
-    match letter {
-        b'{' => session.answer(&Request::Undo, 100, term),
-        b'}' => session.answer(&Request::Redo, 100, term),
-        _ => session.run(&[b'I', letter, 27], 100, term),
-    }
-}
-
 fn has_text(session: &Session, text: &str) -> bool {
     let (before, after) = session.editor().halves();
     before.iter().chain(after.iter()).eq(text.as_bytes().iter())
-}
-
-/// Letters, the code of the last answer, and the text after them.
-type Row<'a> = (&'a str, Option<Code>, &'a str);
-
-fn ends_so(alloc: Global, row: &Row) -> bool {
-    let mut session = Session::new(Vec::new(alloc));
-    let mut term = MemoryTerminal::new(alloc);
-    let mut code = None;
-    for letter in row.0.bytes() {
-        code = answer(&mut session, letter, &mut term).code();
-    }
-    code == row.1 && has_text(&session, row.2)
-}
-
-/// Where memory was refused once, the letters go through the second time.
-fn all_end_so(rt: &impl Abort, alloc: Global, rows: &[Row]) {
-    for row in rows {
-        assert!(rt;
-            ends_so(alloc, row) || ends_so(alloc, row),
-            "after {}",
-            row.0
-        );
-    }
-}
-
-#[test]
-fn letters_come_back(rt: HostRuntime) {
-    all_end_so(
-        &rt,
-        rt.alloc(),
-        &[
-            ("ab", None, "ab"),
-            ("ab{", None, "a"),
-            ("ab{{{", Some(Code::Ntu), ""),
-            ("ab{{}", None, "a"),
-            ("a{}}", Some(Code::Ntr), "a"),
-            ("a{b}", Some(Code::Ntr), "b"),
-            ("abc{{d{}}", Some(Code::Ntr), "ad"),
-        ],
-    );
 }
 
 fn number_of_a(session: &Session) -> i32 {

@@ -4,21 +4,35 @@ use super::strings::{Ran, lacks_memory};
 use std::alloc::Global;
 use std::process::Abort;
 use std::test::*;
-use teco_core::{Code, NoMemory};
+use teco_core::{Code, FILE_LIMIT, NoMemory};
 use teco_exec::{Outcome, run};
 use teco_step::MemoryTerminal;
 use teco_store::{Desk, Editor};
 
-/// What a string leaves over the pages `a` and `b`.
-fn run_over_pages(alloc: Global, text: &str, limit: u64) -> Result<Ran, NoMemory> {
-    let mut editor = Editor::new(Vec::from_slice(alloc, b"a\x0cb")?);
+/// What a string leaves over this input.
+pub(super) fn run_over(
+    alloc: Global,
+    input: Vec<u8>,
+    text: &[u8],
+    limit: u64,
+) -> Result<Ran, NoMemory> {
+    if input.len() > FILE_LIMIT {
+        return Err(NoMemory);
+    }
+    let mut editor = Editor::new(input);
     let mut terminal = MemoryTerminal::new(alloc);
-    let outcome = run(&mut editor, text.as_bytes(), limit, &mut terminal);
+    let outcome = run(&mut editor, text, limit, &mut terminal);
     Ok(Ran {
         editor,
         terminal,
         outcome,
     })
+}
+
+/// What a string leaves over the pages `a` and `b`.
+fn run_over_pages(alloc: Global, row: &Row) -> Result<Ran, NoMemory> {
+    let input = Vec::from_slice(alloc, b"a\x0cb")?;
+    run_over(alloc, input, row.0.as_bytes(), row.1)
 }
 
 /// A text and its limit; the code and the steps of its run, what it types and writes to the output, and whether it exits.
@@ -33,7 +47,7 @@ fn is_so(ran: &Ran, row: &Row) -> bool {
 }
 
 fn ends_so(alloc: Global, row: &Row) -> bool {
-    match run_over_pages(alloc, row.0, row.1) {
+    match run_over_pages(alloc, row) {
         Ok(ran) => !lacks_memory(&ran) && is_so(&ran, row),
         Err(NoMemory) => false,
     }

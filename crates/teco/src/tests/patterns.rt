@@ -5,12 +5,7 @@ use teco_core::{CaseMode, Code};
 use teco_search::{Pattern, count, find, matches_at};
 
 /// The pattern of a text, read a second time where memory was refused; none where the text is refused.
-pub(super) fn pattern(
-    rt: &impl Abort,
-    alloc: Global,
-    text: &[u8],
-    mode: CaseMode,
-) -> Option<Pattern> {
+fn pattern(rt: &impl Abort, alloc: Global, text: &[u8], mode: CaseMode) -> Option<Pattern> {
     assert!(rt; !text.is_empty());
     let read = match Pattern::read(alloc, text, mode) {
         Err(Code::Mem) => Pattern::read(alloc, text, mode),
