@@ -9,7 +9,7 @@ use Rattle.teco_scan.specs.declared.command.Quantity.TheVariants.{Pointer, End, 
 use Rattle.teco_scan.specs.declared.command.Arithmetic.TheVariants.{Operator, Open, Close, Comma}
 use Rattle.teco_scan.specs.declared.command.Command.TheVariants.{Jump, Kill, TypeOut, View, TypeByte, Print, PrintOctal, NextPage, TurnPages, WritePage, Exit, CaseMode, Leave}
 use Rattle.teco_scan.specs.declared.command.RegisterCommand.TheVariants.{Number, Increment, Set, Extract, Macro, Push, Pop}
-use Rattle.teco_scan.specs.declared.command.TextCommand.TheVariants.{Insert, InsertTab, Search, Go}
+use Rattle.teco_scan.specs.declared.command.TextCommand.TheVariants.{Insert, InsertTab, Search, SearchPages, SearchPagesQuietly, Go}
 use Rattle.teco_scan.specs.declared.command.LevelCommand.TheVariants.{Append, Decimal}
 use Rattle.teco_scan.specs.declared.command.BlockMark.TheVariants.{Iterate, EndIteration, Otherwise, EndTest}
 use Rattle.teco_scan.specs.declared.command.Test.TheVariants.{Zero, NotZero, Above, Below, Letter, Digit, LetterOrDigit, Lower, Upper}
@@ -259,6 +259,22 @@ found_searches : scans "Sab$=" (plain (step (text Search (codes "ab"))) "=")
     × scans "@FS/a/b$/2" (at_sign (step (token.replace (codes "a") (keys "b$"))) "2")
 unfolding computing
 found_searches = (refl, refl, refl, refl, refl, refl, refl, refl, refl, refl)
+
+-- searches over pages; N and _ are bytes, and ^N is another command
+found_page_searches : scans "Nab$=" (plain (step (text SearchPages (codes "ab"))) "=")
+    × scans "n$T" (plain (step (text SearchPages [])) "T")
+    × scans "_a$_" (plain (step (text SearchPagesQuietly (codes "a"))) "_")
+    × scans ":Na$" (colon (step (text SearchPages (codes "a"))) "")
+    × scans ":_a$" (colon (step (text SearchPagesQuietly (codes "a"))) "")
+    × scans "@N/a$/2" (at_sign (step (text SearchPages (keys "a$"))) "2")
+    × scans "@_NaN_" (at_sign (step (text SearchPagesQuietly (codes "a"))) "_")
+    × scans "N" (fault Utc)
+    × scans "_a" (fault Utc)
+    × scans "::Na$" (fault Ill)
+    × scans "::_a$" (fault Ill)
+    × scans "^_a$" (fault Ill)
+unfolding computing
+found_page_searches = (refl, refl, refl, refl, refl, refl, refl, refl, refl, refl, refl, refl)
 
 found_no_searches : scans "S" (fault Utc)
     × scans "Sab" (fault Utc)

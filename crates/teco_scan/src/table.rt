@@ -91,6 +91,8 @@ macro_rules! commands {
             One(b'O'), AT, Form::Text(TextCommand::Go, ESC);
             One(b'I'), AT, Form::Text(TextCommand::Insert, ESC);
             One(b'S'), ANY, Form::Text(TextCommand::Search, ESC);
+            One(b'N'), AT_AND_COLON, Form::Text(TextCommand::SearchPages, ESC);
+            One(b'_'), AT_AND_COLON, Form::Text(TextCommand::SearchPagesQuietly, ESC);
             Two(b'F', b'S'), AT_AND_COLON, Form::Replace;
             Control(b'A'), AT, Form::Text(TextCommand::TypeOut, 1);
         }
@@ -105,7 +107,7 @@ macro_rules! rows {
 
 /// Every command but the run of digits. The table is a definition: it says what commands there are. A longer name comes before one
 /// that begins it.
-pub const ROWS: [Row; 58] = commands!(rows);
+pub const ROWS: [Row; 60] = commands!(rows);
 
 // The first row whose name may begin with the byte.
 macro_rules! first_row {

@@ -1,5 +1,6 @@
 //! The occurrences of a pattern, one after the other.
-ghost use Rattle.std.specs.Prelude.{◌≡◌, ◌-◌, ◌<◌, ◌≤◌, length, IfSome, slice_get};
+ghost use Rattle.std.specs.Prelude.{◌≡◌, ◌+◌, ◌-◌, ◌<◌, ◌≤◌, length, IfErr, IfSome, slice_get};
+ghost use Rattle.std.specs.Result.{result_ok};
 ghost use Rattle.teco_search.specs.Occurrence.{BeginsForward, BeginsBackward, forward, before, backward};
 ghost use Rattle.teco_search.specs.Search.{sought_forward, sought_backward, IsReadyForward, IsReadyBackward};
 
@@ -42,24 +43,29 @@ fn first_from(search: &Forward, text: &Joined, from: usize) -> Option<(usize, us
     }
 }
 
-/// The nth occurrence forward.
+/// The nth occurrence forward; or, where there are fewer, how many of the n are wanted still. The text is passed once.
 pub(crate) fn nth_forward(
     search: &Forward,
     text: &Joined,
     from: usize,
     n: u32,
-) -> Option<(usize, usize)>
+) -> Result<(usize, usize), u32>
     requires ready { IsReadyForward search.now }
     requires within { from ≤ length text.now }
     requires some { 0 < n }
-    ensures { result ≡ slice_get (forward (sought_forward search.now) text.now from) (n - 1) }
+    ensures found { result_ok result ≡ slice_get (forward (sought_forward search.now) text.now from) (n - 1) }
+    ensures fewer { IfErr result (λ wanted. wanted + length (forward (sought_forward search.now) text.now from) ≡ n) }
 {
     let mut at = from;
-    'skipped: for _passed in 1..n {
-        let (_, end) = first_from(search, text, at)?;
+    let mut wanted = n;
+    'wanted: while let Some((start, end)) = first_from(search, text, at) {
+        if wanted == 1 {
+            return Ok((start, end));
+        }
+        wanted -= 1;
         at = end;
     }
-    first_from(search, text, at)
+    Err(wanted)
 }
 
 /// How many occurrences there are forward.
