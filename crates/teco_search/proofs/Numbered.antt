@@ -1,19 +1,20 @@
 -- The nth occurrence, by the number's sign.
-use Rattle.std.proofs.Common.{◌≡◌, ◌≢◌, ℕ, zero, suc, ◌-◌, ◌<◌, ◌≤◌, List, Option, length, true, false, sym, ap, subst, ◌∙◌, refl, arith, pos, negsuc}
+use Rattle.std.proofs.Common.{◌≡◌, ◌≢◌, ℕ, zero, suc, ◌-◌, ◌<◌, ◌≤◌, List, Option, length, false, sym, ap, subst, ◌∙◌, refl, arith, pos, negsuc}
 use Rattle.std.specs.Prelude.{ℤ, slice_get, IfSome}
-use Rattle.std.proofs.lemmas.Bool.{true≢false, false≢true, lt-ltb}
+use Rattle.std.proofs.lemmas.Bool.{true≢false, lt-ltb}
+use Rattle.std.proofs.lemmas.Int.{ints}
 use Rattle.teco_search.specs.Occurrence.{Sought, Span, forward, backward, occurrence}
 use Rattle.teco_search.specs.Law.{FindsNext, FindsLastBy}
 use Rattle.teco_search.proofs.Laws.{finds_next, finds_last, nth_forward_long, nth_backward_long}
-use lib.Signed.{lt_z}
+use lib.Signed.{lt_z, ◌<ℤ◌}
 use lib.IntN.{nat_abs}
 
 module _ (sought : Sought) (text : List ℕ) (from : ℕ) where
-  pub occurrence_forward : (z : ℤ) (m : ℕ) → lt_z (pos 0) z ≡ true → m ≡ nat_abs z → slice_get (forward sought text from) (m - 1) ≡ occurrence sought text from z
+  pub occurrence_forward : (z : ℤ) (m : ℕ) → pos 0 <ℤ z → m ≡ nat_abs z → slice_get (forward sought text from) (m - 1) ≡ occurrence sought text from z
   unfolding occurrence
-  occurrence_forward (pos zero) m above is = absurd (false≢true above)
+  occurrence_forward (pos zero) m above is = absurd (omega (arith, ints))
   occurrence_forward (pos (suc n)) m above is = let one_less : m - 1 ≡ n = omega (arith, is) in ap (slice_get (forward sought text from)) one_less
-  occurrence_forward (negsuc n) m above is = absurd (false≢true above)
+  occurrence_forward (negsuc n) m above is = absurd (omega (arith, ints))
 
   pub occurrence_backward : (z : ℤ) (m : ℕ) → lt_z (pos 0) z ≡ false → z ≢ pos 0 → m ≡ nat_abs z → slice_get (backward sought text from) (m - 1) ≡ occurrence sought text from z
   unfolding occurrence

@@ -16,4 +16,4 @@ mod search;
 
 pub use element::{Class, Element, Item, Items, OneByte};
 pub use law::{occurrences, search_texts};
-pub use pattern::{Pattern, count, find, matches_at};
+pub use pattern::{Pattern, count, find, find_forward, matches_at};

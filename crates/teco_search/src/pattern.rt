@@ -1,7 +1,8 @@
 //! Search texts that have been read.
-ghost use Rattle.std.specs.Prelude.{◌≡◌, ◌⊎◌, ◌++◌, ◌<◌, ◌≤◌, length, IfOk, IfErr, IfSome, Ok, Err, ◌≢◌, pos, negsuc, Some};
+ghost use Rattle.std.specs.Prelude.{◌≡◌, ◌⊎◌, ◌++◌, ◌<◌, ◌≤◌, ◌<ℤ◌, ◌-ℤ◌, length, IfOk, IfErr, IfSome, Ok, Err, ◌≢◌, pos, negsuc, Some};
 ghost use Rattle.std.specs.Fmt.{WritesOnOk};
 ghost use Rattle.std.specs.List.{flat_map};
+ghost use Rattle.std.specs.Result.{result_ok};
 ghost use Rattle.teco_search.specs.Law.{FindsNext, FindsLastBy};
 ghost use Rattle.teco_search.specs.Occurrence.{match_end, forward, occurrence};
 ghost use Rattle.teco_search.specs.Search.{sought_forward, sought_backward, IsReadyForward, IsReadyBackward};
@@ -158,11 +159,32 @@ pub fn find(
     ensures next { n ≡ pos 1 → FindsNext pattern.now (halves.entry.0.now ++ halves.entry.1.now) from result }
     ensures last { n ≡ negsuc 0 → FindsLastBy pattern.now (halves.entry.0.now ++ halves.entry.1.now) from result }
 {
-    let text = Joined::new(halves.0, halves.1);
     if n > 0 {
-        nth_forward(&pattern.forward(), &text, from, n.unsigned_abs())
-    } else {
-        nth_backward(&pattern.backward(), &text, from, n.unsigned_abs())
+        return find_forward(pattern, halves, from, n).ok();
+    }
+    let text = Joined::new(halves.0, halves.1);
+    nth_backward(&pattern.backward(), &text, from, n.unsigned_abs())
+}
+
+/// The nth occurrence forward from a place of the text that the two halves are together, as its start and its end; or, where there are
+/// fewer, how many of the n are wanted still. The text is passed once. Takes no memory.
+pub fn find_forward(
+    pattern: &Pattern,
+    halves: (&[u8], &[u8]),
+    from: usize,
+    n: i32,
+) -> Result<(usize, usize), i32>
+    requires within { from ≤ length (halves.0.now ++ halves.1.now) }
+    requires some { pos 0 <ℤ n }
+    ensures value { result_ok result ≡ occurrence pattern.now (halves.entry.0.now ++ halves.entry.1.now) from n }
+    ensures within { IfOk result (λ m. (m.0 < m.1) × (m.1 ≤ length (halves.entry.0.now ++ halves.entry.1.now))) }
+    ensures next { n ≡ pos 1 → FindsNext pattern.now (halves.entry.0.now ++ halves.entry.1.now) from (result_ok result) }
+    ensures fewer { IfErr result (λ wanted. wanted ≡ n -ℤ pos (length (forward pattern.now (halves.entry.0.now ++ halves.entry.1.now) from))) }
+{
+    let text = Joined::new(halves.0, halves.1);
+    match nth_forward(&pattern.forward(), &text, from, n.unsigned_abs()) {
+        Ok(found) => Ok(found),
+        Err(wanted) => Err(wanted as i32),
     }
 }
 
