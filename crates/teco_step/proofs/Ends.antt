@@ -22,8 +22,10 @@ use Rattle.teco_scan.specs.Scan as token
 use Rattle.teco_step.specs.Effect.{effect, command_effect, bare_effect, register_effect, text_effect, item_effect}
 use Rattle.teco_step.specs.Step.{Setting, Attempt, Made, Action, goes, steers, goes_on, done_by, End, on, leave, go, again, stop, settled, ends, takes_none, takes_one_or}
 use Rattle.teco_step.specs.Searching.{search_or_compare, search_and_replace}
+use Rattle.teco_step.specs.PageSearching.{search_pages}
 use Rattle.teco_step.proofs.Searches.{Searches, searches, replacement_searches}
-use Rattle.teco_step.specs.Pages.{after_page, pages_left, with_output_in_limit, with_page_turned}
+use Rattle.teco_step.proofs.PageSearches.{turned_searches, read_searches}
+use Rattle.teco_step.specs.Pages.{after_page, pages_left, with_output_in_limit, with_page_read, with_page_turned}
 use Rattle.teco_step.specs.declared.next.Work.{Work}
 use Rattle.teco_step.specs.Stepping.{may_go_further, name_of, takes_nothing}
 
@@ -65,9 +67,10 @@ ends_then inside i (Err c) f h = tt
 pages_end : (inside : Bool) (i : Item) (n : ℤ) → may_go_further i ≡ true → MayEnd inside i (after_page n)
 pages_end inside i n may = elim (int_le n (pos 1)) as (λ b. MayEnd inside i (cond b on (again (record { left = n -ℤ pos 1; search = false })))) [ true ↦ tt | false ↦ may ]
 
-search_ends : (inside : Bool) (i : Item) (s : State) (t : Attempt) → Searches s t → AttemptMayEnd inside i t
+search_ends : (inside : Bool) (i : Item) (s : State) (t : Attempt) → Searches (may_go_further i) s t → AttemptMayEnd inside i t
 search_ends inside i s (Ok step) (inl e, keeps) = subst (λ (end : End). MayEnd inside i end) (sym e) tt
-search_ends inside i s (Ok step) (inr e, keeps) = subst (λ (end : End). MayEnd inside i end) (sym e) tt
+search_ends inside i s (Ok step) (inr (inl e), keeps) = subst (λ (end : End). MayEnd inside i end) (sym e) tt
+search_ends inside i s (Ok step) (inr (inr (may, work, e)), keeps) = subst (λ (end : End). MayEnd inside i end) (sym e) may
 search_ends inside i s (Err c) h = tt
 
 -- the actions that say how they end, as the effect dispatches them
@@ -94,14 +97,16 @@ register_ends _ q w = tt
 
 text_ends : (c : TextCommand) (text : List ℕ) (w : Setting) → ActionMayEnd w.inside (token.text c text) (text_effect c text w)
 text_ends text_command.Go text w = λ s a. ends_then w.inside (token.text text_command.Go text) (takes_none a) _ (λ none. refl)
-text_ends text_command.Search text w = λ s a. search_ends w.inside (token.text text_command.Search text) s (search_or_compare text w s a) (searches text w s a)
+text_ends text_command.Search text w = λ s a. search_ends w.inside (token.text text_command.Search text) s (search_or_compare text w s a) (searches false text w s a)
+text_ends text_command.SearchPages text w = λ s a. search_ends w.inside (token.text text_command.SearchPages text) s (search_pages with_page_turned text w s a) (turned_searches text w s a)
+text_ends text_command.SearchPagesQuietly text w = λ s a. search_ends w.inside (token.text text_command.SearchPagesQuietly text) s (search_pages with_page_read text w s a) (read_searches text w s a)
 text_ends _ text w = tt
 
 item_ends : (i : Item) (w : Setting) → ActionMayEnd w.inside i (item_effect i w)
 item_ends (token.bare b) w = bare_ends b w
 item_ends (token.register c q) w = register_ends c q w
 item_ends (token.text c text) w = text_ends c text w
-item_ends (token.replace old new) w = λ s a. search_ends w.inside (token.replace old new) s (search_and_replace old new w s a) (replacement_searches old new w s a)
+item_ends (token.replace old new) w = λ s a. search_ends w.inside (token.replace old new) s (search_and_replace old new w s a) (replacement_searches false old new w s a)
 item_ends _ w = tt
 
 settled_ends : (inside : Bool) (i : Item) (t : Attempt) (s : State) (a : Arguments) → AttemptMayEnd inside i t → MayEnd inside i (settled s a t).end

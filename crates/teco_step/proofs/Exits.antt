@@ -21,10 +21,12 @@ use Rattle.teco_scan.specs.Scan.{Item}
 use Rattle.teco_scan.specs.Scan as token
 use Rattle.teco_step.specs.Effect.{effect, command_effect, bare_effect, register_effect, text_effect, item_effect}
 use Rattle.teco_step.specs.Editing.{with_text_in_limit}
-use Rattle.teco_step.specs.Pages.{after_page, pages_left, with_output_in_limit, with_page_turned}
+use Rattle.teco_step.specs.Pages.{after_page, pages_left, with_output_in_limit, with_page_read, with_page_turned}
 use Rattle.teco_step.specs.Step.{Setting, Attempt, Made, Action, goes, steers, goes_on, done_by, on, leave, out, settled, ends, takes_none, takes_one_or}
 use Rattle.teco_step.specs.Searching.{search_or_compare, search_and_replace}
+use Rattle.teco_step.specs.PageSearching.{search_pages}
 use Rattle.teco_step.proofs.Searches.{Searches, searches, replacement_searches}
+use Rattle.teco_step.proofs.PageSearches.{turned_searches, read_searches}
 
 -- it left the session as done as it was, unless it ends by an exit
 abbrev Keeps : State → Attempt → Type 0
@@ -53,9 +55,9 @@ leave_keeps : (inside left : Bool) (s : State) → Keeps s (cond inside (ends s 
 leave_keeps true left s = λ stays. refl
 leave_keeps false left s = tt
 
-search_keeps : (s : State) (t : Attempt) → Searches s t → Keeps s t
-search_keeps s (Ok step) (e, keeps) = λ stays. keeps
-search_keeps s (Err c) h = tt
+search_keeps : (further : Bool) (s : State) (t : Attempt) → Searches further s t → Keeps s t
+search_keeps further s (Ok step) (e, keeps) = λ stays. keeps
+search_keeps further s (Err c) h = tt
 
 -- a state that is within its limits
 keeps_within : (s t : State) (b : Bool) (f : State → Attempt) → Keeps s (f t) → Keeps s (cond b (Ok t) (Err code.Big) >>= f)
@@ -91,14 +93,16 @@ register_keeps _ q w = tt
 
 text_keeps : (c : TextCommand) (text : List ℕ) (w : Setting) → ActionKeeps (text_effect c text w)
 text_keeps text_command.Go text w = λ s a. keeps_then s (takes_none a) _ (λ none stays. refl)
-text_keeps text_command.Search text w = λ s a. search_keeps s (search_or_compare text w s a) (searches text w s a)
+text_keeps text_command.Search text w = λ s a. search_keeps false s (search_or_compare text w s a) (searches false text w s a)
+text_keeps text_command.SearchPages text w = λ s a. search_keeps true s (search_pages with_page_turned text w s a) (turned_searches text w s a)
+text_keeps text_command.SearchPagesQuietly text w = λ s a. search_keeps true s (search_pages with_page_read text w s a) (read_searches text w s a)
 text_keeps _ text w = tt
 
 item_keeps : (i : Item) (w : Setting) → ActionKeeps (item_effect i w)
 item_keeps (token.bare b) w = bare_keeps b w
 item_keeps (token.register c q) w = register_keeps c q w
 item_keeps (token.text c text) w = text_keeps c text w
-item_keeps (token.replace old new) w = λ s a. search_keeps s (search_and_replace old new w s a) (replacement_searches old new w s a)
+item_keeps (token.replace old new) w = λ s a. search_keeps false s (search_and_replace old new w s a) (replacement_searches false old new w s a)
 item_keeps _ w = tt
 
 settled_keeps : (t : Attempt) (s : State) (a : Arguments) → Keeps s t → (settled s a t).end ≢ out → (settled s a t).state.is_done ≡ s.is_done

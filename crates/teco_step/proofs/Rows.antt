@@ -3,7 +3,7 @@ use Rattle.std.proofs.Common.{◌≡◌, ℕ, ◌+◌, ◌^◌, ◌-◌, List, [
 use Rattle.std.specs.Prelude.{codes}
 use Rattle.std.specs.Fmt.{digits}
 use Rattle.teco_core.specs.declared.code.Code.{Code}
-use Rattle.teco_core.specs.declared.code.Code.TheVariants.{Arg, Big, Dvz, Iia, Ill, Mrp, Nae, Nau, Ovf, Pop, Sni}
+use Rattle.teco_core.specs.declared.code.Code.TheVariants.{Arg, Big, Dvz, Iia, Mrp, Nae, Nau, Ovf, Pop, Sni}
 use Rattle.teco_core.specs.declared.number.Op.TheVariants.{Over, Plus}
 use Rattle.teco_core.specs.declared.arguments.Expression.TheVariants.{Nothing, Number, Operation, Signed}
 use Rattle.teco_core.specs.declared.arguments.Sign.TheVariants.{Negative}
@@ -15,7 +15,7 @@ use Rattle.teco_scan.specs.declared.command.Arithmetic.TheVariants.{Operator}
 use Rattle.teco_scan.specs.declared.command.Quantity.TheVariants as quantity
 use Rattle.teco_scan.specs.declared.command.Command.TheVariants as command
 use Rattle.teco_scan.specs.declared.command.RegisterCommand.TheVariants as register_command
-use Rattle.teco_scan.specs.declared.command.TextCommand.TheVariants.{Insert, Go, SearchPages}
+use Rattle.teco_scan.specs.declared.command.TextCommand.TheVariants.{Insert, Go}
 use Rattle.teco_scan.specs.Scan.{Item, no_modifiers}
 use Rattle.teco_scan.specs.Scan as token
 use Rattle.teco_core.specs.declared.limits.TheConstants.{TEXT_LIMIT}
@@ -180,10 +180,6 @@ row_print = refl
 row_print_nothing : does (token.bare (bare.Command command.Print)) (holds (codes "abc") 1) (no_arguments) ≡ refused (holds (codes "abc") 1) no_arguments Nae
 unfolding effect give operate taken_from digits_value line_ends_from
 row_print_nothing = refl
-
-row_not_built : does (token.text SearchPages (codes "x")) (holds (codes "abc") 1) (no_arguments) ≡ refused (holds (codes "abc") 1) no_arguments Ill
-unfolding effect give operate taken_from digits_value line_ends_from
-row_not_built = refl
 
 -- the register A holds these, the others nothing
 abbrev pub keeps : ℤ → List ℕ → State

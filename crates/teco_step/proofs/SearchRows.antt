@@ -33,14 +33,14 @@ abbrev after_search : String → ℕ → String → Bool → State
 after_search written place last is_found = record (holds (codes written) place) { last_search = Some (codes last); last_found = is_found }
 
 -- with so many colons; in an iteration, and before a ;
-abbrev colons : ℕ → Setting
+abbrev pub colons : ℕ → Setting
 colons n = record alone { modifiers = record { at = false; colons = n } }
 
-abbrev around : Bool → Bool → Setting
+abbrev pub around : Bool → Bool → Setting
 around inside before = record alone { inside = inside; before = before }
 
 -- it fails
-abbrev failed : State → ℕ → Step
+abbrev pub failed : State → ℕ → Step
 failed s load = record { state = s; arguments = no_arguments; typed = []; load = load; end = stop Srh }
 
 -- the nth from the pointer, forward and backward

@@ -1,4 +1,4 @@
--- How a search ends: it goes on or fails, and leaves the session as done as it was.
+-- How a search ends: it goes on or fails, or has a further step where it may; and it leaves the session as done as it was.
 use Rattle.std.proofs.Common.{◌≡◌, ◌⊎◌, inl, inr, refl, ℕ, ◌-◌, List, length, Option, None, Some, Result, Ok, Err, Bool, true, false, cond}
 use Rattle.std.specs.Prelude.{nat_le}
 use Rattle.teco_core.specs.declared.code.Code.{Code}
@@ -11,79 +11,82 @@ use Rattle.teco_store.specs.State.{State}
 use Rattle.teco_step.specs.Editing.{with_text_in_limit}
 use Rattle.teco_core.specs.declared.limits.TheConstants.{TEXT_LIMIT}
 use Rattle.teco_step.specs.Searching.{with_search_in_limit, notes, noted_text, answer, answers, end_failed, found, sought, searched, search, compared, compare, search_or_compare, replaces, replaced_or_not, search_and_replace}
-use Rattle.teco_step.specs.Step.{Attempt, End, Setting, on, stop, takes_none}
+use Rattle.teco_step.specs.Step.{Attempt, End, Setting, on, again, stop, takes_none}
+use Rattle.teco_step.specs.declared.next.Work.{Work}
 
-abbrev EndsSearch : End → Type 0
-EndsSearch end = (end ≡ on) ⊎ (end ≡ stop Srh)
+-- by a further step only where it may have one
+abbrev EndsSearch : Bool → End → Type 0
+EndsSearch further end = (end ≡ on) ⊎ ((end ≡ stop Srh) ⊎ ((further ≡ true) × (work : Work) × (end ≡ again work)))
 
-abbrev pub Searches : State → Attempt → Type 0
-Searches s (Ok step) = EndsSearch step.end × (step.state.is_done ≡ s.is_done)
-Searches s (Err c) = Unit {0}
-
--- one thing after another, and a choice
-then_searches : {A : Type 0} (s : State) (r : Result A Code) (f : A → Attempt) → ((x : A) → Searches s (f x)) → Searches s (r >>= f)
-then_searches s (Ok x) f h = h x
-then_searches s (Err c) f h = tt
-
-if_searches : (s : State) (b : Bool) (x y : Attempt) → Searches s x → Searches s y → Searches s (cond b x y)
-if_searches s true x y p q = p
-if_searches s false x y p q = q
-
-on_or_fails : (b : Bool) → EndsSearch (cond b on (stop Srh))
-on_or_fails true = inl refl
-on_or_fails false = inr refl
+abbrev pub Searches : Bool → State → Attempt → Type 0
+Searches further s (Ok step) = EndsSearch further step.end × (step.state.is_done ≡ s.is_done)
+Searches further s (Err c) = Unit {0}
 
 -- a state that is refused past its limit
-abbrev KeepsDone : State → Result State Code → Type 0
+abbrev pub KeepsDone : State → Result State Code → Type 0
 KeepsDone s (Ok t) = t.is_done ≡ s.is_done
 KeepsDone s (Err c) = Unit {0}
 
-if_keeps : (s t : State) (within : Bool) → t.is_done ≡ s.is_done → KeepsDone s (cond within (Ok t) (Err Big))
+pub if_keeps : (s t : State) (within : Bool) → t.is_done ≡ s.is_done → KeepsDone s (cond within (Ok t) (Err Big))
 if_keeps s t true h = h
 if_keeps s t false h = tt
 
-text_keeps : (s t : State) → t.is_done ≡ s.is_done → KeepsDone s (with_text_in_limit t)
+pub text_keeps : (s t : State) → t.is_done ≡ s.is_done → KeepsDone s (with_text_in_limit t)
 text_keeps s t h = if_keeps s t (nat_le (length t.text) TEXT_LIMIT) h
 
 search_keeps : (s t : State) → t.is_done ≡ s.is_done → KeepsDone s (with_search_in_limit t)
 search_keeps s t h = if_keeps s t (nat_le (length_of t.last_search) TEXT_LIMIT) h
 
-state_searches : (s : State) (r : Result State Code) (f : State → Attempt) → KeepsDone s r → ((t : State) → t.is_done ≡ s.is_done → Searches s (f t)) → Searches s (r >>= f)
-state_searches s (Ok t) f keeps h = h t keeps
-state_searches s (Err c) f keeps h = tt
+module _ (further : Bool) where
+  -- one thing after another, and a choice
+  pub then_searches : {A : Type 0} (s : State) (r : Result A Code) (f : A → Attempt) → ((x : A) → Searches further s (f x)) → Searches further s (r >>= f)
+  then_searches s (Ok x) f h = h x
+  then_searches s (Err c) f h = tt
 
-notes_searches : (text : List ℕ) (is_found : Bool) (place : ℕ) (a : Arguments) (end : End) (s : State) → EndsSearch end → Searches s (notes text is_found place a end s)
-notes_searches text is_found place a end s h =
-    let t : State = noted s (noted_text text) is_found place in
-    state_searches s (with_search_in_limit t) _ (search_keeps s t refl) (λ u keeps. (h, keeps))
+  pub if_searches : (s : State) (b : Bool) (x y : Attempt) → Searches further s x → Searches further s y → Searches further s (cond b x y)
+  if_searches s true x y p q = p
+  if_searches s false x y p q = q
 
-searched_searches : (text : List ℕ) (w : Setting) (m : Option Span) (s : State) (a : Arguments) → Searches s (searched text w m s a)
-searched_searches text w None s a = notes_searches text false 0 (answers w false) (end_failed w) s (on_or_fails _)
-searched_searches text w (Some m) s a = notes_searches text true m.1 (answers w true) on s (inl refl)
+  on_or_fails : (b : Bool) → EndsSearch further (cond b on (stop Srh))
+  on_or_fails true = inl refl
+  on_or_fails false = inr (inl refl)
 
-compared_searches : (text : List ℕ) (end : Option ℕ) (s : State) → Searches s (compared text end s)
-compared_searches text None s = notes_searches text false s.pointer (answer false) on s (inl refl)
-compared_searches text (Some end) s = notes_searches text true end (answer true) on s (inl refl)
+  pub state_searches : (s : State) (r : Result State Code) (f : State → Attempt) → KeepsDone s r → ((t : State) → t.is_done ≡ s.is_done → Searches further s (f t)) → Searches further s (r >>= f)
+  state_searches s (Ok t) f keeps h = h t keeps
+  state_searches s (Err c) f keeps h = tt
 
-search_searches : (text : List ℕ) (w : Setting) (s : State) (a : Arguments) → Searches s (search text w s a)
-search_searches text w s a = then_searches s (found text s a) _ (λ m. searched_searches text w m s a)
+  pub notes_searches : (text : List ℕ) (is_found : Bool) (place : ℕ) (a : Arguments) (end : End) (s : State) → EndsSearch further end → Searches further s (notes text is_found place a end s)
+  notes_searches text is_found place a end s h =
+      let t : State = noted s (noted_text text) is_found place in
+      state_searches s (with_search_in_limit t) _ (search_keeps s t refl) (λ u keeps. (h, keeps))
 
-compare_searches : (text : List ℕ) (s : State) (a : Arguments) → Searches s (compare text s a)
-compare_searches text s a =
-    then_searches s (takes_none a) _ (λ none. then_searches s (sought text s) _ (λ w. compared_searches text (match_end w.mode w.elements s.text s.pointer) s))
+  pub searched_searches : (text : List ℕ) (w : Setting) (m : Option Span) (s : State) (a : Arguments) → Searches further s (searched text w m s a)
+  searched_searches text w None s a = notes_searches text false 0 (answers w false) (end_failed w) s (on_or_fails _)
+  searched_searches text w (Some m) s a = notes_searches text true m.1 (answers w true) on s (inl refl)
 
-pub searches : (text : List ℕ) (w : Setting) (s : State) (a : Arguments) → Searches s (search_or_compare text w s a)
-searches text w s a = if_searches s _ (compare text s a) (search text w s a) (compare_searches text s a) (search_searches text w s a)
+  compared_searches : (text : List ℕ) (end : Option ℕ) (s : State) → Searches further s (compared text end s)
+  compared_searches text None s = notes_searches text false s.pointer (answer false) on s (inl refl)
+  compared_searches text (Some end) s = notes_searches text true end (answer true) on s (inl refl)
 
-replaces_searches : (text bytes : List ℕ) (w : Setting) (m : Span) (s : State) → Searches s (replaces text bytes w m s)
-replaces_searches text bytes w m s =
-    let t : State = replaced_noted s (noted_text text) m.0 (m.1 - m.0) bytes in
-    state_searches s (with_text_in_limit t) _ (text_keeps s t refl)
-    (λ u keeps. state_searches s (with_search_in_limit u) _ (search_keeps s u keeps) (λ v still. (inl refl, still)))
+  search_searches : (text : List ℕ) (w : Setting) (s : State) (a : Arguments) → Searches further s (search text w s a)
+  search_searches text w s a = then_searches s (found text s a) _ (λ m. searched_searches text w m s a)
 
-replaced_or_not_searches : (text bytes : List ℕ) (w : Setting) (m : Option Span) (s : State) (a : Arguments) → Searches s (replaced_or_not text bytes w m s a)
-replaced_or_not_searches text bytes w None s a = searched_searches text w None s a
-replaced_or_not_searches text bytes w (Some m) s a = replaces_searches text bytes w m s
+  compare_searches : (text : List ℕ) (s : State) (a : Arguments) → Searches further s (compare text s a)
+  compare_searches text s a =
+      then_searches s (takes_none a) _ (λ none. then_searches s (sought text s) _ (λ w. compared_searches text (match_end w.mode w.elements s.text s.pointer) s))
 
-pub replacement_searches : (text bytes : List ℕ) (w : Setting) (s : State) (a : Arguments) → Searches s (search_and_replace text bytes w s a)
-replacement_searches text bytes w s a = then_searches s (found text s a) _ (λ m. replaced_or_not_searches text bytes w m s a)
+  pub searches : (text : List ℕ) (w : Setting) (s : State) (a : Arguments) → Searches further s (search_or_compare text w s a)
+  searches text w s a = if_searches s _ (compare text s a) (search text w s a) (compare_searches text s a) (search_searches text w s a)
+
+  replaces_searches : (text bytes : List ℕ) (w : Setting) (m : Span) (s : State) → Searches further s (replaces text bytes w m s)
+  replaces_searches text bytes w m s =
+      let t : State = replaced_noted s (noted_text text) m.0 (m.1 - m.0) bytes in
+      state_searches s (with_text_in_limit t) _ (text_keeps s t refl)
+      (λ u keeps. state_searches s (with_search_in_limit u) _ (search_keeps s u keeps) (λ v still. (inl refl, still)))
+
+  replaced_or_not_searches : (text bytes : List ℕ) (w : Setting) (m : Option Span) (s : State) (a : Arguments) → Searches further s (replaced_or_not text bytes w m s a)
+  replaced_or_not_searches text bytes w None s a = searched_searches text w None s a
+  replaced_or_not_searches text bytes w (Some m) s a = replaces_searches text bytes w m s
+
+  pub replacement_searches : (text bytes : List ℕ) (w : Setting) (s : State) (a : Arguments) → Searches further s (search_and_replace text bytes w s a)
+  replacement_searches text bytes w s a = then_searches s (found text s a) _ (λ m. replaced_or_not_searches text bytes w m s a)

@@ -12,14 +12,15 @@ use Rattle.teco_scan.specs.Scan.{Item}
 use Rattle.teco_scan.specs.Scan as token
 use Rattle.teco_core.specs.Arguments.{Arguments}
 use Rattle.teco_store.specs.State.{State}
-use Rattle.teco_step.specs.Step.{Setting, Step, Action, goes, steers, done_by, settled, none_such}
+use Rattle.teco_step.specs.Step.{Setting, Step, Action, goes, steers, done_by, settled}
 use Rattle.teco_step.specs.Values.{number, give_quantity, build, give_byte, at_level}
 use Rattle.teco_step.specs.Editing.{jump, forward, back, to_line, delete, kill, insert, insert_tab}
 use Rattle.teco_step.specs.Typing.{type_out, view, type_text, type_byte, print, print_octal}
 use Rattle.teco_step.specs.Registers.{register_value, set_number, increment, set_text, extract, push, pop, get}
 use Rattle.teco_step.specs.Searching.{search_or_compare, search_and_replace}
 use Rattle.teco_step.specs.Control.{leave_or_not, jump_to, run_register}
-use Rattle.teco_step.specs.Pages.{next_page, turn_pages, write_page, exit}
+use Rattle.teco_step.specs.Pages.{next_page, turn_pages, with_page_read, with_page_turned, write_page, exit}
+use Rattle.teco_step.specs.PageSearching.{search_pages}
 use Rattle.teco_step.specs.Case.{set_case}
 
 -- Commands without an operand.
@@ -65,7 +66,8 @@ text_effect text_command.InsertTab text w = goes (insert_tab text)
 text_effect text_command.TypeOut text w = goes (type_text text)
 text_effect text_command.Go text w = steers (jump_to text)
 text_effect text_command.Search text w = steers (search_or_compare text w)
-text_effect c text w = none_such
+text_effect text_command.SearchPages text w = steers (search_pages with_page_turned text w)
+text_effect text_command.SearchPagesQuietly text w = steers (search_pages with_page_read text w)
 
 abbrev pub item_effect : Item → Setting → Action
 item_effect (token.digits ds) w = goes (number ds)

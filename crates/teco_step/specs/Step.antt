@@ -103,9 +103,6 @@ ends s a end = Ok (record { state = s; arguments = a; typed = []; load = 0; end 
 abbrev pub unbuilt : {A : Type 0} → Result A Code
 unbuilt = Err Ill
 
-abbrev pub none_such : Action
-none_such = goes (λ s a. unbuilt)
-
 -- What a command takes: nothing;
 abbrev pub just_none : Taken → Result (Unit {0}) Code
 just_none taken.None = Ok tt

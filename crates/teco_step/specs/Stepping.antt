@@ -8,6 +8,7 @@ use Rattle.teco_scan.specs.Scan as token
 use Rattle.teco_scan.specs.declared.command.Bare.TheVariants as bare
 use Rattle.teco_scan.specs.declared.command.Command.TheVariants as command
 use Rattle.teco_scan.specs.declared.command.RegisterCommand.TheVariants as register_command
+use Rattle.teco_scan.specs.declared.command.TextCommand.TheVariants as text_command
 use Rattle.teco_store.specs.State.{State}
 use Rattle.teco_store.specs.Trail.{Trail, moved}
 use Rattle.teco_step.specs.Terminal.{Shows, IsFrontOf}
@@ -82,9 +83,11 @@ takes_nothing (token.byte b) = true
 takes_nothing (token.register register_command.Number q) = true
 takes_nothing i = false
 
--- The tokens that may have further steps: P turns its pages one by one.
+-- The tokens that may have further steps: P turns its pages one by one, and N and _ search them.
 abbrev pub may_go_further : Item → Bool
 may_go_further (token.bare (bare.Command command.TurnPages)) = true
+may_go_further (token.text text_command.SearchPages text) = true
+may_go_further (token.text text_command.SearchPagesQuietly text) = true
 may_go_further i = false
 
 -- a token that is one step, and whose texts lie in the text

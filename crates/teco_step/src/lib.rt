@@ -11,6 +11,7 @@ mod laws;
 mod line;
 mod memory_terminal;
 mod next;
+mod page_searching;
 mod pages;
 mod registers;
 mod searching;

@@ -30,7 +30,7 @@ fn meant<'a, D: Desk>(desk: &'a D, text: &'a [u8]) -> &'a [u8]
 }
 
 /// What a search looks for. No text, and none before it, is [`Code::Iss`]; a text that spells nothing is [`Code::Ice`].
-fn sought<D: Desk>(desk: &D, text: &[u8]) -> Result<Pattern, Failure>
+pub(crate) fn sought<D: Desk>(desk: &D, text: &[u8]) -> Result<Pattern, Failure>
     ensures ok { IfOk result (λ pattern. searching.sought text.now (D.state desk.now) ≡ Ok pattern) }
     ensures err { IfErr result (λ failure. IsRefusal failure (searching.sought text.now (D.state desk.now)) ⊎ (failure ≡ Memory)) }
 {
@@ -68,7 +68,7 @@ fn found<D: Desk>(desk: &D, text: &[u8], args: &Args) -> Result<Option<(usize, u
 }
 
 /// The text that a search notes: an empty one leaves the last one.
-fn noted_text(text: &[u8]) -> Option<&[u8]>
+pub(crate) fn noted_text(text: &[u8]) -> Option<&[u8]>
     ensures { option_copied result ≡ searching.noted_text text.now }
 {
     if text.is_empty() { None } else { Some(text) }
@@ -94,7 +94,7 @@ fn answer_colon(setting: Setting, found: bool, args: &mut Args)
 }
 
 /// The search failed: the pointer goes to 0, and the string ends unless a colon asks or a `;` comes next in an iteration.
-fn fail<D: Desk>(
+pub(crate) fn fail<D: Desk>(
     desk: &mut D,
     text: &[u8],
     setting: Setting,
@@ -111,6 +111,23 @@ fn fail<D: Desk>(
     Ok(Next::Error(Code::Srh))
 }
 
+/// The search found: the pointer goes to the end of it.
+pub(crate) fn succeed<D: Desk>(
+    desk: &mut D,
+    text: &[u8],
+    end: usize,
+    setting: Setting,
+    args: &mut Args,
+) -> Result<Next, Failure>
+    requires { end ≤ length (D.state desk.old).text }
+    ensures { Acts (steers (λ s _. searching.succeeds text.now setting end s)) (D.state desk.old) (D.state desk.new) (arguments args.old) (arguments args.new)
+        (D.follows desk.old) (D.follows desk.new) result }
+{
+    desk.note_search(noted_text(text), true, end)?;
+    answer_colon(setting, true, args);
+    Ok(Next::On)
+}
+
 /// `nS` looks for the nth occurrence of the text, and puts the pointer after it.
 fn search<D: Desk>(
     desk: &mut D,
@@ -124,9 +141,7 @@ fn search<D: Desk>(
     let Some((_, end)) = found(desk, text, args)? else {
         return fail(desk, text, setting, args);
     };
-    desk.note_search(noted_text(text), true, end)?;
-    answer_colon(setting, true, args);
-    Ok(Next::On)
+    succeed(desk, text, end, setting, args)
 }
 
 /// `::S` tells whether the text is at the pointer, and puts the pointer after it.

@@ -17,6 +17,7 @@ use crate::control::{jump_to, leave_or_not, run_register};
 use crate::edit::{back, delete, forward, insert, insert_tab, jump, kill, to_line};
 use crate::failure::{Failure, next_of};
 use crate::next::{Next, Setting, Work};
+use crate::page_searching::{search_pages, search_pages_quietly};
 use crate::pages::{exit, next_page, turn_pages, write_page};
 use crate::registers::{extract, get, increment, pop, push, register_value, set_number, set_text};
 use crate::searching::{search_and_replace, search_or_compare};
@@ -122,8 +123,8 @@ fn text_step<D: Desk, T: Terminal>(
         TextCommand::InsertTab => insert_tab(desk, text, args),
         TextCommand::TypeOut => type_text(desk, text, args, term),
         TextCommand::Search => search_or_compare(desk, text, setting, args),
-        TextCommand::SearchPages => Err(Failure::Command(Code::Ill)),
-        TextCommand::SearchPagesQuietly => Err(Failure::Command(Code::Ill)),
+        TextCommand::SearchPages => search_pages(desk, text, setting, args),
+        TextCommand::SearchPagesQuietly => search_pages_quietly(desk, text, setting, args),
     }
 }
 

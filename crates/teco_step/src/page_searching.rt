@@ -1,0 +1,133 @@
+//! Searches over pages: a page is searched in one step, and turned or read in the next. One that is not done keeps the arguments and the
+//! state.
+ghost use Rattle.std.specs.Prelude.{◌≡◌, ◌<ℤ◌, IfOk, pos};
+ghost use Rattle.teco_core.specs.ArgumentsView.{arguments};
+ghost use Rattle.teco_step.specs.Families.{Acts, Takes};
+ghost use Rattle.teco_step.specs.PageSearching as paging;
+ghost use Rattle.teco_step.specs.Pages.{with_page_read, with_page_turned};
+ghost use Rattle.teco_step.specs.Step.{steers};
+
+use crate::failure::Failure;
+use crate::next::{Next, Setting, Work};
+use crate::searching::{fail, noted_text, sought, succeed};
+use crate::taking::{takes_one_or, text_length};
+use teco_core::{Args, Code};
+use teco_search::find_forward;
+use teco_store::Desk;
+
+/// How many occurrences are asked for: those that an earlier step left, or the number that the search takes.
+fn asked(work: Option<Work>, args: &Args) -> Result<i32, Failure>
+    ensures { Takes (λ n. n) result (paging.asked work (arguments args.now)) }
+{
+    match work {
+        Some(work) => Ok(work.left),
+        None => takes_one_or(args, 1),
+    }
+}
+
+/// How many occurrences are wanted. A number that isn't above 0 is [`Code::Isa`].
+fn wanted(work: Option<Work>, args: &Args) -> Result<i32, Failure>
+    ensures value { Takes (λ n. n) result (paging.wanted work (arguments args.now)) }
+    ensures some { IfOk result (λ n. pos 0 <ℤ n) }
+{
+    let n = asked(work, args)?;
+    if n <= 0 {
+        return Err(Failure::Command(Code::Isa));
+    }
+    Ok(n)
+}
+
+/// The page has too few occurrences. With no input left the search fails; else its result is noted, and the next page is a further step.
+fn run_out<D: Desk>(
+    desk: &mut D,
+    text: &[u8],
+    setting: Setting,
+    left: i32,
+    args: &mut Args,
+) -> Result<Next, Failure>
+    ensures { Acts (steers (paging.runs_out text.now setting left)) (D.state desk.old) (D.state desk.new) (arguments args.old) (arguments args.new)
+        (D.follows desk.old) (D.follows desk.new) result }
+{
+    if desk.is_input_over() {
+        return fail(desk, text, setting, args);
+    }
+    desk.note_search(noted_text(text), false, 0)?;
+    args.clear();
+    Ok(Next::Again(Work {
+        left,
+        search: false,
+    }))
+}
+
+/// Searches the page in the buffer from the pointer.
+fn search_page<D: Desk>(
+    desk: &mut D,
+    text: &[u8],
+    setting: Setting,
+    args: &mut Args,
+) -> Result<Next, Failure>
+    ensures { Acts (steers (paging.search_page text.now setting)) (D.state desk.old) (D.state desk.new) (arguments args.old) (arguments args.new)
+        (D.follows desk.old) (D.follows desk.new) result }
+{
+    let n = wanted(setting.work, args)?;
+    let pattern = sought(desk, text)?;
+    match find_forward(&pattern, desk.halves(), desk.pointer(), n) {
+        Ok((_, end)) => succeed(desk, text, end, setting, args),
+        Err(left) => run_out(desk, text, setting, left, args),
+    }
+}
+
+/// Turns the page. The search of the next one is a further step.
+fn turn_on<D: Desk>(desk: &mut D, left: i32, args: &mut Args) -> Result<Next, Failure>
+    ensures { Acts (steers (λ s _. paging.goes_to_page with_page_turned left s)) (D.state desk.old) (D.state desk.new) (arguments args.old) (arguments args.new)
+        (D.follows desk.old) (D.follows desk.new) result }
+{
+    desk.turn_page()?;
+    args.clear();
+    Ok(Next::Again(Work { left, search: true }))
+}
+
+/// Reads the next page. Where the buffer isn't empty it is [`Code::Yca`]. The search of the page is a further step.
+fn read_on<D: Desk>(desk: &mut D, left: i32, args: &mut Args) -> Result<Next, Failure>
+    ensures { Acts (steers (λ s _. paging.goes_to_page with_page_read left s)) (D.state desk.old) (D.state desk.new) (arguments args.old) (arguments args.new)
+        (D.follows desk.old) (D.follows desk.new) result }
+{
+    if text_length(desk) > 0 {
+        return Err(Failure::Command(Code::Yca));
+    }
+    desk.read_page()?;
+    args.clear();
+    Ok(Next::Again(Work { left, search: true }))
+}
+
+/// `nN` looks for the nth occurrence in the buffer and the pages after it. A page that has too few is written, and the next one replaces it.
+pub(crate) fn search_pages<D: Desk>(
+    desk: &mut D,
+    text: &[u8],
+    setting: Setting,
+    args: &mut Args,
+) -> Result<Next, Failure>
+    ensures { Acts (steers (paging.search_pages with_page_turned text.now setting)) (D.state desk.old) (D.state desk.new) (arguments args.old) (arguments args.new)
+        (D.follows desk.old) (D.follows desk.new) result }
+{
+    match setting.work {
+        Some(work) if !work.search => turn_on(desk, work.left, args),
+        _ => search_page(desk, text, setting, args),
+    }
+}
+
+/// `n_` looks for the nth occurrence as `nN` does, and reads the next page without writing. The buffer must be empty where it does.
+pub(crate) fn search_pages_quietly<D: Desk>(
+    desk: &mut D,
+    text: &[u8],
+    setting: Setting,
+    args: &mut Args,
+) -> Result<Next, Failure>
+    ensures { Acts (steers (paging.search_pages with_page_read text.now setting)) (D.state desk.old) (D.state desk.new) (arguments args.old) (arguments args.new)
+        (D.follows desk.old) (D.follows desk.new) result }
+{
+    match setting.work {
+        Some(work) if !work.search => read_on(desk, work.left, args),
+        _ => search_page(desk, text, setting, args),
+    }
+}
