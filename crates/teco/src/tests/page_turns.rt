@@ -1,4 +1,4 @@
-//! Strings over an input of two pages: each page that is turned is a step, and an exit ends the run.
+//! Strings over an input of two pages: each page that is turned, read or searched is a step, and an exit ends the run.
 use super::assert_of;
 use super::strings::{Ran, lacks_memory};
 use std::alloc::Global;
@@ -109,6 +109,49 @@ fn pages_are_read_and_written(rt: HostRuntime) {
             ("YIx\x1bEX", 1000, None, 3, "", "xa\x0cb", true),
             ("1EX", 1000, Some(Code::Arg), 2, "", "", false),
             ("(EX", 1000, Some(Code::Mrp), 2, "", "", false),
+        ],
+    );
+}
+
+// N turns the pages in which it has not found what is wanted.
+#[test]
+fn pages_are_turned_by_searches(rt: HostRuntime) {
+    all_end_so(
+        &rt,
+        rt.alloc(),
+        &[
+            ("YNb\x1bHT.=", 1000, None, 8, "b1\r\n", "a\x0c", false),
+            ("YNb\x1b", 4, None, 4, "", "a\x0c", false),
+            ("YNb\x1b", 3, Some(Code::Lim), 3, "", "a\x0c", false),
+            ("YNb\x1b", 2, Some(Code::Lim), 2, "", "", false),
+            ("Nb\x1b.=", 1000, None, 7, "1\r\n", "a\x0c", false),
+            ("YNa\x1bN\x1b", 1000, Some(Code::Srh), 5, "", "a\x0c", false),
+            ("2Nb\x1b", 1000, Some(Code::Srh), 6, "", "a\x0c", false),
+            ("2:Nb\x1b=HT", 1000, None, 9, "0\r\nb", "a\x0c", false),
+            ("<Nb\x1b;HT>", 1000, None, 12, "b", "a\x0c", false),
+            ("@N/b/EX", 1000, None, 6, "", "a\x0cb", true),
+            ("0Na\x1b", 1000, Some(Code::Isa), 2, "", "", false),
+            ("N\x1b", 1000, Some(Code::Iss), 1, "", "", false),
+            ("HNa\x1b", 1000, Some(Code::Arg), 2, "", "", false),
+        ],
+    );
+}
+
+// _ reads the next page where the buffer is empty.
+#[test]
+fn pages_are_read_by_searches(rt: HostRuntime) {
+    all_end_so(
+        &rt,
+        rt.alloc(),
+        &[
+            ("_a\x1b.=", 1000, None, 5, "1\r\n", "", false),
+            ("_a\x1b", 2, Some(Code::Lim), 2, "", "", false),
+            ("_b\x1b", 1000, Some(Code::Yca), 4, "", "", false),
+            ("Y_b\x1b", 1000, Some(Code::Yca), 3, "", "", false),
+            ("P2:_a\x1b", 1000, Some(Code::Yca), 4, "", "", false),
+            ("2P:_a\x1b=HT", 1000, None, 7, "0\r\nb", "a\x0c", false),
+            ("-_a\x1b", 1000, Some(Code::Isa), 2, "", "", false),
+            ("(_a\x1b", 1000, Some(Code::Mrp), 2, "", "", false),
         ],
     );
 }

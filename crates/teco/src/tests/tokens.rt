@@ -147,7 +147,7 @@ fn finds_edits(rt: HostRuntime) {
 fn finds_pages(rt: HostRuntime) {
     all_read(
         &rt,
-        b"YPpwex\\^X\x18",
+        b"YPpwex\\^X\x18Na\x1b:_b\x1b",
         &[
             (0, 1, "", Told::Command(Command::NextPage)),
             (1, 2, "", Told::Command(Command::TurnPages)),
@@ -156,6 +156,13 @@ fn finds_pages(rt: HostRuntime) {
             (6, 7, "", Told::Level(LevelCommand::Decimal)),
             (7, 9, "", Told::Command(Command::CaseMode)),
             (9, 10, "", Told::Command(Command::CaseMode)),
+            (10, 13, "", Told::Text(TextCommand::SearchPages, 11, 12)),
+            (
+                13,
+                17,
+                ":",
+                Told::Text(TextCommand::SearchPagesQuietly, 15, 16),
+            ),
         ],
     );
 }

@@ -74,6 +74,27 @@ fn serves_pages(rt: HostRuntime) {
 }
 
 #[test]
+fn serves_searches_over_pages(rt: HostRuntime) {
+    all_hold(
+        &rt,
+        rt.alloc(),
+        Served::EndOfCommands,
+        &[
+            ("YNthree$.=HT$$", "5\r\nthree\n", "one\n\x0ctwo\n\x0c"),
+            ("Y2Ne$.=HT$$", "4\r\nthree\n", "one\n\x0ctwo\n\x0c"),
+            ("YNe$N$.=HT$$", "4\r\nthree\n", "one\n\x0ctwo\n\x0c"),
+            ("Y4Ne$$.=HT$$", "?SRH\r\n0\r\nthree\n", "one\n\x0ctwo\n\x0c"),
+            (":Nx$=HT$$", "0\r\nthree\n", "one\n\x0ctwo\n\x0c"),
+            ("0Ne$$", "?ISA\r\n", ""),
+            ("_one$.=HT$$", "3\r\none\n", ""),
+            ("_two$$", "?YCA\r\n", ""),
+            ("YNthree$${$$HT$$", "", ""),
+            ("YNthree$${$$}$$HT$$", "three\n", "one\n\x0ctwo\n\x0c"),
+        ],
+    );
+}
+
+#[test]
 fn serves_to_an_exit(rt: HostRuntime) {
     all_hold(
         &rt,
