@@ -76,10 +76,11 @@ end_failed w = if w.modifiers.colons == 1 || (w.inside && w.before) then on else
 abbrev pub fails : List ℕ → Setting → State → Arguments → Attempt
 fails text w s a = notes text false 0 (answers w false) (end_failed w) s
 
--- What was found leaves the pointer after it.
+-- A search that found puts the pointer at this place, which is after what it found.
 abbrev pub succeeds : List ℕ → Setting → ℕ → State → Attempt
 succeeds text w place s = notes text true place (answers w true) on s
 
+-- What a search leaves, by what it found.
 abbrev pub searched : List ℕ → Setting → Option Span → State → Arguments → Attempt
 searched text w None s a = fails text w s a
 searched text w (Some m) s a = succeeds text w m.1 s
