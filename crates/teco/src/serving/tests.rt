@@ -275,5 +275,6 @@ fn reads_no_further_than_it_shows(rt: HostRuntime) {
 }
 
 mod commands;
+mod examples;
 mod pages;
 mod searches;
