@@ -3,10 +3,12 @@
 use std::process::Abort;
 
 mod arguments;
+mod block_forms;
 mod codes;
 mod conditionals;
 mod exits;
 mod failing_terminals;
+mod faults;
 mod gap_buffer;
 mod history;
 mod iterations;
@@ -14,6 +16,7 @@ mod jumps;
 mod laws;
 mod limits;
 mod lists_of_blocks;
+mod modifiers;
 mod page_turns;
 mod patterns;
 mod steps;

@@ -22,6 +22,8 @@ fn all_type(rt: &impl Abort, alloc: Global, rows: &[Row]) {
 
 mod edits;
 mod failed_searches;
+mod forms;
+mod operands;
 mod searches;
 mod texts;
 mod values;

@@ -10,7 +10,8 @@ use teco_session::Session;
 use teco_step::MemoryTerminal;
 use teco_store::Desk;
 
-const SORT: &str = r#"!sort.tec: sorts the lines of a file, by their bytes; lines that are alike keep their order.
+const SORT: &str =
+    r#"!sort.tec: sorts the lines of a file, by their bytes; lines that are alike keep their order.
   teco FILE --output OUT < examples/sort.tec
 A form feed between two pages goes. A thousand lines take about half a million steps.!
 <A -1-^N;>                                  !all pages!
@@ -35,7 +36,8 @@ ZJ <-.; -L .UB L QB,.PW QBJ>                !the line before the pointer goes to
 HK Y EX$$
 "#;
 
-const NUMBER: &str = r#"!number.tec: puts its number before each line, to the right in six columns and with a tab after it,
+const NUMBER: &str =
+    r#"!number.tec: puts its number before each line, to the right in six columns and with a tab after it,
 and types how many lines there are.
   teco FILE --output OUT < examples/number.tec
 The pages are kept, and their lines are counted through.!
@@ -44,7 +46,8 @@ Y <J <.-Z; .UB %N\ 9I$ QB+7-.UD QBJ QD<32I$> L> -1-^N; P>
 QN= EX$$
 "#;
 
-const STRIP: &str = r#"!strip.tec: takes the spaces and tabs off the ends of lines, and keeps the pages.
+const STRIP: &str =
+    r#"!strip.tec: takes the spaces and tabs off the ends of lines, and keeps the pages.
   teco FILE --output OUT < examples/strip.tec!
 Y <
   J <FS~S
@@ -55,7 +58,8 @@ $;>                                         !blanks before a line end!
 EX$$
 "#;
 
-const WRAP: &str = r#"!wrap.tec: breaks lines that are longer than W at a space, and a word that is longer anywhere.
+const WRAP: &str =
+    r#"!wrap.tec: breaks lines that are longer than W at a space, and a word that is longer anywhere.
   teco FILE --output OUT < examples/wrap.tec
 W is 72 below. A byte is a column.!
 72UW
@@ -69,7 +73,8 @@ Y <J
 EX$$
 "#;
 
-const SWAP: &str = r#"!swap.tec: swaps the first two columns of a comma-separated file; a line without a comma stays.
+const SWAP: &str =
+    r#"!swap.tec: swaps the first two columns of a comma-separated file; a line without a comma stays.
   teco FILE --output OUT < examples/swap.tec!
 @^UF/<.-Z; 0A-44"E 0;' 0A-10"E 0;' C>/      !F goes to the next comma or the end of the line!
 Y <J
@@ -80,7 +85,8 @@ Y <J
 EX$$
 "#;
 
-const COLUMNS: &str = r#"!columns.tec: writes the columns of a comma-separated file from the last to the first.
+const COLUMNS: &str =
+    r#"!columns.tec: writes the columns of a comma-separated file from the last to the first.
   teco FILE --output OUT < examples/columns.tec
 The columns of a line wait on the push-down list, so there are at most 64.!
 @^UF/<.-Z; 0A-44"E 0;' 0A-10"E 0;' C>/      !F goes to the next comma or the end of the line!
@@ -93,7 +99,8 @@ Y <J
 EX$$
 "#;
 
-const JOIN: &str = r#"!join.tec: makes one page of all; a page that does not end with a line end gets one.
+const JOIN: &str =
+    r#"!join.tec: makes one page of all; a page that does not end with a line end gets one.
   teco FILE --output OUT < examples/join.tec!
 <A -1-^N; ZJ Z"N -A-10"N 10I$ ' ' >
 HPW HK Y EX$$
@@ -108,7 +115,8 @@ J <QLL .-Z; 12I$>                           !a form feed after each L lines!
 HPW HK Y EX$$
 "#;
 
-const REPLACE: &str = r#"!replace.tec: replaces one text by another on all pages, and types how often it did.
+const REPLACE: &str =
+    r#"!replace.tec: replaces one text by another on all pages, and types how often it did.
   teco FILE --output OUT < examples/replace.tec
 The two texts are in the next line.!
 @^UR|:@FS/colour/color/|
@@ -118,7 +126,8 @@ QC:= @^A/ replaced
 / EX$$
 "#;
 
-const PRIMES: &str = r#"!primes.tec: writes the primes up to N, a line each, and types how many there are.
+const PRIMES: &str =
+    r#"!primes.tec: writes the primes up to N, a line each, and types how many there are.
   teco /dev/null --output OUT < examples/primes.tec
 N is 100 below. The byte at place I tells whether I is crossed out.!
 100UN
@@ -171,16 +180,26 @@ fn writes(alloc: Global, program: &str, row: &Row) -> Result<bool, NoMemory> {
     }
     let mut session = Session::new(input);
     let mut term = MemoryTerminal::new(alloc);
-    let served = serve(alloc, &mut source, &mut session, 1_000_000, false, &mut term);
-    Ok(served == Served::Exit
-        && session.editor().output() == row.1.as_bytes()
-        && term.bytes() == row.2.as_bytes())
+    let served = serve(
+        alloc,
+        &mut source,
+        &mut session,
+        1_000_000,
+        false,
+        &mut term,
+    );
+    Ok(
+        served == Served::Exit
+            && session.editor().output() == row.1.as_bytes()
+            && term.bytes() == row.2.as_bytes(),
+    )
 }
 
 /// The rows hold; where memory was refused, a second time.
 fn all_write(rt: &impl Abort, alloc: Global, program: &str, rows: &[Row]) {
     for row in rows {
-        let held = writes(alloc, program, row) == Ok(true) || writes(alloc, program, row) == Ok(true);
+        let held = writes(alloc, program, row) == Ok(true)
+            || writes(alloc, program, row) == Ok(true);
         assert!(rt; held, "over {:?}", row.0);
     }
 }
@@ -192,7 +211,11 @@ fn sorts_lines(rt: HostRuntime) {
         rt.alloc(),
         SORT,
         &[
-            ("pear\napple\n\x0capple pie\nfig\n\tb\nappl\n\napple", "\n\tb\nappl\napple\napple\napple pie\nfig\npear\n", ""),
+            (
+                "pear\napple\n\x0capple pie\nfig\n\tb\nappl\n\napple",
+                "\n\tb\nappl\napple\napple\napple pie\nfig\npear\n",
+                "",
+            ),
             ("", "", ""),
             ("b\na\n", "a\nb\n", ""),
             ("\x0c", "\x0c", ""),
@@ -207,7 +230,11 @@ fn reverses_lines(rt: HostRuntime) {
         rt.alloc(),
         REVERSE,
         &[
-            ("one\ntwo\n\x0cthree\n\nfour", "four\n\nthree\ntwo\none\n", ""),
+            (
+                "one\ntwo\n\x0cthree\n\nfour",
+                "four\n\nthree\ntwo\none\n",
+                "",
+            ),
             ("", "", ""),
             ("one", "one\n", ""),
             ("a\n\x0cb\n\x0c", "b\na\n", ""),
@@ -222,7 +249,11 @@ fn numbers_lines(rt: HostRuntime) {
         rt.alloc(),
         NUMBER,
         &[
-            ("one\n\n\x0ctwo\nthree", "     1\tone\n     2\t\n\x0c     3\ttwo\n     4\tthree", "4\r\n"),
+            (
+                "one\n\n\x0ctwo\nthree",
+                "     1\tone\n     2\t\n\x0c     3\ttwo\n     4\tthree",
+                "4\r\n",
+            ),
             ("", "", "0\r\n"),
             ("\x0c\n", "\x0c     1\t\n", "1\r\n"),
         ],
@@ -236,7 +267,11 @@ fn strips_blanks(rt: HostRuntime) {
         rt.alloc(),
         STRIP,
         &[
-            ("one  \ntwo\t \n\x0c  \n\x0c thr ee \t", "one\ntwo\n\x0c\n\x0c thr ee", ""),
+            (
+                "one  \ntwo\t \n\x0c  \n\x0c thr ee \t",
+                "one\ntwo\n\x0c\n\x0c thr ee",
+                "",
+            ),
             ("", "", ""),
             (" \x0c\t", "\x0c", ""),
             ("a\n", "a\n", ""),
@@ -251,7 +286,11 @@ fn wraps_lines(rt: HostRuntime) {
         rt.alloc(),
         WRAP,
         &[
-            ("the quick brown fox jumps over the lazy dog and runs away into the deep green woods\nshort\nxxxxxxxxxxxxxxxxxxxxxxxxxxxxxxxxxxxxxxxxxxxxxxxxxxxxxxxxxxxxxxxxxxxxxxxxxxxxxxxx\n\x0cyyyyyyyyyyyyyyyyyyyyyyyyyyyyyyyyyyyyyyyyyyyyyyyyyyyyyyyyyyyyyyyyyyyyyyyy\nzzzzzzzzzzzzzzzzzzzzzzzzzzzzzzzzzzzzzzzzzzzzzzzzzzzzzzzzzzzzzzzzzzzzzzzz a\n vvvvvvvvvvvvvvvvvvvvvvvvvvvvvvvvvvvvvvvvvvvvvvvvvvvvvvvvvvvvvvvvvvvvvvvvv", "the quick brown fox jumps over the lazy dog and runs away into the deep\ngreen woods\nshort\nxxxxxxxxxxxxxxxxxxxxxxxxxxxxxxxxxxxxxxxxxxxxxxxxxxxxxxxxxxxxxxxxxxxxxxxx\nxxxxxxxx\n\x0cyyyyyyyyyyyyyyyyyyyyyyyyyyyyyyyyyyyyyyyyyyyyyyyyyyyyyyyyyyyyyyyyyyyyyyyy\nzzzzzzzzzzzzzzzzzzzzzzzzzzzzzzzzzzzzzzzzzzzzzzzzzzzzzzzzzzzzzzzzzzzzzzzz\na\n vvvvvvvvvvvvvvvvvvvvvvvvvvvvvvvvvvvvvvvvvvvvvvvvvvvvvvvvvvvvvvvvvvvvvvv\nvv", ""),
+            (
+                "the quick brown fox jumps over the lazy dog and runs away into the deep green woods\nshort\nxxxxxxxxxxxxxxxxxxxxxxxxxxxxxxxxxxxxxxxxxxxxxxxxxxxxxxxxxxxxxxxxxxxxxxxxxxxxxxxx\n\x0cyyyyyyyyyyyyyyyyyyyyyyyyyyyyyyyyyyyyyyyyyyyyyyyyyyyyyyyyyyyyyyyyyyyyyyyy\nzzzzzzzzzzzzzzzzzzzzzzzzzzzzzzzzzzzzzzzzzzzzzzzzzzzzzzzzzzzzzzzzzzzzzzzz a\n vvvvvvvvvvvvvvvvvvvvvvvvvvvvvvvvvvvvvvvvvvvvvvvvvvvvvvvvvvvvvvvvvvvvvvvvv",
+                "the quick brown fox jumps over the lazy dog and runs away into the deep\ngreen woods\nshort\nxxxxxxxxxxxxxxxxxxxxxxxxxxxxxxxxxxxxxxxxxxxxxxxxxxxxxxxxxxxxxxxxxxxxxxxx\nxxxxxxxx\n\x0cyyyyyyyyyyyyyyyyyyyyyyyyyyyyyyyyyyyyyyyyyyyyyyyyyyyyyyyyyyyyyyyyyyyyyyyy\nzzzzzzzzzzzzzzzzzzzzzzzzzzzzzzzzzzzzzzzzzzzzzzzzzzzzzzzzzzzzzzzzzzzzzzzz\na\n vvvvvvvvvvvvvvvvvvvvvvvvvvvvvvvvvvvvvvvvvvvvvvvvvvvvvvvvvvvvvvvvvvvvvvv\nvv",
+                "",
+            ),
             ("", "", ""),
             ("\n\x0c", "\n\x0c", ""),
         ],
@@ -265,7 +304,11 @@ fn swaps_columns(rt: HostRuntime) {
         rt.alloc(),
         SWAP,
         &[
-            ("a,b,c\nno comma\n,x\n\x0cy,\n\np,q", "b,a,c\nno comma\nx,\n\x0c,y\n\nq,p", ""),
+            (
+                "a,b,c\nno comma\n,x\n\x0cy,\n\np,q",
+                "b,a,c\nno comma\nx,\n\x0c,y\n\nq,p",
+                "",
+            ),
             ("", "", ""),
             (",", ",", ""),
         ],
@@ -279,9 +322,17 @@ fn reverses_columns(rt: HostRuntime) {
         rt.alloc(),
         COLUMNS,
         &[
-            ("a,b,c\nno comma\n,x\n\x0cy,\n\np,q", "c,b,a\nno comma\nx,\n\x0c,y\n\nq,p", ""),
+            (
+                "a,b,c\nno comma\n,x\n\x0cy,\n\np,q",
+                "c,b,a\nno comma\nx,\n\x0c,y\n\nq,p",
+                "",
+            ),
             ("", "", ""),
-            (",,,,,,,,,,,,,,,,,,,,,,,,,,,,,,,,,,,,,,,,,,,,,,,,,,,,,,,,,,,,,,,", ",,,,,,,,,,,,,,,,,,,,,,,,,,,,,,,,,,,,,,,,,,,,,,,,,,,,,,,,,,,,,,,", ""),
+            (
+                ",,,,,,,,,,,,,,,,,,,,,,,,,,,,,,,,,,,,,,,,,,,,,,,,,,,,,,,,,,,,,,,",
+                ",,,,,,,,,,,,,,,,,,,,,,,,,,,,,,,,,,,,,,,,,,,,,,,,,,,,,,,,,,,,,,,",
+                "",
+            ),
         ],
     );
 }
@@ -307,10 +358,18 @@ fn splits_pages(rt: HostRuntime) {
         rt.alloc(),
         SPLIT,
         &[
-            ("\n\n\n\n\n\n\n\n\n\n\n\n\n\n\n\n\n\n\n\n\n\n\n\n\n\n\n\n\n\n\n\n\n\n\n\n\n\n\n\n\n\n\n\n\n\n\n\n\n\n\n\n\n\n\n\n\n\n\n\x0ca\nb\n", "\n\n\n\n\n\n\n\n\n\n\n\n\n\n\n\n\n\n\n\n\n\n\n\n\n\n\n\n\n\n\n\n\n\n\n\n\n\n\n\n\n\n\n\n\n\n\n\n\n\n\n\n\n\n\n\n\n\n\na\n\x0cb\n", ""),
+            (
+                "\n\n\n\n\n\n\n\n\n\n\n\n\n\n\n\n\n\n\n\n\n\n\n\n\n\n\n\n\n\n\n\n\n\n\n\n\n\n\n\n\n\n\n\n\n\n\n\n\n\n\n\n\n\n\n\n\n\n\n\x0ca\nb\n",
+                "\n\n\n\n\n\n\n\n\n\n\n\n\n\n\n\n\n\n\n\n\n\n\n\n\n\n\n\n\n\n\n\n\n\n\n\n\n\n\n\n\n\n\n\n\n\n\n\n\n\n\n\n\n\n\n\n\n\n\na\n\x0cb\n",
+                "",
+            ),
             ("", "", ""),
             ("a\n\x0cb\x0cc", "a\nb\nc", ""),
-            ("\n\n\n\n\n\n\n\n\n\n\n\n\n\n\n\n\n\n\n\n\n\n\n\n\n\n\n\n\n\n\n\n\n\n\n\n\n\n\n\n\n\n\n\n\n\n\n\n\n\n\n\n\n\n\n\n\n\n\n\n", "\n\n\n\n\n\n\n\n\n\n\n\n\n\n\n\n\n\n\n\n\n\n\n\n\n\n\n\n\n\n\n\n\n\n\n\n\n\n\n\n\n\n\n\n\n\n\n\n\n\n\n\n\n\n\n\n\n\n\n\n", ""),
+            (
+                "\n\n\n\n\n\n\n\n\n\n\n\n\n\n\n\n\n\n\n\n\n\n\n\n\n\n\n\n\n\n\n\n\n\n\n\n\n\n\n\n\n\n\n\n\n\n\n\n\n\n\n\n\n\n\n\n\n\n\n\n",
+                "\n\n\n\n\n\n\n\n\n\n\n\n\n\n\n\n\n\n\n\n\n\n\n\n\n\n\n\n\n\n\n\n\n\n\n\n\n\n\n\n\n\n\n\n\n\n\n\n\n\n\n\n\n\n\n\n\n\n\n\n",
+                "",
+            ),
         ],
     );
 }
@@ -322,7 +381,11 @@ fn replaces_and_counts(rt: HostRuntime) {
         rt.alloc(),
         REPLACE,
         &[
-            ("The colour of\ncolourless\n\x0cpage\n\x0ccolour", "The color of\ncolorless\n\x0cpage\n\x0ccolor", "3 replaced\n"),
+            (
+                "The colour of\ncolourless\n\x0cpage\n\x0ccolour",
+                "The color of\ncolorless\n\x0cpage\n\x0ccolor",
+                "3 replaced\n",
+            ),
             ("", "", "0 replaced\n"),
             ("col\x0cour", "col\x0cour", "0 replaced\n"),
         ],
@@ -335,9 +398,11 @@ fn writes_primes(rt: HostRuntime) {
         &rt,
         rt.alloc(),
         PRIMES,
-        &[
-            ("", "2\n3\n5\n7\n11\n13\n17\n19\n23\n29\n31\n37\n41\n43\n47\n53\n59\n61\n67\n71\n73\n79\n83\n89\n97\n", "25\r\n"),
-        ],
+        &[(
+            "",
+            "2\n3\n5\n7\n11\n13\n17\n19\n23\n29\n31\n37\n41\n43\n47\n53\n59\n61\n67\n71\n73\n79\n83\n89\n97\n",
+            "25\r\n",
+        )],
     );
 }
 
@@ -347,8 +412,10 @@ fn types_e(rt: HostRuntime) {
         &rt,
         rt.alloc(),
         E,
-        &[
-            ("", "", "2.71828182845904523536028747135266249775724709369995\n"),
-        ],
+        &[(
+            "",
+            "",
+            "2.71828182845904523536028747135266249775724709369995\n",
+        )],
     );
 }
