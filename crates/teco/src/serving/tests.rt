@@ -277,4 +277,5 @@ fn reads_no_further_than_it_shows(rt: HostRuntime) {
 mod commands;
 mod examples;
 mod pages;
+mod programs;
 mod searches;
