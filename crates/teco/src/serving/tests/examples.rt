@@ -75,7 +75,7 @@ fn sorts_lines(rt: HostRuntime) {
                 "",
             ),
             ("", "", ""),
-            ("b\na\n", "a\nb\n", ""),
+            ("b\x0ca", "a\nb\n", ""),
             ("\x0c", "\x0c", ""),
         ],
     );
@@ -95,7 +95,7 @@ fn reverses_lines(rt: HostRuntime) {
             ),
             ("", "", ""),
             ("one", "one\n", ""),
-            ("a\n\x0cb\n\x0c", "b\na\n", ""),
+            ("a\x0cb\n\x0c", "b\na\n", ""),
         ],
     );
 }

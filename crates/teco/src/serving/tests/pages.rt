@@ -103,6 +103,11 @@ fn serves_to_an_exit(rt: HostRuntime) {
         &[
             ("EX$$1=$$", "", "one\n\x0ctwo\n\x0cthree\n"),
             ("YHT$$PI2: $$EX$$", "one\n", "one\n\x0c2: two\n\x0cthree\n"),
+            (
+                "YHT$$FSone$1$HT$$PHT$$HK$${$$HT$$PZJIend\n$EX$$",
+                "one\n1\ntwo\ntwo\n",
+                "1\n\x0ctwo\n\x0cthree\nend\n",
+            ),
         ],
     );
 }

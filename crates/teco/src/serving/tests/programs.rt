@@ -3,9 +3,8 @@
 pub(super) const SORT: &str =
     r#"!sort.tec: sorts the lines of a file, by their bytes; lines that are alike keep their order.
   teco FILE --output OUT < examples/sort.tec
-A form feed between two pages goes. A thousand lines take about half a million steps.!
-<A -1-^N;>                                  !all pages!
-Z"N ZJ -A-10"N 10I$ ' '                     !the last line with its end!
+Form feeds between pages go. A thousand lines take some 600000 steps, and more where they begin alike.!
+<A ZJ Z"N -A-10"N 10I$ ' ' -1-^N;>          !all pages, each with a line end!
 0UN                                         !the first N lines are in order!
 <JQNL .-Z; .UP                              !the next one begins at P!
   0UL QNUH
@@ -20,9 +19,8 @@ EX$$
 pub(super) const REVERSE: &str =
     r#"!reverse.tec: writes the lines of a file from the last to the first.
   teco FILE --output OUT < examples/reverse.tec
-A form feed between two pages goes.!
-<A -1-^N;>                                  !all pages!
-Z"N ZJ -A-10"N 10I$ ' '                     !the last line with its end!
+Form feeds between pages go.!
+<A ZJ Z"N -A-10"N 10I$ ' ' -1-^N;>          !all pages, each with a line end!
 ZJ <-.; -L .UB L QB,.PW QBJ>                !the line before the pointer goes to the output!
 HK Y EX$$
 "#;
@@ -91,7 +89,7 @@ EX$$
 "#;
 
 pub(super) const JOIN: &str =
-    r#"!join.tec: makes one page of all; a page that does not end with a line end gets one.
+    r#"!join.tec: makes one page of all. A page before the last that does not end with a line end gets one.
   teco FILE --output OUT < examples/join.tec!
 <A -1-^N; ZJ Z"N -A-10"N 10I$ ' ' >
 HPW HK Y EX$$
