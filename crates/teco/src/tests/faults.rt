@@ -14,6 +14,8 @@ fn texts_that_end_too_early_are_utc(rt: HostRuntime) {
             ("^Uaab", 1000, Some(Code::Utc), 0, ""),
             ("^Ax", 1000, Some(Code::Utc), 0, ""),
             ("Sa", 1000, Some(Code::Utc), 0, ""),
+            ("Na", 1000, Some(Code::Utc), 0, ""),
+            ("_a", 1000, Some(Code::Utc), 0, ""),
             ("FSa", 1000, Some(Code::Utc), 0, ""),
             ("FSa\x1bb", 1000, Some(Code::Utc), 0, ""),
             ("Oa", 1000, Some(Code::Utc), 0, ""),

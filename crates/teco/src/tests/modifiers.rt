@@ -8,24 +8,29 @@ use teco_scan::{Found, token_at};
 
 const MODIFIERS: [&str; 4] = [":", "::", "@", ":@"];
 
-/// The token at the beginning of a command with modifiers before it.
-fn found(alloc: Global, modifiers: &str, command: &str) -> Result<Found, NoMemory> {
+/// A command with modifiers before it.
+fn modified(alloc: Global, modifiers: &str, command: &str) -> Result<Vec<u8>, NoMemory> {
     let mut text = Vec::from_slice(alloc, modifiers.as_bytes())?;
     text.extend_from_slice(command.as_bytes())?;
-    Ok(token_at(text.as_slice(), 0))
+    Ok(text)
 }
 
-/// Whether modifiers are read before a command, or are ILL; where memory was refused, it is read a second time.
-fn is_read(alloc: Global, modifiers: &str, command: &str) -> Option<bool> {
-    let found = match found(alloc, modifiers, command) {
-        Ok(found) => found,
-        Err(NoMemory) => found(alloc, modifiers, command).ok()?,
-    };
-    match found {
+/// Whether a text begins with a token, or is ILL.
+fn begins(text: &[u8]) -> Option<bool> {
+    match token_at(text, 0) {
         Found::Token(_) => Some(true),
         Found::Fault(Code::Ill) => Some(false),
         _ => None,
     }
+}
+
+/// Whether modifiers are read before a command, or are ILL; where memory was refused, it is read a second time.
+fn is_read(alloc: Global, modifiers: &str, command: &str) -> Option<bool> {
+    let text = match modified(alloc, modifiers, command) {
+        Ok(text) => text,
+        Err(NoMemory) => modified(alloc, modifiers, command).ok()?,
+    };
+    begins(text.as_slice())
 }
 
 /// Each command admits these modifiers, and no others of the four.
@@ -61,7 +66,10 @@ fn few_commands_admit_modifiers(rt: HostRuntime) {
     for (admitted, commands) in [
         ([":"].as_slice(), ["Qa", "Ga", "=", "=="].as_slice()),
         (&["@"], &["^Ua/b\x1b/", "^A/b\x01/", "I/a\x1b/", "O/a\x1b/"]),
-        (&[":", "@", ":@"], &["FS/a\x1b/b\x1b/"]),
+        (
+            &[":", "@", ":@"],
+            &["FS/a\x1b/b\x1b/", "N/a\x1b/", "_/a\x1b/"],
+        ),
         (&MODIFIERS, &["S/a\x1b/"]),
     ] {
         all_admit(&rt, rt.alloc(), admitted, commands);

@@ -293,6 +293,41 @@ fn searches_take_their_forms(rt: HostRuntime) {
 }
 
 #[test]
+fn searches_over_pages_take_their_forms(rt: HostRuntime) {
+    all_type(
+        &rt,
+        rt.alloc(),
+        &[
+            ("Iaa\x1bJNa\x1b.=", "1\r\n", None),
+            ("Iaa\x1bJ2Na\x1b.=", "2\r\n", None),
+            ("Iaa\x1bJ3Na\x1b", "", Some(Code::Srh)),
+            ("Iaa\x1bJ+Na\x1b.=", "1\r\n", None),
+            ("-Na\x1b", "", Some(Code::Isa)),
+            ("0Na\x1b", "", Some(Code::Isa)),
+            ("N\x1b", "", Some(Code::Iss)),
+            ("0N\x1b", "", Some(Code::Isa)),
+            ("1,2Na\x1b", "", Some(Code::Arg)),
+            ("(Na\x1b", "", Some(Code::Mrp)),
+            ("0+Na\x1b", "", Some(Code::Arg)),
+            ("0,Na\x1b", "", Some(Code::Arg)),
+            ("Iaa\x1bJ2:Na\x1b=", "-1\r\n", None),
+            ("Iaa\x1bJ3:Na\x1b=", "0\r\n", None),
+            ("-:Na\x1b", "", Some(Code::Isa)),
+            ("Iaa\x1bJ_a\x1b.=", "1\r\n", None),
+            ("Iaa\x1bJ2_a\x1b.=", "2\r\n", None),
+            ("Iaa\x1bJ3_a\x1b", "", Some(Code::Srh)),
+            ("-_a\x1b", "", Some(Code::Isa)),
+            ("0_a\x1b", "", Some(Code::Isa)),
+            ("1,2_a\x1b", "", Some(Code::Arg)),
+            ("(_a\x1b", "", Some(Code::Mrp)),
+            ("0+_a\x1b", "", Some(Code::Arg)),
+            ("0,_a\x1b", "", Some(Code::Arg)),
+            ("Iaa\x1bJ3:_a\x1b=", "0\r\n", None),
+        ],
+    );
+}
+
+#[test]
 fn pages_take_their_forms(rt: HostRuntime) {
     all_type(
         &rt,
