@@ -29,6 +29,16 @@ fn texts_that_end_too_early_are_utc(rt: HostRuntime) {
             ("@FS/a", 1000, Some(Code::Utc), 0, ""),
             ("@FS/a/b", 1000, Some(Code::Utc), 0, ""),
             ("@O", 1000, Some(Code::Utc), 0, ""),
+        ],
+    );
+}
+
+#[test]
+fn commands_that_end_too_early_are_utc(rt: HostRuntime) {
+    all_end(
+        &rt,
+        rt.alloc(),
+        &[
             ("Q", 1000, Some(Code::Utc), 0, ""),
             (":Q", 1000, Some(Code::Utc), 0, ""),
             ("%", 1000, Some(Code::Utc), 0, ""),
@@ -117,6 +127,16 @@ fn bytes_that_begin_no_command_are_ill(rt: HostRuntime) {
             ("\x0b", 1000, Some(Code::Ill), 0, ""),
             ("\x7f", 1000, Some(Code::Ill), 0, ""),
             ("\u{e9}", 1000, Some(Code::Ill), 0, ""),
+        ],
+    );
+}
+
+#[test]
+fn faults_in_blocks_are_told_where_they_are(rt: HostRuntime) {
+    all_end(
+        &rt,
+        rt.alloc(),
+        &[
             ("1===", 1000, Some(Code::Ill), 1, ""),
             ("1=~", 1000, Some(Code::Ill), 2, "1\r\n"),
             ("1\"G||'", 1000, Some(Code::Ill), 2, ""),
@@ -135,7 +155,7 @@ fn bytes_that_begin_no_command_are_ill(rt: HostRuntime) {
 }
 
 #[test]
-fn errors_come_in_their_order(rt: HostRuntime) {
+fn errors_of_searches_come_in_their_order(rt: HostRuntime) {
     all_end(
         &rt,
         rt.alloc(),
@@ -153,6 +173,16 @@ fn errors_come_in_their_order(rt: HostRuntime) {
             ("0FS\x1ba\x1b", 1000, Some(Code::Isa), 2, ""),
             ("FS\x12\x1ba\x1b", 1000, Some(Code::Ice), 1, ""),
             ("@FS//a/", 1000, Some(Code::Iss), 1, ""),
+        ],
+    );
+}
+
+#[test]
+fn errors_of_commands_come_in_their_order(rt: HostRuntime) {
+    all_end(
+        &rt,
+        rt.alloc(),
+        &[
             ("=", 1000, Some(Code::Nae), 1, ""),
             ("(=", 1000, Some(Code::Mrp), 2, ""),
             ("1+=", 1000, Some(Code::Arg), 3, ""),

@@ -24,6 +24,7 @@ mod edits;
 mod failed_searches;
 mod forms;
 mod operands;
+mod search_forms;
 mod searches;
 mod texts;
 mod values;

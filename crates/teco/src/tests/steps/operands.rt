@@ -4,7 +4,7 @@ use std::test::*;
 use teco_core::Code;
 
 #[test]
-fn values_are_given_in_each_form(rt: HostRuntime) {
+fn registers_are_given_in_each_form(rt: HostRuntime) {
     all_type(
         &rt,
         rt.alloc(),
@@ -29,6 +29,16 @@ fn values_are_given_in_each_form(rt: HostRuntime) {
             ("(2\\", "", Some(Code::Mrp)),
             ("I5\x1bJ1+\\=", "6\r\n", None),
             ("I5\x1bJ0,\\=", "", Some(Code::Arg)),
+        ],
+    );
+}
+
+#[test]
+fn places_are_given_in_each_form(rt: HostRuntime) {
+    all_type(
+        &rt,
+        rt.alloc(),
+        &[
             ("1B", "", Some(Code::Arg)),
             ("1Z", "", Some(Code::Arg)),
             ("1.", "", Some(Code::Arg)),
@@ -79,6 +89,16 @@ fn operators_wait_for_values(rt: HostRuntime) {
             ("(-)", "", Some(Code::Arg)),
             ("(1))", "", Some(Code::Arg)),
             ("(1)(", "", Some(Code::Arg)),
+        ],
+    );
+}
+
+#[test]
+fn results_are_in_range(rt: HostRuntime) {
+    all_type(
+        &rt,
+        rt.alloc(),
+        &[
             ("2147483647=", "2147483647\r\n", None),
             ("2147483648", "", Some(Code::Ovf)),
             ("-2147483647-1=", "-2147483648\r\n", None),
