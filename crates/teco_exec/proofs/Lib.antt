@@ -10,6 +10,7 @@ pub mod StringLaws
 pub mod Texts
 pub mod Rows
 pub mod PageRows
+pub mod SearchRows
 pub mod Composing
 pub mod Going
 pub mod Stepped
