@@ -5,12 +5,12 @@ use Rattle.teco_core.specs.declared.code.Code.{Code}
 use Rattle.teco_core.specs.declared.code.Code.TheVariants.{Big, Srh}
 use Rattle.teco_core.specs.Refusal.{◌>>=◌}
 use Rattle.teco_core.specs.Arguments.{Arguments}
-use Rattle.teco_search.specs.Occurrence.{Span, match_end}
+use Rattle.teco_search.specs.Occurrence.{Span}
 use Rattle.teco_store.specs.Search.{length_of, noted, replaced_noted}
 use Rattle.teco_store.specs.State.{State}
 use Rattle.teco_step.specs.Editing.{with_text_in_limit}
 use Rattle.teco_core.specs.declared.limits.TheConstants.{TEXT_LIMIT}
-use Rattle.teco_step.specs.Searching.{with_search_in_limit, notes, noted_text, answer, answers, end_failed, found, sought, searched, search, compared, compare, search_or_compare, replaces, replaced_or_not, search_and_replace}
+use Rattle.teco_step.specs.Searching.{with_search_in_limit, notes, noted_text, answer, answers, end_failed, found, searched, search, matched, compared, compare, search_or_compare, replaces, replaced_or_not, search_and_replace}
 use Rattle.teco_step.specs.Step.{Attempt, End, Setting, on, again, stop, takes_none}
 use Rattle.teco_step.specs.declared.next.Work.{Work}
 
@@ -73,7 +73,7 @@ module _ (further : Bool) where
 
   compare_searches : (text : List ℕ) (s : State) (a : Arguments) → Searches further s (compare text s a)
   compare_searches text s a =
-      then_searches s (takes_none a) _ (λ none. then_searches s (sought text s) _ (λ w. compared_searches text (match_end w.mode w.elements s.text s.pointer) s))
+      then_searches s (takes_none a) _ (λ none. then_searches s (matched text s) _ (λ end. compared_searches text end s))
 
   pub searches : (text : List ℕ) (w : Setting) (s : State) (a : Arguments) → Searches further s (search_or_compare text w s a)
   searches text w s a = if_searches s _ (compare text s a) (search text w s a) (compare_searches text s a) (search_searches text w s a)

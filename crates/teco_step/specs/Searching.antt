@@ -96,12 +96,18 @@ abbrev pub compared : List ℕ → Option ℕ → State → Attempt
 compared text None s = notes text false s.pointer (answer false) on s
 compared text (Some end) s = notes text true end (answer true) on s
 
+-- where the text ends that is at the pointer, if it is there
+abbrev pub matched : List ℕ → State → Result (Option ℕ) Code
+matched text s = do
+  w ← sought text s
+  Ok (match_end w.mode w.elements s.text s.pointer)
+
 -- ::S: whether the text is at the pointer.
 abbrev pub compare : List ℕ → State → Arguments → Attempt
 compare text s a = do
   none ← takes_none a
-  w ← sought text s
-  compared text (match_end w.mode w.elements s.text s.pointer) s
+  end ← matched text s
+  compared text end s
 
 -- S, and with two colons ::S
 abbrev pub search_or_compare : List ℕ → Setting → State → Arguments → Attempt

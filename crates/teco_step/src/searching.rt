@@ -4,7 +4,7 @@ ghost use Rattle.std.specs.Option.{option_copied};
 ghost use Rattle.teco_core.specs.ArgumentsView.{arguments};
 ghost use Rattle.teco_step.specs.Families.{Acts, IsRefusal, Takes};
 ghost use Rattle.teco_step.specs.Searching as searching;
-ghost use Rattle.teco_step.specs.Step.{steers};
+ghost use Rattle.teco_step.specs.Step.{on, steers};
 ghost use Rattle.teco_step.specs.declared.failure.Failure.TheVariants.{Memory};
 
 use crate::failure::Failure;
@@ -144,21 +144,46 @@ fn search<D: Desk>(
     succeed(desk, text, end, setting, args)
 }
 
+/// Where the text ends that is at the pointer, if it is there.
+fn matched<D: Desk>(desk: &D, text: &[u8]) -> Result<Option<usize>, Failure>
+    ensures ok { IfOk result (λ end. searching.matched text.now (D.state desk.now) ≡ Ok end) }
+    ensures err { IfErr result (λ failure. IsRefusal failure (searching.matched text.now (D.state desk.now)) ⊎ (failure ≡ Memory)) }
+    ensures within { IfOk result (λ end. IfSome end (λ place. place ≤ length (D.state desk.now).text)) }
+{
+    let pattern = sought(desk, text)?;
+    Ok(matches_at(&pattern, desk.halves(), desk.pointer()))
+}
+
+/// Notes the text and the result, puts the pointer at a place, and leaves the result as the one argument.
+fn note<D: Desk>(
+    desk: &mut D,
+    text: &[u8],
+    found: bool,
+    place: usize,
+    args: &mut Args,
+) -> Result<Next, Failure>
+    requires { place ≤ length (D.state desk.old).text }
+    ensures { Acts (steers (λ s _. searching.notes text.now found place (searching.answer found) on s)) (D.state desk.old) (D.state desk.new) (arguments args.old) (arguments args.new)
+        (D.follows desk.old) (D.follows desk.new) result }
+{
+    desk.note_search(noted_text(text), found, place)?;
+    answer(found, args);
+    Ok(Next::On)
+}
+
 /// `::S` tells whether the text is at the pointer, and puts the pointer after it.
 fn compare<D: Desk>(desk: &mut D, text: &[u8], args: &mut Args) -> Result<Next, Failure>
     ensures { Acts (steers (searching.compare text.now)) (D.state desk.old) (D.state desk.new) (arguments args.old) (arguments args.new)
         (D.follows desk.old) (D.follows desk.new) result }
 {
     takes_none(args)?;
-    let pattern = sought(desk, text)?;
-    let end = matches_at(&pattern, desk.halves(), desk.pointer());
-    desk.note_search(
-        noted_text(text),
-        end.is_some(),
-        end.unwrap_or(desk.pointer()),
-    )?;
-    answer(end.is_some(), args);
-    Ok(Next::On)
+    match matched(desk, text)? {
+        Some(end) => note(desk, text, true, end, args),
+        None => {
+            let pointer = desk.pointer();
+            note(desk, text, false, pointer, args)
+        }
+    }
 }
 
 /// `S`, and `::S`.

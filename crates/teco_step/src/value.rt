@@ -1,6 +1,6 @@
 //! Tokens that give a value or build arguments. But for the commands that the level decides on, they change no state and take no
 //! memory. One that is refused keeps the arguments.
-ghost use Rattle.std.specs.Prelude.{◌≡◌, ◌+ℤ◌, pos, Err};
+ghost use Rattle.std.specs.Prelude.{◌≡◌, ◌++◌, ◌+ℤ◌, pos, Err};
 ghost use Rattle.teco_core.specs.ArgumentsView.{arguments};
 ghost use Rattle.teco_step.specs.Families.{Acts};
 ghost use Rattle.teco_step.specs.Step.{goes};
@@ -85,14 +85,25 @@ pub(crate) fn arithmetic<D: Desk>(
     Ok(Next::On)
 }
 
+/// The code of the byte at a place of a text in two halves, or -1 where none is.
+fn code_in(before: &[u8], after: &[u8], place: usize) -> i32
+    ensures { result ≡ values.code_at (before.now ++ after.now) (pos place) }
+{
+    if place < before.len() + after.len() {
+        i32::from(byte_at(before, after, place))
+    } else {
+        -1
+    }
+}
+
 /// The code of the byte at a place, or -1 where none is.
 fn code_at<D: Desk>(desk: &D, place: i64) -> i32
     ensures { result ≡ values.code_at (D.state desk.now).text place }
 {
     let (before, after) = desk.halves();
     match usize::try_from(place) {
-        Ok(place) if place < before.len() + after.len() => i32::from(byte_at(before, after, place)),
-        _ => -1,
+        Ok(place) => code_in(before, after, place),
+        Err(_) => -1,
     }
 }
 
