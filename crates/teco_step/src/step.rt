@@ -3,7 +3,7 @@ ghost use Rattle.std.specs.Prelude.{◌≡◌, Err, length, true};
 ghost use Rattle.teco_core.specs.ArgumentsView.{arguments};
 ghost use Rattle.teco_core.specs.declared.code.Code.TheVariants.{Mem};
 ghost use Rattle.teco_scan.specs.Scan as token;
-ghost use Rattle.teco_scan.specs.Seen.{IsItemIn, item_in};
+ghost use Rattle.teco_scan.specs.Seen.{IsItemIn, IsSpanIn, bytes_in, item_in};
 ghost use Rattle.teco_store.specs.Trail.{Trail};
 ghost use Rattle.teco_step.specs.Effect.{bare_effect, command_effect, item_effect, register_effect, text_effect};
 ghost use Rattle.teco_step.specs.Families.{Does};
@@ -25,7 +25,7 @@ use crate::terminal::Terminal;
 use crate::typing::{print, print_octal, type_byte, type_out, type_text, view};
 use crate::value::{arithmetic, at_level, byte, number, quantity};
 use teco_core::{Args, Code, Reg};
-use teco_scan::{Bare, Command, Item, RegisterCommand, TextCommand, Token, TokenKind};
+use teco_scan::{Bare, Command, Item, RegisterCommand, Span, TextCommand, Token, TokenKind};
 use teco_store::Desk;
 
 /// A step of a command without an operand.
@@ -128,6 +128,14 @@ fn text_step<D: Desk, T: Terminal>(
     }
 }
 
+/// The bytes of a span of the text.
+fn bytes_of(text: &[u8], span: Span) -> &[u8]
+    requires { IsSpanIn (length text.now) span }
+    ensures { result.now ≡ bytes_in text.now span }
+{
+    &text[span.from..span.to]
+}
+
 /// A step of a command, with its operands in the text.
 fn item_step<D: Desk, T: Terminal>(
     desk: &mut D,
@@ -143,29 +151,17 @@ fn item_step<D: Desk, T: Terminal>(
     ensures no_memory { takes_nothing (item_in text.now item) ≡ true → result ≡ Err Memory → ⊥ }
 {
     match item {
-        Item::Digits(span) => number(desk, &text[span.from..span.to], args),
+        Item::Digits(span) => number(desk, bytes_of(text, span), args),
         Item::Bare(bare) => bare_step(desk, bare, setting, args, term),
         Item::Register(command, q) => register_step(desk, command, q, setting, args, term),
         Item::Text(command, span) => {
-            text_step(
-                desk,
-                command,
-                &text[span.from..span.to],
-                setting,
-                args,
-                term,
-            )
+            text_step(desk, command, bytes_of(text, span), setting, args, term)
         }
-        Item::SetText(q, span) => set_text(desk, q, &text[span.from..span.to], args),
+        Item::SetText(q, span) => set_text(desk, q, bytes_of(text, span), args),
         Item::Byte(code) => byte(desk, code, args),
         Item::Replace(old, new) => {
-            search_and_replace(
-                desk,
-                &text[old.from..old.to],
-                &text[new.from..new.to],
-                setting,
-                args,
-            )
+            let (old, new) = (bytes_of(text, old), bytes_of(text, new));
+            search_and_replace(desk, old, new, setting, args)
         }
     }
 }
