@@ -10,6 +10,7 @@ use Rattle.teco_scan.specs.declared.blocks.Kind.{Kind}
 use Rattle.teco_scan.specs.declared.blocks.Kind.TheVariants.{Iter, Then, Else}
 use Rattle.teco_exec.specs.Frames.{EndsTurn, frame, frames, has_iteration, in_turn, kind_of, list_start, next_body, next_turn}
 use Rattle.teco_scan.specs.Lists.{Close, Past, past, behind_block, list_at, tag_at}
+use Rattle.teco_scan.specs.Lists as lists
 use Rattle.teco_exec.specs.Machine.{Frame, at_end, ends, Cursor, Coming, left_block, leaving, passing, skipped, second_part, moved, at_block, breaks, closes, inside, jumping, landed}
 use Rattle.teco_exec.specs.Machine as machine
 use Rattle.teco_exec.specs.declared.blocks.Block.{Block}
@@ -131,6 +132,12 @@ deeper text bs n e = omega (arith, frames_length text bs)
 pub divides_then : {bs outer : List Block} {b : Block} {n : ℕ} (text more : List ℕ) (x : Close) → bs ≡ b ∷ outer → kind_of b.body ≡ Then → n ≡ length bs
     → x ≡ (list_at (Some Else) n more).1 → passing (skipped (past x) (closes more (frames text outer))) ≡ machine.divides more (frames text bs)
 divides_then text more x e is len skip = rw (skip, deep text e len, frames_kind text e is)
+
+-- the same where it ends well, with arguments that were dropped
+pub divides_on : {bs outer : List Block} {b : Block} {n : ℕ} {a : Arguments} (text more rest : List ℕ) (divided : Bool) → a ≡ no_arguments → bs ≡ b ∷ outer → kind_of b.body ≡ Then → n ≡ length bs
+    → lists.closed divided rest ≡ (list_at (Some Else) n more).1 → moved (record { args = a; left = rest; blocks = frames text outer }) ≡ machine.divides more (frames text bs)
+divides_on {outer = outer} text more rest divided dropped e is len skip =
+    ap (λ a. moved (record { args = a; left = rest; blocks = frames text outer })) dropped ∙ divides_then text more (lists.closed divided rest) e is len skip
 
 pub passed_over : {n : ℕ} (text more : List ℕ) (bs : List Block) (x : Past) (c : Cursor) → n ≡ length bs → x ≡ past (list_at (Some Iter) (n + 1) more).1
     → skipped x c ≡ skipped (past (list_at (Some Iter) (suc (length (frames text bs))) more).1) c

@@ -1,8 +1,8 @@
 use Rattle.std.proofs.Common.{drop, refl, sym, ap, ◌∙◌}
-use Rattle.teco_scan.specs.Lists.{closed, broken}
+use Rattle.teco_scan.specs.Lists.{broken}
 use Rattle.teco_exec.specs.Machine as machine
 use Rattle.teco_exec.specs.Frames.{frames}
-use Rattle.teco_exec.proofs.Frames.{divides_then, frames_either, frames_nil, or_kind}
+use Rattle.teco_exec.proofs.Frames.{divides_on, divides_then, frames_either, frames_nil, or_kind}
 use Rattle.teco_exec.proofs.cursor.Cursor.divide.Goals as goal
 
 pub returns-in-None-clause-comes : goal.returns-in-None-clause-comes
@@ -20,5 +20,4 @@ pub returns-in-Ok-clause-comes : goal.returns-in-Ok-clause-comes
 returns-in-Ok-clause-comes c found =
     let text = c.args.self.now.text.now in
     let stop = c.in-Ok.stop in
-    ap (λ a. machine.moved (record { args = a; left = drop stop.to text; blocks = frames text c.pop.new.self })) c.clear.ensures
-    ∙ divides_then text (drop c.args.to text) (closed stop.divided (drop stop.to text)) c.in-Some.ensures (sym c.kind.ensures ∙ c.in-Then.is) c.len-depth.ensures.value c.in-Ok.ensures.closes
+    divides_on text (drop c.args.to text) (drop stop.to text) stop.divided c.clear.ensures c.in-Some.ensures (sym c.kind.ensures ∙ c.in-Then.is) c.len-depth.ensures.value c.in-Ok.ensures.closes
