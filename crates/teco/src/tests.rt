@@ -2,8 +2,8 @@
 //! commands with what they do. A row that is refused memory is tried a second time.
 use std::process::Abort;
 
-mod arguments;
 mod block_forms;
+mod bytes;
 mod codes;
 mod conditionals;
 mod exits;
@@ -15,14 +15,13 @@ mod iterations;
 mod jumps;
 mod laws;
 mod limits;
-mod lists_of_blocks;
 mod modifiers;
 mod page_turns;
 mod patterns;
+mod requests;
 mod steps;
 mod strings;
 mod terminals;
-mod tokens;
 
 /// Ends the test where what is said of a text does not hold.
 fn assert_of(rt: &impl Abort, text: &str, holds: bool) {

@@ -28,17 +28,18 @@ impl Write for Short {
     }
 }
 
-fn run_short(editor: &mut Editor, text: &str, left: usize) -> Outcome {
+/// How `1=2=3C` ends where it can type so many bytes, and the pointer after it.
+fn run_short(alloc: Global, left: usize) -> (Outcome, usize) {
+    let mut editor = Editor::new(Vec::new(alloc));
     let mut terminal = WriterTerminal::new(Short { left });
-    run(editor, text.as_bytes(), 1000, &mut terminal)
+    let outcome = run(&mut editor, b"1=2=3C", 1000, &mut terminal);
+    (outcome, editor.pointer())
 }
 
-/// The string `1=2=3C` ends by this code after so many steps, where it can type so many bytes.
+/// It ends by this code after so many steps.
 fn ends_after(rt: &impl Abort, alloc: Global, left: usize, code: Code, steps: u64) {
-    let mut editor = Editor::new(Vec::new(alloc));
-    let outcome = run_short(&mut editor, "1=2=3C", left);
     let code = Some(code);
-    let held = outcome == Outcome { code, steps } && editor.pointer() == 0;
+    let held = run_short(alloc, left) == (Outcome { code, steps }, 0);
     assert!(rt; held, "after {left} bytes");
 }
 

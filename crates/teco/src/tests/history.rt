@@ -1,159 +1,131 @@
 //! Sessions: strings that are undone and redone, and requests that are refused only where memory is.
+use super::bytes::joined;
+use super::requests::session_over;
 use std::alloc::Global;
 use std::process::Abort;
-use teco_core::Reg;
+use teco_core::{NoMemory, Reg};
+use teco_exec::Outcome;
 use teco_session::{Answer, Request, Session};
 use teco_step::MemoryTerminal;
-use teco_store::Desk;
+use teco_store::{Desk, Editor};
 
-/// A string that is begun; where the history finds no memory it stays as it was, with its undone string, and the same string can be
-/// begun after it.
+/// Whether a string is begun, at once or after a refusal, and undone strings are dropped then.
 fn begins(session: &mut Session, term: &mut MemoryTerminal) -> bool {
-    let (strings, cursor) = (session.strings(), session.cursor());
-    if session.run(b"1=\x1b", 100, term) != Answer::NotBegun {
-        return true;
-    }
-    session.strings() == strings
-        && session.cursor() == cursor
-        && session.run(b"1=\x1b", 100, term) != Answer::NotBegun
+    let begun = session.run(b"1=\x1b", 100, term) != Answer::NotBegun
+        || session.run(b"1=\x1b", 100, term) != Answer::NotBegun;
+    begun && session.strings() == session.cursor()
 }
 
-/// Twelve strings, of which each third is not undone, leave a history of so many strings.
+/// Twelve strings, of which each third is not undone.
 fn begins_twelve(session: &mut Session, term: &mut MemoryTerminal) -> bool {
+    let mut held = true;
     for at in 0..12 {
-        let begun = begins(session, term) && session.strings() == session.cursor();
-        if !begun || at % 3 > 0 && session.undo().is_err() {
-            return false;
-        }
+        held = begins(session, term) && held;
+        held = (at % 3 == 0 || session.undo().is_ok()) && held;
     }
-    session.strings() == 5 && session.cursor() == 4
+    held
+}
+
+fn begins_again(alloc: Global) -> (bool, usize, usize) {
+    let mut session = session_over(alloc, b"");
+    let mut term = MemoryTerminal::new(alloc);
+    let begun = begins_twelve(&mut session, &mut term);
+    (begun, session.strings(), session.cursor())
 }
 
 #[test]
 fn begins_again_after_a_refusal(rt: HostRuntime) {
-    let mut session = Session::new(Vec::new(rt.alloc()));
-    let mut term = MemoryTerminal::new(rt.alloc());
-    assert!(rt; begins_twelve(&mut session, &mut term));
+    assert!(rt; begins_again(rt.alloc()) == (true, 5, 4));
 }
 
-/// What a string that is undone and redone is answered, where it is begun and where it is not.
-const BEGUN: [Answer; 4] = [
-    Answer::Undone,
-    Answer::NothingToUndo,
-    Answer::Redone,
-    Answer::NothingToRedo,
-];
-
-const NOT_BEGUN: [Answer; 4] = [
-    Answer::NothingToUndo,
-    Answer::NothingToUndo,
-    Answer::NothingToRedo,
-    Answer::NothingToRedo,
-];
-
-/// Whether six requests, of which the second runs a string and is undone and redone, are answered with none refused.
-fn is_answered(rt: &impl Abort, answers: &[Answer]) -> bool {
-    assert!(rt; answers.len() == 6);
-    assert!(rt; answers[0] == Answer::NothingToRedo);
-    let begun = answers[1] != Answer::NotBegun;
-    let wanted = if begun { BEGUN } else { NOT_BEGUN };
-    assert!(rt; &answers[2..] == wanted.as_slice());
-    begun
+fn are_told(answers: &Result<Vec<Answer>, NoMemory>, wanted: &[Answer]) -> bool {
+    answers
+        .as_ref()
+        .is_ok_and(|answers| answers.as_slice() == wanted)
 }
 
-/// Whether the requests are answered on a new session with none refused. Where memory is refused for the answers none is begun, and
-/// where it is for the string there is none to undo.
-fn plays(rt: &impl Abort, alloc: Global, requests: &[Request]) -> bool {
-    let mut session = Session::new(Vec::new(alloc));
+fn plays(alloc: Global, requests: &[Request], wanted: &[Answer]) -> bool {
+    let mut session = session_over(alloc, b"");
     let mut term = MemoryTerminal::new(alloc);
-    match session.play(alloc, requests, 100, &mut term) {
-        Ok(answers) => is_answered(rt, &answers),
-        Err(_) => {
-            assert!(rt; session.strings() == 0);
-            false
-        }
-    }
+    let answers = session.play(alloc, requests, 100, &mut term);
+    are_told(&answers, wanted)
 }
 
 // One answer a request; where memory was refused, all are answered the second time.
 #[test]
 fn plays_in_order(rt: HostRuntime) {
-    let Ok(text) = Vec::from_slice(rt.alloc(), b"1=\x1b") else {
-        return;
-    };
     let requests = [
         Request::Redo,
-        Request::Run(text),
+        Request::Run(joined(rt.alloc(), &[b"1=\x1b"])),
         Request::Undo,
         Request::Undo,
         Request::Redo,
         Request::Redo,
     ];
-    let played = plays(&rt, rt.alloc(), &requests) || plays(&rt, rt.alloc(), &requests);
-    assert!(rt; played, "refused twice");
+    let (code, steps) = (None, 2);
+    let wanted = [
+        Answer::NothingToRedo,
+        Answer::Ended(Outcome { code, steps }),
+        Answer::Undone,
+        Answer::NothingToUndo,
+        Answer::Redone,
+        Answer::NothingToRedo,
+    ];
+    let held = plays(rt.alloc(), &requests, &wanted) || plays(rt.alloc(), &requests, &wanted);
+    assert!(rt; held, "refused twice");
 }
 
-fn has_text(session: &Session, text: &str) -> bool {
-    let (before, after) = session.editor().halves();
-    before.iter().chain(after.iter()).eq(text.as_bytes().iter())
-}
-
-fn number_of_a(session: &Session) -> i32 {
+/// The pointer, the length of the text, and the number of register A and the length of its text.
+fn seen(editor: &Editor) -> (usize, usize, i32, usize) {
+    let (before, after) = editor.halves();
+    let length = before.len().saturating_add(after.len());
+    let registers = editor.registers();
     match Reg::of(b'A') {
-        Some(a) => session.editor().registers().number(a),
-        None => 0,
+        Some(a) => (
+            editor.pointer(),
+            length,
+            registers.number(a),
+            registers.text(a).len(),
+        ),
+        None => (editor.pointer(), length, 0, 0),
     }
 }
 
-fn is_at_the_beginning(session: &Session) -> bool {
-    let text_of_a = Reg::of(b'A').map_or(1, |a| session.editor().registers().text(a).len());
-    session.editor().pointer() == 0
-        && has_text(session, "")
-        && number_of_a(session) == 0
-        && text_of_a == 0
+/// Whether a string is undone to the beginning, redone to what it left, and undone again.
+fn comes_back(session: &mut Session, text: &[u8], term: &mut MemoryTerminal) -> bool {
+    let begun = session.run(text, 100, term) != Answer::NotBegun;
+    let left = seen(session.editor());
+    let undone = session.undo().is_ok() && seen(session.editor()) == (0, 0, 0, 0);
+    let redone = session.redo().is_ok() && seen(session.editor()) == left;
+    let undone_again = session.undo().is_ok();
+    begun && undone && redone && undone_again
 }
 
-/// Whether a string is undone to the beginning, and redone to what it left.
-fn comes_back(alloc: Global, text: &[u8]) -> bool {
-    let mut session = Session::new(Vec::new(alloc));
-    let mut term = MemoryTerminal::new(alloc);
-    if session.run(text, 100, &mut term) == Answer::NotBegun {
-        return false;
-    }
-    let left = (session.editor().pointer(), number_of_a(&session));
-    session.undo().is_ok()
-        && is_at_the_beginning(&session)
-        && session.redo().is_ok()
-        && (session.editor().pointer(), number_of_a(&session)) == left
-}
-
-/// However a string ends, at whatever byte it is cut, it can be undone and redone; where memory was refused, a second time.
-fn each_beginning_of(rt: &impl Abort, alloc: Global, text: &[u8]) {
+fn each_comes_back(rt: &impl Abort, session: &mut Session, text: &[u8], term: &mut MemoryTerminal) {
     for bytes in 0..=text.len() {
         let cut = &text[..bytes];
-        let held = comes_back(alloc, cut) || comes_back(alloc, cut);
+        let held = comes_back(session, cut, term) || comes_back(session, cut, term);
         assert!(rt; held, "cut after {bytes} bytes");
     }
 }
 
-fn each_beginning_of_all(rt: &impl Abort, alloc: Global, texts: &[&[u8]]) {
-    for text in texts {
-        each_beginning_of(rt, alloc, text);
-    }
+/// However a string ends, at whatever byte it is cut, it can be undone and redone; where memory was refused, a second time.
+fn each_beginning_of(rt: &impl Abort, alloc: Global, text: &[u8]) {
+    let mut session = session_over(alloc, b"");
+    let mut term = MemoryTerminal::new(alloc);
+    each_comes_back(rt, &mut session, text, &mut term);
 }
 
 #[test]
 fn each_beginning_comes_back(rt: HostRuntime) {
-    each_beginning_of_all(
-        &rt,
-        rt.alloc(),
-        &[
-            b"@^UA/^UAy\x1bIx\x1b/MA\x1b",
-            b"0UA<!x!%A-3\"LOx\x1b'1;>QA=\x1b",
-            b"0<Ia>b\x1b>Iok\x1b",
-            b"@^UA/MA/MA\x1b",
-            b"1\"G2=|3='4=Ia\x1b5J",
-            b"3<Ix\x1b>!x!Ox\x1b",
-        ],
-    );
+    for text in [
+        b"@^UA/^UAy\x1bIx\x1b/MA\x1b".as_slice(),
+        b"0UA<!x!%A-3\"LOx\x1b'1;>QA=\x1b",
+        b"0<Ia>b\x1b>Iok\x1b",
+        b"@^UA/MA/MA\x1b",
+        b"1\"G2=|3='4=Ia\x1b5J",
+        b"3<Ix\x1b>!x!Ox\x1b",
+    ] {
+        each_beginning_of(&rt, rt.alloc(), text);
+    }
 }

@@ -1,18 +1,17 @@
 //! Modifiers before each command.
+use super::bytes::joined;
 use super::strings::all_end;
 use std::alloc::Global;
 use std::process::Abort;
 use std::test::*;
-use teco_core::{Code, NoMemory};
+use teco_core::Code;
 use teco_scan::{Found, token_at};
 
 const MODIFIERS: [&str; 4] = [":", "::", "@", ":@"];
 
 /// A command with modifiers before it.
-fn modified(alloc: Global, modifiers: &str, command: &str) -> Result<Vec<u8>, NoMemory> {
-    let mut text = Vec::from_slice(alloc, modifiers.as_bytes())?;
-    text.extend_from_slice(command.as_bytes())?;
-    Ok(text)
+fn modified(alloc: Global, modifiers: &str, command: &str) -> Vec<u8> {
+    joined(alloc, &[modifiers.as_bytes(), command.as_bytes()])
 }
 
 /// Whether a text begins with a token, or is ILL.
@@ -24,25 +23,18 @@ fn begins(text: &[u8]) -> Option<bool> {
     }
 }
 
-/// Whether modifiers are read before a command, or are ILL; where memory was refused, it is read a second time.
-fn is_read(alloc: Global, modifiers: &str, command: &str) -> Option<bool> {
-    let text = match modified(alloc, modifiers, command) {
-        Ok(text) => text,
-        Err(NoMemory) => modified(alloc, modifiers, command).ok()?,
-    };
-    begins(text.as_slice())
+/// A command admits these modifiers, and no others of the four.
+fn admits(rt: &impl Abort, alloc: Global, admitted: &[&str], command: &str) {
+    for modifiers in MODIFIERS {
+        let text = modified(alloc, modifiers, command);
+        let held = begins(text.as_slice()) == Some(admitted.contains(&modifiers));
+        assert!(rt; held, "{modifiers}{command:?}");
+    }
 }
 
-/// Each command admits these modifiers, and no others of the four.
 fn all_admit(rt: &impl Abort, alloc: Global, admitted: &[&str], commands: &[&str]) {
     for command in commands {
-        for modifiers in MODIFIERS {
-            let read = is_read(alloc, modifiers, command);
-            assert!(rt;
-                read == Some(admitted.contains(&modifiers)),
-                "{modifiers}{command:?}"
-            );
-        }
+        admits(rt, alloc, admitted, command);
     }
 }
 
@@ -82,31 +74,30 @@ fn modifiers_come_in_any_order(rt: HostRuntime) {
         &rt,
         rt.alloc(),
         &[
-            ("Iaa\x1bJ:@S/a/=@:S/a/=", 1000, None, 6, "-1\r\n-1\r\n"),
+            ("Iaa\x1bJ:@S/a/=@:S/a/=", None, 6, "-1\r\n-1\r\n"),
             (
                 "Iaa\x1bJ@::S/a/=:@:S/a/=::@S/a/=",
-                1000,
                 None,
                 8,
                 "-1\r\n-1\r\n0\r\n",
             ),
-            ("Iaa\x1bJ:@FS/a/b/=HT", 1000, None, 6, "-1\r\nba"),
-            ("@^Ua/x/@I/y/:Ga@^A/z/", 1000, None, 4, "xz"),
-            ("@^Ua/b\x1b/:Qa=@O/x/1=!x!2=", 1000, None, 6, "2\r\n2\r\n"),
-            ("@@I/a/", 1000, Some(Code::Ill), 0, ""),
-            (":::S\x1b", 1000, Some(Code::Ill), 0, ""),
-            ("@:@S/a/", 1000, Some(Code::Ill), 0, ""),
-            (": S\x1b", 1000, Some(Code::Ill), 0, ""),
-            ("@ I/a/", 1000, Some(Code::Ill), 0, ""),
-            (":", 1000, Some(Code::Utc), 0, ""),
-            ("@", 1000, Some(Code::Utc), 0, ""),
-            ("@:", 1000, Some(Code::Utc), 0, ""),
-            ("::", 1000, Some(Code::Utc), 0, ""),
-            (":::", 1000, Some(Code::Ill), 0, ""),
-            ("@@", 1000, Some(Code::Ill), 0, ""),
-            (":\x1b", 1000, Some(Code::Ill), 0, ""),
-            ("@::FS/a/b/", 1000, Some(Code::Ill), 0, ""),
-            ("@::==", 1000, Some(Code::Ill), 0, ""),
+            ("Iaa\x1bJ:@FS/a/b/=HT", None, 6, "-1\r\nba"),
+            ("@^Ua/x/@I/y/:Ga@^A/z/", None, 4, "xz"),
+            ("@^Ua/b\x1b/:Qa=@O/x/1=!x!2=", None, 6, "2\r\n2\r\n"),
+            ("@@I/a/", Some(Code::Ill), 0, ""),
+            (":::S\x1b", Some(Code::Ill), 0, ""),
+            ("@:@S/a/", Some(Code::Ill), 0, ""),
+            (": S\x1b", Some(Code::Ill), 0, ""),
+            ("@ I/a/", Some(Code::Ill), 0, ""),
+            (":", Some(Code::Utc), 0, ""),
+            ("@", Some(Code::Utc), 0, ""),
+            ("@:", Some(Code::Utc), 0, ""),
+            ("::", Some(Code::Utc), 0, ""),
+            (":::", Some(Code::Ill), 0, ""),
+            ("@@", Some(Code::Ill), 0, ""),
+            (":\x1b", Some(Code::Ill), 0, ""),
+            ("@::FS/a/b/", Some(Code::Ill), 0, ""),
+            ("@::==", Some(Code::Ill), 0, ""),
         ],
     );
 }

@@ -1,26 +1,22 @@
 //! Command strings: what they type, and the code by which they end.
 use super::assert_of;
-use super::strings::run_anew;
+use super::strings::{Row, holds};
 use std::alloc::Global;
 use std::process::Abort;
 use teco_core::Code;
 
 /// A text, what it types, and the code by which it ends.
-pub(super) type Row<'a> = (&'a str, &'a str, Option<Code>);
+pub(super) type Types<'a> = (&'a str, &'a str, Option<Code>);
 
-fn types_once(alloc: Global, row: &Row) -> bool {
-    let ran = run_anew(alloc, row.0, 1000);
-    ran.outcome.code == row.2 && ran.terminal.bytes() == row.1.as_bytes()
-}
-
-/// The rows hold; where memory was refused, a second time.
-fn all_type(rt: &impl Abort, alloc: Global, rows: &[Row]) {
-    for row in rows {
-        assert_of(rt, row.0, types_once(alloc, row) || types_once(alloc, row));
+fn all_type(rt: &impl Abort, alloc: Global, rows: &[Types]) {
+    for (text, typed, code) in rows {
+        let row = Row::new(text.as_bytes(), typed, *code);
+        assert_of(rt, text, holds(alloc, &row));
     }
 }
 
 mod edits;
+mod elements;
 mod failed_searches;
 mod forms;
 mod operands;

@@ -1,76 +1,121 @@
-//! Command strings, run on an editor: each with its limit, its code, its steps and what it types.
+//! Command strings, run on an editor: what a row asks, how it ends, and how it is tried.
 use super::assert_of;
+use super::bytes::joined;
 use std::alloc::Global;
 use std::process::Abort;
-use teco_core::Code;
+use teco_core::{Code, FILE_LIMIT};
 use teco_exec::{Outcome, run};
 use teco_step::MemoryTerminal;
 use teco_store::{Desk, Editor};
 
-/// What a string left on a new editor and a new terminal.
-#[derive(Drop)]
-pub(super) struct Ran {
-    pub(super) editor: Editor,
-    pub(super) terminal: MemoryTerminal,
-    pub(super) outcome: Outcome,
+/// A command string over an input under a limit of steps, and how it ends.
+#[derive(Clone, Copy)]
+pub(super) struct Row<'a> {
+    pub(super) input: &'a [u8],
+    pub(super) text: &'a [u8],
+    pub(super) limit: u64,
+    pub(super) code: Option<Code>,
+    /// None where it does not matter how many there are.
+    pub(super) steps: Option<u64>,
+    pub(super) typed: &'a str,
+    /// The output, and whether the session is done; none where neither matters.
+    pub(super) written: Option<(&'a str, bool)>,
 }
 
-pub(super) fn run_anew(alloc: Global, text: &str, limit: u64) -> Ran {
-    let mut editor = Editor::new(Vec::new(alloc));
-    let mut terminal = MemoryTerminal::new(alloc);
-    let outcome = run(&mut editor, text.as_bytes(), limit, &mut terminal);
-    Ran {
-        editor,
-        terminal,
-        outcome,
+impl<'a> Row<'a> {
+    /// A text that types this and ends by this code, on a new editor.
+    pub(super) fn new(text: &'a [u8], typed: &'a str, code: Option<Code>) -> Row<'a> {
+        Row {
+            input: b"",
+            text,
+            limit: 1000,
+            code,
+            steps: None,
+            typed,
+            written: None,
+        }
     }
 }
 
-/// Whether memory was refused for a step of the string, or for what it typed.
-pub(super) fn lacks_memory(ran: &Ran) -> bool {
-    ran.outcome.code == Some(Code::Mem) || ran.outcome.code == Some(Code::Tty)
+fn editor_over(alloc: Global, input: &[u8]) -> Editor {
+    let input = joined(alloc, &[input]);
+    if input.len() > FILE_LIMIT {
+        return Editor::new(Vec::new(alloc));
+    }
+    Editor::new(input)
 }
 
-/// A text and its limit, and the code, the steps and the typed bytes of its run.
-pub(super) type Row<'a> = (&'a str, u64, Option<Code>, u64, &'a str);
-
-fn is_so(ran: &Ran, row: &Row) -> bool {
-    let (_, _, code, steps, typed) = *row;
-    ran.outcome == Outcome { code, steps } && ran.terminal.bytes() == typed.as_bytes()
+fn has_written(editor: &Editor, written: Option<(&str, bool)>) -> bool {
+    match written {
+        Some((output, done)) => editor.output() == output.as_bytes() && editor.done() == done,
+        None => true,
+    }
 }
 
-/// Whether a string that lacked memory left what its whole steps did. The terminal may show a beginning of the next step's bytes.
-fn is_whole(ran: &Ran, whole: &Ran) -> bool {
-    let shown = ran.terminal.bytes();
-    whole.outcome.steps == ran.outcome.steps
-        && whole.editor.pointer() == ran.editor.pointer()
-        && shown.starts_with(whole.terminal.bytes())
-        && (ran.outcome.code == Some(Code::Tty) || shown == whole.terminal.bytes())
+fn ends_so(outcome: Outcome, row: &Row) -> bool {
+    outcome.code == row.code && outcome.steps == row.steps.unwrap_or(outcome.steps)
 }
 
-/// Whether a string that lacked memory ended before its last step, with what its whole steps did.
-fn ends_between(alloc: Global, row: &Row, ran: &Ran) -> bool {
-    let (text, _, _, steps, typed) = *row;
-    let done = ran.outcome.steps;
-    done < steps
-        && typed.as_bytes().starts_with(ran.terminal.bytes())
-        && is_whole(ran, &run_anew(alloc, text, done))
+/// Whether memory was refused for a step, or for what it types.
+fn lacked_memory(outcome: Outcome) -> bool {
+    outcome.code == Some(Code::Mem) || outcome.code == Some(Code::Tty)
 }
 
-/// The text ends so. Where memory was refused, its whole steps did what they do, and it is run a second time.
-fn ends(rt: &impl Abort, alloc: Global, row: &Row) {
-    let first = run_anew(alloc, row.0, row.1);
-    let held = if lacks_memory(&first) {
-        ends_between(alloc, row, &first) && is_so(&run_anew(alloc, row.0, row.1), row)
+/// How a try of a row went.
+#[derive(Clone, Copy, PartialEq, Eq)]
+enum Tried {
+    Held,
+    /// Memory was refused, and no more was typed than is to be.
+    LackedMemory,
+    Failed,
+}
+
+fn told(editor: &Editor, typed: &[u8], outcome: Outcome, row: &Row) -> Tried {
+    let wanted = row.typed.as_bytes();
+    if ends_so(outcome, row) && typed == wanted && has_written(editor, row.written) {
+        Tried::Held
+    } else if lacked_memory(outcome) && wanted.starts_with(typed) {
+        Tried::LackedMemory
     } else {
-        is_so(&first, row)
-    };
-    assert_of(rt, row.0, held);
+        Tried::Failed
+    }
 }
 
-pub(super) fn all_end(rt: &impl Abort, alloc: Global, rows: &[Row]) {
+fn try_row(alloc: Global, row: &Row) -> Tried {
+    let mut editor = editor_over(alloc, row.input);
+    let mut terminal = MemoryTerminal::new(alloc);
+    let outcome = run(&mut editor, row.text, row.limit, &mut terminal);
+    told(&editor, terminal.bytes(), outcome, row)
+}
+
+/// Whether a row holds; where memory was refused, at the second time.
+pub(super) fn holds(alloc: Global, row: &Row) -> bool {
+    let first = try_row(alloc, row);
+    first == Tried::Held || first == Tried::LackedMemory && try_row(alloc, row) == Tried::Held
+}
+
+/// A text, the code by which it ends, its steps, and what it types.
+pub(super) type Ends<'a> = (&'a str, Option<Code>, u64, &'a str);
+
+fn row_of<'a>(limit: u64, ends: &Ends<'a>) -> Row<'a> {
+    let (text, code, steps, typed) = *ends;
+    Row {
+        limit,
+        steps: Some(steps),
+        ..Row::new(text.as_bytes(), typed, code)
+    }
+}
+
+pub(super) fn all_end(rt: &impl Abort, alloc: Global, rows: &[Ends]) {
     for row in rows {
-        ends(rt, alloc, row);
+        assert_of(rt, row.0, holds(alloc, &row_of(1000, row)));
+    }
+}
+
+/// Each row under its own limit.
+fn all_end_within(rt: &impl Abort, alloc: Global, rows: &[(u64, Ends)]) {
+    for (limit, row) in rows {
+        assert_of(rt, row.0, holds(alloc, &row_of(*limit, row)));
     }
 }
 
@@ -80,16 +125,17 @@ fn straight_strings_end_as_they_mean(rt: HostRuntime) {
         &rt,
         rt.alloc(),
         &[
-            ("Ihello\x1b0J3C.=\x1b", 1000, None, 7, "3\r\n"),
-            ("2+3*4=\x1b", 1000, None, 6, "20\r\n"),
-            ("2147483647+1=\x1b", 1000, Some(Code::Ovf), 3, ""),
-            ("5J\x1b", 1000, Some(Code::Pop), 2, ""),
-            ("256I\x1b", 1000, Some(Code::Arg), 2, ""),
-            ("\x1b", 1000, None, 0, ""),
-            ("1===\x1b", 1000, Some(Code::Ill), 1, ""),
-            ("7=Iab", 1000, Some(Code::Utc), 2, "7\r\n"),
-            ("1\x1b=", 1000, Some(Code::Nae), 2, ""),
-            ("Ia\nb\x1b0T-T\x1b", 1000, None, 5, "ba\nb"),
+            ("Ihello\x1b0J3C.=\x1b", None, 7, "3\r\n"),
+            ("2+3*4=\x1b", None, 6, "20\r\n"),
+            ("2\r\n+\0 3=", None, 4, "5\r\n"),
+            ("2147483647+1=\x1b", Some(Code::Ovf), 3, ""),
+            ("5J\x1b", Some(Code::Pop), 2, ""),
+            ("256I\x1b", Some(Code::Arg), 2, ""),
+            ("\x1b", None, 0, ""),
+            ("1===\x1b", Some(Code::Ill), 1, ""),
+            ("7=Iab", Some(Code::Utc), 2, "7\r\n"),
+            ("1\x1b=", Some(Code::Nae), 2, ""),
+            ("Ia\nb\x1b0T-T\x1b", None, 5, "ba\nb"),
         ],
     );
 }
@@ -97,17 +143,17 @@ fn straight_strings_end_as_they_mean(rt: HostRuntime) {
 // The last is an iteration without end, under the limit that strings have by default.
 #[test]
 fn strings_end_at_their_limit(rt: HostRuntime) {
-    all_end(
+    all_end_within(
         &rt,
         rt.alloc(),
         &[
-            ("1=\x1b", 0, Some(Code::Lim), 0, ""),
-            ("1=\x1b", 1, Some(Code::Lim), 1, ""),
-            ("1=\x1b", 2, None, 2, "1\r\n"),
-            ("!x!Ox\x1b", 5, Some(Code::Lim), 5, ""),
-            ("<>", 1000, Some(Code::Lim), 1000, ""),
-            ("<Ox\x1b!x!>", 1000, Some(Code::Lim), 1000, ""),
-            ("<>", 1_000_000, Some(Code::Lim), 1_000_000, ""),
+            (0, ("1=\x1b", Some(Code::Lim), 0, "")),
+            (1, ("1=\x1b", Some(Code::Lim), 1, "")),
+            (2, ("1=\x1b", None, 2, "1\r\n")),
+            (5, ("!x!Ox\x1b", Some(Code::Lim), 5, "")),
+            (1000, ("<>", Some(Code::Lim), 1000, "")),
+            (1000, ("<Ox\x1b!x!>", Some(Code::Lim), 1000, "")),
+            (1_000_000, ("<>", Some(Code::Lim), 1_000_000, "")),
         ],
     );
 }

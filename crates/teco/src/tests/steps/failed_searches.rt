@@ -1,51 +1,101 @@
 //! Searches that are refused or fail, and what they leave.
 use super::all_type;
 use crate::tests::assert_of;
-use crate::tests::strings::run_anew;
+use crate::tests::requests::all_answered;
 use std::alloc::Global;
 use std::process::Abort;
 use std::test::*;
 use teco_core::Code;
-use teco_store::Desk;
 
-/// A text, how it ends, and the pointer, the last search text and its result after it.
-type Row<'a> = (&'a str, Code, usize, Option<&'a str>, bool);
+/// A text and the code by which it ends; then a text that is run after it, its code, and what it types.
+type Leaves<'a> = (&'a str, Code, &'a str, Option<Code>, &'a str);
 
-fn fails_once(alloc: Global, row: &Row) -> bool {
-    let (text, code, pointer, last, result) = *row;
-    let ran = run_anew(alloc, text, 1000);
-    ran.outcome.code == Some(code)
-        && ran.editor.pointer() == pointer
-        && ran.editor.last_search() == last.map(str::as_bytes)
-        && ran.editor.last_result() == result
+fn leaves(alloc: Global, row: &Leaves) -> bool {
+    let (text, code, next, next_code, typed) = *row;
+    let asks = [(text, Some(code), ""), (next, next_code, "")];
+    all_answered(alloc, b"", &asks, typed)
 }
 
-/// The rows hold; where memory was refused, a second time.
-fn all_fail(rt: &impl Abort, alloc: Global, rows: &[Row]) {
+fn all_leave(rt: &impl Abort, alloc: Global, rows: &[Leaves]) {
     for row in rows {
-        assert_of(rt, row.0, fails_once(alloc, row) || fails_once(alloc, row));
+        assert_of(rt, row.0, leaves(alloc, row));
+    }
+}
+
+// The next string types the pointer, then 9 if the last search has found, and where its text is.
+#[test]
+fn searches_fail(rt: HostRuntime) {
+    all_leave(
+        &rt,
+        rt.alloc(),
+        &[
+            (
+                "Ia\x1bSx\x1b",
+                Code::Srh,
+                ".=1<;9=>Ix\x1bJ:S\x1b=.=",
+                None,
+                "0\r\n-1\r\n1\r\n",
+            ),
+            (
+                "Iab\x1bJSb\x1bS\x1b",
+                Code::Srh,
+                ".=1<;9=>:S\x1b=.=",
+                None,
+                "0\r\n-1\r\n2\r\n",
+            ),
+            (
+                "Iaaa\x1b-2Saa\x1b",
+                Code::Srh,
+                ".=1<;9=>:S\x1b=.=",
+                None,
+                "0\r\n-1\r\n2\r\n",
+            ),
+            (
+                "Iabc\x1bFSz\x1bx\x1b",
+                Code::Srh,
+                ".=1<;9=>Iz\x1bJ:S\x1b=.=",
+                None,
+                "0\r\n-1\r\n1\r\n",
+            ),
+            (
+                "Ia\x1bJSa\x1b0S\x12\x1b",
+                Code::Isa,
+                ".=1<;9=>J:S\x1b=.=",
+                None,
+                "1\r\n9\r\n-1\r\n1\r\n",
+            ),
+            (
+                "Ia\x1bJSa\x1bS\x12\x1b",
+                Code::Ice,
+                ".=1<;9=>J:S\x1b=.=",
+                None,
+                "1\r\n9\r\n-1\r\n1\r\n",
+            ),
+        ],
+    );
+}
+
+/// Each text ends by its code where nothing has been searched, and leaves it so, with the pointer at 1.
+fn all_refused(rt: &impl Abort, alloc: Global, rows: &[(&str, Code)]) {
+    for (text, code) in rows {
+        let row = (*text, *code, ".=1<;9=>J:S\x1b=.=", Some(Code::Iss), "1\r\n");
+        assert_of(rt, text, leaves(alloc, &row));
     }
 }
 
 #[test]
-fn searches_are_refused_or_fail(rt: HostRuntime) {
-    all_fail(
+fn searches_are_refused(rt: HostRuntime) {
+    all_refused(
         &rt,
         rt.alloc(),
         &[
-            ("Ia\x1bSx\x1b", Code::Srh, 0, Some("x"), false),
-            ("Iab\x1bJSb\x1bS\x1b", Code::Srh, 0, Some("b"), false),
-            ("Iaaa\x1b-2Saa\x1b", Code::Srh, 0, Some("aa"), false),
-            ("Iabc\x1bFSz\x1bx\x1b", Code::Srh, 0, Some("z"), false),
-            ("Ia\x1bS\x1b", Code::Iss, 1, None, false),
-            ("Ia\x1b0S\x1b", Code::Isa, 1, None, false),
-            ("Ia\x1bJSa\x1b0S\x12\x1b", Code::Isa, 1, Some("a"), true),
-            ("Ia\x1bJSa\x1bS\x12\x1b", Code::Ice, 1, Some("a"), true),
-            ("Ia\x1b:S\x05[a\x1b", Code::Ice, 1, None, false),
-            ("Ia\x1b::S\x1b", Code::Iss, 1, None, false),
-            ("Ia\x1b1::Sa\x1b", Code::Arg, 1, None, false),
-            ("Ia\x1b1,1FSa\x1bb\x1b", Code::Arg, 1, None, false),
-            ("Ia\x1b(0S\x1b", Code::Mrp, 1, None, false),
+            ("Ia\x1bS\x1b", Code::Iss),
+            ("Ia\x1b0S\x1b", Code::Isa),
+            ("Ia\x1b:S\x05[a\x1b", Code::Ice),
+            ("Ia\x1b::S\x1b", Code::Iss),
+            ("Ia\x1b1::Sa\x1b", Code::Arg),
+            ("Ia\x1b1,1FSa\x1bb\x1b", Code::Arg),
+            ("Ia\x1b(0S\x1b", Code::Mrp),
         ],
     );
 }

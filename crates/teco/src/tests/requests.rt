@@ -1,0 +1,51 @@
+//! Requests of a session, one after another.
+use super::bytes::joined;
+use std::alloc::Global;
+use teco_core::{Code, FILE_LIMIT};
+use teco_session::Session;
+use teco_step::MemoryTerminal;
+use teco_store::Desk;
+
+/// A request, the code of its answer, and the output after it. `{` undoes a string, and `}` redoes one.
+pub(super) type Asks<'a> = (&'a str, Option<Code>, &'a str);
+
+fn code_of(session: &mut Session, request: &str, term: &mut MemoryTerminal) -> Option<Code> {
+    match request {
+        "{" => session.undo().err().map(Code::from),
+        "}" => session.redo().err().map(Code::from),
+        text => session.run(text.as_bytes(), 1000, term).code(),
+    }
+}
+
+fn is_answered(session: &mut Session, row: &Asks, term: &mut MemoryTerminal) -> bool {
+    let (request, code, output) = *row;
+    code_of(session, request, term) == code && session.editor().output() == output.as_bytes()
+}
+
+fn are_answered(session: &mut Session, rows: &[Asks], term: &mut MemoryTerminal) -> bool {
+    let mut held = true;
+    for row in rows {
+        held = is_answered(session, row, term) && held;
+    }
+    held
+}
+
+pub(super) fn session_over(alloc: Global, input: &[u8]) -> Session {
+    let input = joined(alloc, &[input]);
+    if input.len() > FILE_LIMIT {
+        return Session::new(Vec::new(alloc));
+    }
+    Session::new(input)
+}
+
+/// Whether the requests are answered so over an input, and type this in all.
+fn answers(alloc: Global, input: &[u8], rows: &[Asks], typed: &str) -> bool {
+    let mut session = session_over(alloc, input);
+    let mut term = MemoryTerminal::new(alloc);
+    are_answered(&mut session, rows, &mut term) && term.bytes() == typed.as_bytes()
+}
+
+/// The same; where memory was refused, at the second time.
+pub(super) fn all_answered(alloc: Global, input: &[u8], rows: &[Asks], typed: &str) -> bool {
+    answers(alloc, input, rows, typed) || answers(alloc, input, rows, typed)
+}
