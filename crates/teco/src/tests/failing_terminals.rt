@@ -28,18 +28,22 @@ impl Write for Short {
     }
 }
 
-/// How `1=2=3C` ends where it can type so many bytes, and the pointer after it.
-fn run_short(alloc: Global, left: usize) -> (Outcome, usize) {
-    let mut editor = Editor::new(Vec::new(alloc));
+fn run_short(editor: &mut Editor, left: usize) -> Outcome {
     let mut terminal = WriterTerminal::new(Short { left });
-    let outcome = run(&mut editor, b"1=2=3C", 1000, &mut terminal);
-    (outcome, editor.pointer())
+    run(editor, b"1=2=3C", 1000, &mut terminal)
+}
+
+/// Whether `1=2=3C` ends so where it can type so many bytes, and leaves the pointer.
+fn ends_short(alloc: Global, left: usize, wanted: Outcome) -> bool {
+    let mut editor = Editor::new(Vec::new(alloc));
+    let outcome = run_short(&mut editor, left);
+    outcome == wanted && editor.pointer() == 0
 }
 
 /// It ends by this code after so many steps.
 fn ends_after(rt: &impl Abort, alloc: Global, left: usize, code: Code, steps: u64) {
     let code = Some(code);
-    let held = run_short(alloc, left) == (Outcome { code, steps }, 0);
+    let held = ends_short(alloc, left, Outcome { code, steps });
     assert!(rt; held, "after {left} bytes");
 }
 

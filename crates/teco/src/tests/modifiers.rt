@@ -23,11 +23,16 @@ fn begins(text: &[u8]) -> Option<bool> {
     }
 }
 
+/// Whether modifiers are read before a command as they are to be.
+fn is_read(alloc: Global, modifiers: &str, command: &str, wanted: bool) -> bool {
+    let text = modified(alloc, modifiers, command);
+    begins(text.as_slice()) == Some(wanted)
+}
+
 /// A command admits these modifiers, and no others of the four.
 fn admits(rt: &impl Abort, alloc: Global, admitted: &[&str], command: &str) {
-    for modifiers in MODIFIERS {
-        let text = modified(alloc, modifiers, command);
-        let held = begins(text.as_slice()) == Some(admitted.contains(&modifiers));
+    for modifiers in MODIFIERS.iter() {
+        let held = is_read(alloc, modifiers, command, admitted.contains(modifiers));
         assert!(rt; held, "{modifiers}{command:?}");
     }
 }

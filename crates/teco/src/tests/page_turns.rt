@@ -27,10 +27,17 @@ fn all_end_so(rt: &impl Abort, alloc: Global, rows: &[Ends]) {
     }
 }
 
-/// Each row under its own limit.
-fn all_end_within(rt: &impl Abort, alloc: Global, rows: &[(u64, Ends)]) {
-    for (limit, row) in rows {
-        assert_of(rt, row.0, holds(alloc, &row_of(*limit, row)));
+/// The same after the limit of steps.
+type Limited<'a> = (u64, &'a str, Option<Code>, u64, &'a str, &'a str, bool);
+
+fn limited_row<'a>(limited: &Limited<'a>) -> Row<'a> {
+    let (limit, text, code, steps, typed, output, done) = *limited;
+    row_of(limit, &(text, code, steps, typed, output, done))
+}
+
+fn all_end_within(rt: &impl Abort, alloc: Global, rows: &[Limited]) {
+    for row in rows {
+        assert_of(rt, row.1, holds(alloc, &limited_row(row)));
     }
 }
 
@@ -122,12 +129,12 @@ fn pages_are_turned_up_to_the_limit(rt: HostRuntime) {
         &rt,
         rt.alloc(),
         &[
-            (2, ("2P", Some(Code::Lim), 2, "", "", false)),
-            (5, ("2147483647P", Some(Code::Lim), 5, "", "a\x0cb", false)),
-            (4, ("YNb\x1b", None, 4, "", "a\x0c", false)),
-            (3, ("YNb\x1b", Some(Code::Lim), 3, "", "a\x0c", false)),
-            (2, ("YNb\x1b", Some(Code::Lim), 2, "", "", false)),
-            (2, ("_a\x1b", Some(Code::Lim), 2, "", "", false)),
+            (2, "2P", Some(Code::Lim), 2, "", "", false),
+            (5, "2147483647P", Some(Code::Lim), 5, "", "a\x0cb", false),
+            (4, "YNb\x1b", None, 4, "", "a\x0c", false),
+            (3, "YNb\x1b", Some(Code::Lim), 3, "", "a\x0c", false),
+            (2, "YNb\x1b", Some(Code::Lim), 2, "", "", false),
+            (2, "_a\x1b", Some(Code::Lim), 2, "", "", false),
         ],
     );
 }

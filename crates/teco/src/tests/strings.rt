@@ -112,10 +112,17 @@ pub(super) fn all_end(rt: &impl Abort, alloc: Global, rows: &[Ends]) {
     }
 }
 
-/// Each row under its own limit.
-fn all_end_within(rt: &impl Abort, alloc: Global, rows: &[(u64, Ends)]) {
-    for (limit, row) in rows {
-        assert_of(rt, row.0, holds(alloc, &row_of(*limit, row)));
+/// The same after the limit of steps.
+type Limited<'a> = (u64, &'a str, Option<Code>, u64, &'a str);
+
+fn limited_row<'a>(limited: &Limited<'a>) -> Row<'a> {
+    let (limit, text, code, steps, typed) = *limited;
+    row_of(limit, &(text, code, steps, typed))
+}
+
+fn all_end_within(rt: &impl Abort, alloc: Global, rows: &[Limited]) {
+    for row in rows {
+        assert_of(rt, row.1, holds(alloc, &limited_row(row)));
     }
 }
 
@@ -147,13 +154,13 @@ fn strings_end_at_their_limit(rt: HostRuntime) {
         &rt,
         rt.alloc(),
         &[
-            (0, ("1=\x1b", Some(Code::Lim), 0, "")),
-            (1, ("1=\x1b", Some(Code::Lim), 1, "")),
-            (2, ("1=\x1b", None, 2, "1\r\n")),
-            (5, ("!x!Ox\x1b", Some(Code::Lim), 5, "")),
-            (1000, ("<>", Some(Code::Lim), 1000, "")),
-            (1000, ("<Ox\x1b!x!>", Some(Code::Lim), 1000, "")),
-            (1_000_000, ("<>", Some(Code::Lim), 1_000_000, "")),
+            (0, "1=\x1b", Some(Code::Lim), 0, ""),
+            (1, "1=\x1b", Some(Code::Lim), 1, ""),
+            (2, "1=\x1b", None, 2, "1\r\n"),
+            (5, "!x!Ox\x1b", Some(Code::Lim), 5, ""),
+            (1000, "<>", Some(Code::Lim), 1000, ""),
+            (1000, "<Ox\x1b!x!>", Some(Code::Lim), 1000, ""),
+            (1_000_000, "<>", Some(Code::Lim), 1_000_000, ""),
         ],
     );
 }

@@ -57,6 +57,17 @@ fn searches_fail(rt: HostRuntime) {
                 None,
                 "0\r\n-1\r\n1\r\n",
             ),
+        ],
+    );
+}
+
+// A search that is refused leaves all as the last one left it.
+#[test]
+fn searches_are_refused_after_another(rt: HostRuntime) {
+    all_leave(
+        &rt,
+        rt.alloc(),
+        &[
             (
                 "Ia\x1bJSa\x1b0S\x12\x1b",
                 Code::Isa,
