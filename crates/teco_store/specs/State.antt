@@ -1,5 +1,5 @@
 -- The editing state, its beginning, and its limits.
-use Rattle.std.specs.Prelude.{◌≡◌, ℕ, ◌≤◌, Bool, false, List, [], ◌∷◌, ◌++◌, ◌+◌, length, take, drop, slice_index_or, Option, Some, None, ℤ}
+use Rattle.std.specs.Prelude.{◌≡◌, ℕ, ◌<◌, ◌≤◌, Bool, false, List, [], ◌∷◌, ◌++◌, ◌+◌, length, take, drop, slice_index_or, Option, Some, None, ℤ}
 use Rattle.std.specs.List.{All}
 use Rattle.std.specs.Option.{ForSome}
 use Rattle.teco_core.specs.declared.case_mode.CaseMode.{CaseMode}
@@ -7,30 +7,76 @@ use Rattle.teco_core.specs.declared.case_mode.CaseMode.TheVariants.{Exact}
 use Rattle.teco_core.specs.Register.{Content, blank, blank_registers, content, with_content, with_number, with_text}
 use Rattle.teco_core.specs.declared.limits.TheConstants.{FILE_LIMIT, PUSHED_LIMIT, TEXT_LIMIT}
 
-pub record State : Type 0 where
+-- the parts of the state, with an output of this kind
+pub record StateOver (O : Type 0) : Type 0 where
   pub text : List ℕ  -- of the buffer
   pub pointer : ℕ  -- from 0 to the text's length
   pub registers : List Content  -- 36, A to Z and 0 to 9
   pub pushed : List Content  -- at most 64, the last pushed first
   pub input : List ℕ
   pub place : ℕ  -- in the input
-  pub output : List ℕ
+  pub output : O
   pub form_feed : Bool  -- whether a form feed ended the page
   pub last_search : Option (List ℕ)  -- the last search text
   pub last_found : Bool  -- the last search result
   pub is_done : Bool  -- after an exit
   pub case_mode : CaseMode
 
--- the beginning, with this input
-abbrev pub beginning : List ℕ → State
-beginning input = record {
+-- the editing state, whose output is a list of bytes
+abbrev pub State : Type 0
+State = StateOver (List ℕ)
+
+-- what changes turn: of the output only how many bytes it has
+abbrev pub Body : Type 0
+Body = StateOver ℕ
+
+-- An editor: what changes turn, the stored output, also beyond the output's end, and the capacity of the buffer. Clauses name the
+-- state of an editor by `state_of`.
+pub record Full : Type 0 where
+  pub body : Body
+  pub stored : List ℕ
+  pub room : ℕ
+
+-- the state that a body is, where these bytes of output are stored
+abbrev pub state_at : List ℕ → Body → State
+state_at stored b = record {
+  text = b.text;
+  pointer = b.pointer;
+  registers = b.registers;
+  pushed = b.pushed;
+  input = b.input;
+  place = b.place;
+  output = take b.output stored;
+  form_feed = b.form_feed;
+  last_search = b.last_search;
+  last_found = b.last_found;
+  is_done = b.is_done;
+  case_mode = b.case_mode;
+}
+
+-- what the language sees of an editor
+abbrev pub state_of : Full → State
+state_of f = state_at f.stored f.body
+
+-- an editor with these bytes stored after its output, and with this capacity
+abbrev pub with_stored : Full → List ℕ → ℕ → Full
+with_stored f more room = record f { stored = take f.body.output f.stored ++ more; room = room }
+
+-- where an output of so many bytes ends; none where that is past its limit
+abbrev pub IsEnd : Option ℕ → ℕ → Type 0
+IsEnd None n = FILE_LIMIT < n
+IsEnd (Some end) n = (end ≡ n) × (n ≤ FILE_LIMIT)
+
+-- the beginning, with this output and this input
+abbrev pub beginning_over : {O : Type 0} → O → List ℕ → StateOver O
+beginning_over output input = record {
   text = [];
   pointer = 0;
   registers = blank_registers;
   pushed = [];
   input = input;
   place = 0;
-  output = [];
+  output = output;
   form_feed = false;
   last_search = None;
   last_found = false;
@@ -38,22 +84,33 @@ beginning input = record {
   case_mode = Exact;
 }
 
+-- the beginning, with this input
+abbrev pub beginning : List ℕ → State
+beginning input = beginning_over [] input
+
+-- an editor at the beginning
+abbrev pub new_full : List ℕ → Full
+new_full input = record { body = beginning_over 0 input; stored = []; room = 0 }
+
 -- each of these texts is within its limit
 abbrev pub AreSmall : List Content → Type 0
 AreSmall contents = All (λ c. length c.text ≤ TEXT_LIMIT) contents
 
--- The pointer is in the text and the place in the input, the registers are all there, and each part is within its limit.
-pub record IsSound (s : State) : Type 0 where
-  pub pointer : s.pointer ≤ length s.text
-  pub text : length s.text ≤ TEXT_LIMIT
-  pub all : length s.registers ≡ 36
-  pub registers : AreSmall s.registers
-  pub few : length s.pushed ≤ PUSHED_LIMIT
-  pub pushed : AreSmall s.pushed
-  pub place : s.place ≤ length s.input
-  pub input : length s.input ≤ FILE_LIMIT
-  pub output : length s.output ≤ FILE_LIMIT
-  pub last_search : ForSome s.last_search (λ text. length text ≤ TEXT_LIMIT)
+-- The pointer is in the text, the place in the input and the output's end in the `top` bytes that are stored; the registers are all
+-- there; each part is within its limit, and the text within the capacity.
+pub record IsSound (capacity top : ℕ) (b : Body) : Type 0 where
+  pub pointer : b.pointer ≤ length b.text
+  pub text : length b.text ≤ TEXT_LIMIT
+  pub room : length b.text ≤ capacity
+  pub all : length b.registers ≡ 36
+  pub registers : AreSmall b.registers
+  pub few : length b.pushed ≤ PUSHED_LIMIT
+  pub pushed : AreSmall b.pushed
+  pub place : b.place ≤ length b.input
+  pub input : length b.input ≤ FILE_LIMIT
+  pub stored : b.output ≤ top
+  pub output : b.output ≤ FILE_LIMIT
+  pub last_search : ForSome b.last_search (λ text. length text ≤ TEXT_LIMIT)
 
 -- a text with these bytes for those between two places
 abbrev pub replaced : List ℕ → ℕ → ℕ → List ℕ → List ℕ
@@ -65,37 +122,30 @@ pointer_after at put (Some place) = place
 pointer_after at put None = at + length put
 
 -- these bytes in place of so many at a place
-abbrev pub spliced : State → ℕ → ℕ → List ℕ → Option ℕ → State
+abbrev pub spliced : {O : Type 0} → StateOver O → ℕ → ℕ → List ℕ → Option ℕ → StateOver O
 spliced s at deleted put point = record s { text = replaced s.text at (at + deleted) put; pointer = pointer_after at put point }
 
-abbrev pub pointed : State → ℕ → State
+abbrev pub pointed : {O : Type 0} → StateOver O → ℕ → StateOver O
 pointed s place = record s { pointer = place }
 
 -- another number in the register q, or another text
-abbrev pub with_register_number : State → ℕ → ℤ → State
+abbrev pub with_register_number : {O : Type 0} → StateOver O → ℕ → ℤ → StateOver O
 with_register_number s q n = record s { registers = with_number s.registers q n }
 
-abbrev pub with_register_text : State → ℕ → List ℕ → State
+abbrev pub with_register_text : {O : Type 0} → StateOver O → ℕ → List ℕ → StateOver O
 with_register_text s q text = record s { registers = with_text s.registers q text }
 
 -- What the register q holds goes onto the push-down list.
-abbrev pub pushed_from : State → ℕ → State
+abbrev pub pushed_from : {O : Type 0} → StateOver O → ℕ → StateOver O
 pushed_from s q = record s { pushed = content s.registers q ∷ s.pushed }
 
 -- what was pushed last
-abbrev pub last_pushed : State → Content
+abbrev pub last_pushed : {O : Type 0} → StateOver O → Content
 last_pushed s = slice_index_or s.pushed 0 blank
 
 -- What was pushed last goes off the list, and into the register q.
-abbrev pub popped_into : State → ℕ → State
+abbrev pub popped_into : {O : Type 0} → StateOver O → ℕ → StateOver O
 popped_into s q = record s { registers = with_content s.registers q (last_pushed s); pushed = drop 1 s.pushed }
 
-abbrev pub with_case : State → CaseMode → State
+abbrev pub with_case : {O : Type 0} → StateOver O → CaseMode → StateOver O
 with_case s mode = record s { case_mode = mode }
-
--- What contracts see of an editor. Clauses name its state by `state_of`, and nothing else of it.
-pub record EditorView : Type 0 where
-  pub state : State
-
-abbrev pub state_of : EditorView → State
-state_of editor = editor.state

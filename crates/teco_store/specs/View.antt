@@ -1,18 +1,18 @@
 -- What contracts see of an editor.
 use Rattle.std.specs.Prelude.{option_map}
 use Rattle.teco_gap.specs.Gap.{text}
-use Rattle.teco_store.specs.State.{EditorView, State}
+use Rattle.teco_store.specs.State.{Body, Full}
 use Rattle.teco_store.specs.declared.editor.Editor.TheInside.{Inside}
 
-abbrev pub state_in : Inside → State
-state_in e = record {
+abbrev pub body_in : Inside → Body
+body_in e = record {
   text = text e.text;
   pointer = e.pointer;
   registers = e.registers;
   pushed = e.pushed;
   input = e.input.items;
   place = e.place;
-  output = e.output.items;
+  output = e.shown;
   form_feed = e.form_feed;
   last_search = option_map (λ v. v.items) e.last_search;
   last_found = e.last_found;
@@ -20,5 +20,5 @@ state_in e = record {
   case_mode = e.case_mode;
 }
 
-abbrev pub view_in : Inside → EditorView
-view_in e = record { state = state_in e }
+abbrev pub full_in : Inside → Full
+full_in e = record { body = body_in e; stored = e.output.items; room = e.text.cap }

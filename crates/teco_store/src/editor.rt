@@ -1,17 +1,23 @@
 //! The editor: one editing state.
-ghost use Rattle.std.specs.Prelude.{◌≡◌, ◌≤◌, vec_len, IfOk};
-ghost use Rattle.teco_store.specs.State.{beginning, state_of};
+ghost use Rattle.std.specs.Prelude.{◌≡◌, ◌≤◌, ◌++◌, length, take, drop, vec_len, IfOk, OnOk, OnErr};
+ghost use Rattle.teco_store.specs.Page.{finished, form_feed_if, left_of, turned, with_range_written, written};
+ghost use Rattle.teco_store.specs.State.{IsEnd, IsSound, new_full, state_of, with_stored};
 
 use crate::copies::{copy_files, copy_noted, copy_text, copy_values};
 use crate::desk::{Desk, Refused};
 use crate::noting::{is_long, note_text};
-use crate::pages::{append, is_past, make_room, next_page, part, replace_text};
+use crate::pages::{
+    append, end_after, is_past, make_room, next_page, part, put_after, replace_text,
+};
+use std::alloc::Global;
 use std::marker::Model;
 use teco_core::{CaseMode, FILE_LIMIT, NoMemory, PushList, Reg, Registers, TEXT_LIMIT};
 use teco_gap::GapBuffer;
 
 /// The editing state: the buffer with its pointer, the registers and the push-down list, the input and the output, and what the last
 /// search left.
+///
+/// The output ends after its first `shown` bytes. What is stored beyond them was written and taken back, and the next write drops it.
 #[derive(Drop)]
 pub struct Editor {
     text: GapBuffer,
@@ -21,6 +27,7 @@ pub struct Editor {
     input: Vec<u8>,
     place: usize,
     output: Vec<u8>,
+    shown: usize,
     form_feed: bool,
     last_search: Option<Vec<u8>>,
     last_found: bool,
@@ -29,21 +36,22 @@ pub struct Editor {
 }
 
 impl Model for Editor {
-    ghost use Rattle.teco_store.specs.State.{EditorView, IsSound};
-    ghost use Rattle.teco_store.specs.View.{state_in, view_in};
+    ghost use Rattle.std.specs.Prelude.{length};
+    ghost use Rattle.teco_store.specs.State.{Full, IsSound};
+    ghost use Rattle.teco_store.specs.View.{body_in, full_in};
 
-    ghost Value = { EditorView };
+    ghost Value = { Full };
 
-    ghost view = { view_in };
+    ghost view = { full_in };
 
-    ghost invariant = { λ e. IsSound (state_in e) };
+    ghost invariant = { λ e. IsSound e.text.cap (length e.output.items) (body_in e) };
 }
 
 impl Editor {
     /// The beginning of a session with this input. Takes no memory.
     pub fn new(input: Vec<u8>) -> Editor
         requires { vec_len input ≤ FILE_LIMIT }
-        ensures { state_of result ≡ beginning input.items }
+        ensures { result ≡ new_full input.items }
     {
         let alloc = *input.allocator();
         Editor {
@@ -54,6 +62,7 @@ impl Editor {
             input,
             place: 0,
             output: Vec::new(alloc),
+            shown: 0,
             form_feed: false,
             last_search: None,
             last_found: false,
@@ -78,12 +87,111 @@ impl Editor {
             input,
             place: self.place,
             output,
+            shown: self.shown,
             form_feed: self.form_feed,
             last_search,
             last_found: self.last_found,
             done: self.done,
             case_mode: self.case_mode,
         })
+    }
+}
+
+impl Editor {
+    // How many bytes of the output there are.
+    pub(crate) fn shown(&self) -> usize
+        ensures value { result ≡ self.now.body.output }
+        ensures sound { IsSound self.now.room (length self.now.stored) self.now.body }
+    {
+        self.shown
+    }
+
+    // The allocator of its parts.
+    pub(crate) fn allocator(&self) -> Global {
+        *self.input.allocator()
+    }
+
+    // Where the output ends once what is between two places of the text is written; none where that is past the limit.
+    pub(crate) fn end_after_part(&self, from: usize, to: usize, form_feed: bool) -> Option<usize>
+        requires ordered { from ≤ to }
+        requires there { to ≤ length self.now.body.text }
+        ensures { IsEnd result (length (with_range_written (state_of self.now) from to form_feed).output) }
+    {
+        let _len = self.text.len();
+        end_after(self.shown, to - from + usize::from(form_feed))
+    }
+
+    // Where it ends once the page is written.
+    pub(crate) fn end_after_page(&self) -> Option<usize>
+        ensures { IsEnd result (length (turned (state_of self.now)).output) }
+    {
+        end_after(self.shown, self.text.len() + usize::from(self.form_feed))
+    }
+
+    // Where it ends once the page and the rest of the input are written.
+    pub(crate) fn end_after_rest(&self) -> Option<usize>
+        ensures { IsEnd result (length (finished (state_of self.now)).output) }
+    {
+        let left = self.input.len() - self.place;
+        end_after(
+            self.shown,
+            self.text.len() + usize::from(self.form_feed) + left,
+        )
+    }
+
+    // Stores what is between two places of the text after the output, with a form feed where one is asked for.
+    pub(crate) fn store_part(
+        &mut self,
+        from: usize,
+        to: usize,
+        form_feed: bool,
+    ) -> Result<(), NoMemory>
+        requires ordered { from ≤ to }
+        requires there { to ≤ length self.old.body.text }
+        ensures ok { OnOk result (self.new ≡ with_stored self.old (drop from (take to self.old.body.text) ++ form_feed_if form_feed) self.old.room) }
+        ensures err { OnErr result (self.new ≡ self.old) }
+    {
+        let (before, after) = self.text.halves();
+        let (before, after) = part(before, after, from, to);
+        append(&mut self.output, self.shown, before, after, form_feed, &[])
+    }
+
+    // Stores the page after the output, and makes room for a text of `len` bytes.
+    pub(crate) fn store_page(&mut self, len: usize) -> Result<(), NoMemory>
+        ensures ok { OnOk result (self.new ≡ with_stored self.old (written (state_of self.old)) self.new.room) }
+        ensures grows { self.old.room ≤ self.new.room }
+        ensures room { OnOk result (len ≤ self.new.room) }
+        ensures err { OnErr result (self.new ≡ self.old) }
+    {
+        self.output.reserve(self.text.len() + 1)?;
+        make_room(*self.input.allocator(), &mut self.text, len)?;
+        let (before, after) = self.text.halves();
+        put_after(
+            &mut self.output,
+            self.shown,
+            before,
+            after,
+            self.form_feed,
+            &[],
+        );
+        Ok(())
+    }
+
+    // Stores the page and the rest of the input after the output.
+    pub(crate) fn store_rest(&mut self) -> Result<(), NoMemory>
+        ensures ok { OnOk result (self.new ≡ with_stored self.old (written (state_of self.old) ++ left_of (state_of self.old)) self.old.room) }
+        ensures err { OnErr result (self.new ≡ self.old) }
+    {
+        let (before, after) = self.text.halves();
+        let rest = &self.input[self.place..];
+        append(
+            &mut self.output,
+            self.shown,
+            before,
+            after,
+            self.form_feed,
+            rest,
+        )
     }
 }
 
@@ -119,7 +227,7 @@ impl Desk for Editor {
     }
 
     fn output(&self) -> &[u8] {
-        &self.output
+        &self.output[..self.shown]
     }
 
     fn flag(&self) -> bool {
@@ -230,29 +338,29 @@ impl Desk for Editor {
     }
 
     fn turn_page(&mut self) -> Result<(), Refused> {
-        let page = next_page(&self.input[self.place..]);
-        let written = self.text.len() + usize::from(self.form_feed);
-        if page.bytes.len() > TEXT_LIMIT || is_past(FILE_LIMIT, self.output.len(), written) {
+        let len = next_page(&self.input[self.place..]).bytes.len();
+        if len > TEXT_LIMIT {
             return Err(Refused::Big);
         }
-        make_room(*self.input.allocator(), &mut self.text, page.bytes.len())?;
-        let (before, after) = self.text.halves();
-        append(&mut self.output, before, after, self.form_feed, &[])?;
+        let Some(end) = self.end_after_page() else {
+            return Err(Refused::Big);
+        };
+        self.store_page(len)?;
+        let page = next_page(&self.input[self.place..]);
         replace_text(&mut self.text, page.bytes);
         self.pointer = 0;
         self.place += page.bytes.len() + usize::from(page.form_feed);
+        self.shown = end;
         self.form_feed = page.form_feed;
         Ok(())
     }
 
     fn write_out(&mut self, from: usize, to: usize, form_feed: bool) -> Result<(), Refused> {
-        let (before, after) = self.text.halves();
-        let written = to - from + usize::from(form_feed);
-        if is_past(FILE_LIMIT, self.output.len(), written) {
+        let Some(end) = self.end_after_part(from, to, form_feed) else {
             return Err(Refused::Big);
-        }
-        let (before, after) = part(before, after, from, to);
-        append(&mut self.output, before, after, form_feed, &[])?;
+        };
+        self.store_part(from, to, form_feed)?;
+        self.shown = end;
         Ok(())
     }
 
@@ -292,16 +400,14 @@ impl Desk for Editor {
     }
 
     fn finish(&mut self) -> Result<(), Refused> {
-        let (before, after) = self.text.halves();
-        let rest = &self.input[self.place..];
-        let written = before.len() + after.len() + usize::from(self.form_feed) + rest.len();
-        if is_past(FILE_LIMIT, self.output.len(), written) {
+        let Some(end) = self.end_after_rest() else {
             return Err(Refused::Big);
-        }
-        append(&mut self.output, before, after, self.form_feed, rest)?;
+        };
+        self.store_rest()?;
         replace_text(&mut self.text, &[]);
         self.pointer = 0;
         self.place = self.input.len();
+        self.shown = end;
         self.form_feed = false;
         self.done = true;
         Ok(())

@@ -3,10 +3,11 @@ ghost use Rattle.std.specs.Prelude.{◌≡◌, ◌+◌, ◌-◌, ◌<◌, ◌≤
 ghost use Rattle.std.specs.Vec.{vec_capacity};
 ghost use Rattle.teco_gap.specs.Gap.{text};
 ghost use Rattle.teco_store.specs.Page.{page_of, is_ended, form_feed_if};
+ghost use Rattle.teco_store.specs.State.{IsEnd};
 
 use memchr::memchr;
 use std::alloc::Global;
-use teco_core::NoMemory;
+use teco_core::{FILE_LIMIT, NoMemory};
 use teco_gap::GapBuffer;
 
 const FORM_FEED: u8 = 12;
@@ -41,6 +42,8 @@ pub(crate) fn next_page(left: &[u8]) -> Page<'_>
 pub(crate) fn make_room(alloc: Global, buffer: &mut GapBuffer, bytes: usize) -> Result<(), NoMemory>
     ensures same { text buffer.new ≡ text buffer.old }
     ensures room { OnOk result (bytes ≤ buffer.new.cap) }
+    ensures grows { buffer.old.cap ≤ buffer.new.cap }
+    ensures err { OnErr result (buffer.new ≡ buffer.old) }
 {
     buffer.reserve(alloc, bytes)
 }
@@ -48,7 +51,8 @@ pub(crate) fn make_room(alloc: Global, buffer: &mut GapBuffer, bytes: usize) -> 
 // Puts a page in place of the text of a buffer, which has room for it.
 pub(crate) fn replace_text(buffer: &mut GapBuffer, page: &[u8])
     requires { length page.now ≤ buffer.old.cap }
-    ensures { text buffer.new ≡ page.now }
+    ensures text { text buffer.new ≡ page.now }
+    ensures cap { buffer.new.cap ≡ buffer.old.cap }
 {
     let len = buffer.len();
     buffer.splice(0, len, page);
@@ -80,24 +84,54 @@ fn append_within(bytes: &mut Vec<u8>, more: &[u8])
     }
 }
 
-// Appends the two parts of a text, a form feed where one is asked for, and the rest; or nothing, where memory is refused.
+// Where an output of so many bytes ends once more are written; none where that is past the limit.
+pub(crate) fn end_after(shown: usize, more: usize) -> Option<usize>
+    requires { shown ≤ FILE_LIMIT }
+    ensures { IsEnd result (shown + more) }
+{
+    if is_past(FILE_LIMIT, shown, more) {
+        return None;
+    }
+    Some(shown + more)
+}
+
+// Puts the two parts of a text, a form feed where one is asked for, and the rest after the first `shown` bytes, which have room for
+// them.
+pub(crate) fn put_after(
+    output: &mut Vec<u8>,
+    shown: usize,
+    before: &[u8],
+    after: &[u8],
+    form_feed: bool,
+    rest: &[u8],
+)
+    requires there { shown ≤ length output.old.items }
+    requires room { length output.old.items + (length before.now + length after.now + length (form_feed_if form_feed) + length rest.now) ≤ vec_capacity output.old }
+    ensures { output.new.items ≡ take shown output.old.items ++ (((before.now ++ after.now) ++ form_feed_if form_feed) ++ rest.now) }
+{
+    output.truncate(shown);
+    append_within(output, before);
+    append_within(output, after);
+    append_within(output, form_feed_bytes(form_feed));
+    append_within(output, rest);
+}
+
+// The same, in room that it makes; or nothing changes, where memory is refused.
 pub(crate) fn append(
     output: &mut Vec<u8>,
+    shown: usize,
     before: &[u8],
     after: &[u8],
     form_feed: bool,
     rest: &[u8],
 ) -> Result<(), NoMemory>
-    requires { length before.now + length after.now + length rest.now + 1 < 2 ^ 64 }
-    ensures ok { OnOk result (output.new.items ≡ output.old.items ++ (((before.now ++ after.now) ++ form_feed_if form_feed) ++ rest.now)) }
+    requires there { shown ≤ length output.old.items }
+    requires few { length before.now + length after.now + length rest.now + 1 < 2 ^ 64 }
+    ensures ok { OnOk result (output.new.items ≡ take shown output.old.items ++ (((before.now ++ after.now) ++ form_feed_if form_feed) ++ rest.now)) }
     ensures err { OnErr result (output.new.items ≡ output.old.items) }
 {
-    let end = form_feed_bytes(form_feed);
-    output.reserve(before.len() + after.len() + rest.len() + end.len())?;
-    append_within(output, before);
-    append_within(output, after);
-    append_within(output, end);
-    append_within(output, rest);
+    output.reserve(before.len() + after.len() + rest.len() + usize::from(form_feed))?;
+    put_after(output, shown, before, after, form_feed, rest);
     Ok(())
 }
 

@@ -9,12 +9,14 @@ pub invariant_of-result : goal.invariant_of-result
 invariant_of-result c = record {
   pointer = search rules;
   text = search rules;
+  room = search rules;
   all = search rules;
   registers = subst AreSmall (sym c.new-2.ensures) (All-replicate (λ (c : Content). length c.text ≤ TEXT_LIMIT) 36 blank (omega arith));
   few = search rules;
   pushed = subst AreSmall (sym c.new-3.ensures) (All-replicate (λ (c : Content). length c.text ≤ TEXT_LIMIT) 0 blank (omega arith));
   place = search rules;
   input = search rules;
+  stored = search rules;
   output = search rules;
   last_search = search rules;
 }

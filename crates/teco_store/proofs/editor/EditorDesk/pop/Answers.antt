@@ -18,6 +18,7 @@ invariant_of-self c =
     record {
       pointer = search rules;
       text = search rules;
+      room = search rules;
       all = search rules;
       registers = subst AreSmall (sym c.set.ensures.put)
           (All-set IsSmall c.self.inside.registers c.args.q top (All-head IsSmall top rest (subst AreSmall c.pop-value.ensures all)) c.self.invariant.registers);
@@ -25,6 +26,7 @@ invariant_of-self c =
       pushed = All-rest IsSmall top rest old c.pop-value.ensures all;
       place = search rules;
       input = search rules;
+      stored = search rules;
       output = search rules;
       last_search = search rules;
     }
