@@ -1,6 +1,9 @@
+pub mod ChangeView
+pub mod Entry
 pub mod Page
 pub mod Refused
 pub mod Search
 pub mod State
 pub mod Trail
+pub mod Turn
 pub mod View

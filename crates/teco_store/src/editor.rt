@@ -1,15 +1,14 @@
 //! The editor: one editing state.
-ghost use Rattle.std.specs.Prelude.{◌≡◌, ◌≤◌, ◌++◌, length, take, drop, vec_len, IfOk, OnOk, OnErr};
-ghost use Rattle.teco_store.specs.Page.{finished, form_feed_if, left_of, turned, with_range_written, written};
-ghost use Rattle.teco_store.specs.State.{IsEnd, IsSound, new_full, state_of, with_stored};
+ghost use Rattle.std.specs.Prelude.{◌≡◌, ◌≤◌, vec_len, IfOk};
+ghost use Rattle.teco_store.specs.State.{new_full, state_of};
+
+mod putting;
+mod storing;
 
 use crate::copies::{copy_files, copy_noted, copy_text, copy_values};
 use crate::desk::{Desk, Refused};
 use crate::noting::{is_long, note_text};
-use crate::pages::{
-    append, end_after, is_past, make_room, next_page, part, put_after, replace_text,
-};
-use std::alloc::Global;
+use crate::pages::{is_past, make_room, next_page, replace_text};
 use std::marker::Model;
 use teco_core::{CaseMode, FILE_LIMIT, NoMemory, PushList, Reg, Registers, TEXT_LIMIT};
 use teco_gap::GapBuffer;
@@ -94,104 +93,6 @@ impl Editor {
             done: self.done,
             case_mode: self.case_mode,
         })
-    }
-}
-
-impl Editor {
-    // How many bytes of the output there are.
-    pub(crate) fn shown(&self) -> usize
-        ensures value { result ≡ self.now.body.output }
-        ensures sound { IsSound self.now.room (length self.now.stored) self.now.body }
-    {
-        self.shown
-    }
-
-    // The allocator of its parts.
-    pub(crate) fn allocator(&self) -> Global {
-        *self.input.allocator()
-    }
-
-    // Where the output ends once what is between two places of the text is written; none where that is past the limit.
-    pub(crate) fn end_after_part(&self, from: usize, to: usize, form_feed: bool) -> Option<usize>
-        requires ordered { from ≤ to }
-        requires there { to ≤ length self.now.body.text }
-        ensures { IsEnd result (length (with_range_written (state_of self.now) from to form_feed).output) }
-    {
-        let _len = self.text.len();
-        end_after(self.shown, to - from + usize::from(form_feed))
-    }
-
-    // Where it ends once the page is written.
-    pub(crate) fn end_after_page(&self) -> Option<usize>
-        ensures { IsEnd result (length (turned (state_of self.now)).output) }
-    {
-        end_after(self.shown, self.text.len() + usize::from(self.form_feed))
-    }
-
-    // Where it ends once the page and the rest of the input are written.
-    pub(crate) fn end_after_rest(&self) -> Option<usize>
-        ensures { IsEnd result (length (finished (state_of self.now)).output) }
-    {
-        let left = self.input.len() - self.place;
-        end_after(
-            self.shown,
-            self.text.len() + usize::from(self.form_feed) + left,
-        )
-    }
-
-    // Stores what is between two places of the text after the output, with a form feed where one is asked for.
-    pub(crate) fn store_part(
-        &mut self,
-        from: usize,
-        to: usize,
-        form_feed: bool,
-    ) -> Result<(), NoMemory>
-        requires ordered { from ≤ to }
-        requires there { to ≤ length self.old.body.text }
-        ensures ok { OnOk result (self.new ≡ with_stored self.old (drop from (take to self.old.body.text) ++ form_feed_if form_feed) self.old.room) }
-        ensures err { OnErr result (self.new ≡ self.old) }
-    {
-        let (before, after) = self.text.halves();
-        let (before, after) = part(before, after, from, to);
-        append(&mut self.output, self.shown, before, after, form_feed, &[])
-    }
-
-    // Stores the page after the output, and makes room for a text of `len` bytes.
-    pub(crate) fn store_page(&mut self, len: usize) -> Result<(), NoMemory>
-        ensures ok { OnOk result (self.new ≡ with_stored self.old (written (state_of self.old)) self.new.room) }
-        ensures grows { self.old.room ≤ self.new.room }
-        ensures room { OnOk result (len ≤ self.new.room) }
-        ensures err { OnErr result (self.new ≡ self.old) }
-    {
-        self.output.reserve(self.text.len() + 1)?;
-        make_room(*self.input.allocator(), &mut self.text, len)?;
-        let (before, after) = self.text.halves();
-        put_after(
-            &mut self.output,
-            self.shown,
-            before,
-            after,
-            self.form_feed,
-            &[],
-        );
-        Ok(())
-    }
-
-    // Stores the page and the rest of the input after the output.
-    pub(crate) fn store_rest(&mut self) -> Result<(), NoMemory>
-        ensures ok { OnOk result (self.new ≡ with_stored self.old (written (state_of self.old) ++ left_of (state_of self.old)) self.old.room) }
-        ensures err { OnErr result (self.new ≡ self.old) }
-    {
-        let (before, after) = self.text.halves();
-        let rest = &self.input[self.place..];
-        append(
-            &mut self.output,
-            self.shown,
-            before,
-            after,
-            self.form_feed,
-            rest,
-        )
     }
 }
 

@@ -1,12 +1,17 @@
-//! The editing state, and the desk on which it is changed.
+//! The editing state, the desk on which it is changed, and the changes by which it is turned back.
 #![tactic(auto)]
 
+mod change;
 mod copies;
 mod desk;
 mod editor;
+mod exchange;
 mod noting;
 mod pages;
+mod turning;
 
+pub use change::Change;
 pub use desk::{Desk, Refused};
 pub use editor::Editor;
 pub use pages::part;
+pub use turning::{apply, revert};

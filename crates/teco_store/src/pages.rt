@@ -74,7 +74,7 @@ fn form_feed_bytes(form_feed: bool) -> &'static [u8]
 }
 
 // Appends bytes for which there is room.
-fn append_within(bytes: &mut Vec<u8>, more: &[u8])
+pub(crate) fn append_within(bytes: &mut Vec<u8>, more: &[u8])
     requires { length bytes.old.items + length more.now ≤ vec_capacity bytes.old }
     ensures items { bytes.new.items ≡ bytes.old.items ++ more.now }
     ensures capacity { vec_capacity bytes.old ≤ vec_capacity bytes.new }

@@ -1,0 +1,60 @@
+-- What apply and revert give back.
+use Rattle.std.proofs.Common.{◌≡◌, ℕ, zero, suc, ◌+◌, ◌<◌, ◌≤◌, List, [], ◌∷◌, ◌++◌, length, take, drop, get_or, set, sym, ◌∙◌, ap, subst, arith, append_assoc}
+use Rattle.std.proofs.lemmas.List.{drop_more, take_more, length-take-le, get_or_append_left, get_or-take, set_at}
+use Rattle.teco_store.specs.State.{Body, Full, IsSound}
+use Rattle.teco_store.specs.Turn.{Turn, Note, body_after, turn_after, note_after, Stands, Fits, full_after, IsRevertible, IsApplicable}
+use Rattle.teco_store.specs.Entry.{body_back, notes_back, FitsBack}
+use Rattle.teco_store.proofs.Turns.{fits_after, body_again, turn_again}
+use Rattle.teco_store.proofs.Entries.{shown_fits, back_one}
+
+-- what turning a change once gives, to be turned once more
+pub record Cancels (f g : Full) (c d : Note) : Type 0 where
+  pub editor_again : full_after d.turn g ≡ f
+  pub change_again : note_after d g.body ≡ c
+
+cancels : (f : Full) (c : Note) → Stands c.turn f.body → Cancels f (full_after c.turn f) c (note_after c f.body)
+cancels f c fits =
+    record {
+      editor_again = ap (λ (b : Body). let x : Full = record { body = b; stored = f.stored; room = f.room } in x) (body_again c.turn f.body fits);
+      change_again = ap (λ (t : Turn). let x : Note = record { step = c.step; turn = t } in x) (turn_again c.turn f.body fits);
+    }
+
+pub turn_cancels : (f g : Full) (c d : Note) → Stands c.turn f.body → g ≡ full_after c.turn f → d ≡ note_after c f.body → Cancels f g c d
+turn_cancels f g c d fits e h = rw (e, h) (cancels f c fits)
+
+pub revert_fits : (f g : Full) (c d : Note) → IsSound f.room (length f.stored) f.body → IsRevertible c.turn f → g ≡ full_after c.turn f → d ≡ note_after c f.body → IsApplicable d.turn g
+revert_fits f g c d sound fits e h = rw (e, h) (back_one f.room (length f.stored) c.turn f.body fits sound)
+
+pub apply_fits : (f g : Full) (c d : Note) → IsSound f.room (length f.stored) f.body → IsApplicable c.turn f → g ≡ full_after c.turn f → d ≡ note_after c f.body → IsRevertible d.turn g
+apply_fits f g c d sound fits e h =
+    let again : body_after (turn_after c.turn f.body) (body_after c.turn f.body) ≡ f.body = body_again c.turn f.body fits.0.0 in
+    rw (e, h) (shown_fits f.room (length f.stored) (body_after c.turn f.body).output (turn_after c.turn f.body) (body_after c.turn f.body)
+    (fits_after f.room (length f.stored) c.turn f.body fits.0 sound)
+    (subst (λ (x : Body). x.output ≤ (body_after c.turn f.body).output) (sym again) fits.1))
+
+FitsBack-drop : (room i : ℕ) (xs : List Note) (b : Body) → FitsBack room xs b → FitsBack room (drop i xs) b
+FitsBack-drop room zero xs b f = f
+FitsBack-drop room (suc i) [] b f = tt
+FitsBack-drop room (suc i) (x ∷ xs) b f = FitsBack-drop room i xs b f.0
+
+-- one more change taken back: `x` is the one at `i`, and those from `j` on are back
+pub record OneBack (xs ys : List Note) (x : Note) (i j : ℕ) (b : Body) : Type 0 where
+  pub notes : set ys i (note_after x (body_back (drop j xs) b)) ≡ take i xs ++ notes_back (drop i xs) b
+  pub body : body_after x.turn (body_back (drop j xs) b) ≡ body_back (drop i xs) b
+  pub fits : (room : ℕ) → FitsBack room xs b → Fits room (body_back (drop j xs) b).output x.turn (body_back (drop j xs) b)
+
+pub one_back : (xs ys : List Note) (x : Note) (i j : ℕ) (b : Body) → j ≡ i + 1 → i < length xs → ys ≡ take j xs ++ notes_back (drop j xs) b → x ≡ get_or ys i x → OneBack xs ys x i j b
+one_back xs ys x i j b n lt e is =
+    let size : length (take j xs) ≡ j = length-take-le j xs (omega arith) in
+    let short : length (take i xs) ≡ i = length-take-le i xs (omega arith) in
+    let read : x ≡ get_or xs i x =
+    is ∙ ap (λ (zs : List Note). get_or zs i x) e ∙ get_or_append_left (take j xs) (notes_back (drop j xs) b) x i (omega arith) ∙ get_or-take j xs i x (omega arith) in
+    let taken : take j xs ≡ take i xs ++ x ∷ [] = ap (λ k. take k xs) n ∙ take_more xs i x lt ∙ ap (λ y. take i xs ++ y ∷ []) (sym read) in
+    let rest : drop i xs ≡ x ∷ drop j xs = drop_more xs i x lt ∙ ap (λ y. y ∷ drop (i + 1) xs) (sym read) ∙ ap (λ k. x ∷ drop k xs) (sym n) in
+    let whole : ys ≡ take i xs ++ x ∷ notes_back (drop j xs) b = e ∙ ap (λ zs. zs ++ notes_back (drop j xs) b) taken ∙ append_assoc (take i xs) (x ∷ []) (notes_back (drop j xs) b) in
+    let after : Note = note_after x (body_back (drop j xs) b) in
+    record {
+      notes = ap (λ zs. set zs i after) whole ∙ set_at (take i xs) x (notes_back (drop j xs) b) after i short ∙ ap (λ zs. take i xs ++ notes_back zs b) (sym rest);
+      body = ap (λ zs. body_back zs b) (sym rest);
+      fits = λ room f. (let h : FitsBack room (x ∷ drop j xs) b = subst (λ (zs : List Note). FitsBack room zs b) rest (FitsBack-drop room i xs b f) in h.1);
+    }

@@ -1,0 +1,28 @@
+-- What contracts see of a change.
+use Rattle.std.specs.Prelude.{◌+◌, ◌≤◌, length, option_map}
+use Rattle.std.specs.Vec.{vec_capacity}
+use Rattle.teco_core.specs.Contents.{content_of}
+use Rattle.teco_store.specs.Turn as turn
+use Rattle.teco_store.specs.Turn.{Turn}
+use Rattle.teco_store.specs.declared.change.Kind.{Kind}
+use Rattle.teco_store.specs.declared.change.Kind.TheVariants.{Splice, Point, Number, Text, Push, TakeOff, PopInto, PutBack, Pages, Search, Found, Done, Mode}
+
+abbrev pub turn_of : Kind → Turn
+turn_of (Splice p held) = turn.Splice p.at p.there p.pointer held.items
+turn_of (Point pointer) = turn.Point pointer
+turn_of (Number q number) = turn.Number q number
+turn_of (Text q held) = turn.Text q held.items
+turn_of (Push value) = turn.Push (content_of value)
+turn_of TakeOff = turn.TakeOff
+turn_of (PopInto q) = turn.PopInto q
+turn_of (PutBack q value) = turn.PutBack q (content_of value)
+turn_of (Pages place output form_feed) = turn.Pages place output form_feed
+turn_of (Search held) = turn.Search (option_map (λ v. v.items) held)
+turn_of (Found found) = turn.Found found
+turn_of (Done done) = turn.Done done
+turn_of (Mode mode) = turn.Mode mode
+
+-- the bytes that stand in a place have room beside those that are held for it
+abbrev pub HasRoom : Kind → Type 0
+HasRoom (Splice p held) = p.there + length held.items ≤ vec_capacity held
+HasRoom k = Unit {0}

@@ -1,0 +1,104 @@
+//! Changes: a part of the state, and the value that is to be put there.
+ghost use Rattle.std.specs.Prelude.{◌≡◌, ◌≤◌};
+ghost use Rattle.teco_store.specs.ChangeView.{turn_of, HasRoom};
+ghost use Rattle.teco_store.specs.Entry.{held_by};
+ghost use Rattle.teco_store.specs.Turn.{note_after, full_after, FitsFull};
+
+use crate::editor::Editor;
+use std::marker::Model;
+use std::mem;
+use teco_core::{CaseMode, Reg, Value};
+
+/// So many bytes of the text from a place on, and a place for the pointer.
+#[derive(Clone, Copy)]
+pub(crate) struct Place {
+    pub(crate) at: u32,
+    pub(crate) there: u32,
+    pub(crate) pointer: u32,
+}
+
+/// The part of the state that a change is for, with the value.
+#[derive(Drop)]
+pub(crate) enum Kind {
+    Splice(Place, Vec<u8>),
+    Point(u32),
+    Number(Reg, i32),
+    Text(Reg, Vec<u8>),
+    Push(Value),
+    TakeOff,
+    PopInto(Reg),
+    PutBack(Reg, Value),
+    Pages(u32, u32, bool),
+    Search(Option<Vec<u8>>),
+    Found(bool),
+    Done(bool),
+    Mode(CaseMode),
+}
+
+/// A part of the state and the value that is to be put there, with the steps that were done before it was noted.
+///
+/// It holds the text that it takes the place of, and no other. Turned, it holds what stood there.
+#[derive(Drop)]
+pub struct Change {
+    step: u64,
+    kind: Kind,
+}
+
+const _: () = prove!(size_of::<Change>() <= 48);
+
+impl Model for Change {
+    ghost use Rattle.teco_store.specs.Turn.{Note};
+    ghost use Rattle.teco_store.specs.ChangeView.{turn_of, HasRoom};
+
+    ghost Value = { Note };
+
+    ghost view = { λ c. record { step = c.step; turn = turn_of c.kind } };
+
+    ghost invariant = { λ c. HasRoom c.kind };
+}
+
+impl Change {
+    /// A value for a part of the state.
+    pub(crate) fn new(step: u64, kind: Kind) -> Change
+        requires { HasRoom kind }
+        ensures { result ≡ record { step = step; turn = turn_of kind } }
+    {
+        Change { step, kind }
+    }
+
+    /// The steps that were done before it.
+    pub fn step(&self) -> u64
+        ensures { result ≡ self.now.step }
+    {
+        self.step
+    }
+
+    /// The bytes of its text, if it has one.
+    pub fn held(&self) -> usize
+        ensures { result ≡ held_by self.now.turn }
+    {
+        match &self.kind {
+            Kind::Splice(_, held) | Kind::Text(_, held) | Kind::Search(Some(held)) => held.len(),
+            Kind::Push(value) | Kind::PutBack(_, value) => value.text.len(),
+            Kind::Point(_)
+            | Kind::Number(_, _)
+            | Kind::TakeOff
+            | Kind::PopInto(_)
+            | Kind::Pages(_, _, _)
+            | Kind::Search(None)
+            | Kind::Found(_)
+            | Kind::Done(_)
+            | Kind::Mode(_) => 0,
+        }
+    }
+
+    /// Swaps what it holds with what stands in its place. Takes no memory.
+    pub(crate) fn turn(&mut self, editor: &mut Editor)
+        requires { FitsFull self.old.turn editor.old }
+        ensures editor { editor.new ≡ full_after self.old.turn editor.old }
+        ensures change { self.new ≡ note_after self.old editor.old.body }
+    {
+        let kind = mem::replace(&mut self.kind, Kind::TakeOff);
+        self.kind = editor.put(kind);
+    }
+}

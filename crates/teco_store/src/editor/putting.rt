@@ -1,0 +1,127 @@
+//! Values are put in their places, and what stood there is given back.
+ghost use Rattle.std.specs.Prelude.{◌≡◌, ◌+◌, ◌≤◌, [], length};
+ghost use Rattle.std.specs.Vec.{vec_capacity};
+ghost use Rattle.teco_store.specs.ChangeView.{turn_of, HasRoom};
+ghost use Rattle.teco_store.specs.declared.change.Kind.TheVariants.{Splice, PopInto, PutBack};
+ghost use Rattle.teco_store.specs.Turn as turn;
+ghost use Rattle.teco_store.specs.Turn.{turn_after, full_after, FitsFull};
+
+use crate::change::{Kind, Place};
+use crate::editor::Editor;
+use crate::exchange::{exchange, swap_bytes};
+use std::mem;
+use teco_core::{Reg, Value};
+
+impl Editor {
+    // Puts a value in its place, and gives what stood there. Takes no memory.
+    pub(crate) fn put(&mut self, kind: Kind) -> Kind
+        requires fits { FitsFull (turn_of kind) self.old }
+        requires room { HasRoom kind }
+        ensures editor { self.new ≡ full_after (turn_of kind) self.old }
+        ensures kind { turn_of result ≡ turn_after (turn_of kind) self.old.body }
+        ensures room { HasRoom result }
+    {
+        match kind {
+            Kind::Splice(place, held) => self.put_splice(place, held),
+            Kind::Point(pointer) => {
+                Kind::Point(mem::replace(&mut self.pointer, pointer as usize) as u32)
+            }
+            Kind::Number(q, number) => {
+                let registers = &mut self.registers;
+                let there = registers.number(q);
+                registers.set_number(q, number);
+                Kind::Number(q, there)
+            }
+            Kind::Text(q, mut held) => {
+                self.registers.swap_text(q, &mut held);
+                Kind::Text(q, held)
+            }
+            Kind::Push(value) => {
+                self.pushed.push(value);
+                Kind::TakeOff
+            }
+            Kind::TakeOff => Kind::Push(self.pushed.pop()),
+            Kind::PopInto(q) => self.put_popped(q),
+            Kind::PutBack(q, value) => self.put_back(q, value),
+            Kind::Pages(place, output, form_feed) => Kind::Pages(
+                mem::replace(&mut self.place, place as usize) as u32,
+                mem::replace(&mut self.shown, output as usize) as u32,
+                mem::replace(&mut self.form_feed, form_feed),
+            ),
+            Kind::Search(held) => Kind::Search(mem::replace(&mut self.last_search, held)),
+            Kind::Found(found) => Kind::Found(mem::replace(&mut self.last_found, found)),
+            Kind::Done(done) => Kind::Done(mem::replace(&mut self.done, done)),
+            Kind::Mode(mode) => Kind::Mode(mem::replace(&mut self.case_mode, mode)),
+        }
+    }
+
+    // Puts bytes of the text in their place.
+    fn put_splice(&mut self, place: Place, held: Vec<u8>) -> Kind
+        requires fits { FitsFull (turn_of (Splice place held)) self.old }
+        requires room { HasRoom (Splice place held) }
+        ensures editor { self.new ≡ full_after (turn_of (Splice place held)) self.old }
+        ensures kind { turn_of result ≡ turn_after (turn_of (Splice place held)) self.old.body }
+        ensures room { HasRoom result }
+    {
+        let there = held.len() as u32;
+        let held = swap_bytes(
+            &mut self.text,
+            place.at as usize,
+            place.there as usize,
+            held,
+        );
+        let pointer = mem::replace(&mut self.pointer, place.pointer as usize) as u32;
+        let at = place.at;
+        Kind::Splice(Place { at, there, pointer }, held)
+    }
+
+    // Puts `ins` for the `there` bytes at `at`, and gives those that stood there in `held`, which is empty.
+    pub(crate) fn exchange(
+        &mut self,
+        at: usize,
+        there: usize,
+        ins: &[u8],
+        pointer: usize,
+        held: Vec<u8>,
+    ) -> Kind
+        requires empty { held.items ≡ [] }
+        requires room { there + length ins.now ≤ vec_capacity held }
+        requires fits { FitsFull (turn.Splice at there pointer ins.now) self.old }
+        ensures editor { self.new ≡ full_after (turn.Splice at there pointer ins.now) self.old }
+        ensures kind { turn_of result ≡ turn_after (turn.Splice at there pointer ins.now) self.old.body }
+        ensures room { HasRoom result }
+    {
+        let place = Place {
+            at: at as u32,
+            there: ins.len() as u32,
+            pointer: self.pointer as u32,
+        };
+        let held = exchange(&mut self.text, at, there, ins, held);
+        self.pointer = pointer;
+        Kind::Splice(place, held)
+    }
+
+    // Takes off what was pushed last, and puts it into `q`.
+    fn put_popped(&mut self, q: Reg) -> Kind
+        requires { FitsFull (turn_of (PopInto q)) self.old }
+        ensures editor { self.new ≡ full_after (turn_of (PopInto q)) self.old }
+        ensures kind { turn_of result ≡ turn_after (turn_of (PopInto q)) self.old.body }
+        ensures room { HasRoom result }
+    {
+        let mut value = self.pushed.pop();
+        self.registers.swap(q, &mut value);
+        Kind::PutBack(q, value)
+    }
+
+    // Pushes what `q` holds, and puts a value into it.
+    fn put_back(&mut self, q: Reg, mut value: Value) -> Kind
+        requires { FitsFull (turn_of (PutBack q value)) self.old }
+        ensures editor { self.new ≡ full_after (turn_of (PutBack q value)) self.old }
+        ensures kind { turn_of result ≡ turn_after (turn_of (PutBack q value)) self.old.body }
+        ensures room { HasRoom result }
+    {
+        self.registers.swap(q, &mut value);
+        self.pushed.push(value);
+        Kind::PopInto(q)
+    }
+}

@@ -1,0 +1,125 @@
+//! How an editor gets room, and how its output is stored before it counts.
+ghost use Rattle.std.specs.Prelude.{◌≡◌, ◌≤◌, ◌++◌, length, take, drop, OnOk, OnErr};
+ghost use Rattle.teco_store.specs.Page.{finished, form_feed_if, left_of, turned, with_range_written, written};
+ghost use Rattle.teco_store.specs.State.{IsEnd, IsSound, state_of, with_stored};
+
+use crate::editor::Editor;
+use crate::pages::{append, end_after, make_room, part, put_after};
+use std::alloc::Global;
+use teco_core::NoMemory;
+
+impl Editor {
+    // How many bytes of the output there are.
+    pub(crate) fn shown(&self) -> usize
+        ensures value { result ≡ self.now.body.output }
+        ensures sound { IsSound self.now.room (length self.now.stored) self.now.body }
+    {
+        self.shown
+    }
+
+    // How many bytes the text has.
+    pub(crate) fn len(&self) -> usize
+        ensures value { result ≡ length self.now.body.text }
+        ensures sound { IsSound self.now.room (length self.now.stored) self.now.body }
+    {
+        self.text.len()
+    }
+
+    // Makes room for a text of `len` bytes.
+    pub(crate) fn reserve(&mut self, len: usize) -> Result<(), NoMemory>
+        ensures body { self.new.body ≡ self.old.body }
+        ensures stored { self.new.stored ≡ self.old.stored }
+        ensures grows { self.old.room ≤ self.new.room }
+        ensures room { OnOk result (len ≤ self.new.room) }
+    {
+        make_room(*self.input.allocator(), &mut self.text, len)
+    }
+
+    // The allocator of its parts.
+    pub(crate) fn allocator(&self) -> Global {
+        *self.input.allocator()
+    }
+
+    // Where the output ends once what is between two places of the text is written; none where that is past the limit.
+    pub(crate) fn end_after_part(&self, from: usize, to: usize, form_feed: bool) -> Option<usize>
+        requires ordered { from ≤ to }
+        requires there { to ≤ length self.now.body.text }
+        ensures { IsEnd result (length (with_range_written (state_of self.now) from to form_feed).output) }
+    {
+        let _len = self.text.len();
+        end_after(self.shown, to - from + usize::from(form_feed))
+    }
+
+    // Where it ends once the page is written.
+    pub(crate) fn end_after_page(&self) -> Option<usize>
+        ensures { IsEnd result (length (turned (state_of self.now)).output) }
+    {
+        end_after(self.shown, self.text.len() + usize::from(self.form_feed))
+    }
+
+    // Where it ends once the page and the rest of the input are written.
+    pub(crate) fn end_after_rest(&self) -> Option<usize>
+        ensures { IsEnd result (length (finished (state_of self.now)).output) }
+    {
+        let left = self.input.len() - self.place;
+        end_after(
+            self.shown,
+            self.text.len() + usize::from(self.form_feed) + left,
+        )
+    }
+
+    // Stores what is between two places of the text after the output, with a form feed where one is asked for.
+    pub(crate) fn store_part(
+        &mut self,
+        from: usize,
+        to: usize,
+        form_feed: bool,
+    ) -> Result<(), NoMemory>
+        requires ordered { from ≤ to }
+        requires there { to ≤ length self.old.body.text }
+        ensures ok { OnOk result (self.new ≡ with_stored self.old (drop from (take to self.old.body.text) ++ form_feed_if form_feed) self.old.room) }
+        ensures err { OnErr result (self.new ≡ self.old) }
+    {
+        let (before, after) = self.text.halves();
+        let (before, after) = part(before, after, from, to);
+        append(&mut self.output, self.shown, before, after, form_feed, &[])
+    }
+
+    // Stores the page after the output, and makes room for a text of `len` bytes.
+    pub(crate) fn store_page(&mut self, len: usize) -> Result<(), NoMemory>
+        ensures ok { OnOk result (self.new ≡ with_stored self.old (written (state_of self.old)) self.new.room) }
+        ensures grows { self.old.room ≤ self.new.room }
+        ensures room { OnOk result (len ≤ self.new.room) }
+        ensures err { OnErr result (self.new ≡ self.old) }
+    {
+        self.output.reserve(self.text.len() + 1)?;
+        make_room(*self.input.allocator(), &mut self.text, len)?;
+        let (before, after) = self.text.halves();
+        put_after(
+            &mut self.output,
+            self.shown,
+            before,
+            after,
+            self.form_feed,
+            &[],
+        );
+        Ok(())
+    }
+
+    // Stores the page and the rest of the input after the output.
+    pub(crate) fn store_rest(&mut self) -> Result<(), NoMemory>
+        ensures ok { OnOk result (self.new ≡ with_stored self.old (written (state_of self.old) ++ left_of (state_of self.old)) self.old.room) }
+        ensures err { OnErr result (self.new ≡ self.old) }
+    {
+        let (before, after) = self.text.halves();
+        let rest = &self.input[self.place..];
+        append(
+            &mut self.output,
+            self.shown,
+            before,
+            after,
+            self.form_feed,
+            rest,
+        )
+    }
+}
