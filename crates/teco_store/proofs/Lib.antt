@@ -1,6 +1,9 @@
 pub mod Entries
+pub mod Fitting
 pub mod FormFeeds
 pub mod Halves
+pub mod Recordings
 pub mod Rows
+pub mod Searches
 pub mod Turned
 pub mod Turns

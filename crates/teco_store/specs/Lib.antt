@@ -1,5 +1,6 @@
 pub mod ChangeView
 pub mod Entry
+pub mod Follows
 pub mod Page
 pub mod Refused
 pub mod Search

@@ -1,6 +1,6 @@
 -- Pages: the input is read, and the output written, page by page.
 use Rattle.std.specs.Prelude.{ℕ, ◌+◌, Bool, true, false, not, List, [], ◌∷◌, ◌++◌, length, take, drop, take_while, nat_lt, ◌==◌, if◌then◌else◌}
-use Rattle.teco_store.specs.State.{State}
+use Rattle.teco_store.specs.State.{Body, State, StateOver, replaced}
 
 -- A page is what is left of the input, up to its first form feed.
 unfoldable pub page_of : List ℕ → List ℕ
@@ -15,18 +15,18 @@ abbrev pub page_span : List ℕ → ℕ
 page_span left = length (page_of left) + (if is_ended left then 1 else 0)
 
 -- what is left of the input
-abbrev pub left_of : State → List ℕ
+abbrev pub left_of : {O : Type 0} → StateOver O → List ℕ
 left_of s = drop s.place s.input
 
-abbrev pub is_input_over : State → Bool
+abbrev pub is_input_over : {O : Type 0} → StateOver O → Bool
 is_input_over s = s.place == length s.input
 
 -- the next page
-abbrev pub page : State → List ℕ
+abbrev pub page : {O : Type 0} → StateOver O → List ℕ
 page s = page_of (left_of s)
 
 -- The place is after the next page and its form feed, and the flag says whether it had one.
-abbrev pub past_page : State → State
+abbrev pub past_page : {O : Type 0} → StateOver O → StateOver O
 past_page s = record s { place = s.place + page_span (left_of s); form_feed = is_ended (left_of s) }
 
 -- The next page replaces the buffer; the pointer is at its beginning.
@@ -65,3 +65,7 @@ finished s =
 -- the load of a page that replaces the buffer
 abbrev pub page_load : State → ℕ
 page_load s = length s.text + length (page s)
+
+-- The next page comes for the `there` bytes at `at`; the pointer is put at a place, and the output ends at `end`.
+abbrev pub brought : Body → ℕ → ℕ → ℕ → ℕ → Body
+brought b at there pointer end = record (past_page b) { text = replaced b.text at (at + there) (page b); pointer = pointer; output = end }

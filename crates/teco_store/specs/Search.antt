@@ -28,3 +28,13 @@ is_last (Some last) text = bytes_eq text last
 abbrev pub note_load : State → Option (List ℕ) → ℕ
 note_load s None = 0
 note_load s (Some text) = if is_last s.last_search text then 0 else length_of s.last_search + length text
+
+-- a text to be noted; none where it is the last one again
+abbrev pub fresh : Option (List ℕ) → Option (List ℕ) → Option (List ℕ)
+fresh last None = None
+fresh last (Some text) = if is_last last text then None else Some text
+
+-- the bytes of both sides, where there is one
+abbrev pub fresh_load : Option (List ℕ) → Option (List ℕ) → ℕ
+fresh_load last None = 0
+fresh_load last (Some text) = length_of last + length text

@@ -62,6 +62,13 @@ state_of f = state_at f.stored f.body
 abbrev pub with_stored : Full → List ℕ → ℕ → Full
 with_stored f more room = record f { stored = take f.body.output f.stored ++ more; room = room }
 
+-- the same body, with no less capacity, and with other bytes stored beyond the output's end
+pub record Extends (f g : Full) : Type 0 where
+  pub body : g.body ≡ f.body
+  pub stored : take f.body.output g.stored ≡ take f.body.output f.stored
+  pub top : f.body.output ≤ length g.stored
+  pub room : f.room ≤ g.room
+
 -- where an output of so many bytes ends; none where that is past its limit
 abbrev pub IsEnd : Option ℕ → ℕ → Type 0
 IsEnd None n = FILE_LIMIT < n

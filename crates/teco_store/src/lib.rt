@@ -8,10 +8,12 @@ mod editor;
 mod exchange;
 mod noting;
 mod pages;
+mod recorder;
 mod turning;
 
 pub use change::Change;
 pub use desk::{Desk, Refused};
 pub use editor::Editor;
 pub use pages::part;
+pub use recorder::Recorder;
 pub use turning::{apply, revert};

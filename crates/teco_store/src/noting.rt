@@ -1,7 +1,7 @@
 //! The text that a search leaves.
-ghost use Rattle.std.specs.Prelude.{◌≡◌, ◌↔◌, ◌<◌, List, ℕ, true, option_map, OnOk, OnErr, IsOk, IsTrue, Some};
+ghost use Rattle.std.specs.Prelude.{◌≡◌, ◌↔◌, ◌<◌, List, ℕ, true, option_map, IfOk, OnOk, OnErr, IsOk, IsTrue, Some};
 ghost use Rattle.std.specs.Option.{option_copied};
-ghost use Rattle.teco_store.specs.Search.{is_last, length_of, text_after};
+ghost use Rattle.teco_store.specs.Search.{fresh, is_last, length_of, text_after};
 
 use std::alloc::Global;
 use teco_core::{NoMemory, TEXT_LIMIT};
@@ -24,6 +24,27 @@ pub(crate) fn is_long(text: Option<&[u8]>) -> bool
         None => false,
         Some(text) => text.len() > TEXT_LIMIT,
     }
+}
+
+// A copy of a text to be noted; none where it is the last one again.
+pub(crate) fn fresh_copy(
+    alloc: Global,
+    last: Option<&[u8]>,
+    text: Option<&[u8]>,
+) -> Result<Option<Vec<u8>>, NoMemory>
+    ensures { IfOk result (λ f. option_map (λ v. v.items) f ≡ fresh (option_copied last.entry) (option_copied text.entry)) }
+{
+    let Some(text) = text else {
+        return Ok(None);
+    };
+    let again = match last {
+        None => false,
+        Some(last) => text == last,
+    };
+    if again {
+        return Ok(None);
+    }
+    Ok(Some(Vec::from_slice(alloc, text)?))
 }
 
 // Makes a text the last search text; none leaves it. The same text again takes no memory.

@@ -107,7 +107,9 @@ pub(crate) fn put_after(
 )
     requires there { shown ≤ length output.old.items }
     requires room { length output.old.items + (length before.now + length after.now + length (form_feed_if form_feed) + length rest.now) ≤ vec_capacity output.old }
-    ensures { output.new.items ≡ take shown output.old.items ++ (((before.now ++ after.now) ++ form_feed_if form_feed) ++ rest.now) }
+    ensures items { output.new.items ≡ take shown output.old.items ++ (((before.now ++ after.now) ++ form_feed_if form_feed) ++ rest.now) }
+    ensures kept { take shown output.new.items ≡ take shown output.old.items }
+    ensures top { shown ≤ length output.new.items }
 {
     output.truncate(shown);
     append_within(output, before);
@@ -129,6 +131,8 @@ pub(crate) fn append(
     requires few { length before.now + length after.now + length rest.now + 1 < 2 ^ 64 }
     ensures ok { OnOk result (output.new.items ≡ take shown output.old.items ++ (((before.now ++ after.now) ++ form_feed_if form_feed) ++ rest.now)) }
     ensures err { OnErr result (output.new.items ≡ output.old.items) }
+    ensures kept { take shown output.new.items ≡ take shown output.old.items }
+    ensures top { shown ≤ length output.new.items }
 {
     output.reserve(before.len() + after.len() + rest.len() + usize::from(form_feed))?;
     put_after(output, shown, before, after, form_feed, rest);

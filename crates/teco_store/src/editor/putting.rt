@@ -1,6 +1,7 @@
 //! Values are put in their places, and what stood there is given back.
 ghost use Rattle.std.specs.Prelude.{◌≡◌, ◌+◌, ◌≤◌, [], length};
 ghost use Rattle.std.specs.Vec.{vec_capacity};
+ghost use Rattle.teco_store.specs.Page.{page};
 ghost use Rattle.teco_store.specs.ChangeView.{turn_of, HasRoom};
 ghost use Rattle.teco_store.specs.declared.change.Kind.TheVariants.{Splice, PopInto, PutBack};
 ghost use Rattle.teco_store.specs.Turn as turn;
@@ -9,6 +10,7 @@ ghost use Rattle.teco_store.specs.Turn.{turn_after, full_after, FitsFull};
 use crate::change::{Kind, Place};
 use crate::editor::Editor;
 use crate::exchange::{exchange, swap_bytes};
+use crate::pages::next_page;
 use std::mem;
 use teco_core::{Reg, Value};
 
@@ -97,6 +99,32 @@ impl Editor {
             pointer: self.pointer as u32,
         };
         let held = exchange(&mut self.text, at, there, ins, held);
+        self.pointer = pointer;
+        Kind::Splice(place, held)
+    }
+
+    // Puts the next page for the `there` bytes at `at`, and gives those that stood there in `held`, which is empty.
+    pub(crate) fn exchange_page(
+        &mut self,
+        at: usize,
+        there: usize,
+        pointer: usize,
+        held: Vec<u8>,
+    ) -> Kind
+        requires empty { held.items ≡ [] }
+        requires room { there + length (page self.old.body) ≤ vec_capacity held }
+        requires fits { FitsFull (turn.Splice at there pointer (page self.old.body)) self.old }
+        ensures editor { self.new ≡ full_after (turn.Splice at there pointer (page self.old.body)) self.old }
+        ensures kind { turn_of result ≡ turn_after (turn.Splice at there pointer (page self.old.body)) self.old.body }
+        ensures room { HasRoom result }
+    {
+        let page = next_page(&self.input[self.place..]);
+        let place = Place {
+            at: at as u32,
+            there: page.bytes.len() as u32,
+            pointer: self.pointer as u32,
+        };
+        let held = exchange(&mut self.text, at, there, page.bytes, held);
         self.pointer = pointer;
         Kind::Splice(place, held)
     }

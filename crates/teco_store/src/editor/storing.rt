@@ -1,10 +1,10 @@
 //! How an editor gets room, and how its output is stored before it counts.
-ghost use Rattle.std.specs.Prelude.{◌≡◌, ◌≤◌, ◌++◌, length, take, drop, OnOk, OnErr};
-ghost use Rattle.teco_store.specs.Page.{finished, form_feed_if, left_of, turned, with_range_written, written};
-ghost use Rattle.teco_store.specs.State.{IsEnd, IsSound, state_of, with_stored};
+ghost use Rattle.std.specs.Prelude.{◌≡◌, ◌+◌, ◌≤◌, ◌++◌, length, take, drop, OnOk, OnErr};
+ghost use Rattle.teco_store.specs.Page.{finished, form_feed_if, is_ended, left_of, page, page_span, turned, with_range_written, written};
+ghost use Rattle.teco_store.specs.State.{Extends, IsEnd, IsSound, state_of, with_stored};
 
 use crate::editor::Editor;
-use crate::pages::{append, end_after, make_room, part, put_after};
+use crate::pages::{Page, append, end_after, make_room, next_page, part, put_after};
 use std::alloc::Global;
 use teco_core::NoMemory;
 
@@ -25,12 +25,30 @@ impl Editor {
         self.text.len()
     }
 
+    // How many bytes the input has.
+    pub(crate) fn input_len(&self) -> usize
+        ensures value { result ≡ length self.now.body.input }
+        ensures sound { IsSound self.now.room (length self.now.stored) self.now.body }
+    {
+        self.input.len()
+    }
+
+    // The next page of the input.
+    pub(crate) fn page(&self) -> Page<'_>
+        ensures bytes { result.bytes.now ≡ page self.now.body }
+        ensures form_feed { result.form_feed ≡ is_ended (left_of self.now.body) }
+        ensures within { self.now.body.place + page_span (left_of self.now.body) ≤ length self.now.body.input }
+        ensures sound { IsSound self.now.room (length self.now.stored) self.now.body }
+    {
+        next_page(&self.input[self.place..])
+    }
+
     // Makes room for a text of `len` bytes.
     pub(crate) fn reserve(&mut self, len: usize) -> Result<(), NoMemory>
         ensures body { self.new.body ≡ self.old.body }
         ensures stored { self.new.stored ≡ self.old.stored }
-        ensures grows { self.old.room ≤ self.new.room }
         ensures room { OnOk result (len ≤ self.new.room) }
+        ensures extends { Extends self.old self.new }
     {
         make_room(*self.input.allocator(), &mut self.text, len)
     }
@@ -79,6 +97,7 @@ impl Editor {
         requires there { to ≤ length self.old.body.text }
         ensures ok { OnOk result (self.new ≡ with_stored self.old (drop from (take to self.old.body.text) ++ form_feed_if form_feed) self.old.room) }
         ensures err { OnErr result (self.new ≡ self.old) }
+        ensures extends { Extends self.old self.new }
     {
         let (before, after) = self.text.halves();
         let (before, after) = part(before, after, from, to);
@@ -88,9 +107,9 @@ impl Editor {
     // Stores the page after the output, and makes room for a text of `len` bytes.
     pub(crate) fn store_page(&mut self, len: usize) -> Result<(), NoMemory>
         ensures ok { OnOk result (self.new ≡ with_stored self.old (written (state_of self.old)) self.new.room) }
-        ensures grows { self.old.room ≤ self.new.room }
         ensures room { OnOk result (len ≤ self.new.room) }
         ensures err { OnErr result (self.new ≡ self.old) }
+        ensures extends { Extends self.old self.new }
     {
         self.output.reserve(self.text.len() + 1)?;
         make_room(*self.input.allocator(), &mut self.text, len)?;
@@ -110,6 +129,7 @@ impl Editor {
     pub(crate) fn store_rest(&mut self) -> Result<(), NoMemory>
         ensures ok { OnOk result (self.new ≡ with_stored self.old (written (state_of self.old) ++ left_of (state_of self.old)) self.old.room) }
         ensures err { OnErr result (self.new ≡ self.old) }
+        ensures extends { Extends self.old self.new }
     {
         let (before, after) = self.text.halves();
         let rest = &self.input[self.place..];

@@ -1,0 +1,48 @@
+-- The changes that calls make fit.
+use Rattle.std.proofs.Common.{◌≡◌, ℕ, ◌+◌, ◌≤◌, List, length, refl, sym, subst, arith, Option, Some, None}
+use Rattle.std.specs.Option.{ForSome}
+use Rattle.teco_core.specs.declared.limits.TheConstants.{TEXT_LIMIT}
+use Rattle.teco_store.specs.State.{Body, Full, IsSound, replaced, spliced, pointer_after}
+use Rattle.teco_store.specs.Turn.{Splice, FitsFull}
+use Rattle.teco_store.proofs.Turns.{length-replaced}
+
+-- where the pointer comes to stand is in the new text
+pub lands_within : (b : Body) (at del : ℕ) (ins : List ℕ) (point : Option ℕ) → at + del ≤ length b.text
+    → ForSome point (λ place. place ≤ length (spliced b at del ins point).text) → pointer_after at ins point + del ≤ length b.text + length ins
+lands_within b at del ins None within lands = omega arith
+lands_within b at del ins (Some place) within lands =
+    let n : length (replaced b.text at (at + del) ins) + del ≡ length b.text + length ins = length-replaced b.text ins at del within in
+    let h : place ≤ length (replaced b.text at (at + del) ins) = lands place refl in
+    let sum : place + del ≤ length b.text + length ins = omega arith in
+    sum
+
+pub splice_fits : (e : Full) (at del pointer : ℕ) (ins : List ℕ) → IsSound e.room (length e.stored) e.body
+    → at + del ≤ length e.body.text → pointer + del ≤ length e.body.text + length ins → length e.body.text + length ins ≤ TEXT_LIMIT + del
+    → length e.body.text + length ins ≤ e.room + del → FitsFull (Splice at del pointer ins) e
+splice_fits e at del pointer ins s within lands small room =
+    let n : length (replaced e.body.text at (at + del) ins) + del ≡ length e.body.text + length ins = length-replaced e.body.text ins at del within in (
+      within,
+      record {
+        pointer = omega arith;
+        text = omega arith;
+        room = omega arith;
+        all = s.all;
+        registers = s.registers;
+        few = s.few;
+        pushed = s.pushed;
+        place = s.place;
+        input = s.input;
+        stored = s.stored;
+        output = s.output;
+        last_search = s.last_search;
+      },
+    )
+
+-- The same where an editor `e` is seen as `f`.
+pub splice_fits_seen : (e f : Full) (at del pointer : ℕ) (ins : List ℕ) → e ≡ f → IsSound e.room (length e.stored) e.body
+    → at + del ≤ length f.body.text → pointer + del ≤ length f.body.text + length ins → length f.body.text + length ins ≤ TEXT_LIMIT + del
+    → length f.body.text + length ins ≤ f.room + del → FitsFull (Splice at del pointer ins) e × FitsFull (Splice at del pointer ins) f
+splice_fits_seen e f at del pointer ins same sound within lands small room =
+    let s = subst (λ (x : Full). IsSound x.room (length x.stored) x.body) same sound in
+    let fits : FitsFull (Splice at del pointer ins) f = splice_fits f at del pointer ins s within lands small room in
+    (subst (λ (x : Full). FitsFull (Splice at del pointer ins) x) (sym same) fits, fits)

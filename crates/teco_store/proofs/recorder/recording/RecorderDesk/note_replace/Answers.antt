@@ -1,0 +1,22 @@
+use Rattle.std.proofs.Common.{ap, arith, length, ◌+◌}
+use Rattle.std.proofs.lemmas.Result.{err_from_is_err_and}
+use Rattle.std.specs.Option.{option_copied}
+use Rattle.teco_store.specs.Search.{note_load}
+use Rattle.teco_store.specs.State.{Body, state_of}
+use Rattle.teco_store.proofs.Recordings.{goes_call, goes_then}
+use Rattle.teco_store.proofs.Searches.{fresh_load_noted}
+use Rattle.teco_store.proofs.recorder.recording.RecorderDesk.note_replace.Goals as goal
+
+pub returns-in_err-held-clause-keeps : goal.returns-in_err-held-clause-keeps
+returns-in_err-held-clause-keeps c = let p = err_from_is_err_and c.from_residual-in_err-held.result c.from_residual-in_err-held.ensures.1 in rw p.1 c.find_memory.ensures.keeps
+
+pub returns-clause-follows : goal.returns-clause-follows
+returns-clause-follows c =
+    let text = option_copied c.args.text in
+    let m = c.args.del + length c.args.ins.now in
+    let n = note_load (state_of c.args.self.now.full) text + m in
+    let load = fresh_load_noted (state_of c.args.self.now.full) text _ _ (ap (λ (b : Body). b.last_search) c.find_memory.ensures.body) c.in_ok-text.ensures in
+    goes_call c.args.self.now c.find_memory.new.self c.exchange.new.self (_ + 0 + m) 3 n c.find_memory.ensures.keeps
+    (goes_then c.find_memory.new.self c.note.new.self c.exchange.new.self (_ + 0) m 2 1
+    (goes_then c.find_memory.new.self c.note_text.new.self c.note.new.self _ 0 1 1 c.note_text.ensures.goes c.note.ensures.goes) c.exchange.ensures.goes)
+    (omega (arith, load)) (omega arith)

@@ -1,0 +1,16 @@
+use Rattle.std.proofs.Common.{ap, arith, length, ◌≡◌, ◌+◌}
+use Rattle.teco_store.proofs.Fitting.{lands_within}
+use Rattle.teco_store.proofs.Recordings.{goes_call}
+use Rattle.teco_store.proofs.recorder.recording.RecorderDesk.splice.Goals as goal
+
+pub exchange-requires-clause-lands : goal.exchange-requires-clause-lands
+exchange-requires-clause-lands c =
+    let lands = lands_within c.args.self.now.full.body c.args.at c.args.del c.args.ins.now c.args.point c.requires.there c.requires.lands in
+    let pointer = c.landing.ensures in
+    let text : length c.find_memory.new.self.full.body.text ≡ length c.args.self.now.full.body.text = ap (λ b. length b.text) c.find_memory.ensures.body in
+    omega arith
+
+pub returns-clause-follows : goal.returns-clause-follows
+returns-clause-follows c =
+    let n = c.args.del + length c.args.ins.now in
+    goes_call c.args.self.now c.find_memory.new.self c.exchange.new.self n 1 n c.find_memory.ensures.keeps c.exchange.ensures.goes (omega arith) (omega arith)

@@ -1,0 +1,16 @@
+use Rattle.std.proofs.Common.{ap, arith, length, ◌≡◌, ◌∙◌, ◌+◌}
+use Rattle.std.proofs.lemmas.Result.{err_from_is_err_and}
+use Rattle.teco_store.specs.Page.{page, page_load}
+use Rattle.teco_store.specs.State.{Body, Full, state_of}
+use Rattle.teco_store.proofs.Recordings.{goes_call}
+use Rattle.teco_store.proofs.recorder.recording.RecorderDesk.turn_page.Goals as goal
+
+pub returns-in_err-held-clause-keeps : goal.returns-in_err-held-clause-keeps
+returns-in_err-held-clause-keeps c = let p = err_from_is_err_and c.from_residual.result c.from_residual.ensures.1 in rw p.1 c.prepare_page.ensures.keeps
+
+pub returns-clause-follows : goal.returns-clause-follows
+returns-clause-follows c =
+    let n = c.len-there.result + length (page c.prepare_page.new.self.full.body) in
+    let page_is : length (page c.prepare_page.new.self.full.body) ≡ length (page c.args.self.now.full.body) = ap (λ (b : Body). length (page b)) (ap (λ (x : Full). x.body) c.in_ok-held.ensures.ok) in
+    let len : c.len-there.result ≡ length c.args.self.now.full.body.text = c.len-there.ensures.value ∙ ap (λ (x : Full). length x.body.text) c.editor-3.ensures in
+    goes_call c.args.self.now c.prepare_page.new.self c.bring_page.new.self n 2 (page_load (state_of c.args.self.now.full)) c.prepare_page.ensures.keeps c.bring_page.ensures.goes (omega arith) (omega arith)

@@ -1,0 +1,84 @@
+-- What a recorder has noted, against what it has come through.
+use Rattle.std.specs.Prelude.{◌≡◌, ℕ, ◌+◌, ◌-◌, ◌*◌, ◌≤◌, List, [], ◌∷◌, ◌++◌, length, take}
+use Rattle.std.proofs.Common.{subst}
+use Rattle.std.proofs.Math.Nat.{le_trans, le-add_right, add_assoc}
+use Rattle.teco_store.specs.State.{Full, state_at, IsSound}
+use Rattle.teco_store.specs.Trail.{Trail, moved}
+use Rattle.teco_store.specs.Turn.{Turn, Note, full_after, turn_after}
+use Rattle.teco_store.specs.Entry.{body_back, FitsBack, since, before, load_back}
+
+-- an editor with the changes that were noted, the steps done, and how many more changes can be noted before memory is needed
+pub record Recording : Type 0 where
+  pub full : Full
+  pub notes : List Note
+  pub done : ℕ
+  pub spare : ℕ
+
+-- each was made with at most `j` steps done
+abbrev pub AllUpTo : ℕ → List Note → Type 0
+AllUpTo j [] = Unit {0}
+AllUpTo j (c ∷ cs) = (c.step ≤ j) × AllUpTo j cs
+
+-- An editor and its changes, after so many steps, have come through a trail.
+pub record HasCome (full : Full) (notes : List Note) (steps : ℕ) (t : Trail) : Type 0 where
+  pub done : steps ≡ t.steps
+  pub floor : t.floor ≤ full.room
+  pub sound : IsSound full.room (length full.stored) full.body
+  -- the changes can be turned back, and that leads to the state after each step
+  pub fits : FitsBack full.room notes full.body
+  pub marked : AllUpTo t.steps notes
+  pub states : (i : ℕ) → i ≤ t.steps → state_at full.stored (body_back (since i notes) full.body) ≡ t.states i
+  -- the bytes of both sides of the changes of the first steps, and of all of them
+  pub loads : (i : ℕ) → i ≤ t.steps → load_back (before i notes) (body_back (since i notes) full.body) ≤ t.loads i
+  pub load : load_back notes full.body ≤ t.load
+  -- the changes of the first steps, and all of them
+  pub counts : (i : ℕ) → i ≤ t.steps → length (before i notes) ≤ 6 * i
+  pub count : length notes ≤ 6 * t.steps + t.changes
+
+abbrev pub Follows : Recording → Trail → Type 0
+Follows r t = HasCome r.full r.notes r.done t
+
+-- after so many changes of this load
+abbrev pub noting : Trail → ℕ → ℕ → Trail
+noting t load count = record { states = t.states; loads = t.loads; steps = t.steps; load = t.load + load; changes = t.changes + count; floor = t.floor }
+
+-- What is followed before is followed after so many changes of this load.
+abbrev pub Goes : ℕ → ℕ → Recording → Recording → Type 0
+Goes load count r s = (t : Trail) → Follows r t → Follows s (noting t load count)
+
+-- what was followed still is
+abbrev pub Keeps : Recording → Recording → Type 0
+Keeps r s = (t : Trail) → Follows r t → Follows s t
+
+-- `d` is put in, and what stood there is noted
+abbrev pub with_note : Recording → Turn → Recording
+with_note r d = record {
+  full = full_after d r.full;
+  notes = r.notes ++ record { step = r.done; turn = turn_after d r.full.body } ∷ [];
+  done = r.done;
+  spare = r.spare - 1;
+}
+
+-- The loads and the changes of a trail are bounds.
+pub follows_eases : (r : Recording) (t : Trail) → Follows r t → Follows r (moved t 0)
+follows_eases r t f = record {
+  done = f.done;
+  floor = f.floor;
+  sound = f.sound;
+  fits = f.fits;
+  marked = f.marked;
+  states = f.states;
+  loads = f.loads;
+  load = le_trans f.load (le-add_right t.load 0);
+  counts = f.counts;
+  count = subst (λ (n : ℕ). length r.notes ≤ n) (add_assoc (6 * t.steps) t.changes 6) (le_trans f.count (le-add_right (6 * t.steps + t.changes) 6));
+}
+
+-- What a recorder leaves: changes that lead back to the body before, the output that was visible stored as before, and no less
+-- capacity.
+pub record Leads (old new : Full) (notes : List Note) : Type 0 where
+  pub room : old.room ≤ new.room
+  pub sound : IsSound new.room (length new.stored) new.body
+  pub fits : FitsBack new.room notes new.body
+  pub body : body_back notes new.body ≡ old.body
+  pub stored : take old.body.output new.stored ≡ take old.body.output old.stored

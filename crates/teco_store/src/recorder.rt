@@ -1,0 +1,150 @@
+//! A desk that notes each change, so that it can be turned back.
+ghost use Rattle.std.specs.Prelude.{◌≡◌, ◌+◌, ◌<◌, ◌≤◌, length, [], take, IfOk, OnOk, OnErr};
+ghost use Rattle.std.specs.Vec.{vec_capacity};
+ghost use Rattle.teco_store.specs.ChangeView.{turn_of, HasRoom};
+ghost use Rattle.teco_store.specs.Entry.{weight};
+ghost use Rattle.teco_store.specs.Follows.{Follows, Goes, Keeps, with_note};
+ghost use Rattle.teco_store.specs.State.{IsSound, state_of};
+ghost use Rattle.teco_store.specs.Trail.{Trail};
+ghost use Rattle.teco_store.specs.Turn.{body_after, full_after, FitsFull, Splice};
+
+mod pages;
+mod recording;
+mod texts;
+
+use crate::change::{Change, Kind};
+use crate::editor::Editor;
+use std::marker::Model;
+use teco_core::{NoMemory, TEXT_LIMIT};
+
+/// An editor whose changes are noted: each call of `Desk` finds all memory first and then makes its changes.
+#[derive(Drop)]
+pub struct Recorder {
+    editor: Editor,
+    entry: Vec<Change>,
+    done: u64,
+}
+
+impl Model for Recorder {
+    ghost use Rattle.std.specs.Prelude.{◌-◌, length};
+    ghost use Rattle.std.specs.Vec.{vec_capacity};
+    ghost use Rattle.teco_store.specs.Follows.{Recording};
+
+    ghost Value = { Recording };
+
+    ghost view = { λ r. record { full = r.editor; notes = r.entry.items; done = r.done; spare = vec_capacity r.entry - length r.entry.items } };
+}
+
+impl Recorder {
+    /// Takes an editor. Takes no memory.
+    pub fn new(editor: Editor) -> Recorder
+        ensures full { result.full ≡ editor }
+        ensures empty { (result.notes ≡ []) × (result.done ≡ 0) }
+
+        // It follows whatever begins here.
+        ensures follows { (t : Trail) → t.steps ≡ 0 → t.states 0 ≡ state_of editor → t.floor ≤ editor.room → Follows result t }
+    {
+        let _shown = editor.shown();
+        Recorder {
+            entry: Vec::new(editor.allocator()),
+            editor,
+            done: 0,
+        }
+    }
+
+    /// The editor, and what was noted. Takes no memory.
+    pub fn into_parts(self) -> (Editor, Vec<Change>)
+        ensures editor { result.0 ≡ self.full }
+        ensures entry { result.1.items ≡ self.notes }
+    {
+        (self.editor, self.entry)
+    }
+
+    // The editor.
+    fn editor(&self) -> &Editor
+        ensures { result.now ≡ self.now.full }
+    {
+        &self.editor
+    }
+
+    // Finds room for so many more changes.
+    fn reserve(&mut self, changes: usize) -> Result<(), NoMemory>
+        ensures full { self.new.full ≡ self.old.full }
+        ensures sound { IsSound self.new.full.room (length self.new.full.stored) self.new.full.body }
+        ensures spare { OnOk result (changes ≤ self.new.spare) }
+        ensures keeps { Keeps self.old self.new }
+    {
+        let _shown = self.editor.shown();
+        self.entry.reserve(changes)
+    }
+
+    // Memory for so many bytes.
+    fn memory(&self, bytes: usize) -> Result<Vec<u8>, NoMemory>
+        ensures { IfOk result (λ v. (v.items ≡ []) × (bytes ≤ vec_capacity v)) }
+    {
+        Vec::with_capacity(self.editor.allocator(), bytes)
+    }
+
+    // Makes room for a text of `len` bytes.
+    fn reserve_text(&mut self, len: usize) -> Result<(), NoMemory>
+        ensures body { self.new.full.body ≡ self.old.full.body }
+        ensures stored { self.new.full.stored ≡ self.old.full.stored }
+        ensures spare { self.new.spare ≡ self.old.spare }
+        ensures room { OnOk result (len ≤ self.new.full.room) }
+        ensures sound { IsSound self.new.full.room (length self.new.full.stored) self.new.full.body }
+        ensures keeps { Keeps self.old self.new }
+    {
+        let _shown = self.editor.shown();
+        self.editor.reserve(len)
+    }
+
+    // Finds memory for so many changes, for `bytes` bytes that are to be noted, and for a text of `len` bytes.
+    fn find_memory(&mut self, changes: usize, bytes: usize, len: usize) -> Result<Vec<u8>, NoMemory>
+        ensures body { self.new.full.body ≡ self.old.full.body }
+        ensures stored { self.new.full.stored ≡ self.old.full.stored }
+        ensures sound { IsSound self.new.full.room (length self.new.full.stored) self.new.full.body }
+        ensures ok { IfOk result (λ v. (v.items ≡ []) × (bytes ≤ vec_capacity v)) }
+        ensures spare { OnOk result (changes ≤ self.new.spare) }
+        ensures room { OnOk result (len ≤ self.new.full.room) }
+        ensures keeps { Keeps self.old self.new }
+    {
+        self.reserve(changes)?;
+        let held = self.memory(bytes)?;
+        self.reserve_text(len)?;
+        Ok(held)
+    }
+
+    // Puts a value in its place, and notes what stood there.
+    fn note(&mut self, kind: Kind)
+        requires spare { 0 < self.old.spare }
+        requires room { HasRoom kind }
+        requires fits { FitsFull (turn_of kind) self.old.full }
+        requires rises { self.old.full.body.output ≤ (body_after (turn_of kind) self.old.full.body).output }
+        ensures full { self.new.full ≡ full_after (turn_of kind) self.old.full }
+        ensures sound { IsSound self.new.full.room (length self.new.full.stored) self.new.full.body }
+        ensures spare { self.new.spare + 1 ≡ self.old.spare }
+        ensures goes { Goes (weight (turn_of kind) self.old.full.body) 1 self.old self.new }
+    {
+        let held = self.editor.put(kind);
+        self.entry.push_reserved(Change::new(self.done, held));
+    }
+
+    // Puts `ins` for the `there` bytes at `at`, and notes those that stood there in `held`, which is empty.
+    fn exchange(&mut self, at: usize, there: usize, ins: &[u8], pointer: usize, held: Vec<u8>)
+        requires spare { 0 < self.old.spare }
+        requires empty { held.items ≡ [] }
+        requires memory { there + length ins.now ≤ vec_capacity held }
+        requires there { at + there ≤ length self.old.full.body.text }
+        requires lands { pointer + there ≤ length self.old.full.body.text + length ins.now }
+        requires small { length self.old.full.body.text + length ins.now ≤ TEXT_LIMIT + there }
+        requires room { length self.old.full.body.text + length ins.now ≤ self.old.full.room + there }
+        ensures full { self.new.full ≡ full_after (Splice at there pointer ins.now) self.old.full }
+        ensures sound { IsSound self.new.full.room (length self.new.full.stored) self.new.full.body }
+        ensures spare { self.new.spare + 1 ≡ self.old.spare }
+        ensures goes { Goes (there + length ins.now) 1 self.old self.new }
+    {
+        let _shown = self.editor.shown();
+        let held = self.editor.exchange(at, there, ins, pointer, held);
+        self.entry.push_reserved(Change::new(self.done, held));
+    }
+}

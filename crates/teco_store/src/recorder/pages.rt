@@ -1,0 +1,151 @@
+//! Pages come in and go out, and what stood there is noted.
+ghost use Rattle.std.specs.Prelude.{◌≡◌, ◌+◌, ◌<◌, ◌≤◌, ◌^◌, ◌++◌, [], length, take, drop, IfOk, OnOk, OnErr};
+ghost use Rattle.std.specs.Vec.{vec_capacity};
+ghost use Rattle.teco_store.specs.Follows.{Goes, Keeps};
+ghost use Rattle.teco_store.specs.Page.{brought, form_feed_if, left_of, page, written};
+ghost use Rattle.teco_store.specs.State.{IsSound, state_of, with_stored};
+ghost use Rattle.teco_store.specs.Turn.{full_after, Splice};
+
+use crate::change::{Change, Kind};
+use crate::desk::Desk;
+use crate::recorder::Recorder;
+use teco_core::{FILE_LIMIT, NoMemory, TEXT_LIMIT};
+
+impl Recorder {
+    // Stores what is between two places of the text after the output, with a form feed where one is asked for.
+    fn store_part(&mut self, from: usize, to: usize, form_feed: bool) -> Result<(), NoMemory>
+        requires ordered { from ≤ to }
+        requires there { to ≤ length self.old.full.body.text }
+        ensures ok { OnOk result (self.new.full ≡ with_stored self.old.full (drop from (take to self.old.full.body.text) ++ form_feed_if form_feed) self.old.full.room) }
+        ensures err { OnErr result (self.new.full ≡ self.old.full) }
+        ensures spare { self.new.spare ≡ self.old.spare }
+        ensures sound { IsSound self.new.full.room (length self.new.full.stored) self.new.full.body }
+        ensures keeps { Keeps self.old self.new }
+    {
+        let _shown = self.editor.shown();
+        self.editor.store_part(from, to, form_feed)
+    }
+
+    // Stores the page after the output, and makes room for a text of `len` bytes.
+    fn store_page(&mut self, len: usize) -> Result<(), NoMemory>
+        ensures ok { OnOk result (self.new.full ≡ with_stored self.old.full (written (state_of self.old.full)) self.new.full.room) }
+        ensures room { OnOk result (len ≤ self.new.full.room) }
+        ensures err { OnErr result (self.new.full ≡ self.old.full) }
+        ensures spare { self.new.spare ≡ self.old.spare }
+        ensures sound { IsSound self.new.full.room (length self.new.full.stored) self.new.full.body }
+        ensures keeps { Keeps self.old self.new }
+    {
+        let _shown = self.editor.shown();
+        self.editor.store_page(len)
+    }
+
+    // Stores the page and the rest of the input after the output.
+    fn store_rest(&mut self) -> Result<(), NoMemory>
+        ensures ok { OnOk result (self.new.full ≡ with_stored self.old.full (written (state_of self.old.full) ++ left_of (state_of self.old.full)) self.old.full.room) }
+        ensures err { OnErr result (self.new.full ≡ self.old.full) }
+        ensures spare { self.new.spare ≡ self.old.spare }
+        ensures sound { IsSound self.new.full.room (length self.new.full.stored) self.new.full.body }
+        ensures keeps { Keeps self.old self.new }
+    {
+        let _shown = self.editor.shown();
+        self.editor.store_rest()
+    }
+
+    // Finds memory to write what is between two places of the text, and stores it.
+    pub(super) fn prepare_part(
+        &mut self,
+        from: usize,
+        to: usize,
+        form_feed: bool,
+    ) -> Result<(), NoMemory>
+        requires ordered { from ≤ to }
+        requires there { to ≤ length self.old.full.body.text }
+        ensures ok { OnOk result (self.new.full ≡ with_stored self.old.full (drop from (take to self.old.full.body.text) ++ form_feed_if form_feed) self.old.full.room) }
+        ensures err { OnErr result (self.new.full ≡ self.old.full) }
+        ensures spare { OnOk result (1 ≤ self.new.spare) }
+        ensures sound { IsSound self.new.full.room (length self.new.full.stored) self.new.full.body }
+        ensures keeps { Keeps self.old self.new }
+    {
+        self.reserve(1)?;
+        self.store_part(from, to, form_feed)
+    }
+
+    // Finds memory to write the page and to bring in one of `len` bytes, and stores it.
+    pub(super) fn prepare_page(&mut self, there: usize, len: usize) -> Result<Vec<u8>, NoMemory>
+        requires { there + len < 2 ^ 64 }
+        ensures ok { OnOk result (self.new.full ≡ with_stored self.old.full (written (state_of self.old.full)) self.new.full.room) }
+        ensures err { OnErr result (self.new.full ≡ self.old.full) }
+        ensures memory { IfOk result (λ v. (v.items ≡ []) × (there + len ≤ vec_capacity v)) }
+        ensures spare { OnOk result (2 ≤ self.new.spare) }
+        ensures room { OnOk result (len ≤ self.new.full.room) }
+        ensures sound { IsSound self.new.full.room (length self.new.full.stored) self.new.full.body }
+        ensures keeps { Keeps self.old self.new }
+    {
+        self.reserve(2)?;
+        let held = self.memory(there + len)?;
+        self.store_page(len)?;
+        Ok(held)
+    }
+
+    // Finds memory to write the page and the rest of the input, and stores them.
+    pub(super) fn prepare_rest(&mut self, there: usize) -> Result<Vec<u8>, NoMemory>
+        ensures ok { OnOk result (self.new.full ≡ with_stored self.old.full (written (state_of self.old.full) ++ left_of (state_of self.old.full)) self.old.full.room) }
+        ensures err { OnErr result (self.new.full ≡ self.old.full) }
+        ensures memory { IfOk result (λ v. (v.items ≡ []) × (there ≤ vec_capacity v)) }
+        ensures spare { OnOk result (3 ≤ self.new.spare) }
+        ensures sound { IsSound self.new.full.room (length self.new.full.stored) self.new.full.body }
+        ensures keeps { Keeps self.old self.new }
+    {
+        self.reserve(3)?;
+        let held = self.memory(there)?;
+        self.store_rest()?;
+        Ok(held)
+    }
+
+    // Puts the next page for the `there` bytes at `at`, and notes those that stood there in `held`, which is empty.
+    fn exchange_page(&mut self, at: usize, there: usize, pointer: usize, held: Vec<u8>)
+        requires spare { 0 < self.old.spare }
+        requires empty { held.items ≡ [] }
+        requires memory { there + length (page self.old.full.body) ≤ vec_capacity held }
+        requires there { at + there ≤ length self.old.full.body.text }
+        requires lands { pointer + there ≤ length self.old.full.body.text + length (page self.old.full.body) }
+        requires small { length self.old.full.body.text + length (page self.old.full.body) ≤ TEXT_LIMIT + there }
+        requires room { length self.old.full.body.text + length (page self.old.full.body) ≤ self.old.full.room + there }
+        ensures full { self.new.full ≡ full_after (Splice at there pointer (page self.old.full.body)) self.old.full }
+        ensures sound { IsSound self.new.full.room (length self.new.full.stored) self.new.full.body }
+        ensures spare { self.new.spare + 1 ≡ self.old.spare }
+        ensures goes { Goes (there + length (page self.old.full.body)) 1 self.old self.new }
+    {
+        let _shown = self.editor.shown();
+        let held = self.editor.exchange_page(at, there, pointer, held);
+        self.entry.push_reserved(Change::new(self.done, held));
+    }
+
+    // Brings in the next page for the `there` bytes at `at`; the output then ends at `end`, within what is stored.
+    pub(super) fn bring_page(
+        &mut self,
+        at: usize,
+        there: usize,
+        pointer: usize,
+        end: usize,
+        held: Vec<u8>,
+    )
+        requires spare { 2 ≤ self.old.spare }
+        requires empty { held.items ≡ [] }
+        requires memory { there + length (page self.old.full.body) ≤ vec_capacity held }
+        requires there { at + there ≤ length self.old.full.body.text }
+        requires lands { pointer + there ≤ length self.old.full.body.text + length (page self.old.full.body) }
+        requires small { length self.old.full.body.text + length (page self.old.full.body) ≤ TEXT_LIMIT + there }
+        requires room { length self.old.full.body.text + length (page self.old.full.body) ≤ self.old.full.room + there }
+        requires rises { self.old.full.body.output ≤ end }
+        requires ends { (end ≤ length self.old.full.stored) × (end ≤ FILE_LIMIT) }
+        ensures full { self.new.full ≡ record self.old.full { body = brought self.old.full.body at there pointer end } }
+        ensures goes { Goes (there + length (page self.old.full.body)) 2 self.old self.new }
+    {
+        let page = self.editor().page();
+        let (len, form_feed) = (page.bytes.len(), page.form_feed);
+        let place = self.editor().place() + len + usize::from(form_feed);
+        self.exchange_page(at, there, pointer, held);
+        self.note(Kind::Pages(place as u32, end as u32, form_feed));
+    }
+}

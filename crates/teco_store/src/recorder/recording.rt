@@ -1,0 +1,244 @@
+//! The calls of a desk, each of which notes what it changes.
+ghost use Rattle.std.specs.Prelude.{◌≡◌, ◌+◌, ◌<◌, ◌^◌, length};
+ghost use Rattle.teco_store.specs.State.{pointer_after, state_of};
+
+use crate::change::Kind;
+use crate::desk::{Desk, Refused};
+use crate::noting::is_long;
+use crate::pages::is_past;
+use crate::recorder::Recorder;
+use teco_core::{CaseMode, PushList, Reg, Registers, TEXT_LIMIT};
+
+// Where the pointer comes to stand.
+fn landing(at: usize, ins: &[u8], point: Option<usize>) -> usize
+    requires { at + length ins.now < 2 ^ 64 }
+    ensures { result ≡ pointer_after at ins.now point }
+{
+    match point {
+        Some(place) => place,
+        None => at + ins.len(),
+    }
+}
+
+impl Desk for Recorder {
+    ghost use Rattle.teco_store.specs.Follows.{Follows, follows_eases};
+
+    ghost state = { λ r. state_of r.full };
+
+    ghost follows = { Follows };
+
+    ghost eases = { follows_eases };
+
+    fn halves(&self) -> (&[u8], &[u8]) {
+        self.editor.halves()
+    }
+
+    fn pointer(&self) -> usize {
+        self.editor.pointer()
+    }
+
+    fn registers(&self) -> &Registers {
+        self.editor.registers()
+    }
+
+    fn pushed(&self) -> &PushList {
+        self.editor.pushed()
+    }
+
+    fn place(&self) -> usize {
+        self.editor.place()
+    }
+
+    fn is_input_over(&self) -> bool {
+        self.editor.is_input_over()
+    }
+
+    fn output(&self) -> &[u8] {
+        self.editor.output()
+    }
+
+    fn flag(&self) -> bool {
+        self.editor.flag()
+    }
+
+    fn last_search(&self) -> Option<&[u8]> {
+        self.editor.last_search()
+    }
+
+    fn last_result(&self) -> bool {
+        self.editor.last_result()
+    }
+
+    fn done(&self) -> bool {
+        self.editor.done()
+    }
+
+    fn case_mode(&self) -> CaseMode {
+        self.editor.case_mode()
+    }
+
+    fn splice(
+        &mut self,
+        at: usize,
+        del: usize,
+        ins: &[u8],
+        point: Option<usize>,
+    ) -> Result<(), Refused> {
+        let kept = self.editor().len() - del;
+        if is_past(TEXT_LIMIT, kept, ins.len()) {
+            return Err(Refused::Big);
+        }
+        let held = self.find_memory(1, del + ins.len(), kept + ins.len())?;
+        self.exchange(at, del, ins, landing(at, ins, point), held);
+        Ok(())
+    }
+
+    fn point(&mut self, place: usize) -> Result<(), Refused> {
+        self.reserve(1)?;
+        self.note(Kind::Point(place as u32));
+        Ok(())
+    }
+
+    fn set_number(&mut self, q: Reg, number: i32) -> Result<(), Refused> {
+        let _index = q.index();
+        self.reserve(1)?;
+        self.note(Kind::Number(q, number));
+        Ok(())
+    }
+
+    fn set_text(&mut self, q: Reg, text: Vec<u8>) -> Result<(), Refused> {
+        let _index = q.index();
+        if text.len() > TEXT_LIMIT {
+            return Err(Refused::Big);
+        }
+        self.reserve(1)?;
+        self.note(Kind::Text(q, text));
+        Ok(())
+    }
+
+    fn push(&mut self, q: Reg) -> Result<(), Refused> {
+        self.reserve(1)?;
+        let value = self.editor().registers().value(q).copy()?;
+        self.note(Kind::Push(value));
+        Ok(())
+    }
+
+    fn pop(&mut self, q: Reg) -> Result<(), Refused> {
+        let _index = q.index();
+        self.reserve(1)?;
+        self.note(Kind::PopInto(q));
+        Ok(())
+    }
+
+    fn read_page(&mut self) -> Result<(), Refused> {
+        let len = self.editor().page().bytes.len();
+        if len > TEXT_LIMIT {
+            return Err(Refused::Big);
+        }
+        let there = self.editor().len();
+        let end = self.editor().shown();
+        let held = self.find_memory(2, there + len, len)?;
+        self.bring_page(0, there, 0, end, held);
+        Ok(())
+    }
+
+    fn append_page(&mut self) -> Result<(), Refused> {
+        let there = self.editor().len();
+        if self.editor().is_input_over() {
+            return Ok(());
+        }
+        let len = self.editor().page().bytes.len();
+        if is_past(TEXT_LIMIT, there, len) {
+            return Err(Refused::Big);
+        }
+        let pointer = self.editor().pointer();
+        let end = self.editor().shown();
+        let held = self.find_memory(2, len, there + len)?;
+        self.bring_page(there, 0, pointer, end, held);
+        Ok(())
+    }
+
+    fn turn_page(&mut self) -> Result<(), Refused> {
+        let len = self.editor().page().bytes.len();
+        if len > TEXT_LIMIT {
+            return Err(Refused::Big);
+        }
+        let Some(end) = self.editor().end_after_page() else {
+            return Err(Refused::Big);
+        };
+        let there = self.editor().len();
+        let held = self.prepare_page(there, len)?;
+        self.bring_page(0, there, 0, end, held);
+        Ok(())
+    }
+
+    fn write_out(&mut self, from: usize, to: usize, form_feed: bool) -> Result<(), Refused> {
+        let Some(end) = self.editor().end_after_part(from, to, form_feed) else {
+            return Err(Refused::Big);
+        };
+        let place = self.editor().place();
+        let flag = self.editor().flag();
+        self.prepare_part(from, to, form_feed)?;
+        self.note(Kind::Pages(place as u32, end as u32, flag));
+        Ok(())
+    }
+
+    fn note_search(
+        &mut self,
+        text: Option<&[u8]>,
+        found: bool,
+        place: usize,
+    ) -> Result<(), Refused> {
+        if is_long(text) {
+            return Err(Refused::Big);
+        }
+        self.reserve(3)?;
+        let text = self.fresh_text(text)?;
+        self.note_text(text);
+        self.note(Kind::Found(found));
+        self.note(Kind::Point(place as u32));
+        Ok(())
+    }
+
+    fn note_replace(
+        &mut self,
+        text: Option<&[u8]>,
+        at: usize,
+        del: usize,
+        ins: &[u8],
+    ) -> Result<(), Refused> {
+        let kept = self.editor().len() - del;
+        if is_long(text) || is_past(TEXT_LIMIT, kept, ins.len()) {
+            return Err(Refused::Big);
+        }
+        let text = self.fresh_text(text)?;
+        let held = self.find_memory(3, del + ins.len(), kept + ins.len())?;
+        self.note_text(text);
+        self.note(Kind::Found(true));
+        self.exchange(at, del, ins, at + ins.len(), held);
+        Ok(())
+    }
+
+    fn finish(&mut self) -> Result<(), Refused> {
+        let Some(end) = self.editor().end_after_rest() else {
+            return Err(Refused::Big);
+        };
+        let there = self.editor().len();
+        let over = self.editor().input_len();
+        let held = self.prepare_rest(there)?;
+        self.exchange(0, there, &[], 0, held);
+        self.note(Kind::Pages(over as u32, end as u32, false));
+        self.note(Kind::Done(true));
+        Ok(())
+    }
+
+    fn set_case(&mut self, mode: CaseMode) -> Result<(), Refused> {
+        self.reserve(1)?;
+        self.note(Kind::Mode(mode));
+        Ok(())
+    }
+
+    fn step_done(&mut self, steps: u64) {
+        self.done = steps;
+    }
+}
