@@ -11,7 +11,7 @@ fn jumps_end_as_they_mean(rt: HostRuntime) {
         &[
             ("Ox\x1b?!x!\x1b", Some(Code::Tag), 1, ""),
             ("Ox\x1b0<!x!>\x1b", Some(Code::Tag), 1, ""),
-            ("Ox\x1b1!x!2=!x!3=", None, 3, "2\r\n"),
+            ("Ox\x1b1!x!2=!x!3=", None, 5, "2\r\n3\r\n"),
             ("Ox\x1bI!x!\x1b1=!x!2=", None, 3, "2\r\n"),
             ("Ox\x1b1\"E2'<J>1\"E|1\"E|''!x!4=", None, 3, "4\r\n"),
             ("Ox\x1b1\"E2|3|4'!x!", Some(Code::Tag), 1, ""),

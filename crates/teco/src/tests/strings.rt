@@ -52,36 +52,27 @@ fn has_written(editor: &Editor, written: Option<(&str, bool)>) -> bool {
     }
 }
 
-fn ends_so(outcome: Outcome, row: &Row) -> bool {
-    outcome.code == row.code && outcome.steps == row.steps.unwrap_or(outcome.steps)
+/// Whether memory was refused for a step, or for what it types, and no more was typed than is to be.
+fn lacked_memory(outcome: Outcome, typed: &[u8], row: &Row) -> bool {
+    (outcome.code == Some(Code::Mem) || outcome.code == Some(Code::Tty))
+        && row.typed.as_bytes().starts_with(typed)
 }
 
-/// Whether memory was refused for a step, or for what it types.
-fn lacked_memory(outcome: Outcome) -> bool {
-    outcome.code == Some(Code::Mem) || outcome.code == Some(Code::Tty)
+fn ends_so(outcome: Outcome, typed: &[u8], row: &Row) -> bool {
+    outcome.code == row.code
+        && outcome.steps == row.steps.unwrap_or(outcome.steps)
+        && typed == row.typed.as_bytes()
 }
 
-/// How a try of a row went.
-#[derive(Clone, Copy, PartialEq, Eq)]
-enum Tried {
-    Held,
-    /// Memory was refused, and no more was typed than is to be.
-    LackedMemory,
-    Failed,
-}
-
-fn told(editor: &Editor, typed: &[u8], outcome: Outcome, row: &Row) -> Tried {
-    let wanted = row.typed.as_bytes();
-    if ends_so(outcome, row) && typed == wanted && has_written(editor, row.written) {
-        Tried::Held
-    } else if lacked_memory(outcome) && wanted.starts_with(typed) {
-        Tried::LackedMemory
-    } else {
-        Tried::Failed
+fn told(editor: &Editor, typed: &[u8], outcome: Outcome, row: &Row) -> Option<bool> {
+    if lacked_memory(outcome, typed, row) {
+        return None;
     }
+    Some(ends_so(outcome, typed, row) && has_written(editor, row.written))
 }
 
-fn try_row(alloc: Global, row: &Row) -> Tried {
+/// Whether a row holds; none where it lacked memory.
+fn try_row(alloc: Global, row: &Row) -> Option<bool> {
     let mut editor = editor_over(alloc, row.input);
     let mut terminal = MemoryTerminal::new(alloc);
     let outcome = run(&mut editor, row.text, row.limit, &mut terminal);
@@ -90,8 +81,10 @@ fn try_row(alloc: Global, row: &Row) -> Tried {
 
 /// Whether a row holds; where memory was refused, at the second time.
 pub(super) fn holds(alloc: Global, row: &Row) -> bool {
-    let first = try_row(alloc, row);
-    first == Tried::Held || first == Tried::LackedMemory && try_row(alloc, row) == Tried::Held
+    match try_row(alloc, row) {
+        Some(held) => held,
+        None => try_row(alloc, row) == Some(true),
+    }
 }
 
 /// A text, the code by which it ends, its steps, and what it types.
