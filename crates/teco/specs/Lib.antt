@@ -10,3 +10,4 @@ pub mod Held
 pub mod Ending
 pub mod Disk
 pub mod CommandLine
+pub mod Draft

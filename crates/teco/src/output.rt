@@ -1,6 +1,7 @@
 //! Writing the output.
-ghost use Rattle.std.specs.Prelude.{◌≢◌, IfOk, OnErr, OnOk};
+ghost use Rattle.std.specs.Prelude.{◌≡◌, ◌≢◌, IfOk, OnErr, OnOk};
 ghost use Rattle.std.specs.String.{string_bytes};
+ghost use Rattle.teco.specs.Draft.{draft_beside};
 ghost use Rattle.teco.specs.Disk.{Changes, Counts, IsWhole, LeavesFiles, Passes, Replaces};
 
 use crate::disk::Disk;
@@ -35,9 +36,10 @@ pub fn replace<D: Disk>(disk: &mut D, file: &str, draft: &str, bytes: &[u8]) -> 
     Ok(())
 }
 
-/// A name for a draft: in the folder of the file, and not the file's.
+/// The name of a draft: in the folder of the file, of this number, and not the file's.
 fn draft_name(alloc: Global, file: &str, number: u32) -> Result<String, NoMemory>
-    ensures { IfOk result (λ draft. string_bytes draft ≢ file.now) }
+    ensures named { IfOk result (λ draft. string_bytes draft ≡ draft_beside file.now number) }
+    ensures another { IfOk result (λ draft. string_bytes draft ≢ file.now) }
 {
     let name = format!(in alloc; ".teco-{number}")?;
     let mut draft = Path::new(file)

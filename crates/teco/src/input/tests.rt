@@ -10,48 +10,60 @@ fn eight(alloc: Global, fails: bool) -> Result<MemorySource, NoMemory> {
     Ok(MemorySource::new(bytes, cuts, fails))
 }
 
-fn eight_again(rt: &impl Abort, alloc: Global, fails: bool) -> MemorySource {
-    match eight(alloc, fails) {
-        Ok(source) => source,
-        Err(NoMemory) => eight(alloc, fails).expect(rt, "memory is there again"),
+/// Whether the source fails, the most bytes that may be, and the fault of reading it; none where it gives all eight.
+type Row = (bool, usize, Option<InputFault>);
+
+fn is_fault(fault: InputFault, wanted: Option<InputFault>) -> bool {
+    match fault {
+        InputFault::Read => matches!(wanted, Some(InputFault::Read)),
+        InputFault::TooLarge => matches!(wanted, Some(InputFault::TooLarge)),
+        InputFault::Memory => false,
     }
 }
 
-/// The fault of a reading of at most so many bytes; none where it gives all eight. Where memory was refused, it reads anew.
-fn fault(rt: &impl Abort, alloc: Global, fails: bool, max: usize) -> Option<InputFault> {
-    for _ in 0..2 {
-        let mut source = eight_again(rt, alloc, fails);
-        match read_input(alloc, &mut source, max) {
-            Err(InputFault::Memory) => {}
-            Err(fault) => return Some(fault),
-            Ok(input) => {
-                assert!(rt; input.as_slice() == b"12345678".as_slice());
-                return None;
-            }
-        }
+fn reads(alloc: Global, source: &mut MemorySource, row: &Row) -> bool {
+    match read_input(alloc, source, row.1) {
+        Ok(input) => row.2.is_none() && input.as_slice() == b"12345678".as_slice(),
+        Err(fault) => is_fault(fault, row.2),
     }
-    Some(InputFault::Memory)
 }
 
-/// With room for all bytes, and more.
+fn reads_anew(alloc: Global, row: &Row) -> bool {
+    match eight(alloc, row.0) {
+        Ok(mut source) => reads(alloc, &mut source, row),
+        Err(NoMemory) => false,
+    }
+}
+
+/// Where memory was refused, it reads a second time.
+fn all_read(rt: &impl Abort, alloc: Global, rows: &[Row]) {
+    for row in rows {
+        let held = reads_anew(alloc, row) || reads_anew(alloc, row);
+        assert!(rt; held, "{row:?}");
+    }
+}
+
+/// With room for all bytes, and more, and with too little.
 #[test]
 fn reads_all_or_a_fault(rt: HostRuntime) {
-    for max in [8, 9, 1 << 30] {
-        assert!(rt; fault(&rt, rt.alloc(), false, max).is_none());
-        assert!(rt; matches!(fault(&rt, rt.alloc(), true, max), Some(InputFault::Read)));
-    }
-}
-
-#[test]
-fn refuses_what_is_too_large(rt: HostRuntime) {
-    for fails in [false, true] {
-        for max in [0, 2, 3, 7] {
-            assert!(rt;
-                matches!(
-                    fault(&rt, rt.alloc(), fails, max),
-                    Some(InputFault::TooLarge)
-                )
-            );
-        }
-    }
+    all_read(
+        &rt,
+        rt.alloc(),
+        &[
+            (false, 8, None),
+            (false, 9, None),
+            (false, 1 << 30, None),
+            (true, 8, Some(InputFault::Read)),
+            (true, 9, Some(InputFault::Read)),
+            (true, 1 << 30, Some(InputFault::Read)),
+            (false, 0, Some(InputFault::TooLarge)),
+            (false, 2, Some(InputFault::TooLarge)),
+            (false, 3, Some(InputFault::TooLarge)),
+            (false, 7, Some(InputFault::TooLarge)),
+            (true, 0, Some(InputFault::TooLarge)),
+            (true, 2, Some(InputFault::TooLarge)),
+            (true, 3, Some(InputFault::TooLarge)),
+            (true, 7, Some(InputFault::TooLarge)),
+        ],
+    );
 }

@@ -9,45 +9,48 @@ fn words_of(alloc: Global, words: &[&str]) -> Result<Vec<String>, NoMemory> {
     Ok(texts)
 }
 
-fn line_once(alloc: Global, words: &[&str]) -> Result<Line, LineFault> {
-    let words = words_of(alloc, words)?;
-    line_of(alloc, words.as_slice())
-}
+/// What words say beside the input `in`: the output, the limit and the prompt. Where they are refused, whether the parser's text goes
+/// to standard error.
+type Said<'a> = Result<(Option<&'a str>, u64, bool), bool>;
 
-/// Whether memory was refused, to the parser or to us.
-fn lacks_memory(line: &Result<Line, LineFault>) -> bool {
-    match line {
-        Ok(_) => false,
-        Err(LineFault::NoMemory) => true,
-        Err(LineFault::Refused(error)) => error.kind() == ErrorKind::OutOfMemory,
-    }
-}
+type Row<'a> = (&'a [&'a str], Said<'a>);
 
-/// What the words say; where memory was refused, what they say a second time.
-fn line(alloc: Global, words: &[&str]) -> Result<Line, LineFault> {
-    let first = line_once(alloc, words);
-    if lacks_memory(&first) {
-        return line_once(alloc, words);
-    }
-    first
-}
-
-/// Words, and the output, the limit and the prompt that they say, beside the input `in`.
-type Row<'a> = (&'a [&'a str], Option<&'a str>, u64, bool);
-
-fn is_line(line: &Line, row: &Row) -> bool {
+fn is_line(line: &Line, output: Option<&str>, limit: u64, prompt: bool) -> bool {
     line.input.as_str() == "in"
-        && line.output.as_ref().map(|name| name.as_str()) == row.1
-        && line.limit == row.2
-        && line.prompt == row.3
+        && line.output.as_ref().map(|name| name.as_str()) == output
+        && line.limit == limit
+        && line.prompt == prompt
 }
 
+/// Whether the parser refused a line, and for no want of memory.
+fn is_refused(fault: &LineFault, to_stderr: bool) -> bool {
+    match fault {
+        LineFault::Refused(error) => {
+            error.kind() != ErrorKind::OutOfMemory && error.use_stderr() == to_stderr
+        }
+        LineFault::NoMemory => false,
+    }
+}
+
+fn is_said(line: &Result<Line, LineFault>, said: &Said) -> bool {
+    match (line, said) {
+        (Ok(line), Ok((output, limit, prompt))) => is_line(line, *output, *limit, *prompt),
+        (Err(fault), Err(to_stderr)) => is_refused(fault, *to_stderr),
+        _ => false,
+    }
+}
+
+fn says(alloc: Global, row: &Row) -> bool {
+    match words_of(alloc, row.0) {
+        Ok(words) => is_said(&line_of(alloc, words.as_slice()), &row.1),
+        Err(NoMemory) => false,
+    }
+}
+
+/// The lines say this; where memory was refused, a second time.
 fn all_say(rt: &impl Abort, alloc: Global, rows: &[Row]) {
     for row in rows {
-        let held = match line(alloc, row.0) {
-            Ok(line) => is_line(&line, row),
-            Err(_) => false,
-        };
+        let held = says(alloc, row) || says(alloc, row);
         assert!(rt; held, "{:?}", row.0);
     }
 }
@@ -58,50 +61,32 @@ fn reads_each_option(rt: HostRuntime) {
         &rt,
         rt.alloc(),
         &[
-            (&["teco", "in"], None, 1_000_000, false),
-            (&["teco", "--limit", "0", "in"], None, 0, false),
+            (&["teco", "in"], Ok((None, 1_000_000, false))),
+            (&["teco", "--limit", "0", "in"], Ok((None, 0, false))),
             (
                 &["teco", "in", "--limit=1000000000000"],
-                None,
-                1_000_000_000_000,
-                false,
+                Ok((None, 1_000_000_000_000, false)),
             ),
             (
                 &["teco", "--output", "out", "--prompt", "in"],
-                Some("out"),
-                1_000_000,
-                true,
+                Ok((Some("out"), 1_000_000, true)),
             ),
         ],
     );
 }
 
-/// Whether the words are refused, and whether the parser's text goes to standard error.
-fn refused(alloc: Global, words: &[&str]) -> Option<bool> {
-    match line(alloc, words) {
-        Err(LineFault::Refused(error)) => Some(error.use_stderr()),
-        _ => None,
-    }
-}
-
-fn all_refused(rt: &impl Abort, alloc: Global, rows: &[(&[&str], bool)]) {
-    for (words, is_fault) in rows {
-        assert!(rt; refused(alloc, words) == Some(*is_fault), "{words:?}");
-    }
-}
-
 #[test]
 fn refuses_faulty_lines(rt: HostRuntime) {
-    all_refused(
+    all_say(
         &rt,
         rt.alloc(),
         &[
-            (&["teco"], true),
-            (&["teco", "in", "more"], true),
-            (&["teco", "--limit", "1000000000001", "in"], true),
-            (&["teco", "--limit", "x", "in"], true),
-            (&["teco", "--what", "in"], true),
-            (&["teco", "--help"], false),
+            (&["teco"], Err(true)),
+            (&["teco", "in", "more"], Err(true)),
+            (&["teco", "--limit", "1000000000001", "in"], Err(true)),
+            (&["teco", "--limit", "x", "in"], Err(true)),
+            (&["teco", "--what", "in"], Err(true)),
+            (&["teco", "--help"], Err(false)),
         ],
     );
 }

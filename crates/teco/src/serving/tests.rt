@@ -1,119 +1,143 @@
-//! What is typed at streams of commands, and how serving them ends.
+//! What is typed and written at streams of commands, and how serving them ends.
 use super::*;
 use crate::memory_source::MemorySource;
-use std::io;
-use std::io::Write;
 use std::process::Abort;
-use teco_core::{NoMemory, Reg};
+use teco_core::{FILE_LIMIT, NoMemory};
 use teco_step::{MemoryTerminal, WriterTerminal};
 use teco_store::Desk;
 
 /// How a stream is served, and how that ends.
 #[derive(Clone, Copy)]
-struct How {
+struct How<'a> {
+    input: &'a str,
     limit: u64,
     prompt: bool,
     fails: bool,
     served: Served,
 }
 
-/// Without a prompt, under a limit of 1000 steps, to the end of the stream.
+/// Over an empty input, under a limit of 1000 steps, without a prompt, to the end of the stream.
 const PLAIN: How = How {
+    input: "",
     limit: 1000,
     prompt: false,
     fails: false,
     served: Served::EndOfCommands,
 };
 
-const PROMPT: How = How {
-    limit: 1000,
-    prompt: true,
-    fails: false,
-    served: Served::EndOfCommands,
-};
+/// A stream, where `$` is ESC and `~` the byte 5, and what serving it gives: what is typed, and what is written to the output.
+type Row<'a> = (&'a str, &'a str, &'a str);
 
-/// A stream, where `$` is ESC, and what serving it over an empty input gives: what is typed, the text, and the number and the text
-/// of register A.
-type Row<'a> = (&'a str, &'a str, &'a str, i32, &'a str);
+/// The bytes of a stream.
+fn bytes_of(alloc: Global, stream: &[u8]) -> Result<Vec<u8>, NoMemory> {
+    let mut bytes = Vec::from_slice(alloc, stream)?;
+    for byte in bytes.iter_mut() {
+        match *byte {
+            b'$' => *byte = 27,
+            b'~' => *byte = 5,
+            _ => {}
+        }
+    }
+    Ok(bytes)
+}
 
-/// The first bytes of a stream as one piece, or cut into single bytes.
+/// The places at which so many bytes are cut into single ones, or none.
+fn cuts_of(alloc: Global, len: usize, single: bool) -> Result<Vec<usize>, NoMemory> {
+    let mut cuts = Vec::new(alloc);
+    if single {
+        for cut in 1..len {
+            cuts.push(cut)?;
+        }
+    }
+    Ok(cuts)
+}
+
+/// A stream as one piece, or in single bytes.
 fn source_of(
     alloc: Global,
-    stream: &str,
-    read: usize,
+    stream: &[u8],
     single: bool,
     fails: bool,
 ) -> Result<MemorySource, NoMemory> {
-    let mut bytes = Vec::new(alloc);
-    let mut cuts = Vec::new(alloc);
-    for byte in stream.bytes().take(read) {
-        bytes.push(if byte == b'$' { 27 } else { byte })?;
-        if single {
-            cuts.push(bytes.len())?;
-        }
-    }
+    let cuts = cuts_of(alloc, stream.len(), single)?;
+    let bytes = bytes_of(alloc, stream)?;
     Ok(MemorySource::new(bytes, cuts, fails))
 }
 
-fn has_text(session: &Session, text: &str) -> bool {
-    let (before, after) = session.editor().halves();
-    before.iter().chain(after.iter()).eq(text.as_bytes().iter())
-}
-
-fn register_is(session: &Session, number: i32, text: &str) -> bool {
-    let registers = session.editor().registers();
-    match Reg::of(b'A') {
-        Some(a) => registers.number(a) == number && registers.text(a) == text.as_bytes(),
-        None => false,
+/// A session over an input.
+fn session_over(alloc: Global, input: &str) -> Option<Session> {
+    match Vec::from_slice(alloc, input.as_bytes()) {
+        Ok(input) if input.len() <= FILE_LIMIT => Some(Session::new(input)),
+        _ => None,
     }
 }
 
-/// Whether serving a source gives what the row says.
-fn serves(alloc: Global, source: &mut MemorySource, how: How, row: &Row) -> bool {
-    let mut session = Session::new(Vec::new(alloc));
-    let mut term = MemoryTerminal::new(alloc);
-    let served = serve(
-        alloc,
-        source,
-        &mut session,
-        how.limit,
-        how.prompt,
-        &mut term,
-    );
-    served == how.served
-        && term.bytes() == row.1.as_bytes()
-        && has_text(&session, row.2)
-        && register_is(&session, row.3, row.4)
+fn is_left(row: &Row, typed: &[u8], output: &[u8]) -> bool {
+    typed == row.1.as_bytes() && output == row.2.as_bytes()
 }
 
-fn holds_once(alloc: Global, how: How, row: &Row, single: bool) -> bool {
-    match source_of(alloc, row.0, row.0.len(), single, how.fails) {
-        Ok(mut source) => serves(alloc, &mut source, how, row),
+/// Whether serving a source in a session gives what the row says.
+fn serves(
+    alloc: Global,
+    source: &mut MemorySource,
+    session: &mut Session,
+    how: &How,
+    row: &Row,
+) -> bool {
+    let mut term = MemoryTerminal::new(alloc);
+    let served = serve(alloc, source, session, how.limit, how.prompt, &mut term);
+    served == how.served && is_left(row, term.bytes(), session.editor().output())
+}
+
+/// Whether serving the row's stream in a session gives what the row says.
+fn serves_in(alloc: Global, session: &mut Session, how: &How, row: &Row, single: bool) -> bool {
+    match source_of(alloc, row.0.as_bytes(), single, how.fails) {
+        Ok(mut source) => serves(alloc, &mut source, session, how, row),
         Err(NoMemory) => false,
     }
 }
 
-/// The rows hold however their streams are cut; where memory was refused, a second time.
-fn all_hold(rt: &impl Abort, alloc: Global, how: How, rows: &[Row]) {
+fn holds_once(alloc: Global, how: &How, row: &Row, single: bool) -> bool {
+    match session_over(alloc, how.input) {
+        Some(mut session) => serves_in(alloc, &mut session, how, row, single),
+        None => false,
+    }
+}
+
+/// The row holds however its stream is cut; where memory was refused, a second time.
+fn holds(rt: &impl Abort, alloc: Global, how: &How, row: &Row) {
+    for single in [false, true] {
+        let held = holds_once(alloc, how, row, single) || holds_once(alloc, how, row, single);
+        assert!(rt;
+            held,
+            "{} over {:?} in single bytes: {single}",
+            row.0, how.input
+        );
+    }
+}
+
+fn all_hold(rt: &impl Abort, alloc: Global, how: &How, rows: &[Row]) {
     for row in rows {
-        for single in [false, true] {
-            let held = holds_once(alloc, how, row, single) || holds_once(alloc, how, row, single);
-            assert!(rt; held, "{} in single bytes: {single}", row.0);
-        }
+        holds(rt, alloc, how, row);
     }
 }
 
 #[test]
-fn serves_moves(rt: HostRuntime) {
+fn serves_requests(rt: HostRuntime) {
     all_hold(
         &rt,
         rt.alloc(),
-        PLAIN,
+        &PLAIN,
         &[
-            ("", "", "", 0, ""),
-            ("Ia$", "", "", 0, ""),
-            ("{$$", "?NTU\r\n", "", 0, ""),
-            ("3}$$ 2{\r\n$$", "?NTR\r\n?NTU\r\n", "", 0, ""),
+            ("", "", ""),
+            ("Ia$", "", ""),
+            ("{$$", "?NTU\r\n", ""),
+            ("3}$$ 2{\r\n$$", "?NTR\r\n?NTU\r\n", ""),
+            ("Ia$${$$}$$}$$HT$$", "?NTR\r\na", ""),
+            ("Ia$$Ib$$3{$$Z=$$", "?NTU\r\n0\r\n", ""),
+            ("Ia$$Ib$$2{$$}$$HT$$", "a", ""),
+            ("Ia$$Ib$$2{$$Ic$${$$2}$$HT$$", "?NTR\r\nc", ""),
+            ("1=$$$2=$$2{$${$$", "1\r\n2\r\n?NTU\r\n", ""),
         ],
     );
 }
@@ -123,154 +147,167 @@ fn serves_at_a_prompt(rt: HostRuntime) {
     all_hold(
         &rt,
         rt.alloc(),
-        PROMPT,
+        &How {
+            prompt: true,
+            ..PLAIN
+        },
         &[
-            ("", "*", "", 0, ""),
-            ("{$$0}$$}$", "*?NTU\r\n**", "", 0, ""),
-            ("1=$$", "*1\r\n*", "", 0, ""),
+            ("", "*", ""),
+            ("{$$0}$$}$", "*?NTU\r\n**", ""),
+            ("1=$$", "*1\r\n*", ""),
         ],
     );
 }
 
 #[test]
-fn serves_to_a_failed_read(rt: HostRuntime) {
-    let fails = true;
-    let served = Served::ReadFault;
-    all_hold(
-        &rt,
-        rt.alloc(),
-        How {
-            fails,
-            served,
-            ..PROMPT
-        },
-        &[("}$$Ia$", "*?NTR\r\n*", "", 0, "")],
-    );
-    all_hold(
-        &rt,
-        rt.alloc(),
-        How {
-            fails,
-            served,
-            ..PLAIN
-        },
-        &[("1=$$", "1\r\n", "", 0, "")],
-    );
+fn serves_to_the_limit(rt: HostRuntime) {
+    for (limit, stream, typed) in [
+        (0, "1=$${$${$$", "?LIM\r\n?NTU\r\n"),
+        (5, "!x!Ox$$", "?LIM\r\n"),
+        (33, "@^UA/MA/MA$$", "?LIM\r\n"),
+        (34, "@^UA/MA/MA$$", "?PDO\r\n"),
+    ] {
+        holds(
+            &rt,
+            rt.alloc(),
+            &How { limit, ..PLAIN },
+            &(stream, typed, ""),
+        );
+    }
 }
 
 #[test]
-fn serves_to_the_limit(rt: HostRuntime) {
-    all_hold(
+fn serves_to_a_failed_read(rt: HostRuntime) {
+    let fails = true;
+    let failed = How {
+        fails,
+        served: Served::ReadFault,
+        ..PLAIN
+    };
+    holds(&rt, rt.alloc(), &failed, &("1=$$", "1\r\n", ""));
+    let prompt = true;
+    holds(
         &rt,
         rt.alloc(),
-        How { limit: 0, ..PLAIN },
-        &[("1=$$", "?LIM\r\n", "", 0, "")],
+        &How { prompt, ..failed },
+        &("}$$Ia$", "*?NTR\r\n*", ""),
     );
-    all_hold(
+    let served = Served::Exit;
+    holds(
         &rt,
         rt.alloc(),
-        How { limit: 5, ..PLAIN },
-        &[("!x!Ox$$", "?LIM\r\n", "", 0, "")],
+        &How { served, ..failed },
+        &("EX$$1=$$", "", ""),
     );
 }
 
-/// How serving ended, how many strings it noted, and what it typed.
-#[derive(Drop)]
-struct Left {
-    served: Served,
-    strings: usize,
-    term: MemoryTerminal,
+/// What the first bytes of the stream below type, and how many strings they note.
+fn left_after(read: usize) -> (&'static str, usize) {
+    match read {
+        0..=3 => ("", 0),
+        4..=17 => ("1\r\n", 1),
+        18..=21 => ("1\r\n?NTR\r\n", 1),
+        _ => ("1\r\n?NTR\r\n3\r\n", 2),
+    }
 }
 
-/// What serving the first bytes of a stream leaves.
-fn serve_front(alloc: Global, stream: &str, read: usize, fails: bool) -> Result<Left, NoMemory> {
-    let mut source = source_of(alloc, stream, read, true, fails)?;
+/// Whether serving so many bytes ends as its source does, and types and notes what they do.
+fn notes(alloc: Global, source: &mut MemorySource, read: usize, served: Served) -> bool {
+    let (typed, strings) = left_after(read);
     let mut session = Session::new(Vec::new(alloc));
-    let mut term = MemoryTerminal::new(alloc);
-    let served = serve(alloc, &mut source, &mut session, 1000, false, &mut term);
-    Ok(Left {
-        served,
-        strings: session.strings(),
-        term,
-    })
+    serves(
+        alloc,
+        source,
+        &mut session,
+        &How { served, ..PLAIN },
+        &("", typed, ""),
+    ) && session.strings() == strings
 }
 
-fn are_alike(ended: &Left, failed: &Left) -> bool {
-    ended.served == Served::EndOfCommands
-        && failed.served == Served::ReadFault
-        && ended.strings == failed.strings
-        && ended.term.bytes() == failed.term.bytes()
+fn notes_once(alloc: Global, front: &[u8], fails: bool) -> bool {
+    let served = if fails {
+        Served::ReadFault
+    } else {
+        Served::EndOfCommands
+    };
+    match source_of(alloc, front, true, fails) {
+        Ok(mut source) => notes(alloc, &mut source, front.len(), served),
+        Err(NoMemory) => false,
+    }
 }
 
-/// What a source gives before it fails is served as if it had ended there.
-fn fails_alike(alloc: Global, stream: &str, read: usize) -> Result<bool, NoMemory> {
-    let ended = serve_front(alloc, stream, read, false)?;
-    let failed = serve_front(alloc, stream, read, true)?;
-    Ok(are_alike(&ended, &failed))
+/// What a source gives before it fails is served as if it had ended there; where memory was refused, a second time.
+fn fails_alike(rt: &impl Abort, alloc: Global, front: &[u8]) {
+    for fails in [false, true] {
+        let held = notes_once(alloc, front, fails) || notes_once(alloc, front, fails);
+        assert!(rt; held, "after {} bytes", front.len());
+    }
 }
 
 #[test]
 fn serves_up_to_the_failed_read(rt: HostRuntime) {
-    let stream = "1=$${$$3<Ix$>$$}$$.=$$2{$$";
+    let stream = b"1=$${$$3<Ix$>$$}$$.=$$2{$$".as_slice();
     for read in 0..=stream.len() {
-        let held = fails_alike(rt.alloc(), stream, read) == Ok(true)
-            || fails_alike(rt.alloc(), stream, read) == Ok(true);
-        assert!(rt; held, "after {read} bytes");
+        fails_alike(&rt, rt.alloc(), &stream[..read]);
     }
 }
 
-/// A writer that takes nothing.
-#[derive(Drop)]
-struct Broken;
-
-impl Write for Broken {
-    fn write(&mut self, _bytes: &[u8]) -> io::Result<usize> {
-        Err(io::Error::from(io::ErrorKind::Other))
-    }
-
-    fn flush(&mut self) -> io::Result<()> {
-        Ok(())
-    }
-}
-
-/// Two strings in a piece each.
-fn two_pieces(alloc: Global) -> Result<MemorySource, NoMemory> {
-    let bytes = Vec::from_slice(alloc, b"1=\x1b\x1b2=\x1b\x1b")?;
-    let cuts = Vec::from_slice(alloc, &[4])?;
-    Ok(MemorySource::new(bytes, cuts, false))
-}
-
-/// How serving them ends on a terminal that fails at once, and how many strings it notes.
-fn serve_broken(alloc: Global, source: &mut MemorySource) -> (Served, usize) {
+/// How serving ends on a terminal that takes nothing, and how many strings it notes.
+fn serve_shut(alloc: Global, source: &mut MemorySource) -> (Served, usize) {
     let mut session = Session::new(Vec::new(alloc));
-    let mut term = WriterTerminal::new(Broken);
+    let mut room: [u8; 0] = [];
+    let mut term = WriterTerminal::new(room.as_mut_slice());
     let served = serve(alloc, source, &mut session, 1000, false, &mut term);
     (served, session.strings())
 }
 
-/// Whether these bytes are what a source gives next.
-fn gives(source: &mut MemorySource, bytes: &[u8]) -> bool {
-    let mut room = [0; 8];
-    match source.read(&mut room) {
-        Ok(n) => &room[..n.min(8)] == bytes,
-        Err(SourceFault) => false,
-    }
+/// Whether this byte is what a source gives next.
+fn gives(source: &mut MemorySource, byte: u8) -> bool {
+    let mut room = [0];
+    matches!(source.read(&mut room), Ok(1)) && room[0] == byte
 }
 
 fn stops_before_the_next_read(alloc: Global) -> bool {
-    match two_pieces(alloc) {
+    match source_of(alloc, b"1=$$2=$$", true, false) {
         Ok(mut source) => {
-            serve_broken(alloc, &mut source) == (Served::ShowFault, 1)
-                && gives(&mut source, b"2=\x1b\x1b")
+            serve_shut(alloc, &mut source) == (Served::ShowFault, 1) && gives(&mut source, b'2')
         }
         Err(NoMemory) => false,
     }
 }
 
-// Each request is done before the next read: where the first cannot be shown, the second piece is still to come.
+// Each request is done before the next read: where the first cannot be shown, the byte after it is still to come.
 #[test]
 fn reads_no_further_than_it_shows(rt: HostRuntime) {
     let held = stops_before_the_next_read(rt.alloc()) || stops_before_the_next_read(rt.alloc());
+    assert!(rt; held);
+}
+
+/// An exit, and what is served after it in the same session: only an undo and what follows.
+fn goes_on(alloc: Global, session: &mut Session) -> bool {
+    let served = Served::Exit;
+    let exit = How { served, ..PLAIN };
+    serves_in(alloc, session, &exit, &("YEX$$", "", "a"), false)
+        && serves_in(alloc, session, &PLAIN, &("1=$$", "?END\r\n", "a"), false)
+        && serves_in(
+            alloc,
+            session,
+            &PLAIN,
+            &("{$$1=$$}$$", "1\r\n?NTR\r\n", ""),
+            false,
+        )
+}
+
+fn goes_on_once(alloc: Global) -> bool {
+    match session_over(alloc, "a") {
+        Some(mut session) => goes_on(alloc, &mut session),
+        None => false,
+    }
+}
+
+#[test]
+fn serves_after_an_exit(rt: HostRuntime) {
+    let held = goes_on_once(rt.alloc()) || goes_on_once(rt.alloc());
     assert!(rt; held);
 }
 
@@ -279,3 +316,4 @@ mod examples;
 mod pages;
 mod programs;
 mod searches;
+mod worked;

@@ -2,63 +2,26 @@
 use super::programs::{
     COLUMNS, E, JOIN, NUMBER, PRIMES, REPLACE, REVERSE, SORT, SPLIT, STRIP, SWAP, WRAP,
 };
-use crate::memory_source::MemorySource;
+use super::{How, PLAIN, holds};
 use crate::served::Served;
-use crate::serving::serve;
 use std::alloc::Global;
 use std::process::Abort;
 use std::test::*;
-use teco_core::{FILE_LIMIT, NoMemory};
-use teco_session::Session;
-use teco_step::MemoryTerminal;
-use teco_store::Desk;
 
 /// An input, and what a program over it writes to the output and types.
 type Row<'a> = (&'a str, &'a str, &'a str);
 
-/// A program, where `$` is ESC and `~` the byte 5.
-fn source_of(alloc: Global, program: &str) -> Result<MemorySource, NoMemory> {
-    let mut bytes = Vec::new(alloc);
-    for byte in program.bytes() {
-        bytes.push(match byte {
-            b'$' => 27,
-            b'~' => 5,
-            _ => byte,
-        })?;
-    }
-    Ok(MemorySource::new(bytes, Vec::new(alloc), false))
-}
-
-/// Whether a program ends by its exit, and writes and types what the row says, under the limit that strings have by default.
-fn writes(alloc: Global, program: &str, row: &Row) -> Result<bool, NoMemory> {
-    let mut source = source_of(alloc, program)?;
-    let input = Vec::from_slice(alloc, row.0.as_bytes())?;
-    if input.len() > FILE_LIMIT {
-        return Ok(false);
-    }
-    let mut session = Session::new(input);
-    let mut term = MemoryTerminal::new(alloc);
-    let served = serve(
-        alloc,
-        &mut source,
-        &mut session,
-        1_000_000,
-        false,
-        &mut term,
-    );
-    Ok(
-        served == Served::Exit
-            && session.editor().output() == row.1.as_bytes()
-            && term.bytes() == row.2.as_bytes(),
-    )
-}
-
-/// The rows hold; where memory was refused, a second time.
+/// Each program ends by its exit, under the limit that strings have by default.
 fn all_write(rt: &impl Abort, alloc: Global, program: &str, rows: &[Row]) {
-    for row in rows {
-        let held = writes(alloc, program, row) == Ok(true)
-            || writes(alloc, program, row) == Ok(true);
-        assert!(rt; held, "over {:?}", row.0);
+    let served = Served::Exit;
+    for (input, output, typed) in rows {
+        let how = How {
+            input,
+            limit: 1_000_000,
+            served,
+            ..PLAIN
+        };
+        holds(rt, alloc, &how, &(program, typed, output));
     }
 }
 

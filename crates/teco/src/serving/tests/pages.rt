@@ -1,60 +1,20 @@
 //! What is typed and written at streams of commands over an input of three pages.
-use super::source_of;
-use crate::memory_source::MemorySource;
+use super::{How, PLAIN, all_hold};
 use crate::served::Served;
-use crate::serving::serve;
-use std::alloc::Global;
-use std::process::Abort;
 use std::test::*;
-use teco_core::NoMemory;
-use teco_session::Session;
-use teco_step::MemoryTerminal;
-use teco_store::Desk;
 
-/// A stream, where `$` is ESC, and what serving it over the pages `one`, `two` and `three` gives: what is typed, and what is written
-/// to the output.
-type Row<'a> = (&'a str, &'a str, &'a str);
-
-fn three_pages(alloc: Global) -> Result<Session, NoMemory> {
-    Ok(Session::new(Vec::from_slice(alloc, b"one\n\x0ctwo\n\x0cthree\n")?))
-}
-
-/// Whether serving a source over the three pages gives what the row says.
-fn serves(alloc: Global, source: &mut MemorySource, served: Served, row: &Row) -> bool {
-    let Ok(mut session) = three_pages(alloc) else {
-        return false;
-    };
-    let mut term = MemoryTerminal::new(alloc);
-    let ended = serve(alloc, source, &mut session, 1000, false, &mut term);
-    ended == served
-        && term.bytes() == row.1.as_bytes()
-        && session.editor().output() == row.2.as_bytes()
-}
-
-fn holds_once(alloc: Global, served: Served, row: &Row, single: bool) -> bool {
-    match source_of(alloc, row.0, row.0.len(), single, false) {
-        Ok(mut source) => serves(alloc, &mut source, served, row),
-        Err(NoMemory) => false,
-    }
-}
-
-/// The rows hold however their streams are cut; where memory was refused, a second time.
-fn all_hold(rt: &impl Abort, alloc: Global, served: Served, rows: &[Row]) {
-    for row in rows {
-        for single in [false, true] {
-            let held = holds_once(alloc, served, row, single)
-                || holds_once(alloc, served, row, single);
-            assert!(rt; held, "{} in single bytes: {single}", row.0);
-        }
-    }
-}
+/// The pages `one`, `two` and `three`.
+const PAGES: How = How {
+    input: "one\n\x0ctwo\n\x0cthree\n",
+    ..PLAIN
+};
 
 #[test]
 fn serves_pages(rt: HostRuntime) {
     all_hold(
         &rt,
         rt.alloc(),
-        Served::EndOfCommands,
+        &PAGES,
         &[
             ("YHT$$", "one\n", ""),
             ("Y$$Y$$", "?YCA\r\n", ""),
@@ -78,7 +38,7 @@ fn serves_searches_over_pages(rt: HostRuntime) {
     all_hold(
         &rt,
         rt.alloc(),
-        Served::EndOfCommands,
+        &PAGES,
         &[
             ("YNthree$.=HT$$", "5\r\nthree\n", "one\n\x0ctwo\n\x0c"),
             ("Y2Ne$.=HT$$", "4\r\nthree\n", "one\n\x0ctwo\n\x0c"),
@@ -99,7 +59,10 @@ fn serves_to_an_exit(rt: HostRuntime) {
     all_hold(
         &rt,
         rt.alloc(),
-        Served::Exit,
+        &How {
+            served: Served::Exit,
+            ..PAGES
+        },
         &[
             ("EX$$1=$$", "", "one\n\x0ctwo\n\x0cthree\n"),
             ("YHT$$PI2: $$EX$$", "one\n", "one\n\x0c2: two\n\x0cthree\n"),
