@@ -3,6 +3,7 @@ use Rattle.std.proofs.Common.{◌≡◌, ℕ, ◌≤◌, List, [], ◌∷◌, re
 use Rattle.teco_store.specs.State.{Body, IsSound}
 use Rattle.teco_store.specs.Turn.{Turn, Note, Fits, body_after, turn_after}
 use Rattle.teco_store.specs.Entry.{body_back, notes_back, body_forth, notes_forth, FitsBack, FitsForth}
+use Rattle.teco_store.specs.RecordLaws.{BackThenForth, ForthThenBack}
 use Rattle.teco_store.proofs.Turns.{fits_after, body_again, turn_again}
 
 -- more capacity and more output stored
@@ -67,6 +68,14 @@ pub sound_forth_all : (capacity top : ℕ) (cs : List Note) (b : Body) → FitsF
 sound_forth_all capacity top [] b f s = s
 sound_forth_all capacity top (c ∷ cs) b f s = sound_forth_all capacity top cs (body_after c.turn b) f.1 f.0.0.1
 
+-- forward it does not fall
+pub shown_forth_all : (capacity top : ℕ) (cs : List Note) (b : Body) → FitsForth capacity top cs b → b.output ≤ (body_forth cs b).output
+shown_forth_all capacity top [] b f = omega arith
+shown_forth_all capacity top (c ∷ cs) b f =
+    let rest = shown_forth_all capacity top cs (body_after c.turn b) f.1 in
+    let one = f.0.1 in
+    omega arith
+
 -- one change, with the turn that it had, before others
 same_cons : (c : Note) (t : Turn) (ns ms : List Note) → t ≡ c.turn → ns ≡ ms → (let n : Note = record { step = c.step; turn = t } in n ∷ ns) ≡ c ∷ ms
 same_cons c t ns ms e f = rw (e, f) refl
@@ -112,3 +121,15 @@ back_after_forth capacity top (c ∷ cs) b f s =
       ap (body_after (turn_after c.turn b)) rest.1 ∙ again,
       same_cons c (turn_after (turn_after c.turn b) (body_back (notes_forth cs next) (body_forth cs next))) _ cs (ap (turn_after (turn_after c.turn b)) rest.1 ∙ turn) rest.2,
     )
+
+-- An entry that was turned back comes forth again.
+pub comes_forth_again : BackThenForth
+comes_forth_again capacity top cs b fits sound =
+    let again = forth_after_back capacity top cs b fits sound in
+    record { fits = again.0; body = again.1; notes = again.2; sound = sound_back_all capacity top cs b fits sound; output = shown_back_all capacity cs b fits }
+
+-- and one that was turned forth comes back again
+pub comes_back_again : ForthThenBack
+comes_back_again capacity top cs b fits sound =
+    let again = back_after_forth capacity top cs b fits sound in
+    record { fits = again.0; body = again.1; notes = again.2; sound = sound_forth_all capacity top cs b fits sound; output = shown_forth_all capacity top cs b fits }

@@ -1,7 +1,9 @@
+pub mod Bounds
 pub mod Entries
 pub mod Fitting
 pub mod FormFeeds
 pub mod Halves
+pub mod Leading
 pub mod Recordings
 pub mod Rows
 pub mod Searches

@@ -36,3 +36,61 @@ pub fn apply(editor: &mut Editor, change: &mut Change)
     let _shown = editor.shown();
     change.turn(editor);
 }
+
+// Reverts each change, the last first.
+fn revert_each(editor: &mut Editor, entry: &mut Vec<Change>)
+    requires { FitsBack editor.old.room entry.old.items editor.old.body }
+    ensures editor { editor.new ≡ record editor.old { body = body_back entry.old.items editor.old.body } }
+    ensures entry { entry.new.items ≡ notes_back entry.old.items editor.old.body }
+{
+    let mut i = entry.len();
+    while i > 0 {
+        i -= 1;
+        revert(editor, &mut entry[i]);
+    }
+}
+
+// Applies each change, the first first.
+fn apply_each(editor: &mut Editor, entry: &mut Vec<Change>)
+    requires { FitsForth editor.old.room (length editor.old.stored) entry.old.items editor.old.body }
+    ensures editor { editor.new ≡ record editor.old { body = body_forth entry.old.items editor.old.body } }
+    ensures entry { entry.new.items ≡ notes_forth entry.old.items editor.old.body }
+{
+    for i in 0..entry.len() {
+        apply(editor, &mut entry[i]);
+    }
+}
+
+/// Reverts all changes, the last first. Takes no memory.
+pub fn revert_all(editor: &mut Editor, entry: &mut Vec<Change>)
+    requires { FitsBack editor.old.room entry.old.items editor.old.body }
+    ensures editor { editor.new ≡ record editor.old { body = body_back entry.old.items editor.old.body } }
+    ensures entry { entry.new.items ≡ notes_back entry.old.items editor.old.body }
+
+    // Applied, they give back both.
+    ensures fits { FitsForth editor.new.room (length editor.new.stored) entry.new.items editor.new.body }
+    ensures body_again { body_forth entry.new.items editor.new.body ≡ editor.old.body }
+    ensures entry_again { notes_forth entry.new.items editor.new.body ≡ entry.old.items }
+    ensures sound { IsSound editor.new.room (length editor.new.stored) editor.new.body }
+    ensures end { editor.new.body.output ≤ editor.old.body.output }
+{
+    let _shown = editor.shown();
+    revert_each(editor, entry);
+}
+
+/// Applies all changes, the first first. Takes no memory.
+pub fn apply_all(editor: &mut Editor, entry: &mut Vec<Change>)
+    requires { FitsForth editor.old.room (length editor.old.stored) entry.old.items editor.old.body }
+    ensures editor { editor.new ≡ record editor.old { body = body_forth entry.old.items editor.old.body } }
+    ensures entry { entry.new.items ≡ notes_forth entry.old.items editor.old.body }
+
+    // Reverted, they give back both.
+    ensures fits { FitsBack editor.new.room entry.new.items editor.new.body }
+    ensures body_again { body_back entry.new.items editor.new.body ≡ editor.old.body }
+    ensures entry_again { notes_back entry.new.items editor.new.body ≡ entry.old.items }
+    ensures sound { IsSound editor.new.room (length editor.new.stored) editor.new.body }
+    ensures end { editor.old.body.output ≤ editor.new.body.output }
+{
+    let _shown = editor.shown();
+    apply_each(editor, entry);
+}

@@ -1,0 +1,43 @@
+-- A change never holds more than the bytes of both its sides, whichever way it is turned.
+use Rattle.std.proofs.Common.{◌≤◌, List, [], ◌∷◌, drop, arith, length-take}
+use Rattle.teco_store.specs.State.{Body}
+use Rattle.teco_store.specs.Turn.{Turn, Note, Splice, Point, Number, Text, Push, TakeOff, PopInto, PutBack, Pages, Search, Found, Done, Mode, turn_after}
+use Rattle.teco_store.specs.Entry.{body_back, notes_back, weight, held_by, held_in, load_back}
+
+held_weight : (t : Turn) (b : Body) → held_by t ≤ weight t b
+held_weight (Splice at there pointer held) b = omega arith
+held_weight (Point pointer) b = omega arith
+held_weight (Number q n) b = omega arith
+held_weight (Text q held) b = omega arith
+held_weight (Push held) b = omega arith
+held_weight TakeOff b = omega arith
+held_weight (PopInto q) b = omega arith
+held_weight (PutBack q held) b = omega arith
+held_weight (Pages place output form_feed) b = omega arith
+held_weight (Search held) b = omega arith
+held_weight (Found found) b = omega arith
+held_weight (Done done) b = omega arith
+held_weight (Mode mode) b = omega arith
+
+held_after : (t : Turn) (b : Body) → held_by (turn_after t b) ≤ weight t b
+held_after (Splice at there pointer held) b = let n = length-take there (drop at b.text) in omega arith
+held_after (Point pointer) b = omega arith
+held_after (Number q n) b = omega arith
+held_after (Text q held) b = omega arith
+held_after (Push held) b = omega arith
+held_after TakeOff b = omega arith
+held_after (PopInto q) b = omega arith
+held_after (PutBack q held) b = omega arith
+held_after (Pages place output form_feed) b = omega arith
+held_after (Search held) b = omega arith
+held_after (Found found) b = omega arith
+held_after (Done done) b = omega arith
+held_after (Mode mode) b = omega arith
+
+pub held_back : (cs : List Note) (b : Body) → held_in cs ≤ load_back cs b
+held_back [] b = omega arith
+held_back (c ∷ cs) b = let x = held_weight c.turn (body_back cs b) in let y = held_back cs b in omega arith
+
+pub held_turned : (cs : List Note) (b : Body) → held_in (notes_back cs b) ≤ load_back cs b
+held_turned [] b = omega arith
+held_turned (c ∷ cs) b = let x = held_after c.turn (body_back cs b) in let y = held_turned cs b in omega arith

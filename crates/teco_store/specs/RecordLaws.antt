@@ -1,0 +1,54 @@
+-- What always holds of entries that are turned.
+use Rattle.std.specs.Prelude.{◌≡◌, ℕ, ◌≤◌, List, length}
+use Rattle.teco_store.specs.State.{Body, Full, IsSound, state_of}
+use Rattle.teco_store.specs.Trail.{Trail}
+use Rattle.teco_store.specs.Turn.{Note}
+use Rattle.teco_store.specs.Entry.{body_back, notes_back, body_forth, notes_forth, since, FitsBack, FitsForth, load_back, held_in}
+use Rattle.teco_store.specs.Follows.{Recording, Follows, Leads}
+
+-- An entry that was turned back fits forward, and turned forward it gives back the body and itself. The output's end did not rise.
+pub record ComesForthAgain (capacity top : ℕ) (cs : List Note) (b : Body) : Type 0 where
+  pub fits : FitsForth capacity top (notes_back cs b) (body_back cs b)
+  pub body : body_forth (notes_back cs b) (body_back cs b) ≡ b
+  pub notes : notes_forth (notes_back cs b) (body_back cs b) ≡ cs
+  pub sound : IsSound capacity top (body_back cs b)
+  pub output : (body_back cs b).output ≤ b.output
+
+-- The same of one that was turned forth. The output's end did not fall.
+pub record ComesBackAgain (capacity top : ℕ) (cs : List Note) (b : Body) : Type 0 where
+  pub fits : FitsBack capacity (notes_forth cs b) (body_forth cs b)
+  pub body : body_back (notes_forth cs b) (body_forth cs b) ≡ b
+  pub notes : notes_back (notes_forth cs b) (body_forth cs b) ≡ cs
+  pub sound : IsSound capacity top (body_forth cs b)
+  pub output : b.output ≤ (body_forth cs b).output
+
+abbrev pub BackThenForth : Type 0
+BackThenForth = (capacity top : ℕ) (cs : List Note) (b : Body) → FitsBack capacity cs b → IsSound capacity top b → ComesForthAgain capacity top cs b
+
+abbrev pub ForthThenBack : Type 0
+ForthThenBack = (capacity top : ℕ) (cs : List Note) (b : Body) → FitsForth capacity top cs b → IsSound capacity top b → ComesBackAgain capacity top cs b
+
+-- What fits back still fits where there is more capacity.
+abbrev pub FitsWithMoreCapacity : Type 0
+FitsWithMoreCapacity = (capacity more : ℕ) (cs : List Note) (b : Body) → capacity ≤ more → FitsBack capacity cs b → FitsBack more cs b
+
+-- The changes made after the first steps fit back too.
+abbrev pub FitsSince : Type 0
+FitsSince = (capacity i : ℕ) (cs : List Note) (b : Body) → FitsBack capacity cs b → FitsBack capacity (since i cs) b
+
+-- All changes were made after the first 0 steps.
+abbrev pub SinceTheBeginning : Type 0
+SinceTheBeginning = (cs : List Note) → since 0 cs ≡ cs
+
+-- An entry holds no more bytes than stand on both sides of its changes, as it is and once it is turned back.
+pub record HoldsItsLoad (cs : List Note) (b : Body) : Type 0 where
+  pub now : held_in cs ≤ load_back cs b
+  pub turned : held_in (notes_back cs b) ≤ load_back cs b
+
+abbrev pub HoldsAtMostItsLoad : Type 0
+HoldsAtMostItsLoad = (cs : List Note) (b : Body) → HoldsItsLoad cs b
+
+-- What a recorder has noted leads back to the editor with which it began.
+abbrev pub LeadsToItsBeginning : Type 0
+LeadsToItsBeginning = (old : Full) (r : Recording) (t : Trail) → IsSound old.room (length old.stored) old.body → t.states 0 ≡ state_of old → t.floor ≡ old.room
+    → Follows r t → Leads old r.full r.notes
