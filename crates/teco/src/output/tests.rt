@@ -44,15 +44,17 @@ fn writes_files(rt: &HostRuntime) -> bool {
         && has_mode(rt, 0o640)
 }
 
-/// A file behind a link, and one that a link will lead to.
-fn writes_behind_links(rt: &HostRuntime) -> bool {
+/// A file behind a link.
+fn writes_behind_a_link(rt: &HostRuntime) -> bool {
     symlink(rt, "file", LINK).is_ok()
         && writes(rt, LINK, b"behind")
         && holds(rt, FILE, b"behind")
         && is_link(rt, LINK)
-        && fs::remove_file(rt, FILE).is_ok()
-        && writes(rt, LINK, b"led to")
-        && holds(rt, FILE, b"led to")
+}
+
+/// A file that the link leads to and that is not there.
+fn writes_where_a_link_leads(rt: &HostRuntime) -> bool {
+    fs::remove_file(rt, FILE).is_ok() && writes(rt, LINK, b"led to") && holds(rt, FILE, b"led to")
 }
 
 /// No folder, a folder, and a name that no file can take.
@@ -72,7 +74,8 @@ fn leaves_a_draft(rt: &HostRuntime) -> bool {
 
 fn writes_and_refuses(rt: &HostRuntime) -> bool {
     writes_files(rt)
-        && writes_behind_links(rt)
+        && writes_behind_a_link(rt)
+        && writes_where_a_link_leads(rt)
         && refuses(rt)
         && !is_there(rt, DRAFT)
         && leaves_a_draft(rt)

@@ -25,6 +25,13 @@ const PLAIN: How = How {
     served: Served::EndOfCommands,
 };
 
+/// As plain, but the source fails in place of its end.
+const FAILED: How = How {
+    fails: true,
+    served: Served::ReadFault,
+    ..PLAIN
+};
+
 /// A stream, where `$` is ESC and `~` the byte 5, and what serving it gives: what is typed, and what is written to the output.
 type Row<'a> = (&'a str, &'a str, &'a str);
 
@@ -104,16 +111,15 @@ fn holds_once(alloc: Global, how: &How, row: &Row, single: bool) -> bool {
     }
 }
 
+/// Whether the row holds with its stream as one piece and in single bytes.
+fn holds_however_cut(alloc: Global, how: &How, row: &Row) -> bool {
+    holds_once(alloc, how, row, false) && holds_once(alloc, how, row, true)
+}
+
 /// The row holds however its stream is cut; where memory was refused, a second time.
 fn holds(rt: &impl Abort, alloc: Global, how: &How, row: &Row) {
-    for single in [false, true] {
-        let held = holds_once(alloc, how, row, single) || holds_once(alloc, how, row, single);
-        assert!(rt;
-            held,
-            "{} over {:?} in single bytes: {single}",
-            row.0, how.input
-        );
-    }
+    let held = holds_however_cut(alloc, how, row) || holds_however_cut(alloc, how, row);
+    assert!(rt; held, "{}", row.0);
 }
 
 fn all_hold(rt: &impl Abort, alloc: Global, how: &How, rows: &[Row]) {
@@ -178,27 +184,17 @@ fn serves_to_the_limit(rt: HostRuntime) {
 
 #[test]
 fn serves_to_a_failed_read(rt: HostRuntime) {
-    let fails = true;
-    let failed = How {
-        fails,
-        served: Served::ReadFault,
-        ..PLAIN
+    holds(&rt, rt.alloc(), &FAILED, &("1=$$", "1\r\n", ""));
+    let prompt = How {
+        prompt: true,
+        ..FAILED
     };
-    holds(&rt, rt.alloc(), &failed, &("1=$$", "1\r\n", ""));
-    let prompt = true;
-    holds(
-        &rt,
-        rt.alloc(),
-        &How { prompt, ..failed },
-        &("}$$Ia$", "*?NTR\r\n*", ""),
-    );
-    let served = Served::Exit;
-    holds(
-        &rt,
-        rt.alloc(),
-        &How { served, ..failed },
-        &("EX$$1=$$", "", ""),
-    );
+    holds(&rt, rt.alloc(), &prompt, &("}$$Ia$", "*?NTR\r\n*", ""));
+    let exit = How {
+        served: Served::Exit,
+        ..FAILED
+    };
+    holds(&rt, rt.alloc(), &exit, &("EX$$1=$$", "", ""));
 }
 
 /// What the first bytes of the stream below type, and how many strings they note.
@@ -211,35 +207,25 @@ fn left_after(read: usize) -> (&'static str, usize) {
     }
 }
 
-/// Whether serving so many bytes ends as its source does, and types and notes what they do.
-fn notes(alloc: Global, source: &mut MemorySource, read: usize, served: Served) -> bool {
+/// Whether serving so many bytes types and notes what they do.
+fn notes(alloc: Global, source: &mut MemorySource, how: &How, read: usize) -> bool {
     let (typed, strings) = left_after(read);
     let mut session = Session::new(Vec::new(alloc));
-    serves(
-        alloc,
-        source,
-        &mut session,
-        &How { served, ..PLAIN },
-        &("", typed, ""),
-    ) && session.strings() == strings
+    let served = serves(alloc, source, &mut session, how, &("", typed, ""));
+    served && session.strings() == strings
 }
 
-fn notes_once(alloc: Global, front: &[u8], fails: bool) -> bool {
-    let served = if fails {
-        Served::ReadFault
-    } else {
-        Served::EndOfCommands
-    };
-    match source_of(alloc, front, true, fails) {
-        Ok(mut source) => notes(alloc, &mut source, front.len(), served),
+fn notes_once(alloc: Global, how: &How, front: &[u8]) -> bool {
+    match source_of(alloc, front, true, how.fails) {
+        Ok(mut source) => notes(alloc, &mut source, how, front.len()),
         Err(NoMemory) => false,
     }
 }
 
 /// What a source gives before it fails is served as if it had ended there; where memory was refused, a second time.
 fn fails_alike(rt: &impl Abort, alloc: Global, front: &[u8]) {
-    for fails in [false, true] {
-        let held = notes_once(alloc, front, fails) || notes_once(alloc, front, fails);
+    for how in [&PLAIN, &FAILED] {
+        let held = notes_once(alloc, how, front) || notes_once(alloc, how, front);
         assert!(rt; held, "after {} bytes", front.len());
     }
 }
@@ -283,16 +269,19 @@ fn reads_no_further_than_it_shows(rt: HostRuntime) {
     assert!(rt; held);
 }
 
-/// An exit, and what is served after it in the same session: only an undo and what follows.
+/// An exit, and what is served after it in the same session, where two steps are enough for each string.
 fn goes_on(alloc: Global, session: &mut Session) -> bool {
-    let served = Served::Exit;
-    let exit = How { served, ..PLAIN };
+    let plain = How { limit: 2, ..PLAIN };
+    let exit = How {
+        served: Served::Exit,
+        ..plain
+    };
     serves_in(alloc, session, &exit, &("YEX$$", "", "a"), false)
-        && serves_in(alloc, session, &PLAIN, &("1=$$", "?END\r\n", "a"), false)
+        && serves_in(alloc, session, &plain, &("1=$$", "?END\r\n", "a"), false)
         && serves_in(
             alloc,
             session,
-            &PLAIN,
+            &plain,
             &("{$$1=$$}$$", "1\r\n?NTR\r\n", ""),
             false,
         )
