@@ -9,7 +9,7 @@ use Rattle.teco_store.specs.Follows.{Recording, Follows, Leads}
 use Rattle.teco_store.proofs.Entries.{shown_back_all}
 use Rattle.teco_store.proofs.Recordings.{since_high}
 
-pub since_zero : (xs : List Note) → since 0 xs ≡ xs
+since_zero : (xs : List Note) → since 0 xs ≡ xs
 since_zero [] = refl
 since_zero (x ∷ xs) = since_high 0 x xs (omega arith)
 

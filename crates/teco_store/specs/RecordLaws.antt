@@ -3,7 +3,7 @@ use Rattle.std.specs.Prelude.{◌≡◌, ℕ, ◌≤◌, List, length}
 use Rattle.teco_store.specs.State.{Body, Full, IsSound, state_of}
 use Rattle.teco_store.specs.Trail.{Trail}
 use Rattle.teco_store.specs.Turn.{Note}
-use Rattle.teco_store.specs.Entry.{body_back, notes_back, body_forth, notes_forth, since, FitsBack, FitsForth, load_back, held_in}
+use Rattle.teco_store.specs.Entry.{body_back, notes_back, body_forth, notes_forth, FitsBack, FitsForth, load_back, held_in}
 use Rattle.teco_store.specs.Follows.{Recording, Follows, Leads}
 
 -- An entry that was turned back fits forward, and turned forward it gives back the body and itself. The output's end did not rise.
@@ -31,14 +31,6 @@ ForthThenBack = (capacity top : ℕ) (cs : List Note) (b : Body) → FitsForth c
 -- What fits back still fits where there is more capacity.
 abbrev pub FitsWithMoreCapacity : Type 0
 FitsWithMoreCapacity = (capacity more : ℕ) (cs : List Note) (b : Body) → capacity ≤ more → FitsBack capacity cs b → FitsBack more cs b
-
--- The changes made after the first steps fit back too.
-abbrev pub FitsSince : Type 0
-FitsSince = (capacity i : ℕ) (cs : List Note) (b : Body) → FitsBack capacity cs b → FitsBack capacity (since i cs) b
-
--- All changes were made after the first 0 steps.
-abbrev pub SinceTheBeginning : Type 0
-SinceTheBeginning = (cs : List Note) → since 0 cs ≡ cs
 
 -- An entry holds no more bytes than stand on both sides of its changes, as it is and once it is turned back.
 pub record HoldsItsLoad (cs : List Note) (b : Body) : Type 0 where

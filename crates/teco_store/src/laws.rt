@@ -1,13 +1,11 @@
 //! What always holds of changes that are turned.
-ghost use Rattle.teco_store.specs.RecordLaws.{BackThenForth, FitsSince, FitsWithMoreCapacity, ForthThenBack, HoldsAtMostItsLoad, LeadsToItsBeginning, SinceTheBeginning};
+ghost use Rattle.teco_store.specs.RecordLaws.{BackThenForth, FitsWithMoreCapacity, ForthThenBack, HoldsAtMostItsLoad, LeadsToItsBeginning};
 
 /// What entries do when they are turned, and what a recorder leaves. It does nothing: its clauses are laws.
 pub fn record_laws()
     ensures back { BackThenForth }
     ensures forth { ForthThenBack }
     ensures more { FitsWithMoreCapacity }
-    ensures fits_since { FitsSince }
-    ensures since { SinceTheBeginning }
     ensures held { HoldsAtMostItsLoad }
     ensures leads { LeadsToItsBeginning }
 {}

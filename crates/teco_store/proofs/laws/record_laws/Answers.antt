@@ -1,7 +1,7 @@
 use Rattle.teco_store.proofs.Bounds.{held_back, held_turned}
 use Rattle.teco_store.proofs.Entries.{comes_forth_again, comes_back_again}
-use Rattle.teco_store.proofs.Leading.{leads, since_zero}
-use Rattle.teco_store.proofs.Recordings.{FitsBack-more, FitsBack-since}
+use Rattle.teco_store.proofs.Leading.{leads}
+use Rattle.teco_store.proofs.Recordings.{FitsBack-more}
 use Rattle.teco_store.proofs.laws.record_laws.Goals as goal
 
 pub returns : goal.returns
@@ -9,8 +9,6 @@ returns c = record {
   back = comes_forth_again;
   forth = comes_back_again;
   more = FitsBack-more;
-  fits_since = FitsBack-since;
-  since = since_zero;
   held = λ cs b. record { now = held_back cs b; turned = held_turned cs b };
   leads = leads;
 }
