@@ -1,34 +1,17 @@
 -- Lemmas on histories and on lists of requests.
-use Rattle.std.proofs.Common.{◌≡◌, ℕ, zero, suc, ◌+◌, ◌<◌, ◌≤◌, List, [], ◌∷◌, ◌++◌, length, take, get_or, refl, sym, ap, ◌∙◌, arith, add-one, subst, append-nil, append_assoc, length-append, length-take}
+use Rattle.std.proofs.Common.{◌≡◌, ℕ, zero, suc, ◌≤◌, List, [], ◌∷◌, ◌++◌, length, take, refl, sym, ap, ◌∙◌, arith, subst, append-nil, append_assoc, length-append, length-take}
 use Rattle.std.proofs.KnownBytes.{Appends-trans, Appends-nil}
-use Rattle.teco_store.specs.State.{State, state_of}
+use Rattle.teco_store.specs.State.{State}
 use Rattle.teco_exec.specs.StringMeaning.{string_meaning}
 use Rattle.teco_step.specs.Terminal.{Screen, Shows, count_after}
 use Rattle.teco_session.specs.History.{History, NotedString, state_after, present, AreMeant, IsHistory, noted}
-use Rattle.teco_session.specs.Entries.{note_of, notes_of}
 use Rattle.teco_session.specs.Step.{Step, Reply, is_terminal_failure}
 use Rattle.teco_session.specs.Play.{Play, ShowsAll, typed_by, answers_of, failures_after}
-use Rattle.teco_session.specs.declared.entry.Entry.{Entry}
 use Rattle.teco_session.specs.declared.request.Request.{Request}
 use Rattle.teco_session.specs.declared.request.Answer.{Answer}
 
--- the state after a string is the one that its entry holds
-pub state_after-entry : (first : State) (entries : List Entry) (i : ℕ) (d : Entry) → i < length entries → state_after first (notes_of entries) (suc i) ≡ state_of (get_or entries i d).state
-state_after-entry first [] i d h = absurd (omega arith)
-state_after-entry first (e ∷ entries) zero d h = refl
-state_after-entry first (e ∷ entries) (suc i) d h = state_after-entry (state_of e.state) entries i d (omega arith)
-
--- the state after a note that was put there
-state_after-noted : (first : State) (notes : List NotedString) (i : ℕ) (note : NotedString) → i ≤ length notes → state_after first (take i notes ++ note ∷ []) (suc i) ≡ note.state
-state_after-noted first notes zero note h = refl
-state_after-noted first [] (suc i) note h = absurd (omega arith)
-state_after-noted first (n ∷ notes) (suc i) note h = state_after-noted n.state notes i note (omega arith)
-
-pub present-noted : (h : History) (note : NotedString) → h.cursor ≤ length h.notes → present (noted h note) ≡ note.state
-present-noted h note within = ap (state_after h.first (take h.cursor h.notes ++ note ∷ [])) (add-one h.cursor) ∙ state_after-noted h.first h.notes h.cursor note within
-
 -- a note put where it is meant
-pub AreMeant-noted : (s : State) (notes : List NotedString) (i : ℕ) (note : NotedString) → AreMeant s notes → i ≤ length notes
+AreMeant-noted : (s : State) (notes : List NotedString) (i : ℕ) (note : NotedString) → AreMeant s notes → i ≤ length notes
     → note.state ≡ (string_meaning (state_after s notes i) note.text note.steps).state → AreMeant s (take i notes ++ note ∷ [])
 AreMeant-noted s notes zero note m h e = (e, tt)
 AreMeant-noted s [] (suc i) note m h e = absurd (omega arith)
@@ -41,20 +24,6 @@ IsHistory-noted h note ok e = record {
   states = AreMeant-noted h.first h.notes h.cursor note ok.states ok.within e;
   within = simp (length-append, length-take) (let w = ok.within in omega arith);
 }
-
--- the notes of entries that were cut, with one more
-notes_of-added : (entries : List Entry) (i : ℕ) (entry : Entry) → notes_of (take i entries ++ entry ∷ []) ≡ take i (notes_of entries) ++ note_of entry ∷ []
-notes_of-added entries zero entry = refl
-notes_of-added [] (suc i) entry = refl
-notes_of-added (e ∷ entries) (suc i) entry = ap (λ l. note_of e ∷ l) (notes_of-added entries i entry)
-
--- an entry added to the vector is noted in the history
-pub noted-added : (first : State) (old new : List Entry) (i count : ℕ) (entry : Entry) → i ≤ length old → new ≡ take i old ++ entry ∷ [] → count ≡ length new
-    → (let h : History = record { first = first; notes = notes_of new; cursor = count } in h) ≡ noted (record { first = first; notes = notes_of old; cursor = i }) (note_of entry)
-noted-added first old new i count entry h e f =
-    let notes : notes_of new ≡ take i (notes_of old) ++ note_of entry ∷ [] = ap notes_of e ∙ notes_of-added old i entry in
-    let counted : count ≡ i + 1 = f ∙ ap length e ∙ simp (length-append, length-take) (omega arith) in
-    ap (λ l. record { first = first; notes = l; cursor = count }) notes ∙ ap (λ k. record { first = first; notes = take i (notes_of old) ++ note_of entry ∷ []; cursor = k }) counted
 
 -- one request more
 pub Play-more : (limit : ℕ) (old mid new : History) (requests : List Request) (request : Request) (replies : List Reply) (reply : Reply)

@@ -1,11 +1,11 @@
 -- The entries that a session keeps, as contracts see them.
-use Rattle.std.specs.Prelude.{List, map}
-use Rattle.teco_store.specs.State.{state_of}
-use Rattle.teco_session.specs.History.{NotedString}
+use Rattle.std.specs.Prelude.{map}
+use Rattle.teco_session.specs.Kept.{KeptString, KeptSession}
 use Rattle.teco_session.specs.declared.entry.Entry.{Entry}
+use Rattle.teco_session.specs.declared.session.Session.TheInside.{Inside}
 
-abbrev pub note_of : Entry → NotedString
-note_of entry = record { text = entry.text.items; steps = entry.steps; state = state_of entry.state }
+abbrev pub kept_string : Entry → KeptString
+kept_string entry = record { text = entry.text.items; steps = entry.steps; changes = entry.changes.items }
 
-abbrev pub notes_of : List Entry → List NotedString
-notes_of entries = map note_of entries
+abbrev pub kept_session : Inside → KeptSession
+kept_session s = record { editor = s.editor; strings = map kept_string s.entries.items; cursor = s.cursor }

@@ -1,54 +1,84 @@
-//! A session: command strings, undo and redo, with every whole state kept.
+//! A session: command strings, undo and redo, over one editor, with what leads from each whole state to the next.
 ghost use Rattle.std.specs.Prelude.{◌≡◌, ℕ, List, [], ◌<◌, ◌≤◌, length, vec_len, None, IfOk, OnErr, OnOk, IsOk, ◌↔◌, true, false};
-ghost use Rattle.teco_store.specs.State.{state_of};
+ghost use Rattle.teco_exec.specs.Runs.{Runs, is_tty};
+ghost use Rattle.teco_exec.specs.StringMeaning.{string_meaning};
+ghost use Rattle.teco_store.specs.Follows.{Leads};
+ghost use Rattle.teco_store.specs.State.{IsSound, state_of};
 ghost use Rattle.teco_step.specs.Terminal.{Shows};
 ghost use Rattle.teco_session.specs.Answers.{answer_code};
-ghost use Rattle.teco_session.specs.History.{IsHistory, new_history, present, undone, redone};
+ghost use Rattle.teco_session.specs.History.{IsHistory, new_history, present, redone, state_after, undone};
+ghost use Rattle.teco_session.specs.Kept.{IsSession, IsSmall, IsWithinLoad, applied, history_of, new_session, reverted, string_at};
 ghost use Rattle.teco_session.specs.Step.{Step, RunStep, Reply, is_terminal_failure};
 ghost use Rattle.teco_session.specs.Play.{Play, ShowsAll, answers_of};
 
-use crate::entry::{Entry, add_entry};
+use crate::entry::Entry;
 use crate::request::{Answer, NothingToRedo, NothingToUndo, Request};
 use std::alloc::Global;
 use std::marker::Model;
+use std::mem;
 use teco_core::{FILE_LIMIT, NoMemory};
-use teco_exec::run;
+use teco_exec::{Outcome, meaning_laws, run};
 use teco_step::Terminal;
-use teco_store::{Desk, Editor};
+use teco_store::{Change, Desk, Editor, Recorder, apply_all, record_laws, revert_all};
 
 /// Command strings one after another, each of which can be undone and redone.
 ///
-/// A clause sees a session as its history: the state before the first string, each string with its text, its steps and the state
-/// after it, and how many of the strings are not undone.
+/// A clause sees a session as it is kept: one editor, the strings with their changes, and how many of the strings are not undone.
+/// `history_of` is the history that this tells: the state before the first string, and each string with its text, its steps and the
+/// state after it.
 #[derive(Drop)]
 pub struct Session {
-    first: Editor,
+    editor: Editor,
     entries: Vec<Entry>,
     cursor: usize,
 }
 
 impl Model for Session {
-    ghost use Rattle.teco_session.specs.History.{History, IsHistory};
+    ghost use Rattle.teco_session.specs.Kept.{KeptSession, IsSession};
+    ghost use Rattle.teco_session.specs.Entries.{kept_session};
 
-    ghost Value = { History };
+    ghost Value = { KeptSession };
 
-    ghost use Rattle.teco_session.specs.Entries.{notes_of};
-    ghost use Rattle.teco_store.specs.State.{state_of};
+    ghost view = { kept_session };
 
-    ghost view = { λ s. record { first = state_of s.first; notes = notes_of s.entries.items; cursor = s.cursor } };
+    ghost invariant = { λ s. IsSession (kept_session s) };
+}
 
-    ghost invariant = { λ s. IsHistory (record { first = state_of s.first; notes = notes_of s.entries.items; cursor = s.cursor }) };
+/// Runs a string on an editor, and gives the changes that lead back.
+fn record_run<T: Terminal>(
+    alloc: Global,
+    editor: &mut Editor,
+    text: &[u8],
+    limit: u64,
+    term: &mut T,
+) -> (Vec<Change>, Outcome)
+    requires { IsSound editor.old.room (length editor.old.stored) editor.old.body }
+    ensures run { (typed : List ℕ) × Runs (state_of editor.old) text.now limit result.1 typed (state_of editor.new)
+        × Shows (T.screen term.old) (T.screen term.new) typed (is_tty result.1) }
+    ensures again { state_of editor.new ≡ (string_meaning (state_of editor.old) text.now result.1.steps).state }
+    ensures exit { (state_of editor.old).is_done ≡ false → (state_of editor.new).is_done ≡ true → result.1.code ≡ None }
+    ensures leads { Leads editor.old editor.new result.0.items }
+    ensures load { IsWithinLoad editor.new.stored (record { text = text.now; steps = result.1.steps; changes = result.0.items }) editor.new.body }
+{
+    meaning_laws();
+    record_laws();
+    let mut recorder = Recorder::new(mem::replace(editor, Editor::new(Vec::new(alloc))));
+    let outcome = run(&mut recorder, text, limit, term);
+    let (after, changes) = recorder.into_parts();
+    *editor = after;
+    (changes, outcome)
 }
 
 impl Session {
     /// A new session over this input, of at most 2^30 bytes. Takes no memory.
     pub fn new(input: Vec<u8>) -> Session
         requires { vec_len input ≤ FILE_LIMIT }
-        ensures { result ≡ new_history input.items }
+        ensures value { result ≡ new_session input.items }
+        ensures history { history_of result ≡ new_history input.items }
     {
         let alloc = *input.allocator();
         Session {
-            first: Editor::new(input),
+            editor: Editor::new(input),
             entries: Vec::new(alloc),
             cursor: 0,
         }
@@ -56,19 +86,18 @@ impl Session {
 
     /// The editing state. Takes no memory.
     pub fn editor(&self) -> &Editor
-        ensures present { state_of result.now ≡ present self.now }
-        ensures history { IsHistory self.now }
+        ensures value { result.now ≡ self.now.editor }
+        ensures present { state_of result.now ≡ present (history_of self.now) }
+        ensures history { IsHistory (history_of self.now) }
+        ensures leads { IsSession self.now }
     {
-        if self.cursor == 0 {
-            &self.first
-        } else {
-            &self.entries[self.cursor - 1].state
-        }
+        &self.editor
     }
 
     /// How many strings the history has, undone ones too. Takes no memory.
     pub fn strings(&self) -> usize
-        ensures { result ≡ length self.now.notes }
+        ensures value { result ≡ length self.now.strings }
+        ensures history { result ≡ length (history_of self.now).notes }
     {
         self.entries.len()
     }
@@ -76,35 +105,69 @@ impl Session {
     /// How many strings are not undone. Takes no memory.
     pub fn cursor(&self) -> usize
         ensures value { result ≡ self.now.cursor }
-        ensures within { result ≤ length self.now.notes }
+        ensures within { result ≤ length self.now.strings }
     {
         self.cursor
+    }
+
+    /// The text of a string. Takes no memory.
+    pub fn string(&self, i: usize) -> &[u8]
+        requires { i < length self.now.strings }
+        ensures { result.now ≡ (string_at self.now i).text }
+    {
+        &self.entries[i].text
+    }
+
+    /// How many steps a string took. Takes no memory.
+    pub fn steps(&self, i: usize) -> u64
+        requires { i < length self.now.strings }
+        ensures { result ≡ (string_at self.now i).steps }
+    {
+        self.entries[i].steps
+    }
+
+    /// The changes of a string, as an undo or a redo would turn them now. Takes no memory.
+    pub fn entry(&self, i: usize) -> &[Change]
+        requires { i < length self.now.strings }
+        ensures value { result.now ≡ (string_at self.now i).changes }
+        ensures small { IsSmall (string_at self.now i) (state_after (history_of self.now).first (history_of self.now).notes i) }
+    {
+        record_laws();
+        &self.entries[i].changes
     }
 
     /// Goes back to the state before the last string that is not undone, where there is one; otherwise nothing changes. Takes no
     /// memory, also after an exit.
     pub fn undo(&mut self) -> Result<(), NothingToUndo>
         ensures offers { IsOk result ↔ (0 < self.old.cursor) }
-        ensures ok { OnOk result (self.new ≡ undone self.old) }
+        ensures ok { OnOk result (self.new ≡ reverted self.old) }
+        ensures history { OnOk result (history_of self.new ≡ undone (history_of self.old)) }
         ensures err { OnErr result (self.new ≡ self.old) }
     {
         if self.cursor == 0 {
             return Err(NothingToUndo);
         }
-        self.cursor -= 1;
+        record_laws();
+        let i = self.cursor - 1;
+        revert_all(&mut self.editor, &mut self.entries[i].changes);
+        self.cursor = i;
         Ok(())
     }
 
     /// Goes on to the state after the first undone string, where there is one; otherwise nothing changes. Takes no memory.
     pub fn redo(&mut self) -> Result<(), NothingToRedo>
-        ensures offers { IsOk result ↔ (self.old.cursor < length self.old.notes) }
-        ensures ok { OnOk result (self.new ≡ redone self.old) }
-        ensures err { OnErr result ((self.new ≡ self.old) × (self.old.cursor ≡ length self.old.notes)) }
+        ensures offers { IsOk result ↔ (self.old.cursor < length (history_of self.old).notes) }
+        ensures ok { OnOk result (self.new ≡ applied self.old) }
+        ensures history { OnOk result (history_of self.new ≡ redone (history_of self.old)) }
+        ensures err { OnErr result ((self.new ≡ self.old) × (self.old.cursor ≡ length (history_of self.old).notes)) }
     {
-        if self.cursor == self.entries.len() {
+        let i = self.cursor;
+        if i == self.entries.len() {
             return Err(NothingToRedo);
         }
-        self.cursor += 1;
+        record_laws();
+        apply_all(&mut self.editor, &mut self.entries[i].changes);
+        self.cursor = i + 1;
         Ok(())
     }
 
@@ -113,9 +176,9 @@ impl Session {
     /// Where memory is refused for the history the answer is [`Answer::NotBegun`], and after an exit [`Answer::AfterExit`]: then
     /// nothing has changed, and the undone strings are kept. A string that makes the session done ends with no code.
     pub fn run<T: Terminal>(&mut self, text: &[u8], limit: u64, term: &mut T) -> Answer
-        ensures step { (typed : List ℕ) × RunStep limit self.old text.now result typed self.new
+        ensures step { (typed : List ℕ) × RunStep limit (history_of self.old) text.now result typed (history_of self.new)
             × Shows (T.screen term.old) (T.screen term.new) typed (is_terminal_failure result) }
-        ensures exit { (present self.old).is_done ≡ false → (present self.new).is_done ≡ true → answer_code result ≡ None }
+        ensures exit { (present (history_of self.old)).is_done ≡ false → (present (history_of self.new)).is_done ≡ true → answer_code result ≡ None }
     {
         if self.editor().done() {
             return Answer::AfterExit;
@@ -124,26 +187,24 @@ impl Session {
         let Ok(kept) = Vec::from_slice(alloc, text) else {
             return Answer::NotBegun;
         };
-        let Ok(mut state) = self.editor().copy() else {
-            return Answer::NotBegun;
-        };
         if self.entries.reserve(1).is_err() {
             return Answer::NotBegun;
         }
-        let outcome = run(&mut state, text, limit, term);
-        let entry = Entry {
+        record_laws();
+        self.entries.truncate(self.cursor);
+        let (changes, outcome) = record_run(alloc, &mut self.editor, text, limit, term);
+        self.entries.push_reserved(Entry {
             text: kept,
             steps: outcome.steps,
-            state,
-        };
-        add_entry(&mut self.entries, self.cursor, entry);
+            changes,
+        });
         self.cursor = self.entries.len();
         Answer::Ended(outcome)
     }
 
     /// Answers one request, whichever it is.
     pub fn answer<T: Terminal>(&mut self, request: &Request, limit: u64, term: &mut T) -> Answer
-        ensures { (typed : List ℕ) × Step limit self.old request.now (record { answer = result; typed = typed }) self.new
+        ensures { (typed : List ℕ) × Step limit (history_of self.old) request.now (record { answer = result; typed = typed }) (history_of self.new)
             × Shows (T.screen term.old) (T.screen term.new) typed (is_terminal_failure result) }
     {
         match request {
@@ -170,7 +231,7 @@ impl Session {
         term: &mut T,
     ) -> Result<Vec<Answer>, NoMemory>
         ensures play { IfOk result (λ answers. (replies : List Reply) × (answers.items ≡ answers_of replies)
-            × Play limit self.old requests.now replies self.new
+            × Play limit (history_of self.old) requests.now replies (history_of self.new)
             × ShowsAll (T.screen term.old) (T.screen term.new) replies) }
         ensures err { OnErr result ((self.new ≡ self.old) × (term.new ≡ term.old)) }
     {

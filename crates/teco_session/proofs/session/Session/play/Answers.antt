@@ -1,5 +1,6 @@
 use Rattle.std.proofs.Common.{◌≡◌, ◌+◌, [], ◌++◌, ◌∷◌, take, sym, ap, ◌∙◌, subst}
 use Rattle.std.proofs.lemmas.List.{take_more}
+use Rattle.teco_session.specs.Kept.{history_of}
 use Rattle.teco_session.specs.Step.{Reply}
 use Rattle.teco_session.specs.Play.{Play}
 use Rattle.teco_session.proofs.Histories.{Play-more, answers_of-more, ShowsAll-more}
@@ -20,7 +21,7 @@ loop-request-preserved g c =
       played = (
         p.0 ++ reply ∷ [],
         c.push_reserved.ensures.items ∙ ap (λ l. l ++ reply.answer ∷ []) p.1 ∙ sym (answers_of-more p.0 reply),
-        subst (λ l. Play c.args.limit c.args.self.now l (p.0 ++ reply ∷ []) c.answer-answer.new.self) (sym front) (Play-more _ _ _ _ _ _ _ _ p.2 s.1),
+        subst (λ l. Play c.args.limit (history_of c.args.self.now) l (p.0 ++ reply ∷ []) (history_of c.answer-answer.new.self)) (sym front) (Play-more _ _ _ _ _ _ _ _ p.2 s.1),
         ShowsAll-more p.0 reply p.3 s.2,
       );
     }

@@ -1,65 +1,56 @@
-use Rattle.std.proofs.Common.{◌≡◌, [], ◌≤◌, ◌++◌, ◌∷◌, take, length, arith, sym, ap, ◌∙◌, subst, true, false}
-use Rattle.std.proofs.lemmas.List.{length-map}
+use Rattle.std.proofs.Common.{◌≡◌, ℕ, List, [], ◌++◌, ◌∷◌, take, arith, sym, ap, ◌∙◌, subst, false}
 use Rattle.teco_exec.specs.StringMeaning.{string_meaning}
 use Rattle.teco_exec.specs.Runs.{Runs}
-use Rattle.teco_store.specs.State.{state_of}
-use Rattle.teco_session.specs.History.{History, IsHistory, present, noted}
-use Rattle.teco_session.specs.Entries.{note_of, notes_of}
+use Rattle.teco_store.specs.State.{State, state_of}
+use Rattle.teco_session.specs.History.{present, noted}
+use Rattle.teco_session.specs.Kept.{KeptSession, KeptString, IsWithinLoad, history_of, noted_as}
+use Rattle.teco_session.specs.Entries.{kept_string, kept_session}
 use Rattle.teco_session.specs.declared.entry.Entry.{Entry}
-use Rattle.teco_session.proofs.Histories.{noted-added, present-noted, IsHistory-noted}
+use Rattle.teco_session.proofs.Turning.{present_is}
+use Rattle.teco_session.proofs.Running.{Ran}
+use Rattle.teco_session.proofs.Vectors.{kept_with, session_noted}
 use Rattle.teco_session.proofs.session.Session.run.Given as given
 use Rattle.teco_session.proofs.session.Session.run.Goals as goal
 
--- the entry that is added, and the history before it
-entry_now : (g : given.Over) (c : goal.After-self-1 g) → Entry
-entry_now g c = record { text = c.in-Ok.kept; steps = c.run-outcome.result.steps; state = c.run-outcome.new.desk }
+-- the entry that is added
+abbrev entry_now : (g : given.Over) (c : goal.After-self-1 g) → Entry
+entry_now g c = record { text = c.in-Ok.kept; steps = c.record_run-changes.result.1.steps; changes = c.record_run-changes.result.0 }
 
-before : (g : given.Over) (c : goal.After-self-1 g) → History
-before g c = record { first = state_of c.self.inside.first; notes = notes_of c.self.inside.entries.items; cursor = c.self.inside.cursor }
+ran_now : (g : given.Over) (c : goal.After-self-1 g)
+    → Ran (kept_with c.self.inside.editor c.self.inside.entries.items c.self.inside.cursor) (kept_with c.record_run-changes.new.editor c.push_reserved.new.self.items c.len-self-inside.result) (kept_string (entry_now g c))
+ran_now g c =
+    let r = c.record_run-changes.ensures in
+    let new = c.record_run-changes.new.editor in
+    let k = c.record_run-changes.result.1.steps in
+    let kept = sym c.in-Ok.ensures.items in
+    session_noted c.record_laws.ensures.back c.record_laws.ensures.more c.self.inside.editor new c.self.inside.entries.items c.push_reserved.new.self.items (entry_now g c) c.self.inside.cursor c.len-self-inside.result
+    c.self.invariant r.leads
+    (subst (λ (t : List ℕ). IsWithinLoad new.stored (let x : KeptString = record { text = t; steps = k; changes = c.record_run-changes.result.0.items } in x) new.body) kept r.load)
+    (r.again ∙ ap (λ (t : List ℕ). (string_meaning (state_of c.self.inside.editor) t k).state) kept)
+    (c.push_reserved.ensures.items ∙ ap (λ (l : List Entry). l ++ entry_now g c ∷ []) (c.truncate.ensures.items ∙ ap (take c.self.inside.cursor) c.reserve.ensures.items))
+    (omega (arith, c.len-self-inside.ensures, c.push_reserved.new.self.ok.0))
 
-added : (g : given.Over) (c : goal.After-self-1 g)
-    → (let h : History = record { first = state_of c.self.inside.first; notes = notes_of c.add_entry.new.entries.items; cursor = c.len-self-inside.result } in h)
-    ≡ noted (before g c) (note_of (entry_now g c))
-unfolding before entry_now
-added g c =
-    let old = c.self.inside.entries.items in
-    let within : c.self.inside.cursor ≤ length old = simp length-map at c.self.invariant.within in
-    let items : c.add_entry.new.entries.items ≡ take c.self.inside.cursor old ++ entry_now g c ∷ [] =
-    c.add_entry.ensures ∙ ap (λ l. take c.self.inside.cursor l ++ entry_now g c ∷ []) c.reserve.ensures.items in
-    let count : c.len-self-inside.result ≡ length c.add_entry.new.entries.items = omega (arith, c.len-self-inside.ensures, c.add_entry.new.entries.ok.0) in
-    noted-added (state_of c.self.inside.first) old _ _ _ _ within items count
+-- the editor's state is the present one, before the string and after it
+state_now : (g : given.Over) (c : goal.After-self-1 g) → state_of c.self.inside.editor ≡ present (history_of c.args.self.now)
+state_now g c = sym (present_is (kept_session c.self.inside) c.self.invariant.within) ∙ ap (λ (s : KeptSession). present (history_of s)) c.self.view_is
 
 pub invariant_of-self-2 : goal.invariant_of-self-2
-unfolding before entry_now
-invariant_of-self-2 g c =
-    let steps = c.run-outcome.result.steps in
-    let from : state_of c.in-Ok-copy.state ≡ present (before g c) = c.in-Ok-copy.ensures ∙ c.editor-2.ensures.present ∙ ap present (sym c.self.view_is) in
-    let state : state_of c.run-outcome.new.desk ≡ (string_meaning (present (before g c)) c.in-Ok.kept.items steps).state =
-    c.run-outcome.ensures.again ∙ ap (λ s. (string_meaning s c.args.text.now steps).state) from ∙ ap (λ t. (string_meaning (present (before g c)) t steps).state) (sym c.in-Ok.ensures.items) in
-    subst IsHistory (sym (added g c)) (IsHistory-noted (before g c) (note_of (entry_now g c)) c.self.invariant state)
-
--- the history after it, from the one before
-noted_now : (g : given.Over) (c : goal.After-self-1 g)
-    → (let h : History = record { first = state_of c.self.inside.first; notes = notes_of c.add_entry.new.entries.items; cursor = c.len-self-inside.result } in h)
-    ≡ noted c.args.self.now (record { text = c.args.text.now; steps = c.run-outcome.result.steps; state = state_of c.run-outcome.new.desk })
-unfolding before entry_now
-noted_now g c =
-    added g c ∙ ap (λ h. noted h (note_of (entry_now g c))) c.self.view_is
-    ∙ ap (λ t. noted c.args.self.now (record { text = t; steps = c.run-outcome.result.steps; state = state_of c.run-outcome.new.desk })) c.in-Ok.ensures.items
+invariant_of-self-2 g c = (ran_now g c).holds
 
 pub returns-clause-step : goal.returns-clause-step
 returns-clause-step g c =
-    let ran = c.run-outcome.ensures.run in
-    let old = c.args.self.now in
-    let going : (present old).is_done ≡ false = ap (λ s. s.is_done) (sym c.editor.ensures.present) ∙ sym c.done.ensures ∙ c.if-done.false in
-    let run = subst (λ s. Runs s c.args.text.now c.args.limit c.run-outcome.result ran.0 (state_of c.run-outcome.new.desk)) (c.in-Ok-copy.ensures ∙ c.editor-2.ensures.present) ran.1 in
-    (ran.0, (state_of c.run-outcome.new.desk, going, run, noted_now g c), ran.2)
+    let ran = c.record_run-changes.ensures.run in
+    let old = history_of c.args.self.now in
+    let new = state_of c.record_run-changes.new.editor in
+    let k = c.record_run-changes.result.1.steps in
+    let here = state_now g c in
+    let going : (present old).is_done ≡ false = ap (λ (s : State). s.is_done) (sym c.editor.ensures.present) ∙ sym c.done.ensures ∙ c.if-done.false in
+    let run = subst (λ (s : State). Runs s c.args.text.now c.args.limit c.record_run-changes.result.1 ran.0 new) here ran.1 in
+    let text = ap (λ (t : List ℕ). noted old (record { text = t; steps = k; state = new })) c.in-Ok.ensures.items in
+    (ran.0, (new, going, run, (ran_now g c).history ∙ ap (λ (s : KeptSession). noted (history_of s) (noted_as (kept_string (entry_now g c)) new)) c.self.view_is ∙ text), ran.2)
 
 pub returns-clause-exit : goal.returns-clause-exit
 returns-clause-exit g c = λ going over.
-    let old = c.args.self.now in
-    let within : old.cursor ≤ length old.notes = c.editor.ensures.history.within in
-    let new : (present (noted old (record { text = c.args.text.now; steps = c.run-outcome.result.steps; state = state_of c.run-outcome.new.desk }))).is_done ≡ true =
-    sym (ap (λ h. (present h).is_done) (noted_now g c)) ∙ over in
-    let last : (state_of c.run-outcome.new.desk).is_done ≡ true = sym (ap (λ s. s.is_done) (present-noted old _ within)) ∙ new in
-    c.run-outcome.ensures.exit (ap (λ s. s.is_done) (c.in-Ok-copy.ensures ∙ c.editor-2.ensures.present) ∙ going) last
+    let done = λ (s : State). s.is_done in
+    let last = present_is (kept_with c.record_run-changes.new.editor c.push_reserved.new.self.items c.len-self-inside.result) (ran_now g c).holds.within in
+    c.record_run-changes.ensures.exit (ap done (state_now g c) ∙ going) (sym (ap done last) ∙ over)

@@ -1,0 +1,100 @@
+-- Sessions: a string is run.
+use Rattle.std.proofs.Common.{◌≡◌, ℕ, ◌+◌, ◌≤◌, List, [], ◌∷◌, ◌++◌, length, take, reverse, refl, sym, ◌∙◌, ap, subst, arith, append_assoc, length-append}
+use Rattle.std.proofs.lemmas.List.{reverse-append, length-reverse, length-take-le, drop_all, take_all, take_at, take-take}
+use Rattle.teco_store.specs.State.{State, Body, IsSound, state_at, state_of}
+use Rattle.teco_store.specs.Entry.{body_back, load_back}
+use Rattle.teco_store.specs.Follows.{Leads}
+use Rattle.teco_store.specs.RecordLaws.{BackThenForth, FitsWithMoreCapacity}
+use Rattle.teco_exec.specs.StringMeaning.{string_meaning}
+use Rattle.teco_session.specs.History.{History, NotedString, IsHistory, noted}
+use Rattle.teco_session.specs.Kept.{KeptString, KeptSession, done_strings, undone_strings, noted_as, first_body, done_notes, undone_notes, history_of, IsWithinLoad, LeadBack, LeadForth, IsSession}
+use Rattle.teco_session.proofs.Histories.{IsHistory-noted}
+use Rattle.teco_session.proofs.Turning.{history_is, length-done_notes, present_is}
+
+-- a state is the same over any stored output that begins with the same bytes
+state_same : (st st' : List ℕ) (m : ℕ) (b : Body) → b.output ≤ m → take m st ≡ take m st' → state_at st' b ≡ state_at st b
+state_same st st' m b h e =
+    ap (λ (xs : List ℕ). let s : State = record (state_at st b) { output = xs } in s)
+    (sym (take-take b.output m st' h) ∙ ap (take b.output) (sym e) ∙ take-take b.output m st h)
+
+-- what stays where the stored output only grows beyond the output's end, and the capacity is no less
+record Stays (room : ℕ) (st st' : List ℕ) (xs : List KeptString) (b : Body) (ns : List NotedString) : Type 0 where
+  pub back : LeadBack room st' xs b
+  pub notes : done_notes st' xs b ns ≡ done_notes st xs b ns
+  pub first : state_at st' (first_body xs b) ≡ state_at st (first_body xs b)
+
+stays : BackThenForth → FitsWithMoreCapacity → (room room' m : ℕ) (st st' : List ℕ) (xs : List KeptString) (b : Body) (ns : List NotedString) → room ≤ room' → b.output ≤ m
+    → take m st ≡ take m st' → IsSound room (length st) b → LeadBack room st xs b → Stays room' st st' xs b ns
+stays law more room room' m st st' [] b ns r h same sound f = record { back = tt; notes = refl; first = state_same st st' m b h same }
+stays law more room room' m st st' (x ∷ xs) b ns r h same sound f =
+    let back : Body = body_back x.changes b in
+    let again = law room (length st) x.changes b f.0.0 sound in
+    let low : back.output ≤ m = let y = again.output in omega arith in
+    let here : state_at st back ≡ state_at st' back = sym (state_same st st' m back low same) in
+    let rest = stays law more room room' m st st' xs back (noted_as x (state_at st b) ∷ ns) r low same again.sound f.1 in
+    let load : IsWithinLoad st' x b = record {
+      changes = f.0.1.changes;
+      load = subst (λ (s : State). load_back x.changes b ≤ (string_meaning s x.text x.steps).load) here f.0.1.load;
+    } in
+    record {
+      back = ((more room room' x.changes b r f.0.0, load), rest.back);
+      notes = ap (λ (s : State). done_notes st' xs back (noted_as x s ∷ ns)) (state_same st st' m b h same) ∙ rest.notes;
+      first = rest.first;
+    }
+
+-- the notes that follow stay apart
+notes_split : (st : List ℕ) (xs : List KeptString) (b : Body) (ns : List NotedString) → done_notes st xs b ns ≡ done_notes st xs b [] ++ ns
+notes_split st [] b ns = refl
+notes_split st (x ∷ xs) b ns =
+    let n : NotedString = noted_as x (state_at st b) in
+    notes_split st xs (body_back x.changes b) (n ∷ ns)
+    ∙ sym (append_assoc (done_notes st xs (body_back x.changes b) []) (n ∷ []) ns)
+    ∙ ap (λ (l : List NotedString). l ++ ns) (sym (notes_split st xs (body_back x.changes b) (n ∷ [])))
+
+notes_cut : (st : List ℕ) (xs : List KeptString) (b : Body) (ns : List NotedString) (c : ℕ) → length xs ≡ c → take c (done_notes st xs b ns) ≡ done_notes st xs b []
+notes_cut st xs b ns c n =
+    let none : List NotedString = [] in
+    let size : length (done_notes st xs b none) ≡ length xs + length none = length-done_notes st xs b none in
+    ap (take c) (notes_split st xs b ns) ∙ take_at (done_notes st xs b none) ns c (omega arith)
+
+-- a session after a string that has begun
+pub record Ran (s t : KeptSession) (x : KeptString) : Type 0 where
+  pub holds : IsSession t
+  pub history : history_of t ≡ noted (history_of s) (noted_as x (state_of t.editor))
+
+same_parts : (first first' : State) (notes notes' : List NotedString) (c c' : ℕ) → first ≡ first' → notes ≡ notes' → c ≡ c'
+    → (let h : History = record { first = first; notes = notes; cursor = c } in h) ≡ record { first = first'; notes = notes'; cursor = c' }
+same_parts first first' notes notes' c c' a b d = rw (a, b, d) refl
+
+pub session_ran : BackThenForth → FitsWithMoreCapacity → (s t : KeptSession) (x : KeptString) → IsSession s → Leads s.editor t.editor x.changes → IsWithinLoad t.editor.stored x t.editor.body
+    → state_of t.editor ≡ (string_meaning (state_of s.editor) x.text x.steps).state → t.strings ≡ take s.cursor s.strings ++ x ∷ [] → t.cursor ≡ s.cursor + 1 → Ran s t x
+session_ran law more s t x ok r load again strings at =
+    let c = s.cursor in
+    let xs : List KeptString = done_strings s in
+    let st = s.editor.stored in let st' = t.editor.stored in
+    let b = s.editor.body in
+    let m : ℕ = b.output in
+    let n : length (take c s.strings) ≡ c = length-take-le c s.strings ok.within in
+    let nx : length xs ≡ c = length-reverse (take c s.strings) ∙ n in
+    let size : length t.strings ≡ c + 1 = ap length strings ∙ length-append (take c s.strings) (x ∷ []) ∙ ap (λ k. k + 1) n in
+    let whole : take t.cursor t.strings ≡ take c s.strings ++ x ∷ [] = take_all t.cursor t.strings (omega arith) ∙ strings in
+    let before : done_strings t ≡ x ∷ xs = ap reverse whole ∙ reverse-append (take c s.strings) (x ∷ []) in
+    let behind : undone_strings t ≡ [] = drop_all t.cursor t.strings (omega arith) in
+    let note : NotedString = noted_as x (state_of t.editor) in
+    let kept = stays law more s.editor.room t.editor.room m st st' xs b (note ∷ []) r.room (omega arith) (sym r.stored) ok.sound ok.back in
+    let first : state_at st' (first_body xs (body_back x.changes t.editor.body)) ≡ (history_of s).first = ap (λ (z : Body). state_at st' (first_body xs z)) r.body ∙ kept.first in
+    let notes : done_notes st' xs (body_back x.changes t.editor.body) (note ∷ []) ≡ take c (history_of s).notes ++ note ∷ [] =
+    ap (λ (z : Body). done_notes st' xs z (note ∷ [])) r.body ∙ kept.notes ∙ notes_split st xs b (note ∷ [])
+    ∙ ap (λ (k : List NotedString). k ++ note ∷ []) (sym (notes_cut st xs b (undone_notes st (undone_strings s) b) c nx)) in
+    let same : history_of t ≡ noted (history_of s) note = history_is t (x ∷ xs) [] before behind ∙ same_parts _ _ _ _ _ _ first notes at in
+    record {
+      holds = record {
+        within = omega arith;
+        sound = r.sound;
+        back = subst (λ (zs : List KeptString). LeadBack t.editor.room st' zs t.editor.body) (sym before)
+            ((r.fits, load), subst (λ (z : Body). LeadBack t.editor.room st' xs z) (sym r.body) kept.back);
+        forth = subst (λ (zs : List KeptString). LeadForth t.editor.room st' zs t.editor.body) (sym behind) tt;
+        history = subst IsHistory (sym same) (IsHistory-noted (history_of s) note ok.history (again ∙ ap (λ (z : State). (string_meaning z x.text x.steps).state) (sym (present_is s ok.within))));
+      };
+      history = same;
+    }

@@ -1,0 +1,125 @@
+-- A session as it is kept: one editor, and of each string the changes that lead from one side of it to the other.
+use Rattle.std.specs.Prelude.{ℕ, ◌+◌, ◌-◌, ◌*◌, ◌≤◌, List, [], ◌∷◌, length, take, drop, reverse, slice_index_or}
+use Rattle.std.proofs.Common.{set}
+use Rattle.teco_store.specs.State.{State, Body, Full, IsSound, state_at, new_full}
+use Rattle.teco_store.specs.Turn.{Note as Change}
+use Rattle.teco_store.specs.Entry.{body_back, notes_back, body_forth, notes_forth, FitsBack, FitsForth, load_back, held_in}
+use Rattle.teco_exec.specs.StringMeaning.{string_meaning}
+use Rattle.teco_session.specs.History.{History, NotedString, IsHistory}
+
+-- A string that has begun: its text, the steps that it took, and its changes. They are to be turned back where the string is done,
+-- and forth where it is undone.
+pub record KeptString : Type 0 where
+  pub text : List ℕ
+  pub steps : ℕ
+  pub changes : List Change
+
+pub record KeptSession : Type 0 where
+  pub editor : Full
+  pub strings : List KeptString
+  pub cursor : ℕ
+
+-- the beginning, with this input
+abbrev pub new_session : List ℕ → KeptSession
+new_session input = record { editor = new_full input; strings = []; cursor = 0 }
+
+-- the strings that are done, the last first, and those that are undone, the first first
+abbrev pub done_strings : KeptSession → List KeptString
+done_strings s = reverse (take s.cursor s.strings)
+
+abbrev pub undone_strings : KeptSession → List KeptString
+undone_strings s = drop s.cursor s.strings
+
+-- a string with its changes turned back, and forth
+abbrev pub string_back : KeptString → Body → KeptString
+string_back x b = record { text = x.text; steps = x.steps; changes = notes_back x.changes b }
+
+abbrev pub string_forth : KeptString → Body → KeptString
+string_forth x b = record { text = x.text; steps = x.steps; changes = notes_forth x.changes b }
+
+-- a string as the history has it, with the state after it
+abbrev pub noted_as : KeptString → State → NotedString
+noted_as x s = record { text = x.text; steps = x.steps; state = s }
+
+-- the body before these strings were done, the last first
+abbrev pub first_body : List KeptString → Body → Body
+first_body [] b = b
+first_body (x ∷ xs) b = first_body xs (body_back x.changes b)
+
+-- what the history has of strings that are done, the last first, and then these notes
+abbrev pub done_notes : List ℕ → List KeptString → Body → List NotedString → List NotedString
+done_notes stored [] b notes = notes
+done_notes stored (x ∷ xs) b notes = done_notes stored xs (body_back x.changes b) (noted_as x (state_at stored b) ∷ notes)
+
+-- and of those that are undone, the first first
+abbrev pub undone_notes : List ℕ → List KeptString → Body → List NotedString
+undone_notes stored [] b = []
+undone_notes stored (x ∷ xs) b = noted_as x (state_at stored (body_forth x.changes b)) ∷ undone_notes stored xs (body_forth x.changes b)
+
+-- The history has every whole state. Each is what the editor comes to where changes are turned.
+abbrev pub history_of : KeptSession → History
+history_of s = record {
+  first = state_at s.editor.stored (first_body (done_strings s) s.editor.body);
+  notes = done_notes s.editor.stored (done_strings s) s.editor.body (undone_notes s.editor.stored (undone_strings s) s.editor.body);
+  cursor = s.cursor;
+}
+
+-- A string that is done at a body made at most six changes in each step, and all bytes that stand on either side of its changes are
+-- within its load from the state before it.
+pub record IsWithinLoad (stored : List ℕ) (x : KeptString) (b : Body) : Type 0 where
+  pub changes : length x.changes ≤ 6 * x.steps
+  pub load : load_back x.changes b ≤ (string_meaning (state_at stored (body_back x.changes b)) x.text x.steps).load
+
+-- Each string that is done fits where it would be turned back, and is within its load.
+abbrev pub LeadBack : ℕ → List ℕ → List KeptString → Body → Type 0
+LeadBack room stored [] b = Unit {0}
+LeadBack room stored (x ∷ xs) b = (FitsBack room x.changes b × IsWithinLoad stored x b) × LeadBack room stored xs (body_back x.changes b)
+
+-- Each that is undone fits where it would be turned forth, and is within its load once that is done.
+abbrev pub LeadForth : ℕ → List ℕ → List KeptString → Body → Type 0
+LeadForth room stored [] b = Unit {0}
+LeadForth room stored (x ∷ xs) b =
+    (FitsForth room (length stored) x.changes b × IsWithinLoad stored (string_forth x b) (body_forth x.changes b))
+    × LeadForth room stored xs (body_forth x.changes b)
+
+-- The strings on both sides of the cursor lead from the editor through every state of a history.
+pub record IsSession (s : KeptSession) : Type 0 where
+  pub within : s.cursor ≤ length s.strings
+  pub sound : IsSound s.editor.room (length s.editor.stored) s.editor.body
+  pub back : LeadBack s.editor.room s.editor.stored (done_strings s) s.editor.body
+  pub forth : LeadForth s.editor.room s.editor.stored (undone_strings s) s.editor.body
+  pub history : IsHistory (history_of s)
+
+-- the string at a place
+abbrev pub string_at : KeptSession → ℕ → KeptString
+string_at s i = slice_index_or s.strings i (record { text = []; steps = 0; changes = [] })
+
+-- an editor with another body
+abbrev pub with_body : Full → Body → Full
+with_body f b = record { body = b; stored = f.stored; room = f.room }
+
+-- An undo turns the last string that is done back, and keeps what would do it again. A redo turns the first undone one forth.
+abbrev pub turned_back : KeptSession → KeptString → ℕ → KeptSession
+turned_back s x i = record {
+  editor = with_body s.editor (body_back x.changes s.editor.body);
+  strings = set s.strings i (string_back x s.editor.body);
+  cursor = i;
+}
+
+abbrev pub turned_forth : KeptSession → KeptString → ℕ → KeptSession
+turned_forth s x i = record {
+  editor = with_body s.editor (body_forth x.changes s.editor.body);
+  strings = set s.strings i (string_forth x s.editor.body);
+  cursor = i + 1;
+}
+
+abbrev pub reverted : KeptSession → KeptSession
+reverted s = turned_back s (string_at s (s.cursor - 1)) (s.cursor - 1)
+
+abbrev pub applied : KeptSession → KeptSession
+applied s = turned_forth s (string_at s s.cursor) s.cursor
+
+-- An entry has at most six changes for each step of its string, and they hold no more bytes than the string moves from this state.
+pub record IsSmall (x : KeptString) (s : State) : Type 0 where
+  pub changes : length x.changes ≤ 6 * x.steps
+  pub held : held_in x.changes ≤ (string_meaning s x.text x.steps).load
