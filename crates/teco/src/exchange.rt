@@ -5,6 +5,7 @@ ghost use Rattle.teco.specs.Exchange.{Does, Exchange, MovesCursor, Repeats, is_e
 ghost use Rattle.teco.specs.Held.{ExchangeEnds, IsExchange};
 ghost use Rattle.teco.specs.Message.{code_line, message, replies_shown, star};
 ghost use Rattle.teco.specs.Stream.Asks.{Run};
+ghost use Rattle.teco_session.specs.Kept.{history_of};
 ghost use Rattle.teco_session.specs.Step.{Reply};
 ghost use Rattle.teco_step.specs.Terminal.{Puts, Shows};
 
@@ -52,7 +53,7 @@ fn repeat<T: Terminal>(
     term: &mut T,
 ) -> Result<(), TerminalFault>
     requires { MovesCursor request.now }
-    ensures { (replies : List Reply) × Repeats limit request.now n session.old replies session.new
+    ensures { (replies : List Reply) × Repeats limit request.now n (history_of session.old) replies (history_of session.new)
         × Puts (T.screen term.old) (T.screen term.new) (replies_shown replies) result
         × OnErr result (replies_shown replies ≢ []) }
 {
@@ -72,10 +73,10 @@ fn run_text<T: Terminal>(
     limit: u64,
     term: &mut T,
 ) -> Result<(), TerminalFault>
-    ensures done { (replies : List Reply) × Does limit (Run text.now) session.old replies session.new
+    ensures done { (replies : List Reply) × Does limit (Run text.now) (history_of session.old) replies (history_of session.new)
         × Puts (T.screen term.old) (T.screen term.new) (replies_shown replies) result
         × OnErr result (replies_shown replies ≢ []) }
-    ensures err { OnErr result (is_exit (Run text.now) session.old session.new ≡ false) }
+    ensures err { OnErr result (is_exit (Run text.now) (history_of session.old) (history_of session.new) ≡ false) }
 {
     let answer = session.run(text, limit, term);
     if answer.is_terminal_failure() {
@@ -92,10 +93,10 @@ fn do_asked<T: Terminal>(
     limit: u64,
     term: &mut T,
 ) -> Result<(), TerminalFault>
-    ensures done { (replies : List Reply) × Does limit (value_of asked.now) session.old replies session.new
+    ensures done { (replies : List Reply) × Does limit (value_of asked.now) (history_of session.old) replies (history_of session.new)
         × Puts (T.screen term.old) (T.screen term.new) (replies_shown replies) result
         × OnErr result (replies_shown replies ≢ []) }
-    ensures err { OnErr result (is_exit (value_of asked.now) session.old session.new ≡ false) }
+    ensures err { OnErr result (is_exit (value_of asked.now) (history_of session.old) (history_of session.new) ≡ false) }
 {
     match asked {
         Asked::Run(text) => run_text(text.as_slice(), session, limit, term),
@@ -120,7 +121,7 @@ pub fn do_exchange<T: Terminal>(
     prompt: bool,
     term: &mut T,
 ) -> Option<Served>
-    ensures { (exchange : Exchange) × IsExchange limit (value_of asked.now) session.old session.new exchange
+    ensures { (exchange : Exchange) × IsExchange limit (value_of asked.now) (history_of session.old) (history_of session.new) exchange
         × ExchangeEnds (Shows (T.screen term.old) (T.screen term.new)) prompt exchange result }
 {
     let was_done = session.editor().done();

@@ -1,5 +1,6 @@
 //! Serving a stream of commands.
 ghost use Rattle.std.specs.Prelude.{List};
+ghost use Rattle.teco_session.specs.Kept.{history_of};
 ghost use Rattle.teco.specs.Exchange.{Exchange};
 ghost use Rattle.teco.specs.Held.{CutsOff, Emptied, HeldEnds};
 ghost use Rattle.teco.specs.Serving.{Exchanges, Serves};
@@ -25,7 +26,7 @@ fn serve_held<T: Terminal>(
     prompt: bool,
     term: &mut T,
 ) -> Option<Served>
-    ensures { (exchanges : List Exchange) × Exchanges limit session.old exchanges session.new × CutsOff splitter.old exchanges splitter.new
+    ensures { (exchanges : List Exchange) × Exchanges limit (history_of session.old) exchanges (history_of session.new) × CutsOff splitter.old exchanges splitter.new
         × Emptied result splitter.new × HeldEnds (Shows (T.screen term.old) (T.screen term.new)) prompt exchanges result }
 {
     'held: loop {
@@ -58,7 +59,7 @@ pub fn serve<S: Source, T: Terminal>(
         (Gives S.coming S.bound S.failures source.old source.new)
         (HasEnded (S.coming source.new) (S.ended source.new))
         (Shows (T.screen term.old) (T.screen term.new))
-        session.old session.new result }
+        (history_of session.old) (history_of session.new) result }
 {
     if let Err(TerminalFault) = show_prompt(prompt, term) {
         return Served::ShowFault;

@@ -1,4 +1,5 @@
 use Rattle.std.proofs.Common.{◌≡◌, [], ◌++◌, true, false, refl, sym, ap, ◌∙◌, subst, if◌then◌else◌}
+use Rattle.teco_session.specs.Kept.{history_of}
 use Rattle.teco_step.specs.Terminal.{Shows}
 use Rattle.teco_session.specs.History.{present}
 use Rattle.teco.specs.Cut.{value_of}
@@ -11,7 +12,7 @@ use Rattle.teco.proofs.exchange.do_exchange.Goals as goal
 pub returns-in-Err : goal.returns-in-Err
 returns-in-Err g c =
     let d = c.in-Err.ensures.done in
-    let x : Exchange = record { asked = value_of c.args.asked.now; before = c.args.session.now; replies = d.0; after = c.do_asked.new.session } in
+    let x : Exchange = record { asked = value_of c.args.asked.now; before = history_of c.args.session.now; replies = d.0; after = history_of c.do_asked.new.session } in
     let rest = if exits x then [] else star c.args.prompt in (
       x,
       record { asked_is = refl; before_is = refl; after_is = refl; does = d.1 },
@@ -24,7 +25,7 @@ returns-in-Err g c =
 pub returns-then-exits : goal.returns-then-exits
 returns-then-exits g c =
     let d = c.in_default.ensures.done in
-    let x : Exchange = record { asked = value_of c.args.asked.now; before = c.args.session.now; replies = d.0; after = c.do_asked.new.session } in
+    let x : Exchange = record { asked = value_of c.args.asked.now; before = history_of c.args.session.now; replies = d.0; after = history_of c.do_asked.new.session } in
     let was : c.done-was_done.result ≡ (present x.before).is_done = c.done-was_done.ensures ∙ ap (λ s. s.is_done) c.editor.ensures.present in
     let now : c.done.result ≡ (present x.after).is_done = c.done.ensures ∙ ap (λ s. s.is_done) c.editor-2.ensures.present in
     let same : c.exits.result ≡ exits x = exits_from x c.exits.result c.done-was_done.result c.done.result c.exits.ensures was now in
@@ -41,7 +42,7 @@ pub returns-in-Err-show_prompt : goal.returns-in-Err-show_prompt
 returns-in-Err-show_prompt g c =
     let d = c.in_default.ensures.done in
     let p = c.in-Err-show_prompt.ensures.puts in
-    let x : Exchange = record { asked = value_of c.args.asked.now; before = c.args.session.now; replies = d.0; after = c.do_asked.new.session } in
+    let x : Exchange = record { asked = value_of c.args.asked.now; before = history_of c.args.session.now; replies = d.0; after = history_of c.do_asked.new.session } in
     let was : c.done-was_done.result ≡ (present x.before).is_done = c.done-was_done.ensures ∙ ap (λ s. s.is_done) c.editor.ensures.present in
     let now : c.done.result ≡ (present x.after).is_done = c.done.ensures ∙ ap (λ s. s.is_done) c.editor-2.ensures.present in
     let same : c.exits.result ≡ exits x = exits_from x c.exits.result c.done-was_done.result c.done.result c.exits.ensures was now in
@@ -64,7 +65,7 @@ pub returns : goal.returns
 returns g c =
     let d = c.in_default.ensures.done in
     let p = c.in_default-show_prompt.ensures.puts in
-    let x : Exchange = record { asked = value_of c.args.asked.now; before = c.args.session.now; replies = d.0; after = c.do_asked.new.session } in
+    let x : Exchange = record { asked = value_of c.args.asked.now; before = history_of c.args.session.now; replies = d.0; after = history_of c.do_asked.new.session } in
     let was : c.done-was_done.result ≡ (present x.before).is_done = c.done-was_done.ensures ∙ ap (λ s. s.is_done) c.editor.ensures.present in
     let now : c.done.result ≡ (present x.after).is_done = c.done.ensures ∙ ap (λ s. s.is_done) c.editor-2.ensures.present in
     let same : c.exits.result ≡ exits x = exits_from x c.exits.result c.done-was_done.result c.done.result c.exits.ensures was now in

@@ -1,4 +1,5 @@
 use Rattle.std.proofs.Common.{◌≡◌, ◌-◌, List, [], ◌++◌, false}
+use Rattle.teco_session.specs.Kept.{history_of}
 use Rattle.teco_session.specs.History.{History}
 use Rattle.teco_session.specs.Step.{Reply}
 use Rattle.teco_step.specs.Terminal.{Shows}
@@ -10,5 +11,5 @@ abbrev pub invariant-moves : goal.invariant-moves
 invariant-moves g l = record {
   shown : Shows (g.T.Terminal.screen l.initial.term) (g.T.Terminal.screen l.term) [] false;
   moved : (replies : List Reply) × (replies_shown replies ≡ [])
-      × ((rest : List Reply) (new : History) → Repeats l.limit l.request (l.n - l._i) l.session rest new → Repeats l.limit l.request l.n l.initial.session (replies ++ rest) new);
+      × ((rest : List Reply) (new : History) → Repeats l.limit l.request (l.n - l._i) (history_of l.session) rest new → Repeats l.limit l.request l.n (history_of l.initial.session) (replies ++ rest) new);
 }

@@ -1,4 +1,5 @@
 use Rattle.std.proofs.Common.{◌≡◌, [], ◌∷◌, ◌++◌, true, false, refl, sym, ◌∙◌, subst, append-nil}
+use Rattle.teco_session.specs.Kept.{history_of}
 use Rattle.teco_step.specs.Terminal.{Shows, Puts}
 use Rattle.teco_session.specs.Step.{Reply, is_terminal_failure}
 use Rattle.teco.specs.Message.{message}
@@ -20,7 +21,7 @@ returns-then-is_terminal_failure-clause-done g c =
 pub returns-then-is_terminal_failure-clause-err : goal.returns-then-is_terminal_failure-clause-err
 returns-then-is_terminal_failure-clause-err g c =
     let failed : is_terminal_failure c.run-answer.result ≡ true = sym c.is_terminal_failure.ensures ∙ c.if-is_terminal_failure.true in
-    message-no_exit c.args.text.now c.args.session.now c.run-answer.new.self c.run-answer.result (failure-some c.run-answer.result failed) c.run-answer.ensures.exit
+    message-no_exit c.args.text.now (history_of c.args.session.now) (history_of c.run-answer.new.self) c.run-answer.result (failure-some c.run-answer.result failed) c.run-answer.ensures.exit
 
 pub returns-clause-done : goal.returns-clause-done
 returns-clause-done g c =
@@ -37,4 +38,4 @@ returns-clause-done g c =
 
 pub returns-clause-err : goal.returns-clause-err
 returns-clause-err g c =
-    OnErr-weaker c.show_message.result (λ some. message-no_exit c.args.text.now c.args.session.now c.run-answer.new.self c.run-answer.result some c.run-answer.ensures.exit) c.show_message.ensures.some
+    OnErr-weaker c.show_message.result (λ some. message-no_exit c.args.text.now (history_of c.args.session.now) (history_of c.run-answer.new.self) c.run-answer.result some c.run-answer.ensures.exit) c.show_message.ensures.some

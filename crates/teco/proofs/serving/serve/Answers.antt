@@ -1,5 +1,6 @@
 use Rattle.std.proofs.Common.{◌≡◌, [], ◌++◌, take, false, refl, sym, ap, subst, append-nil, arith, rules, true≢false, inl}
 use Rattle.std.proofs.lemmas.Grind.{common_steps}
+use Rattle.teco_session.specs.Kept.{history_of}
 use Rattle.teco_step.specs.Terminal.{Shows}
 use Rattle.teco.specs.Source.{Gives}
 use Rattle.teco.specs.Stream.{requests, texts_of}
@@ -102,7 +103,7 @@ returns-in-Some g c =
       bytes = bytes;
       read = subst (λ b. Gives g.S.Source.coming g.S.Source.bound g.S.Source.failures c.args.source.now c.read.new.self bytes b) (sym ends.read) (Gives-more inv.2 c.in-Ok.ensures.ok);
       exchanges = inv.1 ++ d.0;
-      done = Exchanges-append c.args.limit c.args.session.now c.pieces.session c.serve_held.new.session inv.1 d.0 inv.3 d.1;
+      done = Exchanges-append c.args.limit (history_of c.args.session.now) (history_of c.pieces.session) (history_of c.serve_held.new.session) inv.1 d.0 inv.3 d.1;
       first = CutsOff-first bytes c.serve_held.new.splitter (inv.1 ++ d.0) cut;
       all = λ out. absurd (ends.all out);
       ended = λ end. absurd (ends.ended end);
@@ -122,7 +123,7 @@ pieces-preserved g c =
       bytes,
       inv.1 ++ d.0,
       Gives-more inv.2 c.in-Ok.ensures.ok,
-      Exchanges-append c.args.limit c.args.session.now c.pieces.session c.serve_held.new.session inv.1 d.0 inv.3 d.1,
+      Exchanges-append c.args.limit (history_of c.args.session.now) (history_of c.pieces.session) (history_of c.serve_held.new.session) inv.1 d.0 inv.3 d.1,
       cut,
       d.3,
       GoOn-append inv.1 d.0 inv.6 d.4.0,

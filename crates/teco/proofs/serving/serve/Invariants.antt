@@ -1,4 +1,5 @@
 use Rattle.std.proofs.Common.{◌≡◌, ℕ, List, [], false}
+use Rattle.teco_session.specs.Kept.{history_of}
 use Rattle.teco_step.specs.Terminal.{Shows}
 use Rattle.teco.specs.Source.{Gives}
 use Rattle.teco.specs.Stream.{texts_of}
@@ -10,7 +11,7 @@ use Rattle.teco.proofs.serving.serve.Given as goal
 abbrev pub invariant-pieces : goal.invariant-pieces
 invariant-pieces g l =
     (bytes : List ℕ) × (exchanges : List Exchange) × Gives g.S.Source.coming g.S.Source.bound g.S.Source.failures l.fn.source l.source bytes false
-    × Exchanges l.limit l.fn.session exchanges l.session × CutsOff bytes exchanges l.splitter × (texts_of l.splitter ≡ []) × GoOn exchanges
+    × Exchanges l.limit (history_of l.fn.session) exchanges (history_of l.session) × CutsOff bytes exchanges l.splitter × (texts_of l.splitter ≡ []) × GoOn exchanges
     × Shows (g.T.Terminal.screen l.fn.term) (g.T.Terminal.screen l.term) (all_shown l.prompt exchanges) false
 
 abbrev pub decreases-pieces : goal.decreases-pieces

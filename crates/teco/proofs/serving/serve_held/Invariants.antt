@@ -1,4 +1,5 @@
 use Rattle.std.proofs.Common.{List, length, false}
+use Rattle.teco_session.specs.Kept.{history_of}
 use Rattle.teco_step.specs.Terminal.{Shows}
 use Rattle.teco.specs.Exchange.{Exchange}
 use Rattle.teco.specs.Serving.{Exchanges, GoOn, exchanges_shown}
@@ -7,7 +8,7 @@ use Rattle.teco.proofs.serving.serve_held.Given as goal
 
 abbrev pub invariant-held : goal.invariant-held
 invariant-held g l =
-    (exchanges : List Exchange) × Exchanges l.limit l.initial.session exchanges l.session × CutsOff l.initial.splitter exchanges l.splitter × GoOn exchanges
+    (exchanges : List Exchange) × Exchanges l.limit (history_of l.initial.session) exchanges (history_of l.session) × CutsOff l.initial.splitter exchanges l.splitter × GoOn exchanges
     × Shows (g.T.Terminal.screen l.initial.term) (g.T.Terminal.screen l.term) (exchanges_shown l.prompt exchanges) false
 
 abbrev pub decreases-held : goal.decreases-held
