@@ -95,15 +95,4 @@ impl PushList {
     {
         self.places.as_slice().last()
     }
-
-    /// A list of the same values, in memory of its own.
-    pub fn copy(&self) -> Result<PushList, NoMemory>
-        ensures { IfOk result (λ p. p ≡ self.now) }
-    {
-        let mut places = ArrayVec::new_in(*self.places.allocator());
-        for value in self.places.as_slice() {
-            places.push(value.copy()?);
-        }
-        Ok(PushList { places })
-    }
 }

@@ -181,15 +181,4 @@ impl Registers {
     {
         mem::swap(&mut self.values[q.index()].text, text);
     }
-
-    /// Registers that hold the same, in memory of their own.
-    pub fn copy(&self) -> Result<Registers, NoMemory>
-        ensures { IfOk result (λ r. r ≡ self.now) }
-    {
-        let mut copy = Registers::new(*self.values[0].text.allocator());
-        for i in 0..36 {
-            copy.values[i] = self.values[i].copy()?;
-        }
-        Ok(copy)
-    }
 }

@@ -5,7 +5,6 @@ ghost use Rattle.teco_store.specs.State.{new_full, state_of};
 mod putting;
 mod storing;
 
-use crate::copies::{copy_files, copy_noted, copy_text, copy_values};
 use crate::desk::{Desk, Refused};
 use crate::noting::{is_long, note_text};
 use crate::pages::{is_past, make_room, next_page, replace_text};
@@ -68,31 +67,6 @@ impl Editor {
             done: false,
             case_mode: CaseMode::Exact,
         }
-    }
-
-    /// The same state again, in memory of its own.
-    pub fn copy(&self) -> Result<Editor, NoMemory>
-        ensures { IfOk result (λ editor. state_of editor ≡ state_of self.now) }
-    {
-        let (registers, pushed) = copy_values(&self.registers, &self.pushed)?;
-        let (input, output) = copy_files(&self.input, &self.output)?;
-        let text = copy_text(*self.input.allocator(), &self.text)?;
-        let last_search = copy_noted(&self.last_search)?;
-        Ok(Editor {
-            text,
-            pointer: self.pointer,
-            registers,
-            pushed,
-            input,
-            place: self.place,
-            output,
-            shown: self.shown,
-            form_feed: self.form_feed,
-            last_search,
-            last_found: self.last_found,
-            done: self.done,
-            case_mode: self.case_mode,
-        })
     }
 }
 

@@ -2,7 +2,6 @@
 #![tactic(auto)]
 
 mod change;
-mod copies;
 mod desk;
 mod editor;
 mod exchange;
