@@ -6,7 +6,7 @@ ghost use Rattle.teco_store.specs.Follows.{Leads};
 ghost use Rattle.teco_store.specs.State.{IsSound, state_of};
 ghost use Rattle.teco_step.specs.Terminal.{Shows};
 ghost use Rattle.teco_session.specs.Answers.{answer_code};
-ghost use Rattle.teco_session.specs.History.{IsHistory, new_history, present, redone, state_after, undone};
+ghost use Rattle.teco_session.specs.History.{IsHistory, new_history, note_at, present, redone, state_after, undone};
 ghost use Rattle.teco_session.specs.Kept.{IsSession, IsSmall, IsWithinLoad, applied, history_of, new_session, reverted, string_at};
 ghost use Rattle.teco_session.specs.Step.{Step, RunStep, Reply, is_terminal_failure};
 ghost use Rattle.teco_session.specs.Play.{Play, ShowsAll, answers_of};
@@ -113,7 +113,8 @@ impl Session {
     /// The text of a string. Takes no memory.
     pub fn string(&self, i: usize) -> &[u8]
         requires { i < length self.now.strings }
-        ensures { result.now ≡ (string_at self.now i).text }
+        ensures value { result.now ≡ (string_at self.now i).text }
+        ensures history { result.now ≡ (note_at (history_of self.now) i).text }
     {
         &self.entries[i].text
     }
@@ -121,7 +122,8 @@ impl Session {
     /// How many steps a string took. Takes no memory.
     pub fn steps(&self, i: usize) -> u64
         requires { i < length self.now.strings }
-        ensures { result ≡ (string_at self.now i).steps }
+        ensures value { result ≡ (string_at self.now i).steps }
+        ensures history { result ≡ (note_at (history_of self.now) i).steps }
     {
         self.entries[i].steps
     }
