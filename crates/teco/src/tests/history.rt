@@ -75,27 +75,31 @@ fn plays_in_order(rt: HostRuntime) {
     assert!(rt; held, "refused twice");
 }
 
-/// The pointer, the length of the text, and the number of register A and the length of its text.
-fn seen(editor: &Editor) -> (usize, usize, i32, usize) {
+/// The number of register A, and the length of its text.
+fn in_a(editor: &Editor) -> (i32, usize) {
+    let registers = editor.registers();
+    Reg::of(b'A').map_or((0, 0), |a| (registers.number(a), registers.text(a).len()))
+}
+
+/// The pointer, the length of the text and of the output, and what is in register A.
+fn seen(editor: &Editor) -> (usize, usize, usize, (i32, usize)) {
     let (before, after) = editor.halves();
     let length = before.len().saturating_add(after.len());
-    let registers = editor.registers();
-    match Reg::of(b'A') {
-        Some(a) => (
-            editor.pointer(),
-            length,
-            registers.number(a),
-            registers.text(a).len(),
-        ),
-        None => (editor.pointer(), length, 0, 0),
-    }
+    (
+        editor.pointer(),
+        length,
+        editor.output().len(),
+        in_a(editor),
+    )
 }
+
+const AT_THE_BEGINNING: (usize, usize, usize, (i32, usize)) = (0, 0, 0, (0, 0));
 
 /// Whether a string is undone to the beginning, redone to what it left, and undone again.
 fn comes_back(session: &mut Session, text: &[u8], term: &mut MemoryTerminal) -> bool {
     let begun = session.run(text, 100, term) != Answer::NotBegun;
     let left = seen(session.editor());
-    let undone = session.undo().is_ok() && seen(session.editor()) == (0, 0, 0, 0);
+    let undone = session.undo().is_ok() && seen(session.editor()) == AT_THE_BEGINNING;
     let redone = session.redo().is_ok() && seen(session.editor()) == left;
     let undone_again = session.undo().is_ok();
     begun && undone && redone && undone_again
@@ -109,9 +113,10 @@ fn each_comes_back(rt: &impl Abort, session: &mut Session, text: &[u8], term: &m
     }
 }
 
-/// However a string ends, at whatever byte it is cut, it can be undone and redone; where memory was refused, a second time.
-fn each_beginning_of(rt: &impl Abort, alloc: Global, text: &[u8]) {
-    let mut session = session_over(alloc, b"");
+/// However a string over an input ends, at whatever byte it is cut, it can be undone and redone; where memory was refused, a second
+/// time.
+fn each_beginning_of(rt: &impl Abort, alloc: Global, input: &[u8], text: &[u8]) {
+    let mut session = session_over(alloc, input);
     let mut term = MemoryTerminal::new(alloc);
     each_comes_back(rt, &mut session, text, &mut term);
 }
@@ -126,6 +131,24 @@ fn each_beginning_comes_back(rt: HostRuntime) {
         b"1\"G2=|3='4=Ia\x1b5J",
         b"3<Ix\x1b>!x!Ox\x1b",
     ] {
-        each_beginning_of(&rt, rt.alloc(), text);
+        each_beginning_of(&rt, rt.alloc(), b"", text);
+    }
+}
+
+#[test]
+fn each_beginning_over_pages_comes_back(rt: HostRuntime) {
+    for text in [
+        b"Iaaaa\x1b0J<Saa\x1b;%A\x1b>\x1b".as_slice(),
+        b"YNc\x1bHT",
+        b"Y2P1,0PWEX",
+        b"_a\x1b_b\x1b",
+        b"1UA[A2UA]BQA=QB=",
+        b"Ia1  b\x1b0JS\x05D\x05Sb\x1b.=",
+        b"Icat\x1b0J@FS/a/oa/HT",
+        b"Ione\ntwo\n\x1b-LKHXAGA",
+        b"Iab-12c\x1b2J\\UA42\\",
+        b"0^XIaBc\x1b0JSbC\x1b.=",
+    ] {
+        each_beginning_of(&rt, rt.alloc(), b"a\x0cb\x0cc", text);
     }
 }
