@@ -79,11 +79,7 @@ abbrev pub held_in : List Note → ℕ
 held_in [] = 0
 held_in (c ∷ cs) = held_by c.turn + held_in cs
 
--- the bytes of both sides of all changes that are to be turned back, and forth
+-- the bytes of both sides of all changes that are to be turned back
 abbrev pub load_back : List Note → Body → ℕ
 load_back [] b = 0
 load_back (c ∷ cs) b = weight c.turn (body_back cs b) + load_back cs b
-
-abbrev pub load_forth : List Note → Body → ℕ
-load_forth [] b = 0
-load_forth (c ∷ cs) b = weight c.turn b + load_forth cs (body_after c.turn b)
