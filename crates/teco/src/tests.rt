@@ -18,7 +18,7 @@ mod limits;
 mod modifiers;
 mod page_turns;
 mod patterns;
-mod requests;
+mod records;
 mod steps;
 mod strings;
 mod terminals;

@@ -1,0 +1,155 @@
+//! What strings leave for their undo: how much it is, and the pages that it turns back.
+use std::alloc::Global;
+use std::process::Abort;
+use std::test::*;
+use teco_core::NoMemory;
+use teco_session::{Answer, Session};
+use teco_step::MemoryTerminal;
+use teco_store::Desk;
+
+/// Strings, and the most bytes that the changes of the last one may hold.
+type Row<'a> = (&'a [&'a [u8]], usize);
+
+/// Whether the last string has at most six changes for each of its steps, and they hold at most so many bytes.
+fn is_within(session: &Session, most: usize) -> bool {
+    let strings = session.strings();
+    if strings == 0 {
+        return false;
+    }
+    let changes = session.entry(strings - 1);
+    let mut held: usize = 0;
+    for change in changes {
+        held = held.saturating_add(change.held());
+    }
+    changes.len() as u64 <= session.steps(strings - 1).saturating_mul(6) && held <= most
+}
+
+fn runs(session: &mut Session, texts: &[&[u8]], term: &mut MemoryTerminal) -> bool {
+    for text in texts {
+        if session.run(text, 100, term) == Answer::NotBegun {
+            return false;
+        }
+    }
+    true
+}
+
+/// Whether the last string of a row is within its bounds when it is run, undone and redone.
+fn holds_once(alloc: Global, row: &Row) -> bool {
+    let mut session = Session::new(Vec::new(alloc));
+    let mut term = MemoryTerminal::new(alloc);
+    runs(&mut session, row.0, &mut term)
+        && is_within(&session, row.1)
+        && session.undo().is_ok()
+        && is_within(&session, row.1)
+        && session.redo().is_ok()
+        && is_within(&session, row.1)
+}
+
+fn all_hold(rt: &impl Abort, alloc: Global, rows: &[Row]) {
+    for row in rows {
+        let held = holds_once(alloc, row) || holds_once(alloc, row);
+        assert!(rt; held, "at most {} bytes", row.1);
+    }
+}
+
+#[test]
+fn entries_are_small(rt: HostRuntime) {
+    all_hold(
+        &rt,
+        rt.alloc(),
+        &[
+            (&[b"Iab\x1b3D\x1b"], 2),
+            (&[b"Ihello\x1b", b"HK\x1b"], 5),
+            (&[b"Ihello\x1b", b"J\x1b"], 0),
+            (&[b"Ihello\x1b", b"HXA\x1b"], 5),
+            (&[b"@^UA/abc/\x1b", b"[A^UAde\x1b]A\x1b"], 13),
+            (&[b"Iabc\x1b", b"0JSc\x1b"], 1),
+            (&[b"Iabc\x1b", b"0JFSb\x1bxy\x1b"], 4),
+            (&[b"5UA<%A>\x1b"], 0),
+            (&[b"1=\x1b"], 0),
+            (&[b"\x1b"], 0),
+        ],
+    );
+}
+
+/// Whether the text is so many bytes `x`.
+fn is_all_x(session: &Session, count: usize) -> bool {
+    let (before, after) = session.editor().halves();
+    before.iter().chain(after.iter()).all(|byte| *byte == b'x')
+        && before.len().saturating_add(after.len()) == count
+}
+
+fn undoes(session: &mut Session, count: usize) -> bool {
+    for _ in 0..count {
+        if session.undo().is_err() {
+            return false;
+        }
+    }
+    true
+}
+
+fn redoes(session: &mut Session, count: usize) -> bool {
+    for _ in 0..count {
+        if session.redo().is_err() {
+            return false;
+        }
+    }
+    true
+}
+
+/// Whether a hundred strings are undone, each by itself, and redone, and one redo more is refused.
+fn hundred_come_back(alloc: Global) -> bool {
+    let mut session = Session::new(Vec::new(alloc));
+    let mut term = MemoryTerminal::new(alloc);
+    let text: &[u8] = b"Ix\x1b";
+    runs(&mut session, &[text; 100], &mut term)
+        && undoes(&mut session, 100)
+        && session.undo().is_err()
+        && is_all_x(&session, 0)
+        && redoes(&mut session, 100)
+        && session.redo().is_err()
+        && is_all_x(&session, 100)
+}
+
+// Where memory was refused once, all come back the second time.
+#[test]
+fn many_strings_come_back(rt: HostRuntime) {
+    let held = hundred_come_back(rt.alloc()) || hundred_come_back(rt.alloc());
+    assert!(rt; held, "a hundred strings");
+}
+
+fn has(session: &Session, text: &[u8], output: &[u8]) -> bool {
+    let (before, after) = session.editor().halves();
+    before.iter().chain(after.iter()).eq(text.iter()) && session.editor().output() == output
+}
+
+/// Whether a page that was turned is turned back with its output, and forth again.
+fn page_turns_back(session: &mut Session, term: &mut MemoryTerminal) -> bool {
+    runs(session, &[b"YP\x1b"], term)
+        && has(session, b"two\n", b"one\n\x0c")
+        && session.undo().is_ok()
+        && has(session, b"", b"")
+        && session.redo().is_ok()
+        && has(session, b"two\n", b"one\n\x0c")
+}
+
+/// Whether the output goes on from where the undo left it.
+fn page_is_written_anew(session: &mut Session, term: &mut MemoryTerminal) -> bool {
+    session.undo().is_ok()
+        && runs(session, &[b"YIx\x1bP\x1b"], term)
+        && has(session, b"two\n", b"xone\n\x0c")
+        && session.redo().is_err()
+}
+
+fn pages_once(alloc: Global) -> Result<bool, NoMemory> {
+    let mut session = Session::new(Vec::from_slice(alloc, b"one\n\x0ctwo\n")?);
+    let mut term = MemoryTerminal::new(alloc);
+    Ok(page_turns_back(&mut session, &mut term) && page_is_written_anew(&mut session, &mut term))
+}
+
+#[test]
+fn pages_come_back(rt: HostRuntime) {
+    let held = matches!(pages_once(rt.alloc()), Ok(true))
+        || matches!(pages_once(rt.alloc()), Ok(true));
+    assert!(rt; held, "a page turned back and forth");
+}
