@@ -15,7 +15,8 @@ use teco_gap::GapBuffer;
 /// The editing state: the buffer with its pointer, the registers and the push-down list, the input and the output, and what the last
 /// search left.
 ///
-/// The output ends after its first `shown` bytes. What is stored beyond them was written and taken back, and the next write drops it.
+/// A clause sees it as its body, the output that is stored, and the capacity of the buffer. The output ends after its first `shown`
+/// bytes: what is stored beyond them was written and taken back, and the next write drops it.
 #[derive(Drop)]
 pub struct Editor {
     text: GapBuffer,

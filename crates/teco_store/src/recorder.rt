@@ -18,6 +18,8 @@ use std::marker::Model;
 use teco_core::{NoMemory, TEXT_LIMIT};
 
 /// An editor whose changes are noted: each call of `Desk` finds all memory first and then makes its changes.
+///
+/// A clause sees it as the editor, the changes that were noted, the steps done, and how many more changes have room.
 #[derive(Drop)]
 pub struct Recorder {
     editor: Editor,
