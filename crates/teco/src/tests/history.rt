@@ -121,34 +121,100 @@ fn each_beginning_of(rt: &impl Abort, alloc: Global, input: &[u8], text: &[u8]) 
     each_comes_back(rt, &mut session, text, &mut term);
 }
 
-#[test]
-fn each_beginning_comes_back(rt: HostRuntime) {
-    for text in [
-        b"@^UA/^UAy\x1bIx\x1b/MA\x1b".as_slice(),
-        b"0UA<!x!%A-3\"LOx\x1b'1;>QA=\x1b",
-        b"0<Ia>b\x1b>Iok\x1b",
-        b"@^UA/MA/MA\x1b",
-        b"1\"G2=|3='4=Ia\x1b5J",
-        b"3<Ix\x1b>!x!Ox\x1b",
-    ] {
-        each_beginning_of(&rt, rt.alloc(), b"", text);
+fn all_come_back(rt: &impl Abort, alloc: Global, input: &[u8], texts: &[&[u8]]) {
+    for text in texts {
+        each_beginning_of(rt, alloc, input, text);
     }
 }
 
 #[test]
+fn each_beginning_comes_back(rt: HostRuntime) {
+    all_come_back(
+        &rt,
+        rt.alloc(),
+        b"",
+        &[
+            b"5J\x1b",
+            b"Ihello\x1b0J3C.=\x1b",
+            b"2+3*4=\x1b",
+            b"2147483647+1=\x1b",
+            b"Iab\x1b3D\x1b",
+            b"3<Ix\x1b",
+            b"(2+3)*(4-1):=\x1b",
+            b"-1==\x1b",
+            b"Ione\ntwo\n\x1b-LK\x1b",
+            b"Ox\x1b0<!x!>\x1b",
+            b"Iq7\x1b0J0A\"V^Alower\x01'1A\"D^A digit\x01'\x1b",
+            b"Iab-12c\x1b2J\\:=.=\x1b",
+            b"Iabcd\x1b3,1K.=\x1b",
+            b"0<Ia>b\x1b>Iok\x1b",
+            b"1\"G2=|3='4=Ia\x1b5J",
+            b"3<Ix\x1b>!x!Ox\x1b",
+        ],
+    );
+}
+
+#[test]
+fn each_beginning_with_registers_comes_back(rt: HostRuntime) {
+    all_come_back(
+        &rt,
+        rt.alloc(),
+        b"",
+        &[
+            b"@^UA/^UAy\x1bIx\x1b/MA\x1b",
+            b"0UA<!x!%A-3\"LOx\x1b'1;>QA=\x1b",
+            b"@^UA/MA/MA\x1b",
+            b"65<[A>]A\x1b",
+            b"3UA%A=5%A=\x1b",
+            b"2147483647UA%A\x1b",
+            b"1UA[A2UA]BQA=QB=",
+            b"Ione\ntwo\n\x1b-LKHXAGA",
+            b"Iab-12c\x1b2J\\UA42\\",
+        ],
+    );
+}
+
+#[test]
+fn each_beginning_of_searches_comes_back(rt: HostRuntime) {
+    all_come_back(
+        &rt,
+        rt.alloc(),
+        b"",
+        &[
+            b"Iaaaa\x1b0J<Saa\x1b;%A\x1b>\x1b",
+            b"Ixabxab\x1b-2Sab\x1b.=\x1b",
+            b"Iab\x1b0J::Sa\x1b=.=\x1b",
+            b"Ia1  b\x1b0JS\x05D\x05Sb\x1b.=\x1b",
+            b"Icat\x1b0J@FS/a/oa/HT\x1b",
+            b":Sx\x1b=\x1b",
+            b"Iab\x1b<Sx\x1b0;>\x1b",
+            b"S\x1b",
+            b"Iaaa\x1b-2Saa\x1b",
+            b"Iabc\x1b0J@S/\x05[c,b]/.=\x1b",
+            b"Iab\x1b0JS\x0ea\x1b.=\x1b",
+            b"0^XIaBc\x1b0JSbC\x1b.=\x1b",
+            b"Iab\x1bJ:SB\x1b=0^X:SB\x1b=\x1b",
+            b"1^X\x1b",
+            b"0^XIab\x1b0JS\x0eA\x1b.=\x1b",
+        ],
+    );
+}
+
+#[test]
 fn each_beginning_over_pages_comes_back(rt: HostRuntime) {
-    for text in [
-        b"Iaaaa\x1b0J<Saa\x1b;%A\x1b>\x1b".as_slice(),
-        b"YNc\x1bHT",
-        b"Y2P1,0PWEX",
-        b"_a\x1b_b\x1b",
-        b"1UA[A2UA]BQA=QB=",
-        b"Ia1  b\x1b0JS\x05D\x05Sb\x1b.=",
-        b"Icat\x1b0J@FS/a/oa/HT",
-        b"Ione\ntwo\n\x1b-LKHXAGA",
-        b"Iab-12c\x1b2J\\UA42\\",
-        b"0^XIaBc\x1b0JSbC\x1b.=",
-    ] {
-        each_beginning_of(&rt, rt.alloc(), b"a\x0cb\x0cc", text);
-    }
+    all_come_back(
+        &rt,
+        rt.alloc(),
+        b"a\x0cb\x0cc",
+        &[
+            b"YNc\x1bHT\x1b",
+            b"Y2P1,0PWEX\x1b",
+            b"_a\x1b_b\x1b",
+            b"YPEX\x1b",
+            b"YY\x1b",
+            b"2P\x1b",
+            b"Y_b\x1b",
+            b"YZ=EX\x1b",
+        ],
+    );
 }
