@@ -97,7 +97,7 @@ const AT_THE_BEGINNING: (usize, usize, usize, (i32, usize)) = (0, 0, 0, (0, 0));
 
 /// Whether a string is undone to the beginning, redone to what it left, and undone again.
 fn comes_back(session: &mut Session, text: &[u8], term: &mut MemoryTerminal) -> bool {
-    let begun = session.run(text, 100, term) != Answer::NotBegun;
+    let begun = session.run(text, 1000, term) != Answer::NotBegun;
     let left = seen(session.editor());
     let undone = session.undo().is_ok() && seen(session.editor()) == AT_THE_BEGINNING;
     let redone = session.redo().is_ok() && seen(session.editor()) == left;
