@@ -19,6 +19,7 @@ mod modifiers;
 mod page_turns;
 mod patterns;
 mod records;
+mod requests;
 mod steps;
 mod strings;
 mod terminals;
