@@ -9,3 +9,4 @@ pub mod Rows
 pub mod Searches
 pub mod Turned
 pub mod Turns
+pub mod Cuts

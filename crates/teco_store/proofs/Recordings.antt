@@ -1,13 +1,13 @@
 -- What a recorder follows, call by call.
-use Rattle.std.proofs.Common.{◌≡◌, ℕ, ◌+◌, ◌*◌, ◌<◌, ◌≤◌, List, [], ◌∷◌, ◌++◌, ◌⊎◌, inl, inr, length, take, drop, refl, sym, ◌∙◌, ap, subst, arith, length-append, length-drop, cond}
+use Rattle.std.proofs.Common.{◌≡◌, ℕ, ◌+◌, ◌<◌, ◌≤◌, List, [], ◌∷◌, ◌++◌, ◌⊎◌, inl, inr, length, take, drop, refl, sym, ◌∙◌, ap, subst, arith, length-append, length-drop, cond}
 use Rattle.std.proofs.lemmas.Bool.{cases_lt, lt-ltb, le-ltb}
 use Rattle.std.proofs.lemmas.List.{length-take-le, take-take}
 use Rattle.teco_core.specs.Register.{Content, texted, content}
 use Rattle.teco_store.specs.State.{State, Body, Full, Extends, state_at, state_of}
 use Rattle.teco_store.specs.Trail.{Trail, moved, stepped}
 use Rattle.teco_store.specs.Turn.{Turn, Note, Splice, Point, Number, Text, Push, TakeOff, PopInto, PutBack, Pages, Search, Found, Done, Mode, top_of, Stands, body_after, turn_after, Fits, full_after, FitsFull}
-use Rattle.teco_store.specs.Entry.{body_back, FitsBack, since, before, weight, load_back}
-use Rattle.teco_store.specs.Follows.{Recording, AllUpTo, HasCome, Follows, Goes, Keeps, noting, with_note}
+use Rattle.teco_store.specs.Entry.{body_back, FitsBack, since, before, of_step, weight, load_back}
+use Rattle.teco_store.specs.Follows.{Recording, AreMarked, HasCome, Follows, Goes, Keeps, noting, with_note}
 use Rattle.teco_store.proofs.Turns.{fits_after, body_again, content_put}
 use Rattle.teco_store.proofs.Entries.{fits_more, sound_more, sound_within, shown_back_all, shown_fits}
 
@@ -58,21 +58,32 @@ before-push i (x ∷ xs) c h = elim (cases_lt x.step i) [
   | inr g ↦ before_high i x (xs ++ c ∷ []) g ∙ sym (before_high i x xs g)
 ]
 
-pub since_all : (j : ℕ) (xs : List Note) → AllUpTo j xs → since (j + 1) xs ≡ []
-since_all j [] h = refl
-since_all j (x ∷ xs) h = let k = h.0 in since_low (j + 1) x xs (omega arith) ∙ since_all j xs h.1
+pub since_all : (low high : ℕ) (xs : List Note) → AreMarked low high xs → since (high + 1) xs ≡ []
+since_all low high [] h = refl
+since_all low high (x ∷ xs) h = let k = h.0.1 in since_low (high + 1) x xs (omega arith) ∙ since_all x.step high xs h.1
 
-pub before_all : (j : ℕ) (xs : List Note) → AllUpTo j xs → before (j + 1) xs ≡ xs
-before_all j [] h = refl
-before_all j (x ∷ xs) h = let k = h.0 in before_low (j + 1) x xs (omega arith) ∙ ap (λ ys. x ∷ ys) (before_all j xs h.1)
+pub before_all : (low high : ℕ) (xs : List Note) → AreMarked low high xs → before (high + 1) xs ≡ xs
+before_all low high [] h = refl
+before_all low high (x ∷ xs) h = let k = h.0.1 in before_low (high + 1) x xs (omega arith) ∙ ap (λ ys. x ∷ ys) (before_all x.step high xs h.1)
 
-pub AllUpTo-push : (j : ℕ) (xs : List Note) (c : Note) → AllUpTo j xs → c.step ≤ j → AllUpTo j (xs ++ c ∷ [])
-AllUpTo-push j [] c h k = (k, tt)
-AllUpTo-push j (x ∷ xs) c h k = (h.0, AllUpTo-push j xs c h.1 k)
+pub AreMarked-push : (low high : ℕ) (xs : List Note) (c : Note) → low ≤ high → c.step ≡ high → AreMarked low high xs → AreMarked low high (xs ++ c ∷ [])
+AreMarked-push low high [] c le e h = ((omega arith, omega arith), tt)
+AreMarked-push low high (x ∷ xs) c le e h = (h.0, AreMarked-push x.step high xs c h.0.1 e h.1)
 
-pub AllUpTo-more : (j : ℕ) (xs : List Note) → AllUpTo j xs → AllUpTo (j + 1) xs
-AllUpTo-more j [] h = tt
-AllUpTo-more j (x ∷ xs) h = let k = h.0 in (omega arith, AllUpTo-more j xs h.1)
+pub AreMarked-more : (low high : ℕ) (xs : List Note) → AreMarked low high xs → AreMarked low (high + 1) xs
+AreMarked-more low high [] h = tt
+AreMarked-more low high (x ∷ xs) h = let k = h.0.1 in ((h.0.0, omega arith), AreMarked-more x.step high xs h.1)
+
+AreMarked-lower : (low low' high : ℕ) (xs : List Note) → low ≤ low' → AreMarked low' high xs → AreMarked low high xs
+AreMarked-lower low low' high [] le h = tt
+AreMarked-lower low low' high (x ∷ xs) le h = let k = h.0.0 in ((omega arith, h.0.1), h.1)
+
+pub AreMarked-since : (low high i : ℕ) (xs : List Note) → AreMarked low high xs → AreMarked low high (since i xs)
+AreMarked-since low high i [] h = tt
+AreMarked-since low high i (x ∷ xs) h = elim (cases_lt x.step i) [
+  | inl l ↦ subst (AreMarked low high) (sym (since_low i x xs l)) (AreMarked-since low high i xs (AreMarked-lower low x.step high xs h.0.0 h.1))
+  | inr g ↦ subst (AreMarked low high) (sym (since_high i x xs g)) h
+]
 
 pub FitsBack-since : (room i : ℕ) (xs : List Note) (b : Body) → FitsBack room xs b → FitsBack room (since i xs) b
 FitsBack-since room i [] b f = tt
@@ -137,7 +148,7 @@ come_noted r t d f fits rises =
       floor = f.floor;
       sound = fits.1;
       fits = FitsBack-push room r.notes c b' (subst (λ (x : Body). FitsBack room r.notes x) (sym again) f.fits) narrow;
-      marked = AllUpTo-push t.steps r.notes c f.marked (let e = f.done in omega arith);
+      marked = AreMarked-push 0 t.steps r.notes c (omega arith) f.done f.marked;
       states = λ i h. ap (state_at r.full.stored) (back i h) ∙ f.states i h;
       loads = λ i h.
           let e : load_back (before i (r.notes ++ c ∷ [])) (body_back (since i (r.notes ++ c ∷ [])) b') ≡ load_back (before i r.notes) (body_back (since i r.notes) b) =
@@ -146,7 +157,14 @@ come_noted r t d f fits rises =
       load =
           let e : load_back (r.notes ++ c ∷ []) b' ≡ load_back r.notes b + weight c.turn b' = load_back-push r.notes c b' ∙ ap (λ (x : Body). load_back r.notes x + weight c.turn b') again in
           let l = f.load in omega arith;
-      counts = λ i h. subst (λ (xs : List Note). length xs ≤ 6 * i) (sym (early i h)) (f.counts i h);
+      each = λ i h.
+          let e : of_step i (r.notes ++ c ∷ []) ≡ of_step i r.notes =
+          ap (before (i + 1)) (since-push i r.notes c (let d = f.done in omega arith)) ∙ before-push (i + 1) (since i r.notes) c (let d = f.done in omega arith) in
+          subst (λ (xs : List Note). length xs ≤ 6) (sym e) (f.each i h);
+      present =
+          let e : length (since t.steps (r.notes ++ c ∷ [])) ≡ length (since t.steps r.notes ++ c ∷ []) =
+          ap length (since-push t.steps r.notes c (let d = f.done in omega arith)) in
+          let l = f.present in omega (arith, length-append (since t.steps r.notes) (c ∷ []));
       count = let l = f.count in omega (arith, length-append r.notes (c ∷ []));
     }
 
@@ -161,7 +179,7 @@ goes_noted r e g xs ys k spare d view full notes fits rises = λ t f.
     rw (full, notes) seen
 
 -- An editor is extended, and no change is made.
-come_extended : (e g : Full) (notes : List Note) (steps : ℕ) (t : Trail) → Extends e g → HasCome e notes steps t → HasCome g notes steps t
+pub come_extended : (e g : Full) (notes : List Note) (steps : ℕ) (t : Trail) → Extends e g → HasCome e notes steps t → HasCome g notes steps t
 come_extended e g notes steps t x f =
     let b : Body = e.body in
     let more = x.room in
@@ -177,7 +195,8 @@ come_extended e g notes steps t x f =
           state_at-same e.stored g.stored b.output past within x.stored ∙ f.states i h;
       loads = f.loads;
       load = f.load;
-      counts = f.counts;
+      each = f.each;
+      present = f.present;
       count = f.count;
     } in
     subst (λ (y : Body). HasCome (record { body = y; stored = g.stored; room = g.room }) notes steps t) (sym x.body) extended
@@ -201,7 +220,8 @@ come_within r t load changes l m f = record {
   states = f.states;
   loads = f.loads;
   load = let x = f.load in omega arith;
-  counts = f.counts;
+  each = f.each;
+  present = let x = f.present in omega arith;
   count = let x = f.count in omega arith;
 }
 
@@ -221,15 +241,15 @@ goes_call r s u l c n k g less few = λ t f. come_within u (noting t l c) (t.loa
 pub come_stepped : (r : Recording) (t : Trail) → Follows r t → t.changes ≤ 6 → t.states (t.steps + 1) ≡ state_of r.full → t.load ≤ t.loads (t.steps + 1)
     → HasCome r.full r.notes (t.steps + 1) (stepped t)
 come_stepped r t f few state load =
-    let none : since (t.steps + 1) r.notes ≡ [] = since_all t.steps r.notes f.marked in
-    let all : before (t.steps + 1) r.notes ≡ r.notes = before_all t.steps r.notes f.marked in
+    let none : since (t.steps + 1) r.notes ≡ [] = since_all 0 t.steps r.notes f.marked in
+    let all : before (t.steps + 1) r.notes ≡ r.notes = before_all 0 t.steps r.notes f.marked in
     let split : (i : ℕ) → i ≤ t.steps + 1 → (i ≤ t.steps) ⊎ (i ≡ t.steps + 1) = λ i h. elim (cases_lt i (t.steps + 1)) [ inl l ↦ inl (omega arith) | inr g ↦ inr (omega arith) ] in
     record {
       done = refl;
       floor = f.floor;
       sound = f.sound;
       fits = f.fits;
-      marked = AllUpTo-more t.steps r.notes f.marked;
+      marked = AreMarked-more 0 t.steps r.notes f.marked;
       states = λ i h. elim (split i h) [
         | inl l ↦ f.states i l
         | inr e ↦ subst (λ (k : ℕ). state_at r.full.stored (body_back (since k r.notes) r.full.body) ≡ t.states k) (sym e)
@@ -243,9 +263,13 @@ come_stepped r t f few state load =
             let l = f.load in omega arith)
       ];
       load = f.load;
-      counts = λ i h. elim (split i h) [
-        | inl l ↦ f.counts i l
-        | inr e ↦ subst (λ (k : ℕ). length (before k r.notes) ≤ 6 * k) (sym e) (let n : length (before (t.steps + 1) r.notes) ≡ length r.notes = ap length all in let m = f.count in omega arith)
+      each = λ i h. elim (cases_lt i t.steps) [
+        | inl l ↦ f.each i l
+        | inr g ↦
+            let here : i ≡ t.steps = omega arith in
+            let these : of_step t.steps r.notes ≡ since t.steps r.notes = before_all 0 t.steps (since t.steps r.notes) (AreMarked-since 0 t.steps t.steps r.notes f.marked) in
+            subst (λ (k : ℕ). length (of_step k r.notes) ≤ 6) (sym here) (let n : length (of_step t.steps r.notes) ≡ length (since t.steps r.notes) = ap length these in let m = f.present in omega arith)
       ];
+      present = let n : length (since (t.steps + 1) r.notes) ≡ 0 = ap length none in omega arith;
       count = let m = f.count in omega arith;
     }

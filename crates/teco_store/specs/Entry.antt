@@ -43,6 +43,10 @@ abbrev pub before : ℕ → List Note → List Note
 before i [] = []
 before i (c ∷ cs) = (if nat_lt c.step i then (c ∷ before i cs) else [])
 
+-- the changes of the step that came after the first `i`
+abbrev pub of_step : ℕ → List Note → List Note
+of_step i cs = before (i + 1) (since i cs)
+
 -- the bytes of both sides of a change
 abbrev pub weight : Turn → Body → ℕ
 weight (Splice at there pointer held) b = there + length held

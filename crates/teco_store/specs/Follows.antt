@@ -1,11 +1,11 @@
 -- What a recorder has noted, against what it has come through.
-use Rattle.std.specs.Prelude.{◌≡◌, ℕ, ◌+◌, ◌-◌, ◌*◌, ◌≤◌, List, [], ◌∷◌, ◌++◌, length, take}
+use Rattle.std.specs.Prelude.{◌≡◌, ℕ, ◌+◌, ◌-◌, ◌*◌, ◌<◌, ◌≤◌, List, [], ◌∷◌, ◌++◌, length, take}
 use Rattle.std.proofs.Common.{subst}
 use Rattle.std.proofs.Math.Nat.{le_trans, le-add_right, add_assoc}
 use Rattle.teco_store.specs.State.{Full, state_at, IsSound}
 use Rattle.teco_store.specs.Trail.{Trail, moved}
 use Rattle.teco_store.specs.Turn.{Turn, Note, full_after, turn_after}
-use Rattle.teco_store.specs.Entry.{body_back, FitsBack, since, before, load_back}
+use Rattle.teco_store.specs.Entry.{body_back, FitsBack, since, before, of_step, load_back}
 
 -- an editor with the changes that were noted, the steps done, and how many more changes can be noted before memory is needed
 pub record Recording : Type 0 where
@@ -14,10 +14,13 @@ pub record Recording : Type 0 where
   pub done : ℕ
   pub spare : ℕ
 
--- each was made with at most `j` steps done
-abbrev pub AllUpTo : ℕ → List Note → Type 0
-AllUpTo j [] = Unit {0}
-AllUpTo j (c ∷ cs) = (c.step ≤ j) × AllUpTo j cs
+-- Each was made with at least `low` and at most `high` steps done, and none with fewer than the one before it.
+abbrev pub AreMarked : ℕ → ℕ → List Note → Type 0
+AreMarked low high [] = Unit {0}
+AreMarked low high (c ∷ cs) = ((low ≤ c.step) × (c.step ≤ high)) × AreMarked c.step high cs
+
+abbrev pub IsInOrder : List Note → Type 0
+IsInOrder notes = (high : ℕ) × AreMarked 0 high notes
 
 -- An editor and its changes, after so many steps, have come through a trail.
 pub record HasCome (full : Full) (notes : List Note) (steps : ℕ) (t : Trail) : Type 0 where
@@ -26,13 +29,14 @@ pub record HasCome (full : Full) (notes : List Note) (steps : ℕ) (t : Trail) :
   pub sound : IsSound full.room (length full.stored) full.body
   -- the changes can be turned back, and that leads to the state after each step
   pub fits : FitsBack full.room notes full.body
-  pub marked : AllUpTo t.steps notes
+  pub marked : AreMarked 0 t.steps notes
   pub states : (i : ℕ) → i ≤ t.steps → state_at full.stored (body_back (since i notes) full.body) ≡ t.states i
   -- the bytes of both sides of the changes of the first steps, and of all of them
   pub loads : (i : ℕ) → i ≤ t.steps → load_back (before i notes) (body_back (since i notes) full.body) ≤ t.loads i
   pub load : load_back notes full.body ≤ t.load
-  -- the changes of the first steps, and all of them
-  pub counts : (i : ℕ) → i ≤ t.steps → length (before i notes) ≤ 6 * i
+  -- the changes of each step, of the present one, and of all together
+  pub each : (i : ℕ) → i < t.steps → length (of_step i notes) ≤ 6
+  pub present : length (since t.steps notes) ≤ t.changes
   pub count : length notes ≤ 6 * t.steps + t.changes
 
 abbrev pub Follows : Recording → Trail → Type 0
@@ -70,7 +74,8 @@ follows_eases r t f = record {
   states = f.states;
   loads = f.loads;
   load = le_trans f.load (le-add_right t.load 0);
-  counts = f.counts;
+  each = f.each;
+  present = le_trans f.present (le-add_right t.changes 6);
   count = subst (λ (n : ℕ). length r.notes ≤ n) (add_assoc (6 * t.steps) t.changes 6) (le_trans f.count (le-add_right (6 * t.steps + t.changes) 6));
 }
 

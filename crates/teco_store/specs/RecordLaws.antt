@@ -1,10 +1,10 @@
 -- What always holds of entries that are turned.
 use Rattle.std.specs.Prelude.{◌≡◌, ℕ, ◌≤◌, List, length}
-use Rattle.teco_store.specs.State.{Body, Full, IsSound, state_of}
-use Rattle.teco_store.specs.Trail.{Trail}
+use Rattle.teco_store.specs.State.{Body, Full, IsSound, Extends, state_of, with_body}
+use Rattle.teco_store.specs.Trail.{Trail, cut_after}
 use Rattle.teco_store.specs.Turn.{Note}
-use Rattle.teco_store.specs.Entry.{body_back, notes_back, body_forth, notes_forth, FitsBack, FitsForth, load_back, held_in}
-use Rattle.teco_store.specs.Follows.{Recording, Follows, Leads}
+use Rattle.teco_store.specs.Entry.{body_back, notes_back, body_forth, notes_forth, FitsBack, FitsForth, before, since, load_back, held_in}
+use Rattle.teco_store.specs.Follows.{Recording, HasCome, Follows, Leads}
 
 -- An entry that was turned back fits forward, and turned forward it gives back the body and itself. The output's end did not rise.
 pub record ComesForthAgain (capacity top : ℕ) (cs : List Note) (b : Body) : Type 0 where
@@ -44,3 +44,15 @@ HoldsAtMostItsLoad = (cs : List Note) (b : Body) → HoldsItsLoad cs b
 abbrev pub LeadsToItsBeginning : Type 0
 LeadsToItsBeginning = (old : Full) (r : Recording) (t : Trail) → IsSound old.room (length old.stored) old.body → t.states 0 ≡ state_of old → t.floor ≡ old.room
     → Follows r t → Leads old r.full r.notes
+
+-- With more capacity, and other bytes beyond the output's end, it is still what a trail leads to.
+abbrev pub ComesSoExtended : Type 0
+ComesSoExtended = (e g : Full) (notes : List Note) (steps : ℕ) (t : Trail) → Extends e g → HasCome e notes steps t → HasCome g notes steps t
+
+-- The changes of the first `n` steps have come through those steps, and lead back to where all of them led.
+pub record IsCutEntry (n : ℕ) (full : Full) (notes : List Note) (t : Trail) : Type 0 where
+  pub come : HasCome (with_body full (body_back (since n notes) full.body)) (before n notes) n (cut_after n t)
+  pub first : body_back (before n notes) (body_back (since n notes) full.body) ≡ body_back notes full.body
+
+abbrev pub ComesSoFarCut : Type 0
+ComesSoFarCut = (n : ℕ) (full : Full) (notes : List Note) (steps : ℕ) (t : Trail) → n ≤ t.steps → HasCome full notes steps t → IsCutEntry n full notes t

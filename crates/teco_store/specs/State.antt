@@ -62,6 +62,10 @@ state_of f = state_at f.stored f.body
 abbrev pub with_stored : Full → List ℕ → ℕ → Full
 with_stored f more room = record f { stored = take f.body.output f.stored ++ more; room = room }
 
+-- an editor with another body
+abbrev pub with_body : Full → Body → Full
+with_body f b = record { body = b; stored = f.stored; room = f.room }
+
 -- the same body, with no less capacity, and with other bytes stored beyond the output's end
 pub record Extends (f g : Full) : Type 0 where
   pub body : g.body ≡ f.body

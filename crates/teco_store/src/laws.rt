@@ -1,5 +1,5 @@
 //! What always holds of changes that are turned.
-ghost use Rattle.teco_store.specs.RecordLaws.{BackThenForth, FitsWithMoreCapacity, ForthThenBack, HoldsAtMostItsLoad, LeadsToItsBeginning};
+ghost use Rattle.teco_store.specs.RecordLaws.{BackThenForth, ComesSoExtended, ComesSoFarCut, FitsWithMoreCapacity, ForthThenBack, HoldsAtMostItsLoad, LeadsToItsBeginning};
 
 /// What entries do when they are turned, and what a recorder leaves. It does nothing: its clauses are laws.
 pub fn record_laws()
@@ -8,4 +8,6 @@ pub fn record_laws()
     ensures more { FitsWithMoreCapacity }
     ensures held { HoldsAtMostItsLoad }
     ensures leads { LeadsToItsBeginning }
+    ensures extended { ComesSoExtended }
+    ensures cut { ComesSoFarCut }
 {}

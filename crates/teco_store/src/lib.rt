@@ -17,4 +17,4 @@ pub use editor::Editor;
 pub use laws::record_laws;
 pub use pages::part;
 pub use recorder::Recorder;
-pub use turning::{apply, apply_all, revert, revert_all};
+pub use turning::{apply, apply_all, revert, revert_all, rewind};

@@ -117,6 +117,7 @@ impl Recorder {
     }
 
     // Puts a value in its place, and notes what stood there.
+    #[inline(always)]
     fn note(&mut self, kind: Kind)
         requires spare { 0 < self.old.spare }
         requires room { HasRoom kind }

@@ -1,6 +1,7 @@
 //! Changes and entries are turned: nothing of it takes memory, or fails.
-ghost use Rattle.std.specs.Prelude.{◌≡◌, ◌≤◌, length};
-ghost use Rattle.teco_store.specs.Entry.{body_back, notes_back, body_forth, notes_forth, FitsBack, FitsForth};
+ghost use Rattle.std.specs.Prelude.{◌≡◌, ◌≤◌, length, take};
+ghost use Rattle.teco_store.specs.Entry.{body_back, notes_back, body_forth, notes_forth, before, since, FitsBack, FitsForth};
+ghost use Rattle.teco_store.specs.Follows.{IsInOrder};
 ghost use Rattle.teco_store.specs.State.{IsSound};
 ghost use Rattle.teco_store.specs.Turn.{full_after, note_after, IsRevertible, IsApplicable};
 
@@ -93,4 +94,33 @@ pub fn apply_all(editor: &mut Editor, entry: &mut Vec<Change>)
 {
     let _shown = editor.shown();
     apply_each(editor, entry);
+}
+
+// Reverts each change that was made after so many steps, the last first, and gives how many come before them.
+fn revert_since(editor: &mut Editor, entry: &mut Vec<Change>, steps: u64) -> usize
+    requires fits { FitsBack editor.old.room entry.old.items editor.old.body }
+    requires order { IsInOrder entry.old.items }
+    ensures editor { editor.new ≡ record editor.old { body = body_back (since steps entry.old.items) editor.old.body } }
+    ensures entry { take result entry.new.items ≡ before steps entry.old.items }
+{
+    let mut kept = entry.len();
+    while kept > 0 {
+        if entry[kept - 1].step() < steps {
+            break;
+        }
+        kept -= 1;
+        revert(editor, &mut entry[kept]);
+    }
+    kept
+}
+
+/// Reverts the changes that were made after so many steps, the last first, and drops them. Takes no memory.
+pub fn rewind(editor: &mut Editor, entry: &mut Vec<Change>, steps: u64)
+    requires fits { FitsBack editor.old.room entry.old.items editor.old.body }
+    requires order { IsInOrder entry.old.items }
+    ensures editor { editor.new ≡ record editor.old { body = body_back (since steps entry.old.items) editor.old.body } }
+    ensures entry { entry.new.items ≡ before steps entry.old.items }
+{
+    let kept = revert_since(editor, entry, steps);
+    entry.truncate(kept);
 }

@@ -16,6 +16,9 @@ use teco_core::{Reg, Value};
 
 impl Editor {
     // Puts a value in its place, and gives what stood there. Takes no memory.
+    //
+    // In line, since a caller's kind is mostly known: then nothing is matched, and no kind goes through memory.
+    #[inline(always)]
     pub(crate) fn put(&mut self, kind: Kind) -> Kind
         requires fits { FitsFull (turn_of kind) self.old }
         requires room { HasRoom kind }

@@ -93,7 +93,11 @@ impl Desk for Recorder {
         Ok(())
     }
 
+    // Where the pointer is already, nothing is noted.
     fn point(&mut self, place: usize) -> Result<(), Refused> {
+        if place == self.editor.pointer() {
+            return Ok(());
+        }
         self.reserve(1)?;
         self.note(Kind::Point(place as u32));
         Ok(())

@@ -1,7 +1,8 @@
 use Rattle.teco_store.proofs.Bounds.{held_back, held_turned}
+use Rattle.teco_store.proofs.Cuts.{comes_so_far}
 use Rattle.teco_store.proofs.Entries.{comes_forth_again, comes_back_again}
 use Rattle.teco_store.proofs.Leading.{leads}
-use Rattle.teco_store.proofs.Recordings.{FitsBack-more}
+use Rattle.teco_store.proofs.Recordings.{FitsBack-more, come_extended}
 use Rattle.teco_store.proofs.laws.record_laws.Goals as goal
 
 pub returns : goal.returns
@@ -11,4 +12,6 @@ returns c = record {
   more = FitsBack-more;
   held = λ cs b. record { now = held_back cs b; turned = held_turned cs b };
   leads = leads;
+  extended = come_extended;
+  cut = comes_so_far;
 }
