@@ -59,6 +59,7 @@ impl Sign {
 
 impl Expression {
     /// The number that it becomes when `value` is given to it.
+    #[inline(always)]
     fn given(self, value: i32) -> Result<i32, Code>
         ensures { result ≡ given self value }
     {

@@ -73,6 +73,7 @@ fn command_from(text: &[u8], at: usize) -> Result<(Modifiers, TokenKind, usize),
 /// What is at a place, after fillers: a token, the end of the text, or a fault.
 ///
 /// The place counts the bytes before it. Of the tokens that the bytes begin with the longest is found. It takes no memory.
+#[inline(always)]
 #[tactic(auto, unfolding(crate::specs::Scan::scan))]
 pub fn token_at(text: &[u8], at: usize) -> Found
     requires { at ≤ length text.now }
