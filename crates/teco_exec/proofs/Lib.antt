@@ -9,6 +9,7 @@ pub mod MachineMeans
 pub mod StringLaws
 pub mod Texts
 pub mod Rows
+pub mod EditRows
 pub mod PageRows
 pub mod SearchRows
 pub mod Composing

@@ -42,8 +42,11 @@ searches :
     × (does "Iabc$0J@S/\u{5}[c,b]/.=$" ≡ says (after_search "abc" 2 "\u{5}[c,b]" true) (keys "2\r\n") None 6 9)
     × (does "Iab$0JS\u{e}a$.=$" ≡ says (after_search "ab" 2 "\u{e}a" true) (keys "2\r\n") None 6 4)
     × (does "0^XIaBc$0JSbC$.=$" ≡ says (record (after_search "aBc" 3 "bC" true) { case_mode = Either }) (keys "3\r\n") None 8 5)
+    × (does "Iab$J:SB$=0^X:SB$=$" ≡ says (record (after_search "ab" 2 "B" true) { case_mode = Either }) (keys "0\r\n-1\r\n") None 8 3)
+    × (does "1^X$" ≡ says (beginning []) [] (Some code.Arg) 2 0)
+    × (does "0^XIab$0JS\u{e}A$.=$" ≡ says (record (after_search "ab" 2 "\u{e}A" true) { case_mode = Either }) (keys "2\r\n") None 8 4)
 unfolding searching
-searches = (refl, refl, refl, refl, refl, refl, refl, refl, refl, refl)
+searches = (refl, refl, refl, refl, refl, refl, refl, refl, refl, refl, refl, refl, refl)
 
 -- Each page that is turned or searched is a step.
 abbrev three_pages : State

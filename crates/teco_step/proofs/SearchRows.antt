@@ -1,11 +1,11 @@
 -- Searches, by computing.
 use Rattle.std.proofs.Common.{◌≡◌, ℕ, ◌+◌, List, [], length, Some, Bool, true, false, pos, negsuc, refl, length-append}
-use Rattle.std.specs.Prelude.{codes}
+use Rattle.std.specs.Prelude.{codes, Err}
 use Prim.Native.String.{String}
 use Rattle.teco_core.specs.declared.code.Code.TheVariants.{Arg, Big, Ice, Isa, Iss, Mrp, Srh}
 use Rattle.teco_core.specs.declared.case_mode.CaseMode.TheVariants.{Either}
 use Rattle.teco_core.specs.declared.limits.TheConstants.{TEXT_LIMIT}
-use Rattle.teco_core.specs.Arguments.{no_arguments, give, taken_from}
+use Rattle.teco_core.specs.Arguments.{Arguments, no_arguments, give, taken_from}
 use Rattle.teco_scan.specs.declared.command.TextCommand.TheVariants.{Search}
 use Rattle.teco_scan.specs.Scan.{Item, text, replace}
 use Rattle.teco_search.specs.Element.{admits, is_in, item_admits}
@@ -13,7 +13,8 @@ use Rattle.teco_search.specs.Occurrence.{backward, chosen, element_end, forward,
 use Rattle.teco_search.specs.Reading.{byte_at, element_at, elements_at, item_at, items_at, listed_at, one_byte_at, read}
 use Rattle.teco_store.specs.State.{State}
 use Rattle.teco_step.specs.Effect.{effect}
-use Rattle.teco_step.specs.Step.{Setting, Step, stop}
+use Rattle.teco_step.specs.Searching.{notes}
+use Rattle.teco_step.specs.Step.{End, Setting, Step, stop}
 use Rattle.teco_step.proofs.Rows.{alone, does, goes, holds, minus, opened, pair, refused, value}
 
 -- all that a search computes with
@@ -118,3 +119,8 @@ replacement_past_the_limit : (bytes : List ℕ) → length bytes ≡ TEXT_LIMIT 
     → does (replace (codes "a") bytes) (holds (codes "a") 0) no_arguments ≡ refused (holds (codes "a") 0) no_arguments Big
 unfolding computing
 replacement_past_the_limit bytes is = rw (length-append bytes [], is) refl
+
+-- A search text past its limit is BIG, found or not: so before a failed search is SRH.
+search_past_the_limit : (bytes : List ℕ) (is_found : Bool) (place : ℕ) (a : Arguments) (end : End) (s : State) → length bytes ≡ TEXT_LIMIT + 1
+    → notes bytes is_found place a end s ≡ Err Big
+search_past_the_limit bytes is_found place a end s is = rw (is, is) refl
