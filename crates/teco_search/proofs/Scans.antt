@@ -1,7 +1,8 @@
 -- Where bytes that pass a test are in a text of two halves, from where they are in each.
-use Rattle.std.proofs.Common.{◌≡◌, ℕ, ◌+◌, ◌-◌, ◌<◌, ◌≤◌, Bool, List, ◌++◌, length, get_or, take, drop, Option, Some, None, refl, sym, ap, subst, ◌∙◌, arith, length-append, length-drop}
-use Rattle.std.proofs.lemmas.List.{take_rest, get_or_append_left, get_or-append_right, get_or-drop}
-use Rattle.memchr.specs.Find.{Nowhere, NoneBefore, Passes, IsFirstByte}
+use Rattle.std.proofs.Common.{◌≡◌, ℕ, ◌+◌, ◌-◌, ◌<◌, ◌≤◌, Bool, List, ◌++◌, length, get_or, take, drop, Option, Some, None, refl, sym, ap, subst, ◌∙◌, arith, ⊎_elim, length-append, length-drop}
+use Rattle.std.proofs.lemmas.Bool.{cases_lt}
+use Rattle.std.proofs.lemmas.List.{take_rest, get_or_append_left, get_or-append_right, get_or-drop, get_or-take, length-take-le}
+use Rattle.memchr.specs.Find.{Nowhere, NoneBefore, Passes, IsFirstByte, IsLast, IsLastByte}
 use Rattle.memchr.proofs.lemmas.FindLemmas.{Nowhere-then}
 
 -- A part of a text, from a place on.
@@ -103,3 +104,63 @@ module _ (test : ℕ → Bool) (before after : List ℕ) where
     where
       from_start : (r : Option ℕ) → IsFirstByte test after r → IsFirstByte test (take (length after - 0) (drop 0 after)) r
       from_start r h = subst (λ ys. IsFirstByte test ys r) (sym (take_rest after 0)) h
+
+-- The last byte before a place.
+module _ (test : ℕ → Bool) (before after : List ℕ) (to : ℕ) where
+  front_is : (k : ℕ) → k < length before → get_or (before ++ after) k 0 ≡ get_or before k 0
+  front_is k inside = get_or_append_left before after 0 k inside
+
+  back_is : (k : ℕ) → length before ≤ k → get_or (before ++ after) k 0 ≡ get_or after (k - length before) 0
+  back_is k past = get_or-append_right before after (length before) k 0 refl past
+
+  pub last_in_front : (r : Option ℕ) → to ≤ length before → IsLastByte test (take to before) r → IsLast (Passes test (before ++ after)) 0 to r
+  last_in_front None within none =
+      let long = length-take-le to before within in
+      λ k low high passes. none k low (omega arith) (ap test (get_or-take to before k 0 high ∙ sym (front_is k (omega arith))) ∙ passes)
+  last_in_front (Some s) within found =
+      let long = length-take-le to before within in
+      let inside : s < to = omega (arith, found.0.high) in (
+        record {
+          low = omega arith;
+          high = inside;
+          after = λ k low high passes. found.0.after k low (omega arith) (ap test (get_or-take to before k 0 high ∙ sym (front_is k (omega arith))) ∙ passes);
+        },
+        ap test (front_is s (omega arith) ∙ sym (get_or-take to before s 0 inside)) ∙ found.1,
+      )
+
+  module _ (past : length before < to) (within : to ≤ length (before ++ after)) where
+    late : (k : ℕ) → length before ≤ k → k < to → Passes test (before ++ after) k → Passes test (take (to - length before) after) (k - length before)
+    late k low high passes = ap test (get_or-take (to - length before) after (k - length before) 0 (omega arith) ∙ sym (back_is k low)) ∙ passes
+
+    long : length (take (to - length before) after) ≡ to - length before
+    long = let whole = length-append before after in length-take-le (to - length before) after (omega arith)
+
+    pub last_in_back : (p : ℕ) → IsLastByte test (take (to - length before) after) (Some p) → IsLast (Passes test (before ++ after)) 0 to (Some (length before + p))
+    last_in_back p found =
+        let inside : p < to - length before = omega (arith, found.0.high, long) in
+        let along : length before + p - length before ≡ p = omega arith in (
+          record {
+            low = omega arith;
+            high = omega arith;
+            after = λ k low high passes. found.0.after (k - length before) (omega arith) (omega (arith, long)) (late k (omega arith) high passes);
+          },
+          ap test (back_is (length before + p) (omega arith) ∙ ap (λ i. get_or after i 0) along ∙ sym (get_or-take (to - length before) after p 0 inside)) ∙ found.1,
+        )
+
+    none_late : IsLastByte test (take (to - length before) after) None → (k : ℕ) → length before ≤ k → k < to → Passes test (before ++ after) k → ⊥
+    none_late none k low high passes = none (k - length before) (omega arith) (omega (arith, long)) (late k low high passes)
+
+    pub last_before_back : (r : Option ℕ) → IsLastByte test (take (to - length before) after) None → IsLastByte test before r → IsLast (Passes test (before ++ after)) 0 to r
+    last_before_back None none early = λ k low high passes. ⊎_elim
+        (λ front. early k low front (ap test (sym (front_is k front)) ∙ passes))
+        (λ back. none_late none k back high passes) (cases_lt k (length before))
+    last_before_back (Some s) none early = (
+      record {
+        low = omega arith;
+        high = omega (arith, early.0.high);
+        after = λ k low high passes. ⊎_elim
+            (λ front. early.0.after k low front (ap test (sym (front_is k front)) ∙ passes))
+            (λ back. none_late none k back high passes) (cases_lt k (length before));
+      },
+      ap test (front_is s early.0.high) ∙ early.1,
+    )

@@ -30,10 +30,14 @@ abbrev pub shown_item : Item → List ℕ
 shown_item (item.Byte b) = shown_byte b
 shown_item (item.Class c) = shown_class c
 
+-- an item of a list after the first
+abbrev pub shown_other : Item → List ℕ
+shown_other j = codes "," ++ shown_item j
+
 -- items with a comma before each but the first
 abbrev pub shown_items : List Item → List ℕ
 shown_items [] = []
-shown_items (i ∷ is) = shown_item i ++ flat_map (λ j. codes "," ++ shown_item j) is
+shown_items (i ∷ is) = shown_item i ++ flat_map shown_other is
 
 -- a list of items is between ^E[ and ]
 abbrev pub shown_one : OneByte → List ℕ

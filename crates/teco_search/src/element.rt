@@ -1,10 +1,11 @@
 //! The elements of a search text, and which bytes they admit.
 ghost use Rattle.std.specs.Prelude.{◌≡◌, ◌↔◌, IsTrue, Some};
-ghost use Rattle.std.specs.List.{list_any};
+ghost use Rattle.std.specs.Fmt.{WritesOnOk};
+ghost use Rattle.std.specs.List.{flat_map, list_any};
 ghost use Rattle.teco_search.specs.Anchor.{begins};
 ghost use Rattle.teco_search.specs.Element.{is_blank, is_in, item_admits, admits};
 ghost use Rattle.teco_search.specs.Literal.{is_exact};
-ghost use Rattle.teco_search.specs.Shown.{shown_byte, shown_class, shown_element, shown_item, shown_items, shown_one};
+ghost use Rattle.teco_search.specs.Shown.{shown_byte, shown_class, shown_element, shown_item, shown_items, shown_one, shown_other};
 
 use std::fmt;
 use std::marker::Model;
@@ -221,17 +222,27 @@ impl fmt::Display for Item {
     }
 }
 
+/// Shows the items of a list that come after its first one.
+fn show_others<W: fmt::Write>(others: &[Item], f: &mut fmt::Formatter<W>) -> fmt::Result
+    ensures { WritesOnOk W.write_str_gives f.old result (flat_map shown_other others.now) f.new }
+{
+    'others: for item in others {
+        write!(f, ",{item}")?;
+    }
+    Ok(())
+}
+
 impl fmt::Display for Items {
     ghost output = { λ items. Some (shown_items items) };
 
     fn fmt<W: fmt::Write>(&self, f: &mut fmt::Formatter<W>) -> fmt::Result {
-        if let [first, others @ ..] = self.items.as_slice() {
-            write!(f, "{first}")?;
-            for item in others {
-                write!(f, ",{item}")?;
+        match self.items.as_slice() {
+            [] => Ok(()),
+            [first, others @ ..] => {
+                write!(f, "{first}")?;
+                show_others(others, f)
             }
         }
-        Ok(())
     }
 }
 

@@ -82,12 +82,13 @@ impl<'t> Joined<'t> {
         ensures { IsLast (Passes (contains set.now) self.now) 0 to result }
     {
         let cut = self.before.len();
-        if to > cut {
-            if let Some(place) = set.last_in(&self.after[..to - cut]) {
-                return Some(cut + place);
-            }
+        if to <= cut {
+            return set.last_in(&self.before[..to]);
         }
-        set.last_in(&self.before[..to.min(cut)])
+        if let Some(place) = set.last_in(&self.after[..to - cut]) {
+            return Some(cut + place);
+        }
+        set.last_in(self.before)
     }
 
     /// Whether a place has these bytes.
