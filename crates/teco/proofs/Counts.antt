@@ -1,10 +1,10 @@
--- Lemmas on texts that are digits and a brace.
+-- Lemmas on texts that are digits and a brace or a tilde.
 use Rattle.std.proofs.Common.{◌≡◌, ℕ, ◌+◌, ◌-◌, ◌*◌, ◌<◌, ◌≤◌, List, [], ◌∷◌, ◌++◌, length, take, drop, get_or, true, leb, refl, ap, ◌∙◌, arith}
 use Rattle.std.proofs.lemmas.Bool.Decides.{nat_tests}
 use Rattle.std.proofs.lemmas.List.{at_drop_more, drop_all, get_or_at, take_at, length_push}
 use Rattle.std.proofs.lemmas.List.Sums.{AllPass-from_list_all}
 use Rattle.std.specs.List.{list_all}
-use Rattle.teco.specs.Stream.{asked_by, undos_or_redos, undos_or_redos_in, times}
+use Rattle.teco.specs.Stream.{asked_by, history_asked, history_asked_in}
 use Rattle.teco_core.specs.Ascii.{is_digit}
 use Rattle.teco_core.specs.Number.{digits_value}
 
@@ -24,19 +24,15 @@ pub digits_value-all : (n : ℕ) (ds : List ℕ) (i : ℕ) → length ds ≤ i �
 unfolding digits_value
 digits_value-all n ds i l = ap (digits_value n) (drop_all i ds l)
 
-pub times-some : (ds : List ℕ) → 0 < length ds → times ds ≡ digits_value 0 ds
-times-some [] l = absurd (omega arith)
-times-some (d ∷ ds) l = refl
-
 -- bytes that end in this one
-pub undos_or_redos-push : (ds : List ℕ) (b : ℕ) → undos_or_redos (ds ++ b ∷ []) ≡ undos_or_redos_in ds b
-undos_or_redos-push ds b =
+pub history_asked-push : (ds : List ℕ) (b : ℕ) → history_asked (ds ++ b ∷ []) ≡ history_asked_in ds b
+history_asked-push ds b =
     let last : length (ds ++ b ∷ []) - 1 ≡ length ds = omega (arith, length_push ds b) in
-    ap (λ n. undos_or_redos_in (take n (ds ++ b ∷ [])) (get_or (ds ++ b ∷ []) n 0)) last
-    ∙ ap (λ l. undos_or_redos_in l (get_or (ds ++ b ∷ []) (length ds) 0)) (take_at ds (b ∷ []) (length ds) refl)
-    ∙ ap (undos_or_redos_in ds) (get_or_at ds b [] 0 (length ds) refl)
+    ap (λ n. history_asked_in (take n (ds ++ b ∷ [])) (get_or (ds ++ b ∷ []) n 0)) last
+    ∙ ap (λ l. history_asked_in l (get_or (ds ++ b ∷ []) (length ds) 0)) (take_at ds (b ∷ []) (length ds) refl)
+    ∙ ap (history_asked_in ds) (get_or_at ds b [] 0 (length ds) refl)
 
-pub undos_or_redos-digits : (bs ds : List ℕ) (b : ℕ) → bs ≡ ds ++ b ∷ [] → length ds ≤ 9 → list_all is_digit ds ≡ true → undos_or_redos bs ≡ asked_by b (times ds)
-undos_or_redos-digits bs ds b e few digits =
+pub history_asked-digits : (bs ds : List ℕ) (b : ℕ) → bs ≡ ds ++ b ∷ [] → length ds ≤ 9 → list_all is_digit ds ≡ true → history_asked bs ≡ asked_by b ds
+history_asked-digits bs ds b e few digits =
     let few_test : leb (length ds) 9 ≡ true = grind (arith, nat_tests) in
-    ap undos_or_redos e ∙ undos_or_redos-push ds b ∙ rw (few_test, digits) refl
+    ap history_asked e ∙ history_asked-push ds b ∙ rw (few_test, digits) refl

@@ -6,17 +6,17 @@ use Rattle.teco_core.specs.declared.code.Code.{Code}
 use Rattle.teco_core.specs.declared.code.Code.TheVariants.{Tty}
 use Rattle.teco_session.specs.Answers.{answer_code, is_refused}
 use Rattle.teco_session.specs.History.{History, present}
-use Rattle.teco_session.specs.Step.{Step, UndoStep, RedoStep, Reply, is_terminal_failure}
+use Rattle.teco_session.specs.Step.{Step, UndoStep, RedoStep, RewindStep, Reply, is_terminal_failure}
 use Rattle.teco_session.specs.declared.request.Answer.{Answer}
-use Rattle.teco_session.specs.declared.request.Answer.TheVariants.{Ended, NotBegun, AfterExit, Undone, NothingToUndo, Redone, NothingToRedo}
+use Rattle.teco_session.specs.declared.request.Answer.TheVariants.{Ended, NotBegun, AfterExit, Undone, NothingToUndo, Redone, NothingToRedo, Rewound}
 use Rattle.teco_session.specs.declared.request.Request.{Request}
 use Rattle.teco_session.specs.declared.request.Request.TheVariants as request
-use Rattle.teco.specs.Exchange.{Exchange, MovesCursor, Repeats, exchange_shown, exits, is_exit, is_run}
+use Rattle.teco.specs.Exchange.{Exchange, MovesInHistory, Repeats, exchange_shown, exits, is_exit, is_run}
 use Rattle.teco.specs.Message.{lines_of, message, replies_shown, star}
 use Rattle.teco.specs.Stream.Asks.{Run}
 use Rattle.teco.proofs.Showing.{some-left, some-right}
 
--- An undo or a redo types nothing; it has a message only where it is refused.
+-- An undo, a redo or a rewind types nothing; it has a message only where it is refused.
 pub record IsQuiet (answer : Answer) (typed : List ℕ) : Type 0 where
   pub typed_none : typed ≡ []
   pub well : is_terminal_failure answer ≡ false
@@ -31,6 +31,7 @@ undo_quiet old NotBegun typed new h = absurd h
 undo_quiet old AfterExit typed new h = absurd h
 undo_quiet old Redone typed new h = absurd h
 undo_quiet old NothingToRedo typed new h = absurd h
+undo_quiet old Rewound typed new h = absurd h
 
 redo_quiet : (old : History) (answer : Answer) (typed : List ℕ) (new : History) → RedoStep old answer typed new → IsQuiet answer typed
 unfolding message
@@ -41,11 +42,24 @@ redo_quiet old NotBegun typed new h = absurd h
 redo_quiet old AfterExit typed new h = absurd h
 redo_quiet old Undone typed new h = absurd h
 redo_quiet old NothingToUndo typed new h = absurd h
+redo_quiet old Rewound typed new h = absurd h
 
-pub request_quiet : (limit : ℕ) (old new : History) (request : Request) (reply : Reply) → MovesCursor request → Step limit old request reply new → IsQuiet reply.answer reply.typed
+rewind_quiet : (n : ℕ) (old : History) (answer : Answer) (typed : List ℕ) (new : History) → RewindStep n old answer typed new → IsQuiet answer typed
+unfolding message
+rewind_quiet n old Rewound typed new h = record { typed_none = h.1; well = refl; silent = λ e. refl }
+rewind_quiet n old NothingToUndo typed new h = record { typed_none = h.1; well = refl; silent = λ e. absurd (true≢false e) }
+rewind_quiet n old (Ended outcome) typed new h = absurd h
+rewind_quiet n old NotBegun typed new h = absurd h
+rewind_quiet n old AfterExit typed new h = absurd h
+rewind_quiet n old Undone typed new h = absurd h
+rewind_quiet n old Redone typed new h = absurd h
+rewind_quiet n old NothingToRedo typed new h = absurd h
+
+pub request_quiet : (limit : ℕ) (old new : History) (request : Request) (reply : Reply) → MovesInHistory request → Step limit old request reply new → IsQuiet reply.answer reply.typed
 request_quiet limit old new (request.Run text) reply m s = absurd m
 request_quiet limit old new request.Undo reply m s = undo_quiet old reply.answer reply.typed new s
 request_quiet limit old new request.Redo reply m s = redo_quiet old reply.answer reply.typed new s
+request_quiet limit old new (request.Rewind n) reply m s = rewind_quiet n old reply.answer reply.typed new s
 
 -- one request that isn't refused, and then the others
 pub Repeats-on : (limit : ℕ) (request : Request) (n : ℕ) (old mid new : History) (reply : Reply) (rest : List Reply) → Step limit old request reply mid → is_refused reply.answer ≡ false
@@ -90,6 +104,7 @@ failure-some Undone e = absurd (true≢false (sym e))
 failure-some NothingToUndo e = absurd (true≢false (sym e))
 failure-some Redone e = absurd (true≢false (sym e))
 failure-some NothingToRedo e = absurd (true≢false (sym e))
+failure-some Rewound e = absurd (true≢false (sym e))
 
 -- a run with a message was no exit
 pub message-no_exit : (text : List ℕ) (old new : History) (answer : Answer) → message answer ≢ []

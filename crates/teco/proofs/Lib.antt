@@ -8,3 +8,4 @@ pub mod Texts
 pub mod CommandLines
 pub mod Disks
 mod CommandRows
+mod StreamRows

@@ -2,7 +2,7 @@
 use Rattle.std.specs.Prelude.{◌≡◌, ◌≤◌, ℕ, ◌+◌, List, [], ◌∷◌, ◌++◌, length, take, drop, Option, Some, None}
 use Rattle.teco_core.specs.declared.ascii.TheConstants.{ESC}
 use Rattle.teco.specs.Stream.{Asks, texts_of, IsText, asks_of, requests}
-use Rattle.teco.specs.Stream.Asks.{Run, Undo, Redo}
+use Rattle.teco.specs.Stream.Asks.{Run, Undo, Redo, Rewind}
 use Rattle.teco.specs.declared.splitter.Asked.{Asked}
 use Rattle.teco.specs.declared.splitter.Asked.TheVariants as asked
 
@@ -10,6 +10,7 @@ abbrev pub value_of : Asked → Asks
 value_of (asked.Run text) = Run text.items
 value_of (asked.Undo n) = Undo n
 value_of (asked.Redo n) = Redo n
+value_of (asked.Rewind n) = Rewind n
 
 -- From the held bytes the text up to the leftmost pair is cut, and the pair is gone; or none, and then no pair is held.
 abbrev pub Cuts : List ℕ → Option Asked → List ℕ → Type 0

@@ -8,14 +8,15 @@ use Rattle.teco_session.specs.Step.{Step, RunStep, Reply}
 use Rattle.teco_session.specs.declared.request.Request.{Request}
 use Rattle.teco_session.specs.declared.request.Request.TheVariants as request
 use Rattle.teco.specs.Stream.{Asks}
-use Rattle.teco.specs.Stream.Asks.{Run, Undo, Redo}
+use Rattle.teco.specs.Stream.Asks.{Run, Undo, Redo, Rewind}
 use Rattle.teco.specs.Message.{replies_shown, star}
 
--- An undo and a redo move the cursor of the history; a run does not.
-abbrev pub MovesCursor : Request → Type 0
-MovesCursor (request.Run text) = ⊥
-MovesCursor request.Undo = Unit {0}
-MovesCursor request.Redo = Unit {0}
+-- An undo, a redo and a rewind go to another place of the history; a run does not.
+abbrev pub MovesInHistory : Request → Type 0
+MovesInHistory (request.Run text) = ⊥
+MovesInHistory request.Undo = Unit {0}
+MovesInHistory request.Redo = Unit {0}
+MovesInHistory (request.Rewind n) = Unit {0}
 
 -- The same request so many times, one after another; after the first that is refused the rest are dropped.
 abbrev pub Repeats : ℕ → Request → ℕ → History → List Reply → History → Type 0
@@ -29,6 +30,7 @@ abbrev pub Does : ℕ → Asks → History → List Reply → History → Type 0
 Does limit (Run text) old replies new = (reply : Reply) × (replies ≡ reply ∷ []) × RunStep limit old text reply.answer reply.typed new
 Does limit (Undo n) old replies new = Repeats limit request.Undo n old replies new
 Does limit (Redo n) old replies new = Repeats limit request.Redo n old replies new
+Does limit (Rewind n) old replies new = Repeats limit (request.Rewind n) 1 old replies new
 
 -- an exchange: what a text asks, the history before, the replies, and the history after
 pub record Exchange : Type 0 where
@@ -41,8 +43,9 @@ abbrev pub is_run : Asks → Bool
 is_run (Run text) = true
 is_run (Undo n) = false
 is_run (Redo n) = false
+is_run (Rewind n) = false
 
--- A run made the session done: that is an exit, and ends the serving. A redo is none.
+-- A run made the session done: that is an exit, and ends the serving. A redo or a rewind is none.
 abbrev pub is_exit : Asks → History → History → Bool
 is_exit asked before after = is_run asked && (not (present before).is_done && (present after).is_done)
 

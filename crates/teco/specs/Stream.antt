@@ -24,11 +24,12 @@ pub record IsText (text : List ℕ) : Type 0 where
   pub ends : ends_in_escape text ≡ true
   pub no_pair : texts_of text ≡ []
 
--- what a text asks: to be run, or so many undos or redos
+-- what a text asks: to be run, so many undos or redos, or a rewind to a step
 pub data Asks : Type 0 where
   Run : List ℕ → Asks
   Undo : ℕ → Asks
   Redo : ℕ → Asks
+  Rewind : ℕ → Asks
 
 abbrev pub without_fillers_before : List ℕ → List ℕ
 without_fillers_before bs = drop (prefix_len is_filler bs) bs
@@ -44,25 +45,26 @@ abbrev pub times : List ℕ → ℕ
 times [] = 1
 times (d ∷ ds) = digits_value 0 (d ∷ ds)
 
--- { asks undos, } asks redos
-abbrev pub asked_by : ℕ → ℕ → Option Asks
-asked_by brace n = if brace == 123 then Some (Undo n) else if brace == 125 then Some (Redo n) else None
+-- { asks undos, } asks redos, and ~ a rewind to the step that the digits say, 0 without digits
+abbrev pub asked_by : ℕ → List ℕ → Option Asks
+asked_by last digits =
+    if last == 123 then Some (Undo (times digits)) else if last == 125 then Some (Redo (times digits)) else if last == 126 then Some (Rewind (digits_value 0 digits)) else None
 
--- at most 9 digits before the brace
-abbrev pub undos_or_redos_in : List ℕ → ℕ → Option Asks
-undos_or_redos_in digits brace = if nat_le (length digits) 9 && list_all is_digit digits then asked_by brace (times digits) else None
+-- at most 9 digits before it
+abbrev pub history_asked_in : List ℕ → ℕ → Option Asks
+history_asked_in digits last = if nat_le (length digits) 9 && list_all is_digit digits then asked_by last digits else None
 
--- what the bytes ask, if they are a brace after at most 9 digits and nothing else
-abbrev pub undos_or_redos : List ℕ → Option Asks
-undos_or_redos bytes = let last = length bytes - 1 in undos_or_redos_in (take last bytes) (slice_index bytes last)
+-- what the bytes ask, if they are one of the three after at most 9 digits and nothing else
+abbrev pub history_asked : List ℕ → Option Asks
+history_asked bytes = let last = length bytes - 1 in history_asked_in (take last bytes) (slice_index bytes last)
 
 abbrev pub or_run : List ℕ → Option Asks → Asks
 or_run text None = Run text
 or_run text (Some asks) = asks
 
--- A text asks undos or redos where it is digits and a brace, without its ESC and without the fillers at either end; else it asks to be run, as it is.
+-- A text asks undos, redos or a rewind where it is digits and a brace or a tilde, without its ESC and without the fillers at either end; else it asks to be run, as it is.
 abbrev pub asks_of : List ℕ → Asks
-asks_of text = or_run text (undos_or_redos (without_fillers (take (length text - 1) text)))
+asks_of text = or_run text (history_asked (without_fillers (take (length text - 1) text)))
 
 -- what a stream asks
 abbrev pub requests : List ℕ → List Asks

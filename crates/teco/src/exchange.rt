@@ -1,7 +1,7 @@
 //! One text of the stream: what it asks is done, and the answers are shown.
 ghost use Rattle.std.specs.Prelude.{◌≡◌, ◌≢◌, ℕ, List, [], ◌&&◌, not, true, false, OnErr};
 ghost use Rattle.teco.specs.Cut.{value_of};
-ghost use Rattle.teco.specs.Exchange.{Does, Exchange, MovesCursor, Repeats, is_exit, is_run};
+ghost use Rattle.teco.specs.Exchange.{Does, Exchange, MovesInHistory, Repeats, is_exit, is_run};
 ghost use Rattle.teco.specs.Held.{ExchangeEnds, IsExchange};
 ghost use Rattle.teco.specs.Message.{code_line, message, replies_shown, star};
 ghost use Rattle.teco.specs.Stream.Asks.{Run};
@@ -44,7 +44,7 @@ pub fn show_prompt<T: Terminal>(prompt: bool, term: &mut T) -> Result<(), Termin
     if prompt { term.put(b"*") } else { Ok(()) }
 }
 
-/// Asks for an undo or a redo `n` times. It stops after the first that is refused, and shows its message.
+/// Asks for an undo, a redo or a rewind `n` times. It stops after the first that is refused, and shows its message.
 fn repeat<T: Terminal>(
     request: &Request,
     n: u32,
@@ -52,7 +52,7 @@ fn repeat<T: Terminal>(
     limit: u64,
     term: &mut T,
 ) -> Result<(), TerminalFault>
-    requires { MovesCursor request.now }
+    requires { MovesInHistory request.now }
     ensures { (replies : List Reply) × Repeats limit request.now n (history_of session.old) replies (history_of session.new)
         × Puts (T.screen term.old) (T.screen term.new) (replies_shown replies) result
         × OnErr result (replies_shown replies ≢ []) }
@@ -102,6 +102,7 @@ fn do_asked<T: Terminal>(
         Asked::Run(text) => run_text(text.as_slice(), session, limit, term),
         Asked::Undo(n) => repeat(&Request::Undo, *n, session, limit, term),
         Asked::Redo(n) => repeat(&Request::Redo, *n, session, limit, term),
+        Asked::Rewind(n) => repeat(&Request::Rewind(u64::from(*n)), 1, session, limit, term),
     }
 }
 

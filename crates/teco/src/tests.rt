@@ -18,6 +18,7 @@ mod limits;
 mod modifiers;
 mod page_turns;
 mod patterns;
+mod random;
 mod records;
 mod requests;
 mod steps;

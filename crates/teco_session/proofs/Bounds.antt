@@ -31,8 +31,9 @@ unfolding onto AreSmallFrom
 small_back held room st [] ys b ns f s = s
 small_back held room st (x ∷ xs) ys b ns f s =
     let h = (held x.changes b).now in
-    let l = f.0.1.load in
-    small_back held room st xs (x ∷ ys) (body_back x.changes b) (noted_as x (state_at st b) ∷ ns) f.1 (record { changes = f.0.1.changes; held = omega arith }, s)
+    let l = f.0.load in
+    let count = f.0.count in
+    small_back held room st xs (x ∷ ys) (body_back x.changes b) (noted_as x (state_at st b) ∷ ns) f.1 (record { changes = omega arith; held = omega arith }, s)
 
 length-notes_forth : (cs : List Change) (b : Body) → length (notes_forth cs b) ≡ length cs
 length-notes_forth [] b = refl
@@ -46,7 +47,7 @@ small_forth law held room st (x ∷ xs) b sound f =
     let again = law room (length st) x.changes b f.0.0 sound in
     let turned = notes_forth x.changes b in let after = body_forth x.changes b in
     let n = length-notes_forth x.changes b in
-    let count = f.0.1.changes in
+    let count = f.0.1.count in
     let l = subst (λ (z : Body). load_back turned after ≤ (string_meaning (state_at st z) x.text x.steps).load) again.body f.0.1.load in
     let h = subst (λ (cs : List Change). held_in cs ≤ load_back turned after) again.notes (held turned after).turned in
     (record { changes = omega arith; held = omega arith }, small_forth law held room st xs after again.sound f.1)

@@ -3,13 +3,12 @@ use Rattle.std.proofs.Common.{◌≡◌, ℕ, ◌≤◌, List, length, refl, sym
 use Rattle.teco_store.specs.State.{State, Full, IsSound, state_at, state_of}
 use Rattle.teco_store.specs.Trail.{Trail}
 use Rattle.teco_store.specs.Turn.{Note as Change}
-use Rattle.teco_store.specs.Entry.{body_back, load_back}
-use Rattle.teco_store.specs.Follows.{Recording, Follows, Leads}
+use Rattle.teco_store.specs.Entry.{body_back}
+use Rattle.teco_store.specs.Follows.{Recording, HasCome, Follows, Leads}
 use Rattle.teco_store.specs.RecordLaws.{LeadsToItsBeginning}
 use Rattle.teco_exec.specs.Laws.{ZeroLimitChangesNothing}
 use Rattle.teco_exec.specs.Runs.{trail_of}
-use Rattle.teco_exec.specs.StringMeaning.{string_meaning}
-use Rattle.teco_session.specs.Kept.{KeptString, IsWithinLoad}
+use Rattle.teco_session.specs.Kept.{KeptString, HasRun}
 
 -- a string that was run, as it is kept
 abbrev pub kept_run : (text : List ℕ) (steps : ℕ) (changes : List Change) → KeptString
@@ -18,7 +17,7 @@ kept_run text steps changes = record { text = text; steps = steps; changes = cha
 -- what a run on a recorder has left
 pub record RunLeft (old new : Full) (text : List ℕ) (k : ℕ) (changes : List Change) : Type 0 where
   pub leads : Leads old new changes
-  pub load : IsWithinLoad new.stored (kept_run text k changes) new.body
+  pub run : HasRun new (kept_run text k changes)
 
 -- where the changes lead back to
 back_to : (old new : Full) (changes : List Change) → Leads old new changes → state_at new.stored (body_back changes new.body) ≡ state_of old
@@ -27,16 +26,13 @@ back_to old new changes l =
     ∙ ap (λ (bytes : List ℕ). let s : State = record (state_of old) { output = bytes } in s) l.stored
 
 followed : LeadsToItsBeginning → ZeroLimitChangesNothing → (old : Full) (r : Recording) (text : List ℕ) (k : ℕ) → IsSound old.room (length old.stored) old.body
-    → Follows r (trail_of (state_of old) text old.room k) → RunLeft old r.full text k r.notes
-followed law zero old r text k sound f =
+    → Follows r (trail_of (state_of old) text old.room k) → Follows r (trail_of (state_of old) text 0 k) → RunLeft old r.full text k r.notes
+followed law zero old r text k sound f low =
     let l = law old r (trail_of (state_of old) text old.room k) sound (zero (state_of old) text).state refl f in
-    let count = f.count in
     record {
       leads = l;
-      load = record {
-        changes = omega arith;
-        load = subst (λ (s : State). load_back r.notes r.full.body ≤ (string_meaning s text k).load) (sym (back_to old r.full r.notes l)) f.load;
-      };
+      run = subst (λ (s : State). HasCome r.full r.notes k (trail_of s text 0 k)) (sym (back_to old r.full r.notes l))
+          (subst (λ (n : ℕ). HasCome r.full r.notes n (trail_of (state_of old) text 0 k)) low.done low);
     }
 
 pub run_left : LeadsToItsBeginning → ZeroLimitChangesNothing → (old from new : Full) (r0 r : Recording) (text : List ℕ) (k : ℕ) (changes : List Change) → IsSound old.room (length old.stored) old.body
@@ -46,9 +42,10 @@ pub run_left : LeadsToItsBeginning → ZeroLimitChangesNothing → (old from new
     → new ≡ r.full → changes ≡ r.notes → RunLeft old new text k changes
 run_left law zero old from new r0 r text k changes sound ef er begins run en em =
     let same : r0.full ≡ old = er ∙ ef in
-    let first : Follows r0 (trail_of (state_of old) text old.room 0) =
-    begins (trail_of (state_of old) text old.room 0) refl ((zero (state_of old) text).state ∙ ap state_of (sym ef)) (let e : old.room ≡ from.room = ap (λ (f : Full). f.room) (sym ef) in omega arith) in
-    let last : Follows r (trail_of (state_of old) text old.room k) =
-    subst (λ (f : Full). Follows r0 (trail_of (state_of f) text old.room 0) → Follows r (trail_of (state_of f) text old.room k)) same (run old.room) first in
-    let l : RunLeft old r.full text k r.notes = followed law zero old r text k sound last in
+    let last : (floor : ℕ) → floor ≤ old.room → Follows r (trail_of (state_of old) text floor k) =
+    λ floor low.
+    let first : Follows r0 (trail_of (state_of old) text floor 0) =
+    begins (trail_of (state_of old) text floor 0) refl ((zero (state_of old) text).state ∙ ap state_of (sym ef)) (let e : old.room ≡ from.room = ap (λ (f : Full). f.room) (sym ef) in omega arith) in
+    subst (λ (f : Full). Follows r0 (trail_of (state_of f) text floor 0) → Follows r (trail_of (state_of f) text floor k)) same (run floor) first in
+    let l : RunLeft old r.full text k r.notes = followed law zero old r text k sound (last old.room (omega arith)) (last 0 (omega arith)) in
     subst (λ (cs : List Change). RunLeft old new text k cs) (sym em) (subst (λ (f : Full). RunLeft old f text k r.notes) (sym en) l)

@@ -1,13 +1,14 @@
 -- Sessions: a string is run.
-use Rattle.std.proofs.Common.{◌≡◌, ℕ, ◌+◌, ◌≤◌, List, [], ◌∷◌, ◌++◌, length, take, reverse, refl, sym, ◌∙◌, ap, subst, arith, append_assoc, length-append}
-use Rattle.std.proofs.lemmas.List.{reverse-append, length-reverse, length-take-le, drop_all, take_all, take_at, take-take}
-use Rattle.teco_store.specs.State.{State, Body, IsSound, state_at, state_of}
-use Rattle.teco_store.specs.Entry.{body_back, load_back}
-use Rattle.teco_store.specs.Follows.{Leads}
-use Rattle.teco_store.specs.RecordLaws.{BackThenForth, FitsWithMoreCapacity}
+use Rattle.std.proofs.Common.{◌≡◌, ℕ, ◌+◌, ◌≤◌, List, [], ◌∷◌, ◌++◌, length, take, drop, reverse, refl, sym, ◌∙◌, ap, subst, arith, append_assoc, length-append}
+use Rattle.std.proofs.lemmas.List.{reverse-append, length-reverse, length-take-le, drop_all, take_all, take_at, take-take, take-append-drop}
+use Rattle.teco_store.specs.State.{State, Body, IsSound, Extends, state_at, state_of}
+use Rattle.teco_store.specs.Entry.{body_back}
+use Rattle.teco_store.specs.Follows.{HasCome, Leads}
+use Rattle.teco_store.specs.RecordLaws.{BackThenForth, ComesSoExtended}
+use Rattle.teco_exec.specs.Runs.{trail_of}
 use Rattle.teco_exec.specs.StringMeaning.{string_meaning}
 use Rattle.teco_session.specs.History.{History, NotedString, IsHistory, noted}
-use Rattle.teco_session.specs.Kept.{KeptString, KeptSession, done_strings, undone_strings, noted_as, first_body, done_notes, undone_notes, history_of, IsWithinLoad, LeadBack, LeadForth, IsSession}
+use Rattle.teco_session.specs.Kept.{KeptString, KeptSession, done_strings, undone_strings, noted_as, first_body, done_notes, undone_notes, history_of, HasRun, editor_at, LeadBack, LeadForth, IsSession}
 use Rattle.teco_session.proofs.Histories.{IsHistory-noted}
 use Rattle.teco_session.proofs.Turning.{history_is, length-done_notes, present_is}
 
@@ -23,21 +24,37 @@ record Stays (room : ℕ) (st st' : List ℕ) (xs : List KeptString) (b : Body) 
   pub notes : done_notes st' xs b ns ≡ done_notes st xs b ns
   pub first : state_at st' (first_body xs b) ≡ state_at st (first_body xs b)
 
-stays : BackThenForth → FitsWithMoreCapacity → (room room' m : ℕ) (st st' : List ℕ) (xs : List KeptString) (b : Body) (ns : List NotedString) → room ≤ room' → b.output ≤ m
+-- what is visible is stored where as much is stored the same
+still_stored : (st st' : List ℕ) (m n : ℕ) → n ≤ m → take m st ≡ take m st' → n ≤ length st → n ≤ length st'
+still_stored st st' m n h e within =
+    let same : length (take n st') ≡ length (take n st) = ap length (sym (take-take n m st' h) ∙ ap (take n) (sym e) ∙ take-take n m st h) in
+    let whole : length (take n st' ++ drop n st') ≡ length st' = ap length (take-append-drop n st') in
+    omega (arith, same, whole, length-append (take n st') (drop n st'), length-take-le n st within)
+
+-- a string that has run, at an editor that is extended
+ran_extended : ComesSoExtended → (room room' m : ℕ) (st st' : List ℕ) (x : KeptString) (b : Body) → room ≤ room' → b.output ≤ m → take m st ≡ take m st'
+    → b.output ≤ length st → state_at st (body_back x.changes b) ≡ state_at st' (body_back x.changes b) → HasRun (editor_at room st b) x → HasRun (editor_at room' st' b) x
+ran_extended law room room' m st st' x b r h same within here run =
+    let extends : Extends (editor_at room st b) (editor_at room' st' b) = record {
+      body = refl;
+      stored = sym (take-take b.output m st' h) ∙ ap (take b.output) (sym same) ∙ take-take b.output m st h;
+      top = still_stored st st' m b.output h same within;
+      room = r;
+    } in
+    subst (λ (s : State). HasCome (editor_at room' st' b) x.changes x.steps (trail_of s x.text 0 x.steps)) here
+    (law (editor_at room st b) (editor_at room' st' b) x.changes x.steps (trail_of (state_at st (body_back x.changes b)) x.text 0 x.steps) extends run)
+
+stays : BackThenForth → ComesSoExtended → (room room' m : ℕ) (st st' : List ℕ) (xs : List KeptString) (b : Body) (ns : List NotedString) → room ≤ room' → b.output ≤ m
     → take m st ≡ take m st' → IsSound room (length st) b → LeadBack room st xs b → Stays room' st st' xs b ns
 stays law more room room' m st st' [] b ns r h same sound f = record { back = tt; notes = refl; first = state_same st st' m b h same }
 stays law more room room' m st st' (x ∷ xs) b ns r h same sound f =
     let back : Body = body_back x.changes b in
-    let again = law room (length st) x.changes b f.0.0 sound in
+    let again = law room (length st) x.changes b f.0.fits sound in
     let low : back.output ≤ m = let y = again.output in omega arith in
     let here : state_at st back ≡ state_at st' back = sym (state_same st st' m back low same) in
     let rest = stays law more room room' m st st' xs back (noted_as x (state_at st b) ∷ ns) r low same again.sound f.1 in
-    let load : IsWithinLoad st' x b = record {
-      changes = f.0.1.changes;
-      load = subst (λ (s : State). load_back x.changes b ≤ (string_meaning s x.text x.steps).load) here f.0.1.load;
-    } in
     record {
-      back = ((more room room' x.changes b r f.0.0, load), rest.back);
+      back = (ran_extended more room room' m st st' x b r h same sound.stored here f.0, rest.back);
       notes = ap (λ (s : State). done_notes st' xs back (noted_as x s ∷ ns)) (state_same st st' m b h same) ∙ rest.notes;
       first = rest.first;
     }
@@ -66,9 +83,9 @@ same_parts : (first first' : State) (notes notes' : List NotedString) (c c' : �
     → (let h : History = record { first = first; notes = notes; cursor = c } in h) ≡ record { first = first'; notes = notes'; cursor = c' }
 same_parts first first' notes notes' c c' a b d = rw (a, b, d) refl
 
-pub session_ran : BackThenForth → FitsWithMoreCapacity → (s t : KeptSession) (x : KeptString) → IsSession s → Leads s.editor t.editor x.changes → IsWithinLoad t.editor.stored x t.editor.body
+pub session_ran : BackThenForth → ComesSoExtended → (s t : KeptSession) (x : KeptString) → IsSession s → Leads s.editor t.editor x.changes → HasRun t.editor x
     → state_of t.editor ≡ (string_meaning (state_of s.editor) x.text x.steps).state → t.strings ≡ take s.cursor s.strings ++ x ∷ [] → t.cursor ≡ s.cursor + 1 → Ran s t x
-session_ran law more s t x ok r load again strings at =
+session_ran law more s t x ok r run again strings at =
     let c = s.cursor in
     let xs : List KeptString = done_strings s in
     let st = s.editor.stored in let st' = t.editor.stored in
@@ -92,7 +109,7 @@ session_ran law more s t x ok r load again strings at =
         within = omega arith;
         sound = r.sound;
         back = subst (λ (zs : List KeptString). LeadBack t.editor.room st' zs t.editor.body) (sym before)
-            ((r.fits, load), subst (λ (z : Body). LeadBack t.editor.room st' xs z) (sym r.body) kept.back);
+            (run, subst (λ (z : Body). LeadBack t.editor.room st' xs z) (sym r.body) kept.back);
         forth = subst (λ (zs : List KeptString). LeadForth t.editor.room st' zs t.editor.body) (sym behind) tt;
         history = subst IsHistory (sym same) (IsHistory-noted (history_of s) note ok.history (again ∙ ap (λ (z : State). (string_meaning z x.text x.steps).state) (sym (present_is s ok.within))));
       };

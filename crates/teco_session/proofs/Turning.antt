@@ -6,7 +6,7 @@ use Rattle.teco_store.specs.Turn.{Note as Change}
 use Rattle.teco_store.specs.Entry.{body_back, notes_back, body_forth, FitsBack, FitsForth}
 use Rattle.teco_store.specs.RecordLaws.{BackThenForth, ForthThenBack}
 use Rattle.teco_session.specs.History.{History, NotedString, state_after, present, IsHistory}
-use Rattle.teco_session.specs.Kept.{KeptString, KeptSession, done_strings, undone_strings, string_back, string_forth, noted_as, first_body, done_notes, undone_notes, history_of, IsWithinLoad, LeadBack, LeadForth, IsSession, turned_back, turned_forth}
+use Rattle.teco_session.specs.Kept.{KeptString, KeptSession, done_strings, undone_strings, string_back, string_forth, noted_as, first_body, done_notes, undone_notes, history_of, HasRun, editor_at, LeadBack, LeadForth, IsSession, turned_back, turned_forth}
 
 pub length-done_notes : (stored : List ℕ) (xs : List KeptString) (b : Body) (ns : List NotedString) → length (done_notes stored xs b ns) ≡ length xs + length ns
 length-done_notes stored [] b ns = omega arith
@@ -44,13 +44,13 @@ record StepsBack (room : ℕ) (stored : List ℕ) (x : KeptString) (ys : List Ke
   pub notes : undone_notes stored (string_back x b ∷ ys) (body_back x.changes b) ≡ noted_as x (state_at stored b) ∷ undone_notes stored ys b
   pub sound : IsSound room (length stored) (body_back x.changes b)
 
-steps_back : BackThenForth → (room : ℕ) (stored : List ℕ) (x : KeptString) (ys : List KeptString) (b : Body) → IsSound room (length stored) b → FitsBack room x.changes b
-    → IsWithinLoad stored x b → LeadForth room stored ys b → StepsBack room stored x ys b
-steps_back law room stored x ys b sound fits load forth =
-    let again = law room (length stored) x.changes b fits sound in
+steps_back : BackThenForth → (room : ℕ) (stored : List ℕ) (x : KeptString) (ys : List KeptString) (b : Body) → IsSound room (length stored) b
+    → HasRun (editor_at room stored b) x → LeadForth room stored ys b → StepsBack room stored x ys b
+steps_back law room stored x ys b sound run forth =
+    let again = law room (length stored) x.changes b run.fits sound in
     let same : string_forth (string_back x b) (body_back x.changes b) ≡ x = ap (λ (cs : List Change). let y : KeptString = record x { changes = cs } in y) again.notes in
-    let here = subst (λ (y : KeptString). IsWithinLoad stored y (body_forth (notes_back x.changes b) (body_back x.changes b))) (sym same)
-    (subst (λ (z : Body). IsWithinLoad stored x z) (sym again.body) load) in
+    let here = subst (λ (y : KeptString). HasRun (editor_at room stored (body_forth (notes_back x.changes b) (body_back x.changes b))) y) (sym same)
+    (subst (λ (z : Body). HasRun (editor_at room stored z) x) (sym again.body) run) in
     record {
       forth = ((again.fits, here), subst (λ (z : Body). LeadForth room stored ys z) (sym again.body) forth);
       notes = ap (λ (z : Body). noted_as x (state_at stored z) ∷ undone_notes stored ys z) again.body;
@@ -65,11 +65,11 @@ record StepsForth (room : ℕ) (stored : List ℕ) (x : KeptString) (xs : List K
   pub sound : IsSound room (length stored) (body_forth x.changes b)
 
 steps_forth : ForthThenBack → (room : ℕ) (stored : List ℕ) (x : KeptString) (xs : List KeptString) (b : Body) (ns : List NotedString) → IsSound room (length stored) b
-    → FitsForth room (length stored) x.changes b → IsWithinLoad stored (string_forth x b) (body_forth x.changes b) → LeadBack room stored xs b → StepsForth room stored x xs b ns
-steps_forth law room stored x xs b ns sound fits load back =
+    → FitsForth room (length stored) x.changes b → HasRun (editor_at room stored (body_forth x.changes b)) (string_forth x b) → LeadBack room stored xs b → StepsForth room stored x xs b ns
+steps_forth law room stored x xs b ns sound fits run back =
     let again = law room (length stored) x.changes b fits sound in
     record {
-      back = ((again.fits, load), subst (λ (z : Body). LeadBack room stored xs z) (sym again.body) back);
+      back = (run, subst (λ (z : Body). LeadBack room stored xs z) (sym again.body) back);
       first = ap (first_body xs) again.body;
       notes = ap (λ (z : Body). done_notes stored xs z (noted_as x (state_at stored (body_forth x.changes b)) ∷ ns)) again.body;
       sound = again.sound;
@@ -98,14 +98,14 @@ same_history h first notes i e f = rw (e, f) refl
 moved_history : (h t : History) (i : ℕ) → IsHistory h → i ≤ length h.notes → t ≡ cursor_at h i → IsHistory t
 moved_history h t i ok le e = subst IsHistory (sym e) (record { begins = ok.begins; states = ok.states; within = le })
 
-last_done : (xs : List KeptString) (x : KeptString) (c i : ℕ) → c ≡ i + 1 → i < length xs → x ≡ get_or xs i x → reverse (take c xs) ≡ x ∷ reverse (take i xs)
+pub last_done : (xs : List KeptString) (x : KeptString) (c i : ℕ) → c ≡ i + 1 → i < length xs → x ≡ get_or xs i x → reverse (take c xs) ≡ x ∷ reverse (take i xs)
 last_done xs x c i n lt is = ap (λ j. reverse (take j xs)) n ∙ ap reverse (take_more xs i x lt ∙ ap (λ y. take i xs ++ y ∷ []) (sym is)) ∙ reverse-append (take i xs) (x ∷ [])
 
 pub undo_fits : (s : KeptSession) (x : KeptString) (i : ℕ) → s.cursor ≡ i + 1 → IsSession s → x ≡ get_or s.strings i x → FitsBack s.editor.room x.changes s.editor.body
 undo_fits s x i n ok is =
     let le = ok.within in
     let all = subst (λ (zs : List KeptString). LeadBack s.editor.room s.editor.stored zs s.editor.body) (last_done s.strings x s.cursor i n (omega arith) is) ok.back in
-    all.0.0
+    all.0.fits
 
 pub session_back : BackThenForth → (s : KeptSession) (x : KeptString) (i : ℕ) → s.cursor ≡ i + 1 → IsSession s → x ≡ get_or s.strings i x → Turned s (turned_back s x i) i
 session_back law s x i n ok is =
@@ -118,7 +118,7 @@ session_back law s x i n ok is =
     let before' : done_strings t ≡ reverse (take i s.strings) = ap reverse (take-set s.strings i (string_back x b)) in
     let behind' : undone_strings t ≡ string_back x b ∷ drop (i + 1) s.strings = drop-set s.strings i (string_back x b) lt in
     let all : LeadBack room stored (x ∷ reverse (take i s.strings)) b = subst (λ (zs : List KeptString). LeadBack room stored zs b) before ok.back in
-    let z = steps_back law room stored x (drop (i + 1) s.strings) b ok.sound all.0.0 all.0.1 (subst (λ (zs : List KeptString). LeadForth room stored zs b) behind ok.forth) in
+    let z = steps_back law room stored x (drop (i + 1) s.strings) b ok.sound all.0 (subst (λ (zs : List KeptString). LeadForth room stored zs b) behind ok.forth) in
     let old = history_is s _ _ before behind in
     let same : history_of t ≡ cursor_at (history_of s) i =
     history_is t _ _ before' behind'

@@ -1,9 +1,11 @@
 -- A session as it is kept: one editor, and of each string the changes that lead from one side of it to the other.
-use Rattle.std.specs.Prelude.{ℕ, ◌+◌, ◌-◌, ◌*◌, ◌≤◌, List, [], ◌∷◌, length, take, drop, reverse, slice_index_or}
+use Rattle.std.specs.Prelude.{ℕ, ◌+◌, ◌-◌, ◌*◌, ◌≤◌, List, [], ◌∷◌, ◌++◌, length, take, drop, min, reverse, slice_index_or}
 use Rattle.std.proofs.Common.{set}
-use Rattle.teco_store.specs.State.{State, Body, Full, IsSound, state_at, new_full}
+use Rattle.teco_store.specs.State.{State, Body, Full, IsSound, state_at, new_full, with_body}
+use Rattle.teco_store.specs.Follows.{HasCome}
 use Rattle.teco_store.specs.Turn.{Note as Change}
-use Rattle.teco_store.specs.Entry.{body_back, notes_back, body_forth, notes_forth, FitsBack, FitsForth, load_back, held_in}
+use Rattle.teco_store.specs.Entry.{body_back, notes_back, body_forth, notes_forth, FitsForth, before, since, held_in}
+use Rattle.teco_exec.specs.Runs.{trail_of}
 use Rattle.teco_exec.specs.StringMeaning.{string_meaning}
 use Rattle.teco_session.specs.History.{History, NotedString, IsHistory}
 
@@ -64,22 +66,25 @@ history_of s = record {
   cursor = s.cursor;
 }
 
--- A string that is done at a body made at most six changes in each step, and all bytes that stand on either side of its changes are
--- within its load from the state before it.
-pub record IsWithinLoad (stored : List ℕ) (x : KeptString) (b : Body) : Type 0 where
-  pub changes : length x.changes ≤ 6 * x.steps
-  pub load : load_back x.changes b ≤ (string_meaning (state_at stored (body_back x.changes b)) x.text x.steps).load
+-- A string that is done at an editor has come there by the steps of its meaning, from the state before it: its changes fit, and lead
+-- back to the state after each step; each step made at most six, and what they hold is within the load.
+abbrev pub HasRun : Full → KeptString → Type 0
+HasRun f x = HasCome f x.changes x.steps (trail_of (state_at f.stored (body_back x.changes f.body)) x.text 0 x.steps)
 
--- Each string that is done fits where it would be turned back, and is within its load.
+-- an editor of this body
+abbrev pub editor_at : ℕ → List ℕ → Body → Full
+editor_at room stored b = record { body = b; stored = stored; room = room }
+
+-- Each string that is done has run to where it would be turned back.
 abbrev pub LeadBack : ℕ → List ℕ → List KeptString → Body → Type 0
 LeadBack room stored [] b = Unit {0}
-LeadBack room stored (x ∷ xs) b = (FitsBack room x.changes b × IsWithinLoad stored x b) × LeadBack room stored xs (body_back x.changes b)
+LeadBack room stored (x ∷ xs) b = HasRun (editor_at room stored b) x × LeadBack room stored xs (body_back x.changes b)
 
--- Each that is undone fits where it would be turned forth, and is within its load once that is done.
+-- Each that is undone fits where it would be turned forth, and has run there once that is done.
 abbrev pub LeadForth : ℕ → List ℕ → List KeptString → Body → Type 0
 LeadForth room stored [] b = Unit {0}
 LeadForth room stored (x ∷ xs) b =
-    (FitsForth room (length stored) x.changes b × IsWithinLoad stored (string_forth x b) (body_forth x.changes b))
+    (FitsForth room (length stored) x.changes b × HasRun (editor_at room stored (body_forth x.changes b)) (string_forth x b))
     × LeadForth room stored xs (body_forth x.changes b)
 
 -- The strings on both sides of the cursor lead from the editor through every state of a history.
@@ -93,10 +98,6 @@ pub record IsSession (s : KeptSession) : Type 0 where
 -- the string at a place
 abbrev pub string_at : KeptSession → ℕ → KeptString
 string_at s i = slice_index_or s.strings i (record { text = []; steps = 0; changes = [] })
-
--- an editor with another body
-abbrev pub with_body : Full → Body → Full
-with_body f b = record { body = b; stored = f.stored; room = f.room }
 
 -- An undo turns the last string that is done back, and keeps what would do it again. A redo turns the first undone one forth.
 abbrev pub turned_back : KeptSession → KeptString → ℕ → KeptSession
@@ -118,6 +119,23 @@ reverted s = turned_back s (string_at s (s.cursor - 1)) (s.cursor - 1)
 
 abbrev pub applied : KeptSession → KeptSession
 applied s = turned_forth s (string_at s s.cursor) s.cursor
+
+-- a string with its first `n` steps alone
+abbrev pub string_cut : ℕ → KeptString → KeptString
+string_cut n x = record { text = x.text; steps = n; changes = before n x.changes }
+
+-- A rewind turns the changes after the first steps of the last string that is done back, and drops them and the undone strings.
+abbrev pub cut_back : KeptSession → KeptString → ℕ → ℕ → KeptSession
+cut_back s x i n = record {
+  editor = with_body s.editor (body_back (since n x.changes) s.editor.body);
+  strings = take i s.strings ++ string_cut n x ∷ [];
+  cursor = s.cursor;
+}
+
+abbrev pub cut_to : ℕ → KeptSession → KeptSession
+cut_to n s =
+    let x : KeptString = string_at s (s.cursor - 1) in
+    cut_back s x (s.cursor - 1) (min n x.steps)
 
 -- An entry has at most six changes for each step of its string, and they hold no more bytes than the string moves from this state.
 pub record IsSmall (x : KeptString) (s : State) : Type 0 where

@@ -6,8 +6,8 @@ ghost use Rattle.teco_store.specs.Follows.{Leads};
 ghost use Rattle.teco_store.specs.State.{IsSound, state_of};
 ghost use Rattle.teco_step.specs.Terminal.{Shows};
 ghost use Rattle.teco_session.specs.Answers.{answer_code};
-ghost use Rattle.teco_session.specs.History.{IsHistory, new_history, note_at, present, redone, state_after, undone};
-ghost use Rattle.teco_session.specs.Kept.{IsSession, IsSmall, IsWithinLoad, applied, history_of, new_session, reverted, string_at};
+ghost use Rattle.teco_session.specs.History.{IsHistory, new_history, note_at, present, redone, rewound, state_after, undone};
+ghost use Rattle.teco_session.specs.Kept.{IsSession, IsSmall, HasRun, applied, cut_to, history_of, new_session, reverted, string_at};
 ghost use Rattle.teco_session.specs.Step.{Step, RunStep, Reply, is_terminal_failure};
 ghost use Rattle.teco_session.specs.Play.{Play, ShowsAll, answers_of};
 
@@ -19,7 +19,7 @@ use std::mem;
 use teco_core::{FILE_LIMIT, NoMemory};
 use teco_exec::{Outcome, meaning_laws, run};
 use teco_step::Terminal;
-use teco_store::{Change, Desk, Editor, Recorder, apply_all, record_laws, revert_all};
+use teco_store::{Change, Desk, Editor, Recorder, record_laws};
 
 /// Command strings one after another, each of which can be undone and redone.
 ///
@@ -58,7 +58,7 @@ fn record_run<T: Terminal>(
     ensures again { state_of editor.new ≡ (string_meaning (state_of editor.old) text.now result.1.steps).state }
     ensures exit { (state_of editor.old).is_done ≡ false → (state_of editor.new).is_done ≡ true → result.1.code ≡ None }
     ensures leads { Leads editor.old editor.new result.0.items }
-    ensures load { IsWithinLoad editor.new.stored (record { text = text.now; steps = result.1.steps; changes = result.0.items }) editor.new.body }
+    ensures ran { HasRun editor.new (record { text = text.now; steps = result.1.steps; changes = result.0.items }) }
 {
     meaning_laws();
     record_laws();
@@ -151,7 +151,7 @@ impl Session {
         }
         record_laws();
         let i = self.cursor - 1;
-        revert_all(&mut self.editor, &mut self.entries[i].changes);
+        self.entries[i].revert(&mut self.editor);
         self.cursor = i;
         Ok(())
     }
@@ -168,8 +168,28 @@ impl Session {
             return Err(NothingToRedo);
         }
         record_laws();
-        apply_all(&mut self.editor, &mut self.entries[i].changes);
+        self.entries[i].apply(&mut self.editor);
         self.cursor = i + 1;
+        Ok(())
+    }
+
+    /// Goes back to the state after the first `n` steps of the last string that is not undone, where there is one; otherwise nothing
+    /// changes. The string has taken `n` steps then, or as many as before where those are fewer, and undone strings are dropped. Takes
+    /// no memory, also after an exit.
+    pub fn rewind(&mut self, n: u64) -> Result<(), NothingToUndo>
+        ensures offers { IsOk result ↔ (0 < self.old.cursor) }
+        ensures ok { OnOk result (self.new ≡ cut_to n self.old) }
+        ensures history { OnOk result (history_of self.new ≡ rewound n (history_of self.old)) }
+        ensures err { OnErr result (self.new ≡ self.old) }
+    {
+        if self.cursor == 0 {
+            return Err(NothingToUndo);
+        }
+        record_laws();
+        let entry = &mut self.entries[self.cursor - 1];
+        let n = n.min(entry.steps);
+        entry.rewind(&mut self.editor, n);
+        self.entries.truncate(self.cursor);
         Ok(())
     }
 
@@ -218,6 +238,10 @@ impl Session {
             Request::Redo => match self.redo() {
                 Ok(()) => Answer::Redone,
                 Err(NothingToRedo) => Answer::NothingToRedo,
+            },
+            Request::Rewind(n) => match self.rewind(*n) {
+                Ok(()) => Answer::Rewound,
+                Err(NothingToUndo) => Answer::NothingToUndo,
             },
         }
     }

@@ -32,7 +32,7 @@ const FAILED: How = How {
     ..PLAIN
 };
 
-/// A stream, where `$` is ESC and `~` the byte 5, and what serving it gives: what is typed, and what is written to the output.
+/// A stream, where `$` is ESC and a backquote the byte 5, and what serving it gives: what is typed, and what is written to the output.
 type Row<'a> = (&'a str, &'a str, &'a str);
 
 /// The bytes of a stream.
@@ -41,7 +41,7 @@ fn bytes_of(alloc: Global, stream: &[u8]) -> Result<Vec<u8>, NoMemory> {
     for byte in bytes.iter_mut() {
         match *byte {
             b'$' => *byte = 27,
-            b'~' => *byte = 5,
+            b'`' => *byte = 5,
             _ => {}
         }
     }
@@ -304,5 +304,6 @@ mod commands;
 mod examples;
 mod pages;
 mod programs;
+mod rewinds;
 mod searches;
 mod worked;

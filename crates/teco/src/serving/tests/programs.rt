@@ -1,4 +1,4 @@
-//! The programs of the folder examples: `$` is ESC, and `~` the byte 5.
+//! The programs of the folder examples: `$` is ESC, and a backquote the byte 5.
 
 pub(super) const SORT: &str =
     r#"!sort.tec: sorts the lines of a file, by their bytes; lines that are alike keep their order.
@@ -39,7 +39,7 @@ pub(super) const STRIP: &str =
     r#"!strip.tec: takes the spaces and tabs off the ends of lines, and keeps the pages.
   teco FILE --output OUT < examples/strip.tec!
 Y <
-  J <FS~S
+  J <FS`S
 $
 $;>                                         !blanks before a line end!
   ZJ <-A-32"N -A-9"N 0;' ' -D>              !blanks before the end of the page!

@@ -15,7 +15,7 @@ fn serves_searches(rt: HostRuntime) {
             ("Iaaa$-2Saa$$.=$$", "?SRH\r\n0\r\n", ""),
             ("Iaaa$-2Saa$.=$$.=$$", "?SRH\r\n0\r\n", ""),
             ("0Sa$$", "?ISA\r\n", ""),
-            ("S~[a$$", "?ICE\r\n", ""),
+            ("S`[a$$", "?ICE\r\n", ""),
             ("Iab$JSb$${$$}$$S$$HT$$", "?SRH\r\nab", ""),
             ("Iaaaa$0J<Saa$;%A$>$$HTQA=$$", "aaaa2\r\n", ""),
         ],

@@ -85,7 +85,7 @@ fn leaves_searches(rt: HostRuntime) {
         &[
             ("Ixabxab$-2Sab$.=$$HT.=$$", "3\r\nxabxab3\r\n", ""),
             ("Iab$0J::Sa$=.=$$HT.=$$", "-1\r\n1\r\nab1\r\n", ""),
-            ("Ia1  b$0JS~D~Sb$.=$$HT.=$$", "5\r\na1  b5\r\n", ""),
+            ("Ia1  b$0JS`D`Sb$.=$$HT.=$$", "5\r\na1  b5\r\n", ""),
             ("Icat$0J@FS/a/oa/HT$$HT.=$$", "coatcoat3\r\n", ""),
             (
                 ":Sx$=$$1<;1=>2=$$Iax$J:S$=.=$$",
@@ -99,7 +99,7 @@ fn leaves_searches(rt: HostRuntime) {
             ),
             ("S$$.=Z=$$", "?ISS\r\n0\r\n0\r\n", ""),
             ("Iaaa$-2Saa$$HT.=$$", "?SRH\r\naaa0\r\n", ""),
-            ("Iabc$0J@S/~[c,b]/.=$$HT.=$$", "2\r\nabc2\r\n", ""),
+            ("Iabc$0J@S/`[c,b]/.=$$HT.=$$", "2\r\nabc2\r\n", ""),
             ("Iab$0JS\x0ea$.=$$HT.=$$", "2\r\nab2\r\n", ""),
         ],
     );

@@ -1,9 +1,9 @@
-use Rattle.std.proofs.Common.{◌≡◌, ◌+◌, [], ◌++◌, ◌∷◌, take, sym, ap, ◌∙◌, subst}
-use Rattle.std.proofs.lemmas.List.{take_more}
+use Rattle.std.proofs.Common.{◌≡◌, ◌+◌, [], ◌++◌, ◌∷◌, take, refl, sym, ap, ◌∙◌, subst, arith, rules}
+use Rattle.std.proofs.lemmas.List.{take_all, take_more}
 use Rattle.teco_session.specs.Kept.{history_of}
 use Rattle.teco_session.specs.Step.{Reply}
 use Rattle.teco_session.specs.Play.{Play}
-use Rattle.teco_session.proofs.Histories.{Play-more, answers_of-more, ShowsAll-more}
+use Rattle.teco_session.proofs.Histories.{Play-more, answers_of-more, ShowsAll-nil, ShowsAll-more}
 use Rattle.teco_session.proofs.session.Session.play.Goals as goal
 
 pub loop-request-preserved : goal.loop-request-preserved
@@ -25,3 +25,19 @@ loop-request-preserved g c =
         ShowsAll-more p.0 reply p.3 s.2,
       );
     }
+
+pub loop-request-init : goal.loop-request-init
+loop-request-init g c = record {
+  room = search rules;
+  filled = c.in_ok-answers.ensures.len;
+  played = ([], c.in_ok-answers.ensures.items, refl, ShowsAll-nil _);
+}
+
+pub push_reserved-requires : goal.push_reserved-requires
+push_reserved-requires g c = omega (arith, c.loop-request.invariant.room, c.loop-request.invariant.filled, c.loop-request-test.true)
+
+pub returns-clause-play : goal.returns-clause-play
+returns-clause-play g c =
+    let p = c.loop-request.invariant.played in
+    let all = take_all c.loop-request.request-index c.args.requests.now c.loop-request-test.false in
+    (p.0, p.1, subst (λ l. Play c.args.limit (history_of c.args.self.now) l p.0 (history_of c.loop-request.self)) all p.2, p.3)

@@ -1,12 +1,11 @@
-use Rattle.std.proofs.Common.{◌≡◌, ℕ, ◌+◌, ◌≤◌, length, map, set, refl, sym, ◌∙◌, ap, arith}
+use Rattle.std.proofs.Common.{◌≡◌, ℕ, ◌≤◌, length, map, refl, sym, ◌∙◌, ap, arith}
 use Rattle.std.proofs.lemmas.List.{length-map}
 use Rattle.teco_session.specs.History.{redone}
 use Rattle.teco_session.specs.Kept.{KeptSession, history_of, applied}
 use Rattle.teco_session.specs.Entries.{kept_string, kept_session}
 use Rattle.teco_session.specs.declared.session.Session.TheInside.{Inside}
-use Rattle.teco_session.specs.declared.entry.Entry.{Entry}
 use Rattle.teco_session.proofs.Turning.{redo_fits}
-use Rattle.teco_session.proofs.Vectors.{kept_with, length-history, string_read, session_applied, IsApplied}
+use Rattle.teco_session.proofs.Vectors.{length-history, string_read, session_applied}
 use Rattle.teco_session.proofs.session.Session.redo.Goals as goal
 
 -- where the cursor is, and how many strings there are
@@ -37,31 +36,31 @@ returns-clause-offers c =
     let n = counts c.args.self.now c.self.inside c.self.view_is c.self.invariant.within in
     (λ e. omega (arith, n.cursor, n.notes, n.within), λ h. refl)
 
-pub apply_all-requires : goal.apply_all-requires
-apply_all-requires c =
+pub apply-requires : goal.apply-requires
+apply-requires c =
     let v = c.index_mut.result.now in
     let i : ℕ = c.self.inside.cursor in
     let le = c.self.invariant.within in
     let n = length-map c.self.inside.entries.items kept_string in
     redo_fits (kept_session c.self.inside) (kept_string v) (omega arith) c.self.invariant (string_read c.self.inside.entries.items v i (kept_string v) (omega arith) c.index_mut.ensures.value)
 
--- the string once it is turned forth
-abbrev entry_now : (c : goal.After-self-2-1) → Entry
-entry_now c = record { text = c.index_mut.result.now.text; steps = c.index_mut.result.now.steps; changes = c.apply_all.new.entry }
-
-applied_now : (c : goal.After-self-2-1) → IsApplied (kept_session c.self.inside)
-    (kept_with c.apply_all.new.editor (set c.self.inside.entries.items c.self.inside.cursor (entry_now c)) (c.self.inside.cursor + 1))
-applied_now c =
+pub invariant_of-self : goal.invariant_of-self
+invariant_of-self c =
     let le = c.self.invariant.within in
     let n = length-map c.self.inside.entries.items kept_string in
-    session_applied c.record_laws.ensures.forth c.self.inside.editor c.apply_all.new.editor c.self.inside.entries.items c.index_mut.result.now (entry_now c) c.self.inside.cursor (omega arith)
-    c.self.invariant c.index_mut.ensures.value c.apply_all.ensures.editor c.apply_all.ensures.entry refl refl
-
-pub invariant_of-self : goal.invariant_of-self
-invariant_of-self c = (applied_now c).holds
+    (session_applied c.record_laws.ensures.forth c.self.inside.editor _ c.self.inside.entries.items _ _ c.self.inside.cursor (omega arith) c.self.invariant c.index_mut.ensures.value
+    c.apply.ensures.editor c.apply.ensures.entry).holds
 
 pub returns-clause-ok : goal.returns-clause-ok
-returns-clause-ok c = (applied_now c).value ∙ ap applied c.self.view_is
+returns-clause-ok c =
+    let le = c.self.invariant.within in
+    let n = length-map c.self.inside.entries.items kept_string in
+    (session_applied c.record_laws.ensures.forth c.self.inside.editor _ c.self.inside.entries.items _ _ c.self.inside.cursor (omega arith) c.self.invariant c.index_mut.ensures.value
+    c.apply.ensures.editor c.apply.ensures.entry).value ∙ ap applied c.self.view_is
 
 pub returns-clause-history : goal.returns-clause-history
-returns-clause-history c = (applied_now c).history ∙ ap (λ (s : KeptSession). redone (history_of s)) c.self.view_is
+returns-clause-history c =
+    let le = c.self.invariant.within in
+    let n = length-map c.self.inside.entries.items kept_string in
+    (session_applied c.record_laws.ensures.forth c.self.inside.editor _ c.self.inside.entries.items _ _ c.self.inside.cursor (omega arith) c.self.invariant c.index_mut.ensures.value
+    c.apply.ensures.editor c.apply.ensures.entry).history ∙ ap (λ (s : KeptSession). redone (history_of s)) c.self.view_is

@@ -1,16 +1,51 @@
-use Rattle.std.proofs.Common.{◌≡◌, ℕ, List, [], ◌++◌, ◌∷◌, take, arith, sym, ap, ◌∙◌, subst, false}
+use Rattle.std.proofs.Common.{◌≡◌, ℕ, List, [], ◌++◌, ◌∷◌, take, arith, sym, ap, ◌∙◌, subst, refl, false}
+use Rattle.std.proofs.lemmas.Bool.{false≢true}
 use Rattle.teco_exec.specs.StringMeaning.{string_meaning}
 use Rattle.teco_exec.specs.Runs.{Runs}
-use Rattle.teco_store.specs.State.{State, state_of}
-use Rattle.teco_session.specs.History.{present, noted}
-use Rattle.teco_session.specs.Kept.{KeptSession, KeptString, IsWithinLoad, history_of, noted_as}
+use Rattle.teco_store.specs.State.{State, Full, state_of}
+use Rattle.teco_session.specs.History.{History, present, noted}
+use Rattle.teco_session.specs.Kept.{KeptSession, KeptString, HasRun, history_of, noted_as}
 use Rattle.teco_session.specs.Entries.{kept_string, kept_session}
 use Rattle.teco_session.specs.declared.entry.Entry.{Entry}
+use Rattle.teco_session.proofs.Histories.{Shows-nil}
 use Rattle.teco_session.proofs.Turning.{present_is}
 use Rattle.teco_session.proofs.Running.{Ran}
 use Rattle.teco_session.proofs.Vectors.{kept_with, session_noted}
 use Rattle.teco_session.proofs.session.Session.run.Given as given
 use Rattle.teco_session.proofs.session.Session.run.Goals as goal
+
+-- the history is the same where the vector has only found room
+same_history : (f : Full) (vs ws : List Entry) (c : ℕ) (s : KeptSession) → ws ≡ vs → kept_with f vs c ≡ s → history_of (kept_with f ws c) ≡ history_of s
+same_history f vs ws c s e view = ap (λ (xs : List Entry). history_of (kept_with f xs c)) e ∙ ap history_of view
+
+-- A string that is not begun changes nothing.
+pub returns-then-done-clause-step : goal.returns-then-done-clause-step
+returns-then-done-clause-step g c = ([], (ap (λ (s : State). s.is_done) (sym c.editor.ensures.present) ∙ sym c.done.ensures ∙ c.if-done.true, refl, refl), Shows-nil _)
+
+pub returns-then-done-clause-exit : goal.returns-then-done-clause-exit
+returns-then-done-clause-exit g c = λ going over. absurd (false≢true (sym going ∙ over))
+
+pub returns-in_default-clause-step : goal.returns-in_default-clause-step
+returns-in_default-clause-step g c = ([], (ap (λ (s : State). s.is_done) (sym c.editor.ensures.present) ∙ sym c.done.ensures ∙ c.if-done.false, refl, refl), Shows-nil _)
+
+pub returns-in_default-clause-exit : goal.returns-in_default-clause-exit
+returns-in_default-clause-exit g c = λ going over. absurd (false≢true (sym going ∙ over))
+
+pub returns-then-is_err-clause-step : goal.returns-then-is_err-clause-step
+returns-then-is_err-clause-step g c = (
+  [],
+  (
+    ap (λ (s : State). s.is_done) (sym c.editor.ensures.present) ∙ sym c.done.ensures ∙ c.if-done.false,
+    refl,
+    same_history c.self.inside.editor c.self.inside.entries.items c.reserve.new.self.items c.self.inside.cursor c.args.self.now c.reserve.ensures.items c.self.view_is,
+  ),
+  Shows-nil _,
+)
+
+pub returns-then-is_err-clause-exit : goal.returns-then-is_err-clause-exit
+returns-then-is_err-clause-exit g c = λ going over.
+    let same = same_history c.self.inside.editor c.self.inside.entries.items c.reserve.new.self.items c.self.inside.cursor c.args.self.now c.reserve.ensures.items c.self.view_is in
+    absurd (false≢true (sym going ∙ sym (ap (λ (h : History). (present h).is_done) same) ∙ over))
 
 -- the entry that is added
 abbrev entry_now : (g : given.Over) (c : goal.After-self-1 g) → Entry
@@ -23,9 +58,9 @@ ran_now g c =
     let new = c.record_run-changes.new.editor in
     let k = c.record_run-changes.result.1.steps in
     let kept = sym c.in-Ok.ensures.items in
-    session_noted c.record_laws.ensures.back c.record_laws.ensures.more c.self.inside.editor new c.self.inside.entries.items c.push_reserved.new.self.items (entry_now g c) c.self.inside.cursor c.len-self-inside.result
+    session_noted c.record_laws.ensures.back c.record_laws.ensures.extended c.self.inside.editor new c.self.inside.entries.items c.push_reserved.new.self.items (entry_now g c) c.self.inside.cursor c.len-self-inside.result
     c.self.invariant r.leads
-    (subst (λ (t : List ℕ). IsWithinLoad new.stored (let x : KeptString = record { text = t; steps = k; changes = c.record_run-changes.result.0.items } in x) new.body) kept r.load)
+    (subst (λ (t : List ℕ). HasRun new (let x : KeptString = record { text = t; steps = k; changes = c.record_run-changes.result.0.items } in x)) kept r.ran)
     (r.again ∙ ap (λ (t : List ℕ). (string_meaning (state_of c.self.inside.editor) t k).state) kept)
     (c.push_reserved.ensures.items ∙ ap (λ (l : List Entry). l ++ entry_now g c ∷ []) (c.truncate.ensures.items ∙ ap (take c.self.inside.cursor) c.reserve.ensures.items))
     (omega (arith, c.len-self-inside.ensures, c.push_reserved.new.self.ok.0))

@@ -1,6 +1,6 @@
 use Rattle.std.proofs.Common.{◌≡◌, ◌<◌, ◌^◌, drop}
 use Rattle.teco_core.specs.Number.{digits_value}
-use Rattle.teco.proofs.splitter.times.Given as goal
+use Rattle.teco.proofs.splitter.number.Given as goal
 
 abbrev pub invariant-loop-digit : goal.invariant-loop-digit
 invariant-loop-digit l = record {

@@ -1,9 +1,8 @@
 use Rattle.std.proofs.Common.{◌≡◌, ◌+◌, ◌*◌, ◌^◌, ◌≤◌, ◌<◌, arith, sym, ap, drop, length, add-one, pow-suc, ◌∙◌}
 use Rattle.std.proofs.Math.Nat.{pow-le-pow_right}
-use Rattle.std.proofs.lemmas.Bool.Decides.{nat_tests}
 use Rattle.teco_core.specs.Number.{digits_value}
-use Rattle.teco.proofs.Counts.{digit_at, digits_value-more, digits_value-all, times-some}
-use Rattle.teco.proofs.splitter.times.Goals as goal
+use Rattle.teco.proofs.Counts.{digit_at, digits_value-more, digits_value-all}
+use Rattle.teco.proofs.splitter.number.Goals as goal
 
 pub overflow_mul-number : goal.overflow_mul-number
 overflow_mul-number c =
@@ -29,7 +28,4 @@ loop-digit-preserved c =
     }
 
 pub returns : goal.returns
-returns c =
-    let ds = c.args.digits.now in
-    let some : 0 < length ds = grind (arith, nat_tests, c.is_empty.ensures, c.if-is_empty.false) in
-    sym (times-some ds some ∙ c.loop-digit.invariant.value ∙ digits_value-all c.loop-digit.number ds c.loop-digit.digit-index (omega arith))
+returns c = sym (c.loop-digit.invariant.value ∙ digits_value-all c.loop-digit.number c.args.digits.now c.loop-digit.digit-index (omega arith))
