@@ -13,7 +13,7 @@ for crate in teco_core teco_gap teco_search teco_scan teco_store teco_step teco_
     cp -a "$crates/$crate" "$work/crates/"
 done
 cp "$here/growths.rt.txt" "$work/crates/growths/src/main.rt"
-for part in pair signal state; do
+for part in pair rewind signal state; do
     cp "$here/growths/$part.rt.txt" "$work/crates/growths/src/$part.rt"
 done
 cd "$work"
