@@ -1,5 +1,5 @@
 -- Where a run goes on: what comes at a cursor, and texts that begin, call, return and end.
-use Rattle.std.proofs.Common.{◌≡◌, ℕ, zero, suc, ◌<◌, List, [], ◌∷◌, length, drop, Option, Some, None, refl, sym, ap, subst, ◌∙◌, ◌+◌, ◌-◌, ◌*◌, ◌≤◌, ◌⊎◌, inl, inr, Bool, true, false, arith}
+use Rattle.std.proofs.Common.{◌≡◌, ℕ, zero, suc, ◌<◌, List, [], ◌∷◌, length, drop, Option, Some, None, refl, sym, ap, subst, ◌∙◌, ◌+◌, ◌-◌, ◌*◌, ◌≤◌, ◌⊎◌, inl, inr, Bool, true, false, arith, ◌==◌, if◌then◌else◌}
 use Rattle.teco_core.specs.ArgumentsView.{arguments}
 use Rattle.teco_core.specs.declared.code.Code.{Code}
 use Rattle.teco_scan.specs.declared.token.Token.{Token as ScannedToken}
@@ -12,11 +12,10 @@ use Rattle.teco_exec.specs.declared.cursor.Cursor.{Cursor}
 use Rattle.teco_exec.specs.declared.moves.Opening.{Opening}
 use Rattle.teco_exec.specs.declared.moves.Next.{Next}
 use Rattle.teco_exec.specs.declared.moves.Next.TheVariants.{Passed, Step, Block, Over, Fault}
-use Rattle.teco_exec.proofs.Composing.{arrives_step, halted, run_ready, arrives_stays}
+use Rattle.teco_exec.proofs.MachineMeans.{arrives_step, halted, run_ready, arrives_stays}
 use Rattle.teco_exec.proofs.Going.{Settles, continues, settles, now_there, shows_nothing, since}
 use Rattle.teco_scan.specs.ListLaws.{BlockLaws}
 use Rattle.teco_exec.proofs.Passing.{Shorter, pass_short}
-use Rattle.std.specs.Prelude.{◌==◌, if◌then◌else◌}
 use Rattle.std.proofs.lemmas.Bool.Decides.{nat_tests}
 use Rattle.std.proofs.Math.Nat.{mul-le-mul_right, add-mul}
 use Rattle.teco_core.specs.Arguments.{Arguments, no_arguments}

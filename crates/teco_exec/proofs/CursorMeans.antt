@@ -1,6 +1,5 @@
 -- The moves of a cursor: what uses no step means nothing, and the steps of blocks mean what the machine does.
-use Rattle.std.proofs.Common.{arith, ◌≡◌, ℕ, zero, suc, Bool, true, false, List, [], ◌∷◌, length, Option, Some, None, Ok, Err, refl, sym, ap, ◌∙◌, Result, subst}
-use Rattle.std.specs.Prelude.{if◌then◌else◌, ℤ}
+use Rattle.std.proofs.Common.{arith, ◌≡◌, ℕ, zero, suc, Bool, true, false, List, [], ◌∷◌, length, Option, Some, None, Ok, Err, refl, sym, ap, ◌∙◌, Result, subst, if◌then◌else◌, ℤ}
 use Rattle.teco_core.specs.declared.code.Code.{Code}
 use Rattle.teco_core.specs.declared.code.Code.TheVariants.{Lim, Naq, Utc, Arg}
 use Rattle.teco_core.specs.Arguments.{Arguments, no_arguments, taken_from}

@@ -1,6 +1,5 @@
 -- The open blocks, as the machine sees them.
-use Rattle.std.proofs.Common.{◌≡◌, reverse, take, get_or, true, false, ◌≤◌, ◌<◌, Bool, eqb, subst, ℕ, zero, suc, ◌+◌, List, [], ◌∷◌, length, drop, Option, Some, None, Ok, Err, refl, sym, ap, ◌∙◌, ◌⊎◌, inl, inr, arith}
-use Rattle.std.specs.Prelude.{All, MatchOption, slice_get}
+use Rattle.std.proofs.Common.{◌≡◌, reverse, take, get_or, true, false, ◌≤◌, ◌<◌, Bool, eqb, subst, ℕ, zero, suc, ◌+◌, List, [], ◌∷◌, length, drop, Option, Some, None, Ok, Err, refl, sym, ap, ◌∙◌, ◌⊎◌, inl, inr, arith, All, MatchOption, slice_get}
 use Rattle.std.proofs.lemmas.Bool.{eq-eqb, false_from_ne_true, eqb-true}
 use Rattle.std.proofs.lemmas.List.{take_more, reverse-append}
 use Rattle.std.proofs.lemmas.List.Elements.{All-cons, All-tail}

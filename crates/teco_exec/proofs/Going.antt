@@ -1,6 +1,5 @@
 -- The run of a whole string by some moment: what uses no step, a step, and the end.
-use Rattle.std.proofs.Common.{◌≡◌, ◌≢◌, ℕ, suc, ◌+◌, ◌-◌, ◌<◌, ◌≤◌, List, [], ◌++◌, Option, Some, None, true, false, refl, sym, ap, subst, ◌∙◌, arith, append_assoc, append-nil}
-use Rattle.std.specs.Prelude.{Bool}
+use Rattle.std.proofs.Common.{◌≡◌, ◌≢◌, ℕ, suc, ◌+◌, ◌-◌, ◌<◌, ◌≤◌, List, [], ◌++◌, Option, Some, None, true, false, refl, sym, ap, subst, ◌∙◌, arith, append_assoc, append-nil, Bool}
 use Rattle.std.proofs.lemmas.List.{append_cancel_left}
 use Rattle.std.proofs.KnownBytes.{Appends-trans, Appends-nil}
 use Rattle.teco_core.specs.declared.code.Code.{Code}
@@ -12,9 +11,8 @@ use Rattle.teco_exec.specs.Machine.{Final, Now, run_within}
 use Rattle.teco_exec.specs.StringMeaning.{Meant, string_meaning}
 use Rattle.teco_exec.specs.Runs.{Runs, EndsWell, is_tty, trail_of}
 use Rattle.teco_exec.specs.Running.{Origin, Host, host, Continuation, Going, Follows, Comes, Ended, Reached, goes, over, Reaches, reached_run, ready_run, whole_run, now_at, ended_by, IsFinished}
-use Rattle.teco_exec.proofs.Composing.{Stays, ready_fuel}
 use Rattle.teco_exec.specs.MachineLaws.{MachineMeans}
-use Rattle.teco_exec.proofs.MachineMeans.{final_now}
+use Rattle.teco_exec.proofs.MachineMeans.{final_now, Stays, ready_fuel}
 
 -- One piece of what a terminal shows after another.
 pub shows_nothing : (w : Screen) → Shows w w [] false

@@ -7,15 +7,9 @@ pub mod CursorMeans
 pub mod Resuming
 pub mod MachineMeans
 pub mod StringLaws
-pub mod Texts
 pub mod Rows
-pub mod EditRows
-pub mod PageRows
-pub mod SearchRows
-pub mod Composing
 pub mod Going
 pub mod Stepped
 pub mod Continuations
-pub mod Tokens
 pub mod NoMemory
 pub mod Semicolons

@@ -1,6 +1,5 @@
 -- The meaning is one layer over itself and raises no fuel; so its sentences are proved.
-use Rattle.std.proofs.Common.{◌≡◌, ℕ, zero, suc, ◌+◌, ◌<◌, ◌≤◌, List, Option, Some, None, Bool, true, false, Result, Ok, Err, refl, ap, ◌∙◌, arith, sym}
-use Rattle.std.specs.Prelude.{◌==◌, ℤ, if◌then◌else◌}
+use Rattle.std.proofs.Common.{◌≡◌, ℕ, zero, suc, ◌+◌, ◌<◌, ◌≤◌, List, Option, Some, None, Bool, true, false, Result, Ok, Err, refl, ap, ◌∙◌, arith, sym, ◌==◌, ℤ, if◌then◌else◌}
 use Rattle.teco_core.specs.declared.code.Code.{Code}
 use Rattle.teco_core.specs.declared.code.Code.TheVariants.{Lim, Naq, Pdo, Tag}
 use Rattle.teco_core.specs.declared.arguments.Taken.{Taken}

@@ -1,5 +1,5 @@
 -- Steps of a text, of tokens and of blocks.
-use Rattle.std.proofs.Common.{◌≡◌, ℕ, List, length, Option, Bool, true, false, refl, ap, ◌∙◌, ◌+◌, ◌<◌, ◌≤◌, [], drop, Some, None, Result, Ok, Err, inl, inr, sym, subst, arith, append-nil}
+use Rattle.std.proofs.Common.{◌≡◌, ℕ, List, length, Option, Bool, true, false, refl, ap, ◌∙◌, ◌+◌, ◌<◌, ◌≤◌, [], drop, Some, None, Result, Ok, Err, inl, inr, sym, subst, arith, append-nil, MatchResult, zero, suc}
 use Rattle.teco_core.specs.ArgumentsView.{arguments}
 use Rattle.teco_core.specs.Arguments.{Arguments}
 use Rattle.teco_scan.specs.Scan.{scan}
@@ -14,11 +14,10 @@ use Rattle.teco_step.specs.Effect.{effect, item_effect}
 use Rattle.teco_step.specs.declared.next.Setting.{Setting}
 use Rattle.teco_step.specs.Step.{done_by, settled, Step, End, at}
 use Rattle.teco_step.specs.Stepping.{IsStepIn, IsStepKind, kind_effect, token_effect, end_of, is_unfinished, is_unfinished_code, Steps, IsDone, trail_after, name_in}
-use Rattle.teco_exec.specs.Machine.{inside, leave_found, setting_of, Caller, Config, Moved, Now, runs, going, resumed, run_within, arrives, block_step}
-use Rattle.teco_exec.specs.Tokens.{looks_around}
+use Rattle.teco_exec.specs.Machine.{inside, leave_found, setting_of, Caller, Config, Moved, Now, runs, going, resumed, run_within, arrives, block_step, arrives_within}
+use Rattle.teco_exec.specs.Tokens.{looks_around, Counts, ProgressFinishes, progresses}
 use Rattle.teco_exec.specs.View.{cursor, item_at, Finishes as MovesWell, moved_of, opening_of}
 use Rattle.teco_exec.specs.declared.cursor.Cursor.{Cursor}
-use Rattle.std.specs.Prelude.{MatchResult}
 use Rattle.teco_core.specs.declared.arguments.Args.{Args}
 use Rattle.teco_core.specs.declared.code.Code.{Code}
 use Rattle.teco_core.specs.declared.code.Code.TheVariants.{Mem, Tty}
@@ -30,9 +29,11 @@ use Rattle.teco_exec.specs.Running.{Origin, Host, host, Continuation, Going, Com
 use Rattle.teco_exec.specs.declared.flow.Flow.{Flow}
 use Rattle.teco_exec.specs.declared.flow.Flow.TheVariants.{On, Call, Return, Over}
 use Rattle.teco_exec.specs.declared.moves.Opening.{Opening}
-use Rattle.teco_exec.proofs.Composing.{Stays, arrives_stays, halted, run_ready}
 use Rattle.teco_exec.proofs.Going.{EndsByItself, Pays, advanced, since, settles, step_done, no_memory, no_terminal, shows_nothing}
-use Rattle.teco_exec.proofs.MachineMeans.{going_now, resumed_now}
+use Rattle.teco_exec.proofs.MachineMeans.{going_now, resumed_now, Stays, arrives_stays, halted, run_ready}
+use Rattle.teco_exec.specs.declared.flow.Progress.{Progress}
+use Rattle.teco_exec.specs.declared.flow.Progress.TheVariants.{Further, Done}
+use Rattle.teco_exec.specs.declared.flow.Steps.{Steps as StepCount}
 
 -- What surrounds a token is seen only where its step looks around.
 module _ (w : Setting) (i b : Bool) where
@@ -189,3 +190,19 @@ module _ (c : Cursor) (b : Opening) (to : ℕ) (callers : List Caller) where
       step_done o h (at_opening c b to callers) g after_block h.state [] 0 (block_pays h.state) block_stays later count is_same (shows_nothing h.screen)
       (λ u p none at state within. marks (moved u 0) (eases u p) (omega arith) (omega arith) (ap u.states count ∙ state) (subst (λ k. u.load + 0 ≤ u.loads k) (sym count) within)) in
       since o h later later d there.follows (settles o later after_block there.going d fin (omega arith) (λ now fuel. sym (run_ready fuel _) ∙ leads now fuel))
+
+-- Steps of tokens: what is counted, and a further step.
+pub counts_on : {a b c : StepCount} → Counts a b → Counts b c → Counts a c
+counts_on p q = record { limit = q.limit ∙ p.limit; after = omega (arith, p.after, q.after) }
+
+-- A token has a further step.
+pub goes_further : (callers : List Caller) (now : Now) (fuel : ℕ) (c : Cursor) (token : Token) (work : Work)
+    → run_within fuel (runs (config c.text.now (cursor c) (Some (record { modifiers = token.modifiers; item = item_at c.text.now token.kind; work = work })) callers now))
+    ≡ ready_run fuel (at_token c token (Some work) callers now)
+unfolding run_within arrives arrives_within
+goes_further callers now zero c token work = refl
+goes_further callers now (suc fuel) c token work = refl
+
+pub progress_finishes : (c : Cursor) (token : Token) (callers : List Caller) (p : Progress) → ProgressFinishes p → EndsByItself (progresses c token callers p)
+progress_finishes c token callers (Further work) h = tt
+progress_finishes c token callers (Done flow) h = finishes c callers flow h

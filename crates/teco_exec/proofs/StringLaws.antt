@@ -1,12 +1,10 @@
 -- What a string does under more and under less of a limit; one that makes the session done ends with no code.
-use Rattle.std.proofs.Common.{◌≡◌, ℕ, zero, suc, ◌+◌, ◌-◌, ◌<◌, ◌≤◌, List, Option, Some, refl, sym, ap, ◌∙◌, inl, inr, arith, subst, None, Bool, true, false, true≢false}
-use Rattle.std.specs.Prelude.{◌⊎◌, ◌≢◌}
+use Rattle.std.proofs.Common.{◌≡◌, ℕ, zero, suc, ◌+◌, ◌-◌, ◌<◌, ◌≤◌, List, Option, Some, refl, sym, ap, ◌∙◌, inl, inr, arith, subst, None, Bool, true, false, true≢false, ◌⊎◌, ◌≢◌}
 use Rattle.teco_core.specs.declared.code.Code.{Code}
 use Rattle.teco_core.specs.declared.code.Code.TheVariants.{Lim}
 use Rattle.teco_store.specs.State.{State}
 use Rattle.teco_exec.specs.StringMeaning.{Meant, string_meaning}
 use Rattle.teco_exec.specs.Machine.{Config, Machine, runs, Ready, step, block, finished, Final, final, arrives, pays, unpaid, paid, run_within, exec, start_config, Now, now_of, halts, resumed, setting_of, arrives_within, block_step}
-use Rattle.teco_exec.proofs.Composing.{fuel_within}
 use Rattle.teco_exec.specs.Laws.{StepsWithinLimit, MoreLimitChangesNothing, EnoughIsEnough, ZeroLimitChangesNothing, ExitEndsWell}
 use Rattle.teco_exec.specs.MachineLaws.{MachineMeans, MachineFollows}
 use Rattle.teco_core.specs.declared.code.Code.TheVariants as code
@@ -16,7 +14,7 @@ use Rattle.teco_step.specs.Step.{End, out}
 use Rattle.teco_step.specs.Effect.{effect}
 use Rattle.teco_step.specs.Laws.{OnlyExits}
 use Rattle.teco_exec.specs.Runs.{Runs}
-use Rattle.teco_exec.proofs.MachineMeans.{ready_now, arrives_now, going_now, resumed_now}
+use Rattle.teco_exec.proofs.MachineMeans.{ready_now, arrives_now, going_now, resumed_now, fuel_within}
 
 abbrev raised : ℕ → Final → Final
 raised j f = record f { fuel = f.fuel + j }

@@ -1,5 +1,5 @@
 -- One put after another.
-use Rattle.std.proofs.Common.{ℕ, List, [], ◌++◌, Bool, true, false, Result, Ok, Err, IsErr, refl, sym, ap, append_assoc, ◌∙◌}
+use Rattle.std.proofs.Common.{ℕ, ◌≢◌, List, [], ◌∷◌, ◌++◌, Bool, true, false, Result, Ok, Err, IsErr, refl, sym, ap, append_assoc, ◌∙◌}
 use Rattle.std.proofs.lemmas.Bool.{false≢true}
 use Rattle.std.proofs.KnownBytes.{Appends-trans, Appends-nil}
 use Rattle.teco_step.specs.Terminal.{IsFrontOf, Screen, Shows, Puts, count_after}
@@ -21,3 +21,12 @@ pub Puts-front : {A E : Type 0} {a b : Screen} {xs : List ℕ} (front ys : List 
     → IsFrontOf front xs → Shows a b front true → IsErr r → Puts a b (xs ++ ys) r
 Puts-front front ys (Ok done) p q is = absurd (false≢true is)
 Puts-front front ys (Err fault) (rest, e) q is = (front, (rest ++ ys, ap (λ l. l ++ ys) e ∙ append_assoc front rest ys), q)
+
+-- some bytes, before and after others
+pub nonempty_before : (xs ys : List ℕ) → xs ≢ [] → xs ++ ys ≢ []
+nonempty_before [] ys some = λ _. some refl
+nonempty_before (x ∷ xs) ys some = λ e. cc
+
+pub nonempty_after : (xs ys : List ℕ) → ys ≢ [] → xs ++ ys ≢ []
+nonempty_after [] ys some = some
+nonempty_after (x ∷ xs) ys some = λ e. cc

@@ -16,7 +16,7 @@ use itoa::Buffer;
 use std::ops::Range;
 use teco_core::{Args, Code};
 use teco_scan::Modifiers;
-use teco_store::Desk;
+use teco_store::{Desk, part};
 
 /// Shows the bytes, and puts nothing where there are none.
 fn put_some<T: Terminal>(bytes: &[u8], term: &mut T) -> Result<(), TerminalFault>
@@ -41,15 +41,9 @@ fn put_range<T: Terminal>(
     ensures puts { Puts (T.screen term.old) (T.screen term.new) (drop range.start (take range.end (before.now ++ after.now))) result }
     ensures some { OnErr result (drop range.start (take range.end (before.now ++ after.now)) ≢ []) }
 {
-    let middle = before.len();
-    put_some(
-        &before[range.start.min(middle)..range.end.min(middle)],
-        term,
-    )?;
-    put_some(
-        &after[range.start.saturating_sub(middle)..range.end.saturating_sub(middle)],
-        term,
-    )
+    let (first, second) = part(before, after, range.start, range.end);
+    put_some(first, term)?;
+    put_some(second, term)
 }
 
 /// Shows the bytes. The command is then done, and its arguments gone.

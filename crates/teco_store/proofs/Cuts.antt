@@ -8,7 +8,7 @@ use Rattle.teco_store.specs.Entry.{body_back, FitsBack, before, since, of_step, 
 use Rattle.teco_store.specs.Follows.{AreMarked}
 use Rattle.teco_store.specs.RecordLaws.{ComesSoFarCut}
 use Rattle.teco_store.proofs.Entries.{sound_back_all}
-use Rattle.teco_store.proofs.Recordings.{since_low, since_high, before_low, before_high, FitsBack-since}
+use Rattle.teco_store.proofs.Recordings.{body_back-append, since_low, since_high, before_low, before_high, FitsBack-since}
 
 -- a place that has the changes of the first `n` steps before it, and all others after it
 pub record IsCut (n i : ℕ) (xs : List Note) : Type 0 where
@@ -55,10 +55,6 @@ cut_here n (x ∷ xs) = elim (cases_lt x.step n) [
   | inl l ↦ ap (λ ys. ys ++ since n (x ∷ xs)) (before_low n x xs l) ∙ ap (λ ys. x ∷ (before n xs ++ ys)) (since_low n x xs l) ∙ ap (λ ys. x ∷ ys) (cut_here n xs)
   | inr g ↦ ap (λ ys. ys ++ since n (x ∷ xs)) (before_high n x xs g) ∙ since_high n x xs g
 ]
-
-body_back-append : (xs ys : List Note) (b : Body) → body_back (xs ++ ys) b ≡ body_back xs (body_back ys b)
-body_back-append [] ys b = refl
-body_back-append (x ∷ xs) ys b = ap (body_after x.turn) (body_back-append xs ys b)
 
 FitsBack-front : (capacity : ℕ) (xs ys : List Note) (b : Body) → FitsBack capacity (xs ++ ys) b → FitsBack capacity xs (body_back ys b)
 FitsBack-front capacity [] ys b f = tt

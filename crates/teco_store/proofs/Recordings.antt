@@ -11,14 +11,14 @@ use Rattle.teco_store.specs.Follows.{Recording, AreMarked, HasCome, Follows, Goe
 use Rattle.teco_store.proofs.Turns.{fits_after, body_again, content_put}
 use Rattle.teco_store.proofs.Entries.{fits_more, sound_more, sound_within, shown_back_all, shown_fits}
 
-pub body_back-push : (xs : List Note) (c : Note) (b : Body) → body_back (xs ++ c ∷ []) b ≡ body_back xs (body_after c.turn b)
-body_back-push [] c b = refl
-body_back-push (x ∷ xs) c b = ap (body_after x.turn) (body_back-push xs c b)
+pub body_back-append : (xs ys : List Note) (b : Body) → body_back (xs ++ ys) b ≡ body_back xs (body_back ys b)
+body_back-append [] ys b = refl
+body_back-append (x ∷ xs) ys b = ap (body_after x.turn) (body_back-append xs ys b)
 
 pub FitsBack-push : (room : ℕ) (xs : List Note) (c : Note) (b : Body) → FitsBack room xs (body_after c.turn b) → Fits room b.output c.turn b → FitsBack room (xs ++ c ∷ []) b
 FitsBack-push room [] c b f g = (tt, g)
 FitsBack-push room (x ∷ xs) c b f g =
-    (FitsBack-push room xs c b f.0 g, subst (λ (y : Body). Fits room y.output x.turn y) (sym (body_back-push xs c b)) f.1)
+    (FitsBack-push room xs c b f.0 g, subst (λ (y : Body). Fits room y.output x.turn y) (sym (body_back-append xs (c ∷ []) b)) f.1)
 
 pub FitsBack-more : (room room' : ℕ) (xs : List Note) (b : Body) → room ≤ room' → FitsBack room xs b → FitsBack room' xs b
 FitsBack-more room room' [] b r f = tt
@@ -29,7 +29,7 @@ pub load_back-push : (xs : List Note) (c : Note) (b : Body) → load_back (xs ++
 load_back-push [] c b = omega arith
 load_back-push (x ∷ xs) c b =
     let rest = load_back-push xs c b in
-    let one : weight x.turn (body_back (xs ++ c ∷ []) b) ≡ weight x.turn (body_back xs (body_after c.turn b)) = ap (weight x.turn) (body_back-push xs c b) in
+    let one : weight x.turn (body_back (xs ++ c ∷ []) b) ≡ weight x.turn (body_back xs (body_after c.turn b)) = ap (weight x.turn) (body_back-append xs (c ∷ []) b) in
     omega arith
 
 pub since_low : (i : ℕ) (c : Note) (cs : List Note) → c.step < i → since i (c ∷ cs) ≡ since i cs
@@ -140,7 +140,7 @@ come_noted r t d f fits rises =
     let same_weight : weight c.turn b' ≡ weight d b = weight_after d b fits.0 in
     let back : (i : ℕ) → i ≤ t.steps → body_back (since i (r.notes ++ c ∷ [])) b' ≡ body_back (since i r.notes) b =
     λ i h. let le : i ≤ r.done = let e = f.done in omega arith in
-    ap (λ (xs : List Note). body_back xs b') (since-push i r.notes c le) ∙ body_back-push (since i r.notes) c b' ∙ ap (body_back (since i r.notes)) again in
+    ap (λ (xs : List Note). body_back xs b') (since-push i r.notes c le) ∙ body_back-append (since i r.notes) (c ∷ []) b' ∙ ap (body_back (since i r.notes)) again in
     let early : (i : ℕ) → i ≤ t.steps → before i (r.notes ++ c ∷ []) ≡ before i r.notes =
     λ i h. let le : i ≤ r.done = let e = f.done in omega arith in before-push i r.notes c le in
     record {

@@ -43,12 +43,16 @@ pub record OneBack (xs ys : List Note) (x : Note) (i j : ℕ) (b : Body) : Type 
   pub body : body_after x.turn (body_back (drop j xs) b) ≡ body_back (drop i xs) b
   pub fits : (room : ℕ) → FitsBack room xs b → Fits room (body_back (drop j xs) b).output x.turn (body_back (drop j xs) b)
 
+-- the change at `i` is still as it was
+pub read_before : (xs ys : List Note) (x : Note) (i j : ℕ) (b : Body) → j ≡ i + 1 → i < length xs → ys ≡ take j xs ++ notes_back (drop j xs) b → x ≡ get_or ys i x → x ≡ get_or xs i x
+read_before xs ys x i j b n lt e is =
+    let size : length (take j xs) ≡ j = length-take-le j xs (omega arith) in
+    is ∙ ap (λ (zs : List Note). get_or zs i x) e ∙ get_or_append_left (take j xs) (notes_back (drop j xs) b) x i (omega arith) ∙ get_or-take j xs i x (omega arith)
+
 pub one_back : (xs ys : List Note) (x : Note) (i j : ℕ) (b : Body) → j ≡ i + 1 → i < length xs → ys ≡ take j xs ++ notes_back (drop j xs) b → x ≡ get_or ys i x → OneBack xs ys x i j b
 one_back xs ys x i j b n lt e is =
-    let size : length (take j xs) ≡ j = length-take-le j xs (omega arith) in
     let short : length (take i xs) ≡ i = length-take-le i xs (omega arith) in
-    let read : x ≡ get_or xs i x =
-    is ∙ ap (λ (zs : List Note). get_or zs i x) e ∙ get_or_append_left (take j xs) (notes_back (drop j xs) b) x i (omega arith) ∙ get_or-take j xs i x (omega arith) in
+    let read : x ≡ get_or xs i x = read_before xs ys x i j b n lt e is in
     let taken : take j xs ≡ take i xs ++ x ∷ [] = ap (λ k. take k xs) n ∙ take_more xs i x lt ∙ ap (λ y. take i xs ++ y ∷ []) (sym read) in
     let rest : drop i xs ≡ x ∷ drop j xs = drop_more xs i x lt ∙ ap (λ y. y ∷ drop (i + 1) xs) (sym read) ∙ ap (λ k. x ∷ drop k xs) (sym n) in
     let whole : ys ≡ take i xs ++ x ∷ notes_back (drop j xs) b = e ∙ ap (λ zs. zs ++ notes_back (drop j xs) b) taken ∙ append_assoc (take i xs) (x ∷ []) (notes_back (drop j xs) b) in

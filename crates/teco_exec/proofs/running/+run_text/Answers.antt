@@ -6,7 +6,7 @@ use Rattle.teco_exec.specs.Running.{Going, at_call, at_cursor, at_return, goes, 
 use Rattle.teco_exec.proofs.Continuations.{begins, caller, comes_back, enters, less_left, too_deep}
 use Rattle.teco_exec.proofs.Going.{continues, since}
 use Rattle.teco_exec.proofs.NoMemory.{begins_quietly}
-use Rattle.teco_exec.proofs.Tokens.{counts_on}
+use Rattle.teco_exec.proofs.Stepped.{counts_on}
 use Rattle.teco_exec.proofs.running.+run_text.Goals as goal
 
 pub running-init : goal.running-init

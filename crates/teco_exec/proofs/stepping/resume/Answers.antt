@@ -2,9 +2,8 @@ use Rattle.std.proofs.Common.{None, sym, ap, ◌∙◌}
 use Rattle.teco_exec.specs.Machine.{jumping}
 use Rattle.teco_exec.specs.Running.{flows, reached_run}
 use Rattle.teco_exec.specs.View.{cursor}
-use Rattle.teco_exec.proofs.Composing.{halted, run_ready}
-use Rattle.teco_exec.proofs.Stepped.{ends_so, goes_on, moves_on}
-use Rattle.teco_exec.proofs.Tokens.{goes_further}
+use Rattle.teco_exec.proofs.MachineMeans.{halted, run_ready}
+use Rattle.teco_exec.proofs.Stepped.{ends_so, goes_on, moves_on, goes_further}
 use Rattle.teco_exec.proofs.stepping.resume.Goals as goal
 
 pub returns-in-On-clause-resumes : goal.returns-in-On-clause-resumes

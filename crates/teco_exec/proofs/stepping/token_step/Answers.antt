@@ -3,8 +3,7 @@ use Rattle.teco_step.specs.Stepping.{name_in}
 use Rattle.teco_exec.specs.Running.{Reaches, flows, host}
 use Rattle.teco_exec.specs.Tokens.{progresses}
 use Rattle.teco_exec.proofs.Going.{limit_ends}
-use Rattle.teco_exec.proofs.Stepped.{ends_over, token_fails, token_goes}
-use Rattle.teco_exec.proofs.Tokens.{progress_finishes}
+use Rattle.teco_exec.proofs.Stepped.{ends_over, token_fails, token_goes, progress_finishes}
 use Rattle.teco_exec.proofs.stepping.token_step.Goals as goal
 
 pub returns-then-steps-clause-leads : goal.returns-then-steps-clause-leads

@@ -3,7 +3,7 @@ use Rattle.std.proofs.lemmas.List.{get_or_append_left, get_or-take, length-take-
 use Rattle.teco_store.specs.State.{Body, Full}
 use Rattle.teco_store.specs.Turn.{Note, TakeOff, full_after, note_after}
 use Rattle.teco_store.specs.Entry.{body_back, notes_back}
-use Rattle.teco_store.proofs.Turned.{OneBack, one_back}
+use Rattle.teco_store.proofs.Turned.{OneBack, one_back, read_before}
 use Rattle.teco_store.proofs.Cuts.{IsCut, cut_at, late_at}
 use Rattle.teco_store.proofs.turning.revert_since.Goals as goal
 
@@ -14,12 +14,6 @@ revert-requires c =
     let one : OneBack c.args.entry.now.items c.loop-kept.entry.items c.index_mut.result.now (c.loop-kept.kept - 1) c.loop-kept.kept c.args.editor.now.body =
     one_back _ _ _ _ _ _ i (omega arith) here.entry c.index_mut.ensures.value in
     rw here.editor (one.fits c.args.editor.now.room c.requires.fits)
-
--- the change before the place is still as it was
-read_before : (xs ys : List Note) (x : Note) (i j : ℕ) (b : Body) → j ≡ i + 1 → i < length xs → ys ≡ take j xs ++ notes_back (drop j xs) b → x ≡ get_or ys i x → x ≡ get_or xs i x
-read_before xs ys x i j b n lt e is =
-    let size : length (take j xs) ≡ j = length-take-le j xs (omega arith) in
-    is ∙ ap (λ (zs : List Note). get_or zs i x) e ∙ get_or_append_left (take j xs) (notes_back (drop j xs) b) x i (omega arith) ∙ get_or-take j xs i x (omega arith)
 
 pub loop-kept-preserved : goal.loop-kept-preserved
 loop-kept-preserved c =
