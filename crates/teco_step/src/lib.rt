@@ -5,6 +5,7 @@ mod case;
 mod control;
 mod decimal;
 mod edit;
+mod fail_after;
 mod failure;
 mod joining;
 mod laws;
@@ -22,6 +23,7 @@ mod typing;
 mod value;
 mod writer_terminal;
 
+pub use fail_after::FailAfter;
 pub use laws::{effect_laws, screen_laws};
 pub use line::line_place;
 pub use memory_terminal::MemoryTerminal;
