@@ -17,7 +17,7 @@ pub use case_mode::CaseMode;
 pub use code::Code;
 pub use laws::argument_laws;
 pub use limits::{
-    BLOCK_LIMIT, CALL_LIMIT, FILE_LIMIT, PARENTHESIS_LIMIT, PUSHED_LIMIT, TEXT_LIMIT,
+    BLOCK_LIMIT, CALL_LIMIT, DEPTH_LIMIT, FILE_LIMIT, PARENTHESIS_LIMIT, PUSHED_LIMIT, TEXT_LIMIT,
 };
 pub use number::{Op, decimal, operation};
 pub use push_down::PushList;

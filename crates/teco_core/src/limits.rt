@@ -17,3 +17,6 @@ pub const TEXT_LIMIT: usize = 1 << 24;
 
 /// The most bytes of the input, and of the output.
 pub const FILE_LIMIT: usize = 1 << 30;
+
+/// The most strings that a session with a bounded history can be asked to keep.
+pub const DEPTH_LIMIT: usize = 100_000;

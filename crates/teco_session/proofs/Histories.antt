@@ -4,24 +4,24 @@ use Rattle.std.proofs.KnownBytes.{Appends-trans, Appends-nil}
 use Rattle.teco_store.specs.State.{State}
 use Rattle.teco_exec.specs.StringMeaning.{string_meaning}
 use Rattle.teco_step.specs.Terminal.{Screen, Shows, count_after}
-use Rattle.teco_session.specs.History.{History, NotedString, state_after, present, AreMeant, IsHistory, noted}
+use Rattle.teco_session.specs.History.{History, NotedString, state_after, present, AreMeant, IsHistory, appended}
 use Rattle.teco_session.specs.Step.{Step, Reply, is_terminal_failure}
 use Rattle.teco_session.specs.Play.{Play, ShowsAll, typed_by, answers_of, failures_after}
 use Rattle.teco_session.specs.declared.request.Request.{Request}
 use Rattle.teco_session.specs.declared.request.Answer.{Answer}
 
 -- a note put where it is meant
-AreMeant-noted : (s : State) (notes : List NotedString) (i : ℕ) (note : NotedString) → AreMeant s notes → i ≤ length notes
+AreMeant-appended : (s : State) (notes : List NotedString) (i : ℕ) (note : NotedString) → AreMeant s notes → i ≤ length notes
     → note.state ≡ (string_meaning (state_after s notes i) note.text note.steps).state → AreMeant s (take i notes ++ note ∷ [])
-AreMeant-noted s notes zero note m h e = (e, tt)
-AreMeant-noted s [] (suc i) note m h e = absurd (omega arith)
-AreMeant-noted s (n ∷ notes) (suc i) note m h e = (m.0, AreMeant-noted n.state notes i note m.1 (omega arith) e)
+AreMeant-appended s notes zero note m h e = (e, tt)
+AreMeant-appended s [] (suc i) note m h e = absurd (omega arith)
+AreMeant-appended s (n ∷ notes) (suc i) note m h e = (m.0, AreMeant-appended n.state notes i note m.1 (omega arith) e)
 
 -- a history goes on by what a string left
-pub IsHistory-noted : (h : History) (note : NotedString) → IsHistory h → note.state ≡ (string_meaning (present h) note.text note.steps).state → IsHistory (noted h note)
-IsHistory-noted h note ok e = record {
+pub IsHistory-appended : (h : History) (note : NotedString) → IsHistory h → note.state ≡ (string_meaning (present h) note.text note.steps).state → IsHistory (appended h note)
+IsHistory-appended h note ok e = record {
   begins = ok.begins;
-  states = AreMeant-noted h.first h.notes h.cursor note ok.states ok.within e;
+  states = AreMeant-appended h.first h.notes h.cursor note ok.states ok.within e;
   within = simp (length-append, length-take) (let w = ok.within in omega arith);
 }
 

@@ -8,11 +8,11 @@ use Rattle.teco_store.specs.Follows.{HasCome, Leads}
 use Rattle.teco_store.specs.RecordLaws.{BackThenForth, ComesSoExtended, ComesSoFarCut}
 use Rattle.teco_exec.specs.Runs.{trail_of}
 use Rattle.teco_exec.specs.StringMeaning.{string_meaning}
-use Rattle.teco_session.specs.History.{History, NotedString, note_at, present, undone, noted, with_steps}
+use Rattle.teco_session.specs.History.{History, NotedString, note_at, present, undone, appended, with_steps}
 use Rattle.teco_session.specs.Kept.{KeptString, KeptSession, string_back, string_cut, noted_as, history_of, HasRun, LeadBack, IsSession, turned_back, cut_back}
 use Rattle.teco_session.proofs.Headings.{has_text}
 use Rattle.teco_session.proofs.Turning.{Turned, cursor_at, last_done, present_is, session_back}
-use Rattle.teco_session.proofs.Running.{Ran, session_ran}
+use Rattle.teco_session.proofs.Running.{Appended, session_appended}
 
 -- the last string that is done has run
 pub has_run : (s : KeptSession) (x : KeptString) (i : ℕ) → s.cursor ≡ i + 1 → IsSession s → x ≡ get_or s.strings i x → HasRun s.editor x
@@ -45,7 +45,7 @@ cut_run law f x n le run =
 -- a session after a rewind
 pub record IsRewound (s t : KeptSession) (x : KeptString) (i n : ℕ) : Type 0 where
   pub holds : IsSession t
-  pub history : history_of t ≡ noted (undone (history_of s)) (with_steps n (present (undone (history_of s))) (note_at (history_of s) i))
+  pub history : history_of t ≡ appended (undone (history_of s)) (with_steps n (present (undone (history_of s))) (note_at (history_of s) i))
 
 same_note : (text text' : List ℕ) (n : ℕ) (a b : State) → text ≡ text' → a ≡ b → (let x : NotedString = record { text = text; steps = n; state = a } in x) ≡ record { text = text'; steps = n; state = b }
 same_note text text' n a b e h = rw (e, h) refl
@@ -59,8 +59,8 @@ session_cut back more law s x i n at ok is le =
     let within = ok.within in
     let turned : Turned s u i = session_back back s x i at ok is in
     let cut : IsCutRun s.editor x n = cut_run law s.editor x n le (has_run s x i at ok is) in
-    let ran : Ran u t (string_cut n x) =
-    session_ran back more u t (string_cut n x) turned.holds cut.leads cut.run cut.again (ap (λ (ys : List KeptString). ys ++ string_cut n x ∷ []) (sym (take-set s.strings i (string_back x s.editor.body)))) at in
+    let ran : Appended u t (string_cut n x) =
+    session_appended back more u t (string_cut n x) turned.holds cut.leads cut.run cut.again (ap (λ (ys : List KeptString). ys ++ string_cut n x ∷ []) (sym (take-set s.strings i (string_back x s.editor.body)))) at refl in
     let before : history_of u ≡ undone h = turned.history ∙ ap (cursor_at h) (let e : i ≡ s.cursor - 1 = omega arith in e) in
     let text : x.text ≡ (note_at h i).text = ap (λ (y : KeptString). y.text) is ∙ sym (has_text s i _ x within (omega arith)) in
     let state : state_of t.editor ≡ (string_meaning (present (undone h)) (note_at h i).text n).state =
@@ -68,6 +68,6 @@ session_cut back more law s x i n at ok is le =
     ∙ ap (λ (bytes : List ℕ). (string_meaning (present (undone h)) bytes n).state) text in
     record {
       holds = ran.holds;
-      history = ran.history ∙ ap (λ (z : History). noted z (noted_as (string_cut n x) (state_of t.editor))) before
-          ∙ ap (noted (undone h)) (same_note _ _ n _ _ text state);
+      history = ran.history ∙ ap (λ (z : History). appended z (noted_as (string_cut n x) (state_of t.editor))) before
+          ∙ ap (appended (undone h)) (same_note _ _ n _ _ text state);
     }

@@ -1,5 +1,5 @@
 -- Sessions: a string is run.
-use Rattle.std.proofs.Common.{◌≡◌, ℕ, ◌+◌, ◌≤◌, List, [], ◌∷◌, ◌++◌, length, take, drop, reverse, refl, sym, ◌∙◌, ap, subst, arith, append_assoc, length-append}
+use Rattle.std.proofs.Common.{◌≡◌, ℕ, ◌+◌, ◌≤◌, Option, List, [], ◌∷◌, ◌++◌, length, take, drop, reverse, refl, sym, ◌∙◌, ap, subst, arith, append_assoc, length-append}
 use Rattle.std.proofs.lemmas.List.{reverse-append, length-reverse, length-take-le, drop_all, take_all, take_at, take-take, take-append-drop}
 use Rattle.teco_store.specs.State.{State, Body, IsSound, Extends, state_at, state_of}
 use Rattle.teco_store.specs.Entry.{body_back}
@@ -7,9 +7,9 @@ use Rattle.teco_store.specs.Follows.{HasCome, Leads}
 use Rattle.teco_store.specs.RecordLaws.{BackThenForth, ComesSoExtended}
 use Rattle.teco_exec.specs.Runs.{trail_of}
 use Rattle.teco_exec.specs.StringMeaning.{string_meaning}
-use Rattle.teco_session.specs.History.{History, NotedString, IsHistory, noted}
+use Rattle.teco_session.specs.History.{History, NotedString, IsHistory, appended}
 use Rattle.teco_session.specs.Kept.{KeptString, KeptSession, done_strings, undone_strings, noted_as, first_body, done_notes, undone_notes, history_of, HasRun, editor_at, LeadBack, LeadForth, IsSession}
-use Rattle.teco_session.proofs.Histories.{IsHistory-noted}
+use Rattle.teco_session.proofs.Histories.{IsHistory-appended}
 use Rattle.teco_session.proofs.Turning.{history_is, length-done_notes, present_is}
 
 -- a state is the same over any stored output that begins with the same bytes
@@ -60,7 +60,7 @@ stays law more room room' m st st' (x ∷ xs) b ns r h same sound f =
     }
 
 -- the notes that follow stay apart
-notes_split : (st : List ℕ) (xs : List KeptString) (b : Body) (ns : List NotedString) → done_notes st xs b ns ≡ done_notes st xs b [] ++ ns
+pub notes_split : (st : List ℕ) (xs : List KeptString) (b : Body) (ns : List NotedString) → done_notes st xs b ns ≡ done_notes st xs b [] ++ ns
 notes_split st [] b ns = refl
 notes_split st (x ∷ xs) b ns =
     let n : NotedString = noted_as x (state_at st b) in
@@ -74,18 +74,18 @@ notes_cut st xs b ns c n =
     let size : length (done_notes st xs b none) ≡ length xs + length none = length-done_notes st xs b none in
     ap (take c) (notes_split st xs b ns) ∙ take_at (done_notes st xs b none) ns c (omega arith)
 
--- a session after a string that has begun
-pub record Ran (s t : KeptSession) (x : KeptString) : Type 0 where
+-- a session after a string that has begun, with a string more than before
+pub record Appended (s t : KeptSession) (x : KeptString) : Type 0 where
   pub holds : IsSession t
-  pub history : history_of t ≡ noted (history_of s) (noted_as x (state_of t.editor))
+  pub history : history_of t ≡ appended (history_of s) (noted_as x (state_of t.editor))
 
-same_parts : (first first' : State) (notes notes' : List NotedString) (c c' : ℕ) → first ≡ first' → notes ≡ notes' → c ≡ c'
-    → (let h : History = record { first = first; notes = notes; cursor = c } in h) ≡ record { first = first'; notes = notes'; cursor = c' }
-same_parts first first' notes notes' c c' a b d = rw (a, b, d) refl
+same_parts : (first first' : State) (notes notes' : List NotedString) (c c' : ℕ) (depth depth' : Option ℕ) → first ≡ first' → notes ≡ notes' → c ≡ c' → depth ≡ depth'
+    → (let h : History = record { first = first; notes = notes; cursor = c; depth = depth } in h) ≡ record { first = first'; notes = notes'; cursor = c'; depth = depth' }
+same_parts first first' notes notes' c c' depth depth' a b d e = rw (a, b, d, e) refl
 
-pub session_ran : BackThenForth → ComesSoExtended → (s t : KeptSession) (x : KeptString) → IsSession s → Leads s.editor t.editor x.changes → HasRun t.editor x
-    → state_of t.editor ≡ (string_meaning (state_of s.editor) x.text x.steps).state → t.strings ≡ take s.cursor s.strings ++ x ∷ [] → t.cursor ≡ s.cursor + 1 → Ran s t x
-session_ran law more s t x ok r run again strings at =
+pub session_appended : BackThenForth → ComesSoExtended → (s t : KeptSession) (x : KeptString) → IsSession s → Leads s.editor t.editor x.changes → HasRun t.editor x
+    → state_of t.editor ≡ (string_meaning (state_of s.editor) x.text x.steps).state → t.strings ≡ take s.cursor s.strings ++ x ∷ [] → t.cursor ≡ s.cursor + 1 → t.depth ≡ s.depth → Appended s t x
+session_appended law more s t x ok r run again strings at depth =
     let c = s.cursor in
     let xs : List KeptString = done_strings s in
     let st = s.editor.stored in let st' = t.editor.stored in
@@ -103,7 +103,7 @@ session_ran law more s t x ok r run again strings at =
     let notes : done_notes st' xs (body_back x.changes t.editor.body) (note ∷ []) ≡ take c (history_of s).notes ++ note ∷ [] =
     ap (λ (z : Body). done_notes st' xs z (note ∷ [])) r.body ∙ kept.notes ∙ notes_split st xs b (note ∷ [])
     ∙ ap (λ (k : List NotedString). k ++ note ∷ []) (sym (notes_cut st xs b (undone_notes st (undone_strings s) b) c nx)) in
-    let same : history_of t ≡ noted (history_of s) note = history_is t (x ∷ xs) [] before behind ∙ same_parts _ _ _ _ _ _ first notes at in
+    let same : history_of t ≡ appended (history_of s) note = history_is t (x ∷ xs) [] before behind ∙ same_parts _ _ _ _ _ _ _ _ first notes at depth in
     record {
       holds = record {
         within = omega arith;
@@ -111,7 +111,7 @@ session_ran law more s t x ok r run again strings at =
         back = subst (λ (zs : List KeptString). LeadBack t.editor.room st' zs t.editor.body) (sym before)
             (run, subst (λ (z : Body). LeadBack t.editor.room st' xs z) (sym r.body) kept.back);
         forth = subst (λ (zs : List KeptString). LeadForth t.editor.room st' zs t.editor.body) (sym behind) tt;
-        history = subst IsHistory (sym same) (IsHistory-noted (history_of s) note ok.history (again ∙ ap (λ (z : State). (string_meaning z x.text x.steps).state) (sym (present_is s ok.within))));
+        history = subst IsHistory (sym same) (IsHistory-appended (history_of s) note ok.history (again ∙ ap (λ (z : State). (string_meaning z x.text x.steps).state) (sym (present_is s ok.within))));
       };
       history = same;
     }

@@ -1,5 +1,5 @@
 -- Sessions: one string is turned back, or forth.
-use Rattle.std.proofs.Common.{◌≡◌, ℕ, suc, ◌+◌, ◌<◌, ◌≤◌, List, [], ◌∷◌, ◌++◌, length, take, drop, reverse, get_or, refl, sym, ◌∙◌, ap, subst, arith, length-drop}
+use Rattle.std.proofs.Common.{◌≡◌, ℕ, suc, ◌+◌, ◌<◌, ◌≤◌, Option, List, [], ◌∷◌, ◌++◌, length, take, drop, reverse, get_or, refl, sym, ◌∙◌, ap, subst, arith, length-drop}
 use Rattle.std.proofs.lemmas.List.{reverse-append, length-reverse, drop_more, take_more, take-set, drop-set, take_more_set, drop-set-lt, length-set, length-take-le}
 use Rattle.teco_store.specs.State.{State, Body, IsSound, state_at, state_of}
 use Rattle.teco_store.specs.Turn.{Note as Change}
@@ -24,7 +24,7 @@ length-notes s le =
     omega (arith, length-reverse (take s.cursor s.strings), length-take-le s.cursor s.strings le, length-drop s.cursor s.strings))
 
 -- the present state is the editor's
-present-done : (stored : List ℕ) (xs : List KeptString) (b : Body) (ns : List NotedString) (first : State) (j : ℕ) → first ≡ state_at stored (first_body xs b)
+pub present-done : (stored : List ℕ) (xs : List KeptString) (b : Body) (ns : List NotedString) (first : State) (j : ℕ) → first ≡ state_at stored (first_body xs b)
     → state_after first (done_notes stored xs b ns) (length xs + j) ≡ state_after (state_at stored b) ns j
 present-done stored [] b ns first j e = let n : 0 + j ≡ j = omega arith in ap (state_after first ns) n ∙ ap (λ s. state_after s ns j) e
 present-done stored (x ∷ xs) b ns first j e =
@@ -76,23 +76,23 @@ steps_forth law room stored x xs b ns sound fits run back =
     }
 
 -- a history of these strings on the two sides of the editor's body
-abbrev history_at : (stored : List ℕ) (xs ys : List KeptString) (b : Body) (c : ℕ) → History
-history_at stored xs ys b c = record { first = state_at stored (first_body xs b); notes = done_notes stored xs b (undone_notes stored ys b); cursor = c }
+abbrev pub history_at : (stored : List ℕ) (xs ys : List KeptString) (b : Body) (c : ℕ) (depth : Option ℕ) → History
+history_at stored xs ys b c depth = record { first = state_at stored (first_body xs b); notes = done_notes stored xs b (undone_notes stored ys b); cursor = c; depth = depth }
 
-pub history_is : (s : KeptSession) (xs ys : List KeptString) → done_strings s ≡ xs → undone_strings s ≡ ys → history_of s ≡ history_at s.editor.stored xs ys s.editor.body s.cursor
-history_is s xs ys e f = ap (λ (zs : List KeptString). history_at s.editor.stored zs (undone_strings s) s.editor.body s.cursor) e
-    ∙ ap (λ (zs : List KeptString). history_at s.editor.stored xs zs s.editor.body s.cursor) f
+pub history_is : (s : KeptSession) (xs ys : List KeptString) → done_strings s ≡ xs → undone_strings s ≡ ys → history_of s ≡ history_at s.editor.stored xs ys s.editor.body s.cursor s.depth
+history_is s xs ys e f = ap (λ (zs : List KeptString). history_at s.editor.stored zs (undone_strings s) s.editor.body s.cursor s.depth) e
+    ∙ ap (λ (zs : List KeptString). history_at s.editor.stored xs zs s.editor.body s.cursor s.depth) f
 
 -- the same history with its cursor at another place
 abbrev pub cursor_at : History → ℕ → History
-cursor_at h i = record { first = h.first; notes = h.notes; cursor = i }
+cursor_at h i = record h { cursor = i }
 
 -- a session after an undo or a redo
 pub record Turned (s t : KeptSession) (i : ℕ) : Type 0 where
   pub holds : IsSession t
   pub history : history_of t ≡ cursor_at (history_of s) i
 
-same_history : (h : History) (first : State) (notes : List NotedString) (i : ℕ) → first ≡ h.first → notes ≡ h.notes → (let t : History = record { first = first; notes = notes; cursor = i } in t) ≡ cursor_at h i
+same_history : (h : History) (first : State) (notes : List NotedString) (i : ℕ) → first ≡ h.first → notes ≡ h.notes → (let t : History = record { first = first; notes = notes; cursor = i; depth = h.depth } in t) ≡ cursor_at h i
 same_history h first notes i e f = rw (e, f) refl
 
 moved_history : (h t : History) (i : ℕ) → IsHistory h → i ≤ length h.notes → t ≡ cursor_at h i → IsHistory t

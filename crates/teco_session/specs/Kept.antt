@@ -1,5 +1,5 @@
 -- A session as it is kept: one editor, and of each string the changes that lead from one side of it to the other.
-use Rattle.std.specs.Prelude.{ℕ, ◌+◌, ◌-◌, ◌*◌, ◌≤◌, List, [], ◌∷◌, ◌++◌, length, take, drop, min, reverse, slice_index_or}
+use Rattle.std.specs.Prelude.{ℕ, ◌+◌, ◌-◌, ◌*◌, ◌≤◌, List, [], ◌∷◌, ◌++◌, length, take, drop, min, reverse, slice_index_or, Option}
 use Rattle.std.proofs.Common.{set}
 use Rattle.teco_store.specs.State.{State, Body, Full, IsSound, state_at, new_full, with_body}
 use Rattle.teco_store.specs.Follows.{HasCome}
@@ -7,7 +7,7 @@ use Rattle.teco_store.specs.Turn.{Note as Change}
 use Rattle.teco_store.specs.Entry.{body_back, notes_back, body_forth, notes_forth, FitsForth, before, since, held_in}
 use Rattle.teco_exec.specs.Runs.{trail_of}
 use Rattle.teco_exec.specs.StringMeaning.{string_meaning}
-use Rattle.teco_session.specs.History.{History, NotedString, IsHistory}
+use Rattle.teco_session.specs.History.{History, NotedString, IsHistory, beyond}
 
 -- A string that has begun: its text, the steps that it took, and its changes. They are to be turned back where the string is done,
 -- and forth where it is undone.
@@ -16,14 +16,16 @@ pub record KeptString : Type 0 where
   pub steps : ℕ
   pub changes : List Change
 
+-- one editor, the strings in order, how many of them are done, and how many are kept, if there is a bound
 pub record KeptSession : Type 0 where
   pub editor : Full
   pub strings : List KeptString
   pub cursor : ℕ
+  pub depth : Option ℕ
 
 -- the beginning, with this input
-abbrev pub new_session : List ℕ → KeptSession
-new_session input = record { editor = new_full input; strings = []; cursor = 0 }
+abbrev pub new_session : Option ℕ → List ℕ → KeptSession
+new_session depth input = record { editor = new_full input; strings = []; cursor = 0; depth = depth }
 
 -- the strings that are done, the last first, and those that are undone, the first first
 abbrev pub done_strings : KeptSession → List KeptString
@@ -64,6 +66,7 @@ history_of s = record {
   first = state_at s.editor.stored (first_body (done_strings s) s.editor.body);
   notes = done_notes s.editor.stored (done_strings s) s.editor.body (undone_notes s.editor.stored (undone_strings s) s.editor.body);
   cursor = s.cursor;
+  depth = s.depth;
 }
 
 -- A string that is done at an editor has come there by the steps of its meaning, from the state before it: its changes fit, and lead
@@ -96,8 +99,15 @@ pub record IsSession (s : KeptSession) : Type 0 where
   pub history : IsHistory (history_of s)
 
 -- the string at a place
+abbrev pub entry_at : List KeptString → ℕ → KeptString
+entry_at strings i = slice_index_or strings i (record { text = []; steps = 0; changes = [] })
+
 abbrev pub string_at : KeptSession → ℕ → KeptString
-string_at s i = slice_index_or s.strings i (record { text = []; steps = 0; changes = [] })
+string_at s i = entry_at s.strings i
+
+-- the last strings, as many as a depth
+abbrev pub newest : Option ℕ → List KeptString → List KeptString
+newest depth strings = drop (beyond depth (length strings)) strings
 
 -- An undo turns the last string that is done back, and keeps what would do it again. A redo turns the first undone one forth.
 abbrev pub turned_back : KeptSession → KeptString → ℕ → KeptSession
@@ -105,6 +115,7 @@ turned_back s x i = record {
   editor = with_body s.editor (body_back x.changes s.editor.body);
   strings = set s.strings i (string_back x s.editor.body);
   cursor = i;
+  depth = s.depth;
 }
 
 abbrev pub turned_forth : KeptSession → KeptString → ℕ → KeptSession
@@ -112,6 +123,7 @@ turned_forth s x i = record {
   editor = with_body s.editor (body_forth x.changes s.editor.body);
   strings = set s.strings i (string_forth x s.editor.body);
   cursor = i + 1;
+  depth = s.depth;
 }
 
 abbrev pub reverted : KeptSession → KeptSession
@@ -130,6 +142,7 @@ cut_back s x i n = record {
   editor = with_body s.editor (body_back (since n x.changes) s.editor.body);
   strings = take i s.strings ++ string_cut n x ∷ [];
   cursor = s.cursor;
+  depth = s.depth;
 }
 
 abbrev pub cut_to : ℕ → KeptSession → KeptSession

@@ -1,22 +1,23 @@
 //! A session: command strings, undo and redo, over one editor, with what leads from each whole state to the next.
-ghost use Rattle.std.specs.Prelude.{◌≡◌, ℕ, List, [], ◌<◌, ◌≤◌, length, vec_len, None, IfOk, OnErr, OnOk, IsOk, ◌↔◌, true, false};
+ghost use Rattle.std.specs.Prelude.{◌≡◌, ℕ, List, [], ◌<◌, ◌≤◌, length, vec_len, None, Some, IfOk, OnErr, OnOk, IsOk, ◌↔◌, true, false};
 ghost use Rattle.teco_exec.specs.Runs.{Runs, is_tty};
 ghost use Rattle.teco_exec.specs.StringMeaning.{string_meaning};
 ghost use Rattle.teco_store.specs.Follows.{Leads};
 ghost use Rattle.teco_store.specs.State.{IsSound, state_of};
 ghost use Rattle.teco_step.specs.Terminal.{Shows};
 ghost use Rattle.teco_session.specs.Answers.{answer_code};
-ghost use Rattle.teco_session.specs.History.{IsHistory, new_history, note_at, present, redone, rewound, state_after, undone};
+ghost use Rattle.teco_session.specs.History.{IsHistory, IsWithinDepth, new_history, note_at, present, redone, rewound, state_after, undone};
 ghost use Rattle.teco_session.specs.Kept.{IsSession, IsSmall, HasRun, applied, cut_to, history_of, new_session, reverted, string_at};
 ghost use Rattle.teco_session.specs.Step.{Step, RunStep, Reply, is_terminal_failure};
 ghost use Rattle.teco_session.specs.Play.{Play, ShowsAll, answers_of};
 
+use crate::entries::Entries;
 use crate::entry::Entry;
 use crate::request::{Answer, NothingToRedo, NothingToUndo, Request};
 use std::alloc::Global;
 use std::marker::Model;
 use std::mem;
-use teco_core::{FILE_LIMIT, NoMemory};
+use teco_core::{DEPTH_LIMIT, FILE_LIMIT, NoMemory};
 use teco_exec::{Outcome, meaning_laws, run};
 use teco_step::Terminal;
 use teco_store::{Change, Desk, Editor, Recorder, record_laws};
@@ -25,11 +26,11 @@ use teco_store::{Change, Desk, Editor, Recorder, record_laws};
 ///
 /// A clause sees a session as it is kept: one editor, the strings with their changes, and how many of the strings are not undone.
 /// `history_of` is the history that this tells: the state before the first string, and each string with its text, its steps and the
-/// state after it.
+/// state after it. A session with a depth keeps so many strings: where one more begins, the first one goes, with the state before it.
 #[derive(Drop)]
 pub struct Session {
     editor: Editor,
-    entries: Vec<Entry>,
+    entries: Entries,
     cursor: usize,
 }
 
@@ -70,18 +71,33 @@ fn record_run<T: Terminal>(
 }
 
 impl Session {
-    /// A new session over this input, of at most 2^30 bytes. Takes no memory.
+    /// A new session over this input, of at most 2^30 bytes, that keeps every string. Takes no memory.
     pub fn new(input: Vec<u8>) -> Session
         requires { vec_len input ≤ FILE_LIMIT }
-        ensures value { result ≡ new_session input.items }
-        ensures history { history_of result ≡ new_history input.items }
+        ensures value { result ≡ new_session None input.items }
+        ensures history { history_of result ≡ new_history None input.items }
     {
         let alloc = *input.allocator();
         Session {
             editor: Editor::new(input),
-            entries: Vec::new(alloc),
+            entries: Entries::All(Vec::new(alloc)),
             cursor: 0,
         }
+    }
+
+    /// A new session over this input, of at most 2^30 bytes, that keeps the last `depth` strings. Room for their entries is found here.
+    pub fn with_depth(input: Vec<u8>, depth: usize) -> Result<Session, NoMemory>
+        requires input { vec_len input ≤ FILE_LIMIT }
+        requires depth { (1 ≤ depth) × (depth ≤ DEPTH_LIMIT) }
+        ensures value { IfOk result (λ session. session ≡ new_session (Some depth) input.items) }
+        ensures history { IfOk result (λ session. history_of session ≡ new_history (Some depth) input.items) }
+    {
+        let entries = Entries::with_depth(*input.allocator(), depth)?;
+        Ok(Session {
+            editor: Editor::new(input),
+            entries,
+            cursor: 0,
+        })
     }
 
     /// The editing state. Takes no memory.
@@ -94,10 +110,11 @@ impl Session {
         &self.editor
     }
 
-    /// How many strings the history has, undone ones too. Takes no memory.
+    /// How many strings the history has, undone ones too: with a depth, no more than that. Takes no memory.
     pub fn strings(&self) -> usize
         ensures value { result ≡ length self.now.strings }
         ensures history { result ≡ length (history_of self.now).notes }
+        ensures depth { IsWithinDepth (history_of self.now).depth result }
     {
         self.entries.len()
     }
@@ -110,13 +127,13 @@ impl Session {
         self.cursor
     }
 
-    /// The text of a string. Takes no memory.
+    /// The text of a string, counted from the oldest one that is kept. Takes no memory.
     pub fn string(&self, i: usize) -> &[u8]
         requires { i < length self.now.strings }
         ensures value { result.now ≡ (string_at self.now i).text }
         ensures history { result.now ≡ (note_at (history_of self.now) i).text }
     {
-        &self.entries[i].text
+        &self.entries.get(i).text
     }
 
     /// How many steps a string took. Takes no memory.
@@ -125,7 +142,7 @@ impl Session {
         ensures value { result ≡ (string_at self.now i).steps }
         ensures history { result ≡ (note_at (history_of self.now) i).steps }
     {
-        self.entries[i].steps
+        self.entries.get(i).steps
     }
 
     /// The changes of a string, as an undo or a redo would turn them now. Takes no memory.
@@ -135,7 +152,7 @@ impl Session {
         ensures small { IsSmall (string_at self.now i) (state_after (history_of self.now).first (history_of self.now).notes i) }
     {
         record_laws();
-        &self.entries[i].changes
+        &self.entries.get(i).changes
     }
 
     /// Goes back to the state before the last string that is not undone, where there is one; otherwise nothing changes. Takes no
@@ -151,7 +168,7 @@ impl Session {
         }
         record_laws();
         let i = self.cursor - 1;
-        self.entries[i].revert(&mut self.editor);
+        self.entries.revert(i, &mut self.editor);
         self.cursor = i;
         Ok(())
     }
@@ -168,7 +185,7 @@ impl Session {
             return Err(NothingToRedo);
         }
         record_laws();
-        self.entries[i].apply(&mut self.editor);
+        self.entries.apply(i, &mut self.editor);
         self.cursor = i + 1;
         Ok(())
     }
@@ -186,14 +203,15 @@ impl Session {
             return Err(NothingToUndo);
         }
         record_laws();
-        let entry = &mut self.entries[self.cursor - 1];
-        let n = n.min(entry.steps);
-        entry.rewind(&mut self.editor, n);
+        let i = self.cursor - 1;
+        let n = n.min(self.entries.get(i).steps);
+        self.entries.rewind(i, &mut self.editor, n);
         self.entries.truncate(self.cursor);
         Ok(())
     }
 
-    /// Runs a command string under a limit of steps, and notes it, however it ends; strings that are undone are dropped.
+    /// Runs a command string under a limit of steps, and notes it, however it ends; strings that are undone are dropped, and with a depth
+    /// the first string where there is one too many.
     ///
     /// Where memory is refused for the history the answer is [`Answer::NotBegun`], and after an exit [`Answer::AfterExit`]: then
     /// nothing has changed, and the undone strings are kept. A string that makes the session done ends with no code.
@@ -205,17 +223,17 @@ impl Session {
         if self.editor().done() {
             return Answer::AfterExit;
         }
-        let alloc = *self.entries.allocator();
+        let alloc = self.entries.alloc();
         let Ok(kept) = Vec::from_slice(alloc, text) else {
             return Answer::NotBegun;
         };
-        if self.entries.reserve(1).is_err() {
+        if self.entries.reserve().is_err() {
             return Answer::NotBegun;
         }
         record_laws();
         self.entries.truncate(self.cursor);
         let (changes, outcome) = record_run(alloc, &mut self.editor, text, limit, term);
-        self.entries.push_reserved(Entry {
+        self.entries.note(Entry {
             text: kept,
             steps: outcome.steps,
             changes,

@@ -1,32 +1,41 @@
-use Rattle.std.proofs.Common.{ℕ, ◌-◌, ◌∙◌, ap, arith}
-use Rattle.std.proofs.lemmas.List.{length-map}
+use Rattle.std.proofs.Common.{◌-◌, take, min, set, ◌∙◌, ap, arith}
+use Rattle.teco_store.specs.State.{with_body}
+use Rattle.teco_store.specs.Entry.{body_back, since}
 use Rattle.teco_session.specs.History.{rewound}
-use Rattle.teco_session.specs.Kept.{KeptSession, HasRun, history_of, cut_to}
-use Rattle.teco_session.specs.Entries.{kept_string, kept_session}
+use Rattle.teco_session.specs.Kept.{KeptString, KeptSession, HasRun, history_of, cut_to, string_at, string_cut}
+use Rattle.teco_session.specs.Entries.{strings_of, depth_of, kept_session}
 use Rattle.teco_session.proofs.Rewinding.{has_run}
-use Rattle.teco_session.proofs.Vectors.{IsRewoundTo, kept_with, string_read, session_rewound}
+use Rattle.teco_session.proofs.Sessions.{IsRewoundTo, at_self, session_rewound, session_with}
 use Rattle.teco_session.proofs.session.Session.rewind.Goals as goal
 
-ran_now : (c : goal.After-rewind-arg-1) → HasRun c.self.inside.editor (kept_string c.index_mut-entry.result.now)
+pub get-requires : goal.get-requires
+get-requires c = let le = c.self.invariant.within in omega arith
+
+pub rewind-requires-clause-within : goal.rewind-requires-clause-within
+rewind-requires-clause-within c = let le = c.self.invariant.within in omega arith
+
+ran_now : (c : goal.After-rewind-arg-2-1) → HasRun c.self.inside.editor (string_at (kept_session c.self.inside) (c.self.inside.cursor - 1))
 ran_now c =
-    let v = c.index_mut-entry.result.now in
-    let i : ℕ = c.self.inside.cursor - 1 in
+    let s = kept_session c.self.inside in
     let le = c.self.invariant.within in
-    let n = length-map c.self.inside.entries.items kept_string in
-    has_run (kept_session c.self.inside) (kept_string v) i (omega arith) c.self.invariant (string_read c.self.inside.entries.items v i (kept_string v) (omega arith) c.index_mut-entry.ensures.value)
+    has_run s (string_at s (s.cursor - 1)) (s.cursor - 1) (omega arith) c.self.invariant (at_self s (s.cursor - 1) (omega arith))
 
 pub rewind-requires-clause-fits : goal.rewind-requires-clause-fits
 rewind-requires-clause-fits c = (ran_now c).fits
 
 pub rewind-requires-clause-order : goal.rewind-requires-clause-order
-rewind-requires-clause-order c = (c.index_mut-entry.result.now.steps, (ran_now c).marked)
+rewind-requires-clause-order c = (_, (ran_now c).marked)
 
 rewound_now : (c : goal.After-truncate)
-    → IsRewoundTo c.args.n (kept_with c.self.inside.editor c.self.inside.entries.items c.self.inside.cursor) (kept_with c.rewind.new.editor c.truncate.new.self.items c.self.inside.cursor)
+    → IsRewoundTo c.args.n (kept_session c.self.inside) (session_with c.rewind.new.editor (strings_of c.truncate.new.self) c.self.inside.cursor (depth_of c.truncate.new.self))
 rewound_now c =
-    session_rewound c.record_laws.ensures.back c.record_laws.ensures.extended c.record_laws.ensures.cut c.self.inside.editor c.rewind.new.editor c.self.inside.entries.items c.truncate.new.self.items
-    c.index_mut-entry.result.now c.rewind.new.self c.self.inside.cursor c.args.n c.min-n.result (omega arith) c.self.invariant c.index_mut-entry.ensures.value c.min-n.ensures c.rewind.ensures.editor
-    c.rewind.ensures.entry c.truncate.ensures.items
+    let s = kept_session c.self.inside in
+    let few = c.min-n.ensures ∙ ap (min c.args.n) (ap (λ (x : KeptString). x.steps) c.get.ensures) in
+    session_rewound c.record_laws.ensures.back c.record_laws.ensures.extended c.record_laws.ensures.cut c.args.n s c.rewind.new.editor _ _ (omega arith) c.self.invariant (
+      c.rewind.ensures.editor ∙ ap (λ k. with_body s.editor (body_back (since k (string_at s (s.cursor - 1)).changes) s.editor.body)) few,
+      c.truncate.ensures.strings ∙ ap (take s.cursor) (c.rewind.ensures.strings ∙ ap (λ k. set s.strings (s.cursor - 1) (string_cut k (string_at s (s.cursor - 1)))) few),
+    )
+    (c.truncate.ensures.depth ∙ c.rewind.ensures.depth)
 
 pub invariant_of-self : goal.invariant_of-self
 invariant_of-self c = (rewound_now c).holds

@@ -1,22 +1,21 @@
-use Rattle.std.proofs.Common.{◌≡◌, ℕ, List, [], ◌++◌, ◌∷◌, take, arith, sym, ap, ◌∙◌, subst, refl, false}
+use Rattle.std.proofs.Common.{◌≡◌, ℕ, Option, List, [], ◌++◌, ◌∷◌, take, sym, ap, ◌∙◌, subst, refl, false}
 use Rattle.std.proofs.lemmas.Bool.{false≢true}
 use Rattle.teco_exec.specs.StringMeaning.{string_meaning}
 use Rattle.teco_exec.specs.Runs.{Runs}
 use Rattle.teco_store.specs.State.{State, Full, state_of}
 use Rattle.teco_session.specs.History.{History, present, noted}
-use Rattle.teco_session.specs.Kept.{KeptSession, KeptString, HasRun, history_of, noted_as}
-use Rattle.teco_session.specs.Entries.{kept_string, kept_session}
+use Rattle.teco_session.specs.Kept.{KeptSession, KeptString, HasRun, newest, history_of, noted_as}
+use Rattle.teco_session.specs.Entries.{kept_string, strings_of, depth_of, kept_session}
 use Rattle.teco_session.specs.declared.entry.Entry.{Entry}
 use Rattle.teco_session.proofs.Histories.{Shows-nil}
 use Rattle.teco_session.proofs.Turning.{present_is}
-use Rattle.teco_session.proofs.Running.{Ran}
-use Rattle.teco_session.proofs.Vectors.{kept_with, session_noted}
+use Rattle.teco_session.proofs.Sessions.{Ran, session_noted, session_with}
 use Rattle.teco_session.proofs.session.Session.run.Given as given
 use Rattle.teco_session.proofs.session.Session.run.Goals as goal
 
--- the history is the same where the vector has only found room
-same_history : (f : Full) (vs ws : List Entry) (c : ℕ) (s : KeptSession) → ws ≡ vs → kept_with f vs c ≡ s → history_of (kept_with f ws c) ≡ history_of s
-same_history f vs ws c s e view = ap (λ (xs : List Entry). history_of (kept_with f xs c)) e ∙ ap history_of view
+-- the history is the same where only a place was found
+same_history : (f : Full) (xs ys : List KeptString) (c : ℕ) (d e : Option ℕ) (s : KeptSession) → ys ≡ xs → e ≡ d → session_with f xs c d ≡ s → history_of (session_with f ys c e) ≡ history_of s
+same_history f xs ys c d e s same depth view = ap (λ (zs : List KeptString). history_of (session_with f zs c e)) same ∙ ap (λ (k : Option ℕ). history_of (session_with f xs c k)) depth ∙ ap history_of view
 
 -- A string that is not begun changes nothing.
 pub returns-then-done-clause-step : goal.returns-then-done-clause-step
@@ -37,33 +36,39 @@ returns-then-is_err-clause-step g c = (
   (
     ap (λ (s : State). s.is_done) (sym c.editor.ensures.present) ∙ sym c.done.ensures ∙ c.if-done.false,
     refl,
-    same_history c.self.inside.editor c.self.inside.entries.items c.reserve.new.self.items c.self.inside.cursor c.args.self.now c.reserve.ensures.items c.self.view_is,
+    same_history c.self.inside.editor _ _ c.self.inside.cursor _ _ c.args.self.now c.reserve.ensures.strings c.reserve.ensures.depth c.self.view_is,
   ),
   Shows-nil _,
 )
 
 pub returns-then-is_err-clause-exit : goal.returns-then-is_err-clause-exit
 returns-then-is_err-clause-exit g c = λ going over.
-    let same = same_history c.self.inside.editor c.self.inside.entries.items c.reserve.new.self.items c.self.inside.cursor c.args.self.now c.reserve.ensures.items c.self.view_is in
+    let same = same_history c.self.inside.editor _ _ c.self.inside.cursor _ _ c.args.self.now c.reserve.ensures.strings c.reserve.ensures.depth c.self.view_is in
     absurd (false≢true (sym going ∙ sym (ap (λ (h : History). (present h).is_done) same) ∙ over))
 
 -- the entry that is added
 abbrev entry_now : (g : given.Over) (c : goal.After-self-1 g) → Entry
 entry_now g c = record { text = c.in-Ok.kept; steps = c.record_run-changes.result.1.steps; changes = c.record_run-changes.result.0 }
 
-ran_now : (g : given.Over) (c : goal.After-self-1 g)
-    → Ran (kept_with c.self.inside.editor c.self.inside.entries.items c.self.inside.cursor) (kept_with c.record_run-changes.new.editor c.push_reserved.new.self.items c.len-self-inside.result) (kept_string (entry_now g c))
+-- the session with it
+abbrev session_now : (g : given.Over) (c : goal.After-self-1 g) → KeptSession
+session_now g c = session_with c.record_run-changes.new.editor (strings_of c.note.new.self) c.len-self-inside.result (depth_of c.note.new.self)
+
+ran_now : (g : given.Over) (c : goal.After-self-1 g) → Ran (kept_session c.self.inside) (session_now g c) (kept_string (entry_now g c))
 ran_now g c =
     let r = c.record_run-changes.ensures in
     let new = c.record_run-changes.new.editor in
     let k = c.record_run-changes.result.1.steps in
     let kept = sym c.in-Ok.ensures.items in
-    session_noted c.record_laws.ensures.back c.record_laws.ensures.extended c.self.inside.editor new c.self.inside.entries.items c.push_reserved.new.self.items (entry_now g c) c.self.inside.cursor c.len-self-inside.result
+    let depth : depth_of c.truncate.new.self ≡ depth_of c.self.inside.entries = c.truncate.ensures.depth ∙ c.reserve.ensures.depth in
+    let front : strings_of c.truncate.new.self ≡ take c.self.inside.cursor (strings_of c.self.inside.entries) = c.truncate.ensures.strings ∙ ap (take c.self.inside.cursor) c.reserve.ensures.strings in
+    session_noted c.record_laws.ensures.back c.record_laws.ensures.extended (kept_session c.self.inside) new (strings_of c.note.new.self) (kept_string (entry_now g c)) c.len-self-inside.result (depth_of c.note.new.self)
     c.self.invariant r.leads
     (subst (λ (t : List ℕ). HasRun new (let x : KeptString = record { text = t; steps = k; changes = c.record_run-changes.result.0.items } in x)) kept r.ran)
     (r.again ∙ ap (λ (t : List ℕ). (string_meaning (state_of c.self.inside.editor) t k).state) kept)
-    (c.push_reserved.ensures.items ∙ ap (λ (l : List Entry). l ++ entry_now g c ∷ []) (c.truncate.ensures.items ∙ ap (take c.self.inside.cursor) c.reserve.ensures.items))
-    (omega (arith, c.len-self-inside.ensures, c.push_reserved.new.self.ok.0))
+    (c.note.ensures.strings ∙ ap (λ (d : Option ℕ). newest d (strings_of c.truncate.new.self ++ kept_string (entry_now g c) ∷ [])) depth
+    ∙ ap (λ (l : List KeptString). newest (depth_of c.self.inside.entries) (l ++ kept_string (entry_now g c) ∷ [])) front)
+    c.len-self-inside.ensures.value (c.note.ensures.depth ∙ depth)
 
 -- the editor's state is the present one, before the string and after it
 state_now : (g : given.Over) (c : goal.After-self-1 g) → state_of c.self.inside.editor ≡ present (history_of c.args.self.now)
@@ -87,5 +92,5 @@ returns-clause-step g c =
 pub returns-clause-exit : goal.returns-clause-exit
 returns-clause-exit g c = λ going over.
     let done = λ (s : State). s.is_done in
-    let last = present_is (kept_with c.record_run-changes.new.editor c.push_reserved.new.self.items c.len-self-inside.result) (ran_now g c).holds.within in
+    let last = present_is (session_now g c) (ran_now g c).holds.within in
     c.record_run-changes.ensures.exit (ap done (state_now g c) ∙ going) (sym (ap done last) ∙ over)

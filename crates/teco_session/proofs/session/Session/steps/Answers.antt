@@ -1,17 +1,14 @@
-use Rattle.std.proofs.Common.{◌≡◌, ◌<◌, ◌≤◌, length, sym, ap, ◌∙◌, subst, arith}
-use Rattle.std.proofs.lemmas.List.{length-map}
+use Rattle.std.proofs.Common.{◌≡◌, ◌<◌, ◌≤◌, length, sym, ap, ◌∙◌, subst}
 use Rattle.teco_session.specs.Kept.{KeptSession, KeptString, string_at}
-use Rattle.teco_session.specs.Entries.{kept_string}
 use Rattle.teco_session.proofs.Headings.{has_steps}
-use Rattle.teco_session.proofs.Vectors.{string_read}
 use Rattle.teco_session.proofs.session.Session.steps.Goals as goal
 
-value_now : (c : goal.After-index) → c.index.result.now.steps ≡ (string_at c.args.self.now c.args.i).steps
+pub get-requires : goal.get-requires
+get-requires c = subst (λ (s : KeptSession). c.args.i < length s.strings) (sym c.self.view_is) c.requires
+
+value_now : (c : goal.After-get) → c.get.result.now.steps ≡ (string_at c.args.self.now c.args.i).steps
 value_now c =
-    let n = length-map c.self.inside.entries.items kept_string in
-    let m = subst (λ (s : KeptSession). c.args.i < length s.strings) (sym c.self.view_is) c.requires in
-    let lt : c.args.i < length c.self.inside.entries.items = omega arith in
-    ap (λ (x : KeptString). x.steps) (string_read c.self.inside.entries.items c.index.result.now c.args.i _ lt c.index.ensures) ∙ ap (λ (s : KeptSession). (string_at s c.args.i).steps) c.self.view_is
+    ap (λ (x : KeptString). x.steps) c.get.ensures ∙ ap (λ (s : KeptSession). (string_at s c.args.i).steps) c.self.view_is
 
 pub returns-clause-value : goal.returns-clause-value
 returns-clause-value c = value_now c

@@ -1,0 +1,157 @@
+//! The entries of a session: of every string that has begun, or of the last ones.
+ghost use Rattle.std.specs.Prelude.{◌≡◌, [], ◌∷◌, ◌++◌, ◌<◌, length, take, Some, IfOk, OnOk};
+ghost use Rattle.std.proofs.Common.{set};
+ghost use Rattle.teco_store.specs.Entry.{body_back, body_forth, since, FitsBack, FitsForth};
+ghost use Rattle.teco_store.specs.Follows.{IsInOrder};
+ghost use Rattle.teco_store.specs.State.{with_body};
+ghost use Rattle.teco_session.specs.History.{IsWithinDepth};
+ghost use Rattle.teco_session.specs.Kept.{string_back, string_cut, string_forth, entry_at, newest};
+ghost use Rattle.teco_session.specs.Entries.{kept_string, strings_of, depth_of, HasPlace};
+
+use crate::entry::Entry;
+use circular_buffer::HeapCircularBuffer;
+use std::alloc::Global;
+use teco_core::NoMemory;
+use teco_store::Editor;
+
+/// The entries of the strings of a session, the oldest first.
+#[derive(Drop)]
+pub enum Entries {
+    /// Every string that has begun.
+    All(Vec<Entry>),
+    /// The last strings, as many as the depth.
+    Last(HeapCircularBuffer<Entry>),
+}
+
+impl Entries {
+    /// Finds room for a ring of this depth.
+    pub fn with_depth(alloc: Global, depth: usize) -> Result<Entries, NoMemory>
+        ensures { IfOk result (λ entries. (strings_of entries ≡ []) × (depth_of entries ≡ Some depth)) }
+    {
+        Ok(Entries::Last(HeapCircularBuffer::with_capacity(alloc, depth)?))
+    }
+
+    /// Where memory for strings comes from.
+    pub fn alloc(&self) -> Global {
+        match self {
+            Entries::All(all) => *all.allocator(),
+            Entries::Last(ring) => *ring.allocator(),
+        }
+    }
+
+    /// How many there are. Takes no memory.
+    pub fn len(&self) -> usize
+        ensures value { result ≡ length (strings_of self.now) }
+        ensures depth { IsWithinDepth (depth_of self.now) result }
+    {
+        match self {
+            Entries::All(all) => all.len(),
+            Entries::Last(ring) => ring.len(),
+        }
+    }
+
+    /// The entry at a place. Takes no memory.
+    pub fn get(&self, i: usize) -> &Entry
+        requires { i < length (strings_of self.now) }
+        ensures { kept_string result.now ≡ entry_at (strings_of self.now) i }
+    {
+        match self {
+            Entries::All(all) => &all[i],
+            Entries::Last(ring) => match ring.get(i) {
+                Some(entry) => entry,
+                None => unreachable!(),
+            },
+        }
+    }
+
+    /// Takes back what the string at a place did. Takes no memory.
+    pub fn revert(&mut self, i: usize, editor: &mut Editor)
+        requires within { i < length (strings_of self.old) }
+        requires fits { FitsBack editor.old.room (entry_at (strings_of self.old) i).changes editor.old.body }
+        ensures editor { editor.new ≡ with_body editor.old (body_back (entry_at (strings_of self.old) i).changes editor.old.body) }
+        ensures strings { strings_of self.new ≡ set (strings_of self.old) i (string_back (entry_at (strings_of self.old) i) editor.old.body) }
+        ensures depth { depth_of self.new ≡ depth_of self.old }
+    {
+        match self {
+            Entries::All(all) => all[i].revert(editor),
+            Entries::Last(ring) => match ring.get_mut(i) {
+                Some(entry) => entry.revert(editor),
+                None => unreachable!(),
+            },
+        }
+    }
+
+    /// Does again what the string at a place did. Takes no memory.
+    pub fn apply(&mut self, i: usize, editor: &mut Editor)
+        requires within { i < length (strings_of self.old) }
+        requires fits { FitsForth editor.old.room (length editor.old.stored) (entry_at (strings_of self.old) i).changes editor.old.body }
+        ensures editor { editor.new ≡ with_body editor.old (body_forth (entry_at (strings_of self.old) i).changes editor.old.body) }
+        ensures strings { strings_of self.new ≡ set (strings_of self.old) i (string_forth (entry_at (strings_of self.old) i) editor.old.body) }
+        ensures depth { depth_of self.new ≡ depth_of self.old }
+    {
+        match self {
+            Entries::All(all) => all[i].apply(editor),
+            Entries::Last(ring) => match ring.get_mut(i) {
+                Some(entry) => entry.apply(editor),
+                None => unreachable!(),
+            },
+        }
+    }
+
+    /// Takes back the steps after the first `n` of the string at a place, and drops their changes. Takes no memory.
+    pub fn rewind(&mut self, i: usize, editor: &mut Editor, n: u64)
+        requires within { i < length (strings_of self.old) }
+        requires fits { FitsBack editor.old.room (entry_at (strings_of self.old) i).changes editor.old.body }
+        requires order { IsInOrder (entry_at (strings_of self.old) i).changes }
+        ensures editor { editor.new ≡ with_body editor.old (body_back (since n (entry_at (strings_of self.old) i).changes) editor.old.body) }
+        ensures strings { strings_of self.new ≡ set (strings_of self.old) i (string_cut n (entry_at (strings_of self.old) i)) }
+        ensures depth { depth_of self.new ≡ depth_of self.old }
+    {
+        match self {
+            Entries::All(all) => all[i].rewind(editor, n),
+            Entries::Last(ring) => match ring.get_mut(i) {
+                Some(entry) => entry.rewind(editor, n),
+                None => unreachable!(),
+            },
+        }
+    }
+
+    /// Drops the entries from a place on. Takes no memory.
+    pub fn truncate(&mut self, n: usize)
+        ensures strings { strings_of self.new ≡ take n (strings_of self.old) }
+        ensures depth { depth_of self.new ≡ depth_of self.old }
+        ensures place { HasPlace self.old → HasPlace self.new }
+    {
+        match self {
+            Entries::All(all) => all.truncate(n),
+            Entries::Last(ring) => ring.truncate_back(n),
+        }
+    }
+
+    /// Finds a place for one more entry; a ring has one, since its oldest one goes.
+    pub fn reserve(&mut self) -> Result<(), NoMemory>
+        ensures strings { strings_of self.new ≡ strings_of self.old }
+        ensures depth { depth_of self.new ≡ depth_of self.old }
+        ensures ok { OnOk result (HasPlace self.new) }
+    {
+        match self {
+            Entries::All(all) => Ok(all.reserve(1)?),
+            Entries::Last(_) => Ok(()),
+        }
+    }
+
+    /// Notes an entry as the last one, at the place that was found; where that makes more than the depth, the first one goes. Takes no
+    /// memory.
+    pub fn note(&mut self, entry: Entry)
+        requires { HasPlace self.old }
+        ensures strings { strings_of self.new ≡ newest (depth_of self.old) (strings_of self.old ++ kept_string entry ∷ []) }
+        ensures depth { depth_of self.new ≡ depth_of self.old }
+    {
+        match self {
+            Entries::All(all) => all.push_reserved(entry),
+            Entries::Last(ring) => {
+                ring.push_back(entry);
+            }
+        }
+    }
+}
