@@ -1,9 +1,9 @@
 -- What a parse by the program's command gives.
 use Rattle.std.proofs.Common.{◌≡◌, ◌∙◌, ◌<◌, ◌≤◌, ℕ, Bool, true, false, zero, suc, refl, sym, ap, subst, arith, List, [], ◌∷◌, length, is_some, codes, Option, Some, None, Result, Ok, Err, inl, inr, true≢false}
-use Rattle.std.specs.Prelude.{find, map, option_map, slice_get, unwrap_or, IsTrue, ◌↔◌}
+use Rattle.std.specs.Prelude.{find, map, option_and_then, option_map, slice_get, unwrap_or, IfSome, IsTrue, ◌↔◌}
 use Rattle.std.specs.List.{All, list_all, slice_index_or}
 use Rattle.std.specs.Str.{bytes_eq}
-use Rattle.std.specs.Str.Parse.{ParsesBool, ParsesUnsigned, digits_value, without_leading_plus}
+use Rattle.std.specs.Str.Parse.{ParsesBool, ParsesUnsigned}
 use Rattle.std.specs.Borrow.{Bor}
 use Rattle.std.specs.String.{string_bytes}
 use Rattle.std.proofs.lemmas.List.{get_or-map, length-map}
@@ -36,7 +36,8 @@ use Rattle.clap.proofs.CallerLemmas.{default_present, entry_by_id, required_has_
 use Rattle.clap.proofs.FaultLemmas.{free_args}
 use Rattle.clap.proofs.SimpleLemmas.{all_simple, plain_fields, ready_simple, simple_groups}
 use Rattle.clap.proofs.WalkLemmas.{first_value-rows, one_text-rows}
-use Rattle.teco.specs.CommandLine.{IsLine, IsLineFault, input_rule, limit_rule, teco_app}
+use Rattle.teco_core.specs.declared.limits.TheConstants.{DEPTH_LIMIT}
+use Rattle.teco.specs.CommandLine.{IsDepth, IsLine, IsLineFault, input_rule, limit_rule, number_of, teco_app, undo_rule}
 use Rattle.teco.specs.declared.line.Line.{Line}
 use Rattle.teco.specs.declared.line.LineFault.TheVariants.{Refused}
 
@@ -47,7 +48,7 @@ teco_is_simple = refl
 pub teco_is_free : is_simple_and_free teco_app ≡ true
 teco_is_free = refl
 
-some_arg : (xs : List Arg) → length xs ≡ 4 → Arg
+some_arg : (xs : List Arg) → length xs ≡ 5 → Arg
 some_arg [] e = absurd (omega arith)
 some_arg (x ∷ xs) e = x
 
@@ -57,7 +58,7 @@ module _ (c : Command) (is : app_of c ≡ teco_app) where
   rules_are : map rule_of (args_of c) ≡ teco_app.top.rules
   rules_are = ap (λ a. a.top.rules) is
 
-  pub count_is : length (args_of c) ≡ 4
+  pub count_is : length (args_of c) ≡ 5
   count_is = sym (length-map (args_of c) rule_of) ∙ ap length rules_are
 
   rule_at : (k : ℕ) (d : Arg) → k < length (args_of c) → rule_of (slice_index_or (args_of c) k d) ≡ slice_index_or teco_app.top.rules k (rule_of d)
@@ -74,6 +75,35 @@ module _ (c : Command) (is : app_of c ≡ teco_app) where
       let free = free_args c simple_is (ap (λ a. has_free_rules a.top) is) in
       let groups = simple_groups c (ap (λ a. all_simple a.top.rules) is) in
       (λ k d lt. ((free k d lt).exclusive, (free k d lt).conflicts, (free k d lt).overrides, groups k d lt), simple_is.groups)
+
+-- an argument that no other one is taken for, and that is none of the parser's own
+record IsAlone (c : Command) (k : ℕ) (rule : Rule) (arg : Arg) : Type 0 where
+  within : k < length (args_of c)
+  rule_is : rule_of arg ≡ rule
+  id_is : arg.id.now ≡ rule.id
+  own : IsAuto arg → ⊥
+  named : arg.id.now ≡ [] → ⊥
+  unique : (j : ℕ) (e : Arg) → j < length (args_of c) → bytes_eq (slice_index_or (args_of c) j e).id.now arg.id.now ≡ true → j ≡ k
+
+alone_at : (c : Command) → app_of c ≡ teco_app → (k : ℕ) (rule : Rule) (d : Arg) → k < 5 → slice_index_or teco_app.top.rules k (rule_of d) ≡ rule
+    → ((j : ℕ) (r : Rule) → j < 5 → bytes_eq (slice_index_or teco_app.top.rules j r).id rule.id ≡ true → j ≡ k)
+    → bytes_eq (codes "help") rule.id ≡ false → bytes_eq (codes "version") rule.id ≡ false → bytes_eq [] rule.id ≡ false
+    → IsAlone c k rule (slice_index_or (args_of c) k d)
+alone_at c is k rule d low at only no_help no_version no_empty =
+    let count = count_is c is in
+    let lt : k < length (args_of c) = omega arith in
+    let rule_is = rule_at c is k d lt ∙ at in
+    let id_is : (slice_index_or (args_of c) k d).id.now ≡ rule.id = ap (λ r. r.id) rule_is in
+    let apart : (t : Text) → bytes_eq t rule.id ≡ false → (slice_index_or (args_of c) k d).id.now ≡ t → ⊥ =
+    λ t other e. true≢false (sym ((bytes_eq-Decides t rule.id).1 (sym e ∙ id_is)) ∙ other) in
+    record {
+      within = lt;
+      rule_is = rule_is;
+      id_is = id_is;
+      own = λ auto. elim auto [ inl h ↦ apart (codes "help") no_help h | inr h ↦ apart (codes "version") no_version h ];
+      named = apart [] no_empty;
+      unique = λ j e less same. only j (rule_of e) (omega arith) (rw (← id_at c is j e less, ← id_is) same);
+    }
 
 -- ---- entries
 
@@ -218,20 +248,30 @@ module _ (old : Command) (m : ArgMatches) (p : IsParsedFrom old m) (plain : IsPl
 
 -- ---- what the parse gives
 
--- no other argument of the program's command has the id of the limit, and none that of the input
-limit_alone : (j : ℕ) (r : Rule) → j < 4 → bytes_eq (slice_index_or teco_app.top.rules j r).id (codes "limit") ≡ true → j ≡ 0
-limit_alone zero r lt e = refl
-limit_alone (suc zero) r lt e = absurd (true≢false (sym e))
-limit_alone (suc (suc zero)) r lt e = absurd (true≢false (sym e))
-limit_alone (suc (suc (suc zero))) r lt e = absurd (true≢false (sym e))
-limit_alone (suc (suc (suc (suc j)))) r lt e = absurd (omega arith)
+-- no other argument of the program's command has the id of the limit, of the depth or of the input
+limit_only : (j : ℕ) (r : Rule) → j < 5 → bytes_eq (slice_index_or teco_app.top.rules j r).id (codes "limit") ≡ true → j ≡ 0
+limit_only zero r lt e = refl
+limit_only (suc zero) r lt e = absurd (true≢false (sym e))
+limit_only (suc (suc zero)) r lt e = absurd (true≢false (sym e))
+limit_only (suc (suc (suc zero))) r lt e = absurd (true≢false (sym e))
+limit_only (suc (suc (suc (suc zero)))) r lt e = absurd (true≢false (sym e))
+limit_only (suc (suc (suc (suc (suc j))))) r lt e = absurd (omega arith)
 
-input_alone : (j : ℕ) (r : Rule) → j < 4 → bytes_eq (slice_index_or teco_app.top.rules j r).id (codes "input") ≡ true → j ≡ 3
-input_alone zero r lt e = absurd (true≢false (sym e))
-input_alone (suc zero) r lt e = absurd (true≢false (sym e))
-input_alone (suc (suc zero)) r lt e = absurd (true≢false (sym e))
-input_alone (suc (suc (suc zero))) r lt e = refl
-input_alone (suc (suc (suc (suc j)))) r lt e = absurd (omega arith)
+undo_only : (j : ℕ) (r : Rule) → j < 5 → bytes_eq (slice_index_or teco_app.top.rules j r).id (codes "undo") ≡ true → j ≡ 3
+undo_only zero r lt e = absurd (true≢false (sym e))
+undo_only (suc zero) r lt e = absurd (true≢false (sym e))
+undo_only (suc (suc zero)) r lt e = absurd (true≢false (sym e))
+undo_only (suc (suc (suc zero))) r lt e = refl
+undo_only (suc (suc (suc (suc zero)))) r lt e = absurd (true≢false (sym e))
+undo_only (suc (suc (suc (suc (suc j))))) r lt e = absurd (omega arith)
+
+input_only : (j : ℕ) (r : Rule) → j < 5 → bytes_eq (slice_index_or teco_app.top.rules j r).id (codes "input") ≡ true → j ≡ 4
+input_only zero r lt e = absurd (true≢false (sym e))
+input_only (suc zero) r lt e = absurd (true≢false (sym e))
+input_only (suc (suc zero)) r lt e = absurd (true≢false (sym e))
+input_only (suc (suc (suc zero))) r lt e = absurd (true≢false (sym e))
+input_only (suc (suc (suc (suc zero)))) r lt e = refl
+input_only (suc (suc (suc (suc (suc j))))) r lt e = absurd (omega arith)
 
 module _ (c : Command) (is : app_of c ≡ teco_app) (m : ArgMatches) (p : IsParsedFrom c m) where
   globals_is : (out-Command c).has_globals ≡ false
@@ -243,63 +283,89 @@ module _ (c : Command) (is : app_of c ≡ teco_app) (m : ArgMatches) (p : IsPars
   some : Arg
   some = some_arg (args_of c) (count_is c is)
 
-  -- the limit has a text that passed its parser
+  -- a number with a value has a text that passed its parser
+  number_text : (k : ℕ) (rule : Rule) (least most : ℕ) → IsAlone c k rule (slice_index_or (args_of c) k some) → rule.parser ≡ Some (parser.Unsigned least most)
+      → is_some (first_value (found_of m) rule.id) ≡ true → (t : Text) × (one_text (found_of m) rule.id ≡ Some t) × IsUnsignedIn least most t
+  number_text k rule least most a parsed has =
+      let value = subst (λ t. is_some (first_value (found_of m) t) ≡ true) (sym a.id_is) has in
+      let read = entry_read c m p (plain_is c is) globals_is k some a.within a.unique a.own (parser.Unsigned least most) (ap (λ r. r.parser) a.rule_is ∙ parsed) a.named value in
+      (read.0, subst (λ t. one_text (found_of m) t ≡ Some read.0) a.id_is read.1, read.2)
+
+  -- the limit has a value, given or by its default
+  limit_given : (a : IsAlone c 0 limit_rule (slice_index_or (args_of c) 0 some)) → is_some (first_value (found_of m) (codes "limit")) ≡ true
+  limit_given a =
+      let arg = slice_index_or (args_of c) 0 some in
+      let one : least_values arg ≡ 1 = ap (λ r. (unwrap_or_range r.range).start_inclusive) a.rule_is in
+      let least : 1 ≤ least_values arg = rw one (omega arith) in
+      let many : length (items_of arg.default_vals) ≡ 1 = sym (length-map (items_of arg.default_vals) (λ s. s.now)) ∙ ap (λ r. length r.defaults) a.rule_is in
+      let simple = (simple_is c is).args 0 some a.within in
+      let wants : WantsDefault arg = (simple.default_ifs, omega arith) in
+      let entry = default_present c m p globals_is 0 some a.within wants in
+      let value = entry_has_value c m p (plain_is c is) globals_is 0 some a.within a.unique a.own (ap (λ r. r.action) a.rule_is) simple.delimiter least a.named (found_in _ _ entry) in
+      subst (λ t. is_some (first_value (found_of m) t) ≡ true) a.id_is value
+
   limit_text : (t : Text) × (one_text (found_of m) (codes "limit") ≡ Some t) × IsUnsignedIn 0 1000000000000 t
   limit_text =
-      let count = count_is c is in
-      let lt : 0 < length (args_of c) = omega arith in
-      let arg = slice_index_or (args_of c) 0 some in
-      let rule : rule_of arg ≡ limit_rule = rule_at c is 0 some lt in
-      let id_is : arg.id.now ≡ codes "limit" = ap (λ r. r.id) rule in
-      let apart : (t : Text) → arg.id.now ≡ t → true ≡ bytes_eq t (codes "limit") = λ t e. ap (λ u. bytes_eq u (codes "limit")) (sym id_is ∙ e) in
-      let own : IsAuto arg → ⊥ = λ auto. elim auto [ inl h ↦ true≢false (apart (codes "help") h) | inr h ↦ true≢false (apart (codes "version") h) ] in
-      let named : arg.id.now ≡ [] → ⊥ = λ e. true≢false (apart [] e) in
-      let unique : (j : ℕ) (e : Arg) → j < length (args_of c) → bytes_eq (slice_index_or (args_of c) j e).id.now arg.id.now ≡ true → j ≡ 0 =
-      λ j e low same. limit_alone j (rule_of e) (omega arith) (rw (← id_at c is j e low, ← id_is) same) in
-      let one : least_values arg ≡ 1 = ap (λ r. (unwrap_or_range r.range).start_inclusive) rule in
-      let least : 1 ≤ least_values arg = rw one (omega arith) in
-      let many : length (items_of arg.default_vals) ≡ 1 = sym (length-map (items_of arg.default_vals) (λ s. s.now)) ∙ ap (λ r. length r.defaults) rule in
-      let wants : WantsDefault arg = (((simple_is c is).args 0 some lt).default_ifs, omega arith) in
-      let entry = default_present c m p globals_is 0 some lt wants in
-      let plain = plain_is c is in
-      let value = entry_has_value c m p plain globals_is 0 some lt unique own (ap (λ r. r.action) rule) ((simple_is c is).args 0 some lt).delimiter least named (found_in _ _ entry) in
-      let read = entry_read c m p plain globals_is 0 some lt unique own (parser.Unsigned 0 1000000000000) (ap (λ r. r.parser) rule) named value in
-      (read.0, subst (λ t. one_text (found_of m) t ≡ Some read.0) id_is read.1, read.2)
+      let a = alone_at c is 0 limit_rule some (omega arith) refl limit_only refl refl refl in
+      number_text 0 limit_rule 0 1000000000000 a refl (limit_given a)
+
+  -- the depth has one where it has a value
+  undo_text : is_some (first_value (found_of m) (codes "undo")) ≡ true → (t : Text) × (one_text (found_of m) (codes "undo") ≡ Some t) × IsUnsignedIn 1 DEPTH_LIMIT t
+  undo_text = number_text 3 undo_rule 1 DEPTH_LIMIT (alone_at c is 3 undo_rule some (omega arith) refl undo_only refl refl refl) refl
 
   -- the input has a text
   pub input_text : is_some (first_value (found_of m) (codes "input")) ≡ true
   input_text =
-      let count = count_is c is in
-      let lt : 3 < length (args_of c) = omega arith in
-      let arg = slice_index_or (args_of c) 3 some in
-      let rule : rule_of arg ≡ input_rule = rule_at c is 3 some lt in
-      let id_is : arg.id.now ≡ codes "input" = ap (λ r. r.id) rule in
-      let apart : (t : Text) → arg.id.now ≡ t → true ≡ bytes_eq t (codes "input") = λ t e. ap (λ u. bytes_eq u (codes "input")) (sym id_is ∙ e) in
-      let own : IsAuto arg → ⊥ = λ auto. elim auto [ inl h ↦ true≢false (apart (codes "help") h) | inr h ↦ true≢false (apart (codes "version") h) ] in
-      let named : arg.id.now ≡ [] → ⊥ = λ e. true≢false (apart [] e) in
-      let unique : (j : ℕ) (e : Arg) → j < length (args_of c) → bytes_eq (slice_index_or (args_of c) j e).id.now arg.id.now ≡ true → j ≡ 3 =
-      λ j e low same. input_alone j (rule_of e) (omega arith) (rw (← id_at c is j e low, ← id_is) same) in
-      let one : least_values arg ≡ 1 = ap (λ r. (unwrap_or_range r.range).start_inclusive) rule in
+      let arg = slice_index_or (args_of c) 4 some in
+      let a = alone_at c is 4 input_rule some (omega arith) refl input_only refl refl refl in
+      let one : least_values arg ≡ 1 = ap (λ r. (unwrap_or_range r.range).start_inclusive) a.rule_is in
       let least : 1 ≤ least_values arg = rw one (omega arith) in
-      let has = required_has_value c m p (plain_is c is) globals_is negates_is 3 some lt (ap (λ r. r.required) rule) (ap (λ r. r.action) rule)
-      ((simple_is c is).args 3 some lt).delimiter least unique named own in
-      subst (λ t. is_some (first_value (found_of m) t) ≡ true) id_is has
+      let has = required_has_value c m p (plain_is c is) globals_is negates_is 4 some a.within (ap (λ r. r.required) a.rule_is) (ap (λ r. r.action) a.rule_is)
+      ((simple_is c is).args 4 some a.within).delimiter least a.unique a.named a.own in
+      subst (λ t. is_some (first_value (found_of m) t) ≡ true) a.id_is has
 
 -- ---- what the getters give
 
--- a text that passed the limit's parser reads as its number
+-- what is read has a value
+heads_alike : (how : Reading) (o : Option (Bor (List ℕ))) → is_some (option_map (λ s. read_as how s.now) o) ≡ is_some (option_map (λ s. s.now) o)
+heads_alike how None = refl
+heads_alike how (Some s) = refl
+
+values_alike : (o : Option MatchedArg) → is_some (option_and_then (λ a. option_map (λ s. read_as a.reading s.now) (slice_get a.vals.items 0)) o)
+    ≡ is_some (option_and_then (λ a. option_map (λ s. s.now) (slice_get a.vals.items 0)) o)
+values_alike None = refl
+values_alike (Some x) = heads_alike x.reading (slice_get x.vals.items 0)
+
+-- a text that passed the parser of a number reads as it
 number_read : {E : Type 0} (G : List ℕ → Result ℕ E → Type 0) → ((u : List ℕ) (x : Result ℕ E) → G u x → ParsesUnsigned 64 10 u x)
-    → (t : Text) (r : Option ℕ) → IsUnsignedIn 0 1000000000000 t → ReadsOne G t r → r ≡ Some (digits_value 10 (without_leading_plus t))
-number_read G only t (Some n) fits read = ap Some (only t (Ok n) read).1
-number_read G only t None fits read = absurd (only t (Err read.0) read.1 (fits.0, fits.1))
+    → (least most : ℕ) (t : Text) (r : Option ℕ) → IsUnsignedIn least most t → ReadsOne G t r → r ≡ Some (number_of t)
+number_read G only least most t (Some n) fits read = ap Some (only t (Ok n) read).1
+number_read G only least most t None fits read = absurd (only t (Err read.0) read.1 (fits.0, fits.1))
 
 -- what is read of the limit is the number that its text spells, in its range
 pub limit_read : {E : Type 0} (G : List ℕ → Result ℕ E → Type 0) → ((u : List ℕ) (x : Result ℕ E) → G u x → ParsesUnsigned 64 10 u x)
     → (c : Command) → app_of c ≡ teco_app → (m : ArgMatches) → IsParsedFrom c m → (r : Option ℕ) → ((t : Text) → one_text (found_of m) (codes "limit") ≡ Some t → ReadsOne G t r)
-    → (t : Text) × (one_text (found_of m) (codes "limit") ≡ Some t) × (r ≡ Some (digits_value 10 (without_leading_plus t))) × (digits_value 10 (without_leading_plus t) ≤ 1000000000000)
+    → (n : ℕ) × (r ≡ Some n) × (option_map number_of (one_text (found_of m) (codes "limit")) ≡ Some n) × (n ≤ 1000000000000)
 limit_read G only c is m p r reads =
     let text = limit_text c is m p in
-    (text.0, text.1, number_read G only text.0 r text.2 (reads text.0 text.1), text.2.3)
+    (number_of text.0, number_read G only 0 1000000000000 text.0 r text.2 (reads text.0 text.1), ap (option_map number_of) text.1, text.2.3)
+
+-- and of the depth, where it is given
+pub undo_read : {E : Type 0} (G : List ℕ → Result ℕ E → Type 0) → ((u : List ℕ) (x : Result ℕ E) → G u x → ParsesUnsigned 64 10 u x)
+    → (c : Command) → app_of c ≡ teco_app → (m : ArgMatches) → IsParsedFrom c m → (r : Option ℕ) → (one_text (found_of m) (codes "undo") ≡ None → r ≡ None)
+    → ((t : Text) → one_text (found_of m) (codes "undo") ≡ Some t → ReadsOne G t r)
+    → (option_map number_of (one_text (found_of m) (codes "undo")) ≡ r) × IfSome r IsDepth
+undo_read G only c is m p r none reads = go (one_text (found_of m) (codes "undo")) refl
+  where
+    given : (t : Text) → one_text (found_of m) (codes "undo") ≡ Some t → IsUnsignedIn 1 DEPTH_LIMIT t
+        → (option_map number_of (one_text (found_of m) (codes "undo")) ≡ r) × IfSome r IsDepth
+    given t e fits = rw (number_read G only 1 DEPTH_LIMIT t r fits (reads t e), e) (refl, (fits.2, fits.3))
+
+    go : (o : Option Text) → one_text (found_of m) (codes "undo") ≡ o → (option_map number_of (one_text (found_of m) (codes "undo")) ≡ r) × IfSome r IsDepth
+    go None e = rw (none e, e) (refl, tt)
+    go (Some t) e =
+        let text = undo_text c is m p (sym (values_alike (matched_of (found_of m) (codes "undo"))) ∙ ap is_some e) in
+        given text.0 text.1 text.2
 
 -- the flag is up where its text is "true"
 pub flag_read : {E : Type 0} (G : List ℕ → Result Bool E → Type 0) → ((u : List ℕ) (x : Result Bool E) → G u x → ParsesBool u x)
@@ -332,10 +398,11 @@ pub line_is : (c : Command) (m : ArgMatches) (words : List Text) (line : Line) �
     → (is_simple_and_free (app_of c) ≡ true → fault_of (app_of c) words ≡ [])
     → first_value (found_of m) (codes "input") ≡ Some (string_bytes line.input)
     → first_value (found_of m) (codes "output") ≡ option_map string_bytes line.output
-    → ((text : Text) × (one_text (found_of m) (codes "limit") ≡ Some text) × (line.limit ≡ digits_value 10 (without_leading_plus text)))
+    → option_map number_of (one_text (found_of m) (codes "limit")) ≡ Some line.limit
     → (IsTrue line.prompt ↔ (one_text (found_of m) (codes "prompt") ≡ Some (codes "true")))
+    → option_map number_of (one_text (found_of m) (codes "undo")) ≡ line.undo
     → IsLine words line
-line_is c m words line is matches fault input output limit prompt =
+line_is c m words line is matches fault input output limit prompt undo =
     let rows : rows_of (found_of m) ≡ matches_of teco_app words = (matches (ap is_simple is ∙ teco_is_simple)).0 ∙ ap (λ a. matches_of a words) is in
     let first : (id : Text) → first_of id (matches_of teco_app words) ≡ first_value (found_of m) id = λ id. ap (first_of id) (sym rows) ∙ sym (first_value-rows (found_of m) id) in
     let one : (id : Text) → one_of id (matches_of teco_app words) ≡ one_text (found_of m) id = λ id. ap (one_of id) (sym rows) ∙ sym (one_text-rows (found_of m) id) in
@@ -343,8 +410,9 @@ line_is c m words line is matches fault input output limit prompt =
       taken = ap (λ a. fault_of a words) (sym is) ∙ fault (ap is_simple_and_free is ∙ teco_is_free);
       input = first (codes "input") ∙ input;
       output = first (codes "output") ∙ output;
-      limit = (limit.0, one (codes "limit") ∙ limit.1, limit.2);
+      limit = ap (option_map number_of) (one (codes "limit")) ∙ limit;
       prompt = (λ up. one (codes "prompt") ∙ prompt.0 up, λ e. prompt.1 (sym (one (codes "prompt")) ∙ e));
+      undo = ap (option_map number_of) (one (codes "undo")) ∙ undo;
     }
 
 abbrev is_memory : ErrorKind → Bool

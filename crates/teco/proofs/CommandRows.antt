@@ -5,12 +5,13 @@ use Rattle.clap.specs.declared.error.kind.ErrorKind.TheVariants.{ArgumentConflic
 use Rattle.clap.proofs.OnLiterals.{clap_on_literals}
 use Rattle.teco.specs.CommandLine.{teco_app}
 
--- what the words give for the input, the output, the limit and the flag
+-- what the words give for the input, the output, the limit, the flag and the depth
 pub record Row : Type 0 where
   pub input : Option Text
   pub output : Option Text
   pub limit : Option Text
   pub prompt : Option Text
+  pub undo : Option Text
 
 abbrev row_of : List Text → Row
 row_of words = record {
@@ -18,28 +19,35 @@ row_of words = record {
   output = first_of (codes "output") (matches_of teco_app words);
   limit = one_of (codes "limit") (matches_of teco_app words);
   prompt = one_of (codes "prompt") (matches_of teco_app words);
+  undo = one_of (codes "undo") (matches_of teco_app words);
 }
 
-abbrev row : Text → Option Text → Text → Text → Row
-row input output limit prompt = record { input = Some input; output = output; limit = Some limit; prompt = Some prompt }
+abbrev row : Text → Option Text → Text → Text → Option Text → Row
+row input output limit prompt undo = record { input = Some input; output = output; limit = Some limit; prompt = Some prompt; undo = undo }
 
 -- teco a
-alone : row_of (codes "teco" ∷ codes "a" ∷ []) ≡ row (codes "a") None (codes "1000000") (codes "false")
+alone : row_of (codes "teco" ∷ codes "a" ∷ []) ≡ row (codes "a") None (codes "1000000") (codes "false") None
 unfolding clap_on_literals
 alone = refl
 
 -- teco --limit 5 a
-limited : row_of (codes "teco" ∷ codes "--limit" ∷ codes "5" ∷ codes "a" ∷ []) ≡ row (codes "a") None (codes "5") (codes "false")
+limited : row_of (codes "teco" ∷ codes "--limit" ∷ codes "5" ∷ codes "a" ∷ []) ≡ row (codes "a") None (codes "5") (codes "false") None
 unfolding clap_on_literals
 limited = refl
 
--- teco a --prompt --output=b --limit=0
-all_given : row_of (codes "teco" ∷ codes "a" ∷ codes "--prompt" ∷ codes "--output=b" ∷ codes "--limit=0" ∷ []) ≡ row (codes "a") (Some (codes "b")) (codes "0") (codes "true")
+-- teco --undo 1 a
+bounded : row_of (codes "teco" ∷ codes "--undo" ∷ codes "1" ∷ codes "a" ∷ []) ≡ row (codes "a") None (codes "1000000") (codes "false") (Some (codes "1"))
+unfolding clap_on_literals
+bounded = refl
+
+-- teco a --prompt --output=b --limit=0 --undo=100000
+all_given : row_of (codes "teco" ∷ codes "a" ∷ codes "--prompt" ∷ codes "--output=b" ∷ codes "--limit=0" ∷ codes "--undo=100000" ∷ [])
+    ≡ row (codes "a") (Some (codes "b")) (codes "0") (codes "true") (Some (codes "100000"))
 unfolding clap_on_literals
 all_given = refl
 
 -- teco -- --prompt
-after_dashes : row_of (codes "teco" ∷ codes "--" ∷ codes "--prompt" ∷ []) ≡ row (codes "--prompt") None (codes "1000000") (codes "false")
+after_dashes : row_of (codes "teco" ∷ codes "--" ∷ codes "--prompt" ∷ []) ≡ row (codes "--prompt") None (codes "1000000") (codes "false") None
 unfolding clap_on_literals
 after_dashes = refl
 
@@ -47,7 +55,9 @@ all_taken : map (takes teco_app) (
     (codes "teco" ∷ codes "a" ∷ [])
     ∷ (codes "teco" ∷ codes "--limit" ∷ codes "5" ∷ codes "a" ∷ [])
     ∷ (codes "teco" ∷ codes "a" ∷ codes "--prompt" ∷ codes "--output=b" ∷ codes "--limit=1000000000000" ∷ [])
-    ∷ []) ≡ true ∷ true ∷ true ∷ []
+    ∷ (codes "teco" ∷ codes "--undo" ∷ codes "1" ∷ codes "a" ∷ [])
+    ∷ (codes "teco" ∷ codes "--undo" ∷ codes "100000" ∷ codes "a" ∷ [])
+    ∷ []) ≡ true ∷ true ∷ true ∷ true ∷ true ∷ []
 unfolding clap_on_literals
 all_taken = refl
 
@@ -58,11 +68,14 @@ faults : map (fault_of teco_app) (
     ∷ (codes "teco" ∷ codes "a" ∷ codes "--limit" ∷ [])
     ∷ (codes "teco" ∷ codes "a" ∷ codes "--limit=x" ∷ [])
     ∷ (codes "teco" ∷ codes "a" ∷ codes "--limit=1000000000001" ∷ [])
+    ∷ (codes "teco" ∷ codes "a" ∷ codes "--undo=0" ∷ [])
+    ∷ (codes "teco" ∷ codes "a" ∷ codes "--undo=100001" ∷ [])
+    ∷ (codes "teco" ∷ codes "a" ∷ codes "--undo=x" ∷ [])
     ∷ (codes "teco" ∷ codes "a" ∷ codes "--prompt=true" ∷ [])
     ∷ (codes "teco" ∷ codes "a" ∷ codes "--prompt" ∷ codes "--prompt" ∷ [])
     ∷ (codes "teco" ∷ codes "a" ∷ codes "--what" ∷ [])
     ∷ (codes "teco" ∷ codes "--help" ∷ [])
     ∷ []) ≡ (MissingRequiredArgument ∷ []) ∷ (UnknownArgument ∷ []) ∷ (InvalidValue ∷ []) ∷ (ValueValidation ∷ []) ∷ (ValueValidation ∷ [])
-    ∷ (TooManyValues ∷ []) ∷ (ArgumentConflict ∷ []) ∷ (UnknownArgument ∷ []) ∷ (DisplayHelp ∷ []) ∷ []
+    ∷ (ValueValidation ∷ []) ∷ (ValueValidation ∷ []) ∷ (ValueValidation ∷ []) ∷ (TooManyValues ∷ []) ∷ (ArgumentConflict ∷ []) ∷ (UnknownArgument ∷ []) ∷ (DisplayHelp ∷ []) ∷ []
 unfolding clap_on_literals
 faults = refl

@@ -102,6 +102,7 @@ mod tests {
             output,
             limit: 0,
             prompt: false,
+            undo: None,
         })
     }
 

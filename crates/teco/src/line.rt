@@ -1,17 +1,17 @@
 //! The program's command line.
 ghost use Rattle.clap.specs.Words.{app_of, kind_of, rule_of};
 ghost use Rattle.std.specs.IoError.{error_kind};
-ghost use Rattle.std.specs.Prelude.{◌≡◌, ◌≢◌, ◌≤◌, IfErr, IfOk, false, map};
+ghost use Rattle.std.specs.Prelude.{◌≡◌, ◌≢◌, ◌≤◌, IfErr, IfOk, IfSome, false, map};
 ghost use Rattle.std.specs.String.{string_bytes};
 ghost use Rattle.std.specs.declared.io.ErrorKind.TheVariants as io_kind;
-ghost use Rattle.teco.specs.CommandLine.{IsLine, IsLineFault, fault_for, input_rule, limit_rule, output_rule, prompt_rule, teco_app};
+ghost use Rattle.teco.specs.CommandLine.{IsDepth, IsLine, IsLineFault, fault_for, input_rule, limit_rule, output_rule, prompt_rule, teco_app, undo_rule};
 ghost use Rattle.teco.specs.Ending.{output_of};
 
 use clap::error::ErrorKind;
 use clap::{Arg, ArgAction, Command};
 use std::alloc::Global;
 use std::io;
-use teco_core::NoMemory;
+use teco_core::{DEPTH_LIMIT, NoMemory};
 use thiserror::Error;
 
 /// The most steps that a command string may be given.
@@ -36,6 +36,8 @@ pub struct Line {
     pub limit: u64,
     /// Whether a star is shown where commands are wanted.
     pub prompt: bool,
+    /// The most command strings that are kept to be undone, from 1 to [`DEPTH_LIMIT`]; without it all are kept.
+    pub undo: Option<u64>,
 }
 
 /// Why there is no [`Line`].
@@ -103,6 +105,18 @@ fn prompt_arg<'a>(alloc: Global) -> Arg<'a>
         .help("Types * where a command string is awaited")
 }
 
+fn undo_arg<'a>(alloc: Global) -> Arg<'a>
+    ensures rule { rule_of result ≡ undo_rule }
+    ensures local { result.global ≡ false }
+{
+    Arg::new(alloc, "undo")
+        .long("undo")
+        .value_name("N")
+        .action(ArgAction::Set)
+        .value_parser(clap::value_parser!(u64).range(1..=DEPTH_LIMIT as i64))
+        .help("The most command strings kept to be undone, at most 100000; all without it")
+}
+
 fn input_arg<'a>(alloc: Global) -> Arg<'a>
     ensures rule { rule_of result ≡ input_rule }
     ensures local { result.global ≡ false }
@@ -127,13 +141,14 @@ fn command<'a>(alloc: Global) -> Result<Command<'a>, NoMemory>
         .arg(limit_arg(alloc))?
         .arg(output_arg(alloc))?
         .arg(prompt_arg(alloc))?
+        .arg(undo_arg(alloc))?
         .arg(input_arg(alloc))
 }
 
-/// What the words say, the program's name first: `teco [--limit N] [--output FILE] [--prompt] INPUT`.
+/// What the words say, the program's name first: `teco [--limit N] [--output FILE] [--prompt] [--undo N] INPUT`.
 pub fn line_of(alloc: Global, words: &[String]) -> Result<Line, LineFault>
     ensures line { IfOk result (IsLine (map string_bytes words.now)) }
-    ensures range { IfOk result (λ line. line.limit ≤ 1000000000000) }
+    ensures range { IfOk result (λ line. (line.limit ≤ 1000000000000) × IfSome line.undo IsDepth) }
     ensures refused { IfErr result (IsLineFault (map string_bytes words.now)) }
 {
     let matches = command(alloc)?.try_get_matches_from(words)?;
@@ -148,6 +163,7 @@ pub fn line_of(alloc: Global, words: &[String]) -> Result<Line, LineFault>
         output,
         limit,
         prompt: matches.get_one::<bool>("prompt").unwrap_or(false),
+        undo: matches.get_one::<u64>("undo"),
     })
 }
 

@@ -2,10 +2,13 @@
 #![tactic(auto)]
 
 ghost use Rattle.std.specs.IoError.{error_kind};
-ghost use Rattle.std.specs.Prelude.{◌≡◌, ◌≢◌, ◌≤◌, IfOk, vec_len};
+ghost use Rattle.std.specs.Prelude.{◌≡◌, ◌≢◌, ◌≤◌, IfOk, IfSome, vec_len};
 ghost use Rattle.std.specs.String.{string_bytes};
+ghost use Rattle.teco.specs.CommandLine.{IsDepth};
 ghost use Rattle.teco.specs.Ending.{IsEnding};
 ghost use Rattle.teco_core.specs.declared.limits.TheConstants.{FILE_LIMIT};
+ghost use Rattle.teco_session.specs.History.{new_history};
+ghost use Rattle.teco_session.specs.Kept.{history_of};
 
 mod disk;
 mod ending;
@@ -54,15 +57,30 @@ fn fate_of(error: io::Error, other: Fate) -> Fate
     }
 }
 
+/// A session over the input, which keeps as many strings as the line says.
+fn session_over(line: &Line, input: Vec<u8>) -> Result<Session, NoMemory>
+    requires small { vec_len input ≤ FILE_LIMIT }
+    requires depth { IfSome line.now.undo IsDepth }
+    ensures { IfOk result (λ session. history_of session ≡ new_history line.now.undo input.items) }
+{
+    match line.undo {
+        Some(depth) => Session::with_depth(input, depth as usize),
+        None => Ok(Session::new(input)),
+    }
+}
+
 /// Serves the commands over the input. After an exit it writes the output file.
 fn serve_input(rt: &HostRuntime, line: &Line, input: Vec<u8>) -> Fate
-    requires { vec_len input ≤ FILE_LIMIT }
+    requires small { vec_len input ≤ FILE_LIMIT }
+    requires depth { IfSome line.now.undo IsDepth }
 {
     let alloc = rt.alloc();
     let Ok(output) = output_name(alloc, line) else {
         return Fate::NoMemory;
     };
-    let mut session = Session::new(input);
+    let Ok(mut session) = session_over(line, input) else {
+        return Fate::NoMemory;
+    };
     let mut source = ReaderSource::new(rt.stdin());
     let mut term = WriterTerminal::new(rt.stdout());
     let served = serve(
@@ -83,7 +101,9 @@ fn serve_input(rt: &HostRuntime, line: &Line, input: Vec<u8>) -> Fate
 }
 
 /// Reads the input file whole, and serves the commands over it.
-fn run(rt: &HostRuntime, line: &Line) -> Fate {
+fn run(rt: &HostRuntime, line: &Line) -> Fate
+    requires depth { IfSome line.now.undo IsDepth }
+{
     let file = match File::open(rt, line.input.as_str()) {
         Ok(file) => file,
         Err(error) => return fate_of(error, Fate::NoInput),
@@ -95,7 +115,9 @@ fn run(rt: &HostRuntime, line: &Line) -> Fate {
 }
 
 /// The line that the program was called with.
-fn line_given(rt: &HostRuntime) -> Result<Line, LineFault> {
+fn line_given(rt: &HostRuntime) -> Result<Line, LineFault>
+    ensures depth { IfOk result (λ line. IfSome line.undo IsDepth) }
+{
     let words = match std::env::args(rt) {
         Ok(words) => words,
         Err(error) => return Err(fault_of_words(error, not_text(rt.alloc()))),
@@ -106,6 +128,7 @@ fn line_given(rt: &HostRuntime) -> Result<Line, LineFault> {
 
 /// Runs the program, and gives its status and what it prints on standard error.
 fn conclusion(rt: &HostRuntime, line: &Line) -> Result<(u8, String), NoMemory>
+    requires depth { IfSome line.now.undo IsDepth }
     ensures { IfOk result (λ ending. IsEnding line.now ending.0 (string_bytes ending.1)) }
 {
     ending(rt.alloc(), line, run(rt, line))

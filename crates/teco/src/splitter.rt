@@ -202,3 +202,6 @@ impl Splitter {
         Ok(Some(asked))
     }
 }
+
+#[cfg(test)]
+mod tests;

@@ -3,7 +3,7 @@
 use std::process::Abort;
 
 mod block_forms;
-mod bytes;
+pub(crate) mod bytes;
 mod codes;
 mod conditionals;
 mod exits;
@@ -18,9 +18,12 @@ mod limits;
 mod modifiers;
 mod page_turns;
 mod patterns;
+mod program;
 mod random;
 mod records;
-mod requests;
+pub(crate) mod requests;
+mod single_bytes;
+pub(crate) mod states;
 mod steps;
 mod strings;
 mod terminals;

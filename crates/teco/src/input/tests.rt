@@ -1,7 +1,9 @@
 //! What is read of sources that end, fail, or give too much.
 use super::*;
 use crate::memory_source::MemorySource;
+use crate::reader_source::ReaderSource;
 use std::process::Abort;
+use teco_step::FailAfter;
 
 /// A source that gives `12345678` in three pieces, and then ends or fails.
 fn eight(alloc: Global, fails: bool) -> Result<MemorySource, NoMemory> {
@@ -66,4 +68,23 @@ fn reads_all_or_a_fault(rt: HostRuntime) {
             (true, 7, Some(InputFault::TooLarge)),
         ],
     );
+}
+
+fn is_failed_read(alloc: Global, front: &[u8]) -> bool {
+    let Ok(bytes) = Vec::from_slice(alloc, front) else {
+        return false;
+    };
+    let mut source = ReaderSource::new(FailAfter::new(bytes));
+    matches!(read_input(alloc, &mut source, 8), Err(InputFault::Read))
+}
+
+/// However many bytes came before the read that fails; where memory was refused, it reads a second time.
+#[test]
+fn reads_no_part_of_what_fails(rt: HostRuntime) {
+    let bytes = b"12345678".as_slice();
+    for read in 0..=bytes.len() {
+        let front = &bytes[..read];
+        let held = is_failed_read(rt.alloc(), front) || is_failed_read(rt.alloc(), front);
+        assert!(rt; held, "after {read} bytes");
+    }
 }

@@ -2,7 +2,7 @@
 use super::*;
 use crate::memory_source::MemorySource;
 use std::process::Abort;
-use teco_core::{FILE_LIMIT, NoMemory};
+use teco_core::{DEPTH_LIMIT, FILE_LIMIT, NoMemory};
 use teco_step::{MemoryTerminal, WriterTerminal};
 use teco_store::Desk;
 
@@ -71,11 +71,16 @@ fn source_of(
     Ok(MemorySource::new(bytes, cuts, fails))
 }
 
-/// A session over an input.
-fn session_over(alloc: Global, input: &str) -> Option<Session> {
-    match Vec::from_slice(alloc, input.as_bytes()) {
-        Ok(input) if input.len() <= FILE_LIMIT => Some(Session::new(input)),
-        _ => None,
+/// A session over an input, whose history has this depth, if one is given.
+fn session_over(alloc: Global, input: &str, depth: Option<usize>) -> Option<Session> {
+    let input = Vec::from_slice(alloc, input.as_bytes()).ok()?;
+    if input.len() > FILE_LIMIT {
+        return None;
+    }
+    match depth {
+        Some(depth) if 1 <= depth && depth <= DEPTH_LIMIT => Session::with_depth(input, depth).ok(),
+        Some(_) => None,
+        None => Some(Session::new(input)),
     }
 }
 
@@ -104,21 +109,23 @@ fn serves_in(alloc: Global, session: &mut Session, how: &How, row: &Row, single:
     }
 }
 
-fn holds_once(alloc: Global, how: &How, row: &Row, single: bool) -> bool {
-    match session_over(alloc, how.input) {
+fn holds_once(alloc: Global, how: &How, row: &Row, single: bool, depth: Option<usize>) -> bool {
+    match session_over(alloc, how.input, depth) {
         Some(mut session) => serves_in(alloc, &mut session, how, row, single),
         None => false,
     }
 }
 
-/// Whether the row holds with its stream as one piece and in single bytes.
-fn holds_however_cut(alloc: Global, how: &How, row: &Row) -> bool {
-    holds_once(alloc, how, row, false) && holds_once(alloc, how, row, true)
+/// Whether the row holds with its stream as one piece and in single bytes, and with a history that is deep enough for its strings.
+fn holds_in_each_way(alloc: Global, how: &How, row: &Row) -> bool {
+    holds_once(alloc, how, row, false, None)
+        && holds_once(alloc, how, row, true, None)
+        && holds_once(alloc, how, row, false, Some(100))
 }
 
-/// The row holds however its stream is cut; where memory was refused, a second time.
+/// The row holds in each way; where memory was refused, a second time.
 fn holds(rt: &impl Abort, alloc: Global, how: &How, row: &Row) {
-    let held = holds_however_cut(alloc, how, row) || holds_however_cut(alloc, how, row);
+    let held = holds_in_each_way(alloc, how, row) || holds_in_each_way(alloc, how, row);
     assert!(rt; held, "{}", row.0);
 }
 
@@ -288,7 +295,7 @@ fn goes_on(alloc: Global, session: &mut Session) -> bool {
 }
 
 fn goes_on_once(alloc: Global) -> bool {
-    match session_over(alloc, "a") {
+    match session_over(alloc, "a", None) {
         Some(mut session) => goes_on(alloc, &mut session),
         None => false,
     }
@@ -301,7 +308,9 @@ fn serves_after_an_exit(rt: HostRuntime) {
 }
 
 mod commands;
+mod depths;
 mod examples;
+mod failing;
 mod pages;
 mod programs;
 mod rewinds;

@@ -1,11 +1,19 @@
 //! Bytes in memory of their own. Where memory was refused, it is asked for a second time.
 use std::alloc::Global;
+use teco_step::FailAfter;
 
 /// Parts after one another.
-pub(super) fn joined(alloc: Global, parts: &[&[u8]]) -> Vec<u8> {
+pub(crate) fn joined(alloc: Global, parts: &[&[u8]]) -> Vec<u8> {
     let mut bytes = Vec::new(alloc);
     for part in parts {
         let _ = bytes.extend_from_slice(part).is_ok() || bytes.extend_from_slice(part).is_ok();
     }
     bytes
+}
+
+/// A writer that takes so many bytes, and then fails.
+pub(crate) fn failing_after(alloc: Global, count: usize) -> FailAfter {
+    let mut room = Vec::new(alloc);
+    let _ = room.resize(count, 0).is_ok() || room.resize(count, 0).is_ok();
+    FailAfter::new(room)
 }

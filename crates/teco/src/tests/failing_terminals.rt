@@ -1,61 +1,62 @@
-//! Strings on a terminal that fails after so many bytes.
+//! Strings on a terminal that fails after so many bytes, and undone then.
+use super::assert_of;
+use super::bytes::{failing_after, joined};
+use super::requests::session_over;
 use std::alloc::Global;
-use std::io::{self, Write};
-use std::process::Abort;
+use std::test::*;
 use teco_core::Code;
-use teco_exec::{Outcome, run};
-use teco_step::WriterTerminal;
-use teco_store::{Desk, Editor};
+use teco_exec::Outcome;
+use teco_session::{Answer, Session};
+use teco_step::{FailAfter, WriterTerminal};
+use teco_store::Desk;
 
-/// Takes so many bytes, and then fails.
-#[derive(Drop)]
-struct Short {
-    left: usize,
+/// A string, how many bytes its terminal takes, the code by which it ends and its steps, what is shown, and the text that is left.
+type Row<'a> = (&'a str, usize, Option<Code>, u64, &'a str, &'a str);
+
+fn has_text(alloc: Global, session: &Session, text: &str) -> bool {
+    let (before, after) = session.editor().halves();
+    joined(alloc, &[before, after]).as_slice() == text.as_bytes()
 }
 
-impl Write for Short {
-    fn write(&mut self, bytes: &[u8]) -> io::Result<usize> {
-        if self.left == 0 {
-            return Err(io::Error::from(io::ErrorKind::Other));
-        }
-        let n = self.left.min(bytes.len());
-        self.left -= n;
-        Ok(n)
-    }
-
-    fn flush(&mut self) -> io::Result<()> {
-        Ok(())
-    }
+fn run_on(session: &mut Session, text: &str, writer: &mut FailAfter) -> Answer {
+    let mut terminal = WriterTerminal::new(writer);
+    session.run(text.as_bytes(), 1000, &mut terminal)
 }
 
-fn run_short(editor: &mut Editor, left: usize) -> Outcome {
-    let mut terminal = WriterTerminal::new(Short { left });
-    run(editor, b"1=2=3C", 1000, &mut terminal)
+/// Whether a string ends so, and leaves an empty text once it is undone.
+fn ends(alloc: Global, row: &Row) -> bool {
+    let (text, room, code, steps, shown, left) = *row;
+    let mut session = session_over(alloc, b"");
+    let mut writer = failing_after(alloc, room);
+    let answer = run_on(&mut session, text, &mut writer);
+    let held = answer == Answer::Ended(Outcome { code, steps })
+        && writer.before() == shown.as_bytes()
+        && has_text(alloc, &session, left);
+    held && session.undo().is_ok() && has_text(alloc, &session, "")
 }
 
-/// Whether `1=2=3C` ends so where it can type so many bytes, and leaves the pointer.
-fn ends_short(alloc: Global, left: usize, wanted: Outcome) -> bool {
-    let mut editor = Editor::new(Vec::new(alloc));
-    let outcome = run_short(&mut editor, left);
-    outcome == wanted && editor.pointer() == 0
-}
-
-/// It ends by this code after so many steps.
-fn ends_after(rt: &impl Abort, alloc: Global, left: usize, code: Code, steps: u64) {
-    let code = Some(code);
-    let held = ends_short(alloc, left, Outcome { code, steps });
-    assert!(rt; held, "after {left} bytes");
-}
-
+// A step whose put fails is not done: its beginning is shown, and the state is that of the steps before. Where memory was refused, a
+// row holds the second time.
 #[test]
 fn ends_where_the_terminal_fails(rt: HostRuntime) {
-    for left in 0..3 {
-        ends_after(&rt, rt.alloc(), left, Code::Tty, 1);
-    }
-    for left in 3..6 {
-        ends_after(&rt, rt.alloc(), left, Code::Tty, 3);
-    }
-    for left in 6..8 {
-        ends_after(&rt, rt.alloc(), left, Code::Pop, 6);
+    let tty = Some(Code::Tty);
+    let rows: [Row; 14] = [
+        ("1=2=\x1b", 4, tty, 3, "1\r\n2", ""),
+        ("1=2=3C", 0, tty, 1, "", ""),
+        ("1=2=3C", 1, tty, 1, "1", ""),
+        ("1=2=3C", 2, tty, 1, "1\r", ""),
+        ("1=2=3C", 3, tty, 3, "1\r\n", ""),
+        ("1=2=3C", 4, tty, 3, "1\r\n2", ""),
+        ("1=2=3C", 5, tty, 3, "1\r\n2\r", ""),
+        ("1=2=3C", 6, Some(Code::Pop), 6, "1\r\n2\r\n", ""),
+        ("1=2=3C", 7, Some(Code::Pop), 6, "1\r\n2\r\n", ""),
+        ("Ia\x1bHTIb\x1b", 0, tty, 2, "", "a"),
+        ("Ia\x1bHTIb\x1b", 1, None, 4, "a", "ab"),
+        ("Iab\x1bHTHKIc\x1b", 1, tty, 2, "a", "ab"),
+        ("Ia\x1b3<HT>", 2, tty, 10, "aa", "a"),
+        ("@^UA/65^TIx\x1b/2<MA>", 1, tty, 10, "A", "x"),
+    ];
+    for row in &rows {
+        assert_of(&rt, row.0, ends(rt.alloc(), row) || ends(rt.alloc(), row));
     }
 }

@@ -1,12 +1,13 @@
-//! Strings made at random, with undo and redo between them: each state that comes back is the one that was seen there before.
+//! Strings made at random, with undo and redo between them: each state that comes back is the one that was seen there before. So it is
+//! where the last strings alone are kept, and then no state before them comes back.
 use super::bytes::joined;
 use super::requests::session_over;
+use super::states::{put, seen};
 use std::alloc::Global;
 use std::test::*;
-use teco_core::{CaseMode, Reg};
+use teco_core::FILE_LIMIT;
 use teco_session::{Answer, Session};
 use teco_step::MemoryTerminal;
-use teco_store::{Desk, Editor};
 
 /// What strings are made of: edits, searches, pages and registers, a row each.
 const PARTS: [&[u8]; 64] = [
@@ -76,79 +77,14 @@ const PARTS: [&[u8]; 64] = [
     b"3<]C>",
 ];
 
-/// A session, what was seen of it before and after each string, and what the next string is made by.
+/// A session, what was seen of it before and after each string that it keeps, how many states those are at most, and what the next
+/// string is made by.
 #[derive(Drop)]
 struct Trial {
     session: Session,
     states: Vec<Vec<u8>>,
+    most: usize,
     seed: u32,
-}
-
-fn put(bytes: &mut Vec<u8>, part: &[u8]) {
-    let _ = bytes.extend_from_slice(part).is_ok() || bytes.extend_from_slice(part).is_ok();
-}
-
-fn put_text(bytes: &mut Vec<u8>, text: &[u8]) {
-    put(bytes, &text.len().to_le_bytes());
-    put(bytes, text);
-}
-
-fn put_register(bytes: &mut Vec<u8>, editor: &Editor, name: u8) {
-    if let Some(q) = Reg::of(name) {
-        put(bytes, &editor.registers().number(q).to_le_bytes());
-        put_text(bytes, editor.registers().text(q));
-    }
-}
-
-fn put_registers(bytes: &mut Vec<u8>, editor: &Editor) {
-    for name in b"ABCDEFGHIJKLMNOPQRSTUVWXYZ0123456789" {
-        put_register(bytes, editor, *name);
-    }
-}
-
-fn put_pushed(alloc: Global, bytes: &mut Vec<u8>, editor: &Editor) {
-    for _ in 0..2 {
-        if let Ok(shown) = format!(in alloc; "{:?}", editor.pushed()) {
-            put_text(bytes, shown.as_bytes());
-            return;
-        }
-    }
-}
-
-fn put_search(bytes: &mut Vec<u8>, editor: &Editor) {
-    let text = editor.last_search();
-    put(
-        bytes,
-        &[u8::from(editor.last_result()), u8::from(text.is_some())],
-    );
-    put_text(bytes, text.unwrap_or(&[]));
-}
-
-fn put_pages(bytes: &mut Vec<u8>, editor: &Editor) {
-    put(bytes, &editor.place().to_le_bytes());
-    put_text(bytes, editor.output());
-    let either = editor.case_mode() == CaseMode::Either;
-    put(
-        bytes,
-        &[
-            u8::from(editor.flag()),
-            u8::from(editor.done()),
-            u8::from(either),
-        ],
-    );
-}
-
-/// All that is seen of an editor.
-fn seen(alloc: Global, editor: &Editor) -> Vec<u8> {
-    let (before, after) = editor.halves();
-    let mut bytes = Vec::new(alloc);
-    put_text(&mut bytes, &joined(alloc, &[before, after]));
-    put(&mut bytes, &editor.pointer().to_le_bytes());
-    put_registers(&mut bytes, editor);
-    put_pushed(alloc, &mut bytes, editor);
-    put_search(&mut bytes, editor);
-    put_pages(&mut bytes, editor);
-    bytes
 }
 
 /// The next number that is made.
@@ -166,11 +102,15 @@ fn made(alloc: Global, seed: &mut u32) -> Vec<u8> {
     text
 }
 
-/// Keeps the state that a string left, in place of those of undone strings.
-fn keep(states: &mut Vec<Vec<u8>>, cursor: usize, state: Vec<u8>) -> bool {
-    states.truncate(cursor);
-    let has_room = states.reserve(1).is_ok() || states.reserve(1).is_ok();
-    has_room && states.push(state).is_ok()
+/// Keeps the state that a string left, after so many that stay, and drops the first one where it would be one too many.
+fn keep(trial: &mut Trial, stay: usize, state: Vec<u8>) -> bool {
+    trial.states.truncate(stay);
+    let has_room = trial.states.reserve(1).is_ok() || trial.states.reserve(1).is_ok();
+    let is_kept = has_room && trial.states.push(state).is_ok();
+    if trial.states.len() > trial.most {
+        trial.states.remove(0);
+    }
+    is_kept
 }
 
 fn is_as_before(alloc: Global, trial: &Trial) -> bool {
@@ -184,6 +124,7 @@ fn is_as_before(alloc: Global, trial: &Trial) -> bool {
 /// Runs a string, at once or after a refusal. The state after it is kept; where it is not begun, the state stays.
 fn runs(alloc: Global, trial: &mut Trial) -> bool {
     let text = made(alloc, &mut trial.seed);
+    let before = trial.session.cursor();
     let mut term = MemoryTerminal::new(alloc);
     let mut answer = trial.session.run(&text, 200, &mut term);
     if answer == Answer::NotBegun {
@@ -191,7 +132,7 @@ fn runs(alloc: Global, trial: &mut Trial) -> bool {
     }
     if let Answer::Ended(_) = answer {
         let state = seen(alloc, trial.session.editor());
-        return keep(&mut trial.states, trial.session.cursor(), state);
+        return keep(trial, before.saturating_add(1), state) && is_as_before(alloc, trial);
     }
     is_as_before(alloc, trial)
 }
@@ -231,20 +172,54 @@ fn redoes_all(alloc: Global, trial: &mut Trial) -> bool {
     held && trial.session.redo().is_err()
 }
 
-#[test]
-fn random_strings_come_back(rt: HostRuntime) {
-    let alloc = rt.alloc();
+fn pages_of(alloc: Global) -> Vec<u8> {
     let page: &[u8] = b"one a\ntwo b c\n\nthree\nfour a b\n\x0c";
+    joined(alloc, &[page; 80])
+}
+
+/// A session over the pages that keeps the last three strings, at once or after a refusal.
+fn shallow_session(alloc: Global) -> Option<Session> {
+    for _ in 0..2 {
+        let input = pages_of(alloc);
+        if input.len() > FILE_LIMIT {
+            return None;
+        }
+        if let Ok(session) = Session::with_depth(input, 3) {
+            return Some(session);
+        }
+    }
+    None
+}
+
+/// Whether each state comes back, where so many strings are run and at most so many states are kept.
+fn come_back(alloc: Global, session: Session, most: usize, strings: usize) -> bool {
     let mut trial = Trial {
-        session: session_over(alloc, &joined(alloc, &[page; 80])),
+        session,
         states: Vec::new(alloc),
+        most,
         seed: 1,
     };
     let first = seen(alloc, trial.session.editor());
-    let mut held = keep(&mut trial.states, 0, first);
-    for at in 0..1000 {
+    let mut held = keep(&mut trial, 0, first);
+    for _ in 0..strings {
         held = runs(alloc, &mut trial) && turn_some(alloc, &mut trial) && held;
-        assert!(rt; held, "string {at}");
     }
-    assert!(rt; undoes_all(alloc, &mut trial) && redoes_all(alloc, &mut trial));
+    held && undoes_all(alloc, &mut trial) && redoes_all(alloc, &mut trial)
+}
+
+#[test]
+fn random_strings_come_back(rt: HostRuntime) {
+    let alloc = rt.alloc();
+    let session = session_over(alloc, &pages_of(alloc));
+    assert!(rt; come_back(alloc, session, usize::MAX, 1000));
+}
+
+#[test]
+fn the_last_random_strings_come_back(rt: HostRuntime) {
+    let alloc = rt.alloc();
+    let held = match shallow_session(alloc) {
+        Some(session) => come_back(alloc, session, 4, 1000),
+        None => false,
+    };
+    assert!(rt; held);
 }

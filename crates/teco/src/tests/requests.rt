@@ -30,7 +30,7 @@ fn are_answered(session: &mut Session, rows: &[Asks], term: &mut MemoryTerminal)
     held
 }
 
-pub(super) fn session_over(alloc: Global, input: &[u8]) -> Session {
+pub(crate) fn session_over(alloc: Global, input: &[u8]) -> Session {
     let input = joined(alloc, &[input]);
     if input.len() > FILE_LIMIT {
         return Session::new(Vec::new(alloc));

@@ -2,7 +2,7 @@ use Rattle.std.proofs.Common.{rules, ap, ap₂, codes, ◌≡◌, ◌∙◌}
 use Rattle.std.proofs.lemmas.Result.{IfOk-weaker}
 use Rattle.clap.specs.Simple.{app_of_fields}
 use Rattle.clap.specs.Words.{app_of, new_app, with_rule}
-use Rattle.teco.specs.CommandLine.{limit_rule, output_rule, prompt_rule, with_version}
+use Rattle.teco.specs.CommandLine.{limit_rule, output_rule, prompt_rule, undo_rule, with_version}
 use Rattle.teco.proofs.line.command.Goals as goal
 
 pub returns : goal.returns
@@ -15,4 +15,6 @@ returns c =
     let three_is : app_of c.in_ok-arg-3.field-0 ≡ with_rule (with_rule (with_rule (with_version (new_app (codes "teco"))) limit_rule) output_rule) prompt_rule =
     c.in_ok-arg-3.ensures.shape (search rules) ∙ ap₂ with_rule (c.in_ok-arg-2.ensures.shape (search rules)
     ∙ ap₂ with_rule one_is c.output_arg.ensures.rule) c.prompt_arg.ensures.rule in
-    IfOk-weaker c.arg-4.result _ _ (λ m h. h.shape (search rules) ∙ ap₂ with_rule three_is c.input_arg.ensures.rule) c.arg-4.ensures
+    let four_is : app_of c.in_ok-arg-4.field-0 ≡ with_rule (with_rule (with_rule (with_rule (with_version (new_app (codes "teco"))) limit_rule) output_rule) prompt_rule) undo_rule =
+    c.in_ok-arg-4.ensures.shape (search rules) ∙ ap₂ with_rule three_is c.undo_arg.ensures.rule in
+    IfOk-weaker c.arg-5.result _ _ (λ m h. h.shape (search rules) ∙ ap₂ with_rule four_is c.input_arg.ensures.rule) c.arg-5.ensures

@@ -7,7 +7,7 @@ use Rattle.clap.proofs.TakesLemmas.{passed_up}
 use Rattle.clap.specs.Words.{first_value, found_of, one_text}
 use Rattle.teco.specs.declared.line.LineFault.TheVariants.{Refused}
 use Rattle.teco.specs.CommandLine.{IsLineFault}
-use Rattle.teco.proofs.CommandLines.{fault_is, flag_read, input_text, limit_read, line_is, taken_is}
+use Rattle.teco.proofs.CommandLines.{fault_is, flag_read, input_text, limit_read, line_is, taken_is, undo_read}
 use Rattle.teco.proofs.line.line_of.Goals as goal
 use Rattle.teco.proofs.line.line_of.Goals.{in-Some+in_ok-from_str-in-Some, in-None}
 
@@ -29,7 +29,7 @@ pub unwrap-limit-requires : goal.unwrap-limit-requires
 unwrap-limit-requires c =
     let limit = limit_read (λ bs r. ParsesUnsigned 64 10 bs r × ExplainsUnsignedError 10 bs r × HasUnsignedDigitsIfOk bs r) (λ u x g. g.0)
     c.in_ok-command.field-0 c.in_ok-command.ensures c.in_ok-matches.matches c.in_ok-matches.ensures.parsed c.get_one.result c.get_one.ensures.value in
-    rw limit.2 refl
+    rw limit.1 refl
 
 pub returns-clause-line : goal.returns-clause-line
 returns-clause-line c =
@@ -38,6 +38,8 @@ returns-clause-line c =
     let limit = limit_read (λ bs r. ParsesUnsigned 64 10 bs r × ExplainsUnsignedError 10 bs r × HasUnsignedDigitsIfOk bs r) (λ u x g. g.0)
     c.in_ok-command.field-0 c.in_ok-command.ensures m parse.parsed c.get_one.result c.get_one.ensures.value in
     let flag = flag_read ParsesBool (λ u x g. g) (one_text (found_of m) (codes "prompt")) c.get_one-2.result c.get_one-2.ensures.none c.get_one-2.ensures.value in
+    let undo = undo_read (λ bs r. ParsesUnsigned 64 10 bs r × ExplainsUnsignedError 10 bs r × HasUnsignedDigitsIfOk bs r) (λ u x g. g.0)
+    c.in_ok-command.field-0 c.in_ok-command.ensures m parse.parsed c.get_one-3.result c.get_one-3.ensures.none c.get_one-3.ensures.value in
     let input : first_value (found_of m) (codes "input") ≡ Some (string_bytes c.in_ok-input.input) =
     sym c.get_str.ensures ∙ ap (option_map (λ s. s.now)) c.unwrap.ensures ∙ ap Some (sym c.in_ok-input.ensures.ok) in
     let output : first_value (found_of m) (codes "output") ≡ option_map string_bytes c.match-get_str.output = elim c.match-get_str.branch [
@@ -47,10 +49,12 @@ returns-clause-line c =
       | in-None w ↦ search rules
     ] in
     line_is c.in_ok-command.field-0 m (map (λ x. string_bytes x) c.args.words.now) _ c.in_ok-command.ensures parse.matches parse.kinds input output
-    (limit.0, limit.1, taken_is c.get_one.result _ _ c.unwrap-limit.ensures limit.2) (rw c.unwrap_or.ensures flag)
+    (limit.2 ∙ ap Some (sym (taken_is c.get_one.result _ _ c.unwrap-limit.ensures limit.1))) (rw c.unwrap_or.ensures flag) undo.0
 
 pub returns-clause-range : goal.returns-clause-range
 returns-clause-range c =
     let limit = limit_read (λ bs r. ParsesUnsigned 64 10 bs r × ExplainsUnsignedError 10 bs r × HasUnsignedDigitsIfOk bs r) (λ u x g. g.0)
     c.in_ok-command.field-0 c.in_ok-command.ensures c.in_ok-matches.matches c.in_ok-matches.ensures.parsed c.get_one.result c.get_one.ensures.value in
-    rw (taken_is c.get_one.result _ _ c.unwrap-limit.ensures limit.2) limit.3
+    let undo = undo_read (λ bs r. ParsesUnsigned 64 10 bs r × ExplainsUnsignedError 10 bs r × HasUnsignedDigitsIfOk bs r) (λ u x g. g.0)
+    c.in_ok-command.field-0 c.in_ok-command.ensures c.in_ok-matches.matches c.in_ok-matches.ensures.parsed c.get_one-3.result c.get_one-3.ensures.none c.get_one-3.ensures.value in
+    (rw (taken_is c.get_one.result _ _ c.unwrap-limit.ensures limit.1) limit.3, undo.1)

@@ -1,4 +1,4 @@
-use Rattle.std.proofs.Common.{◌≡◌, ◌+◌, ◌*◌, ◌^◌, ◌≤◌, ◌<◌, arith, sym, ap, drop, length, add-one, pow-suc, ◌∙◌}
+use Rattle.std.proofs.Common.{◌≡◌, ◌+◌, ◌*◌, ◌^◌, ◌≤◌, arith, sym, ap, drop, add-one, pow-suc, ◌∙◌}
 use Rattle.std.proofs.Math.Nat.{pow-le-pow_right}
 use Rattle.teco_core.specs.Number.{digits_value}
 use Rattle.teco.proofs.Counts.{digit_at, digits_value-more, digits_value-all}

@@ -1,0 +1,74 @@
+//! Each byte alone as a command string.
+use super::requests::session_over;
+use super::states::seen;
+use std::alloc::Global;
+use std::test::*;
+use teco_core::Code;
+use teco_exec::Outcome;
+use teco_session::Answer;
+use teco_step::MemoryTerminal;
+
+/// How each byte below 128 ends, by a letter.
+static KINDS: [&[u8; 16]; 8] = [
+    b".uiiiniiiu.ii.ni",
+    b"iiiiauiiaii.iiui",
+    b".uuaiuainaananna",
+    b"nnnnnnnnnnusoebi",
+    b"unnpduuununnnuuu",
+    b"nupununiunnunuuu",
+    b"innpduuununnnuuu",
+    b"nupununiunniiiii",
+];
+
+/// Above 127 each byte begins no command.
+fn kind_of(byte: u8) -> u8 {
+    if byte > 127 {
+        return b'i';
+    }
+    KINDS[usize::from(byte / 16)][usize::from(byte % 16)]
+}
+
+/// The code and the steps that a letter says.
+fn outcome_of(kind: u8) -> Outcome {
+    let (code, steps) = match kind {
+        // a filler, or ESC
+        b'.' => (None, 0),
+        // done
+        b'n' => (None, 1),
+        b'a' => (Some(Code::Arg), 1),
+        b'p' => (Some(Code::Pop), 1),
+        b'd' => (Some(Code::Dtb), 1),
+        b'e' => (Some(Code::Nae), 1),
+        b's' => (Some(Code::Sni), 1),
+        // an iteration that is open at the end
+        b'o' => (Some(Code::Utc), 1),
+        // a spelling that is cut
+        b'u' => (Some(Code::Utc), 0),
+        b'b' => (Some(Code::Bni), 0),
+        _ => (Some(Code::Ill), 0),
+    };
+    Outcome { code, steps }
+}
+
+/// Whether a byte ends so in a new session, types nothing, and is undone to the first state.
+fn ends_alone(alloc: Global, byte: u8, first: &[u8]) -> bool {
+    let mut session = session_over(alloc, b"");
+    let mut terminal = MemoryTerminal::new(alloc);
+    let answer = session.run(&[byte], 1000, &mut terminal);
+    answer == Answer::Ended(outcome_of(kind_of(byte)))
+        && terminal.bytes().is_empty()
+        && session.undo().is_ok()
+        && seen(alloc, session.editor()).as_slice() == first
+}
+
+// Where memory was refused, a byte is run a second time.
+#[test]
+fn single_bytes_end_as_they_mean(rt: HostRuntime) {
+    let alloc = rt.alloc();
+    let session = session_over(alloc, b"");
+    let first = seen(alloc, session.editor());
+    for byte in 0..=u8::MAX {
+        let held = ends_alone(alloc, byte, &first) || ends_alone(alloc, byte, &first);
+        assert!(rt; held, "byte {byte}");
+    }
+}
