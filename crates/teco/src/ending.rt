@@ -109,17 +109,22 @@ mod tests {
     /// The output that is named, how the program ends, and its status and text.
     type Row<'a> = (Option<&'a str>, Fate, u8, &'a str);
 
-    fn ends_once(alloc: Global, row: &Row) -> Result<bool, NoMemory> {
+    fn ended(alloc: Global, row: &Row) -> Result<(u8, String), NoMemory> {
         let line = line(alloc, row.0)?;
-        let (status, text) = ending(alloc, &line, row.1)?;
-        Ok(status == row.2 && text.as_str() == row.3)
+        ending(alloc, &line, row.1)
+    }
+
+    fn ends_so(alloc: Global, row: &Row) -> bool {
+        match ended(alloc, row) {
+            Ok((status, text)) => status == row.2 && text.as_str() == row.3,
+            Err(NoMemory) => false,
+        }
     }
 
     /// The endings are these; where memory was refused, a second time.
     fn all_end(rt: &impl Abort, alloc: Global, rows: &[Row]) {
         for row in rows {
-            let first = ends_once(alloc, row);
-            let held = first == Ok(true) || first.is_err() && ends_once(alloc, row) == Ok(true);
+            let held = ends_so(alloc, row) || ends_so(alloc, row);
             assert!(rt; held, "{}", row.3);
         }
     }
