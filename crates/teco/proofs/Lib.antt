@@ -5,6 +5,7 @@ pub mod Sources
 pub mod Exchanges
 pub mod Servings
 pub mod Texts
+mod CommandEntries
 pub mod CommandLines
 pub mod Disks
 mod CommandRows
