@@ -1,5 +1,6 @@
 //! Where files are.
-ghost use Rattle.std.specs.Prelude.{◌≡◌, ◌≢◌, ◌⊎◌, ℕ, List, Option, OnErr, OnOk};
+ghost use Rattle.std.specs.Prelude.{◌≡◌, ◌≢◌, ◌⊎◌, ℕ, List, Option, IfErr, OnErr, OnOk};
+ghost use Rattle.std.specs.declared.io.Error.{Error};
 ghost use Rattle.teco.specs.Disk.{Changes, Counts, Creates, Files, LeavesFiles, Passes, Renames, Same, SameBut};
 
 use std::io;
@@ -15,12 +16,16 @@ pub trait Disk {
     // how often a call has failed, modulo 2^64
     ghost failures: { Self → ℕ };
 
+    // which errors its calls have given
+    ghost gave: { Self → Error → Type 0 };
+
     /// Makes a new file with these bytes. A file that has the name already is not touched, and the call fails.
     fn create(&mut self, name: &str, bytes: &[u8]) -> io::Result<()>
         ensures ok { OnOk result (Changes (files self.old) (files self.new) (Creates name.now bytes.now)) }
         ensures err { OnErr result (Changes (files self.old) (files self.new) (LeavesFiles name.now)) }
         ensures moments { Passes (files self.old) (left self.old) (left self.new) (SameBut name.now) }
-        ensures count { Counts result (failures self.old) (failures self.new) };
+        ensures count { Counts result (failures self.old) (failures self.new) }
+        ensures error { IfErr result (gave self.new) };
 
     /// Gives a file another name, in one moment. What had that name before is gone.
     fn rename(&mut self, from: &str, to: &str) -> io::Result<()>
@@ -29,11 +34,13 @@ pub trait Disk {
         ensures err { OnErr result (Changes (files self.old) (files self.new) Same) }
         ensures moments { Passes (files self.old) (left self.old) (left self.new)
             (λ before now. Same before now ⊎ Renames from.now to.now before now) }
-        ensures count { Counts result (failures self.old) (failures self.new) };
+        ensures count { Counts result (failures self.old) (failures self.new) }
+        ensures error { IfErr result (gave self.new) };
 
     /// Removes a file, if it can.
     fn remove(&mut self, name: &str)
         ensures removes { Changes (files self.old) (files self.new) (SameBut name.now) }
         ensures moments { Passes (files self.old) (left self.old) (left self.new) (SameBut name.now) }
-        ensures count { failures self.new ≡ failures self.old };
+        ensures count { failures self.new ≡ failures self.old }
+        ensures errors { (error : Error) → gave self.old error → gave self.new error };
 }

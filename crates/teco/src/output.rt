@@ -1,5 +1,5 @@
 //! Writing the output.
-ghost use Rattle.std.specs.Prelude.{◌≡◌, ◌≢◌, IfOk, OnErr, OnOk};
+ghost use Rattle.std.specs.Prelude.{◌≡◌, ◌≢◌, IfErr, IfOk, OnErr, OnOk};
 ghost use Rattle.std.specs.String.{string_bytes};
 ghost use Rattle.teco.specs.Draft.{draft_beside};
 ghost use Rattle.teco.specs.Disk.{Changes, Counts, IsWhole, LeavesFiles, Passes, Replaces};
@@ -27,6 +27,7 @@ pub fn replace<D: Disk>(disk: &mut D, file: &str, draft: &str, bytes: &[u8]) -> 
     ensures err { OnErr result (Changes (D.files disk.old) (D.files disk.new) (LeavesFiles draft.now)) }
     ensures moments { Passes (D.files disk.old) (D.left disk.old) (D.left disk.new) (IsWhole file.now draft.now bytes.now) }
     ensures count { Counts result (D.failures disk.old) (D.failures disk.new) }
+    ensures error { IfErr result (D.gave disk.new) }
 {
     disk.create(draft, bytes)?;
     if let Err(error) = disk.rename(draft, file) {
