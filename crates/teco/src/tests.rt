@@ -4,7 +4,6 @@ use std::process::Abort;
 
 mod block_forms;
 pub(crate) mod bytes;
-mod codes;
 mod conditionals;
 mod exits;
 mod failing_terminals;

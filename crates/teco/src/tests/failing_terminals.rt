@@ -7,7 +7,7 @@ use std::test::*;
 use teco_core::Code;
 use teco_exec::Outcome;
 use teco_session::{Answer, Session};
-use teco_step::{FailAfter, WriterTerminal};
+use teco_step::WriterTerminal;
 use teco_store::Desk;
 
 /// A string, how many bytes its terminal takes, the code by which it ends and its steps, what is shown, and the text that is left.
@@ -18,45 +18,47 @@ fn has_text(alloc: Global, session: &Session, text: &str) -> bool {
     joined(alloc, &[before, after]).as_slice() == text.as_bytes()
 }
 
-fn run_on(session: &mut Session, text: &str, writer: &mut FailAfter) -> Answer {
-    let mut terminal = WriterTerminal::new(writer);
-    session.run(text.as_bytes(), 1000, &mut terminal)
+/// Whether a string ends so on its terminal.
+fn ends(alloc: Global, session: &mut Session, row: &Row) -> bool {
+    let (text, room, code, steps, shown, left) = *row;
+    let mut writer = failing_after(alloc, room);
+    let mut terminal = WriterTerminal::new(&mut writer);
+    let answer = session.run(text.as_bytes(), 1000, &mut terminal);
+    answer == Answer::Ended(Outcome { code, steps })
+        && writer.before() == shown.as_bytes()
+        && has_text(alloc, session, left)
 }
 
 /// Whether a string ends so, and leaves an empty text once it is undone.
-fn ends(alloc: Global, row: &Row) -> bool {
-    let (text, room, code, steps, shown, left) = *row;
+fn ends_and_comes_back(alloc: Global, row: &Row) -> bool {
     let mut session = session_over(alloc, b"");
-    let mut writer = failing_after(alloc, room);
-    let answer = run_on(&mut session, text, &mut writer);
-    let held = answer == Answer::Ended(Outcome { code, steps })
-        && writer.before() == shown.as_bytes()
-        && has_text(alloc, &session, left);
-    held && session.undo().is_ok() && has_text(alloc, &session, "")
+    ends(alloc, &mut session, row) && session.undo().is_ok() && has_text(alloc, &session, "")
 }
 
-// A step whose put fails is not done: its beginning is shown, and the state is that of the steps before. Where memory was refused, a
-// row holds the second time.
+// A step whose put fails is not done: its beginning is shown, and the state is that of the steps before.
+static ROWS: [Row<'static>; 14] = [
+    ("1=2=\x1b", 4, Some(Code::Tty), 3, "1\r\n2", ""),
+    ("1=2=3C", 0, Some(Code::Tty), 1, "", ""),
+    ("1=2=3C", 1, Some(Code::Tty), 1, "1", ""),
+    ("1=2=3C", 2, Some(Code::Tty), 1, "1\r", ""),
+    ("1=2=3C", 3, Some(Code::Tty), 3, "1\r\n", ""),
+    ("1=2=3C", 4, Some(Code::Tty), 3, "1\r\n2", ""),
+    ("1=2=3C", 5, Some(Code::Tty), 3, "1\r\n2\r", ""),
+    ("1=2=3C", 6, Some(Code::Pop), 6, "1\r\n2\r\n", ""),
+    ("1=2=3C", 7, Some(Code::Pop), 6, "1\r\n2\r\n", ""),
+    ("Ia\x1bHTIb\x1b", 0, Some(Code::Tty), 2, "", "a"),
+    ("Ia\x1bHTIb\x1b", 1, None, 4, "a", "ab"),
+    ("Iab\x1bHTHKIc\x1b", 1, Some(Code::Tty), 2, "a", "ab"),
+    ("Ia\x1b3<HT>", 2, Some(Code::Tty), 10, "aa", "a"),
+    ("@^UA/65^TIx\x1b/2<MA>", 1, Some(Code::Tty), 10, "A", "x"),
+];
+
+// Where memory was refused, a row holds the second time.
 #[test]
 fn ends_where_the_terminal_fails(rt: HostRuntime) {
-    let tty = Some(Code::Tty);
-    let rows: [Row; 14] = [
-        ("1=2=\x1b", 4, tty, 3, "1\r\n2", ""),
-        ("1=2=3C", 0, tty, 1, "", ""),
-        ("1=2=3C", 1, tty, 1, "1", ""),
-        ("1=2=3C", 2, tty, 1, "1\r", ""),
-        ("1=2=3C", 3, tty, 3, "1\r\n", ""),
-        ("1=2=3C", 4, tty, 3, "1\r\n2", ""),
-        ("1=2=3C", 5, tty, 3, "1\r\n2\r", ""),
-        ("1=2=3C", 6, Some(Code::Pop), 6, "1\r\n2\r\n", ""),
-        ("1=2=3C", 7, Some(Code::Pop), 6, "1\r\n2\r\n", ""),
-        ("Ia\x1bHTIb\x1b", 0, tty, 2, "", "a"),
-        ("Ia\x1bHTIb\x1b", 1, None, 4, "a", "ab"),
-        ("Iab\x1bHTHKIc\x1b", 1, tty, 2, "a", "ab"),
-        ("Ia\x1b3<HT>", 2, tty, 10, "aa", "a"),
-        ("@^UA/65^TIx\x1b/2<MA>", 1, tty, 10, "A", "x"),
-    ];
-    for row in &rows {
-        assert_of(&rt, row.0, ends(rt.alloc(), row) || ends(rt.alloc(), row));
+    let alloc = rt.alloc();
+    for row in &ROWS {
+        let held = ends_and_comes_back(alloc, row) || ends_and_comes_back(alloc, row);
+        assert_of(&rt, row.0, held);
     }
 }

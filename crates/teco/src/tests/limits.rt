@@ -35,40 +35,21 @@ fn all_end(rt: &impl Abort, alloc: Global, rows: &[Ends]) {
     }
 }
 
-#[test]
-fn a_text_that_is_put_in_fits_or_is_big(rt: HostRuntime) {
-    all_end(
-        &rt,
-        rt.alloc(),
-        &[
-            ("I", FULL, "\x1bZ=", "16777216\r\n", None),
-            ("I", FULL + 1, "\x1b", "", Some(Code::Big)),
-        ],
-    );
-}
+static TEXTS: [Ends<'static>; 6] = [
+    // A text that is put in fits or is BIG.
+    ("I", FULL, "\x1bZ=", "16777216\r\n", None),
+    ("I", FULL + 1, "\x1b", "", Some(Code::Big)),
+    // A register's text fits or is BIG.
+    ("^UA", FULL, "\x1b:QA=", "16777216\r\n", None),
+    ("^UA", FULL + 1, "\x1b", "", Some(Code::Big)),
+    // A replacement fits or is BIG.
+    ("Ia\x1bJFSa\x1b", FULL, "\x1bZ=", "16777216\r\n", None),
+    ("Ia\x1bJFSa\x1b", FULL + 1, "\x1b", "", Some(Code::Big)),
+];
 
 #[test]
-fn a_register_text_fits_or_is_big(rt: HostRuntime) {
-    all_end(
-        &rt,
-        rt.alloc(),
-        &[
-            ("^UA", FULL, "\x1b:QA=", "16777216\r\n", None),
-            ("^UA", FULL + 1, "\x1b", "", Some(Code::Big)),
-        ],
-    );
-}
-
-#[test]
-fn a_replacement_fits_or_is_big(rt: HostRuntime) {
-    all_end(
-        &rt,
-        rt.alloc(),
-        &[
-            ("Ia\x1bJFSa\x1b", FULL, "\x1bZ=", "16777216\r\n", None),
-            ("Ia\x1bJFSa\x1b", FULL + 1, "\x1b", "", Some(Code::Big)),
-        ],
-    );
+fn texts_fit_or_are_big(rt: HostRuntime) {
+    all_end(&rt, rt.alloc(), &TEXTS);
 }
 
 /// An input with so many `x` in it, a string over it, what it types, and the code by which it ends.
@@ -102,38 +83,27 @@ fn all_end_on_pages(rt: &impl Abort, alloc: Global, rows: &[Paged]) {
     }
 }
 
-#[test]
-fn a_page_past_the_limit_is_big(rt: HostRuntime) {
-    all_end_on_pages(
-        &rt,
-        rt.alloc(),
-        &[
-            ("x\x0c", FULL + 1, "", "YZ=P", "1\r\n", Some(Code::Big)),
-            ("x\x0c", FULL + 1, "", "YZ=A", "1\r\n", Some(Code::Big)),
-            ("", FULL + 1, "", "Y", "", Some(Code::Big)),
-        ],
-    );
-}
+static PAGES: [Paged<'static>; 6] = [
+    // A page past the limit is BIG.
+    ("x\x0c", FULL + 1, "", "YZ=P", "1\r\n", Some(Code::Big)),
+    ("x\x0c", FULL + 1, "", "YZ=A", "1\r\n", Some(Code::Big)),
+    ("", FULL + 1, "", "Y", "", Some(Code::Big)),
+    // A page fills the text. The first input is a full page, an empty one and one of a byte.
+    (
+        "",
+        FULL,
+        "\x0c\x0cx",
+        "AAZ=A",
+        "16777216\r\n",
+        Some(Code::Big),
+    ),
+    ("xx\x0c", FULL - 2, "", "AAZ=", "16777216\r\n", None),
+    ("xx\x0c", FULL - 1, "", "AA", "", Some(Code::Big)),
+];
 
-// The first input is a full page, an empty one and one of a byte.
 #[test]
-fn a_page_fills_the_text(rt: HostRuntime) {
-    all_end_on_pages(
-        &rt,
-        rt.alloc(),
-        &[
-            (
-                "",
-                FULL,
-                "\x0c\x0cx",
-                "AAZ=A",
-                "16777216\r\n",
-                Some(Code::Big),
-            ),
-            ("xx\x0c", FULL - 2, "", "AAZ=", "16777216\r\n", None),
-            ("xx\x0c", FULL - 1, "", "AA", "", Some(Code::Big)),
-        ],
-    );
+fn pages_fit_or_are_big(rt: HostRuntime) {
+    all_end_on_pages(&rt, rt.alloc(), &PAGES);
 }
 
 /// What is answered where a text of so many bytes is to be noted.

@@ -1,6 +1,7 @@
 //! Modifiers before each command.
+use super::assert_of;
 use super::bytes::joined;
-use super::strings::all_end;
+use super::strings::{Ends, all_end};
 use std::alloc::Global;
 use std::process::Abort;
 use std::test::*;
@@ -8,11 +9,6 @@ use teco_core::Code;
 use teco_scan::{Found, token_at};
 
 const MODIFIERS: [&str; 4] = [":", "::", "@", ":@"];
-
-/// A command with modifiers before it.
-fn modified(alloc: Global, modifiers: &str, command: &str) -> Vec<u8> {
-    joined(alloc, &[modifiers.as_bytes(), command.as_bytes()])
-}
 
 /// Whether a text begins with a token, or is ILL.
 fn begins(text: &[u8]) -> Option<bool> {
@@ -25,29 +21,21 @@ fn begins(text: &[u8]) -> Option<bool> {
 
 /// Whether modifiers are read before a command as they are to be.
 fn is_read(alloc: Global, modifiers: &str, command: &str, wanted: bool) -> bool {
-    let text = modified(alloc, modifiers, command);
+    let text = joined(alloc, &[modifiers.as_bytes(), command.as_bytes()]);
     begins(text.as_slice()) == Some(wanted)
 }
 
 /// A command admits these modifiers, and no others of the four.
 fn admits(rt: &impl Abort, alloc: Global, admitted: &[&str], command: &str) {
-    for modifiers in MODIFIERS.iter() {
+    for modifiers in &MODIFIERS {
         let held = is_read(alloc, modifiers, command, admitted.contains(modifiers));
-        assert!(rt; held, "{modifiers}{command:?}");
+        assert_of(rt, command, held);
     }
 }
 
-fn all_admit(rt: &impl Abort, alloc: Global, admitted: &[&str], commands: &[&str]) {
-    for command in commands {
-        admits(rt, alloc, admitted, command);
-    }
-}
-
-#[test]
-fn most_commands_admit_no_modifier(rt: HostRuntime) {
-    all_admit(
-        &rt,
-        rt.alloc(),
+/// Modifiers, and the commands that admit them.
+static ADMITTED: [(&[&str], &[&str]); 5] = [
+    (
         &[],
         &[
             "5", "B", "Z", ".", "H", "+", "-", "*", "/", "&", "#", "(", ")", ",", "^E", "^N",
@@ -55,54 +43,53 @@ fn most_commands_admit_no_modifier(rt: HostRuntime) {
             "PW", "EX", "^X", "\x1b", "%a", "Ua", "Xa", "[a", "]a", "Ma", "<", ">", ";", "\"E",
             "|", "'", "!a!", "===", "EQ", "?", "^B", " J",
         ],
-    );
-}
+    ),
+    (&[":"], &["Qa", "Ga", "=", "=="]),
+    (&["@"], &["^Ua/b\x1b/", "^A/b\x01/", "I/a\x1b/", "O/a\x1b/"]),
+    (
+        &[":", "@", ":@"],
+        &["FS/a\x1b/b\x1b/", "N/a\x1b/", "_/a\x1b/"],
+    ),
+    (&MODIFIERS, &["S/a\x1b/"]),
+];
 
 #[test]
-fn few_commands_admit_modifiers(rt: HostRuntime) {
-    for (admitted, commands) in [
-        ([":"].as_slice(), ["Qa", "Ga", "=", "=="].as_slice()),
-        (&["@"], &["^Ua/b\x1b/", "^A/b\x01/", "I/a\x1b/", "O/a\x1b/"]),
-        (
-            &[":", "@", ":@"],
-            &["FS/a\x1b/b\x1b/", "N/a\x1b/", "_/a\x1b/"],
-        ),
-        (&MODIFIERS, &["S/a\x1b/"]),
-    ] {
-        all_admit(&rt, rt.alloc(), admitted, commands);
+fn commands_admit_their_modifiers_alone(rt: HostRuntime) {
+    for (admitted, commands) in &ADMITTED {
+        for command in *commands {
+            admits(&rt, rt.alloc(), admitted, command);
+        }
     }
 }
 
+static ROWS: [Ends<'static>; 19] = [
+    ("Iaa\x1bJ:@S/a/=@:S/a/=", None, 6, "-1\r\n-1\r\n"),
+    (
+        "Iaa\x1bJ@::S/a/=:@:S/a/=::@S/a/=",
+        None,
+        8,
+        "-1\r\n-1\r\n0\r\n",
+    ),
+    ("Iaa\x1bJ:@FS/a/b/=HT", None, 6, "-1\r\nba"),
+    ("@^Ua/x/@I/y/:Ga@^A/z/", None, 4, "xz"),
+    ("@^Ua/b\x1b/:Qa=@O/x/1=!x!2=", None, 6, "2\r\n2\r\n"),
+    ("@@I/a/", Some(Code::Ill), 0, ""),
+    (":::S\x1b", Some(Code::Ill), 0, ""),
+    ("@:@S/a/", Some(Code::Ill), 0, ""),
+    (": S\x1b", Some(Code::Ill), 0, ""),
+    ("@ I/a/", Some(Code::Ill), 0, ""),
+    (":", Some(Code::Utc), 0, ""),
+    ("@", Some(Code::Utc), 0, ""),
+    ("@:", Some(Code::Utc), 0, ""),
+    ("::", Some(Code::Utc), 0, ""),
+    (":::", Some(Code::Ill), 0, ""),
+    ("@@", Some(Code::Ill), 0, ""),
+    (":\x1b", Some(Code::Ill), 0, ""),
+    ("@::FS/a/b/", Some(Code::Ill), 0, ""),
+    ("@::==", Some(Code::Ill), 0, ""),
+];
+
 #[test]
 fn modifiers_come_in_any_order(rt: HostRuntime) {
-    all_end(
-        &rt,
-        rt.alloc(),
-        &[
-            ("Iaa\x1bJ:@S/a/=@:S/a/=", None, 6, "-1\r\n-1\r\n"),
-            (
-                "Iaa\x1bJ@::S/a/=:@:S/a/=::@S/a/=",
-                None,
-                8,
-                "-1\r\n-1\r\n0\r\n",
-            ),
-            ("Iaa\x1bJ:@FS/a/b/=HT", None, 6, "-1\r\nba"),
-            ("@^Ua/x/@I/y/:Ga@^A/z/", None, 4, "xz"),
-            ("@^Ua/b\x1b/:Qa=@O/x/1=!x!2=", None, 6, "2\r\n2\r\n"),
-            ("@@I/a/", Some(Code::Ill), 0, ""),
-            (":::S\x1b", Some(Code::Ill), 0, ""),
-            ("@:@S/a/", Some(Code::Ill), 0, ""),
-            (": S\x1b", Some(Code::Ill), 0, ""),
-            ("@ I/a/", Some(Code::Ill), 0, ""),
-            (":", Some(Code::Utc), 0, ""),
-            ("@", Some(Code::Utc), 0, ""),
-            ("@:", Some(Code::Utc), 0, ""),
-            ("::", Some(Code::Utc), 0, ""),
-            (":::", Some(Code::Ill), 0, ""),
-            ("@@", Some(Code::Ill), 0, ""),
-            (":\x1b", Some(Code::Ill), 0, ""),
-            ("@::FS/a/b/", Some(Code::Ill), 0, ""),
-            ("@::==", Some(Code::Ill), 0, ""),
-        ],
-    );
+    all_end(&rt, rt.alloc(), &ROWS);
 }

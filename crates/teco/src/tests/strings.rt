@@ -90,10 +90,9 @@ pub(super) fn holds(alloc: Global, row: &Row) -> bool {
 /// A text, the code by which it ends, its steps, and what it types.
 pub(super) type Ends<'a> = (&'a str, Option<Code>, u64, &'a str);
 
-fn row_of<'a>(limit: u64, ends: &Ends<'a>) -> Row<'a> {
+fn row_of<'a>(ends: &Ends<'a>) -> Row<'a> {
     let (text, code, steps, typed) = *ends;
     Row {
-        limit,
         steps: Some(steps),
         ..Row::new(text.as_bytes(), typed, code)
     }
@@ -101,63 +100,28 @@ fn row_of<'a>(limit: u64, ends: &Ends<'a>) -> Row<'a> {
 
 pub(super) fn all_end(rt: &impl Abort, alloc: Global, rows: &[Ends]) {
     for row in rows {
-        assert_of(rt, row.0, holds(alloc, &row_of(1000, row)));
+        assert_of(rt, row.0, holds(alloc, &row_of(row)));
     }
 }
 
-/// The same after the limit of steps.
-type Limited<'a> = (u64, &'a str, Option<Code>, u64, &'a str);
-
-fn limited_row<'a>(limited: &Limited<'a>) -> Row<'a> {
-    let (limit, text, code, steps, typed) = *limited;
-    row_of(limit, &(text, code, steps, typed))
-}
-
-fn all_end_within(rt: &impl Abort, alloc: Global, rows: &[Limited]) {
-    for row in rows {
-        assert_of(rt, row.1, holds(alloc, &limited_row(row)));
-    }
-}
+static ROWS: [Ends<'static>; 14] = [
+    ("Ihello\x1b0J3C.=\x1b", None, 7, "3\r\n"),
+    ("2+3*4=\x1b", None, 6, "20\r\n"),
+    ("2\r\n+\0 3=", None, 4, "5\r\n"),
+    ("2147483647+1=\x1b", Some(Code::Ovf), 3, ""),
+    ("-2147483647-1=", None, 5, "-2147483648\r\n"),
+    ("-2147483648=", Some(Code::Ovf), 2, ""),
+    ("(-2147483647-1)/(0-1)=", Some(Code::Ovf), 12, ""),
+    ("5J\x1b", Some(Code::Pop), 2, ""),
+    ("256I\x1b", Some(Code::Arg), 2, ""),
+    ("\x1b", None, 0, ""),
+    ("1===\x1b", Some(Code::Ill), 1, ""),
+    ("7=Iab", Some(Code::Utc), 2, "7\r\n"),
+    ("1\x1b=", Some(Code::Nae), 2, ""),
+    ("Ia\nb\x1b0T-T\x1b", None, 5, "ba\nb"),
+];
 
 #[test]
 fn straight_strings_end_as_they_mean(rt: HostRuntime) {
-    all_end(
-        &rt,
-        rt.alloc(),
-        &[
-            ("Ihello\x1b0J3C.=\x1b", None, 7, "3\r\n"),
-            ("2+3*4=\x1b", None, 6, "20\r\n"),
-            ("2\r\n+\0 3=", None, 4, "5\r\n"),
-            ("2147483647+1=\x1b", Some(Code::Ovf), 3, ""),
-            ("-2147483647-1=", None, 5, "-2147483648\r\n"),
-            ("-2147483648=", Some(Code::Ovf), 2, ""),
-            ("(-2147483647-1)/(0-1)=", Some(Code::Ovf), 12, ""),
-            ("5J\x1b", Some(Code::Pop), 2, ""),
-            ("256I\x1b", Some(Code::Arg), 2, ""),
-            ("\x1b", None, 0, ""),
-            ("1===\x1b", Some(Code::Ill), 1, ""),
-            ("7=Iab", Some(Code::Utc), 2, "7\r\n"),
-            ("1\x1b=", Some(Code::Nae), 2, ""),
-            ("Ia\nb\x1b0T-T\x1b", None, 5, "ba\nb"),
-        ],
-    );
-}
-
-// The last is an iteration without end, under the limit that strings have by default.
-#[test]
-fn strings_end_at_their_limit(rt: HostRuntime) {
-    all_end_within(
-        &rt,
-        rt.alloc(),
-        &[
-            (0, "1=\x1b", Some(Code::Lim), 0, ""),
-            (1, "1=\x1b", Some(Code::Lim), 1, ""),
-            (2, "1=\x1b", None, 2, "1\r\n"),
-            (5, "!x!Ox\x1b", Some(Code::Lim), 5, ""),
-            (10, "<>", Some(Code::Lim), 10, ""),
-            (1000, "<>", Some(Code::Lim), 1000, ""),
-            (1000, "<Ox\x1b!x!>", Some(Code::Lim), 1000, ""),
-            (1_000_000, "<>", Some(Code::Lim), 1_000_000, ""),
-        ],
-    );
+    all_end(&rt, rt.alloc(), &ROWS);
 }

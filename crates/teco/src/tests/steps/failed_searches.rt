@@ -23,92 +23,106 @@ fn all_leave(rt: &impl Abort, alloc: Global, rows: &[Leaves]) {
 }
 
 // The next string types the pointer, then 9 if the last search has found, and where its text is.
-#[test]
-fn searches_fail(rt: HostRuntime) {
-    all_leave(
-        &rt,
-        rt.alloc(),
-        &[
-            (
-                "Ia\x1bSx\x1b",
-                Code::Srh,
-                ".=1<;9=>Ix\x1bJ:S\x1b=.=",
-                None,
-                "0\r\n-1\r\n1\r\n",
-            ),
-            (
-                "Iab\x1bJSb\x1bS\x1b",
-                Code::Srh,
-                ".=1<;9=>:S\x1b=.=",
-                None,
-                "0\r\n-1\r\n2\r\n",
-            ),
-            (
-                "Iaaa\x1b-2Saa\x1b",
-                Code::Srh,
-                ".=1<;9=>:S\x1b=.=",
-                None,
-                "0\r\n-1\r\n2\r\n",
-            ),
-            (
-                "Iabc\x1bFSz\x1bx\x1b",
-                Code::Srh,
-                ".=1<;9=>Iz\x1bJ:S\x1b=.=",
-                None,
-                "0\r\n-1\r\n1\r\n",
-            ),
-        ],
-    );
-}
+static ROWS: [Leaves<'static>; 13] = [
+    // Searches fail.
+    (
+        "Ia\x1bSx\x1b",
+        Code::Srh,
+        ".=1<;9=>Ix\x1bJ:S\x1b=.=",
+        None,
+        "0\r\n-1\r\n1\r\n",
+    ),
+    (
+        "Iab\x1bJSb\x1bS\x1b",
+        Code::Srh,
+        ".=1<;9=>:S\x1b=.=",
+        None,
+        "0\r\n-1\r\n2\r\n",
+    ),
+    (
+        "Iaaa\x1b-2Saa\x1b",
+        Code::Srh,
+        ".=1<;9=>:S\x1b=.=",
+        None,
+        "0\r\n-1\r\n2\r\n",
+    ),
+    (
+        "Iabc\x1bFSz\x1bx\x1b",
+        Code::Srh,
+        ".=1<;9=>Iz\x1bJ:S\x1b=.=",
+        None,
+        "0\r\n-1\r\n1\r\n",
+    ),
+    // A search that is refused leaves all as the last one left it.
+    (
+        "Ia\x1bJSa\x1b0S\x12\x1b",
+        Code::Isa,
+        ".=1<;9=>J:S\x1b=.=",
+        None,
+        "1\r\n9\r\n-1\r\n1\r\n",
+    ),
+    (
+        "Ia\x1bJSa\x1bS\x12\x1b",
+        Code::Ice,
+        ".=1<;9=>J:S\x1b=.=",
+        None,
+        "1\r\n9\r\n-1\r\n1\r\n",
+    ),
+    // Nothing has been searched, and the refused search leaves it so, with the pointer at 1.
+    (
+        "Ia\x1bS\x1b",
+        Code::Iss,
+        ".=1<;9=>J:S\x1b=.=",
+        Some(Code::Iss),
+        "1\r\n",
+    ),
+    (
+        "Ia\x1b0S\x1b",
+        Code::Isa,
+        ".=1<;9=>J:S\x1b=.=",
+        Some(Code::Iss),
+        "1\r\n",
+    ),
+    (
+        "Ia\x1b:S\x05[a\x1b",
+        Code::Ice,
+        ".=1<;9=>J:S\x1b=.=",
+        Some(Code::Iss),
+        "1\r\n",
+    ),
+    (
+        "Ia\x1b::S\x1b",
+        Code::Iss,
+        ".=1<;9=>J:S\x1b=.=",
+        Some(Code::Iss),
+        "1\r\n",
+    ),
+    (
+        "Ia\x1b1::Sa\x1b",
+        Code::Arg,
+        ".=1<;9=>J:S\x1b=.=",
+        Some(Code::Iss),
+        "1\r\n",
+    ),
+    (
+        "Ia\x1b1,1FSa\x1bb\x1b",
+        Code::Arg,
+        ".=1<;9=>J:S\x1b=.=",
+        Some(Code::Iss),
+        "1\r\n",
+    ),
+    (
+        "Ia\x1b(0S\x1b",
+        Code::Mrp,
+        ".=1<;9=>J:S\x1b=.=",
+        Some(Code::Iss),
+        "1\r\n",
+    ),
+];
 
-// A search that is refused leaves all as the last one left it.
 #[test]
-fn searches_are_refused_after_another(rt: HostRuntime) {
-    all_leave(
-        &rt,
-        rt.alloc(),
-        &[
-            (
-                "Ia\x1bJSa\x1b0S\x12\x1b",
-                Code::Isa,
-                ".=1<;9=>J:S\x1b=.=",
-                None,
-                "1\r\n9\r\n-1\r\n1\r\n",
-            ),
-            (
-                "Ia\x1bJSa\x1bS\x12\x1b",
-                Code::Ice,
-                ".=1<;9=>J:S\x1b=.=",
-                None,
-                "1\r\n9\r\n-1\r\n1\r\n",
-            ),
-        ],
-    );
-}
-
-/// Each text ends by its code where nothing has been searched, and leaves it so, with the pointer at 1.
-fn all_refused(rt: &impl Abort, alloc: Global, rows: &[(&str, Code)]) {
-    for (text, code) in rows {
-        let row = (*text, *code, ".=1<;9=>J:S\x1b=.=", Some(Code::Iss), "1\r\n");
-        assert_of(rt, text, leaves(alloc, &row));
-    }
-}
-
-#[test]
-fn searches_are_refused(rt: HostRuntime) {
-    all_refused(
-        &rt,
-        rt.alloc(),
-        &[
-            ("Ia\x1bS\x1b", Code::Iss),
-            ("Ia\x1b0S\x1b", Code::Isa),
-            ("Ia\x1b:S\x05[a\x1b", Code::Ice),
-            ("Ia\x1b::S\x1b", Code::Iss),
-            ("Ia\x1b1::Sa\x1b", Code::Arg),
-            ("Ia\x1b1,1FSa\x1bb\x1b", Code::Arg),
-            ("Ia\x1b(0S\x1b", Code::Mrp),
-        ],
-    );
+fn searches_fail_or_are_refused(rt: HostRuntime) {
+    all_leave(&rt, rt.alloc(), &ROWS);
 }
 
 #[test]

@@ -1,89 +1,60 @@
 //! Searches, numbers in the buffer, and the case mode.
-use super::all_type;
+use super::{Types, all_type};
 use std::test::*;
 use teco_core::Code;
 
-#[test]
-fn texts_are_searched_for(rt: HostRuntime) {
-    all_type(
-        &rt,
-        rt.alloc(),
-        &[
-            ("Ixabxab\x1b-2Sab\x1b.=", "3\r\n", None),
-            ("Ia1  b\x1b0JS\x05D\x05Sb\x1b.=", "5\r\n", None),
-            ("Iabc\x1b0J@S/\x05[c,b]/.=", "2\r\n", None),
-            ("Iab\x1b0JS\x0ea\x1b.=", "2\r\n", None),
-            ("Iabab\x1bJ2Sab\x1b.=J@S//.=", "4\r\n2\r\n", None),
-            ("Iabab\x1b-Sab\x1b.=-Sab\x1b.=", "4\r\n4\r\n", None),
-            (":Sx\x1b=", "0\r\n", None),
-            ("Iab\x1bJSb\x1bJ:S\x1b=.=", "-1\r\n2\r\n", None),
-            ("Iab\x1b0J::Sa\x1b=.=", "-1\r\n1\r\n", None),
-            (
-                "Iaxb\x1bJ::Sx\x1b=.=J1C::S\x1b=.=",
-                "0\r\n0\r\n-1\r\n2\r\n",
-                None,
-            ),
-            ("Ia\x1b0J-:Sa\x1b+1=", "0\r\n", None),
-            ("Ia\x1b0J5,:Sa\x1b", "", Some(Code::Arg)),
-        ],
-    );
-}
+static ROWS: [Types<'static>; 32] = [
+    // Texts are searched for.
+    ("Ixabxab\x1b-2Sab\x1b.=", "3\r\n", None),
+    ("Ia1  b\x1b0JS\x05D\x05Sb\x1b.=", "5\r\n", None),
+    ("Iabc\x1b0J@S/\x05[c,b]/.=", "2\r\n", None),
+    ("Iab\x1b0JS\x0ea\x1b.=", "2\r\n", None),
+    ("Iabab\x1bJ2Sab\x1b.=J@S//.=", "4\r\n2\r\n", None),
+    ("Iabab\x1b-Sab\x1b.=-Sab\x1b.=", "4\r\n4\r\n", None),
+    (":Sx\x1b=", "0\r\n", None),
+    ("Iab\x1bJSb\x1bJ:S\x1b=.=", "-1\r\n2\r\n", None),
+    ("Iab\x1b0J::Sa\x1b=.=", "-1\r\n1\r\n", None),
+    (
+        "Iaxb\x1bJ::Sx\x1b=.=J1C::S\x1b=.=",
+        "0\r\n0\r\n-1\r\n2\r\n",
+        None,
+    ),
+    ("Ia\x1b0J-:Sa\x1b+1=", "0\r\n", None),
+    ("Ia\x1b0J5,:Sa\x1b", "", Some(Code::Arg)),
+    // What is found is replaced.
+    ("Icat\x1b0J@FS/a/oa/HT.=", "coat3\r\n", None),
+    ("Iabc\x1bJ:FSb\x1bxyz\x1b=HT.=", "-1\r\naxyzc4\r\n", None),
+    ("Iabcabc\x1b-2FSb\x1bQ\x1bHT.=", "aQcabc2\r\n", None),
+    (
+        "Iaba\x1bJ2FSa\x1b\x1b.=HT@FS///",
+        "2\r\nab",
+        Some(Code::Srh),
+    ),
+    ("Iabc\x1bJ:FSz\x1bx\x1b=HT", "0\r\nabc", None),
+    (
+        "Iab\x1bJFSb\x1bcd\x1bISb\x1b0J:@FS//b/=HT",
+        "-1\r\nacdSb",
+        None,
+    ),
+    // Numbers are read and inserted.
+    ("Iab-12c\x1b2J\\:=.=", "-125\r\n", None),
+    ("Ix\x1b5+\\=", "5\r\n", None),
+    ("I-5\x1bJ-\\=.=", "5\r\n2\r\n", None),
+    ("I-2147483648\x1bJ\\=", "-2147483648\r\n", None),
+    ("I4294967297\x1bJ\\", "", Some(Code::Ovf)),
+    ("I1234\x1b2JIx\x1b-DJ\\=", "1234\r\n", None),
+    ("42\\-7\\HT", "42-7", None),
+    ("(1+\\)=", "1\r\n", None),
+    ("1,2\\", "", Some(Code::Arg)),
+    ("(2\\", "", Some(Code::Mrp)),
+    // The case mode is set. Where it is 0, a search takes letters of either case.
+    ("IAb\x1bJ:SaB\x1b=", "0\r\n", None),
+    ("0^XIAb\x1bJ:SaB\x1b=", "-1\r\n", None),
+    ("0^X-1^XIAb\x1bJ:SaB\x1b=", "0\r\n", None),
+    ("^X", "", Some(Code::Arg)),
+];
 
 #[test]
-fn what_is_found_is_replaced(rt: HostRuntime) {
-    all_type(
-        &rt,
-        rt.alloc(),
-        &[
-            ("Icat\x1b0J@FS/a/oa/HT.=", "coat3\r\n", None),
-            ("Iabc\x1bJ:FSb\x1bxyz\x1b=HT.=", "-1\r\naxyzc4\r\n", None),
-            ("Iabcabc\x1b-2FSb\x1bQ\x1bHT.=", "aQcabc2\r\n", None),
-            (
-                "Iaba\x1bJ2FSa\x1b\x1b.=HT@FS///",
-                "2\r\nab",
-                Some(Code::Srh),
-            ),
-            ("Iabc\x1bJ:FSz\x1bx\x1b=HT", "0\r\nabc", None),
-            (
-                "Iab\x1bJFSb\x1bcd\x1bISb\x1b0J:@FS//b/=HT",
-                "-1\r\nacdSb",
-                None,
-            ),
-        ],
-    );
-}
-
-#[test]
-fn numbers_are_read_and_inserted(rt: HostRuntime) {
-    all_type(
-        &rt,
-        rt.alloc(),
-        &[
-            ("Iab-12c\x1b2J\\:=.=", "-125\r\n", None),
-            ("Ix\x1b5+\\=", "5\r\n", None),
-            ("I-5\x1bJ-\\=.=", "5\r\n2\r\n", None),
-            ("I-2147483648\x1bJ\\=", "-2147483648\r\n", None),
-            ("I4294967297\x1bJ\\", "", Some(Code::Ovf)),
-            ("I1234\x1b2JIx\x1b-DJ\\=", "1234\r\n", None),
-            ("42\\-7\\HT", "42-7", None),
-            ("(1+\\)=", "1\r\n", None),
-            ("1,2\\", "", Some(Code::Arg)),
-            ("(2\\", "", Some(Code::Mrp)),
-        ],
-    );
-}
-
-// With the case mode at 0 a search takes letters of either case.
-#[test]
-fn the_case_mode_is_set(rt: HostRuntime) {
-    all_type(
-        &rt,
-        rt.alloc(),
-        &[
-            ("IAb\x1bJ:SaB\x1b=", "0\r\n", None),
-            ("0^XIAb\x1bJ:SaB\x1b=", "-1\r\n", None),
-            ("0^X-1^XIAb\x1bJ:SaB\x1b=", "0\r\n", None),
-            ("^X", "", Some(Code::Arg)),
-        ],
-    );
+fn searches_and_replacements_do_what_they_mean(rt: HostRuntime) {
+    all_type(&rt, rt.alloc(), &ROWS);
 }
