@@ -90,7 +90,7 @@ pub fn ending(alloc: Global, line: &Line, fate: Fate) -> Result<(u8, String), No
 #[cfg(test)]
 mod tests {
     use super::*;
-    use std::process::Abort;
+    use crate::tests::assert_of;
 
     fn line(alloc: Global, output: Option<&str>) -> Result<Line, NoMemory> {
         let output = match output {
@@ -121,41 +121,38 @@ mod tests {
         }
     }
 
-    /// The endings are these; where memory was refused, a second time.
-    fn all_end(rt: &impl Abort, alloc: Global, rows: &[Row]) {
-        for row in rows {
-            let held = ends_so(alloc, row) || ends_so(alloc, row);
-            assert!(rt; held, "{}", row.3);
-        }
-    }
+    static ROWS: [Row<'static>; 10] = [
+        (None, Fate::NoInput, 1, "teco: cannot read in\n"),
+        (None, Fate::LargeInput, 1, "teco: in is too large\n"),
+        (None, Fate::NoMemory, 1, "teco: no memory\n"),
+        (None, Fate::NoOutput, 1, "teco: cannot write in.out\n"),
+        (Some("out"), Fate::NoOutput, 1, "teco: cannot write out\n"),
+        (None, Fate::Ended(Served::Exit), 0, ""),
+        (None, Fate::Ended(Served::EndOfCommands), 2, ""),
+        (
+            None,
+            Fate::Ended(Served::ReadFault),
+            1,
+            "teco: cannot read commands\n",
+        ),
+        (
+            None,
+            Fate::Ended(Served::ShowFault),
+            1,
+            "teco: cannot show\n",
+        ),
+        (None, Fate::Ended(Served::NoMemory), 1, "teco: no memory\n"),
+    ];
 
+    // Where memory was refused, a row holds the second time.
     #[test]
     fn says_how_it_ends(rt: HostRuntime) {
-        all_end(
-            &rt,
-            rt.alloc(),
-            &[
-                (None, Fate::NoInput, 1, "teco: cannot read in\n"),
-                (None, Fate::LargeInput, 1, "teco: in is too large\n"),
-                (None, Fate::NoMemory, 1, "teco: no memory\n"),
-                (None, Fate::NoOutput, 1, "teco: cannot write in.out\n"),
-                (Some("out"), Fate::NoOutput, 1, "teco: cannot write out\n"),
-                (None, Fate::Ended(Served::Exit), 0, ""),
-                (None, Fate::Ended(Served::EndOfCommands), 2, ""),
-                (
-                    None,
-                    Fate::Ended(Served::ReadFault),
-                    1,
-                    "teco: cannot read commands\n",
-                ),
-                (
-                    None,
-                    Fate::Ended(Served::ShowFault),
-                    1,
-                    "teco: cannot show\n",
-                ),
-                (None, Fate::Ended(Served::NoMemory), 1, "teco: no memory\n"),
-            ],
-        );
+        for row in &ROWS {
+            assert_of(
+                &rt,
+                row.3,
+                ends_so(rt.alloc(), row) || ends_so(rt.alloc(), row),
+            );
+        }
     }
 }

@@ -105,38 +105,36 @@ mod tests {
         given && source.ended == row.2 && source.failures == row.3
     }
 
-    fn all_read<R: Read + Drop>(rt: &impl Abort, source: &mut ReaderSource<R>, rows: &[Row]) {
-        for (at, row) in rows.iter().enumerate() {
-            assert!(rt; reads(source, row), "the read {at}");
+    fn reads_all<R: Read + Drop>(source: &mut ReaderSource<R>, rows: &[Row]) -> bool {
+        let mut held = true;
+        for row in rows {
+            held = held && reads(source, row);
         }
+        held
     }
+
+    static STUMBLING: [Row<'static>; 6] = [
+        (4, Some(b"a"), false, 0),
+        (4, None, false, 1),
+        (4, Some(b"c"), false, 1),
+        (0, Some(b""), false, 1),
+        (4, Some(b"d"), false, 1),
+        (4, Some(b""), true, 1),
+    ];
 
     #[test]
     fn fails_where_the_reader_does(rt: HostRuntime) {
         let mut source = ReaderSource::new(Stumbling { reads: 0 });
-        all_read(
-            &rt,
-            &mut source,
-            &[
-                (4, Some(b"a"), false, 0),
-                (4, None, false, 1),
-                (4, Some(b"c"), false, 1),
-                (0, Some(b""), false, 1),
-                (4, Some(b"d"), false, 1),
-                (4, Some(b""), true, 1),
-            ],
-        );
+        assert!(rt; reads_all(&mut source, &STUMBLING));
     }
+
+    static LAST: [Row<'static>; 2] = [(4, Some(b"a"), false, 0), (4, None, false, 1)];
 
     // The last byte that may come, and the failure after it.
     #[test]
     fn fails_after_the_most_bytes(rt: HostRuntime) {
         let mut source = ReaderSource::new(b"ab".as_slice());
         source.left = 1;
-        all_read(
-            &rt,
-            &mut source,
-            &[(4, Some(b"a"), false, 0), (4, None, false, 1)],
-        );
+        assert!(rt; reads_all(&mut source, &LAST));
     }
 }

@@ -28,6 +28,6 @@ mod strings;
 mod terminals;
 
 /// Ends the test where what is said of a text does not hold.
-fn assert_of(rt: &impl Abort, text: &str, holds: bool) {
+pub(crate) fn assert_of(rt: &impl Abort, text: &str, holds: bool) {
     assert!(rt; holds, "{text:?}");
 }

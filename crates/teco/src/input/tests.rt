@@ -2,7 +2,6 @@
 use super::*;
 use crate::memory_source::MemorySource;
 use crate::reader_source::ReaderSource;
-use std::process::Abort;
 use teco_step::FailAfter;
 
 /// A source that gives `12345678` in three pieces, and then ends or fails.
@@ -37,37 +36,31 @@ fn reads_anew(alloc: Global, row: &Row) -> bool {
     }
 }
 
-/// Where memory was refused, it reads a second time.
-fn all_read(rt: &impl Abort, alloc: Global, rows: &[Row]) {
-    for row in rows {
-        let held = reads_anew(alloc, row) || reads_anew(alloc, row);
-        assert!(rt; held, "{row:?}");
-    }
-}
+// With room for all bytes, and more, and with too little.
+static ROWS: [Row; 14] = [
+    (false, 8, None),
+    (false, 9, None),
+    (false, 1 << 30, None),
+    (true, 8, Some(InputFault::Read)),
+    (true, 9, Some(InputFault::Read)),
+    (true, 1 << 30, Some(InputFault::Read)),
+    (false, 0, Some(InputFault::TooLarge)),
+    (false, 2, Some(InputFault::TooLarge)),
+    (false, 3, Some(InputFault::TooLarge)),
+    (false, 7, Some(InputFault::TooLarge)),
+    (true, 0, Some(InputFault::TooLarge)),
+    (true, 2, Some(InputFault::TooLarge)),
+    (true, 3, Some(InputFault::TooLarge)),
+    (true, 7, Some(InputFault::TooLarge)),
+];
 
-/// With room for all bytes, and more, and with too little.
+/// Where memory was refused, a row holds the second time.
 #[test]
 fn reads_all_or_a_fault(rt: HostRuntime) {
-    all_read(
-        &rt,
-        rt.alloc(),
-        &[
-            (false, 8, None),
-            (false, 9, None),
-            (false, 1 << 30, None),
-            (true, 8, Some(InputFault::Read)),
-            (true, 9, Some(InputFault::Read)),
-            (true, 1 << 30, Some(InputFault::Read)),
-            (false, 0, Some(InputFault::TooLarge)),
-            (false, 2, Some(InputFault::TooLarge)),
-            (false, 3, Some(InputFault::TooLarge)),
-            (false, 7, Some(InputFault::TooLarge)),
-            (true, 0, Some(InputFault::TooLarge)),
-            (true, 2, Some(InputFault::TooLarge)),
-            (true, 3, Some(InputFault::TooLarge)),
-            (true, 7, Some(InputFault::TooLarge)),
-        ],
-    );
+    for row in &ROWS {
+        let held = reads_anew(rt.alloc(), row) || reads_anew(rt.alloc(), row);
+        assert!(rt; held, "{row:?}");
+    }
 }
 
 fn is_failed_read(alloc: Global, front: &[u8]) -> bool {

@@ -1,5 +1,5 @@
 use super::*;
-use std::process::Abort;
+use crate::tests::assert_of;
 
 /// The status that an argument which is not UTF-8 leads to; none where memory was refused.
 fn status_without_text(alloc: Global) -> Option<u8> {
@@ -15,8 +15,11 @@ fn refuses_what_is_no_text(rt: HostRuntime) {
     assert!(rt; status == Some(3));
 }
 
-/// Words with blanks between them, and the input, the output, the limit and the prompt that they give.
-type Row<'a> = (&'a str, &'a str, Option<&'a str>, u64, bool);
+/// An input, an output, a limit, whether there is a prompt, and a depth.
+type Given<'a> = (&'a str, Option<&'a str>, u64, bool, Option<u64>);
+
+/// Words with blanks between them, and what they give; none where they are refused.
+type Row<'a> = (&'a str, Option<Given<'a>>);
 
 fn words_of(alloc: Global, text: &str) -> Result<Vec<String>, NoMemory> {
     let mut words = Vec::new(alloc);
@@ -26,71 +29,58 @@ fn words_of(alloc: Global, text: &str) -> Result<Vec<String>, NoMemory> {
     Ok(words)
 }
 
-fn is_line(line: &Line, row: &Row) -> bool {
-    let output = line.output.as_ref().map(|name| name.as_str());
-    line.input.as_str() == row.1 && output == row.2 && line.limit == row.3 && line.prompt == row.4
+fn is_line(line: &Line, given: &Given) -> bool {
+    let (input, output, limit, prompt, undo) = *given;
+    let named = line.output.as_ref().map(|name| name.as_str());
+    line.input.as_str() == input
+        && named == output
+        && line.limit == limit
+        && line.prompt == prompt
+        && line.undo == undo
 }
 
-fn is_given(alloc: Global, row: &Row) -> bool {
-    let Ok(words) = words_of(alloc, row.0) else {
-        return false;
-    };
-    match line_of(alloc, words.as_slice()) {
-        Ok(line) => is_line(&line, row),
-        Err(_) => false,
+fn is_given(line: Result<Line, LineFault>, given: &Option<Given>) -> bool {
+    match line {
+        Ok(line) => given.is_some_and(|given| is_line(&line, &given)),
+        Err(LineFault::Refused(_)) => given.is_none(),
+        Err(LineFault::NoMemory) => false,
     }
 }
 
-/// Where memory was refused, a line is given the second time.
-fn all_given(rt: &impl Abort, alloc: Global, rows: &[Row]) {
-    for row in rows {
-        let held = is_given(alloc, row) || is_given(alloc, row);
-        assert!(rt; held, "{}", row.0);
+fn says(alloc: Global, row: &Row) -> bool {
+    match words_of(alloc, row.0) {
+        Ok(words) => is_given(line_of(alloc, words.as_slice()), &row.1),
+        Err(NoMemory) => false,
     }
 }
 
+static ROWS: [Row<'static>; 8] = [
+    ("teco in", Some(("in", None, 1_000_000, false, None))),
+    (
+        "teco --limit 5 --output o --prompt in",
+        Some(("in", Some("o"), 5, true, None)),
+    ),
+    (
+        "teco in --limit=1000000000000",
+        Some(("in", None, 1_000_000_000_000, false, None)),
+    ),
+    (
+        "teco --undo 1 in",
+        Some(("in", None, 1_000_000, false, Some(1))),
+    ),
+    (
+        "teco in --undo=100000",
+        Some(("in", None, 1_000_000, false, Some(100_000))),
+    ),
+    ("teco --undo 0 in", None),
+    ("teco --undo 100001 in", None),
+    ("teco --undo x in", None),
+];
+
+// Where memory was refused, a row holds the second time.
 #[test]
 fn gives_what_the_words_say(rt: HostRuntime) {
-    all_given(
-        &rt,
-        rt.alloc(),
-        &[
-            ("teco in", "in", None, 1_000_000, false),
-            (
-                "teco --limit 5 --output o --prompt in",
-                "in",
-                Some("o"),
-                5,
-                true,
-            ),
-            (
-                "teco in --limit=1000000000000",
-                "in",
-                None,
-                1_000_000_000_000,
-                false,
-            ),
-        ],
-    );
-}
-
-/// The depth that these words give, or none where the line is refused.
-fn depth_of(alloc: Global, words: &str) -> Option<Option<u64>> {
-    let words = words_of(alloc, words).ok()?;
-    Some(line_of(alloc, &words).ok()?.undo)
-}
-
-#[test]
-fn reads_a_depth(rt: HostRuntime) {
-    for (words, depth) in [
-        ("teco in", Some(None)),
-        ("teco --undo 1 in", Some(Some(1))),
-        ("teco in --undo=100000", Some(Some(100_000))),
-        ("teco --undo 0 in", None),
-        ("teco --undo 100001 in", None),
-        ("teco --undo x in", None),
-    ] {
-        let held = depth_of(rt.alloc(), words) == depth || depth_of(rt.alloc(), words) == depth;
-        assert!(rt; held, "{words}");
+    for row in &ROWS {
+        assert_of(&rt, row.0, says(rt.alloc(), row) || says(rt.alloc(), row));
     }
 }
