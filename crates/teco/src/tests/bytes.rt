@@ -2,11 +2,16 @@
 use std::alloc::Global;
 use teco_step::FailAfter;
 
+/// Puts a part at the end.
+pub(super) fn put(bytes: &mut Vec<u8>, part: &[u8]) {
+    let _ = bytes.extend_from_slice(part).is_ok() || bytes.extend_from_slice(part).is_ok();
+}
+
 /// Parts after one another.
 pub(crate) fn joined(alloc: Global, parts: &[&[u8]]) -> Vec<u8> {
     let mut bytes = Vec::new(alloc);
     for part in parts {
-        let _ = bytes.extend_from_slice(part).is_ok() || bytes.extend_from_slice(part).is_ok();
+        put(&mut bytes, part);
     }
     bytes
 }

@@ -25,25 +25,20 @@ fn is_told(told: &Result<(u8, String), NoMemory>, text: &str) -> bool {
     matches!(told, Ok((1, line)) if line.as_str() == text)
 }
 
-fn says_what_it_cannot_read(rt: &HostRuntime, line: &Line) -> bool
-    requires { line.now.undo ≡ None }
-{
-    is_told(&conclusion(rt, line), "teco: cannot read none\n")
-}
-
 fn says_what_it_cannot_write(rt: &HostRuntime, line: &Line) -> bool {
-    match write_output(rt, "no/x", 7, b"a") {
-        Ok(()) => false,
-        Err(error) => {
-            let fate = fate_of(error, Fate::NoOutput);
-            is_told(&ending(rt.alloc(), line, fate), "teco: cannot write no/x\n")
-        }
-    }
+    let Err(error) = write_output(rt, "no/x", 7, b"a") else {
+        return false;
+    };
+    let fate = fate_of(error, Fate::NoOutput);
+    is_told(&ending(rt.alloc(), line, fate), "teco: cannot write no/x\n")
 }
 
 fn says_both(rt: &HostRuntime) -> bool {
     match line_without_files(rt.alloc()) {
-        Ok(line) => says_what_it_cannot_read(rt, &line) && says_what_it_cannot_write(rt, &line),
+        Ok(line) => {
+            is_told(&conclusion(rt, &line), "teco: cannot read none\n")
+                && says_what_it_cannot_write(rt, &line)
+        }
         Err(NoMemory) => false,
     }
 }

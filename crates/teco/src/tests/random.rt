@@ -1,8 +1,8 @@
 //! Strings made at random, with undo and redo between them: each state that comes back is the one that was seen there before. So it is
 //! where the last strings alone are kept, and then no state before them comes back.
-use super::bytes::joined;
+use super::bytes::{joined, put};
 use super::requests::session_over;
-use super::states::{put, seen};
+use super::states::seen;
 use std::alloc::Global;
 use std::test::*;
 use teco_core::FILE_LIMIT;
@@ -10,7 +10,7 @@ use teco_session::{Answer, Session};
 use teco_step::MemoryTerminal;
 
 /// What strings are made of: edits, searches, pages and registers, a row each.
-const PARTS: [&[u8]; 64] = [
+static PARTS: [&[u8]; 64] = [
     b"Ia\x1b",
     b"Iab c\x1b",
     b"I\nx\x1b",
@@ -102,8 +102,9 @@ fn made(alloc: Global, seed: &mut u32) -> Vec<u8> {
     text
 }
 
-/// Keeps the state that a string left, after so many that stay, and drops the first one where it would be one too many.
-fn keep(trial: &mut Trial, stay: usize, state: Vec<u8>) -> bool {
+/// Keeps the state that is seen, after so many that stay, and drops the first one where it would be one too many.
+fn keep(alloc: Global, trial: &mut Trial, stay: usize) -> bool {
+    let state = seen(alloc, trial.session.editor());
     trial.states.truncate(stay);
     let has_room = trial.states.reserve(1).is_ok() || trial.states.reserve(1).is_ok();
     let is_kept = has_room && trial.states.push(state).is_ok();
@@ -124,50 +125,47 @@ fn is_as_before(alloc: Global, trial: &Trial) -> bool {
 /// Runs a string, at once or after a refusal. The state after it is kept; where it is not begun, the state stays.
 fn runs(alloc: Global, trial: &mut Trial) -> bool {
     let text = made(alloc, &mut trial.seed);
-    let before = trial.session.cursor();
+    let stay = trial.session.cursor().saturating_add(1);
     let mut term = MemoryTerminal::new(alloc);
     let mut answer = trial.session.run(&text, 200, &mut term);
     if answer == Answer::NotBegun {
         answer = trial.session.run(&text, 200, &mut term);
     }
-    if let Answer::Ended(_) = answer {
-        let state = seen(alloc, trial.session.editor());
-        return keep(trial, before.saturating_add(1), state) && is_as_before(alloc, trial);
-    }
-    is_as_before(alloc, trial)
+    let is_kept = !matches!(answer, Answer::Ended(_)) || keep(alloc, trial, stay);
+    is_kept && is_as_before(alloc, trial)
 }
 
-/// An undo or a redo.
-fn turns(alloc: Global, trial: &mut Trial) -> bool {
-    if roll(&mut trial.seed) % 2 == 0 {
-        let _ = trial.session.undo();
+/// A redo or an undo, which is done or refused as is wanted, and leaves a state that was seen before.
+fn turns(alloc: Global, trial: &mut Trial, forth: bool, wanted: bool) -> bool {
+    let turned = if forth {
+        trial.session.redo().is_ok()
     } else {
-        let _ = trial.session.redo();
-    }
-    is_as_before(alloc, trial)
+        trial.session.undo().is_ok()
+    };
+    turned == wanted && is_as_before(alloc, trial)
 }
 
 /// Up to three of them.
-fn turn_some(alloc: Global, trial: &mut Trial) -> bool {
+fn turns_some(alloc: Global, trial: &mut Trial) -> bool {
     let mut held = true;
     for _ in 0..roll(&mut trial.seed) % 4 {
-        held = turns(alloc, trial) && held;
+        let forth = roll(&mut trial.seed) % 2 == 1;
+        let end = if forth { trial.session.strings() } else { 0 };
+        let wanted = trial.session.cursor() != end;
+        held = turns(alloc, trial, forth, wanted) && held;
     }
     held
 }
 
-fn undoes_all(alloc: Global, trial: &mut Trial) -> bool {
+/// All are undone, and then redone, and one redo more is refused.
+fn turns_all(alloc: Global, trial: &mut Trial) -> bool {
     let mut held = true;
     for _ in 0..trial.session.cursor() {
-        held = trial.session.undo().is_ok() && is_as_before(alloc, trial) && held;
+        held = turns(alloc, trial, false, true) && held;
     }
-    held && trial.session.cursor() == 0
-}
-
-fn redoes_all(alloc: Global, trial: &mut Trial) -> bool {
-    let mut held = true;
+    held = trial.session.cursor() == 0 && held;
     for _ in 0..trial.session.strings() {
-        held = trial.session.redo().is_ok() && is_as_before(alloc, trial) && held;
+        held = turns(alloc, trial, true, true) && held;
     }
     held && trial.session.redo().is_err()
 }
@@ -180,10 +178,8 @@ fn pages_of(alloc: Global) -> Vec<u8> {
 /// A session over the pages that keeps the last three strings, at once or after a refusal.
 fn shallow_session(alloc: Global) -> Option<Session> {
     for _ in 0..2 {
-        let input = pages_of(alloc);
-        if input.len() > FILE_LIMIT {
-            return None;
-        }
+        let mut input = pages_of(alloc);
+        input.truncate(FILE_LIMIT);
         if let Ok(session) = Session::with_depth(input, 3) {
             return Some(session);
         }
@@ -191,34 +187,33 @@ fn shallow_session(alloc: Global) -> Option<Session> {
     None
 }
 
-/// Whether each state comes back, where so many strings are run and at most so many states are kept.
-fn come_back(alloc: Global, session: Session, most: usize, strings: usize) -> bool {
+/// Whether each state comes back, where a thousand strings are run and at most so many states are kept.
+fn come_back(alloc: Global, session: Session, most: usize) -> bool {
     let mut trial = Trial {
         session,
         states: Vec::new(alloc),
         most,
         seed: 1,
     };
-    let first = seen(alloc, trial.session.editor());
-    let mut held = keep(&mut trial, 0, first);
-    for _ in 0..strings {
-        held = runs(alloc, &mut trial) && turn_some(alloc, &mut trial) && held;
+    let mut held = keep(alloc, &mut trial, 0);
+    for _ in 0..1000 {
+        held = runs(alloc, &mut trial) && turns_some(alloc, &mut trial) && held;
     }
-    held && undoes_all(alloc, &mut trial) && redoes_all(alloc, &mut trial)
+    held && turns_all(alloc, &mut trial)
 }
 
 #[test]
 fn random_strings_come_back(rt: HostRuntime) {
     let alloc = rt.alloc();
     let session = session_over(alloc, &pages_of(alloc));
-    assert!(rt; come_back(alloc, session, usize::MAX, 1000));
+    assert!(rt; come_back(alloc, session, usize::MAX));
 }
 
 #[test]
 fn the_last_random_strings_come_back(rt: HostRuntime) {
     let alloc = rt.alloc();
     let held = match shallow_session(alloc) {
-        Some(session) => come_back(alloc, session, 4, 1000),
+        Some(session) => come_back(alloc, session, 4),
         None => false,
     };
     assert!(rt; held);

@@ -17,24 +17,19 @@ fn code_of(session: &mut Session, request: &str, term: &mut MemoryTerminal) -> O
     }
 }
 
-fn is_answered(session: &mut Session, row: &Asks, term: &mut MemoryTerminal) -> bool {
-    let (request, code, output) = *row;
-    code_of(session, request, term) == code && session.editor().output() == output.as_bytes()
-}
-
 fn are_answered(session: &mut Session, rows: &[Asks], term: &mut MemoryTerminal) -> bool {
     let mut held = true;
-    for row in rows {
-        held = is_answered(session, row, term) && held;
+    for (request, code, output) in rows {
+        held = code_of(session, request, term) == *code
+            && session.editor().output() == output.as_bytes()
+            && held;
     }
     held
 }
 
 pub(crate) fn session_over(alloc: Global, input: &[u8]) -> Session {
-    let input = joined(alloc, &[input]);
-    if input.len() > FILE_LIMIT {
-        return Session::new(Vec::new(alloc));
-    }
+    let mut input = joined(alloc, &[input]);
+    input.truncate(FILE_LIMIT);
     Session::new(input)
 }
 

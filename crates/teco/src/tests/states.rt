@@ -1,16 +1,22 @@
 //! States as bytes, to be compared.
-use super::bytes::joined;
+use super::bytes::put;
 use std::alloc::Global;
 use teco_core::{CaseMode, Reg};
 use teco_store::{Desk, Editor};
 
-pub(super) fn put(bytes: &mut Vec<u8>, part: &[u8]) {
-    let _ = bytes.extend_from_slice(part).is_ok() || bytes.extend_from_slice(part).is_ok();
-}
-
 fn put_text(bytes: &mut Vec<u8>, text: &[u8]) {
     put(bytes, &text.len().to_le_bytes());
     put(bytes, text);
+}
+
+/// The text in its two halves, and the pointer.
+fn put_buffer(bytes: &mut Vec<u8>, editor: &Editor) {
+    let (before, after) = editor.halves();
+    let length = before.len().saturating_add(after.len());
+    put(bytes, &length.to_le_bytes());
+    put(bytes, before);
+    put(bytes, after);
+    put(bytes, &editor.pointer().to_le_bytes());
 }
 
 fn put_register(bytes: &mut Vec<u8>, editor: &Editor, name: u8) {
@@ -35,38 +41,27 @@ fn put_pushed(alloc: Global, bytes: &mut Vec<u8>, editor: &Editor) {
     }
 }
 
-fn put_search(bytes: &mut Vec<u8>, editor: &Editor) {
-    let text = editor.last_search();
-    put(
-        bytes,
-        &[u8::from(editor.last_result()), u8::from(text.is_some())],
-    );
-    put_text(bytes, text.unwrap_or(&[]));
-}
-
-fn put_pages(bytes: &mut Vec<u8>, editor: &Editor) {
-    put(bytes, &editor.place().to_le_bytes());
-    put_text(bytes, editor.output());
-    let either = editor.case_mode() == CaseMode::Either;
-    put(
-        bytes,
-        &[
-            u8::from(editor.flag()),
-            u8::from(editor.done()),
-            u8::from(either),
-        ],
-    );
+/// What the last search was and has found, whether the page ended at a form feed and the session is done, and the mode of case.
+fn put_flags(bytes: &mut Vec<u8>, editor: &Editor) {
+    let flags = [
+        u8::from(editor.last_result()),
+        u8::from(editor.last_search().is_some()),
+        u8::from(editor.flag()),
+        u8::from(editor.done()),
+        u8::from(editor.case_mode() == CaseMode::Either),
+    ];
+    put(bytes, &flags);
+    put_text(bytes, editor.last_search().unwrap_or(&[]));
 }
 
 /// All that is seen of an editor.
 pub(crate) fn seen(alloc: Global, editor: &Editor) -> Vec<u8> {
-    let (before, after) = editor.halves();
     let mut bytes = Vec::new(alloc);
-    put_text(&mut bytes, &joined(alloc, &[before, after]));
-    put(&mut bytes, &editor.pointer().to_le_bytes());
+    put_buffer(&mut bytes, editor);
     put_registers(&mut bytes, editor);
     put_pushed(alloc, &mut bytes, editor);
-    put_search(&mut bytes, editor);
-    put_pages(&mut bytes, editor);
+    put_flags(&mut bytes, editor);
+    put(&mut bytes, &editor.place().to_le_bytes());
+    put_text(&mut bytes, editor.output());
     bytes
 }

@@ -1,6 +1,6 @@
 //! Terminals whose puts are refused or fail.
+use super::assert_of;
 use std::io::{self, Write};
-use std::process::Abort;
 use teco_step::{MemoryTerminal, Terminal, WriterTerminal};
 
 /// Whether a put is done; one that is refused adds nothing, and the same put can be tried again.
@@ -9,17 +9,16 @@ fn puts_again(terminal: &mut MemoryTerminal, bytes: &[u8], before: &[u8]) -> boo
 }
 
 fn keeps(terminal: &mut MemoryTerminal) -> bool {
-    let one = puts_again(terminal, b"1", b"");
-    let none = puts_again(terminal, b"", b"1");
-    let more = puts_again(terminal, b"=23456789012345\r\n", b"1");
-    one && none && more
+    puts_again(terminal, b"1", b"")
+        && puts_again(terminal, b"", b"1")
+        && puts_again(terminal, b"=23456789012345\r\n", b"1")
+        && terminal.bytes() == b"1=23456789012345\r\n".as_slice()
 }
 
 #[test]
 fn keeps_what_is_shown(rt: HostRuntime) {
     let mut terminal = MemoryTerminal::new(rt.alloc());
     assert!(rt; keeps(&mut terminal));
-    assert!(rt; terminal.bytes() == b"1=23456789012345\r\n".as_slice());
 }
 
 /// Takes at most two bytes a write, and `left` in all; then it fails, or takes nothing.
@@ -53,30 +52,37 @@ impl Write for Narrow {
     }
 }
 
-/// Whether `hello` and then `!` can be put on a terminal over a writer.
-fn puts(writer: &mut Narrow) -> (bool, bool) {
+/// How many bytes a writer takes, whether it fails then, whether `hello` and then `!` could be put on a terminal over it, and what it
+/// has after that.
+type Row<'a> = (usize, bool, bool, bool, &'a str);
+
+static ROWS: [Row<'static>; 4] = [
+    (8, true, true, true, "hello!"),
+    (5, true, true, false, "hello"),
+    (3, false, false, false, "hel"),
+    (3, true, false, false, "hel"),
+];
+
+/// Whether `hello` and then `!` are put as wanted on a terminal over the writer.
+fn puts(writer: &mut Narrow, hello: bool, mark: bool) -> bool {
     let mut terminal = WriterTerminal::new(writer);
-    let hello = terminal.put(b"hello").is_ok();
-    (hello, terminal.put(b"!").is_ok())
+    terminal.put(b"hello").is_ok() == hello && terminal.put(b"!").is_ok() == mark
 }
 
-/// A writer that takes so many bytes has these after `hello` and `!`, and each could be put or not.
-fn takes(rt: &impl Abort, left: usize, fails: bool, wanted: (bool, bool), taken: &[u8]) {
+fn takes(row: &Row) -> bool {
+    let (left, fails, hello, mark, taken) = *row;
     let mut writer = Narrow {
         taken: [0; 8],
         len: 0,
         left,
         fails,
     };
-    assert!(rt; puts(&mut writer) == wanted);
-    assert!(rt; &writer.taken[..writer.len.min(8)] == taken);
+    puts(&mut writer, hello, mark) && &writer.taken[..writer.len.min(8)] == taken.as_bytes()
 }
 
 #[test]
 fn writes_all_or_fails(rt: HostRuntime) {
-    takes(&rt, 8, true, (true, true), b"hello!");
-    takes(&rt, 5, true, (true, false), b"hello");
-    for fails in [false, true] {
-        takes(&rt, 3, fails, (false, false), b"hel");
+    for row in &ROWS {
+        assert_of(&rt, row.4, takes(row));
     }
 }
