@@ -1,13 +1,11 @@
 //! What is typed at the commands, and what they leave.
-use super::{PLAIN, all_hold};
+use super::{Group, PLAIN, all_hold};
 use std::test::*;
 
-#[test]
-fn serves_edits(rt: HostRuntime) {
-    all_hold(
-        &rt,
-        rt.alloc(),
-        &PLAIN,
+static GROUPS: [Group<'static>; 4] = [
+    // Edits.
+    (
+        PLAIN,
         &[
             ("Ihello$R.=HT$$", "4\r\nhello", ""),
             ("Ia$10I$Ib$0JL.=HT$$", "2\r\na\nb", ""),
@@ -26,15 +24,10 @@ fn serves_edits(rt: HostRuntime) {
             ("12:=3=$$", "123\r\n", ""),
             ("8:==$$", "10", ""),
         ],
-    );
-}
-
-#[test]
-fn serves_arguments(rt: HostRuntime) {
-    all_hold(
-        &rt,
-        rt.alloc(),
-        &PLAIN,
+    ),
+    // Arguments.
+    (
+        PLAIN,
         &[
             ("2*(3+4)=$$", "14\r\n", ""),
             ("12&10=12#3=$$", "8\r\n15\r\n", ""),
@@ -48,15 +41,10 @@ fn serves_arguments(rt: HostRuntime) {
             ("1,2J$$", "?ARG\r\n", ""),
             ("(((((((((((((((((1$$", "?PDO\r\n", ""),
         ],
-    );
-}
-
-#[test]
-fn serves_blocks(rt: HostRuntime) {
-    all_hold(
-        &rt,
-        rt.alloc(),
-        &PLAIN,
+    ),
+    // Blocks.
+    (
+        PLAIN,
         &[
             ("0<?>1=$$", "?ILL\r\n", ""),
             ("1=>2=$$", "1\r\n?BNI\r\n", ""),
@@ -74,15 +62,10 @@ fn serves_blocks(rt: HostRuntime) {
             ("3<-1;Ix$>$$HT$$", "xxx", ""),
             ("<0\"E1;'>Iy$$HT$$", "y", ""),
         ],
-    );
-}
-
-#[test]
-fn serves_registers(rt: HostRuntime) {
-    all_hold(
-        &rt,
-        rt.alloc(),
-        &PLAIN,
+    ),
+    // Registers.
+    (
+        PLAIN,
         &[
             ("7UAQA=$$QA=$$", "7\r\n7\r\n", ""),
             ("^UAabc$7UA:QA=$$QA=:GA$$", "3\r\n7\r\nabc", ""),
@@ -100,5 +83,10 @@ fn serves_registers(rt: HostRuntime) {
                 "",
             ),
         ],
-    );
+    ),
+];
+
+#[test]
+fn serves_commands(rt: HostRuntime) {
+    all_hold(&rt, rt.alloc(), &GROUPS);
 }

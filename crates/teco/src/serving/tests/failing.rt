@@ -9,7 +9,6 @@ use crate::tests::bytes::failing_after;
 use crate::tests::requests::session_over;
 use crate::tests::states::seen;
 use std::alloc::Global;
-use std::process::Abort;
 use std::test::*;
 use teco_core::NoMemory;
 use teco_session::Session;
@@ -35,26 +34,30 @@ fn is_alike(alloc: Global, session: &Session, other: &Session) -> bool {
     seen(alloc, session.editor()).as_slice() == seen(alloc, other.editor()).as_slice()
 }
 
-/// Runs the strings of a session in another, each under the limit of the steps that it took, and undoes those that are undone.
-fn run_anew(alloc: Global, session: &Session, other: &mut Session) {
+fn undo_strings(session: &mut Session, count: usize) {
+    for _ in 0..count {
+        let _ = session.undo();
+    }
+}
+
+/// Whether the strings of a session, each run under the limit of the steps that it took, give its state in another once those that
+/// are undone are undone there.
+fn has_whole_steps(alloc: Global, session: &Session, other: &mut Session) -> bool {
     for at in 0..session.strings() {
         let mut term = MemoryTerminal::new(alloc);
         let _ = other.run(session.string(at), session.steps(at), &mut term);
     }
-    for _ in session.cursor()..session.strings() {
-        let _ = other.undo();
-    }
+    undo_strings(other, session.strings() - session.cursor());
+    is_alike(alloc, session, other)
 }
 
 /// Whether a session has the state of its whole steps, and the first one once all is undone.
-fn has_whole_steps(alloc: Global, session: &mut Session) -> bool {
-    let mut other = session_over(alloc, INPUT);
-    run_anew(alloc, session, &mut other);
-    let alike = is_alike(alloc, session, &other);
-    for _ in 0..session.cursor() {
-        let _ = session.undo();
+fn is_left(alloc: Global, session: &mut Session) -> bool {
+    if !has_whole_steps(alloc, session, &mut session_over(alloc, INPUT)) {
+        return false;
     }
-    alike && is_alike(alloc, session, &session_over(alloc, INPUT))
+    undo_strings(session, session.cursor());
+    is_alike(alloc, session, &session_over(alloc, INPUT))
 }
 
 /// Whether a serving on a terminal that takes so many bytes ends so, and shows those of what is to be typed.
@@ -81,7 +84,7 @@ fn shows(alloc: Global, source: &mut MemorySource, typed: &[u8], room: usize) ->
     let mut session = session_over(alloc, INPUT);
     let mut writer = failing_after(alloc, room);
     let served = serve_on(alloc, source, &mut session, &mut writer);
-    is_shown(served, writer.before(), typed, room) && has_whole_steps(alloc, &mut session)
+    is_shown(served, writer.before(), typed, room) && is_left(alloc, &mut session)
 }
 
 fn shows_once(alloc: Global, row: &Row, room: usize) -> bool {
@@ -91,61 +94,88 @@ fn shows_once(alloc: Global, row: &Row, room: usize) -> bool {
     }
 }
 
-/// The row is shown up to the place where the terminal fails, wherever that is; where memory was refused, the second time.
-fn each_put_fails(rt: &impl Abort, alloc: Global, row: &Row) {
+/// Whether the row is shown up to the place where the terminal fails, wherever that is; where memory was refused, the second time.
+fn each_put_fails(alloc: Global, row: &Row) -> bool {
+    let mut held = true;
     for room in 0..=row.1.len() {
-        let held = shows_once(alloc, row, room) || shows_once(alloc, row, room);
-        assert!(rt; held, "{} on {room} bytes", row.0);
+        held = (shows_once(alloc, row, room) || shows_once(alloc, row, room)) && held;
     }
+    held
 }
 
-#[test]
-fn shows_a_beginning_where_a_put_fails(rt: HostRuntime) {
-    for row in &ROWS {
-        each_put_fails(&rt, rt.alloc(), row);
-    }
-}
-
-/// How serving a source ends, and what it types.
-fn serve_in<S: Source>(
-    alloc: Global,
-    source: &mut S,
-    session: &mut Session,
-) -> (Served, MemoryTerminal) {
+/// Whether serving a source ends so; what it types and leaves goes behind these bytes.
+fn leaves<S: Source>(alloc: Global, source: &mut S, wanted: Served, left: &mut Vec<u8>) -> bool {
+    let mut session = session_over(alloc, INPUT);
     let mut term = MemoryTerminal::new(alloc);
-    let served = serve(alloc, source, session, 1000, false, &mut term);
-    (served, term)
+    serve(alloc, source, &mut session, 1000, false, &mut term) == wanted
+        && left.extend_from_slice(term.bytes()).is_ok()
+        && left
+            .extend_from_slice(&seen(alloc, session.editor()))
+            .is_ok()
 }
 
 /// Whether a reader that fails after its bytes is served as a source that ends after them.
 fn are_served_alike(alloc: Global, reader: FailAfter, source: &mut MemorySource) -> bool {
-    let mut session = session_over(alloc, INPUT);
-    let mut other = session_over(alloc, INPUT);
-    let (served, term) = serve_in(alloc, &mut ReaderSource::new(reader), &mut session);
-    let (wanted, typed) = serve_in(alloc, source, &mut other);
-    (served, wanted) == (Served::ReadFault, Served::EndOfCommands)
-        && term.bytes() == typed.bytes()
-        && is_alike(alloc, &session, &other)
+    let mut left = Vec::new(alloc);
+    let mut other = Vec::new(alloc);
+    leaves(
+        alloc,
+        &mut ReaderSource::new(reader),
+        Served::ReadFault,
+        &mut left,
+    ) && leaves(alloc, source, Served::EndOfCommands, &mut other)
+        && left.as_slice() == other.as_slice()
 }
 
-fn reads_once(alloc: Global, front: &[u8]) -> Result<bool, NoMemory> {
-    let reader = FailAfter::new(bytes_of(alloc, front)?);
-    let mut source = source_of(alloc, front, true, false)?;
-    Ok(are_served_alike(alloc, reader, &mut source))
+fn reads_once(alloc: Global, front: &[u8]) -> bool {
+    match source_of(alloc, front, true, false) {
+        Ok(mut source) => {
+            are_served_alike(alloc, FailAfter::new(bytes_of(alloc, front)), &mut source)
+        }
+        Err(NoMemory) => false,
+    }
 }
 
-/// What comes before the failed read is served, wherever that is; where memory was refused, the second time.
-fn each_read_fails(rt: &impl Abort, alloc: Global, stream: &[u8]) {
+/// Whether what comes before the failed read is served, wherever that is; where memory was refused, the second time.
+fn each_read_fails(alloc: Global, stream: &[u8]) -> bool {
+    let mut held = true;
     for read in 0..=stream.len() {
         let front = &stream[..read];
-        let held = reads_once(alloc, front) == Ok(true) || reads_once(alloc, front) == Ok(true);
-        assert!(rt; held, "after {read} bytes");
+        held = (reads_once(alloc, front) || reads_once(alloc, front)) && held;
+    }
+    held
+}
+
+/// A beginning is shown where a put fails, and what came before a failed read is served.
+#[test]
+fn serves_up_to_a_failure(rt: HostRuntime) {
+    for row in &ROWS {
+        let held = each_put_fails(rt.alloc(), row) && each_read_fails(rt.alloc(), row.0.as_bytes());
+        assert!(rt; held, "{}", row.0);
     }
 }
 
-#[test]
-fn serves_what_came_before_a_failed_read(rt: HostRuntime) {
-    for row in &ROWS {
-        each_read_fails(&rt, rt.alloc(), row.0.as_bytes());
+/// Whether a serving on a terminal that takes nothing fails at what the first string types, and leaves this byte to be read next.
+fn stops_before(alloc: Global, source: &mut MemorySource, byte: u8) -> bool {
+    let mut session = session_over(alloc, b"");
+    let mut writer = failing_after(alloc, 0);
+    let mut room = [0];
+    serve_on(alloc, source, &mut session, &mut writer) == Served::ShowFault
+        && session.strings() == 1
+        && matches!(source.read(&mut room), Ok(1))
+        && room[0] == byte
+}
+
+fn stops_before_the_next_read(alloc: Global) -> bool {
+    match source_of(alloc, b"1=$$2=$$", true, false) {
+        Ok(mut source) => stops_before(alloc, &mut source, b'2'),
+        Err(NoMemory) => false,
     }
+}
+
+// Each request is done before the next read: where the first cannot be shown, the byte after it is still to come.
+#[test]
+fn reads_no_further_than_it_shows(rt: HostRuntime) {
+    let held = stops_before_the_next_read(rt.alloc()) || stops_before_the_next_read(rt.alloc());
+    assert!(rt; held);
 }

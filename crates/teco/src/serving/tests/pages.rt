@@ -1,5 +1,5 @@
 //! What is typed and written at streams of commands over an input of three pages.
-use super::{How, PLAIN, all_hold};
+use super::{Group, How, PLAIN, all_hold};
 use crate::served::Served;
 use std::test::*;
 
@@ -9,12 +9,10 @@ const PAGES: How = How {
     ..PLAIN
 };
 
-#[test]
-fn serves_pages(rt: HostRuntime) {
-    all_hold(
-        &rt,
-        rt.alloc(),
-        &PAGES,
+static GROUPS: [Group<'static>; 3] = [
+    // Pages.
+    (
+        PAGES,
         &[
             ("YHT$$", "one\n", ""),
             ("Y$$Y$$", "?YCA\r\n", ""),
@@ -30,15 +28,10 @@ fn serves_pages(rt: HostRuntime) {
             ("42\\HT$$", "42", ""),
             ("1^X$$", "?ARG\r\n", ""),
         ],
-    );
-}
-
-#[test]
-fn serves_searches_over_pages(rt: HostRuntime) {
-    all_hold(
-        &rt,
-        rt.alloc(),
-        &PAGES,
+    ),
+    // Searches over pages.
+    (
+        PAGES,
         &[
             ("YNthree$.=HT$$", "5\r\nthree\n", "one\n\x0ctwo\n\x0c"),
             ("Y2Ne$.=HT$$", "4\r\nthree\n", "one\n\x0ctwo\n\x0c"),
@@ -51,15 +44,10 @@ fn serves_searches_over_pages(rt: HostRuntime) {
             ("YNthree$${$$HT$$", "", ""),
             ("YNthree$${$$}$$HT$$", "three\n", "one\n\x0ctwo\n\x0c"),
         ],
-    );
-}
-
-#[test]
-fn serves_to_an_exit(rt: HostRuntime) {
-    all_hold(
-        &rt,
-        rt.alloc(),
-        &How {
+    ),
+    // To an exit.
+    (
+        How {
             served: Served::Exit,
             ..PAGES
         },
@@ -72,5 +60,10 @@ fn serves_to_an_exit(rt: HostRuntime) {
                 "1\n\x0ctwo\n\x0cthree\nend\n",
             ),
         ],
-    );
+    ),
+];
+
+#[test]
+fn serves_pages(rt: HostRuntime) {
+    all_hold(&rt, rt.alloc(), &GROUPS);
 }

@@ -1,15 +1,23 @@
 //! Rewinds to a step, and what is left of the string, of its history and of what it wrote.
-use super::{How, PLAIN, all_hold};
+use super::{Group, How, PLAIN, all_hold};
 use crate::served::Served;
 use std::test::*;
 
-/// The steps of a string with a loop are gone back one after another.
-#[test]
-fn rewinds_to_steps(rt: HostRuntime) {
-    all_hold(
-        &rt,
-        rt.alloc(),
-        &PLAIN,
+/// Over three pages, `a`, `b` and `c`.
+const PAGES: How = How {
+    input: "a\x0cb\x0cc",
+    ..PLAIN
+};
+
+const EXIT: How = How {
+    served: Served::Exit,
+    ..PLAIN
+};
+
+static GROUPS: [Group<'static>; 3] = [
+    // The steps of a string with a loop are gone back one after another.
+    (
+        PLAIN,
         &[
             ("Iaaaa$0J<Saa$;%A$>$$12~$$QA=.=$$", "2\r\n4\r\n", ""),
             (
@@ -38,38 +46,22 @@ fn rewinds_to_steps(rt: HostRuntime) {
             ("Ia$1234567890~$$HT$$", "?ILL\r\na", ""),
             ("1=~$$", "1\r\n?ILL\r\n", ""),
         ],
-    );
-}
-
-/// Over three pages, `a`, `b` and `c`.
-const PAGES: How = How {
-    input: "a\x0cb\x0cc",
-    ..PLAIN
-};
-
-/// A search over pages is gone back page by page, and what it wrote is taken back.
-#[test]
-fn rewinds_pages(rt: HostRuntime) {
-    all_hold(
-        &rt,
-        rt.alloc(),
-        &PAGES,
+    ),
+    // A search over pages is gone back page by page, and what it wrote is taken back.
+    (
+        PAGES,
         &[
             ("YNc$$3~$$HT.=<;1=>$$", "b0\r\n", "a\x0c"),
             ("YNc$$3~$${$$}$$HT$$", "b", "a\x0c"),
             ("YNc$$1~$$HT$$", "a", ""),
             ("YNc$$3~$$PHT$$", "c", "a\x0cb\x0c"),
         ],
-    );
-}
-
-/// An exit is gone back before the serving sees it done; after it nothing is asked.
-const EXIT: How = How {
-    served: Served::Exit,
-    ..PLAIN
-};
+    ),
+    // An exit is gone back before the serving sees it done; after it nothing is asked.
+    (EXIT, &[("Ia$EX$$~$$", "", "a")]),
+];
 
 #[test]
-fn ends_before_a_rewind(rt: HostRuntime) {
-    all_hold(&rt, rt.alloc(), &EXIT, &[("Ia$EX$$~$$", "", "a")]);
+fn rewinds_to_steps(rt: HostRuntime) {
+    all_hold(&rt, rt.alloc(), &GROUPS);
 }

@@ -1,13 +1,11 @@
 //! Streams with searches.
-use super::{PLAIN, all_hold};
+use super::{Group, PLAIN, all_hold};
 use std::test::*;
 
-#[test]
-fn serves_searches(rt: HostRuntime) {
-    all_hold(
-        &rt,
-        rt.alloc(),
-        &PLAIN,
+static GROUPS: [Group<'static>; 1] = [
+    // Searches.
+    (
+        PLAIN,
         &[
             ("Ihello$JSl$.=S$.=$$HT$$", "3\r\n4\r\nhello", ""),
             ("Ihello$:Sx$=$$HT$$", "0\r\nhello", ""),
@@ -19,5 +17,10 @@ fn serves_searches(rt: HostRuntime) {
             ("Iab$JSb$${$$}$$S$$HT$$", "?SRH\r\nab", ""),
             ("Iaaaa$0J<Saa$;%A$>$$HTQA=$$", "aaaa2\r\n", ""),
         ],
-    );
+    ),
+];
+
+#[test]
+fn serves_searches(rt: HostRuntime) {
+    all_hold(&rt, rt.alloc(), &GROUPS);
 }

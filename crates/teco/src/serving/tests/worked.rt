@@ -1,14 +1,30 @@
 //! Worked rows: what a stream types, and what its last strings then type of the state that it left.
-use super::{How, PLAIN, all_hold, holds};
+use super::{Group, How, PLAIN, all_hold};
 use crate::served::Served;
 use std::test::*;
 
-#[test]
-fn leaves_strings(rt: HostRuntime) {
-    all_hold(
-        &rt,
-        rt.alloc(),
-        &PLAIN,
+/// Three pages.
+const PAGES: How = How {
+    input: "a\x0cb\x0cc",
+    ..PLAIN
+};
+
+const TWO_PAGES: How = How {
+    input: "a\x0cb",
+    ..PLAIN
+};
+
+const EXIT: How = How {
+    served: Served::Exit,
+    ..PLAIN
+};
+
+const LAST_SEARCH: &str = "Iaaaa$0J<Saa$;%A$>$$HT.=QA=$$";
+
+static GROUPS: [Group<'static>; 15] = [
+    // Strings.
+    (
+        PLAIN,
         &[
             ("$${$${$$.=Z=$$", "?NTU\r\n0\r\n0\r\n", ""),
             ("5J$$.=$$2{$${$$", "?POP\r\n0\r\n?NTU\r\n", ""),
@@ -26,15 +42,10 @@ fn leaves_strings(rt: HostRuntime) {
             ("Iab-12c$2J\\:=.=$$HT.=$$", "-125\r\nab-12c5\r\n", ""),
             ("Iabcd$3,1K.=$$HT.=$$", "1\r\nad1\r\n", ""),
         ],
-    );
-}
-
-#[test]
-fn leaves_registers(rt: HostRuntime) {
-    all_hold(
-        &rt,
-        rt.alloc(),
-        &PLAIN,
+    ),
+    // Registers.
+    (
+        PLAIN,
         &[
             ("@^UA/^UAy$Ix$/MA$$HT:GA$$", "xy", ""),
             ("0UA<!x!%A-3\"LOx$'1;>QA=$$QA=$$", "3\r\n3\r\n", ""),
@@ -53,15 +64,10 @@ fn leaves_registers(rt: HostRuntime) {
                 "",
             ),
         ],
-    );
-}
-
-#[test]
-fn leaves_blocks(rt: HostRuntime) {
-    all_hold(
-        &rt,
-        rt.alloc(),
-        &PLAIN,
+    ),
+    // Blocks.
+    (
+        PLAIN,
         &[
             ("0<Ia>b$>Iok$$HT.=$$", "ok2\r\n", ""),
             ("3<Ix$$HT$$", "?UTC\r\nx", ""),
@@ -73,15 +79,10 @@ fn leaves_blocks(rt: HostRuntime) {
                 "",
             ),
         ],
-    );
-}
-
-#[test]
-fn leaves_searches(rt: HostRuntime) {
-    all_hold(
-        &rt,
-        rt.alloc(),
-        &PLAIN,
+    ),
+    // Searches.
+    (
+        PLAIN,
         &[
             ("Ixabxab$-2Sab$.=$$HT.=$$", "3\r\nxabxab3\r\n", ""),
             ("Iab$0J::Sa$=.=$$HT.=$$", "-1\r\n1\r\nab1\r\n", ""),
@@ -102,15 +103,10 @@ fn leaves_searches(rt: HostRuntime) {
             ("Iabc$0J@S/`[c,b]/.=$$HT.=$$", "2\r\nabc2\r\n", ""),
             ("Iab$0JS\x0ea$.=$$HT.=$$", "2\r\nab2\r\n", ""),
         ],
-    );
-}
-
-#[test]
-fn leaves_searches_in_either_case(rt: HostRuntime) {
-    all_hold(
-        &rt,
-        rt.alloc(),
-        &PLAIN,
+    ),
+    // Searches in either case.
+    (
+        PLAIN,
         &[
             ("0^XIaBc$0JSbC$.=$$HT.=$$", "3\r\naBc3\r\n", ""),
             (
@@ -121,85 +117,80 @@ fn leaves_searches_in_either_case(rt: HostRuntime) {
             ("1^X$$.=Iab$J:SB$=$$", "?ARG\r\n0\r\n0\r\n", ""),
             ("0^XIab$0JS\x0eA$.=$$HT.=$$", "2\r\nab2\r\n", ""),
         ],
-    );
-}
-
-/// A search that fails is a step: where it is the last that the limit allows, the pointer is at 0.
-#[test]
-fn leaves_searches_to_the_limit(rt: HostRuntime) {
-    for (limit, typed) in [
-        (14, "aaaa0\r\n2\r\n"),
-        (13, "?LIM\r\naaaa0\r\n2\r\n"),
-        (12, "?LIM\r\naaaa4\r\n2\r\n"),
-    ] {
-        let how = How { limit, ..PLAIN };
-        let stream = "Iaaaa$0J<Saa$;%A$>$$HT.=QA=$$";
-        holds(&rt, rt.alloc(), &how, &(stream, typed, ""));
-    }
-}
-
-/// Three pages.
-const PAGES: How = How {
-    input: "a\x0cb\x0cc",
-    ..PLAIN
-};
-
-#[test]
-fn leaves_pages(rt: HostRuntime) {
-    all_hold(
-        &rt,
-        rt.alloc(),
-        &PAGES,
+    ),
+    // A search that fails is a step: where it is the last that the limit allows, the pointer is at 0.
+    (
+        How { limit: 14, ..PLAIN },
+        &[(LAST_SEARCH, "aaaa0\r\n2\r\n", "")],
+    ),
+    (
+        How { limit: 13, ..PLAIN },
+        &[(LAST_SEARCH, "?LIM\r\naaaa0\r\n2\r\n", "")],
+    ),
+    (
+        How { limit: 12, ..PLAIN },
+        &[(LAST_SEARCH, "?LIM\r\naaaa4\r\n2\r\n", "")],
+    ),
+    // Pages.
+    (
+        PAGES,
         &[
             ("YNc$$HT.=$$", "c1\r\n", "a\x0cb\x0c"),
             ("YNc$${$$.=Z=YHT$$", "0\r\n0\r\na", ""),
             ("YNc$${$$}$$HT.=$$", "c1\r\n", "a\x0cb\x0c"),
         ],
-    );
-    let input = "a";
-    let row = ("Y$$Y$$HT^N=$$", "?YCA\r\na-1\r\n", "");
-    holds(&rt, rt.alloc(), &How { input, ..PLAIN }, &row);
-}
-
-/// The last search's result is 0 where `;` leaves.
-#[test]
-fn leaves_pages_to_the_limit(rt: HostRuntime) {
-    let how = How { limit: 5, ..PAGES };
-    let stream = "YNc$$HT.=$$1<;1=>2=$$";
-    let row = (stream, "?LIM\r\nc0\r\n2\r\n", "a\x0cb\x0c");
-    holds(&rt, rt.alloc(), &how, &row);
-    for (limit, stream, typed, output) in [
-        (3, "2P$$HT$$.=$$", "b0\r\n", "a\x0c"),
-        (2, "2P$$HT$$", "?LIM\r\na", ""),
-        (2, "Y_b$$", "?LIM\r\n", ""),
-        (
-            3,
-            "Y_b$$HT$$.=$$ZJIb$$J:S$=$$.=$$",
-            "?YCA\r\na0\r\n-1\r\n2\r\n",
-            "",
-        ),
-    ] {
-        let how = How {
-            limit,
-            input: "a\x0cb",
+    ),
+    (
+        How {
+            input: "a",
             ..PLAIN
-        };
-        holds(&rt, rt.alloc(), &how, &(stream, typed, output));
-    }
-}
+        },
+        &[("Y$$Y$$HT^N=$$", "?YCA\r\na-1\r\n", "")],
+    ),
+    // Pages to the limit. The last search's result is 0 where `;` leaves.
+    (
+        How { limit: 5, ..PAGES },
+        &[("YNc$$HT.=$$1<;1=>2=$$", "?LIM\r\nc0\r\n2\r\n", "a\x0cb\x0c")],
+    ),
+    (
+        How {
+            limit: 3,
+            ..TWO_PAGES
+        },
+        &[
+            ("2P$$HT$$.=$$", "b0\r\n", "a\x0c"),
+            (
+                "Y_b$$HT$$.=$$ZJIb$$J:S$=$$.=$$",
+                "?YCA\r\na0\r\n-1\r\n2\r\n",
+                "",
+            ),
+        ],
+    ),
+    (
+        How {
+            limit: 2,
+            ..TWO_PAGES
+        },
+        &[("2P$$HT$$", "?LIM\r\na", ""), ("Y_b$$", "?LIM\r\n", "")],
+    ),
+    // The output.
+    (
+        How {
+            input: "one\n\x0ctwo\n",
+            ..EXIT
+        },
+        &[("Y$$P$${$$EX$$", "", "one\n\x0ctwo\n")],
+    ),
+    (
+        How {
+            input: "hi\n",
+            ..EXIT
+        },
+        &[("Y$$Z=$$EX$$", "3\r\n", "hi\n")],
+    ),
+];
 
 #[test]
-fn leaves_the_output(rt: HostRuntime) {
-    let served = Served::Exit;
-    for (input, stream, typed) in [
-        ("one\n\x0ctwo\n", "Y$$P$${$$EX$$", ""),
-        ("hi\n", "Y$$Z=$$EX$$", "3\r\n"),
-    ] {
-        let how = How {
-            input,
-            served,
-            ..PLAIN
-        };
-        holds(&rt, rt.alloc(), &how, &(stream, typed, input));
-    }
+fn leaves_what_the_rows_say(rt: HostRuntime) {
+    all_hold(&rt, rt.alloc(), &GROUPS);
 }
