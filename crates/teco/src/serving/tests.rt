@@ -1,7 +1,6 @@
 //! What is typed and written at streams of commands, and how serving them ends.
 use super::*;
 use crate::memory_source::MemorySource;
-use crate::tests::bytes::joined;
 use std::process::Abort;
 use teco_core::{DEPTH_LIMIT, FILE_LIMIT, NoMemory};
 use teco_step::MemoryTerminal;
@@ -50,8 +49,8 @@ type Row<'a> = (&'a str, &'a str, &'a str);
 type Group<'a> = (How<'a>, &'a [Row<'a>]);
 
 /// The bytes of a stream.
-fn bytes_of(alloc: Global, stream: &[u8]) -> Vec<u8> {
-    let mut bytes = joined(alloc, &[stream]);
+fn bytes_of(alloc: Global, stream: &[u8]) -> Result<Vec<u8>, NoMemory> {
+    let mut bytes = Vec::from_slice(alloc, stream)?;
     for byte in bytes.iter_mut() {
         match *byte {
             b'$' => *byte = 27,
@@ -59,7 +58,7 @@ fn bytes_of(alloc: Global, stream: &[u8]) -> Vec<u8> {
             _ => {}
         }
     }
-    bytes
+    Ok(bytes)
 }
 
 /// The places at which so many bytes are cut into single ones, or none.
@@ -81,12 +80,13 @@ fn source_of(
     fails: bool,
 ) -> Result<MemorySource, NoMemory> {
     let cuts = cuts_of(alloc, stream.len(), single)?;
-    Ok(MemorySource::new(bytes_of(alloc, stream), cuts, fails))
+    let bytes = bytes_of(alloc, stream)?;
+    Ok(MemorySource::new(bytes, cuts, fails))
 }
 
 /// A session over an input, whose history has this depth, if one is given.
 fn session_over(alloc: Global, input: &str, depth: Option<usize>) -> Option<Session> {
-    let input = joined(alloc, &[input.as_bytes()]);
+    let input = Vec::from_slice(alloc, input.as_bytes()).ok()?;
     if input.len() > FILE_LIMIT {
         return None;
     }

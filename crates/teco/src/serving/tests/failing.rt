@@ -127,13 +127,10 @@ fn are_served_alike(alloc: Global, reader: FailAfter, source: &mut MemorySource)
         && left.as_slice() == other.as_slice()
 }
 
-fn reads_once(alloc: Global, front: &[u8]) -> bool {
-    match source_of(alloc, front, true, false) {
-        Ok(mut source) => {
-            are_served_alike(alloc, FailAfter::new(bytes_of(alloc, front)), &mut source)
-        }
-        Err(NoMemory) => false,
-    }
+fn reads_once(alloc: Global, front: &[u8]) -> Result<bool, NoMemory> {
+    let reader = FailAfter::new(bytes_of(alloc, front)?);
+    let mut source = source_of(alloc, front, true, false)?;
+    Ok(are_served_alike(alloc, reader, &mut source))
 }
 
 /// Whether what comes before the failed read is served, wherever that is; where memory was refused, the second time.
@@ -141,7 +138,8 @@ fn each_read_fails(alloc: Global, stream: &[u8]) -> bool {
     let mut held = true;
     for read in 0..=stream.len() {
         let front = &stream[..read];
-        held = (reads_once(alloc, front) || reads_once(alloc, front)) && held;
+        let read = reads_once(alloc, front) == Ok(true) || reads_once(alloc, front) == Ok(true);
+        held = read && held;
     }
     held
 }
@@ -158,12 +156,13 @@ fn serves_up_to_a_failure(rt: HostRuntime) {
 /// Whether a serving on a terminal that takes nothing fails at what the first string types, and leaves this byte to be read next.
 fn stops_before(alloc: Global, source: &mut MemorySource, byte: u8) -> bool {
     let mut session = session_over(alloc, b"");
-    let mut writer = failing_after(alloc, 0);
-    let mut room = [0];
-    serve_on(alloc, source, &mut session, &mut writer) == Served::ShowFault
+    let mut room: [u8; 0] = [];
+    let mut term = WriterTerminal::new(room.as_mut_slice());
+    let mut next = [0];
+    serve(alloc, source, &mut session, 1000, false, &mut term) == Served::ShowFault
         && session.strings() == 1
-        && matches!(source.read(&mut room), Ok(1))
-        && room[0] == byte
+        && matches!(source.read(&mut next), Ok(1))
+        && next[0] == byte
 }
 
 fn stops_before_the_next_read(alloc: Global) -> bool {
