@@ -16,8 +16,8 @@ while [ $i -lt 1000 ]; do tags="$tags!t$i!"; i=$((i + 1)); done
 
 # 5,000,000 turns of a loop that counts
 printf '5000000<%%A>%s%s' "$esc" "$esc" > "$work/count"
-# 1,000,000 calls of a macro that counts
-printf '@^UA/%%B/1000000<MA>%s%s' "$esc" "$esc" > "$work/call"
+# 5,000,000 calls of a macro that counts: as many, since perl's clock counts user time in hundredths of a second
+printf '@^UA/%%B/5000000<MA>%s%s' "$esc" "$esc" > "$work/call"
 # 2,000 jumps back to a tag that comes after 1,000 others
 printf '%s!a!%%A-2000"LOa%s%s%s%s' "$tags" "$esc" "'" "$esc" "$esc" > "$work/find"
 # 2,000 jumps back to a tag that comes before 1,000 others
@@ -36,7 +36,7 @@ for round in 1 2 3 4 5; do
         [ -z "$other" ] || echo "$what other $(user "$work/$what" "$other" --limit 1000000000000 "$work/in")" >> "$work/times"
     done
     echo "count perl $(user /dev/null perl -e 'while (++$i <= 5000000) { $r{A}++ }')" >> "$work/times"
-    echo "call perl $(user /dev/null perl -e 'sub b { $b++ } while (++$i <= 1000000) { b() }')" >> "$work/times"
+    echo "call perl $(user /dev/null perl -e 'sub b { $b++ } while (++$i <= 5000000) { b() }')" >> "$work/times"
 done
 awk '{
     key = $1 " " $2
