@@ -18,6 +18,7 @@ pub use code::Code;
 pub use laws::argument_laws;
 pub use limits::{
     BLOCK_LIMIT, CALL_LIMIT, DEPTH_LIMIT, FILE_LIMIT, PARENTHESIS_LIMIT, PUSHED_LIMIT, TEXT_LIMIT,
+    limit_values,
 };
 pub use number::{Op, decimal, operation};
 pub use push_down::PushList;

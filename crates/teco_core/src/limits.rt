@@ -1,4 +1,5 @@
 //! The limits of the language, in one place.
+ghost use Rattle.std.specs.Prelude.{◌≡◌};
 
 /// The most parentheses that may be open.
 pub const PARENTHESIS_LIMIT: usize = 16;
@@ -20,3 +21,14 @@ pub const FILE_LIMIT: usize = 1 << 30;
 
 /// The most strings that a session with a bounded history can be asked to keep.
 pub const DEPTH_LIMIT: usize = 100_000;
+
+/// The limits as numbers. The call does nothing.
+pub fn limit_values()
+    ensures parentheses { PARENTHESIS_LIMIT ≡ 16 }
+    ensures calls { CALL_LIMIT ≡ 32 }
+    ensures blocks { BLOCK_LIMIT ≡ 64 }
+    ensures pushed { PUSHED_LIMIT ≡ 64 }
+    ensures text { TEXT_LIMIT ≡ 16777216 }
+    ensures file { FILE_LIMIT ≡ 1073741824 }
+    ensures depth { DEPTH_LIMIT ≡ 100000 }
+{}
