@@ -11,8 +11,8 @@ use Rattle.teco_search.specs.declared.element.Element.TheVariants.{Among, Except
 use Rattle.teco_search.specs.Anchor.{begins, AreSingle, IsAnchored, FindsLastBelow}
 use Rattle.teco_search.specs.ByteSet.{AreBytes, contains}
 use Rattle.teco_search.specs.Element.{is_blank, admits}
-use Rattle.teco_search.specs.Occurrence.{Span, looked_for, end_of_byte, blanks_at, element_end, match_end, before, backward, BeginsBackward}
-use Rattle.teco_search.proofs.Occurring.{before-none, before-some, backward-none, backward-some}
+use Rattle.teco_search.specs.Occurrence.{Span, looked_for, end_of_byte, blanks_at, element_end, match_end, backward_ending_by, backward, BeginsBackward}
+use Rattle.teco_search.proofs.Occurring.{ending_by-none, ending_by-some, backward-none, backward-some}
 use Rattle.teco_search.proofs.Past.{element_past, match_from, match_past, none_from}
 use Rattle.teco_search.proofs.Runs.{blanks_stop, blanks_none}
 
@@ -103,10 +103,10 @@ module _ (mode : CaseMode) (es : List Element) (anchor : Anchor) (anchored : IsA
       let highest = last.1 j q (record { matches = is; low = into j by (anchor_within j q is); ends = (matches_long j q is).1 }) in absurd (omega arith)))
 
   -- The last match that ends at or before a place.
-  pub begins_by_end : (to : ℕ) (r : Option Span) → FindsLastBelow (looked_for mode es) text anchor.offset to to r → BeginsBackward (looked_for mode es) text (before (looked_for mode es) text to) r
-  begins_by_end to None last = before-none (looked_for mode es) text some to (λ k q below is.
+  pub begins_by_end : (to : ℕ) (r : Option Span) → FindsLastBelow (looked_for mode es) text anchor.offset to to r → BeginsBackward (looked_for mode es) text (backward_ending_by (looked_for mode es) text to) r
+  begins_by_end to None last = ending_by-none (looked_for mode es) text some to (λ k q below is.
       ⊎_elim (λ beyond. beyond) (λ by. let past = anchor_past k q is in absurd (last k q (record { matches = is; low = omega arith; ends = by }))) (cases_lt to q))
-  begins_by_end to (Some m) last = before-some (looked_for mode es) text some to m.0 m.1 last.0.matches last.0.ends (λ j q above below is.
+  begins_by_end to (Some m) last = ending_by-some (looked_for mode es) text some to m.0 m.1 last.0.matches last.0.ends (λ j q above below is.
       ⊎_elim (λ beyond. beyond) (λ by.
       let past = anchor_past j q is in
       let highest = last.1 j q (record { matches = is; low = omega arith; ends = by }) in absurd (omega arith)) (cases_lt to q))

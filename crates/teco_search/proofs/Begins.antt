@@ -11,10 +11,10 @@ use Rattle.teco_search.specs.declared.search.Forward.TheVariants as forwards
 use Rattle.teco_search.specs.declared.search.Backward.{Backward}
 use Rattle.teco_search.specs.declared.search.Backward.TheVariants as backwards
 use Rattle.teco_search.specs.Literal.{plain, is_exact, IsLiteral}
-use Rattle.teco_search.specs.Occurrence.{looked_for, match_end, forward, before, backward}
+use Rattle.teco_search.specs.Occurrence.{looked_for, match_end, forward, backward_ending_by, backward}
 use Rattle.teco_search.specs.Search.{sought_forward, sought_backward, IsReadyForward, IsReadyBackward}
 use Rattle.teco_search.proofs.Past.{match_past}
-use Rattle.teco_search.proofs.Occurring.{forward-none, forward-some, before-none, before-some, backward-none, backward-some}
+use Rattle.teco_search.proofs.Occurring.{forward-none, forward-some, ending_by-none, ending_by-some, backward-none, backward-some}
 use Rattle.teco_search.proofs.Literals.{literal_hit, literal_only, literal_none}
 
 -- what a search that is ready for bytes holds
@@ -53,17 +53,17 @@ module _ (mode : CaseMode) (bytes text : List ℕ) (some : 0 < length bytes) (ex
       forward-some (looked_for mode (map plain bytes)) text several from s (s + length bytes) found.0.low (literal_hit mode text bytes s exact found.1)
       (λ j low below. literal_none mode text bytes j some exact (found.0.before j low below))
 
-  pub literal_before-none : (to : ℕ) → FindsLastNeedleBy text bytes to None → before (looked_for mode (map plain bytes)) text to ≡ []
-  literal_before-none to none =
-      before-none (looked_for mode (map plain bytes)) text several to (λ k q below is.
+  pub literal_ending_by-none : (to : ℕ) → FindsLastNeedleBy text bytes to None → backward_ending_by (looked_for mode (map plain bytes)) text to ≡ []
+  literal_ending_by-none to none =
+      ending_by-none (looked_for mode (map plain bytes)) text several to (λ k q below is.
       let here = tells k q is in
       ⊎_elim (λ beyond. beyond) (λ by. absurd (none k (omega arith) (omega (arith, here.1)) here.0)) (cases_lt to q))
 
-  pub literal_before-some :
+  pub literal_ending_by-some :
       (to s : ℕ) → FindsLastNeedleBy text bytes to (Some s)
-      → before (looked_for mode (map plain bytes)) text to ≡ (s, s + length bytes) ∷ before (looked_for mode (map plain bytes)) text s
-  literal_before-some to s found =
-      before-some (looked_for mode (map plain bytes)) text several to s (s + length bytes) (literal_hit mode text bytes s exact found.1) (omega (arith, found.0.high))
+      → backward_ending_by (looked_for mode (map plain bytes)) text to ≡ (s, s + length bytes) ∷ backward_ending_by (looked_for mode (map plain bytes)) text s
+  literal_ending_by-some to s found =
+      ending_by-some (looked_for mode (map plain bytes)) text several to s (s + length bytes) (literal_hit mode text bytes s exact found.1) (omega (arith, found.0.high))
       (λ j q above below is.
       let here = tells j q is in
       ⊎_elim (λ beyond. beyond) (λ by. absurd (found.0.after j (omega arith) (omega (arith, here.1)) here.0)) (cases_lt to q))
@@ -77,7 +77,7 @@ module _ (mode : CaseMode) (bytes text : List ℕ) (some : 0 < length bytes) (ex
 
   pub literal_backward-some :
       (from to s : ℕ) → to ≡ from + min (length bytes) (length text - from) → FindsLastNeedleBy text bytes to (Some s)
-      → backward (looked_for mode (map plain bytes)) text from ≡ (s, s + length bytes) ∷ before (looked_for mode (map plain bytes)) text s
+      → backward (looked_for mode (map plain bytes)) text from ≡ (s, s + length bytes) ∷ backward_ending_by (looked_for mode (map plain bytes)) text s
   literal_backward-some from to s is found =
       let high = found.0.high in
       backward-some (looked_for mode (map plain bytes)) text several from s (s + length bytes) (omega arith) (literal_hit mode text bytes s exact found.1)

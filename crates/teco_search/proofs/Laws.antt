@@ -5,10 +5,10 @@ use Rattle.std.proofs.lemmas.Bool.{cases_Bool, cases_eq, cases_lt, leb-true, leb
 use Rattle.std.proofs.lemmas.List.Elements.{All-nil, All-cons, All-weaker}
 use Rattle.std.proofs.lemmas.List.Kept.{AllPairs-cons}
 use Rattle.std.proofs.lemmas.Option.{none-some, same_Some}
-use Rattle.teco_search.specs.Occurrence.{Sought, Span, match_end, forward, before, backward}
-use Rattle.teco_search.specs.Law.{MatchesTo, FindsNext, FindsLastBy, AreForward, AreBefore, AreBackward}
+use Rattle.teco_search.specs.Occurrence.{Sought, Span, match_end, forward, backward_ending_by, backward}
+use Rattle.teco_search.specs.Law.{MatchesTo, FindsNext, FindsLastBy, AreForward, AreBackwardEndingBy, AreBackward}
 use Rattle.teco_search.proofs.Past.{none_from}
-use Rattle.teco_search.proofs.Occurring.{ends_past, forward-none, forward-some, before-none, before-some, backward-none, backward-some}
+use Rattle.teco_search.proofs.Occurring.{ends_past, forward-none, forward-some, ending_by-none, ending_by-some, backward-none, backward-some}
 
 -- the first place from one on where a function gives something
 pub record FirstAt (f : ℕ → Option ℕ) (from end : ℕ) : Type 0 where
@@ -111,18 +111,18 @@ module _ (sought : Sought) (text : List ℕ) (some : 0 < length sought.elements)
   pub forward_law : (from : ℕ) (ms : List Span) → (AreForward sought text from ms → ms ≡ forward sought text from) × (ms ≡ forward sought text from → AreForward sought text from ms)
   forward_law from ms = (only_forward from ms, λ same. subst (AreForward sought text from) (sym same) (are_forward (length text) from (omega arith)))
 
-  are_before : (n to : ℕ) → to ≤ n → AreBefore sought text to (before sought text to)
-  unfolding AreBefore
-  are_before zero to room =
-      rw (before-none sought text some to (λ k q high is. absurd (omega arith))) (λ k q by is. let ends = long k q is in absurd (omega (arith, ends.0)))
-  are_before (suc n) to room =
+  are_ending_by : (n to : ℕ) → to ≤ n → AreBackwardEndingBy sought text to (backward_ending_by sought text to)
+  unfolding AreBackwardEndingBy
+  are_ending_by zero to room =
+      rw (ending_by-none sought text some to (λ k q high is. absurd (omega arith))) (λ k q by is. let ends = long k q is in absurd (omega (arith, ends.0)))
+  are_ending_by (suc n) to room =
       ⊎_elim
-      (λ none. rw (before-none sought text some to (λ k q high is. let ends = long k q is in leb-false q to (none k q (omega (arith, ends.0, ends.1)) is))) (λ k q by is.
+      (λ none. rw (ending_by-none sought text some to (λ k q high is. let ends = long k q is in leb-false q to (none k q (omega (arith, ends.0, ends.1)) is))) (λ k q by is.
       let ends = long k q is in absurd (both_ways (nat_le q to) (none k q (omega (arith, ends.0, ends.1)) is) (le-leb q to by))))
       (λ (last : LastAt (match_end sought.mode sought.elements text) (λ k q. nat_le q to) (length text)).
       let ends = long last.place last.value last.is in
       let by : last.value ≤ to = leb-true last.value to last.here in
-      rw (before-some sought text some to last.place last.value last.is by (λ j q above high is. let later = long j q is in leb-false q to (last.none j q above (omega (arith, later.0, later.1)) is))) (
+      rw (ending_by-some sought text some to last.place last.value last.is by (λ j q above high is. let later = long j q is in leb-false q to (last.none j q above (omega (arith, later.0, later.1)) is))) (
         record {
           matches = last.is;
           ends = by;
@@ -130,17 +130,17 @@ module _ (sought : Sought) (text : List ℕ) (some : 0 < length sought.elements)
               (λ beyond. let later = long k q is in absurd (both_ways (nat_le q to) (last.none k q beyond (omega (arith, later.0, later.1)) is) (le-leb q to within)))
               (λ early. early) (cases_lt last.place k);
         },
-        are_before n last.place (omega (arith, ends.0)),
+        are_ending_by n last.place (omega (arith, ends.0)),
       ))
       (last_at (match_end sought.mode sought.elements text) (λ k q. nat_le q to) (length text))
 
-  only_before : (to : ℕ) (ms : List Span) → AreBefore sought text to ms → ms ≡ before sought text to
-  unfolding AreBefore
-  only_before to [] none = sym (before-none sought text some to (λ k q high is. ⊎_elim (λ beyond. beyond) (λ by. absurd (none k q by is)) (cases_lt to q)))
-  only_before to (m ∷ ms) are =
+  only_ending_by : (to : ℕ) (ms : List Span) → AreBackwardEndingBy sought text to ms → ms ≡ backward_ending_by sought text to
+  unfolding AreBackwardEndingBy
+  only_ending_by to [] none = sym (ending_by-none sought text some to (λ k q high is. ⊎_elim (λ beyond. beyond) (λ by. absurd (none k q by is)) (cases_lt to q)))
+  only_ending_by to (m ∷ ms) are =
       let last = are.0 in
-      ap (λ os. m ∷ os) (only_before m.0 ms are.1)
-      ∙ sym (before-some sought text some to m.0 m.1 last.matches last.ends (λ j q above high is.
+      ap (λ os. m ∷ os) (only_ending_by m.0 ms are.1)
+      ∙ sym (ending_by-some sought text some to m.0 m.1 last.matches last.ends (λ j q above high is.
       ⊎_elim (λ beyond. beyond) (λ by. let highest = last.highest j q by is in absurd (omega arith)) (cases_lt to q)))
 
   are_backward : (from : ℕ) → AreBackward sought text from (backward sought text from)
@@ -160,7 +160,7 @@ module _ (sought : Sought) (text : List ℕ) (some : 0 < length sought.elements)
               (λ beyond. let later = long k q is in absurd (both_ways (nat_le k from) (last.none k q beyond (omega (arith, later.0, later.1)) is) (le-leb k from within)))
               (λ early. early) (cases_lt last.place k);
         },
-        are_before last.place last.place (omega arith),
+        are_ending_by last.place last.place (omega arith),
       ))
       (last_at (match_end sought.mode sought.elements text) (λ k q. nat_le k from) (length text))
 
@@ -169,7 +169,7 @@ module _ (sought : Sought) (text : List ℕ) (some : 0 < length sought.elements)
   only_backward from [] none = sym (backward-none sought text some from (λ k by high. none_from (match_end sought.mode sought.elements text k) (λ q is. none k q by is)))
   only_backward from (m ∷ ms) are =
       let last = are.0 in
-      ap (λ os. m ∷ os) (only_before m.0 ms are.1)
+      ap (λ os. m ∷ os) (only_ending_by m.0 ms are.1)
       ∙ sym (backward-some sought text some from m.0 m.1 last.by last.matches (λ j above within high.
       none_from (match_end sought.mode sought.elements text j) (λ q is. let highest = last.highest j q within is in absurd (omega arith))))
 
@@ -194,16 +194,16 @@ module _ (sought : Sought) (text : List ℕ) (some : 0 < length sought.elements)
   rising from = rise from (forward sought text from) (are_forward (length text) from (omega arith))
 
   -- Backward they fall and don't overlap.
-  all_before : (to : ℕ) (ms : List Span) → AreBefore sought text to ms → All (λ o. o.1 ≤ to) ms
-  unfolding AreBefore
+  all_before : (to : ℕ) (ms : List Span) → AreBackwardEndingBy sought text to ms → All (λ o. o.1 ≤ to) ms
+  unfolding AreBackwardEndingBy
   all_before to [] are = All-nil (λ o. o.1 ≤ to)
   all_before to (m ∷ ms) are =
       let last = are.0 in
       let ends = long m.0 m.1 last.matches in
       All-cons (λ o. o.1 ≤ to) m ms last.ends (All-weaker (λ o. o.1 ≤ m.0) (λ o. o.1 ≤ to) (λ o earlier. omega (arith, last.ends, ends.0)) ms (all_before m.0 ms are.1))
 
-  fall : (to : ℕ) (ms : List Span) → AreBefore sought text to ms → AllPairs (λ m o. o.1 ≤ m.0) ms
-  unfolding AreBefore
+  fall : (to : ℕ) (ms : List Span) → AreBackwardEndingBy sought text to ms → AllPairs (λ m o. o.1 ≤ m.0) ms
+  unfolding AreBackwardEndingBy
   fall to [] are = λ i j d below inside. absurd (omega arith)
   fall to (m ∷ ms) are = AllPairs-cons (λ a b. b.1 ≤ a.0) m ms (all_before m.0 ms are.1) (fall m.0 ms are.1)
 
@@ -239,17 +239,17 @@ module _ (sought : Sought) (text : List ℕ) (some : 0 < length sought.elements)
   long_forward zero from (m ∷ ms) are = long m.0 m.1 are.0.matches
   long_forward (suc n) from (m ∷ ms) are = long_forward n m.1 ms are.1
 
-  long_before : (n to : ℕ) (ms : List Span) → AreBefore sought text to ms → IfSome (slice_get ms n) (λ m. (m.0 < m.1) × (m.1 ≤ length text))
-  unfolding AreBefore
-  long_before n to [] are = tt
-  long_before zero to (m ∷ ms) are = long m.0 m.1 are.0.matches
-  long_before (suc n) to (m ∷ ms) are = long_before n m.0 ms are.1
+  long_ending_by : (n to : ℕ) (ms : List Span) → AreBackwardEndingBy sought text to ms → IfSome (slice_get ms n) (λ m. (m.0 < m.1) × (m.1 ≤ length text))
+  unfolding AreBackwardEndingBy
+  long_ending_by n to [] are = tt
+  long_ending_by zero to (m ∷ ms) are = long m.0 m.1 are.0.matches
+  long_ending_by (suc n) to (m ∷ ms) are = long_ending_by n m.0 ms are.1
 
   long_backward : (n from : ℕ) (ms : List Span) → AreBackward sought text from ms → IfSome (slice_get ms n) (λ m. (m.0 < m.1) × (m.1 ≤ length text))
   unfolding AreBackward
   long_backward n from [] are = tt
   long_backward zero from (m ∷ ms) are = long m.0 m.1 are.0.matches
-  long_backward (suc n) from (m ∷ ms) are = long_before n m.0 ms are.1
+  long_backward (suc n) from (m ∷ ms) are = long_ending_by n m.0 ms are.1
 
   pub nth_forward_long : (n from : ℕ) → IfSome (slice_get (forward sought text from) n) (λ m. (m.0 < m.1) × (m.1 ≤ length text))
   nth_forward_long n from = long_forward n from (forward sought text from) (are_forward (length text) from (omega arith))

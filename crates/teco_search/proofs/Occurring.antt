@@ -2,7 +2,7 @@
 use Rattle.std.proofs.Common.{◌≡◌, ℕ, ◌<◌, ◌≤◌, List, [], ◌∷◌, length, Option, Some, None, sym, ◌∙◌, arith, ⊎_elim}
 use Rattle.std.proofs.lemmas.Bool.{lt-leb, le-leb, cases_lt}
 use Rattle.std.proofs.lemmas.Option.{none-some}
-use Rattle.teco_search.specs.Occurrence.{Sought, starts_by, ends_by, match_end, match_at, matches, forward, before, backward}
+use Rattle.teco_search.specs.Occurrence.{Sought, starts_by, ends_by, match_end, match_at, matches, forward, backward_ending_by, backward}
 use Rattle.teco_search.proofs.Choosing.{forward_none, forward_hit, backward_none, backward_hit}
 use Rattle.teco_search.proofs.Past.{EndsPast, match_past, match_at-hit, match_at-none, match_at-start, placed}
 
@@ -26,19 +26,19 @@ module _ (sought : Sought) (text : List ℕ) (some : 0 < length sought.elements)
       forward_hit (match_at sought text) (placed sought text some) (length text) from k (k, q) low (omega (arith, ends.past, ends.within)) (match_at-hit sought text k q is)
       (λ j a b. match_at-none sought text j (none j a b))
 
-  pub before-none : (to : ℕ) → ((k q : ℕ) → k < to → match_end sought.mode sought.elements text k ≡ Some q → to < q) → before sought text to ≡ []
-  unfolding before matches
-  before-none to none =
+  pub ending_by-none : (to : ℕ) → ((k q : ℕ) → k < to → match_end sought.mode sought.elements text k ≡ Some q → to < q) → backward_ending_by sought text to ≡ []
+  unfolding backward_ending_by matches
+  ending_by-none to none =
       backward_none (match_at sought text) (placed sought text some) (length text) (ends_by to) (λ k m high is.
       let here = match_at-start sought text k m is in
       let ends = ends_past k m.1 here.1 in
       lt-leb m.1 to (⊎_elim (λ below. none k m.1 below here.1) (λ above. omega (arith, ends.past)) (cases_lt k to)))
 
-  pub before-some :
+  pub ending_by-some :
       (to k q : ℕ) → match_end sought.mode sought.elements text k ≡ Some q → q ≤ to → ((j r : ℕ) → k < j → j < to → match_end sought.mode sought.elements text j ≡ Some r → to < r)
-      → before sought text to ≡ (k, q) ∷ before sought text k
-  unfolding before matches
-  before-some to k q is low none =
+      → backward_ending_by sought text to ≡ (k, q) ∷ backward_ending_by sought text k
+  unfolding backward_ending_by matches
+  ending_by-some to k q is low none =
       let ends = ends_past k q is in
       backward_hit (match_at sought text) (placed sought text some) (length text) (ends_by to) k (k, q) (omega (arith, ends.past, ends.within)) (match_at-hit sought text k q is) (le-leb q to low)
       (λ j o above high at.
@@ -55,8 +55,8 @@ module _ (sought : Sought) (text : List ℕ) (some : 0 < length sought.elements)
 
   pub backward-some :
       (from k q : ℕ) → k ≤ from → match_end sought.mode sought.elements text k ≡ Some q → ((j : ℕ) → k < j → j ≤ from → j < length text → match_end sought.mode sought.elements text j ≡ None)
-      → backward sought text from ≡ (k, q) ∷ before sought text k
-  unfolding backward before matches
+      → backward sought text from ≡ (k, q) ∷ backward_ending_by sought text k
+  unfolding backward backward_ending_by matches
   backward-some from k q low is none =
       let ends = ends_past k q is in
       backward_hit (match_at sought text) (placed sought text some) (length text) (starts_by from) k (k, q) (omega (arith, ends.past, ends.within)) (match_at-hit sought text k q is) (le-leb k from low)

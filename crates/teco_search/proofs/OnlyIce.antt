@@ -13,7 +13,7 @@ use Rattle.teco_search.specs.declared.element.OneByte.TheVariants as one
 use Rattle.teco_search.specs.declared.element.Element.{Element}
 use Rattle.teco_search.specs.declared.element.Element.TheVariants as element
 use Rattle.teco_core.specs.Ascii.{upper}
-use Rattle.teco_search.specs.Reading.{Reading, occurs_at, byte_at, class_named, is_refused, item_by, item_at, listed_at, after_item, items_at, one_byte_at, element_at, elements_at}
+use Rattle.teco_search.specs.Reading.{Reading, occurs_at, byte_at, class_named, is_no_item, item_by, item_at, listed_at, after_item, items_at, one_byte_at, element_at, elements_at}
 
 abbrev pub OnlyIce : {A : Type 0} → Result A Code → Type 0
 OnlyIce (Ok x) = Unit {0}
@@ -57,7 +57,7 @@ module _ (text : List ℕ) where
       (either_ice (eqb b 5) (byte_at text (at + 1) >>= (λ x. class_named (upper x) >>= (λ k. let r : Reading Item = Ok (item.Class k, at + 1 + 1) in r))) _
       (then_ice (byte_at text (at + 1)) (λ x. class_named (upper x) >>= (λ k. let r : Reading Item = Ok (item.Class k, at + 1 + 1) in r)) (byte_ice (at + 1)) (λ x.
       then_ice (class_named (upper x)) (λ k. let r : Reading Item = Ok (item.Class k, at + 1 + 1) in r) (named_ice (upper x)) (λ k. tt)))
-      (either_ice (eqb b 24) (Ok (item.Class class.Any, at + 1)) _ tt (either_ice (eqb b 19) (Ok (item.Class class.Other, at + 1)) _ tt (either_ice (is_refused b) (Err Ice) (Ok (item.Byte b, at + 1)) refl tt)))))
+      (either_ice (eqb b 24) (Ok (item.Class class.Any, at + 1)) _ tt (either_ice (eqb b 19) (Ok (item.Class class.Other, at + 1)) _ tt (either_ice (is_no_item b) (Err Ice) (Ok (item.Byte b, at + 1)) refl tt)))))
 
   listed_ice : (at : ℕ) → OnlyIce (listed_at text at)
   unfolding listed_at

@@ -15,7 +15,7 @@ use Rattle.teco_search.specs.declared.element.OneByte.TheVariants as one
 use Rattle.teco_search.specs.declared.element.Element.{Element}
 use Rattle.teco_search.specs.declared.element.Element.TheVariants as element
 use Rattle.teco_core.specs.Ascii.{upper}
-use Rattle.teco_search.specs.Reading.{Reading, occurs_at, byte_at, class_named, is_refused, item_by, item_at, listed_at, after_item, items_at, one_byte_at, element_at, elements_at}
+use Rattle.teco_search.specs.Reading.{Reading, occurs_at, byte_at, class_named, is_no_item, item_by, item_at, listed_at, after_item, items_at, one_byte_at, element_at, elements_at}
 use Rattle.teco_search.specs.Spelling.{SpellsItem, SpellsListed, SpellsItems, SpellsOne, SpellsElement, Spells, letter_of}
 use Rattle.teco_search.proofs.Fronts.{bind_ok, front_some, some_front, byte_some, occurs_some, some_occurs}
 use Rattle.teco_search.proofs.Literals.{read_by, read_none}
@@ -106,7 +106,7 @@ module _ (text : List ℕ) where
           let second = or_parts (eqb c 14) (eqb c 18) third.0 in
           let itself = rw (ne_eqb c 17 n17, ne_eqb c 5 n5, ne_eqb c 24 n24, ne_eqb c 19 n19, second.0, second.1, third.1, last.1) at e in
           one_cut at c end i (item.Byte c) here itself (SpellsItem.itself c (rw (ne_eqb c 17 n17, ne_eqb c 5 n5, ne_eqb c 24 n24, ne_eqb c 19 n19, second.0, second.1, third.1, last.1) refl)))
-          (cases_Bool (is_refused c)))
+          (cases_Bool (is_no_item c)))
           (cases_eq c 19))
           (cases_eq c 24)
 

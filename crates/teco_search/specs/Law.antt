@@ -16,13 +16,13 @@ pub record IsNext (sought : Sought) (text : List ℕ) (from : ℕ) (m : Span) : 
   pub least : (k q : ℕ) → from ≤ k → MatchesTo sought text k q → m.0 ≤ k
 
 -- the match of highest start among those that end at or before a place
-pub record IsLastBefore (sought : Sought) (text : List ℕ) (to : ℕ) (m : Span) : Type 0 where
+pub record IsLastEndingBy (sought : Sought) (text : List ℕ) (to : ℕ) (m : Span) : Type 0 where
   pub matches : MatchesTo sought text m.0 m.1
   pub ends : m.1 ≤ to
   pub highest : (k q : ℕ) → q ≤ to → MatchesTo sought text k q → k ≤ m.0
 
 -- the match of highest start at or before a place
-pub record IsLastBy (sought : Sought) (text : List ℕ) (from : ℕ) (m : Span) : Type 0 where
+pub record IsLastStartingBy (sought : Sought) (text : List ℕ) (from : ℕ) (m : Span) : Type 0 where
   pub matches : MatchesTo sought text m.0 m.1
   pub by : m.0 ≤ from
   pub highest : (k q : ℕ) → k ≤ from → MatchesTo sought text k q → k ≤ m.0
@@ -35,22 +35,23 @@ FindsNext sought text from (Some m) = IsNext sought text from m
 -- the match of highest start at or before a place, or none
 abbrev pub FindsLastBy : Sought → List ℕ → ℕ → Option Span → Type 0
 FindsLastBy sought text from None = (k q : ℕ) → k ≤ from → MatchesTo sought text k q → ⊥
-FindsLastBy sought text from (Some m) = IsLastBy sought text from m
+FindsLastBy sought text from (Some m) = IsLastStartingBy sought text from m
 
 -- Forward: each has the least start at or after the end of the one before it, the first at or after a place; and then there is none.
 unfoldable pub AreForward : Sought → List ℕ → ℕ → List Span → Type 0
 AreForward sought text from [] = (k q : ℕ) → from ≤ k → MatchesTo sought text k q → ⊥
 AreForward sought text from (m ∷ ms) = IsNext sought text from m × AreForward sought text m.1 ms
 
--- Backward: each has the highest start of those that end no later than the one before it begins; and then there is none.
-unfoldable pub AreBefore : Sought → List ℕ → ℕ → List Span → Type 0
-AreBefore sought text to [] = (k q : ℕ) → q ≤ to → MatchesTo sought text k q → ⊥
-AreBefore sought text to (m ∷ ms) = IsLastBefore sought text to m × AreBefore sought text m.0 ms
+-- Backward: the first has the highest start of those that end at or before a place, each next of those that end no later than the one before it begins;
+-- and then there is none.
+unfoldable pub AreBackwardEndingBy : Sought → List ℕ → ℕ → List Span → Type 0
+AreBackwardEndingBy sought text to [] = (k q : ℕ) → q ≤ to → MatchesTo sought text k q → ⊥
+AreBackwardEndingBy sought text to (m ∷ ms) = IsLastEndingBy sought text to m × AreBackwardEndingBy sought text m.0 ms
 
--- The first has the highest start at or before a place.
+-- Backward from a place: the first has the highest start at or before it, wherever it ends.
 unfoldable pub AreBackward : Sought → List ℕ → ℕ → List Span → Type 0
 AreBackward sought text from [] = (k q : ℕ) → k ≤ from → MatchesTo sought text k q → ⊥
-AreBackward sought text from (m ∷ ms) = IsLastBy sought text from m × AreBefore sought text m.0 ms
+AreBackward sought text from (m ∷ ms) = IsLastStartingBy sought text from m × AreBackwardEndingBy sought text m.0 ms
 
 -- They don't overlap, and rise or fall.
 abbrev pub AreRising : List Span → Type 0

@@ -68,11 +68,11 @@ ends_by p m = nat_le m.1 p
 unfoldable pub forward : Sought → List ℕ → ℕ → List Span
 forward sought text from = chosen (λ m. starts_from m.1) (starts_from from) (matches sought text)
 
--- Backward: the next has the highest start among those that end no later than the former began.
-unfoldable pub before : Sought → List ℕ → ℕ → List Span
-before sought text to = chosen (λ m. ends_by m.0) (ends_by to) (reverse (matches sought text))
+-- Backward: the first has the highest start among those that end at or before a place; the next, among those that end no later than the former began.
+unfoldable pub backward_ending_by : Sought → List ℕ → ℕ → List Span
+backward_ending_by sought text to = chosen (λ m. ends_by m.0) (ends_by to) (reverse (matches sought text))
 
--- Backward from a place: the first has the highest start at or before it.
+-- Backward from a place: the first has the highest start at or before it, wherever it ends; the next, among those that end no later than the former began.
 unfoldable pub backward : Sought → List ℕ → ℕ → List Span
 backward sought text from = chosen (λ m. ends_by m.0) (starts_by from) (reverse (matches sought text))
 
@@ -90,4 +90,4 @@ BeginsForward sought text from (Some m) = forward sought text from ≡ m ∷ for
 -- Backward occurrences are none, or this one and then those that end no later than it begins.
 abbrev pub BeginsBackward : Sought → List ℕ → List Span → Option Span → Type 0
 BeginsBackward sought text all None = all ≡ []
-BeginsBackward sought text all (Some m) = all ≡ m ∷ before sought text m.0
+BeginsBackward sought text all (Some m) = all ≡ m ∷ backward_ending_by sought text m.0

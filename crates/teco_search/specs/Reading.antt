@@ -34,8 +34,8 @@ class_named b =
     else (if b == 86 then Ok class.LowerCase else (if b == 87 then Ok class.UpperCase else Err Ice)))))))
 
 -- the control bytes that are no item: ^N, ^R, ^V, ^W
-abbrev pub is_refused : ℕ → Bool
-is_refused b = b == 14 || b == 18 || b == 22 || b == 23
+abbrev pub is_no_item : ℕ → Bool
+is_no_item b = b == 14 || b == 18 || b == 22 || b == 23
 
 -- ^Q and a byte, ^E and a letter, ^X, ^S, or a byte itself
 abbrev pub item_by : ℕ → List ℕ → ℕ → Reading Item
@@ -49,7 +49,7 @@ item_by b text at =
       Ok (item.Class named, at + 1))
     else (if b == 24 then Ok (item.Class class.Any, at)
     else (if b == 19 then Ok (item.Class class.Other, at)
-    else (if is_refused b then Err Ice else Ok (item.Byte b, at)))))
+    else (if is_no_item b then Err Ice else Ok (item.Byte b, at)))))
 
 unfoldable pub item_at : List ℕ → ℕ → Reading Item
 item_at text at = do

@@ -34,7 +34,7 @@ pub enum Item {
     Class(Class),
 }
 
-/// The items of a list, at least one.
+/// The items of a list. What is read has at least one.
 #[derive(Drop)]
 pub struct Items {
     items: Vec<Item>,

@@ -1,7 +1,7 @@
 //! Searching for elements, from one place of their anchor to the next.
 ghost use Rattle.std.specs.Prelude.{◌≡◌, ◌+◌, ◌<◌, ◌≤◌, length, IfSome};
 ghost use Rattle.teco_search.specs.Anchor.{IsAnchored, FindsLastBelow};
-ghost use Rattle.teco_search.specs.Occurrence.{looked_for, BeginsForward, BeginsBackward, before, backward};
+ghost use Rattle.teco_search.specs.Occurrence.{looked_for, BeginsForward, BeginsBackward, backward_ending_by, backward};
 
 use crate::anchor::Anchor;
 use crate::element::Element;
@@ -94,7 +94,7 @@ pub(crate) fn last_by_end(
 ) -> Option<(usize, usize)>
     requires anchored { IsAnchored mode elements.now anchor.now }
     requires within { to ≤ length text.now }
-    ensures value { let sought = looked_for mode elements.now in BeginsBackward sought text.now (before sought text.now to) result }
+    ensures value { let sought = looked_for mode elements.now in BeginsBackward sought text.now (backward_ending_by sought text.now to) result }
     ensures within { IfSome result (λ m. (m.0 < m.1) × (m.1 ≤ to)) }
 {
     last_below(mode, elements, anchor, text, to, to)

@@ -1,7 +1,7 @@
 //! The occurrences of a pattern, one after the other.
 ghost use Rattle.std.specs.Prelude.{◌≡◌, ◌+◌, ◌-◌, ◌<◌, ◌≤◌, length, IfErr, IfSome, slice_get};
 ghost use Rattle.std.specs.Result.{result_ok};
-ghost use Rattle.teco_search.specs.Occurrence.{BeginsForward, BeginsBackward, forward, before, backward};
+ghost use Rattle.teco_search.specs.Occurrence.{BeginsForward, BeginsBackward, forward, backward_ending_by, backward};
 ghost use Rattle.teco_search.specs.Search.{sought_forward, sought_backward, IsReadyForward, IsReadyBackward};
 
 use crate::anchor::Anchor;
@@ -111,7 +111,7 @@ fn last_by_start(search: &Backward, text: &Joined, from: usize) -> Option<(usize
 fn last_by_end(search: &Backward, text: &Joined, to: usize) -> Option<(usize, usize)>
     requires ready { IsReadyBackward search.now }
     requires within { to ≤ length text.now }
-    ensures value { let sought = sought_backward search.now in BeginsBackward sought text.now (before sought text.now to) result }
+    ensures value { let sought = sought_backward search.now in BeginsBackward sought text.now (backward_ending_by sought text.now to) result }
     ensures within { IfSome result (λ m. (m.0 < m.1) × (m.1 ≤ to)) }
 {
     match search {
