@@ -9,6 +9,7 @@ pub mod Literals
 pub mod Halves
 pub mod Begins
 pub mod Numbered
+pub mod Plain
 pub mod Laws
 pub mod Fronts
 pub mod ReadIsSpelled

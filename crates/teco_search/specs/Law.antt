@@ -1,6 +1,11 @@
 -- What holds of all occurrences.
-use Rattle.std.specs.Prelude.{◌≡◌, ℕ, ◌<◌, ◌≤◌, List, [], ◌∷◌, length, Option, None, Some, AllPairs}
-use Rattle.teco_search.specs.Occurrence.{Sought, Span, match_end}
+use Rattle.std.specs.Prelude.{◌≡◌, ◌↔◌, ℕ, ◌+◌, ◌<◌, ◌≤◌, false, List, [], ◌∷◌, length, map, Option, None, Some, All, AllPairs, Ok}
+use Rattle.memchr.specs.Find.{OccursAt}
+use Rattle.teco_core.specs.declared.case_mode.CaseMode.TheVariants.{Exact}
+use Rattle.teco_search.specs.Literal.{plain}
+use Rattle.teco_search.specs.Occurrence.{Sought, Span, looked_for, match_end}
+use Rattle.teco_search.specs.Reading.{read}
+use Rattle.teco_search.specs.Spelling.{is_control}
 
 abbrev pub MatchesTo : Sought → List ℕ → ℕ → ℕ → Type 0
 MatchesTo sought text p q = match_end sought.mode sought.elements text p ≡ Some q
@@ -59,3 +64,11 @@ AreRising ms = AllPairs (λ m o. m.1 ≤ o.0) ms
 
 abbrev pub AreFalling : List Span → Type 0
 AreFalling ms = AllPairs (λ m o. o.1 ≤ m.0) ms
+
+-- A search text without controls is read as its bytes, each of them itself.
+abbrev pub ReadsAsItself : List ℕ → Type 0
+ReadsAsItself bytes = All (λ b. is_control b ≡ false) bytes → read bytes ≡ Ok (map plain bytes)
+
+-- In exact case bytes match from p to q exactly where they stand at p, and q is their end.
+abbrev pub MatchesWhereItIs : List ℕ → List ℕ → ℕ → ℕ → Type 0
+MatchesWhereItIs bytes text p q = MatchesTo (looked_for Exact (map plain bytes)) text p q ↔ (OccursAt text bytes p × (q ≡ p + length bytes))

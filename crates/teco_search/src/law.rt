@@ -1,6 +1,6 @@
 //! What holds of all occurrences, whatever is looked for and wherever.
 ghost use Rattle.std.specs.Prelude.{◌↔◌, ◌≡◌, ◌<◌, ℕ, List, length, Ok, Err};
-ghost use Rattle.teco_search.specs.Law.{MatchesAreLong, AreForward, AreBackward, AreRising, AreFalling};
+ghost use Rattle.teco_search.specs.Law.{MatchesAreLong, AreForward, AreBackward, AreRising, AreFalling, ReadsAsItself, MatchesWhereItIs};
 ghost use Rattle.teco_search.specs.Occurrence.{Sought, Span, forward, backward};
 ghost use Rattle.teco_search.specs.Reading.{read};
 ghost use Rattle.teco_search.specs.Spelling.{Spells, SpellsNothing};
@@ -27,4 +27,12 @@ pub fn occurrences()
 pub fn search_texts()
     ensures spelled { (text : List ℕ) (es : List Element) → (read text ≡ Ok es) ↔ Spells text es }
     ensures refused { (text : List ℕ) → (read text ≡ Err Ice) ↔ SpellsNothing text }
+{}
+
+/// The laws of literals: a search text that has no controls, in exact case.
+///
+/// It is read as its bytes, each of them itself. It matches exactly where these bytes are, and its match ends with the last of them.
+pub fn literal_texts()
+    ensures read { (bytes : List ℕ) → ReadsAsItself bytes }
+    ensures matches { (bytes text : List ℕ) (p q : ℕ) → 0 < length bytes → MatchesWhereItIs bytes text p q }
 {}

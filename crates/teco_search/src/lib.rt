@@ -15,5 +15,5 @@ mod run;
 mod search;
 
 pub use element::{Class, Element, Item, Items, OneByte};
-pub use law::{occurrences, search_texts};
+pub use law::{literal_texts, occurrences, search_texts};
 pub use pattern::{Pattern, count, find, find_forward, matches_at};
