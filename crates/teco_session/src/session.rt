@@ -5,7 +5,7 @@ ghost use Rattle.teco_exec.specs.StringMeaning.{string_meaning};
 ghost use Rattle.teco_store.specs.Follows.{Leads};
 ghost use Rattle.teco_store.specs.State.{IsSound, state_of};
 ghost use Rattle.teco_step.specs.Terminal.{Shows};
-ghost use Rattle.teco_session.specs.Answers.{answer_code};
+ghost use Rattle.teco_session.specs.Answers.{answer_code, is_unbegun};
 ghost use Rattle.teco_session.specs.History.{IsHistory, IsWithinDepth, new_history, note_at, present, redone, rewound, state_after, undone};
 ghost use Rattle.teco_session.specs.Kept.{IsSession, IsSmall, HasRun, applied, cut_to, history_of, new_session, reverted, string_at};
 ghost use Rattle.teco_session.specs.Step.{Step, RunStep, Reply, is_terminal_failure};
@@ -219,6 +219,7 @@ impl Session {
         ensures step { (typed : List ℕ) × RunStep limit (history_of self.old) text.now result typed (history_of self.new)
             × Shows (T.screen term.old) (T.screen term.new) typed (is_terminal_failure result) }
         ensures exit { (present (history_of self.old)).is_done ≡ false → (present (history_of self.new)).is_done ≡ true → answer_code result ≡ None }
+        ensures same { is_unbegun result ≡ true → self.new ≡ self.old }
     {
         if self.editor().done() {
             return Answer::AfterExit;

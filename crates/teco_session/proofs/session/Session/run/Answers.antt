@@ -17,6 +17,14 @@ use Rattle.teco_session.proofs.session.Session.run.Goals as goal
 same_history : (f : Full) (xs ys : List KeptString) (c : ℕ) (d e : Option ℕ) (s : KeptSession) → ys ≡ xs → e ≡ d → session_with f xs c d ≡ s → history_of (session_with f ys c e) ≡ history_of s
 same_history f xs ys c d e s same depth view = ap (λ (zs : List KeptString). history_of (session_with f zs c e)) same ∙ ap (λ (k : Option ℕ). history_of (session_with f xs c k)) depth ∙ ap history_of view
 
+-- and so is the session
+same_session : (f : Full) (xs ys : List KeptString) (c : ℕ) (d e : Option ℕ) (s : KeptSession) → ys ≡ xs → e ≡ d → session_with f xs c d ≡ s → session_with f ys c e ≡ s
+same_session f xs ys c d e s same depth view = ap (λ (zs : List KeptString). session_with f zs c e) same ∙ ap (λ (k : Option ℕ). session_with f xs c k) depth ∙ view
+
+pub returns-then-is_err-clause-same : goal.returns-then-is_err-clause-same
+returns-then-is_err-clause-same g c unbegun =
+    same_session c.self.inside.editor _ _ c.self.inside.cursor _ _ c.args.self.now c.reserve.ensures.strings c.reserve.ensures.depth c.self.view_is
+
 -- A string that is not begun changes nothing.
 pub returns-then-done-clause-step : goal.returns-then-done-clause-step
 returns-then-done-clause-step g c = ([], (ap (λ (s : State). s.is_done) (sym c.editor.ensures.present) ∙ sym c.done.ensures ∙ c.if-done.true, refl, refl), Shows-nil _)
