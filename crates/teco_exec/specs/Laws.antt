@@ -4,6 +4,7 @@ use Rattle.teco_core.specs.declared.code.Code.{Code}
 use Rattle.teco_core.specs.declared.code.Code.TheVariants as code
 use Rattle.teco_core.specs.declared.arguments.Taken.TheVariants as taken
 use Rattle.teco_core.specs.Arguments.{taken_from}
+use Rattle.teco_core.specs.declared.limits.TheConstants.{CALL_LIMIT}
 use Rattle.teco_scan.specs.declared.command.Modifiers.{Modifiers}
 use Rattle.teco_scan.specs.declared.command.Test.{Test}
 use Rattle.teco_scan.specs.Scan.{Item}
@@ -59,12 +60,12 @@ stepped_world m i rest w inside n = after (with_fuel w n) (first_effect m i rest
 
 -- What a list comes to where a step of an item has ended so. The string goes on with the rest of the list. Leaving, an exit and an
 -- error end the list. A jump goes to its tag in the list, or leaves it. A call runs the text, one deeper and inside no iteration,
--- and the rest follows where that ends well; inside 32 others it is PDO. A further step is taken, and then the rest follows.
+-- and the rest follows where that ends well; inside CALL_LIMIT others it is PDO. A further step is taken, and then the rest follows.
 abbrev pub comes_to : Nodes → Nodes → Item → Setting → ℕ → World → End → Ran
 comes_to whole rest i setting depth w on = meaning.list whole rest w depth setting.inside
 comes_to whole rest i setting depth w leave = (w, leave)
 comes_to whole rest i setting depth w (go name) = lands meaning whole w depth setting.inside name (after_tag name whole)
-comes_to whole rest i setting depth w (call text) = if depth == 32 then (w, stop code.Pdo) else (let r : Ran = meaning.list (nodes text) (nodes text) w (depth + 1) false in
+comes_to whole rest i setting depth w (call text) = if depth == CALL_LIMIT then (w, stop code.Pdo) else (let r : Ran = meaning.list (nodes text) (nodes text) w (depth + 1) false in
     let q : Ran = returned r.0 r.1 in then_rest meaning whole rest depth setting.inside q.0 q.1)
 comes_to whole rest i setting depth w out = (w, out)
 comes_to whole rest i setting depth w (again work) = let r : Ran = meaning.further i (record setting { work = Some work }) w depth in then_rest meaning whole rest depth setting.inside r.0 r.1
@@ -97,13 +98,13 @@ JumpLeaves = (whole rest : Nodes) (m : Modifiers) (i : Item) (name : List ℕ) (
 
 -- A call runs the text with the same arguments, one deeper and inside no iteration; where it ends well, the calling list goes on with what it left.
 abbrev pub CallReturns : Type 0
-CallReturns = (whole rest : Nodes) (m : Modifiers) (i : Item) (text : List ℕ) (w v : World) (depth n : ℕ) (inside : Bool) → w.fuel ≡ suc n → (first_effect m i rest w inside).end ≡ call text → depth ≢ 32
+CallReturns = (whole rest : Nodes) (m : Modifiers) (i : Item) (text : List ℕ) (w v : World) (depth n : ℕ) (inside : Bool) → w.fuel ≡ suc n → (first_effect m i rest w inside).end ≡ call text → depth ≢ CALL_LIMIT
     → meaning.list (nodes text) (nodes text) (stepped_world m i rest w inside n) (depth + 1) false ≡ (v, on)
     → meaning.list whole (item m i rest) w depth inside ≡ meaning.list whole rest v depth inside
 
--- A call inside 32 others is PDO.
+-- A call inside CALL_LIMIT others is PDO.
 abbrev pub CallTooDeep : Type 0
-CallTooDeep = (whole rest : Nodes) (m : Modifiers) (i : Item) (text : List ℕ) (w : World) (depth n : ℕ) (inside : Bool) → w.fuel ≡ suc n → (first_effect m i rest w inside).end ≡ call text → depth ≡ 32
+CallTooDeep = (whole rest : Nodes) (m : Modifiers) (i : Item) (text : List ℕ) (w : World) (depth n : ℕ) (inside : Bool) → w.fuel ≡ suc n → (first_effect m i rest w inside).end ≡ call text → depth ≡ CALL_LIMIT
     → meaning.list whole (item m i rest) w depth inside ≡ (stepped_world m i rest w inside n, stop code.Pdo)
 
 -- A further step of a token has fuel of its own, and this work left.

@@ -5,6 +5,7 @@ use Rattle.teco_core.specs.declared.code.Code.TheVariants as code
 use Rattle.teco_core.specs.declared.arguments.Taken.{Taken}
 use Rattle.teco_core.specs.declared.arguments.Taken.TheVariants as taken
 use Rattle.teco_core.specs.Arguments.{Arguments, no_arguments, taken_from}
+use Rattle.teco_core.specs.declared.limits.TheConstants.{BLOCK_LIMIT, CALL_LIMIT}
 use Rattle.teco_scan.specs.declared.command.Modifiers.{Modifiers}
 use Rattle.teco_scan.specs.declared.command.Test.{Test}
 use Rattle.teco_scan.specs.declared.command.BlockMark.{BlockMark}
@@ -73,7 +74,7 @@ passing (Ok c) = moved c
 passing (Err e) = breaks e
 
 abbrev pub opening : BlockStep → List ℕ → Cursor → Coming
-opening b bs c = if length c.blocks == 64 then breaks code.Pdo else at_block b bs
+opening b bs c = if length c.blocks == BLOCK_LIMIT then breaks code.Pdo else at_block b bs
 
 abbrev pub at_end : List Frame → Coming
 at_end [] = ends
@@ -218,7 +219,7 @@ setting_of m work c = record { modifiers = m; work = work; inside = inside c.blo
 
 abbrev pub called : List ℕ → Config → Machine
 called text c =
-    if length c.callers == 32 then halts c (Some code.Pdo) else runs (record c {
+    if length c.callers == CALL_LIMIT then halts c (Some code.Pdo) else runs (record c {
       text = text;
       at = record { args = c.at.args; left = text; blocks = [] };
       callers = record { text = c.text; left = c.at.left; blocks = c.at.blocks } ∷ c.callers;

@@ -5,6 +5,7 @@ use Rattle.teco_core.specs.declared.code.Code.TheVariants as code
 use Rattle.teco_core.specs.declared.arguments.Taken.{Taken}
 use Rattle.teco_core.specs.declared.arguments.Taken.TheVariants as taken
 use Rattle.teco_core.specs.Arguments.{taken_from}
+use Rattle.teco_core.specs.declared.limits.TheConstants.{CALL_LIMIT}
 use Rattle.teco_scan.specs.declared.command.Test.{Test}
 use Rattle.teco_scan.specs.declared.command.Modifiers.{Modifiers}
 use Rattle.teco_scan.specs.declared.command.Bare.TheVariants as bare_command
@@ -37,14 +38,14 @@ then_rest m whole rest depth inside w on = m.list whole rest w depth inside
 then_rest m whole rest depth inside w (go name) = lands m whole w depth inside name (after_tag name whole)
 then_rest m whole rest depth inside w e = (w, e)
 
--- A macro's text is run with the same arguments, inside no iteration; at most 32 calls are open; its jump to nowhere is TAG.
+-- A macro's text is run with the same arguments, inside no iteration; at most CALL_LIMIT calls are open; its jump to nowhere is TAG.
 abbrev pub returned : World → End → Ran
 returned w (go name) = (w, stop code.Tag)
 returned w e = (w, e)
 
 abbrev pub calls : Meaning → List ℕ → World → ℕ → Ran
 calls m text w depth =
-    if depth == 32 then (w, stop code.Pdo) else (let r : Ran = m.list (nodes text) (nodes text) w (depth + 1) false in returned r.0 r.1)
+    if depth == CALL_LIMIT then (w, stop code.Pdo) else (let r : Ran = m.list (nodes text) (nodes text) w (depth + 1) false in returned r.0 r.1)
 
 -- what a token does after a step of it: a call runs its text, and a further step has fuel of its own
 abbrev pub carries : Meaning → Item → Setting → ℕ → World → End → Ran

@@ -3,6 +3,7 @@ use Rattle.std.specs.Prelude.{◌≡◌, ◌<◌, ◌≤◌, false, ℕ, List, [
 use Rattle.teco_core.specs.Arguments.{Arguments}
 use Rattle.teco_core.specs.ArgumentsView.{arguments}
 use Rattle.teco_core.specs.declared.code.Code.{Code}
+use Rattle.teco_core.specs.declared.limits.TheConstants.{BLOCK_LIMIT}
 use Rattle.teco_scan.specs.declared.token.Found.{Found}
 use Rattle.teco_scan.specs.declared.token.Found.TheVariants as found
 use Rattle.teco_scan.specs.declared.token.TokenKind.{TokenKind}
@@ -68,7 +69,7 @@ IsStepFound text f = ⊥
 -- A turn of an iteration ends, or there is room for one block more.
 abbrev pub MayOpen : Opening → List Block → Type 0
 MayOpen opening.EndTurn bs = EndsTurn bs
-MayOpen o bs = length bs < 64
+MayOpen o bs = length bs < BLOCK_LIMIT
 
 -- what else is told of what comes next: what is no move leaves the cursor as it was, but at a step it is after the token
 abbrev pub Tells : Cursor → Cursor → Found → Next → Type 0

@@ -49,13 +49,14 @@ pub(crate) struct Blocks {
 
 impl Model for Blocks {
     ghost use Rattle.std.specs.Prelude.{◌≡◌, ◌≤◌, List, length, reverse, take};
+    ghost use Rattle.teco_core.specs.declared.limits.TheConstants.{BLOCK_LIMIT};
     ghost use Rattle.teco_exec.specs.declared.blocks.Block.{Block};
 
     ghost Value = { List Block };
 
     ghost view = { λ b. reverse (take b.depth b.open) };
 
-    ghost invariant = { λ b. (b.depth ≤ 64) × (length b.open ≡ 64) };
+    ghost invariant = { λ b. (b.depth ≤ BLOCK_LIMIT) × (length b.open ≡ BLOCK_LIMIT) };
 }
 
 impl Blocks {
@@ -75,14 +76,14 @@ impl Blocks {
     /// How many blocks are open, from 0 to 64.
     pub fn len(&self) -> usize
         ensures value { result ≡ length self.now }
-        ensures few { length self.now ≤ 64 }
+        ensures few { length self.now ≤ BLOCK_LIMIT }
     {
         self.depth
     }
 
     /// Opens a block inside the others.
     pub fn push(&mut self, block: Block)
-        requires { length self.old < 64 }
+        requires { length self.old < BLOCK_LIMIT }
         ensures { self.new ≡ block ∷ self.old }
     {
         self.open[self.depth] = block;

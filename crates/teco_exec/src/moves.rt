@@ -95,7 +95,7 @@ impl<'t> Cursor<'t> {
         }
     }
 
-    /// A block opens here, unless 64 are open.
+    /// A block opens here, unless `BLOCK_LIMIT` are open.
     fn opening(&self, opening: Opening, to: usize) -> Next
         requires within { to ≤ length self.now.text.now }
         requires opens { opening_of opening ≢ machine.ends_turn }
@@ -189,7 +189,7 @@ impl<'t> Cursor<'t> {
     /// An iteration begins: without end where it takes nothing, and not at all where its number is at most 0.
     fn iterate(&mut self, to: usize) -> Result<(), Code>
         requires within { to ≤ length self.old.text.now }
-        requires few { length self.old.blocks < 64 }
+        requires few { length self.old.blocks < BLOCK_LIMIT }
         ensures text { self.new.text ≡ self.old.text }
         ensures moves { moved_of self.new result ≡ machine.block_step machine.iterates (drop to self.old.text.now) (cursor self.old) }
         ensures finished { Finishes result }
@@ -213,7 +213,7 @@ impl<'t> Cursor<'t> {
     /// A conditional begins: the part that its test chooses is run.
     fn decide(&mut self, test: Test, to: usize) -> Result<(), Code>
         requires within { to ≤ length self.old.text.now }
-        requires few { length self.old.blocks < 64 }
+        requires few { length self.old.blocks < BLOCK_LIMIT }
         ensures text { self.new.text ≡ self.old.text }
         ensures moves { moved_of self.new result ≡ machine.block_step (machine.decides test) (drop to self.old.text.now) (cursor self.old) }
         ensures finished { Finishes result }
@@ -251,7 +251,7 @@ impl<'t> Cursor<'t> {
     /// Opens a block, whose commands begin at a place.
     fn enter(&mut self, start: usize, body: Body)
         requires within { start ≤ length self.old.text.now }
-        requires few { length self.old.blocks < 64 }
+        requires few { length self.old.blocks < BLOCK_LIMIT }
         ensures text { self.new.text ≡ self.old.text }
         ensures enters { cursor self.new ≡ machine.entered (kind_of body) (turns_left body) (drop start self.old.text.now) (cursor self.old) }
     {
@@ -262,7 +262,7 @@ impl<'t> Cursor<'t> {
     /// Goes past a whole iteration that isn't run, whose commands begin at a place.
     fn pass_over(&mut self, start: usize) -> Result<(), Code>
         requires within { start ≤ length self.old.text.now }
-        requires few { length self.old.blocks < 64 }
+        requires few { length self.old.blocks < BLOCK_LIMIT }
         ensures text { self.new.text ≡ self.old.text }
         ensures moves { moved_of self.new result ≡ machine.counted 0 (drop start self.old.text.now) (cursor self.old) }
         ensures finished { Finishes result }
@@ -274,7 +274,7 @@ impl<'t> Cursor<'t> {
     /// Skips the first part of a conditional, and enters the second, if there is one.
     fn enter_second(&mut self, start: usize) -> Result<(), Code>
         requires within { start ≤ length self.old.text.now }
-        requires few { length self.old.blocks < 64 }
+        requires few { length self.old.blocks < BLOCK_LIMIT }
         ensures text { self.new.text ≡ self.old.text }
         ensures moves { moved_of self.new result ≡ machine.second_of (drop start self.old.text.now) (cursor self.old) }
         ensures finished { Finishes result }

@@ -57,7 +57,7 @@ fn run_text<D: Desk, T: Terminal>(
     steps: &mut Steps,
     term: &mut T,
 ) -> Exit
-    requires { depth ≤ 32 }
+    requires { depth ≤ CALL_LIMIT }
     ensures counts { Counts steps.old steps.new }
     ensures leads { LeadsAt depth steps.old.limit (host (D.state desk.old) (D.follows desk.old) (T.screen term.old) steps.old.done)
         (host (D.state desk.new) (D.follows desk.new) (T.screen term.new) steps.new.done)
