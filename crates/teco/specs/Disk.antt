@@ -1,6 +1,9 @@
 -- Files by their names, and how a call changes what they hold.
 use Rattle.std.specs.Prelude.{◌≡◌, ◌≢◌, ◌⊎◌, ℕ, List, Option, Some, None, Result, Ok, Err, true, false}
+use Rattle.std.specs.String.{string_bytes}
 use Rattle.teco_step.specs.Terminal.{count_after}
+use Rattle.teco.specs.declared.place.Place.{Place}
+use Rattle.teco.specs.declared.place.Place.TheVariants as place
 
 -- what is under each name: the bytes of a file, or that there is none
 abbrev pub Files : Type 0
@@ -52,3 +55,12 @@ Passes old left_old left_new moment = (before : Files) → old ≡ Some before �
 abbrev pub Counts : {A E : Type 0} → Result A E → ℕ → ℕ → Type 0
 Counts (Ok done) old new = new ≡ count_after false old
 Counts (Err fault) old new = new ≡ count_after true old
+
+-- What is still to come of a file that was opened is all that the file has, where the files are told.
+abbrev pub Opens : Option Files → List ℕ → Option (List ℕ) → Type 0
+Opens files name coming = (before : Files) → files ≡ Some before → (bytes : List ℕ) × (before name ≡ Some bytes) × (coming ≡ Some bytes)
+
+-- The place is the file of this name.
+abbrev pub IsPlaceOf : List ℕ → Place → Type 0
+IsPlaceOf name (place.File to) = string_bytes to ≡ name
+IsPlaceOf name place.Stream = ⊥

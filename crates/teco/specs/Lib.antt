@@ -11,3 +11,5 @@ pub mod Ending
 pub mod Disk
 pub mod CommandLine
 pub mod Draft
+pub mod Writing
+pub mod Run

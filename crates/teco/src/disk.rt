@@ -1,12 +1,18 @@
 //! Where files are.
 ghost use Rattle.std.specs.Prelude.{◌≡◌, ◌≢◌, ◌⊎◌, ℕ, List, Option, IfErr, OnErr, OnOk};
 ghost use Rattle.std.specs.declared.io.Error.{Error};
-ghost use Rattle.teco.specs.Disk.{Changes, Counts, Creates, Files, LeavesFiles, Passes, Renames, Same, SameBut};
+ghost use Rattle.std.specs.Prelude.{None, IfOk};
+ghost use Rattle.teco.specs.Disk.{Changes, Counts, Creates, Files, IsPlaceOf, LeavesFiles, Opens, Passes, Renames, Same, SameBut};
 
+use crate::place::Place;
+use crate::source::Source;
 use std::io;
 
 /// Where files are, by their names.
 pub trait Disk {
+    /// What a file is read from.
+    type Input: Source + Drop;
+
     // the files, where the disk tells them
     ghost files: { Self → Option Files };
 
@@ -18,6 +24,27 @@ pub trait Disk {
 
     // which errors its calls have given
     ghost gave: { Self → Error → Type 0 };
+
+    /// Opens a file, to be read from its beginning to its end.
+    fn open(&mut self, name: &str) -> io::Result<Self::Input>
+        ensures input { IfOk result (λ input. Opens (files self.old) name.now (Self.Input.coming input)) }
+        ensures files { files self.new ≡ files self.old }
+        ensures moments { (files : Files) → left self.new files → left self.old files }
+        ensures count { Counts result (failures self.old) (failures self.new) }
+        ensures error { IfErr result (gave self.new) };
+
+    /// Where the output of this name goes. A disk that tells its files has only files.
+    fn place_of(&mut self, name: &str) -> io::Result<Place>
+        ensures place { IfOk result (λ place. files self.old ≢ None → IsPlaceOf name.now place) }
+        ensures files { files self.new ≡ files self.old }
+        ensures moments { (files : Files) → left self.new files → left self.old files }
+        ensures count { Counts result (failures self.old) (failures self.new) }
+        ensures error { IfErr result (gave self.new) };
+
+    /// Writes the bytes after what a device, a pipe or an open file has.
+    fn append(&mut self, name: &str, bytes: &[u8]) -> io::Result<()>
+        ensures count { Counts result (failures self.old) (failures self.new) }
+        ensures error { IfErr result (gave self.new) };
 
     /// Makes a new file with these bytes. A file that has the name already is not touched, and the call fails.
     fn create(&mut self, name: &str, bytes: &[u8]) -> io::Result<()>

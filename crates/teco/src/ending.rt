@@ -1,5 +1,5 @@
 //! How the program ends.
-ghost use Rattle.std.specs.Prelude.{◌≡◌, ◌++◌, codes, IfOk};
+ghost use Rattle.std.specs.Prelude.{◌≡◌, ◌++◌, codes, IfOk, OnErr};
 ghost use Rattle.std.specs.String.{string_bytes};
 ghost use Rattle.teco.specs.Ending.{said, status_of, text_of};
 
@@ -61,7 +61,8 @@ fn said_of(alloc: Global, before: &str, name: &str, after: &str) -> Result<Strin
 }
 
 fn text(alloc: Global, line: &Line, fate: Fate) -> Result<String, NoMemory>
-    ensures { IfOk result (λ text. string_bytes text ≡ text_of line.now fate) }
+    ensures ok { IfOk result (λ text. string_bytes text ≡ text_of line.now fate) }
+    ensures err { OnErr result (status_of fate ≡ 1) }
 {
     match fate {
         Fate::NoInput => said_of(alloc, "cannot read ", line.input.as_str(), ""),
@@ -82,7 +83,8 @@ fn text(alloc: Global, line: &Line, fate: Fate) -> Result<String, NoMemory>
 
 /// The status of the program, and what it prints on standard error, which may be nothing.
 pub fn ending(alloc: Global, line: &Line, fate: Fate) -> Result<(u8, String), NoMemory>
-    ensures { IfOk result (λ ending. (ending.0 ≡ status_of fate) × (string_bytes ending.1 ≡ text_of line.now fate)) }
+    ensures ok { IfOk result (λ ending. (ending.0 ≡ status_of fate) × (string_bytes ending.1 ≡ text_of line.now fate)) }
+    ensures err { OnErr result (status_of fate ≡ 1) }
 {
     Ok((status(fate), text(alloc, line, fate)?))
 }

@@ -3,6 +3,8 @@ ghost use Rattle.std.specs.Prelude.{◌≡◌, ⊤, None};
 ghost use Rattle.teco.specs.Disk.{Counts};
 
 use crate::disk::Disk;
+use crate::place::{Place, append, place_of};
+use crate::reader_source::ReaderSource;
 use std::fs::{Files, Metadata, OpenFile, OpenOptions};
 use std::io::Write;
 use std::os::unix::fs::{MetadataExt, OpenOptionsExt, chown};
@@ -61,16 +63,16 @@ fn create<R: Files>(rt: &R, name: &str, old: Option<&Metadata>, bytes: &[u8]) ->
 
 impl<'a, R: Files> FileDisk<'a, R> {
     /// The files of the system; a new one is made like the one that it is to replace, if there is one.
-    pub fn new(rt: &'a R, replaced: Option<Metadata>) -> FileDisk<'a, R> {
+    pub fn new(rt: &'a R) -> FileDisk<'a, R> {
         FileDisk {
             rt,
-            replaced,
+            replaced: None,
             failures: 0,
         }
     }
 
     /// Counts a call that failed.
-    fn counted(&mut self, done: io::Result<()>) -> io::Result<()>
+    fn counted<A: Drop>(&mut self, done: io::Result<A>) -> io::Result<A>
         ensures same { result ≡ done }
         ensures count { Counts done self.old.failures self.new.failures }
     {
@@ -81,7 +83,9 @@ impl<'a, R: Files> FileDisk<'a, R> {
     }
 }
 
-impl<'a, R: Files> Disk for FileDisk<'a, R> {
+impl<'a, R: Files + AllocGlobal> Disk for FileDisk<'a, R> {
+    type Input = ReaderSource<R::File>;
+
     ghost files = { λ _. None };
 
     ghost left = { λ _ _. ⊤ };
@@ -89,6 +93,30 @@ impl<'a, R: Files> Disk for FileDisk<'a, R> {
     ghost failures = { λ disk. disk.failures };
 
     ghost gave = { λ _ _. ⊤ };
+
+    fn open(&mut self, name: &str) -> io::Result<ReaderSource<R::File>> {
+        let opened = fs::open(self.rt, name);
+        match self.counted(opened) {
+            Ok(file) => Ok(ReaderSource::new(file)),
+            Err(error) => Err(error),
+        }
+    }
+
+    fn place_of(&mut self, name: &str) -> io::Result<Place> {
+        let found = place_of(self.rt, name);
+        match self.counted(found) {
+            Ok(found) => {
+                self.replaced = found.replaced;
+                Ok(found.place)
+            }
+            Err(error) => Err(error),
+        }
+    }
+
+    fn append(&mut self, name: &str, bytes: &[u8]) -> io::Result<()> {
+        let appended = append(self.rt, name, bytes);
+        self.counted(appended)
+    }
 
     fn create(&mut self, name: &str, bytes: &[u8]) -> io::Result<()> {
         let created = create(self.rt, name, self.replaced.as_ref(), bytes);

@@ -3,12 +3,11 @@ ghost use Rattle.std.specs.Prelude.{◌≡◌, ◌≢◌, IfErr, IfOk, OnErr, On
 ghost use Rattle.std.specs.String.{string_bytes};
 ghost use Rattle.teco.specs.Draft.{draft_beside};
 ghost use Rattle.teco.specs.Disk.{Changes, Counts, IsWhole, LeavesFiles, Passes, Replaces};
+ghost use Rattle.teco.specs.Writing.{AddsDrafts, IsWriteError, IsWriting, Writes};
 
 use crate::disk::Disk;
-use crate::file_disk::FileDisk;
-use crate::place::{Place, append, place_of};
+use crate::place::Place;
 use std::alloc::Global;
-use std::fs::{Files, Metadata};
 use std::io;
 use std::io::ErrorKind;
 use std::path::Path;
@@ -52,18 +51,22 @@ fn draft_name(alloc: Global, file: &str, number: u32) -> Result<String, NoMemory
     Ok(draft)
 }
 
-/// Replaces a file, by the first draft whose name is free.
-fn replace_file<R: Files + AllocGlobal>(
-    rt: &R,
+/// Gives a file these bytes, by the first draft whose name is free.
+fn replace_file<D: Disk>(
+    alloc: Global,
+    disk: &mut D,
     file: &str,
-    old: Option<Metadata>,
-    process: u32,
+    number: u32,
     bytes: &[u8],
-) -> io::Result<()> {
-    let mut disk = FileDisk::new(rt, old);
-    for number in process..process.saturating_add(DRAFTS) {
-        let draft = draft_name(rt.alloc(), file, number)?;
-        match replace(&mut disk, file, draft.as_str(), bytes) {
+) -> io::Result<()>
+    ensures ok { OnOk result (Changes (D.files disk.old) (D.files disk.new) (Writes file.now bytes.now)) }
+    ensures err { OnErr result (Changes (D.files disk.old) (D.files disk.new) (AddsDrafts file.now)) }
+    ensures moments { Passes (D.files disk.old) (D.left disk.old) (D.left disk.new) (IsWriting file.now bytes.now) }
+    ensures error { IfErr result (IsWriteError (D.gave disk.new)) }
+{
+    'drafts: for draft_number in number..number.saturating_add(DRAFTS) {
+        let draft = draft_name(alloc, file, draft_number)?;
+        match replace(disk, file, draft.as_str(), bytes) {
             Err(error) if error.kind() == ErrorKind::AlreadyExists => {}
             done => return done,
         }
@@ -72,16 +75,22 @@ fn replace_file<R: Files + AllocGlobal>(
 }
 
 /// Writes the output. A file that is new or is replaced has it whole or stays as it was; a device, a pipe and an open file get it
-/// after what they have. The number of the process is for the name of a draft.
-pub fn write_output<R: Files + AllocGlobal>(
-    rt: &R,
+/// after what they have. The number is for the name of a draft.
+pub fn write_output<D: Disk>(
+    alloc: Global,
+    disk: &mut D,
     name: &str,
-    process: u32,
+    number: u32,
     output: &[u8],
-) -> io::Result<()> {
-    match place_of(rt, name)? {
-        Place::Stream => append(rt, name, output),
-        Place::File(file, old) => replace_file(rt, file.as_str(), old, process, output),
+) -> io::Result<()>
+    ensures ok { OnOk result (Changes (D.files disk.old) (D.files disk.new) (Writes name.now output.now)) }
+    ensures err { OnErr result (Changes (D.files disk.old) (D.files disk.new) (AddsDrafts name.now)) }
+    ensures moments { Passes (D.files disk.old) (D.left disk.old) (D.left disk.new) (IsWriting name.now output.now) }
+    ensures error { IfErr result (IsWriteError (D.gave disk.new)) }
+{
+    match disk.place_of(name)? {
+        Place::Stream => disk.append(name, output),
+        Place::File(file) => replace_file(alloc, disk, file.as_str(), number, output),
     }
 }
 

@@ -1,4 +1,5 @@
 use super::*;
+use crate::file_disk::FileDisk;
 use std::fs;
 use std::os::unix::fs::{MetadataExt, PermissionsExt, symlink};
 
@@ -11,7 +12,7 @@ const LINK: &str = "teco_output_test/link";
 const DRAFT: &str = "teco_output_test/.teco-7";
 
 fn writes(rt: &HostRuntime, name: &str, bytes: &[u8]) -> bool {
-    write_output(rt, name, 7, bytes).is_ok()
+    write_output(rt.alloc(), &mut FileDisk::new(rt), name, 7, bytes).is_ok()
 }
 
 fn holds(rt: &HostRuntime, name: &str, bytes: &[u8]) -> bool {

@@ -1,50 +1,253 @@
-//! What the program says of files that it cannot read or write.
-ghost use Rattle.std.specs.Prelude.{◌≡◌, IfOk, None};
-
-use crate::ending::{Fate, ending};
-use crate::line::Line;
-use crate::output::write_output;
-use crate::{conclusion, fate_of};
+//! Runs of the whole program: over files in memory, and what it says of files of the system that it cannot read or write.
+use super::bytes::joined;
+use super::memory_disk::{MemoryDisk, Refused};
+use crate::disk::Disk;
+use crate::file_disk::FileDisk;
+use crate::line::LineFault;
+use crate::memory_source::MemorySource;
+use crate::program::program;
 use std::alloc::Global;
+use std::process::ExitCode;
 use teco_core::NoMemory;
+use teco_step::MemoryTerminal;
 
-/// An input that is not there, and an output in no folder.
-fn line_without_files(alloc: Global) -> Result<Line, NoMemory>
-    ensures { IfOk result (λ line. line.undo ≡ None) }
-{
-    Ok(Line {
-        input: String::from_str(alloc, "none")?,
-        output: Some(String::from_str(alloc, "no/x")?),
-        limit: 0,
-        prompt: false,
-        undo: None,
-    })
+/// The words of a run, with blanks between them, its commands, and what it types, tells on standard error and ends with.
+struct Run<'a> {
+    words: &'a str,
+    commands: &'a str,
+    typed: &'a str,
+    told: &'a str,
+    status: u8,
 }
 
-fn is_told(told: &Result<(u8, String), NoMemory>, text: &str) -> bool {
-    matches!(told, Ok((1, line)) if line.as_str() == text)
+fn words_of(alloc: Global, text: &str) -> Result<Vec<String>, NoMemory> {
+    let mut words = Vec::new(alloc);
+    for word in text.split(' ') {
+        words.push(String::from_str(alloc, word)?)?;
+    }
+    Ok(words)
 }
 
-fn says_what_it_cannot_write(rt: &HostRuntime, line: &Line) -> bool {
-    let Err(error) = write_output(rt, "no/x", 7, b"a") else {
-        return false;
+fn runs_on<D: Disk>(alloc: Global, disk: &mut D, run: &Run) -> bool {
+    let words = match words_of(alloc, run.words) {
+        Ok(words) => Ok(words),
+        Err(NoMemory) => Err(LineFault::NoMemory),
     };
-    let fate = fate_of(error, Fate::NoOutput);
-    is_told(&ending(rt.alloc(), line, fate), "teco: cannot write no/x\n")
+    let mut commands = MemorySource::new(
+        joined(alloc, &[run.commands.as_bytes()]),
+        Vec::new(alloc),
+        false,
+    );
+    let mut term = MemoryTerminal::new(alloc);
+    let mut errors = MemoryTerminal::new(alloc);
+    let status = program(alloc, words, 7, &mut commands, &mut term, &mut errors, disk);
+    status == ExitCode::from(run.status)
+        && term.bytes() == run.typed.as_bytes()
+        && errors.bytes() == run.told.as_bytes()
 }
 
-fn says_both(rt: &HostRuntime) -> bool {
-    match line_without_files(rt.alloc()) {
-        Ok(line) => {
-            is_told(&conclusion(rt, &line), "teco: cannot read none\n")
-                && says_what_it_cannot_write(rt, &line)
-        }
+/// Files by their names.
+type Files<'a> = &'a [(&'a str, &'a str)];
+
+/// A run, the files before it, which call is refused, and the files after it.
+type Row<'a> = (Run<'a>, Files<'a>, Refused, Files<'a>);
+
+fn disk_with(alloc: Global, files: Files, refused: Refused) -> Result<MemoryDisk, NoMemory> {
+    let mut disk = MemoryDisk::new(alloc, refused);
+    for (name, bytes) in files {
+        disk.put(name, bytes.as_bytes())?;
+    }
+    Ok(disk)
+}
+
+fn has_just(disk: &MemoryDisk, files: Files) -> bool {
+    let mut held = disk.count() == files.len();
+    for (name, bytes) in files {
+        held = held && disk.bytes(name) == Some(bytes.as_bytes());
+    }
+    held
+}
+
+fn runs(alloc: Global, row: &Row) -> bool {
+    match disk_with(alloc, row.1, row.2) {
+        Ok(mut disk) => runs_on(alloc, &mut disk, &row.0) && has_just(&disk, row.3),
         Err(NoMemory) => false,
     }
 }
 
+/// Reads a page, types its length and exits.
+const PAGE: &str = "Y\x1b\x1bZ=\x1b\x1bEX\x1b\x1b";
+
+const EXITS: Run = Run {
+    words: "teco in",
+    commands: PAGE,
+    typed: "3\r\n",
+    told: "",
+    status: 0,
+};
+
+/// To the end of the commands.
+const ENDS: Run = Run {
+    words: "teco in",
+    commands: "",
+    typed: "",
+    told: "",
+    status: 2,
+};
+
+const UNWRITTEN: Run = Run {
+    told: "teco: cannot write in.out\n",
+    status: 1,
+    ..EXITS
+};
+
+const IN: (&str, &str) = ("in", "hi\n");
+
+static ROWS: [Row; 13] = [
+    // An exit writes the output, in the place of what was there, and by another draft where one is taken.
+    (EXITS, &[IN], Refused::Nothing, &[IN, ("in.out", "hi\n")]),
+    (
+        EXITS,
+        &[IN, ("in.out", "old")],
+        Refused::Nothing,
+        &[IN, ("in.out", "hi\n")],
+    ),
+    (
+        EXITS,
+        &[IN, (".teco-7", "theirs")],
+        Refused::Nothing,
+        &[IN, (".teco-7", "theirs"), ("in.out", "hi\n")],
+    ),
+    (
+        Run {
+            words: "teco --output out in",
+            ..EXITS
+        },
+        &[IN],
+        Refused::Nothing,
+        &[IN, ("out", "hi\n")],
+    ),
+    // Without an exit there is no output.
+    (
+        Run {
+            words: "teco --prompt in",
+            commands: "1=\x1b\x1b",
+            typed: "*1\r\n*",
+            ..ENDS
+        },
+        &[IN],
+        Refused::Nothing,
+        &[IN],
+    ),
+    (
+        Run {
+            commands: "Ia\x1b",
+            ..ENDS
+        },
+        &[IN, ("in.out", "old")],
+        Refused::Nothing,
+        &[IN, ("in.out", "old")],
+    ),
+    // The limit and the depth are those of the line.
+    (
+        Run {
+            words: "teco --limit 0 in",
+            commands: "1=\x1b\x1b",
+            typed: "?LIM\r\n",
+            ..ENDS
+        },
+        &[IN],
+        Refused::Nothing,
+        &[IN],
+    ),
+    (
+        Run {
+            words: "teco --limit 5 in",
+            commands: "YNc\x1b\x1bHT\x1b\x1b",
+            typed: "?LIM\r\nc",
+            ..ENDS
+        },
+        &[("in", "a\x0cb\x0cc")],
+        Refused::Nothing,
+        &[("in", "a\x0cb\x0cc")],
+    ),
+    (
+        Run {
+            words: "teco --undo 2 in",
+            commands: "Ia\x1b\x1bIb\x1b\x1bIc\x1b\x1b3{\x1b\x1bHT\x1b\x1b",
+            typed: "?NTU\r\na",
+            ..ENDS
+        },
+        &[IN],
+        Refused::Nothing,
+        &[IN],
+    ),
+    // An input that is not there.
+    (
+        Run {
+            words: "teco none",
+            typed: "",
+            told: "teco: cannot read none\n",
+            status: 1,
+            ..EXITS
+        },
+        &[IN],
+        Refused::Nothing,
+        &[IN],
+    ),
+    // An output that cannot be written: what was there stays, and no draft is left.
+    (UNWRITTEN, &[IN], Refused::Create, &[IN]),
+    (
+        UNWRITTEN,
+        &[IN, ("in.out", "old")],
+        Refused::Rename,
+        &[IN, ("in.out", "old")],
+    ),
+    // A faulty line.
+    (
+        Run {
+            words: "teco --version",
+            typed: "teco 0.1.0\n",
+            ..EXITS
+        },
+        &[IN],
+        Refused::Nothing,
+        &[IN],
+    ),
+];
+
+/// Where memory was refused, a row holds the second time.
+#[test]
+fn runs_over_files(rt: HostRuntime) {
+    for row in &ROWS {
+        let held = runs(rt.alloc(), row) || runs(rt.alloc(), row);
+        assert!(rt; held, "{}", row.0.words);
+    }
+}
+
+static OF_THE_SYSTEM: [Run; 2] = [
+    Run {
+        words: "teco none",
+        typed: "",
+        told: "teco: cannot read none\n",
+        status: 1,
+        ..EXITS
+    },
+    Run {
+        words: "teco --output no/x /dev/null",
+        commands: "EX\x1b\x1b",
+        typed: "",
+        told: "teco: cannot write no/x\n",
+        status: 1,
+    },
+];
+
 /// Where memory was refused, a second time.
 #[test]
 fn says_which_file_it_cannot_have(rt: HostRuntime) {
-    assert!(rt; says_both(&rt) || says_both(&rt));
+    for run in &OF_THE_SYSTEM {
+        let held = runs_on(rt.alloc(), &mut FileDisk::new(&rt), run)
+            || runs_on(rt.alloc(), &mut FileDisk::new(&rt), run);
+        assert!(rt; held, "{}", run.words);
+    }
 }

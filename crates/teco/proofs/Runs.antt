@@ -1,0 +1,122 @@
+-- How the parts of a run make its end.
+use Rattle.std.proofs.Common.{◌≡◌, ◌≢◌, ◌⊎◌, inl, inr, ℕ, List, Option, Bool, refl, sym, ◌∙◌, subst}
+use Rattle.std.specs.String.{string_bytes}
+use Rattle.std.specs.IoError.{error_kind}
+use Rattle.std.specs.declared.io.Error.{Error}
+use Rattle.std.specs.declared.io.ErrorKind.TheVariants.{OutOfMemory}
+use Rattle.teco.specs.Disk.{Files}
+use Rattle.teco.specs.Ending.{fate_without_input, output_of}
+use Rattle.teco.specs.Run.{Edits, EndsBy, FailsToWrite, Finishes, FinishesBy, IsFateOf, IsInput, KeepsDisk, LacksInput, ServesInput, WritesOutput}
+use Rattle.teco.specs.declared.ending.Fate.{Fate}
+use Rattle.teco.specs.declared.ending.Fate.TheVariants.{NoInput, LargeInput, NoMemory, NoOutput, Ended}
+use Rattle.teco.specs.declared.input.InputFault.{InputFault}
+use Rattle.teco.specs.declared.input.InputFault.TheVariants as input
+use Rattle.teco.specs.declared.line.Line.{Line}
+use Rattle.teco.specs.declared.served.Served.{Served}
+use Rattle.teco.specs.declared.served.Served.TheVariants as served
+
+-- an error's fate is want of memory or the other one
+no_other : {error : Error} {other fate : Fate} → IsFateOf error other fate → fate ≢ NoMemory → fate ≢ other → ⊥
+no_other f not_memory not_other = not_other (f.other_is (λ memory. not_memory (f.memory memory)))
+
+lacks_some : (served : Served) (fault : InputFault) → Ended served ≡ fate_without_input fault → ⊥
+lacks_some served input.Read e = cc
+lacks_some served input.TooLarge e = cc
+lacks_some served input.Memory e = cc
+
+lacks_output : (fault : InputFault) → NoOutput ≡ fate_without_input fault → ⊥
+lacks_output input.Read e = cc
+lacks_output input.TooLarge e = cc
+lacks_output input.Memory e = cc
+
+module _ {I : Type 0} {coming : I → Option (List ℕ)} {bound failures : I → ℕ} {files : Option Files} {name : List ℕ} {gave : Error → Type 0} where
+  -- no serving ends, and no writing fails, for want of the input
+  served_none : (served : Served) → LacksInput coming bound failures files name gave (Ended served) → ⊥
+  served_none served (inl opens) = no_other opens.fate_is (λ e. cc) (λ e. cc)
+  served_none served (inr reads) = lacks_some served reads.fault reads.fate_is
+
+  written_none : LacksInput coming bound failures files name gave NoOutput → ⊥
+  written_none (inl opens) = no_other opens.fate_is (λ e. cc) (λ e. cc)
+  written_none (inr reads) = lacks_output reads.fault reads.fate_is
+
+  lacks_by : (idle keeps : Type 0) (serves : Served → List ℕ → Type 0) (writes : List ℕ → Type 0) (fails : List ℕ → Fate → Type 0) (fate : Fate)
+      → LacksInput coming bound failures files name gave fate → idle → keeps
+      → EndsBy (LacksInput coming bound failures files name gave) idle keeps serves writes fails fate
+  lacks_by idle keeps serves writes fails NoInput l i k = (l, i, k)
+  lacks_by idle keeps serves writes fails LargeInput l i k = (l, i, k)
+  lacks_by idle keeps serves writes fails NoMemory l i k = inl (i, k)
+  lacks_by idle keeps serves writes fails NoOutput l i k = absurd (written_none l)
+  lacks_by idle keeps serves writes fails (Ended served) l i k = absurd (served_none served l)
+
+-- without the input
+pub lacks_ends : {I : Type 0} {coming : I → Option (List ℕ)} {bound failures : I → ℕ} {line : Line} {old new : Option Files} {a c : Files → Type 0} {refused : Error → Type 0}
+    {idle : Type 0} {gave : List ℕ → Bool → Type 0} {at_end : Type 0} {showed : List ℕ → Bool → Type 0} {fate : Fate}
+    → LacksInput coming bound failures old (string_bytes line.input) refused fate → idle → KeepsDisk old new a c
+    → Edits line old new a c refused (LacksInput coming bound failures) idle gave at_end showed fate
+lacks_ends {line} {old} {new} {a} {c} {refused} {idle} {gave} {at_end} {showed} {fate} l i k = record {
+  ends = lacks_by idle (KeepsDisk old new a c) (ServesInput line (IsInput old (string_bytes line.input)) gave at_end showed) (WritesOutput old new a c (output_of line)) (FailsToWrite old new a c refused (output_of line)) fate l i k;
+}
+
+-- after a serving
+finishes_by : (lacks : Fate → Type 0) (idle keeps : Type 0) (serves : Served → List ℕ → Type 0) (writes : List ℕ → Type 0) (fails : List ℕ → Fate → Type 0)
+    (output : List ℕ) (served : Served) (fate : Fate) → serves served output → FinishesBy keeps (writes output) (fails output) served fate
+    → EndsBy lacks idle keeps serves writes fails fate
+finishes_by lacks idle keeps serves writes fails output served.Exit NoInput s f = absurd f
+finishes_by lacks idle keeps serves writes fails output served.Exit LargeInput s f = absurd f
+finishes_by lacks idle keeps serves writes fails output served.Exit NoMemory s f = inr (output, s, f)
+finishes_by lacks idle keeps serves writes fails output served.Exit NoOutput s f = (output, s, f)
+finishes_by lacks idle keeps serves writes fails output served.Exit (Ended served.Exit) s f = (output, s, f)
+finishes_by lacks idle keeps serves writes fails output served.Exit (Ended served.EndOfCommands) s f = absurd f
+finishes_by lacks idle keeps serves writes fails output served.Exit (Ended served.ReadFault) s f = absurd f
+finishes_by lacks idle keeps serves writes fails output served.Exit (Ended served.ShowFault) s f = absurd f
+finishes_by lacks idle keeps serves writes fails output served.Exit (Ended served.NoMemory) s f = absurd f
+finishes_by lacks idle keeps serves writes fails output served.EndOfCommands fate s f = subst (EndsBy lacks idle keeps serves writes fails) (sym f.0) (output, s, f.1)
+finishes_by lacks idle keeps serves writes fails output served.ReadFault fate s f = subst (EndsBy lacks idle keeps serves writes fails) (sym f.0) (output, s, f.1)
+finishes_by lacks idle keeps serves writes fails output served.ShowFault fate s f = subst (EndsBy lacks idle keeps serves writes fails) (sym f.0) (output, s, f.1)
+finishes_by lacks idle keeps serves writes fails output served.NoMemory fate s f = subst (EndsBy lacks idle keeps serves writes fails) (sym f.0) (output, s, f.1)
+
+-- The disk that is written to is as it was before the input was read.
+module _ {old mid : Option Files} {a b : Files → Type 0} (kept : KeepsDisk old mid a b) where
+  keeps_after : {new : Option Files} {c : Files → Type 0} → KeepsDisk mid new b c → KeepsDisk old new a c
+  keeps_after k = record { files = k.files ∙ kept.files; moments = λ files left. kept.moments files (k.moments files left) }
+
+  writes_after : {new : Option Files} {c : Files → Type 0} {name output : List ℕ} → WritesOutput mid new b c name output → WritesOutput old new a c name output
+  writes_after w = record {
+    files = λ before told. w.files before (kept.files ∙ told);
+    moments = λ before told files left. elim (w.moments before (kept.files ∙ told) files left) [ inl was ↦ inl (kept.moments files was) | inr now ↦ inr now ];
+  }
+
+  fails_after : {new : Option Files} {c : Files → Type 0} {gave : Error → Type 0} {name output : List ℕ} {fate : Fate}
+      → FailsToWrite mid new b c gave name output fate → FailsToWrite old new a c gave name output fate
+  fails_after f = record {
+    files = λ before told. f.files before (kept.files ∙ told);
+    moments = λ before told files left. elim (f.moments before (kept.files ∙ told) files left) [ inl was ↦ inl (kept.moments files was) | inr now ↦ inr now ];
+    error = f.error;
+    given = f.given;
+    fate_is = f.fate_is;
+  }
+
+  pub finishes_after : {new : Option Files} {c : Files → Type 0} {gave : Error → Type 0} {name output : List ℕ} (served : Served) (fate : Fate)
+      → Finishes mid new b c gave name output served fate → Finishes old new a c gave name output served fate
+  finishes_after served.Exit NoInput f = record { ends = absurd f.ends }
+  finishes_after served.Exit LargeInput f = record { ends = absurd f.ends }
+  finishes_after served.Exit NoMemory f = record { ends = fails_after f.ends }
+  finishes_after served.Exit NoOutput f = record { ends = fails_after f.ends }
+  finishes_after served.Exit (Ended served.Exit) f = record { ends = writes_after f.ends }
+  finishes_after served.Exit (Ended served.EndOfCommands) f = record { ends = absurd f.ends }
+  finishes_after served.Exit (Ended served.ReadFault) f = record { ends = absurd f.ends }
+  finishes_after served.Exit (Ended served.ShowFault) f = record { ends = absurd f.ends }
+  finishes_after served.Exit (Ended served.NoMemory) f = record { ends = absurd f.ends }
+  finishes_after served.EndOfCommands fate f = record { ends = (f.ends.0, keeps_after f.ends.1) }
+  finishes_after served.ReadFault fate f = record { ends = (f.ends.0, keeps_after f.ends.1) }
+  finishes_after served.ShowFault fate f = record { ends = (f.ends.0, keeps_after f.ends.1) }
+  finishes_after served.NoMemory fate f = record { ends = (f.ends.0, keeps_after f.ends.1) }
+
+pub finishes_ends : {line : Line} {old new : Option Files} {a c : Files → Type 0} {refused : Error → Type 0} {lacks : Option Files → List ℕ → (Error → Type 0) → Fate → Type 0} {idle : Type 0}
+    {gave : List ℕ → Bool → Type 0} {at_end : Type 0} {showed : List ℕ → Bool → Type 0} {name output : List ℕ} {served : Served} {fate : Fate}
+    → name ≡ output_of line → ServesInput line (IsInput old (string_bytes line.input)) gave at_end showed served output → Finishes old new a c refused name output served fate
+    → Edits line old new a c refused lacks idle gave at_end showed fate
+finishes_ends {line} {old} {new} {a} {c} {refused} {lacks} {idle} {gave} {at_end} {showed} {name} {output} {served} {fate} named s f = record {
+  ends = subst (λ n. EndsBy (lacks old (string_bytes line.input) refused) idle (KeepsDisk old new a c) (ServesInput line (IsInput old (string_bytes line.input)) gave at_end showed) (WritesOutput old new a c n) (FailsToWrite old new a c refused n) fate) named
+      (finishes_by (lacks old (string_bytes line.input) refused) idle (KeepsDisk old new a c) (ServesInput line (IsInput old (string_bytes line.input)) gave at_end showed) (WritesOutput old new a c name) (FailsToWrite old new a c refused name) output served fate s f.ends);
+}

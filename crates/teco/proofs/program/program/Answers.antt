@@ -1,0 +1,11 @@
+use Rattle.std.proofs.Common.{inr}
+use Rattle.teco.proofs.program.program.Goals as goal
+
+pub returns-in-Ok : goal.returns-in-Ok
+returns-in-Ok g c = inr (record {
+  line = c.in-Ok.line;
+  line_is = c.in-Ok.ensures.line;
+  fate = c.edit-fate.result;
+  run = c.edit-fate.ensures;
+  end = c.conclude.ensures;
+})

@@ -1,0 +1,168 @@
+-- A run of the program over its line: what it reads, serves and writes, and how it ends.
+use Rattle.std.specs.Prelude.{◌≡◌, ◌≢◌, ◌≤◌, ◌⊎◌, ℕ, List, length, map, codes, Option, Some, Bool, true, false, Result, Ok, Err}
+use Rattle.std.specs.Process.{exit_status}
+use Rattle.std.specs.String.{string_bytes}
+use Rattle.std.specs.declared.process.ExitCode.{ExitCode}
+use Rattle.std.specs.declared.string.String.{String}
+use Rattle.std.specs.declared.vec.Vec.{Vec}
+use Rattle.std.specs.declared.alloc.Global.{Global}
+use Rattle.clap.specs.Words.{kind_of}
+use Rattle.clap.specs.declared.error.kind.ErrorKind.TheVariants as kind
+use Rattle.teco_step.specs.Terminal.{IsFrontOf, Screen, Shows}
+use Rattle.teco.specs.CommandLine.{IsLine, IsLineFault}
+use Rattle.teco.specs.declared.line.LineFault.{LineFault}
+use Rattle.teco.specs.declared.line.LineFault.TheVariants as line_fault
+use Rattle.std.specs.IoError.{error_kind}
+use Rattle.std.specs.declared.io.Error.{Error}
+use Rattle.std.specs.declared.io.ErrorKind.TheVariants.{OutOfMemory}
+use Rattle.teco_core.specs.declared.limits.TheConstants.{FILE_LIMIT}
+use Rattle.teco_session.specs.History.{History, new_history, present}
+use Rattle.teco.specs.Disk.{Changes, Files, Opens, Passes}
+use Rattle.teco.specs.Ending.{fate_without_input, output_of, said, status_of, text_of}
+use Rattle.teco.specs.Input.{IsFaultOf}
+use Rattle.teco.specs.Serving.{Serves}
+use Rattle.teco.specs.Source.{Gives}
+use Rattle.teco.specs.Writing.{AddsDrafts, IsWriteError, IsWriting, Writes}
+use Rattle.teco.specs.declared.ending.Fate.{Fate}
+use Rattle.teco.specs.declared.ending.Fate.TheVariants.{NoInput, LargeInput, NoMemory, NoOutput, Ended}
+use Rattle.teco.specs.declared.input.InputFault.{InputFault}
+use Rattle.teco.specs.declared.line.Line.{Line}
+use Rattle.teco.specs.declared.served.Served.{Served}
+use Rattle.teco.specs.declared.served.Served.TheVariants as served
+
+-- The fate of an error: want of memory where the error is that, otherwise the other one.
+pub record IsFateOf (error : Error) (other fate : Fate) : Type 0 where
+  pub memory : error_kind error ≡ OutOfMemory → fate ≡ NoMemory
+  pub other_is : error_kind error ≢ OutOfMemory → fate ≡ other
+
+-- The bytes are the input of this name: all that the file has, where the files are told, and no more than a file may have.
+pub record IsInput (files : Option Files) (name bytes : List ℕ) : Type 0 where
+  pub small : length bytes ≤ FILE_LIMIT
+  pub whole : (before : Files) → files ≡ Some before → before name ≡ Some bytes
+
+-- What the disk opened under the name was read, and that ended by a fault.
+pub record FailsToRead {I : Type 0} (coming : I → Option (List ℕ)) (bound failures : I → ℕ) (files : Option Files) (name : List ℕ) (fate : Fate) : Type 0 where
+  pub first : I
+  pub last : I
+  pub fault : InputFault
+  pub opened : Opens files name (coming first)
+  pub fault_is : IsFaultOf FILE_LIMIT (Gives coming bound failures first last) fault
+  pub fate_is : fate ≡ fate_without_input fault
+
+-- The disk refused to open the file.
+pub record FailsToOpen (gave : Error → Type 0) (fate : Fate) : Type 0 where
+  pub error : Error
+  pub given : gave error
+  pub fate_is : IsFateOf error NoInput fate
+
+-- Why there is no input.
+abbrev pub LacksInput : {I : Type 0} → (I → Option (List ℕ)) → (I → ℕ) → (I → ℕ) → Option Files → List ℕ → (Error → Type 0) → Fate → Type 0
+LacksInput coming bound failures files name gave fate = FailsToOpen gave fate ⊎ FailsToRead coming bound failures files name fate
+
+-- The files are as they were, and a crash leaves no more than before.
+pub record KeepsDisk (old new : Option Files) (left_old left_new : Files → Type 0) : Type 0 where
+  pub files : new ≡ old
+  pub moments : (files : Files) → left_new files → left_old files
+
+-- The output file has these bytes; and at each moment it was as before, or had them.
+pub record WritesOutput (old new : Option Files) (left_old left_new : Files → Type 0) (name bytes : List ℕ) : Type 0 where
+  pub files : Changes old new (Writes name bytes)
+  pub moments : Passes old left_old left_new (IsWriting name bytes)
+
+-- The output file is as it was; and at each moment it was so, or had these bytes. The fate is that of the error.
+pub record FailsToWrite (old new : Option Files) (left_old left_new : Files → Type 0) (gave : Error → Type 0) (name bytes : List ℕ) (fate : Fate) : Type 0 where
+  pub files : Changes old new (AddsDrafts name)
+  pub moments : Passes old left_old left_new (IsWriting name bytes)
+  pub error : Error
+  pub given : IsWriteError gave error
+  pub fate_is : IsFateOf error NoOutput fate
+
+-- The commands were served over an input, from its first state, by the line's limit, prompt and depth. This ended so, with this output.
+pub record ServesInput (line : Line) (is_input : List ℕ → Type 0) (gave : List ℕ → Bool → Type 0) (at_end : Type 0) (showed : List ℕ → Bool → Type 0) (served : Served) (output : List ℕ) : Type 0 where
+  pub input : List ℕ
+  pub input_is : is_input input
+  pub history : History
+  pub serves : Serves line.limit line.prompt gave at_end showed (new_history line.undo input) history served
+  pub output_is : output ≡ (present history).output
+
+-- How a run ends after its serving: after an exit the output is written, or that fails; and otherwise no file has changed.
+abbrev pub FinishesBy : Type 0 → Type 0 → (Fate → Type 0) → Served → Fate → Type 0
+FinishesBy keeps writes fails served.Exit fate = elim fate [
+  | Ended served.Exit ↦ writes
+  | NoOutput ↦ fails NoOutput
+  | NoMemory ↦ fails NoMemory
+  | _ ↦ ⊥
+]
+FinishesBy keeps writes fails served.EndOfCommands fate = (fate ≡ Ended served.EndOfCommands) × keeps
+FinishesBy keeps writes fails served.ReadFault fate = (fate ≡ Ended served.ReadFault) × keeps
+FinishesBy keeps writes fails served.ShowFault fate = (fate ≡ Ended served.ShowFault) × keeps
+FinishesBy keeps writes fails served.NoMemory fate = (fate ≡ Ended served.NoMemory) × keeps
+
+pub record Finishes (old new : Option Files) (left_old left_new : Files → Type 0) (gave : Error → Type 0) (name output : List ℕ) (served : Served) (fate : Fate) : Type 0 where
+  pub ends : FinishesBy (KeepsDisk old new left_old left_new) (WritesOutput old new left_old left_new name output) (FailsToWrite old new left_old left_new gave name output) served fate
+
+-- How a run ends, and what it has done then.
+abbrev pub EndsBy : (Fate → Type 0) → Type 0 → Type 0 → (Served → List ℕ → Type 0) → (List ℕ → Type 0) → (List ℕ → Fate → Type 0) → Fate → Type 0
+EndsBy lacks idle keeps serves writes fails NoInput = lacks NoInput × idle × keeps
+EndsBy lacks idle keeps serves writes fails LargeInput = lacks LargeInput × idle × keeps
+-- memory was refused before the serving, or to the writing
+EndsBy lacks idle keeps serves writes fails NoMemory = (idle × keeps) ⊎ ((output : List ℕ) × serves served.Exit output × fails output NoMemory)
+EndsBy lacks idle keeps serves writes fails NoOutput = (output : List ℕ) × serves served.Exit output × fails output NoOutput
+-- after an exit the output is written
+EndsBy lacks idle keeps serves writes fails (Ended served.Exit) = (output : List ℕ) × serves served.Exit output × writes output
+-- and otherwise no file has changed
+EndsBy lacks idle keeps serves writes fails (Ended served.EndOfCommands) = (output : List ℕ) × serves served.EndOfCommands output × keeps
+EndsBy lacks idle keeps serves writes fails (Ended served.ReadFault) = (output : List ℕ) × serves served.ReadFault output × keeps
+EndsBy lacks idle keeps serves writes fails (Ended served.ShowFault) = (output : List ℕ) × serves served.ShowFault output × keeps
+EndsBy lacks idle keeps serves writes fails (Ended served.NoMemory) = (output : List ℕ) × serves served.NoMemory output × keeps
+
+-- A run of the program over its line ends so.
+-- `old` and `new` are the files before and after, `left_old` and `left_new` what a crash might have left, and `refused` the errors that the disk gave. `lacks` says why there is no input of a name, `idle` that nothing was read of the commands or shown, `gave`, `at_end` and `showed` what the commands gave and the terminal showed.
+pub record Edits (line : Line) (old new : Option Files) (left_old left_new : Files → Type 0) (refused : Error → Type 0)
+    (lacks : Option Files → List ℕ → (Error → Type 0) → Fate → Type 0) (idle : Type 0) (gave : List ℕ → Bool → Type 0) (at_end : Type 0) (showed : List ℕ → Bool → Type 0) (fate : Fate) : Type 0 where
+  pub ends : EndsBy (lacks old (string_bytes line.input) refused) idle
+      (KeepsDisk old new left_old left_new)
+      (ServesInput line (IsInput old (string_bytes line.input)) gave at_end showed)
+      (WritesOutput old new left_old left_new (output_of line))
+      (FailsToWrite old new left_old left_new refused (output_of line)) fate
+
+-- All of the text is shown, or a beginning of it and then the terminal fails.
+abbrev pub Tells : Screen → Screen → List ℕ → Type 0
+Tells old new text = Shows old new text false ⊎ ((front : List ℕ) × IsFrontOf front text × Shows old new front true)
+
+-- The status is that of the fate, and its line is told on standard error; or that there is no memory for the line, where there is one.
+pub record Concludes (line : Line) (fate : Fate) (old new : Screen) (exit : ExitCode) : Type 0 where
+  pub status : exit_status exit ≡ status_of fate
+  pub told : Tells old new (text_of line fate) ⊎ ((status_of fate ≡ 1) × Tells old new (said (codes "no memory")))
+
+-- The words, where they were given, say this line.
+abbrev pub IsLineIn : Result (Vec (String Global) Global) LineFault → Line → Type 0
+IsLineIn (Ok words) line = IsLine (map string_bytes words.items) line
+IsLineIn (Err fault) line = ⊥
+
+-- Why there is no line: the words were not given, or they say none.
+abbrev pub IsFaultIn : Result (Vec (String Global) Global) LineFault → LineFault → Type 0
+IsFaultIn (Ok words) fault = IsLineFault (map string_bytes words.items) fault
+IsFaultIn (Err given) fault = fault ≡ given
+
+-- The status of a line that is refused: 3, or 0 for the help and the version; 1 where memory was refused.
+abbrev pub IsRefusedBy : LineFault → ExitCode → Type 0
+IsRefusedBy line_fault.NoMemory exit = exit_status exit ≡ 1
+IsRefusedBy (line_fault.Refused error) exit = (kind_of error ≡ kind.DisplayHelp → exit_status exit ≡ 0)
+    × (kind_of error ≡ kind.DisplayVersion → exit_status exit ≡ 0)
+    × (kind_of error ≢ kind.DisplayHelp → kind_of error ≢ kind.DisplayVersion → exit_status exit ≡ 3)
+
+-- The words say no line, and nothing is done but that that is told.
+pub record Refuses (words : Result (Vec (String Global) Global) LineFault) (still : Type 0) (exit : ExitCode) : Type 0 where
+  pub fault : LineFault
+  pub fault_is : IsFaultIn words fault
+  pub status : IsRefusedBy fault exit
+  pub kept : still
+
+-- The words say a line, and it is run over, and that is told.
+pub record RunsOver (words : Result (Vec (String Global) Global) LineFault) (edits : Line → Fate → Type 0) (concludes : Line → Fate → Type 0) : Type 0 where
+  pub line : Line
+  pub line_is : IsLineIn words line
+  pub fate : Fate
+  pub run : edits line fate
+  pub end : concludes line fate

@@ -1,0 +1,245 @@
+//! What the program does, on any disk, terminal and commands.
+ghost use Rattle.std.specs.Prelude.{◌≡◌, ◌≤◌, ◌⊎◌, codes, IfErr, IfOk, IfSome, OnErr, vec_len};
+ghost use Rattle.std.specs.Process.{exit_status};
+ghost use Rattle.std.specs.String.{string_bytes};
+ghost use Rattle.teco.specs.CommandLine.{IsDepth};
+ghost use Rattle.teco.specs.Ending.{said};
+ghost use Rattle.teco.specs.Run.{Concludes, Edits, Finishes, IsFateOf, IsFaultIn, IsInput, IsLineIn, IsRefusedBy, KeepsDisk, LacksInput, Refuses, RunsOver, Tells};
+ghost use Rattle.teco.specs.Serving.{Serves};
+ghost use Rattle.teco.specs.Source.{Gives, HasEnded};
+ghost use Rattle.teco_core.specs.declared.limits.TheConstants.{FILE_LIMIT};
+ghost use Rattle.teco_session.specs.History.{new_history};
+ghost use Rattle.teco_session.specs.Kept.{history_of};
+ghost use Rattle.teco_step.specs.Terminal.{Shows};
+
+use crate::disk::Disk;
+use crate::ending::{Fate, ending};
+use crate::input::read_input;
+use crate::line::{Line, LineFault, line_of, output_name, refused_status};
+use crate::output::write_output;
+use crate::served::Served;
+use crate::serving::serve;
+use crate::source::Source;
+use std::alloc::Global;
+use std::fmt::Write;
+use std::io::ErrorKind;
+use std::process::ExitCode;
+use std::{fmt, io};
+use teco_core::{FILE_LIMIT, NoMemory};
+use teco_session::Session;
+use teco_step::{Terminal, TerminalFault};
+use teco_store::Desk;
+
+/// How the program ends at an error of the system: by want of memory where the error is that, otherwise as given.
+fn fate_of(error: io::Error, other: Fate) -> Fate
+    ensures { IsFateOf error other result }
+{
+    match error.kind() {
+        ErrorKind::OutOfMemory => Fate::NoMemory,
+        _ => other,
+    }
+}
+
+/// Reads the input file whole.
+fn input_of<D: Disk>(alloc: Global, name: &str, disk: &mut D) -> Result<Vec<u8>, Fate>
+    ensures input { IfOk result (λ input. IsInput (D.files disk.old) name.now input.items) }
+    ensures small { IfOk result (λ input. vec_len input ≤ FILE_LIMIT) }
+    ensures fault { IfErr result (LacksInput D.Input.coming D.Input.bound D.Input.failures (D.files disk.old) name.now (D.gave disk.new)) }
+    ensures keeps { KeepsDisk (D.files disk.old) (D.files disk.new) (D.left disk.old) (D.left disk.new) }
+{
+    let mut source = match disk.open(name) {
+        Ok(source) => source,
+        Err(error) => return Err(fate_of(error, Fate::NoInput)),
+    };
+    match read_input(alloc, &mut source, FILE_LIMIT) {
+        Ok(input) => Ok(input),
+        Err(fault) => Err(Fate::from(fault)),
+    }
+}
+
+/// A session over the input, which keeps as many strings as the line says.
+fn session_over(line: &Line, input: Vec<u8>) -> Result<Session, NoMemory>
+    requires small { vec_len input ≤ FILE_LIMIT }
+    requires depth { IfSome line.now.undo IsDepth }
+    ensures { IfOk result (λ session. history_of session ≡ new_history line.now.undo input.items) }
+{
+    match line.undo {
+        Some(depth) => Session::with_depth(input, depth as usize),
+        None => Ok(Session::new(input)),
+    }
+}
+
+/// Serves the commands over the input. Gives the session that is left, and how the serving ended.
+fn serve_over<S: Source, T: Terminal>(
+    alloc: Global,
+    line: &Line,
+    input: Vec<u8>,
+    commands: &mut S,
+    term: &mut T,
+) -> Result<(Session, Served), NoMemory>
+    requires small { vec_len input ≤ FILE_LIMIT }
+    requires depth { IfSome line.now.undo IsDepth }
+    ensures serves { IfOk result (λ ended. Serves line.now.limit line.now.prompt
+        (Gives S.coming S.bound S.failures commands.old commands.new)
+        (HasEnded (S.coming commands.new) (S.ended commands.new))
+        (Shows (T.screen term.old) (T.screen term.new))
+        (new_history line.now.undo input.items) (history_of ended.0) ended.1) }
+    ensures err { OnErr result ((commands.new ≡ commands.old) × (term.new ≡ term.old)) }
+{
+    let mut session = session_over(line, input)?;
+    let served = serve(alloc, commands, &mut session, line.limit, line.prompt, term);
+    Ok((session, served))
+}
+
+/// Writes the output after an exit. How the program ends then.
+fn finish<D: Disk>(
+    alloc: Global,
+    name: &str,
+    number: u32,
+    served: Served,
+    output: &[u8],
+    disk: &mut D,
+) -> Fate
+    ensures { Finishes (D.files disk.old) (D.files disk.new) (D.left disk.old) (D.left disk.new) (D.gave disk.new) name.now output.now served result }
+{
+    match served {
+        Served::Exit => match write_output(alloc, disk, name, number, output) {
+            Ok(()) => Fate::Ended(Served::Exit),
+            Err(error) => fate_of(error, Fate::NoOutput),
+        },
+        other => Fate::Ended(other),
+    }
+}
+
+/// Reads the input, serves the commands over it, and after an exit writes the output. The number is for the name of a draft.
+fn edit<S: Source, T: Terminal, D: Disk>(
+    alloc: Global,
+    line: &Line,
+    number: u32,
+    commands: &mut S,
+    term: &mut T,
+    disk: &mut D,
+) -> Fate
+    requires depth { IfSome line.now.undo IsDepth }
+    ensures { Edits line.now (D.files disk.old) (D.files disk.new) (D.left disk.old) (D.left disk.new) (D.gave disk.new)
+        (LacksInput D.Input.coming D.Input.bound D.Input.failures) ((commands.new ≡ commands.old) × (term.new ≡ term.old))
+        (Gives S.coming S.bound S.failures commands.old commands.new)
+        (HasEnded (S.coming commands.new) (S.ended commands.new))
+        (Shows (T.screen term.old) (T.screen term.new)) result }
+{
+    let input = match input_of(alloc, line.input.as_str(), disk) {
+        Ok(input) => input,
+        Err(fate) => return fate,
+    };
+    let Ok(name) = output_name(alloc, line) else {
+        return Fate::NoMemory;
+    };
+    let Ok((session, served)) = serve_over(alloc, line, input, commands, term) else {
+        return Fate::NoMemory;
+    };
+    finish(
+        alloc,
+        name.as_str(),
+        number,
+        served,
+        session.editor().output(),
+        disk,
+    )
+}
+
+fn no_memory<E: Terminal>(errors: &mut E) -> ExitCode
+    ensures status { exit_status result ≡ 1 }
+    ensures told { Tells (E.screen errors.old) (E.screen errors.new) (said (codes "no memory")) }
+{
+    let _ = errors.put(b"teco: no memory\n");
+    ExitCode::from(1)
+}
+
+/// Tells how the program ends.
+fn conclude<E: Terminal>(alloc: Global, line: &Line, fate: Fate, errors: &mut E) -> ExitCode
+    ensures { Concludes line.now fate (E.screen errors.old) (E.screen errors.new) result }
+{
+    match ending(alloc, line, fate) {
+        Ok((status, text)) => {
+            let _ = errors.put(text.as_bytes());
+            ExitCode::from(status)
+        }
+        Err(NoMemory) => no_memory(errors),
+    }
+}
+
+/// A terminal, to write text on.
+#[derive(Drop)]
+struct TextOn<'a, T: Terminal> {
+    term: &'a mut T,
+}
+
+impl<'a, T: Terminal> fmt::Write for TextOn<'a, T> {
+    fn write_str(&mut self, text: &str) -> fmt::Result {
+        match self.term.put(text.as_bytes()) {
+            Ok(()) => Ok(()),
+            Err(TerminalFault) => Err(fmt::Error),
+        }
+    }
+}
+
+fn tell<T: Terminal>(error: &clap::Error, term: &mut T) {
+    let mut text = TextOn { term };
+    let _ = write!(text, "{error}");
+}
+
+/// Tells why there is no line: on standard error, or on standard output where the help or the version was asked for.
+fn refuse<T: Terminal, E: Terminal>(fault: &LineFault, term: &mut T, errors: &mut E) -> ExitCode
+    ensures { IsRefusedBy fault.now result }
+{
+    match fault {
+        LineFault::NoMemory => no_memory(errors),
+        LineFault::Refused(error) => {
+            if error.use_stderr() {
+                tell(error, errors);
+            } else {
+                tell(error, term);
+            }
+            ExitCode::from(refused_status(error))
+        }
+    }
+}
+
+fn line_in(alloc: Global, words: Result<Vec<String>, LineFault>) -> Result<Line, LineFault>
+    ensures line { IfOk result (IsLineIn words) }
+    ensures depth { IfOk result (λ line. IfSome line.undo IsDepth) }
+    ensures fault { IfErr result (IsFaultIn words) }
+{
+    match words {
+        Ok(words) => line_of(alloc, words.as_slice()),
+        Err(fault) => Err(fault),
+    }
+}
+
+/// Runs over the line of these words, and gives the status. The number is for the name of a draft.
+pub fn program<S: Source, T: Terminal, E: Terminal, D: Disk>(
+    alloc: Global,
+    words: Result<Vec<String>, LineFault>,
+    number: u32,
+    commands: &mut S,
+    term: &mut T,
+    errors: &mut E,
+    disk: &mut D,
+) -> ExitCode
+    ensures { Refuses words ((commands.new ≡ commands.old) × (disk.new ≡ disk.old)) result
+        ⊎ RunsOver words
+        (λ line. Edits line (D.files disk.old) (D.files disk.new) (D.left disk.old) (D.left disk.new) (D.gave disk.new)
+        (LacksInput D.Input.coming D.Input.bound D.Input.failures) ((commands.new ≡ commands.old) × (term.new ≡ term.old))
+        (Gives S.coming S.bound S.failures commands.old commands.new)
+        (HasEnded (S.coming commands.new) (S.ended commands.new))
+        (Shows (T.screen term.old) (T.screen term.new)))
+        (λ line fate. Concludes line fate (E.screen errors.old) (E.screen errors.new) result) }
+{
+    match line_in(alloc, words) {
+        Ok(line) => {
+            let fate = edit(alloc, &line, number, commands, term, disk);
+            conclude(alloc, &line, fate, errors)
+        }
+        Err(fault) => refuse(&fault, term, errors),
+    }
+}
