@@ -1,4 +1,4 @@
-//! The twin of gap_inserts.rt.txt in Rust: the same gap buffer, the same calls, the same clock.
+//! The twin of gap.rt.txt in Rust: the same gap buffer, the same calls, the same clock.
 use std::alloc::{alloc, dealloc, realloc, Layout};
 use std::ptr;
 use std::slice;
@@ -92,7 +92,6 @@ impl GapBuffer {
 const TEXT: usize = 10_000_000;
 const INSERTS: usize = 1_000_000;
 const MOVES: usize = 100;
-const ROUNDS: usize = 5;
 
 fn filled(text: &[u8]) -> Result<GapBuffer, ()> {
     let mut buffer = GapBuffer::new();
@@ -124,26 +123,24 @@ fn moves(buffer: &mut GapBuffer) {
 fn told(what: &str, start: Instant, buffer: &GapBuffer) {
     let spent = start.elapsed().as_nanos();
     let (before, after) = buffer.halves();
-    println!("{what} {spent} {} {}", before.len(), after.len());
+    println!("{what} rust {spent} {},{}", before.len(), after.len());
 }
 
 fn main() -> Result<(), ()> {
     let text = vec![b'a'; TEXT];
-    for _ in 0..ROUNDS {
-        let mut buffer = filled(&text)?;
-        let start = Instant::now();
-        inserts(&mut buffer, TEXT)?;
-        told("end", start, &buffer);
+    let mut buffer = filled(&text)?;
+    let start = Instant::now();
+    inserts(&mut buffer, TEXT)?;
+    told("end", start, &buffer);
 
-        let mut buffer = filled(&text)?;
-        buffer.splice(TEXT / 2, 0, b"");
-        let start = Instant::now();
-        inserts(&mut buffer, TEXT / 2)?;
-        told("middle", start, &buffer);
+    let mut buffer = filled(&text)?;
+    buffer.splice(TEXT / 2, 0, b"");
+    let start = Instant::now();
+    inserts(&mut buffer, TEXT / 2)?;
+    told("middle", start, &buffer);
 
-        let start = Instant::now();
-        moves(&mut buffer);
-        told("moves", start, &buffer);
-    }
+    let start = Instant::now();
+    moves(&mut buffer);
+    told("moves", start, &buffer);
     Ok(())
 }
