@@ -36,16 +36,16 @@ followed law zero old r text k sound f low =
     }
 
 pub run_left : LeadsToItsBeginning → ZeroLimitChangesNothing → (old from new : Full) (r0 r : Recording) (text : List ℕ) (k : ℕ) (changes : List Change) → IsSound old.room (length old.stored) old.body
-    → from ≡ old → r0.full ≡ from
+    → from ≡ old → state_of r0.full ≡ state_of from
     → ((t : Trail) → t.steps ≡ 0 → t.states 0 ≡ state_of from → t.floor ≤ from.room → Follows r0 t)
     → ((floor : ℕ) → Follows r0 (trail_of (state_of r0.full) text floor 0) → Follows r (trail_of (state_of r0.full) text floor k))
     → new ≡ r.full → changes ≡ r.notes → RunLeft old new text k changes
 run_left law zero old from new r0 r text k changes sound ef er begins run en em =
-    let same : r0.full ≡ old = er ∙ ef in
+    let same : state_of r0.full ≡ state_of old = er ∙ ap state_of ef in
     let last : (floor : ℕ) → floor ≤ old.room → Follows r (trail_of (state_of old) text floor k) =
     λ floor low.
     let first : Follows r0 (trail_of (state_of old) text floor 0) =
     begins (trail_of (state_of old) text floor 0) refl ((zero (state_of old) text).state ∙ ap state_of (sym ef)) (let e : old.room ≡ from.room = ap (λ (f : Full). f.room) (sym ef) in omega arith) in
-    subst (λ (f : Full). Follows r0 (trail_of (state_of f) text floor 0) → Follows r (trail_of (state_of f) text floor k)) same (run floor) first in
+    subst (λ (s : State). Follows r0 (trail_of s text floor 0) → Follows r (trail_of s text floor k)) same (run floor) first in
     let l : RunLeft old r.full text k r.notes = followed law zero old r text k sound (last old.room (omega arith)) (last 0 (omega arith)) in
     subst (λ (cs : List Change). RunLeft old new text k cs) (sym em) (subst (λ (f : Full). RunLeft old f text k r.notes) (sym en) l)

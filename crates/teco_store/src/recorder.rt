@@ -38,15 +38,17 @@ impl Model for Recorder {
 }
 
 impl Recorder {
-    /// Takes an editor. Takes no memory.
-    pub fn new(editor: Editor) -> Recorder
-        ensures full { result.full ≡ editor }
+    /// Takes an editor, and drops what is stored beyond its output's end: it was written and taken back. Takes no memory.
+    pub fn new(mut editor: Editor) -> Recorder
+        ensures full { result.full ≡ record editor { stored = take editor.body.output editor.stored } }
+        ensures state { state_of result.full ≡ state_of editor }
         ensures empty { (result.notes ≡ []) × (result.done ≡ 0) }
 
         // It follows whatever begins here.
         ensures follows { (t : Trail) → t.steps ≡ 0 → t.states 0 ≡ state_of editor → t.floor ≤ editor.room → Follows result t }
     {
         let _shown = editor.shown();
+        editor.forget_beyond();
         Recorder {
             entry: Vec::new(editor.allocator()),
             editor,

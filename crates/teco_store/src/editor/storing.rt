@@ -43,6 +43,14 @@ impl Editor {
         next_page(&self.input[self.place..])
     }
 
+    // Drops what is stored beyond the output's end.
+    pub(crate) fn forget_beyond(&mut self)
+        ensures editor { self.new ≡ record self.old { stored = take self.old.body.output self.old.stored } }
+        ensures extends { Extends self.old self.new }
+    {
+        self.output.truncate(self.shown);
+    }
+
     // Makes room for a text of `len` bytes.
     pub(crate) fn reserve(&mut self, len: usize) -> Result<(), NoMemory>
         ensures body { self.new.body ≡ self.old.body }
