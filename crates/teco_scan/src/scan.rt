@@ -1,10 +1,12 @@
 //! Reading tokens.
-ghost use Rattle.std.specs.Prelude.{◌≡◌, ◌<◌, ◌≤◌, ℕ, length, drop, IfOk, slice_index, true};
+ghost use Rattle.std.specs.Prelude.{◌≡◌, ◌<◌, ◌≤◌, ℕ, List, length, drop, IfOk, slice_index, true};
 ghost use Rattle.teco_core.specs.Ascii.{is_digit};
 ghost use Rattle.teco_scan.specs.FirstRow.{named_at, with_operand};
 ghost use Rattle.teco_scan.specs.Scan.{no_modifiers, scan, scanned, run_of, after_run, after_fillers};
 ghost use Rattle.teco_scan.specs.Spelling.{IsSpelled, IsLongest, IsCutExactly, LacksRegisterExactly, LacksTestExactly, IsIllExactly, IsFaultOfFour, PassesFillers};
-ghost use Rattle.teco_scan.specs.Written.{CommandsAreSpelled};
+ghost use Rattle.teco_scan.specs.Written.{NumbersAreSpelled, PlainCommandsAreSpelled, RegisterCommandsAreSpelled, TextCommandsAreSpelled, MarksAreSpelled, ModifiersAreAdmitted};
+ghost use Rattle.teco_scan.specs.Table.{is_table};
+ghost use Rattle.teco_scan.specs.declared.command.Row.{Row};
 ghost use Rattle.teco_scan.specs.Seen.{Gives, IsKindIn, IsKindPlaced, IsFoundAt, IsDetermined, bytes_in, instruction_in, found_in};
 
 use crate::command::{Form, Modifiers};
@@ -118,20 +120,27 @@ pub fn token_at(text: &[u8], at: usize) -> Found
 
 /// The laws of spelling, as its clauses.
 ///
-/// The token that is read is spelled by the bytes before the rest, and no token that they begin with is longer, but where a
-/// refused name is. The fault is UTC exactly where no token begins and the bytes are a front of a spelling, IQN and IQC
-/// exactly where they fit a spelling up to its register or test, and ILL exactly where a refused name is, or nothing
-/// of all this is so; no other fault is read. Fillers are passed. The clauses of [`token_at`] leave one answer. The table says
-/// what commands there are, and here is how some of them are written.
+/// They hold of every table of commands that passes [`is_table`], and [`ROWS`] does. The token that is read is spelled by the
+/// bytes before the rest, and no token that they begin with is longer, but where a refused name is. The fault is UTC exactly
+/// where no token begins and the bytes are a front of a spelling, IQN and IQC exactly where they fit a spelling up to its
+/// register or test, and ILL exactly where a refused name is, or nothing of all this is so; no other fault is read. Fillers
+/// are passed. The clauses of [`token_at`] leave one answer. The table says what commands there are, and here is how each of its
+/// rows is written, and which of them admit modifiers.
 pub fn spelling()
-    ensures spelled { IsSpelled ROWS }
-    ensures longest { IsLongest ROWS }
-    ensures cut { IsCutExactly ROWS }
-    ensures no_register { LacksRegisterExactly ROWS }
-    ensures no_test { LacksTestExactly ROWS }
-    ensures ill { IsIllExactly ROWS }
-    ensures faults { IsFaultOfFour ROWS }
+    ensures table { is_table ROWS ≡ true }
+    ensures spelled { (rows : List Row) → IsSpelled rows }
+    ensures longest { (rows : List Row) → is_table rows ≡ true → IsLongest rows }
+    ensures cut { (rows : List Row) → is_table rows ≡ true → IsCutExactly rows }
+    ensures no_register { (rows : List Row) → is_table rows ≡ true → LacksRegisterExactly rows }
+    ensures no_test { (rows : List Row) → is_table rows ≡ true → LacksTestExactly rows }
+    ensures ill { (rows : List Row) → is_table rows ≡ true → IsIllExactly rows }
+    ensures faults { (rows : List Row) → IsFaultOfFour rows }
     ensures fillers { PassesFillers }
     ensures determined { IsDetermined }
-    ensures commands { CommandsAreSpelled }
+    ensures numbers { NumbersAreSpelled }
+    ensures plain_commands { PlainCommandsAreSpelled }
+    ensures register_commands { RegisterCommandsAreSpelled }
+    ensures text_commands { TextCommandsAreSpelled }
+    ensures marks { MarksAreSpelled }
+    ensures modifiers { ModifiersAreAdmitted }
 {}
