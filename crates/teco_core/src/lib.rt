@@ -15,7 +15,7 @@ pub use arguments::{Args, Expression, Level, Sign, Taken};
 pub use ascii::{ESC, is_filler, is_line_end};
 pub use case_mode::CaseMode;
 pub use code::Code;
-pub use laws::argument_laws;
+pub use laws::{argument_laws, digit_laws};
 pub use limits::{
     BLOCK_LIMIT, CALL_LIMIT, DEPTH_LIMIT, FILE_LIMIT, PARENTHESIS_LIMIT, PUSHED_LIMIT, TEXT_LIMIT,
     limit_values,
