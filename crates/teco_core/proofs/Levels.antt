@@ -5,7 +5,7 @@ use Rattle.teco_core.specs.declared.code.Code.{Code}
 use Rattle.teco_core.specs.declared.arguments.Expression.{Expression}
 use Rattle.teco_core.specs.declared.arguments.Expression.TheVariants.{Nothing, Number}
 use Rattle.teco_core.specs.Refusal.{◌>>=◌}
-use Rattle.teco_core.specs.Arguments.{Arguments, given, give, close_level}
+use Rattle.teco_core.specs.Arguments.{Arguments, with_value, give, close_level}
 
 -- The level opened last comes first.
 pub innermost : (levels : List Expression) (depth : ℕ) → 0 < depth → depth ≤ length levels
@@ -24,14 +24,14 @@ module _ (first : Option ℤ) (levels : List Expression) (depth : ℕ) (e : Expr
   After n = record { first = first; expression = Number n; outer = reverse (take (depth - 1) levels) }
 
   closes : e ≡ Number v → 0 < depth → depth ≤ length levels
-      → close_level Before ≡ (given (get_or levels (depth - 1) Nothing) v >>= (λ n. Ok (After n)))
+      → close_level Before ≡ (with_value (get_or levels (depth - 1) Nothing) v >>= (λ n. Ok (After n)))
   unfolding close_level give
   closes is some room = rw (is, innermost levels depth some room)
 
   pub closes-ok : (n : ℤ) → e ≡ Number v → 0 < depth → depth ≤ length levels
-      → given (get_or levels (depth - 1) Nothing) v ≡ Ok n → close_level Before ≡ Ok (After n)
+      → with_value (get_or levels (depth - 1) Nothing) v ≡ Ok n → close_level Before ≡ Ok (After n)
   closes-ok n is some room gives = closes is some room ∙ ap (λ r. r >>= (λ n. Ok (After n))) gives
 
   pub closes-err : (code : Code) → e ≡ Number v → 0 < depth → depth ≤ length levels
-      → given (get_or levels (depth - 1) Nothing) v ≡ Err code → close_level Before ≡ Err code
+      → with_value (get_or levels (depth - 1) Nothing) v ≡ Err code → close_level Before ≡ Err code
   closes-err code is some room gives = closes is some room ∙ ap (λ r. r >>= (λ n. Ok (After n))) gives

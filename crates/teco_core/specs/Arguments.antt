@@ -25,32 +25,32 @@ pub record Arguments : Type 0 where
 abbrev pub no_arguments : Arguments
 no_arguments = record { first = None; expression = Nothing; outer = [] }
 
--- A value is taken where there is nothing; a sign makes it itself or its negative; a value and an operator work on it; after a
--- value alone it is ARG.
-abbrev pub given : Expression → ℤ → Result ℤ Code
-given Nothing v = Ok v
-given (Signed Positive) v = Ok v
-given (Signed Negative) v = fitted (neg_ℤ v)
-given (Operation a o) v = operation o a v
-given (Number a) v = Err Arg
+-- The number that an expression makes with a value: the value itself where there is nothing; a sign makes it itself or its
+-- negative; a value and an operator work on it; after a value alone it is ARG.
+abbrev pub with_value : Expression → ℤ → Result ℤ Code
+with_value Nothing v = Ok v
+with_value (Signed Positive) v = Ok v
+with_value (Signed Negative) v = fitted (neg_ℤ v)
+with_value (Operation a o) v = operation o a v
+with_value (Number a) v = Err Arg
 
 unfoldable pub give : ℤ → Arguments → Result Arguments Code
 give v a = do
-  n ← given a.expression v
+  n ← with_value a.expression v
   Ok (record a { expression = Number n })
 
 -- An operator waits after a value. Where there is nothing only + and - may come, as signs. Where one waits already it is ARG.
-abbrev pub waiting : Op → Expression → Result Expression Code
-waiting o (Number v) = Ok (Operation v o)
-waiting op.Plus Nothing = Ok (Signed Positive)
-waiting op.Minus Nothing = Ok (Signed Negative)
-waiting o Nothing = Err Arg
-waiting o (Signed s) = Err Arg
-waiting o (Operation v w) = Err Arg
+abbrev pub with_operator : Op → Expression → Result Expression Code
+with_operator o (Number v) = Ok (Operation v o)
+with_operator op.Plus Nothing = Ok (Signed Positive)
+with_operator op.Minus Nothing = Ok (Signed Negative)
+with_operator o Nothing = Err Arg
+with_operator o (Signed s) = Err Arg
+with_operator o (Operation v w) = Err Arg
 
 unfoldable pub operate : Op → Arguments → Result Arguments Code
 operate o a = do
-  e ← waiting o a.expression
+  e ← with_operator o a.expression
   Ok (record a { expression = e })
 
 -- ( opens a level, not after a value alone; past the limit of open ones it is PDO.

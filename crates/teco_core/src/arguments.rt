@@ -1,6 +1,6 @@
 //! Arguments: the numbers before a command.
 ghost use Rattle.std.specs.Prelude.{◌≡◌, ◌≤◌, ◌<◌, ◌^◌, Ok, Err, OnOk, OnErr, IfErr};
-ghost use Rattle.teco_core.specs.Arguments.{no_arguments, given, waiting, sign_value, ground_value, level_of, emptied, give, operate, open_level, close_level, comma, give_pair, taken_from, with_first};
+ghost use Rattle.teco_core.specs.Arguments.{no_arguments, with_value, with_operator, sign_value, ground_value, level_of, emptied, give, operate, open_level, close_level, comma, give_pair, taken_from, with_first};
 ghost use Rattle.teco_core.specs.declared.limits.TheConstants.{PARENTHESIS_LIMIT};
 
 use crate::code::Code;
@@ -58,10 +58,10 @@ impl Sign {
 }
 
 impl Expression {
-    /// The number that it becomes when `value` is given to it.
+    /// The number that it makes with `value`.
     #[inline(always)]
-    fn given(self, value: i32) -> Result<i32, Code>
-        ensures { result ≡ given self value }
+    fn with_value(self, value: i32) -> Result<i32, Code>
+        ensures { result ≡ with_value self value }
     {
         match self {
             Expression::Nothing => Ok(value),
@@ -72,9 +72,9 @@ impl Expression {
         }
     }
 
-    /// What it becomes when `op` comes after it.
-    fn waiting(self, op: Op) -> Result<Expression, Code>
-        ensures { result ≡ waiting op self }
+    /// What it becomes with `op` after it.
+    fn with_operator(self, op: Op) -> Result<Expression, Code>
+        ensures { result ≡ with_operator op self }
     {
         match self {
             Expression::Number(value) => Ok(Expression::Operation(value, op)),
@@ -172,7 +172,7 @@ impl Args {
         ensures err { IfErr result (λ code. give value (arguments self.old) ≡ Err code) }
         ensures unchanged { OnErr result (self.new ≡ self.old) }
     {
-        let number = self.expression.given(value)?;
+        let number = self.expression.with_value(value)?;
         self.expression = Expression::Number(number);
         Ok(())
     }
@@ -185,7 +185,7 @@ impl Args {
         ensures err { IfErr result (λ code. operate op (arguments self.old) ≡ Err code) }
         ensures unchanged { OnErr result (self.new ≡ self.old) }
     {
-        let expression = self.expression.waiting(op)?;
+        let expression = self.expression.with_operator(op)?;
         self.expression = expression;
         Ok(())
     }
@@ -224,7 +224,7 @@ impl Args {
             return Err(Code::Arg);
         }
         let around = self.outer[self.depth - 1];
-        let number = around.given(value)?;
+        let number = around.with_value(value)?;
         self.depth -= 1;
         self.expression = Expression::Number(number);
         Ok(())

@@ -10,7 +10,7 @@ use Rattle.teco_core.specs.declared.arguments.Expression.{Expression}
 use Rattle.teco_core.specs.declared.arguments.Expression.TheVariants.{Nothing, Number, Signed, Operation}
 use Rattle.teco_core.specs.Refusal.{◌>>=◌}
 use Rattle.teco_core.specs.Number.{fitted, quotient, operation, decimal_value, digits_value}
-use Rattle.teco_core.specs.Arguments.{Arguments, given, give, waiting, operate, opened_after, open_level, closed_into, close_level, divided, comma, ground_value, with_first, taken_on, taken_from, paired, give_pair}
+use Rattle.teco_core.specs.Arguments.{Arguments, with_value, give, with_operator, operate, opened_after, open_level, closed_into, close_level, divided, comma, ground_value, with_first, taken_on, taken_from, paired, give_pair}
 use Rattle.teco_step.specs.Stepping.{is_unfinished_code}
 
 -- where it is refused, the code is one of its own
@@ -49,31 +49,31 @@ own_operation op.And a b = tt
 own_operation op.Or a b = tt
 
 -- arguments
-own_given : (e : Expression) (v : ℤ) → IsOwn (given e v)
-own_given Nothing v = tt
-own_given (Signed Positive) v = tt
-own_given (Signed Negative) v = own_fitted (neg_ℤ v)
-own_given (Operation a o) v = own_operation o a v
-own_given (Number a) v = refl
+own_with_value : (e : Expression) (v : ℤ) → IsOwn (with_value e v)
+own_with_value Nothing v = tt
+own_with_value (Signed Positive) v = tt
+own_with_value (Signed Negative) v = own_fitted (neg_ℤ v)
+own_with_value (Operation a o) v = own_operation o a v
+own_with_value (Number a) v = refl
 
 own_give : (v : ℤ) (a : Arguments) → IsOwn (give v a)
 unfolding give
-own_give v a = own_then (given a.expression v) _ (own_given a.expression v) (λ n. tt)
+own_give v a = own_then (with_value a.expression v) _ (own_with_value a.expression v) (λ n. tt)
 
-own_waiting : (o : Op) (e : Expression) → IsOwn (waiting o e)
-own_waiting o (Number v) = tt
-own_waiting op.Plus Nothing = tt
-own_waiting op.Minus Nothing = tt
-own_waiting op.Times Nothing = refl
-own_waiting op.Over Nothing = refl
-own_waiting op.And Nothing = refl
-own_waiting op.Or Nothing = refl
-own_waiting o (Signed s) = refl
-own_waiting o (Operation v w) = refl
+own_with_operator : (o : Op) (e : Expression) → IsOwn (with_operator o e)
+own_with_operator o (Number v) = tt
+own_with_operator op.Plus Nothing = tt
+own_with_operator op.Minus Nothing = tt
+own_with_operator op.Times Nothing = refl
+own_with_operator op.Over Nothing = refl
+own_with_operator op.And Nothing = refl
+own_with_operator op.Or Nothing = refl
+own_with_operator o (Signed s) = refl
+own_with_operator o (Operation v w) = refl
 
 own_operate : (o : Op) (a : Arguments) → IsOwn (operate o a)
 unfolding operate
-own_operate o a = own_then (waiting o a.expression) _ (own_waiting o a.expression) (λ e. tt)
+own_operate o a = own_then (with_operator o a.expression) _ (own_with_operator o a.expression) (λ e. tt)
 
 own_ground : (e : Expression) → IsOwn (ground_value e)
 own_ground Nothing = tt
@@ -99,8 +99,8 @@ is_own_taken a = own_taken_on a.outer a
 pub own_taken : (a : Arguments) (c : Code) → taken_from a ≡ Err c → is_unfinished_code c ≡ false
 own_taken a c e = own_code (taken_from a) c (is_own_taken a) e
 
-pub own_given_value : (v : ℤ) (a : Arguments) (c : Code) → give v a ≡ Err c → is_unfinished_code c ≡ false
-own_given_value v a c e = own_code (give v a) c (own_give v a) e
+pub own_with_value_value : (v : ℤ) (a : Arguments) (c : Code) → give v a ≡ Err c → is_unfinished_code c ≡ false
+own_with_value_value v a c e = own_code (give v a) c (own_give v a) e
 
 pub own_operator : (o : Op) (a : Arguments) (c : Code) → operate o a ≡ Err c → is_unfinished_code c ≡ false
 own_operator o a c e = own_code (operate o a) c (own_operate o a) e
