@@ -73,7 +73,8 @@ impl Block {
     }
 
     // Makes the gap from `gap` to `tail` longer by at least `lacking`, and returns where it ends then.
-    // It is made longer by an eighth of what follows it, if there is room, so that few inserts move that.
+    // It is made longer by at least 4,096 bytes and by at least an eighth of what follows it, as far as there is room, so that few
+    // inserts move that.
     #[inline(never)]
     pub(crate) fn widened(self, gap: usize, tail: usize, lacking: usize) -> (Block, usize)
         requires gap { (gap ≤ tail) × (tail ≤ length self.region.bytes) }
