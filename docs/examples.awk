@@ -1,0 +1,107 @@
+# Puts each example of a page into a folder of its own below `work`, for docs/check.
+#
+# A block ```teco, perhaps with options after it, has commands as bin/tecol reads them, and then parts that begin with a line of their own:
+#   -- before   the input; empty where it isn't there      -- after   the output; none is written where it isn't there
+#   -- typed    what is typed                              -- status N   where it isn't 0 with an output, and 2 without one
+# A block ```session has lines that begin with "* ", each a command string, with what it types after it. The parts are the same.
+# A row of a table with four columns has commands in the third, and in the fourth the words that they type, perhaps over INPUT of `one`,
+# `two` and `three`, a page each, where its first column has a star after it.
+# In a man page, .Dl teco .. -e 'COMMANDS' .. comes after comments .\" before, .\" after and .\" typed, each with a text as printf reads it.
+
+function put(name, text) {
+    printf "%s", text > (folder "/" name)
+    close(folder "/" name)
+}
+
+function begin(options) {
+    n++
+    folder = sprintf("%s/%s.%03d", work, page, n)
+    system("mkdir -p '" folder "'")
+    put("where", page ":" NR)
+    put("options", options)
+    put("before", "")
+    put("typed", "")
+    has_after = status = 0
+}
+
+function finish() {
+    put("status", status ? status - 1 : has_after ? 0 : 2)
+    folder = ""
+}
+
+function append(text) {
+    if (part == "after") has_after = 1
+    parts[part] = parts[part] text "\n"
+}
+
+function end_block(    name) {
+    for (name in parts) {
+        if (name == "session" && !has_exit) parts["typed"] = parts["typed"] "*^.\n"
+    }
+    for (name in parts) put(name, parts[name])
+    split("", parts)
+    finish()
+}
+
+# What is inside the backquotes of a column of a table.
+function code(column) {
+    gsub(/\\\|/, "|", column)
+    if (!match(column, /`.*`/)) return ""
+    column = substr(column, RSTART + 1, RLENGTH - 2)
+    gsub(/`, `/, " ", column)
+    return column
+}
+
+function row(    columns, k) {
+    gsub(/\\\|/, "\001")
+    if (split($0, columns, "|") != 6) return
+    for (k in columns) gsub("\001", "\\|", columns[k])
+    if (code(columns[4]) == "") return
+    begin("")
+    put("row", "")
+    put("commands", code(columns[4]) "\n")
+    put("typed", code(columns[5]) "\n")
+    if (columns[2] ~ /\*/) put("before", "one\n^Ltwo\n^Lthree\n")
+    if (code(columns[4]) ~ /EX\$\$$/) { has_after = 1; put("written", "") }
+    finish()
+}
+
+function printf_text(name) {
+    sub(/^\.\\" [a-z]+ /, "")
+    gsub(/\\n$/, "")
+    gsub(/\\n/, "\n")
+    held[name] = $0 "\n"
+}
+
+function display(    name) {
+    if (!match($0, /-e '.*'/)) return
+    begin("")
+    put("commands", substr($0, RSTART + 4, RLENGTH - 5) "\n")
+    for (name in held) put(name, held[name])
+    if ("after" in held) has_after = 1
+    split("", held)
+    finish()
+}
+
+/^```teco/ || /^```session/ {
+    kind = substr($1, 4)
+    sub(/^```[a-z]* ?/, "")
+    begin(kind == "session" ? "--prompt " $0 : $0)
+    part = kind == "session" ? "typed" : "commands"
+    has_exit = 0
+    next
+}
+folder && /^```$/ { end_block(); next }
+folder && /^-- status / { status = $3 + 1; next }
+folder && /^-- / { part = $2; parts[part] = ""; if (part == "after") has_after = 1; next }
+folder && /^\* / && kind == "session" {
+    if ($0 ~ /EX\$\$$/) has_exit = 1
+    parts["session"] = parts["session"] substr($0, 3) "\n"
+    part = "typed"
+    parts["typed"] = parts["typed"] "*^.\n"
+    next
+}
+folder { append($0); next }
+/^\|/ { row() }
+/^\.\\" (before|after|typed) / { printf_text($2) }
+/^\.Dl teco / { display() }
