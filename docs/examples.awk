@@ -6,7 +6,7 @@
 # A block ```session has lines that begin with "* ", each a command string, with what it types after it. The parts are the same.
 # A row of a table with four columns has commands in the third, and in the fourth the words that they type, perhaps over INPUT of `one`,
 # `two` and `three`, a page each, where its first column has a star after it.
-# In a man page, .Dl teco .. -e 'COMMANDS' .. comes after comments .\" before, .\" after and .\" typed, each with a text as printf reads it.
+# In a man page, .Dl .. teco .. -e 'COMMANDS' .. comes after comments .\" before, .\" after and .\" typed, each with a text as printf reads it.
 
 function put(name, text) {
     printf "%s", text > (folder "/" name)
@@ -104,4 +104,4 @@ folder && /^\* / && kind == "session" {
 folder { append($0); next }
 /^\|/ { row() }
 /^\.\\" (before|after|typed) / { printf_text($2) }
-/^\.Dl teco / { display() }
+/^\.Dl .*teco -e / { display() }
