@@ -3,7 +3,7 @@ use Rattle.std.proofs.Common.{◌≡◌, ℕ, zero, suc, ◌+◌, ◌*◌, ◌<�
 use Rattle.std.proofs.lemmas.Bool.{cases_lt}
 use Rattle.std.proofs.lemmas.List.{drop_more}
 use Rattle.teco_store.specs.State.{Body, state_at}
-use Rattle.teco_store.specs.Turn.{Note, Fits, body_after}
+use Rattle.teco_store.specs.Turn.{Note, Fits}
 use Rattle.teco_store.specs.Entry.{body_back, FitsBack, before, since, of_step, load_back}
 use Rattle.teco_store.specs.Follows.{AreMarked}
 use Rattle.teco_store.specs.RecordLaws.{ComesSoFarCut}
