@@ -2,7 +2,8 @@
 use Rattle.std.specs.Prelude.{◌≡◌, ℕ, ◌<◌, Some, Bool, false, ◌||◌, ◌==◌, List, slice_get}
 use Rattle.std.specs.Option.{option_map_or}
 use Rattle.teco_search.specs.declared.byte_set.ByteSet.{ByteSet}
-use Rattle.teco_search.specs.declared.byte_set.ByteSet.TheVariants.{Empty, One, Two, Three, Table}
+use Rattle.teco_search.specs.declared.byte_set.ByteSet.TheVariants.{Empty, One, Two, Three, Kind, Table}
+use Rattle.teco_search.specs.Element.{is_in}
 
 -- whether a table has a byte
 abbrev pub in_table : List Bool → ℕ → Bool
@@ -14,6 +15,7 @@ contains Empty x = false
 contains (One a) x = x == a
 contains (Two a b) x = x == a || x == b
 contains (Three a b c) x = x == a || x == b || x == c
+contains (Kind class) x = is_in class x
 contains (Table table) x = in_table table x
 
 -- Each byte of a text fits in eight bits.

@@ -1,9 +1,12 @@
 //! The byte of a match that is looked for first.
 ghost use Rattle.std.specs.Prelude.{◌≡◌, ◌<◌, ℕ, Some, length, slice_get};
 ghost use Rattle.teco_search.specs.Anchor.{AreSingle, IsAnchored, begins};
+ghost use Rattle.teco_search.specs.ByteSet.{contains};
+ghost use Rattle.teco_search.specs.Element.{item_admits};
 
 use crate::byte_set::ByteSet;
-use crate::element::Element;
+use crate::element::{Element, Item, OneByte, is_exact};
+use crate::frequency::frequency;
 use teco_core::CaseMode;
 
 /// A place at a known distance from the start of each match, and the bytes that may be there.
@@ -15,8 +18,8 @@ pub(crate) struct Anchor {
     pub(crate) bytes: ByteSet,
 }
 
-/// Which bytes the match of an element may begin with.
-fn beginnings(mode: CaseMode, element: &Element) -> [bool; 256]
+/// A table of the bytes that the match of an element may begin with.
+fn table_of(mode: CaseMode, element: &Element) -> [bool; 256]
     ensures { (b : ℕ) → b < 256 → slice_get result b ≡ Some (begins mode element.now b) }
 {
     let mut table = [false; 256];
@@ -26,40 +29,68 @@ fn beginnings(mode: CaseMode, element: &Element) -> [bool; 256]
     table
 }
 
-/// Which of the elements before any run, or with the first, may begin with the fewest bytes.
-fn narrowest(mode: CaseMode, elements: &[Element]) -> usize
+/// Which bytes an item admits.
+#[tactic(auto, unfolding(crate::specs::Element::item_admits))]
+fn bytes_of(mode: CaseMode, item: Item) -> ByteSet
+    ensures { (b : ℕ) → contains result b ≡ item_admits mode item b }
+{
+    match item {
+        Item::Class(class) => ByteSet::Kind(class),
+        Item::Byte(byte) => {
+            if is_exact(mode, byte) {
+                ByteSet::One(byte)
+            } else {
+                ByteSet::Two(byte.to_ascii_lowercase(), byte.to_ascii_uppercase())
+            }
+        }
+    }
+}
+
+/// Which bytes the match of an element may begin with. Only a list and an element that excludes bytes take a table.
+#[tactic(auto, unfolding(crate::specs::Anchor::begins, crate::specs::Element::admits))]
+fn beginnings(mode: CaseMode, element: &Element) -> ByteSet
+    ensures { (b : ℕ) → b < 256 → contains result b ≡ begins mode element.now b }
+{
+    match element {
+        Element::Among(OneByte::Single(item)) => bytes_of(mode, *item),
+        Element::Among(OneByte::Listed(_)) | Element::Except(_) => {
+            ByteSet::of(table_of(mode, element))
+        }
+        Element::Blanks => ByteSet::Two(b' ', b'\t'),
+    }
+}
+
+/// Which of the elements before any run, or with the first, may begin with the rarest bytes.
+fn rarest(mode: CaseMode, elements: &[Element]) -> usize
     requires { 0 < length elements.now }
     ensures within { result < length elements.now }
     ensures single { AreSingle elements.now result }
 {
-    let mut narrowest = 0;
-    let mut fewest = 257;
+    let mut rarest = 0;
+    let mut least = u32::MAX;
     'offsets: for (offset, element) in elements.iter().enumerate() {
-        let width = beginnings(mode, element)
-            .iter()
-            .filter(|is_in| **is_in)
-            .count();
-        if width < fewest {
-            narrowest = offset;
-            fewest = width;
+        let frequency = frequency(mode, element);
+        if frequency < least {
+            rarest = offset;
+            least = frequency;
         }
         if element.is_run() {
             break;
         }
     }
-    narrowest
+    rarest
 }
 
 impl Anchor {
-    /// The anchor of some elements that admits the fewest bytes.
+    /// The anchor of some elements at the one whose bytes are rarest, as far as they can be guessed.
     pub(crate) fn of(mode: CaseMode, elements: &[Element]) -> Anchor
         requires { 0 < length elements.now }
         ensures { IsAnchored mode elements.now result }
     {
-        let offset = narrowest(mode, elements);
+        let offset = rarest(mode, elements);
         Anchor {
             offset,
-            bytes: ByteSet::of(beginnings(mode, &elements[offset])),
+            bytes: beginnings(mode, &elements[offset]),
         }
     }
 }

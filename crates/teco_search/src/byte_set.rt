@@ -2,7 +2,9 @@
 ghost use Rattle.std.specs.Prelude.{◌≡◌, ◌<◌, ◌||◌, ◌==◌, ℕ, Some, IfSome, slice_get};
 ghost use Rattle.memchr.specs.Find.{IsFirstByte, IsLastByte};
 ghost use Rattle.teco_search.specs.ByteSet.{contains, in_table};
+ghost use Rattle.teco_search.specs.Element.{is_in};
 
+use crate::element::Class;
 use memchr::{memchr, memchr2, memchr3, memrchr, memrchr2, memrchr3};
 
 /// A set of bytes, kept as a scan for it is fastest.
@@ -12,6 +14,8 @@ pub(crate) enum ByteSet {
     One(u8),
     Two(u8, u8),
     Three(u8, u8, u8),
+    /// The bytes of a kind.
+    Kind(Class),
     /// Whether each byte is in the set.
     Table([bool; 256]),
 }
@@ -42,8 +46,34 @@ fn last_in_table(table: &[bool; 256], bytes: &[u8]) -> Option<usize>
     None
 }
 
+/// The first place of a slice whose byte is of a kind.
+fn first_of_kind(class: Class, bytes: &[u8]) -> Option<usize>
+    ensures { IsFirstByte (is_in class) bytes.now result }
+{
+    'places: for (place, byte) in bytes.iter().enumerate() {
+        if class.contains(*byte) {
+            return Some(place);
+        }
+    }
+    None
+}
+
+/// The last place of a slice whose byte is of a kind.
+fn last_of_kind(class: Class, bytes: &[u8]) -> Option<usize>
+    ensures { IsLastByte (is_in class) bytes.now result }
+{
+    let mut place = bytes.len();
+    'places: while place > 0 {
+        place -= 1;
+        if class.contains(bytes[place]) {
+            return Some(place);
+        }
+    }
+    None
+}
+
 impl ByteSet {
-    /// The set with one more byte; none where it has three already.
+    /// The set with one more byte; none where it is no set of at most two bytes.
     fn with(self, byte: u8) -> Option<ByteSet>
         ensures { IfSome result (λ set. (b : ℕ) → contains set b ≡ (contains self b || b == byte)) }
     {
@@ -51,7 +81,7 @@ impl ByteSet {
             ByteSet::Empty => Some(ByteSet::One(byte)),
             ByteSet::One(a) => Some(ByteSet::Two(a, byte)),
             ByteSet::Two(a, b) => Some(ByteSet::Three(a, b, byte)),
-            ByteSet::Three(..) | ByteSet::Table(_) => None,
+            ByteSet::Three(..) | ByteSet::Kind(_) | ByteSet::Table(_) => None,
         }
     }
 
@@ -81,6 +111,7 @@ impl ByteSet {
             ByteSet::One(a) => byte == *a,
             ByteSet::Two(a, b) => byte == *a || byte == *b,
             ByteSet::Three(a, b, c) => byte == *a || byte == *b || byte == *c,
+            ByteSet::Kind(class) => class.contains(byte),
             ByteSet::Table(table) => table[usize::from(byte)],
         }
     }
@@ -94,6 +125,7 @@ impl ByteSet {
             ByteSet::One(a) => memchr(*a, bytes),
             ByteSet::Two(a, b) => memchr2(*a, *b, bytes),
             ByteSet::Three(a, b, c) => memchr3(*a, *b, *c, bytes),
+            ByteSet::Kind(class) => first_of_kind(*class, bytes),
             ByteSet::Table(table) => first_in_table(table, bytes),
         }
     }
@@ -107,6 +139,7 @@ impl ByteSet {
             ByteSet::One(a) => memrchr(*a, bytes),
             ByteSet::Two(a, b) => memrchr2(*a, *b, bytes),
             ByteSet::Three(a, b, c) => memrchr3(*a, *b, *c, bytes),
+            ByteSet::Kind(class) => last_of_kind(*class, bytes),
             ByteSet::Table(table) => last_in_table(table, bytes),
         }
     }

@@ -130,6 +130,12 @@ impl Items {
         Items { items }
     }
 
+    pub(crate) fn as_slice(&self) -> &[Item]
+        ensures { result.now ≡ self.now }
+    {
+        self.items.as_slice()
+    }
+
     /// Whether one of the items admits a byte.
     pub(crate) fn admit(&self, mode: CaseMode, byte: u8) -> bool
         ensures { result ≡ list_any (λ i. item_admits mode i byte) self.now }

@@ -4,6 +4,7 @@
 mod anchor;
 mod byte_set;
 mod element;
+mod frequency;
 mod joined;
 mod law;
 mod literal;

@@ -1,10 +1,10 @@
 use Rattle.std.proofs.Common.{◌<◌, length}
 use Rattle.teco_search.specs.Anchor.{AreSingle}
-use Rattle.teco_search.proofs.anchor.narrowest.Given as goal
+use Rattle.teco_search.proofs.anchor.rarest.Given as goal
 
 abbrev pub invariant-offsets : goal.invariant-offsets
 invariant-offsets l = record {
-  within : l.narrowest < length l.elements;
-  chosen : AreSingle l.elements l.narrowest;
+  within : l.rarest < length l.elements;
+  chosen : AreSingle l.elements l.rarest;
   single : AreSingle l.elements l.offset;
 }

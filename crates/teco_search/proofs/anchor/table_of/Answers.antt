@@ -2,7 +2,7 @@ use Rattle.std.proofs.Common.{◌∙◌, arith}
 use Rattle.std.proofs.lemmas.List.{length-set}
 use Rattle.teco_search.specs.Anchor.{begins}
 use Rattle.teco_search.proofs.Tables.{table_more}
-use Rattle.teco_search.proofs.anchor.beginnings.Goals as goal
+use Rattle.teco_search.proofs.anchor.table_of.Goals as goal
 
 pub bytes-preserved : goal.bytes-preserved
 bytes-preserved c = record {

@@ -1,7 +1,7 @@
 use Rattle.std.proofs.Common.{◌≡◌, ◌<◌, ℕ, Some, length}
 use Rattle.std.specs.Prelude.{slice_get}
 use Rattle.teco_search.specs.Anchor.{begins}
-use Rattle.teco_search.proofs.anchor.beginnings.Given as goal
+use Rattle.teco_search.proofs.anchor.table_of.Given as goal
 
 abbrev pub invariant-bytes : goal.invariant-bytes
 invariant-bytes l = record {
