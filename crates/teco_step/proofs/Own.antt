@@ -99,8 +99,8 @@ is_own_taken a = own_taken_on a.outer a
 pub own_taken : (a : Arguments) (c : Code) → taken_from a ≡ Err c → is_unfinished_code c ≡ false
 own_taken a c e = own_code (taken_from a) c (is_own_taken a) e
 
-pub own_with_value_value : (v : ℤ) (a : Arguments) (c : Code) → give v a ≡ Err c → is_unfinished_code c ≡ false
-own_with_value_value v a c e = own_code (give v a) c (own_give v a) e
+pub own_given_value : (v : ℤ) (a : Arguments) (c : Code) → give v a ≡ Err c → is_unfinished_code c ≡ false
+own_given_value v a c e = own_code (give v a) c (own_give v a) e
 
 pub own_operator : (o : Op) (a : Arguments) (c : Code) → operate o a ≡ Err c → is_unfinished_code c ≡ false
 own_operator o a c e = own_code (operate o a) c (own_operate o a) e
