@@ -3,6 +3,7 @@ pub mod Entries
 pub mod Fitting
 pub mod FormFeeds
 pub mod Halves
+pub mod Joining
 pub mod Leading
 pub mod Recordings
 pub mod Rows

@@ -2,6 +2,7 @@ pub mod ChangeView
 pub mod Entry
 pub mod Follows
 pub mod Page
+pub mod PageLaws
 pub mod RecordLaws
 pub mod Refused
 pub mod Search

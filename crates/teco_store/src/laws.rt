@@ -1,4 +1,5 @@
-//! What always holds of changes that are turned.
+//! What always holds of changes that are turned, and of pages.
+ghost use Rattle.teco_store.specs.PageLaws.{FinishingWritesAll, PagesJoin, TurningKeepsAll};
 ghost use Rattle.teco_store.specs.RecordLaws.{BackThenForth, ComesSoExtended, ComesSoFarCut, FitsWithMoreCapacity, ForthThenBack, HoldsAtMostItsLoad, LeadsToItsBeginning};
 
 /// What entries do when they are turned, and what a recorder leaves. It does nothing: its clauses are laws.
@@ -10,4 +11,11 @@ pub fn record_laws()
     ensures leads { LeadsToItsBeginning }
     ensures extended { ComesSoExtended }
     ensures cut { ComesSoFarCut }
+{}
+
+/// What pages come to. It does nothing: its clauses are laws.
+pub fn page_laws()
+    ensures joined { PagesJoin }
+    ensures turned { TurningKeepsAll }
+    ensures finished { FinishingWritesAll }
 {}

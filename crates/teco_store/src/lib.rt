@@ -14,7 +14,7 @@ mod turning;
 pub use change::Change;
 pub use desk::{Desk, Refused};
 pub use editor::Editor;
-pub use laws::record_laws;
+pub use laws::{page_laws, record_laws};
 pub use pages::part;
 pub use recorder::Recorder;
 pub use turning::{apply, apply_all, revert, revert_all, rewind};
