@@ -76,6 +76,8 @@ impl Desk for Editor {
 
     ghost follows = { λ _ _. Unit {0} };
 
+    ghost has_places = { λ _ _. Unit {0} };
+
     ghost eases = { λ _ _ h. h };
 
     fn halves(&self) -> (&[u8], &[u8]) {

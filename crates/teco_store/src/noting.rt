@@ -1,5 +1,5 @@
 //! The text that a search leaves.
-ghost use Rattle.std.specs.Prelude.{◌≡◌, ◌↔◌, ◌<◌, List, ℕ, true, option_map, IfOk, OnOk, OnErr, IsOk, IsTrue, Some};
+ghost use Rattle.std.specs.Prelude.{◌≡◌, ◌↔◌, ◌<◌, option_map, IfOk, OnOk, OnErr, IsOk, IsTrue, None};
 ghost use Rattle.std.specs.Option.{option_copied};
 ghost use Rattle.teco_store.specs.Search.{fresh, is_last, length_of, text_after};
 
@@ -32,7 +32,8 @@ pub(crate) fn fresh_copy(
     last: Option<&[u8]>,
     text: Option<&[u8]>,
 ) -> Result<Option<Vec<u8>>, NoMemory>
-    ensures { IfOk result (λ f. option_map (λ v. v.items) f ≡ fresh (option_copied last.entry) (option_copied text.entry)) }
+    ensures copy { IfOk result (λ f. option_map (λ v. v.items) f ≡ fresh (option_copied last.entry) (option_copied text.entry)) }
+    ensures none { fresh (option_copied last.entry) (option_copied text.entry) ≡ None → IsOk result }
 {
     let Some(text) = text else {
         return Ok(None);
@@ -55,7 +56,7 @@ pub(crate) fn note_text(
 ) -> Result<(), NoMemory>
     ensures ok { OnOk result (option_map (λ v. v.items) last.new ≡ text_after (option_map (λ v. v.items) last.old) (option_copied text.entry)) }
     ensures err { OnErr result (option_map (λ v. v.items) last.new ≡ option_map (λ v. v.items) last.old) }
-    ensures same { (again : List ℕ) → option_copied text.entry ≡ Some again → is_last (option_map (λ v. v.items) last.old) again ≡ true → IsOk result }
+    ensures none { fresh (option_map (λ v. v.items) last.old) (option_copied text.entry) ≡ None → IsOk result }
 {
     let Some(text) = text else {
         return Ok(());

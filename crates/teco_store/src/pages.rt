@@ -12,11 +12,10 @@ use teco_gap::GapBuffer;
 
 const FORM_FEED: u8 = 12;
 
-/// A page of the input.
+/// A page of the input, and whether a form feed ended it.
 #[derive(Clone, Copy)]
 pub(crate) struct Page<'a> {
     pub(crate) bytes: &'a [u8],
-    /// Whether a form feed ended it.
     pub(crate) form_feed: bool,
 }
 

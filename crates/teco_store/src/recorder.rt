@@ -1,5 +1,5 @@
 //! A desk that notes each change, so that it can be turned back.
-ghost use Rattle.std.specs.Prelude.{◌≡◌, ◌+◌, ◌<◌, ◌≤◌, length, [], take, IfOk, OnOk, OnErr};
+ghost use Rattle.std.specs.Prelude.{◌≡◌, ◌+◌, ◌<◌, ◌≤◌, length, [], take, IfOk, IsOk, OnOk, OnErr};
 ghost use Rattle.std.specs.Vec.{vec_capacity};
 ghost use Rattle.teco_store.specs.ChangeView.{turn_of, HasRoom};
 ghost use Rattle.teco_store.specs.Entry.{weight};
@@ -76,15 +76,16 @@ impl Recorder {
         ensures full { self.new.full ≡ self.old.full }
         ensures sound { IsSound self.new.full.room (length self.new.full.stored) self.new.full.body }
         ensures spare { OnOk result (changes ≤ self.new.spare) }
+        ensures with_room { changes ≤ self.old.spare → IsOk result }
         ensures keeps { Keeps self.old self.new }
     {
         let _shown = self.editor.shown();
         self.entry.reserve(changes)
     }
 
-    // Memory for so many bytes.
+    // Memory for so many bytes, and no more.
     fn memory(&self, bytes: usize) -> Result<Vec<u8>, NoMemory>
-        ensures { IfOk result (λ v. (v.items ≡ []) × (bytes ≤ vec_capacity v)) }
+        ensures { IfOk result (λ v. (v.items ≡ []) × (vec_capacity v ≡ bytes)) }
     {
         Vec::with_capacity(self.editor.allocator(), bytes)
     }
@@ -107,7 +108,7 @@ impl Recorder {
         ensures body { self.new.full.body ≡ self.old.full.body }
         ensures stored { self.new.full.stored ≡ self.old.full.stored }
         ensures sound { IsSound self.new.full.room (length self.new.full.stored) self.new.full.body }
-        ensures ok { IfOk result (λ v. (v.items ≡ []) × (bytes ≤ vec_capacity v)) }
+        ensures ok { IfOk result (λ v. (v.items ≡ []) × (vec_capacity v ≡ bytes)) }
         ensures spare { OnOk result (changes ≤ self.new.spare) }
         ensures room { OnOk result (len ≤ self.new.full.room) }
         ensures keeps { Keeps self.old self.new }

@@ -75,7 +75,7 @@ impl Recorder {
         requires { there + len < 2 ^ 64 }
         ensures ok { OnOk result (self.new.full ≡ with_stored self.old.full (written (state_of self.old.full)) self.new.full.room) }
         ensures err { OnErr result (self.new.full ≡ self.old.full) }
-        ensures memory { IfOk result (λ v. (v.items ≡ []) × (there + len ≤ vec_capacity v)) }
+        ensures memory { IfOk result (λ v. (v.items ≡ []) × (vec_capacity v ≡ there + len)) }
         ensures spare { OnOk result (2 ≤ self.new.spare) }
         ensures room { OnOk result (len ≤ self.new.full.room) }
         ensures sound { IsSound self.new.full.room (length self.new.full.stored) self.new.full.body }
@@ -91,7 +91,7 @@ impl Recorder {
     pub(super) fn prepare_rest(&mut self, there: usize) -> Result<Vec<u8>, NoMemory>
         ensures ok { OnOk result (self.new.full ≡ with_stored self.old.full (written (state_of self.old.full) ++ left_of (state_of self.old.full)) self.old.full.room) }
         ensures err { OnErr result (self.new.full ≡ self.old.full) }
-        ensures memory { IfOk result (λ v. (v.items ≡ []) × (there ≤ vec_capacity v)) }
+        ensures memory { IfOk result (λ v. (v.items ≡ []) × (vec_capacity v ≡ there)) }
         ensures spare { OnOk result (3 ≤ self.new.spare) }
         ensures sound { IsSound self.new.full.room (length self.new.full.stored) self.new.full.body }
         ensures keeps { Keeps self.old self.new }

@@ -1,5 +1,5 @@
 //! The calls of a desk, each of which notes what it changes.
-ghost use Rattle.std.specs.Prelude.{◌≡◌, ◌+◌, ◌<◌, ◌^◌, length};
+ghost use Rattle.std.specs.Prelude.{◌≡◌, ◌+◌, ◌<◌, ◌≤◌, ◌^◌, length};
 ghost use Rattle.teco_store.specs.State.{pointer_after, state_of};
 
 use crate::change::Kind;
@@ -26,6 +26,8 @@ impl Desk for Recorder {
     ghost state = { λ r. state_of r.full };
 
     ghost follows = { Follows };
+
+    ghost has_places = { λ r changes. changes ≤ r.spare };
 
     ghost eases = { follows_eases };
 

@@ -1,5 +1,5 @@
 //! The text of a search is noted, with the one that it takes the place of.
-ghost use Rattle.std.specs.Prelude.{◌≡◌, ◌+◌, ◌<◌, ◌≤◌, length, option_map, IfOk};
+ghost use Rattle.std.specs.Prelude.{◌≡◌, ◌+◌, ◌<◌, ◌≤◌, length, option_map, None, IfOk, IsOk};
 ghost use Rattle.std.specs.Option.{option_copied};
 ghost use Rattle.teco_store.specs.Follows.{Goes};
 ghost use Rattle.teco_store.specs.Search.{fresh, fresh_load, length_of, text_after};
@@ -14,7 +14,8 @@ use teco_core::{NoMemory, TEXT_LIMIT};
 impl Recorder {
     // A text to be noted; none where it is the last one again.
     pub(super) fn fresh_text(&self, text: Option<&[u8]>) -> Result<Option<Vec<u8>>, NoMemory>
-        ensures { IfOk result (λ f. option_map (λ v. v.items) f ≡ fresh self.now.full.body.last_search (option_copied text.entry)) }
+        ensures copy { IfOk result (λ f. option_map (λ v. v.items) f ≡ fresh self.now.full.body.last_search (option_copied text.entry)) }
+        ensures none { fresh self.now.full.body.last_search (option_copied text.entry) ≡ None → IsOk result }
     {
         fresh_copy(self.editor.allocator(), self.editor.last_search(), text)
     }

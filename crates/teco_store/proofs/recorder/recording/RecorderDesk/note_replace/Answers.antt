@@ -15,7 +15,7 @@ returns-clause-follows c =
     let text = option_copied c.args.text in
     let m = c.args.del + length c.args.ins.now in
     let n = note_load (state_of c.args.self.now.full) text + m in
-    let load = fresh_load_noted (state_of c.args.self.now.full) text _ _ (ap (λ (b : Body). b.last_search) c.find_memory.ensures.body) c.in_ok-text.ensures in
+    let load = fresh_load_noted (state_of c.args.self.now.full) text _ _ (ap (λ (b : Body). b.last_search) c.find_memory.ensures.body) c.in_ok-text.ensures.copy in
     goes_call c.args.self.now c.find_memory.new.self c.exchange.new.self (_ + 0 + m) 3 n c.find_memory.ensures.keeps
     (goes_then c.find_memory.new.self c.note.new.self c.exchange.new.self (_ + 0) m 2 1
     (goes_then c.find_memory.new.self c.note_text.new.self c.note.new.self _ 0 1 1 c.note_text.ensures.goes c.note.ensures.goes) c.exchange.ensures.goes)
