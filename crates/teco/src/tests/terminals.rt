@@ -1,7 +1,7 @@
 //! Terminals whose puts are refused or fail.
 use super::assert_of;
 use std::io::{self, Write};
-use teco_step::{MemoryTerminal, Terminal, WriterTerminal};
+use teco_step::{MemorySink, MemoryTerminal, Terminal, WriterTerminal};
 
 /// Whether a put is done; one that is refused adds nothing, and the same put can be tried again.
 fn puts_again(terminal: &mut MemoryTerminal, bytes: &[u8], before: &[u8]) -> bool {
@@ -21,19 +21,35 @@ fn keeps_what_is_shown(rt: HostRuntime) {
     assert!(rt; keeps(&mut terminal));
 }
 
-/// Takes at most two bytes a write, and `left` in all; then it fails, or takes nothing.
+/// How a writer fails.
+#[derive(Clone, Copy)]
+enum Fault {
+    /// A write past its room is an error.
+    Write,
+    /// A write past its room takes nothing.
+    TakesNothing,
+    /// Each flush is an error.
+    Flush,
+}
+
+fn error() -> io::Error {
+    io::Error::from(io::ErrorKind::Other)
+}
+
+/// Takes at most two bytes a write, and `left` in all. What it took is shown by a flush alone.
 #[derive(Drop)]
 struct Narrow {
     taken: [u8; 8],
     len: usize,
+    shown: usize,
     left: usize,
-    fails: bool,
+    fault: Fault,
 }
 
 impl Write for Narrow {
     fn write(&mut self, bytes: &[u8]) -> io::Result<usize> {
-        if self.left == 0 && self.fails {
-            return Err(io::Error::from(io::ErrorKind::Other));
+        if self.left == 0 && matches!(self.fault, Fault::Write) {
+            return Err(error());
         }
         let left = self.left;
         let n = left.min(2).min(bytes.len());
@@ -48,19 +64,24 @@ impl Write for Narrow {
     }
 
     fn flush(&mut self) -> io::Result<()> {
+        if matches!(self.fault, Fault::Flush) {
+            return Err(error());
+        }
+        self.shown = self.len;
         Ok(())
     }
 }
 
-/// How many bytes a writer takes, whether it fails then, whether `hello` and then `!` could be put on a terminal over it, and what it
-/// has after that.
-type Row<'a> = (usize, bool, bool, bool, &'a str);
+/// How many bytes a writer takes, how it fails, whether `hello` and then `!` could be put on a terminal over it, and what it has and
+/// what it has shown after that.
+type Row<'a> = (usize, Fault, bool, bool, &'a str, &'a str);
 
-static ROWS: [Row<'static>; 4] = [
-    (8, true, true, true, "hello!"),
-    (5, true, true, false, "hello"),
-    (3, false, false, false, "hel"),
-    (3, true, false, false, "hel"),
+static ROWS: [Row<'static>; 5] = [
+    (8, Fault::Write, true, true, "hello!", "hello!"),
+    (5, Fault::Write, true, false, "hello", "hello"),
+    (3, Fault::TakesNothing, false, false, "hel", ""),
+    (3, Fault::Write, false, false, "hel", ""),
+    (8, Fault::Flush, false, false, "hello!", ""),
 ];
 
 /// Whether `hello` and then `!` are put as wanted on a terminal over the writer.
@@ -70,14 +91,17 @@ fn puts(writer: &mut Narrow, hello: bool, mark: bool) -> bool {
 }
 
 fn takes(row: &Row) -> bool {
-    let (left, fails, hello, mark, taken) = *row;
+    let (left, fault, hello, mark, taken, shown) = *row;
     let mut writer = Narrow {
         taken: [0; 8],
         len: 0,
+        shown: 0,
         left,
-        fails,
+        fault,
     };
-    puts(&mut writer, hello, mark) && &writer.taken[..writer.len.min(8)] == taken.as_bytes()
+    puts(&mut writer, hello, mark)
+        && &writer.taken[..writer.len.min(8)] == taken.as_bytes()
+        && &writer.taken[..writer.shown.min(8)] == shown.as_bytes()
 }
 
 #[test]
@@ -85,4 +109,18 @@ fn writes_all_or_fails(rt: HostRuntime) {
     for row in &ROWS {
         assert_of(&rt, row.4, takes(row));
     }
+}
+
+/// Whether `hi` and then `!` are put, where a growth that is refused the first time isn't the second, and each is flushed.
+fn flushes_each(terminal: &mut WriterTerminal<MemorySink>) -> bool {
+    (terminal.put(b"hi").is_ok() || terminal.put(b"hi").is_ok())
+        && terminal.sink().flushed() == b"hi".as_slice()
+        && (terminal.put(b"!").is_ok() || terminal.put(b"!").is_ok())
+        && terminal.sink().flushed() == b"hi!".as_slice()
+}
+
+#[test]
+fn flushes_a_sink_in_memory(rt: HostRuntime) {
+    let mut terminal = WriterTerminal::new(MemorySink::new(rt.alloc()));
+    assert!(rt; flushes_each(&mut terminal));
 }
