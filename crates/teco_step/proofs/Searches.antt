@@ -15,7 +15,7 @@ use Rattle.teco_step.specs.Step.{Attempt, End, Setting, on, again, stop, takes_n
 use Rattle.teco_step.specs.declared.next.Work.{Work}
 
 -- by a further step only where it may have one
-abbrev EndsSearch : Bool → End → Type 0
+abbrev pub EndsSearch : Bool → End → Type 0
 EndsSearch further end = (end ≡ on) ⊎ ((end ≡ stop Srh) ⊎ ((further ≡ true) × (work : Work) × (end ≡ again work)))
 
 abbrev pub Searches : Bool → State → Attempt → Type 0

@@ -1,6 +1,7 @@
 -- What the effect of a token and what a terminal shows always say.
 use Rattle.std.specs.Prelude.{◌≡◌, ◌≢◌, List, [], ◌++◌, ℕ, Bool, true, false, ◌⊎◌}
 use Rattle.teco_core.specs.declared.code.Code.{Code}
+use Rattle.teco_core.specs.declared.code.Code.TheVariants.{Srh}
 use Rattle.teco_core.specs.Arguments.{Arguments}
 use Rattle.teco_scan.specs.Scan.{Item}
 use Rattle.teco_store.specs.State.{State}
@@ -29,6 +30,11 @@ ValueGoesOn = (i : Item) (w : Setting) (s : State) (a : Arguments) → takes_not
 -- Only a step that ends by an exit makes a session done.
 abbrev pub OnlyExits : Type 0
 OnlyExits = (i : Item) (w : Setting) (s : State) (a : Arguments) → (effect i w s a).end ≢ out → (effect i w s a).state.is_done ≡ s.is_done
+
+-- An error leaves all as it was and types nothing, but for a search that failed.
+abbrev pub ErrorsChangeNothing : Type 0
+ErrorsChangeNothing = (i : Item) (w : Setting) (s : State) (a : Arguments) (c : Code) → (effect i w s a).end ≡ stop c → c ≢ Srh
+    → ((effect i w s a).state ≡ s) × ((effect i w s a).arguments ≡ a) × ((effect i w s a).typed ≡ [])
 
 -- A screen that is left alone shows nothing more.
 abbrev pub StillShows : Type 0

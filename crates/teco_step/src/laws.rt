@@ -1,5 +1,5 @@
 //! What the effect of a token and what a terminal shows always say.
-ghost use Rattle.teco_step.specs.Laws.{GoesFurtherIfItMay, JumpsToItsName, LeavesInside, OnlyExits, ShowsMore, StillShows, ValueGoesOn};
+ghost use Rattle.teco_step.specs.Laws.{ErrorsChangeNothing, GoesFurtherIfItMay, JumpsToItsName, LeavesInside, OnlyExits, ShowsMore, StillShows, ValueGoesOn};
 
 /// How the step of a token may end. It does nothing: its clauses are laws.
 pub fn effect_laws()
@@ -8,6 +8,7 @@ pub fn effect_laws()
     ensures further { GoesFurtherIfItMay }
     ensures value { ValueGoesOn }
     ensures done { OnlyExits }
+    ensures errors { ErrorsChangeNothing }
 {}
 
 /// What a terminal shows, one put after another. It does nothing: its clauses are laws.
