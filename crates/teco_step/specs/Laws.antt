@@ -1,10 +1,13 @@
 -- What the effect of a token and what a terminal shows always say.
-use Rattle.std.specs.Prelude.{◌≡◌, ◌≢◌, List, [], ◌++◌, ℕ, Bool, true, false, ◌⊎◌}
+use Rattle.std.specs.Prelude.{◌≡◌, ◌≢◌, List, [], ◌++◌, length, ℕ, Bool, true, false, ◌⊎◌, ℤ, int_le}
 use Rattle.teco_core.specs.declared.code.Code.{Code}
 use Rattle.teco_core.specs.declared.code.Code.TheVariants.{Srh}
 use Rattle.teco_core.specs.Arguments.{Arguments}
-use Rattle.teco_scan.specs.Scan.{Item}
+use Rattle.teco_core.specs.Number.{lowest, highest}
+use Rattle.teco_scan.specs.Scan.{Item, begins_run}
 use Rattle.teco_store.specs.State.{State}
+use Rattle.std.specs.Fmt.{signed_decimal}
+use Rattle.teco_step.specs.Decimal.{numeral_at}
 use Rattle.teco_step.specs.Effect.{effect}
 use Rattle.teco_step.specs.Step.{Setting, on, leave, go, again, out, stop}
 use Rattle.teco_step.specs.Stepping.{may_go_further, name_of, takes_nothing}
@@ -35,6 +38,11 @@ OnlyExits = (i : Item) (w : Setting) (s : State) (a : Arguments) → (effect i w
 abbrev pub ErrorsChangeNothing : Type 0
 ErrorsChangeNothing = (i : Item) (w : Setting) (s : State) (a : Arguments) (c : Code) → (effect i w s a).end ≡ stop c → c ≢ Srh
     → ((effect i w s a).state ≡ s) × ((effect i w s a).arguments ≡ a) × ((effect i w s a).typed ≡ [])
+
+-- What n\ inserts is read back by \ as n, where no digit comes after it.
+abbrev pub ReadsWhatItInserts : Type 0
+ReadsWhatItInserts = (n : ℤ) (rest : List ℕ) → int_le lowest n ≡ true → int_le n highest ≡ true → begins_run rest ≡ false
+    → numeral_at (signed_decimal n ++ rest) ≡ record { value = n; size = length (signed_decimal n) }
 
 -- A screen that is left alone shows nothing more.
 abbrev pub StillShows : Type 0

@@ -26,7 +26,7 @@ mod value;
 mod writer_terminal;
 
 pub use fail_after::FailAfter;
-pub use laws::{effect_laws, screen_laws};
+pub use laws::{decimal_laws, effect_laws, screen_laws};
 pub use line::line_place;
 pub use memory_sink::MemorySink;
 pub use memory_terminal::MemoryTerminal;
