@@ -31,37 +31,44 @@ use Rattle.clap.proofs.CallerLemmas.{default_present, required_has_value}
 use Rattle.clap.proofs.SimpleLemmas.{plain_fields}
 use Rattle.clap.proofs.WalkLemmas.{first_value-rows, one_text-rows}
 use Rattle.teco_core.specs.declared.limits.TheConstants.{DEPTH_LIMIT}
-use Rattle.teco.specs.CommandLine.{IsDepth, IsLine, IsLineFault, input_rule, limit_rule, number_of, teco_app, undo_rule}
+use Rattle.teco.specs.CommandLine.{IsCommands, IsCommandsFault, IsDepth, IsFaultOnceMade, IsLine, IsRefusal, input_rule, limit_rule, number_of, teco_app, undo_rule}
 use Rattle.teco.specs.declared.line.Line.{Line}
-use Rattle.teco.specs.declared.line.LineFault.TheVariants.{Refused}
+use Rattle.teco.specs.declared.line.LineFault.{LineFault}
+use Rattle.teco.specs.declared.line.LineFault.TheVariants.{NoMemory, Refused}
 use Rattle.teco.proofs.CommandEntries.{teco_is_simple, teco_is_free, some_arg, count_is, simple_is, plain_is, IsAlone, alone_at, found_in, entry_has_value, entry_read}
 
 -- ---- what the parse gives
 
 -- no other argument of the program's command has the id of the limit, of the depth or of the input
-limit_only : (j : ℕ) (r : Rule) → j < 5 → bytes_eq (slice_index_or teco_app.top.rules j r).id (codes "limit") ≡ true → j ≡ 0
+limit_only : (j : ℕ) (r : Rule) → j < 7 → bytes_eq (slice_index_or teco_app.top.rules j r).id (codes "limit") ≡ true → j ≡ 0
 limit_only zero r lt e = refl
 limit_only (suc zero) r lt e = absurd (true≢false (sym e))
 limit_only (suc (suc zero)) r lt e = absurd (true≢false (sym e))
 limit_only (suc (suc (suc zero))) r lt e = absurd (true≢false (sym e))
 limit_only (suc (suc (suc (suc zero)))) r lt e = absurd (true≢false (sym e))
-limit_only (suc (suc (suc (suc (suc j))))) r lt e = absurd (omega arith)
+limit_only (suc (suc (suc (suc (suc zero))))) r lt e = absurd (true≢false (sym e))
+limit_only (suc (suc (suc (suc (suc (suc zero)))))) r lt e = absurd (true≢false (sym e))
+limit_only (suc (suc (suc (suc (suc (suc (suc j))))))) r lt e = absurd (omega arith)
 
-undo_only : (j : ℕ) (r : Rule) → j < 5 → bytes_eq (slice_index_or teco_app.top.rules j r).id (codes "undo") ≡ true → j ≡ 3
+undo_only : (j : ℕ) (r : Rule) → j < 7 → bytes_eq (slice_index_or teco_app.top.rules j r).id (codes "undo") ≡ true → j ≡ 3
 undo_only zero r lt e = absurd (true≢false (sym e))
 undo_only (suc zero) r lt e = absurd (true≢false (sym e))
 undo_only (suc (suc zero)) r lt e = absurd (true≢false (sym e))
 undo_only (suc (suc (suc zero))) r lt e = refl
 undo_only (suc (suc (suc (suc zero)))) r lt e = absurd (true≢false (sym e))
-undo_only (suc (suc (suc (suc (suc j))))) r lt e = absurd (omega arith)
+undo_only (suc (suc (suc (suc (suc zero))))) r lt e = absurd (true≢false (sym e))
+undo_only (suc (suc (suc (suc (suc (suc zero)))))) r lt e = absurd (true≢false (sym e))
+undo_only (suc (suc (suc (suc (suc (suc (suc j))))))) r lt e = absurd (omega arith)
 
-input_only : (j : ℕ) (r : Rule) → j < 5 → bytes_eq (slice_index_or teco_app.top.rules j r).id (codes "input") ≡ true → j ≡ 4
+input_only : (j : ℕ) (r : Rule) → j < 7 → bytes_eq (slice_index_or teco_app.top.rules j r).id (codes "input") ≡ true → j ≡ 6
 input_only zero r lt e = absurd (true≢false (sym e))
 input_only (suc zero) r lt e = absurd (true≢false (sym e))
 input_only (suc (suc zero)) r lt e = absurd (true≢false (sym e))
 input_only (suc (suc (suc zero))) r lt e = absurd (true≢false (sym e))
-input_only (suc (suc (suc (suc zero)))) r lt e = refl
-input_only (suc (suc (suc (suc (suc j))))) r lt e = absurd (omega arith)
+input_only (suc (suc (suc (suc zero)))) r lt e = absurd (true≢false (sym e))
+input_only (suc (suc (suc (suc (suc zero))))) r lt e = absurd (true≢false (sym e))
+input_only (suc (suc (suc (suc (suc (suc zero)))))) r lt e = refl
+input_only (suc (suc (suc (suc (suc (suc (suc j))))))) r lt e = absurd (omega arith)
 
 module _ (c : Command) (is : app_of c ≡ teco_app) (m : ArgMatches) (p : IsParsedFrom c m) where
   globals_is : (out-Command c).has_globals ≡ false
@@ -106,12 +113,12 @@ module _ (c : Command) (is : app_of c ≡ teco_app) (m : ArgMatches) (p : IsPars
   -- the input has a text
   pub input_text : is_some (first_value (found_of m) (codes "input")) ≡ true
   input_text =
-      let arg = slice_index_or (args_of c) 4 some in
-      let a = alone_at c is 4 input_rule some (omega arith) refl input_only refl refl refl in
+      let arg = slice_index_or (args_of c) 6 some in
+      let a = alone_at c is 6 input_rule some (omega arith) refl input_only refl refl refl in
       let one : least_values arg ≡ 1 = ap (λ r. (unwrap_or_range r.range).start_inclusive) a.rule_is in
       let least : 1 ≤ least_values arg = rw one (omega arith) in
-      let has = required_has_value c m p (plain_is c is) globals_is negates_is 4 some a.within (ap (λ r. r.required) a.rule_is) (ap (λ r. r.action) a.rule_is)
-      ((simple_is c is).args 4 some a.within).delimiter least a.unique a.named a.own in
+      let has = required_has_value c m p (plain_is c is) globals_is negates_is 6 some a.within (ap (λ r. r.required) a.rule_is) (ap (λ r. r.action) a.rule_is)
+      ((simple_is c is).args 6 some a.within).delimiter least a.unique a.named a.own in
       subst (λ t. is_some (first_value (found_of m) t) ≡ true) a.id_is has
 
 -- ---- what the getters give
@@ -184,35 +191,59 @@ taken_is o x y is at = ap (λ p. unwrap_or p x) (sym is ∙ at)
 
 -- ---- the line, and why there is none
 
-pub line_is : (c : Command) (m : ArgMatches) (words : List Text) (line : Line) → app_of c ≡ teco_app → HasMatchesOf (app_of c) words m
-    → (is_simple_and_free (app_of c) ≡ true → fault_of (app_of c) words ≡ [])
-    → first_value (found_of m) (codes "input") ≡ Some (string_bytes line.input)
-    → first_value (found_of m) (codes "output") ≡ option_map string_bytes line.output
-    → option_map number_of (one_text (found_of m) (codes "limit")) ≡ Some line.limit
-    → (IsTrue line.prompt ↔ (one_text (found_of m) (codes "prompt") ≡ Some (codes "true")))
-    → option_map number_of (one_text (found_of m) (codes "undo")) ≡ line.undo
-    → IsLine words line
-line_is c m words line is matches fault input output limit prompt undo =
-    let rows : rows_of (found_of m) ≡ matches_of teco_app words = (matches (ap is_simple is ∙ teco_is_simple)).0 ∙ ap (λ a. matches_of a words) is in
-    let first : (id : Text) → first_of id (matches_of teco_app words) ≡ first_value (found_of m) id = λ id. ap (first_of id) (sym rows) ∙ sym (first_value-rows (found_of m) id) in
-    let one : (id : Text) → one_of id (matches_of teco_app words) ≡ one_text (found_of m) id = λ id. ap (one_of id) (sym rows) ∙ sym (one_text-rows (found_of m) id) in
-    record {
-      taken = ap (λ a. fault_of a words) (sym is) ∙ fault (ap is_simple_and_free is ∙ teco_is_free);
-      input = first (codes "input") ∙ input;
-      output = first (codes "output") ∙ output;
-      limit = ap (option_map number_of) (one (codes "limit")) ∙ limit;
-      prompt = (λ up. one (codes "prompt") ∙ prompt.0 up, λ e. prompt.1 (sym (one (codes "prompt")) ∙ e));
-      undo = ap (option_map number_of) (one (codes "undo")) ∙ undo;
-    }
+module _ (c : Command) (m : ArgMatches) (words : List Text) (is : app_of c ≡ teco_app) (matches : HasMatchesOf (app_of c) words m)
+    (fault : is_simple_and_free (app_of c) ≡ true → fault_of (app_of c) words ≡ []) where
+  rows_are : rows_of (found_of m) ≡ matches_of teco_app words
+  rows_are = (matches (ap is_simple is ∙ teco_is_simple)).0 ∙ ap (λ a. matches_of a words) is
+
+  first : (id : Text) → first_of id (matches_of teco_app words) ≡ first_value (found_of m) id
+  first id = ap (first_of id) (sym rows_are) ∙ sym (first_value-rows (found_of m) id)
+
+  one : (id : Text) → one_of id (matches_of teco_app words) ≡ one_text (found_of m) id
+  one id = ap (one_of id) (sym rows_are) ∙ sym (one_text-rows (found_of m) id)
+
+  -- the parser takes the words
+  pub words_taken : fault_of teco_app words ≡ []
+  words_taken = ap (λ a. fault_of a words) (sym is) ∙ fault (ap is_simple_and_free is ∙ teco_is_free)
+
+  pub line_is : (line : Line) → first_value (found_of m) (codes "input") ≡ Some (string_bytes line.input)
+      → first_value (found_of m) (codes "output") ≡ option_map string_bytes line.output
+      → (word file : Option Text) → word ≡ first_value (found_of m) (codes "execute") → file ≡ first_value (found_of m) (codes "file") → IsCommands word file line.commands
+      → option_map number_of (one_text (found_of m) (codes "limit")) ≡ Some line.limit
+      → (IsTrue line.prompt ↔ (one_text (found_of m) (codes "prompt") ≡ Some (codes "true")))
+      → option_map number_of (one_text (found_of m) (codes "undo")) ≡ line.undo
+      → IsLine words line
+  line_is line input output word file is_word is_file commands limit prompt undo = record {
+    taken = words_taken;
+    input = first (codes "input") ∙ input;
+    output = first (codes "output") ∙ output;
+    commands = subst (λ w. IsCommands w (first_of (codes "file") (matches_of teco_app words)) line.commands) (is_word ∙ sym (first (codes "execute")))
+        (subst (λ f. IsCommands word f line.commands) (is_file ∙ sym (first (codes "file"))) commands);
+    limit = ap (option_map number_of) (one (codes "limit")) ∙ limit;
+    prompt = (λ up. one (codes "prompt") ∙ prompt.0 up, λ e. prompt.1 (sym (one (codes "prompt")) ∙ e));
+    undo = ap (option_map number_of) (one (codes "undo")) ∙ undo;
+  }
+
+  -- a line that gives commands twice is refused, though the parser takes its words
+  pub commands_fault : (fault : LineFault) (word file : Option Text) → word ≡ first_value (found_of m) (codes "execute") → file ≡ first_value (found_of m) (codes "file")
+      → IsCommandsFault word file fault → IsFaultOnceMade words fault
+  commands_fault NoMemory word file is_word is_file h = words_taken
+  commands_fault (Refused error) word file is_word is_file h = inr (inr (
+    words_taken,
+    (
+      (ap is_some (first (codes "execute") ∙ sym is_word) ∙ h.0.0, ap is_some (first (codes "file") ∙ sym is_file) ∙ h.0.1),
+      h.1,
+    ),
+  ))
 
 abbrev is_memory : ErrorKind → Bool
 is_memory kind.OutOfMemory = true
 is_memory _ = false
 
 at_kind : (k : ErrorKind) (words : List Text) (error : Error) → kind_of error ≡ k
-    → (is_memory k ≡ false → (takes teco_app words ≡ false) × IsAmong (kind_of error) (fault_of teco_app words)) → IsLineFault words (Refused error)
+    → (is_memory k ≡ false → (takes teco_app words ≡ false) × IsAmong (kind_of error) (fault_of teco_app words)) → IsRefusal words error
 at_kind kind.OutOfMemory words error e h = inl e
-at_kind _ words error e h = inr (h refl)
+at_kind _ words error e h = inr (inl (h refl))
 
 not_taken : (b : Bool) (error : Error) → (b ≡ true → kind_of error ≡ kind.OutOfMemory) → is_memory (kind_of error) ≡ false → b ≡ false
 not_taken true error h other = absurd (true≢false (sym (ap is_memory (h refl)) ∙ other))
@@ -224,7 +255,7 @@ among kinds error (inr h) other = h
 
 pub fault_is : (c : Command) (words : List Text) (error : Error) → app_of c ≡ teco_app
     → (takes (app_of c) words ≡ true → kind_of error ≡ kind.OutOfMemory) → (is_simple_and_free (app_of c) ≡ true → HasKind (fault_of (app_of c) words) error)
-    → IsLineFault words (Refused error)
+    → IsRefusal words error
 fault_is c words error is passes kinds =
     let kinds_are : HasKind (fault_of teco_app words) error = subst (λ a. HasKind (fault_of a words) error) is (kinds (ap is_simple_and_free is ∙ teco_is_free)) in
     at_kind (kind_of error) words error refl (λ other. (

@@ -46,6 +46,30 @@ all_given : row_of (codes "teco" ∷ codes "a" ∷ codes "--prompt" ∷ codes "-
 unfolding clap_on_literals
 all_given = refl
 
+-- what the words give for the word and the file of commands
+abbrev commands_of : List Text → Option Text × Option Text
+commands_of words = (first_of (codes "execute") (matches_of teco_app words), first_of (codes "file") (matches_of teco_app words))
+
+-- teco a; teco -e b a; teco a --execute=b; teco -fb a; teco --file b a
+commands_given : map commands_of (
+    (codes "teco" ∷ codes "a" ∷ [])
+    ∷ (codes "teco" ∷ codes "-e" ∷ codes "b" ∷ codes "a" ∷ [])
+    ∷ (codes "teco" ∷ codes "a" ∷ codes "--execute=b" ∷ [])
+    ∷ (codes "teco" ∷ codes "-fb" ∷ codes "a" ∷ [])
+    ∷ (codes "teco" ∷ codes "--file" ∷ codes "b" ∷ codes "a" ∷ [])
+    ∷ []) ≡ (None, None) ∷ (Some (codes "b"), None) ∷ (Some (codes "b"), None) ∷ (None, Some (codes "b")) ∷ (None, Some (codes "b")) ∷ []
+unfolding clap_on_literals
+commands_given = refl
+
+-- teco -e b -f c a: the parser takes it, and the program does not
+both_taken : takes teco_app (codes "teco" ∷ codes "-e" ∷ codes "b" ∷ codes "-f" ∷ codes "c" ∷ codes "a" ∷ []) ≡ true
+unfolding clap_on_literals
+both_taken = refl
+
+both_given : map commands_of ((codes "teco" ∷ codes "-e" ∷ codes "b" ∷ codes "-f" ∷ codes "c" ∷ codes "a" ∷ []) ∷ []) ≡ (Some (codes "b"), Some (codes "c")) ∷ []
+unfolding clap_on_literals
+both_given = refl
+
 -- teco -- --prompt
 after_dashes : row_of (codes "teco" ∷ codes "--" ∷ codes "--prompt" ∷ []) ≡ row (codes "--prompt") None (codes "1000000") (codes "false") None
 unfolding clap_on_literals
@@ -74,8 +98,12 @@ faults : map (fault_of teco_app) (
     ∷ (codes "teco" ∷ codes "a" ∷ codes "--prompt=true" ∷ [])
     ∷ (codes "teco" ∷ codes "a" ∷ codes "--prompt" ∷ codes "--prompt" ∷ [])
     ∷ (codes "teco" ∷ codes "a" ∷ codes "--what" ∷ [])
+    ∷ (codes "teco" ∷ codes "a" ∷ codes "-e" ∷ [])
+    ∷ (codes "teco" ∷ codes "a" ∷ codes "-e" ∷ codes "-C" ∷ [])
+    ∷ (codes "teco" ∷ codes "a" ∷ codes "-fb" ∷ codes "--file=c" ∷ [])
     ∷ (codes "teco" ∷ codes "--help" ∷ [])
     ∷ []) ≡ (MissingRequiredArgument ∷ []) ∷ (UnknownArgument ∷ []) ∷ (InvalidValue ∷ []) ∷ (ValueValidation ∷ []) ∷ (ValueValidation ∷ [])
-    ∷ (ValueValidation ∷ []) ∷ (ValueValidation ∷ []) ∷ (ValueValidation ∷ []) ∷ (TooManyValues ∷ []) ∷ (ArgumentConflict ∷ []) ∷ (UnknownArgument ∷ []) ∷ (DisplayHelp ∷ []) ∷ []
+    ∷ (ValueValidation ∷ []) ∷ (ValueValidation ∷ []) ∷ (ValueValidation ∷ []) ∷ (TooManyValues ∷ []) ∷ (ArgumentConflict ∷ []) ∷ (UnknownArgument ∷ [])
+    ∷ (InvalidValue ∷ []) ∷ (UnknownArgument ∷ []) ∷ (ArgumentConflict ∷ []) ∷ (DisplayHelp ∷ []) ∷ []
 unfolding clap_on_literals
 faults = refl

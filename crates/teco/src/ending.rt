@@ -92,6 +92,7 @@ pub fn ending(alloc: Global, line: &Line, fate: Fate) -> Result<(u8, String), No
 #[cfg(test)]
 mod tests {
     use super::*;
+    use crate::line::Commands;
     use crate::tests::assert_of;
 
     fn line(alloc: Global, output: Option<&str>) -> Result<Line, NoMemory> {
@@ -102,6 +103,7 @@ mod tests {
         Ok(Line {
             input: String::from_str(alloc, "in")?,
             output,
+            commands: Commands::StandardInput,
             limit: 0,
             prompt: false,
             undo: None,

@@ -4,7 +4,7 @@ ghost use Rattle.std.specs.IoError.{error_kind};
 ghost use Rattle.std.specs.Prelude.{◌≡◌, ◌≢◌, ◌≤◌, IfErr, IfOk, IfSome, false, map};
 ghost use Rattle.std.specs.String.{string_bytes};
 ghost use Rattle.std.specs.declared.io.ErrorKind.TheVariants as io_kind;
-ghost use Rattle.teco.specs.CommandLine.{IsDepth, IsLine, IsLineFault, fault_for, input_rule, limit_rule, output_rule, prompt_rule, teco_app, undo_rule};
+ghost use Rattle.teco.specs.CommandLine.{IsCommands, IsCommandsFault, IsDepth, IsFaultOnceMade, IsLine, IsLineFault, execute_rule, fault_for, file_rule, input_rule, limit_rule, output_rule, prompt_rule, teco_app, text_behind, undo_rule};
 ghost use Rattle.teco.specs.Ending.{output_of};
 
 use clap::error::ErrorKind;
@@ -22,8 +22,26 @@ const VERSION: &str = "0.1.0";
 
 /// What the help says of the commands, after the options.
 const AFTER_HELP: &str =
-    "Commands are read from standard input, and what they type goes to standard output. Two ESC end a
-command string, which is then run; EX writes the output and ends the program.";
+    "Commands are read from standard input where neither --execute nor --file gives them, and what they
+type goes to standard output. Two ESC end a command string, which is then run; EX writes the output
+and ends the program.";
+
+/// The usage, which the help and each faulty line show.
+const USAGE: &str = "teco [OPTIONS] <INPUT>";
+
+/// What the parser's error says of a line with a word and a file of commands.
+const BOTH: &str = "the argument '--execute <STRINGS>' cannot be used with '--file <FILE>'";
+
+/// Where the commands come from.
+#[derive(Drop)]
+pub enum Commands {
+    /// Standard input.
+    StandardInput,
+    /// A word of the line, in which each `$` is ESC.
+    Word(String),
+    /// The file of this name.
+    File(String),
+}
 
 /// What the command line says.
 #[derive(Drop)]
@@ -32,6 +50,8 @@ pub struct Line {
     pub input: String,
     /// The name of the output file, if one is given.
     pub output: Option<String>,
+    /// Where the commands come from.
+    pub commands: Commands,
     /// The most steps that each command string may take, at most [`MOST_STEPS`].
     pub limit: u64,
     /// Whether a star is shown where commands are wanted.
@@ -117,6 +137,30 @@ fn undo_arg<'a>(alloc: Global) -> Arg<'a>
         .help("The most command strings kept to be undone, at most 100000; all without it")
 }
 
+fn execute_arg<'a>(alloc: Global) -> Arg<'a>
+    ensures rule { rule_of result ≡ execute_rule }
+    ensures local { result.global ≡ false }
+{
+    Arg::new(alloc, "execute")
+        .short('e')
+        .long("execute")
+        .value_name("STRINGS")
+        .action(ArgAction::Set)
+        .help("The command strings, in which $ is ESC")
+}
+
+fn file_arg<'a>(alloc: Global) -> Arg<'a>
+    ensures rule { rule_of result ≡ file_rule }
+    ensures local { result.global ≡ false }
+{
+    Arg::new(alloc, "file")
+        .short('f')
+        .long("file")
+        .value_name("FILE")
+        .action(ArgAction::Set)
+        .help("The file that the commands are read from, as they are")
+}
+
 fn input_arg<'a>(alloc: Global) -> Arg<'a>
     ensures rule { rule_of result ≡ input_rule }
     ensures local { result.global ≡ false }
@@ -137,21 +181,42 @@ fn command<'a>(alloc: Global) -> Result<Command<'a>, NoMemory>
             "TECO, a text editor whose command strings are programs, each of which can be undone",
         )
         .after_help(AFTER_HELP)
+        .override_usage(USAGE)
         .version(VERSION)
         .arg(limit_arg(alloc))?
         .arg(output_arg(alloc))?
         .arg(prompt_arg(alloc))?
         .arg(undo_arg(alloc))?
+        .arg(execute_arg(alloc))?
+        .arg(file_arg(alloc))?
         .arg(input_arg(alloc))
 }
 
-/// What the words say, the program's name first: `teco [--limit N] [--output FILE] [--prompt] [--undo N] INPUT`.
-pub fn line_of(alloc: Global, words: &[String]) -> Result<Line, LineFault>
+/// Where the commands come from, by the word and the file that are given. A line with both is faulty.
+fn commands_of(alloc: Global, word: Option<&str>, file: Option<&str>) -> Result<Commands, LineFault>
+    ensures commands { IfOk result (IsCommands (text_behind word.entry) (text_behind file.entry)) }
+    ensures fault { IfErr result (IsCommandsFault (text_behind word.entry) (text_behind file.entry)) }
+{
+    match (word, file) {
+        (None, None) => Ok(Commands::StandardInput),
+        (Some(text), None) => Ok(Commands::Word(String::from_str(alloc, text)?)),
+        (None, Some(name)) => Ok(Commands::File(String::from_str(alloc, name)?)),
+        (Some(_), Some(_)) => {
+            let error = command(alloc)?.error(ErrorKind::ArgumentConflict, BOTH)?;
+            Err(LineFault::Refused(error))
+        }
+    }
+}
+
+/// What the words say to the program's command.
+fn line_by<'a>(alloc: Global, command: Command<'a>, words: &'a [String]) -> Result<Line, LineFault>
+    requires command { app_of command ≡ teco_app }
     ensures line { IfOk result (IsLine (map string_bytes words.now)) }
     ensures range { IfOk result (λ line. (line.limit ≤ 1000000000000) × IfSome line.undo IsDepth) }
-    ensures refused { IfErr result (IsLineFault (map string_bytes words.now)) }
+    ensures refused { IfErr result (IsFaultOnceMade (map string_bytes words.now)) }
 {
-    let matches = command(alloc)?.try_get_matches_from(words)?;
+    let matches = command.try_get_matches_from(words)?;
+    let commands = commands_of(alloc, matches.get_str("execute"), matches.get_str("file"))?;
     let input = String::from_str(alloc, matches.get_str("input").unwrap())?;
     let output = match matches.get_str("output") {
         Some(name) => Some(String::from_str(alloc, name)?),
@@ -161,10 +226,21 @@ pub fn line_of(alloc: Global, words: &[String]) -> Result<Line, LineFault>
     Ok(Line {
         input,
         output,
+        commands,
         limit,
         prompt: matches.get_one::<bool>("prompt").unwrap_or(false),
         undo: matches.get_one::<u64>("undo"),
     })
+}
+
+/// What the words say, the program's name first:
+/// `teco [--limit N] [--output FILE] [--prompt] [--undo N] [--execute STRINGS | --file FILE] INPUT`.
+pub fn line_of(alloc: Global, words: &[String]) -> Result<Line, LineFault>
+    ensures line { IfOk result (IsLine (map string_bytes words.now)) }
+    ensures range { IfOk result (λ line. (line.limit ≤ 1000000000000) × IfSome line.undo IsDepth) }
+    ensures refused { IfErr result (IsLineFault (map string_bytes words.now)) }
+{
+    line_by(alloc, command(alloc)?, words)
 }
 
 /// The parser's error for an argument that is not UTF-8.
@@ -210,6 +286,10 @@ pub fn output_name(alloc: Global, line: &Line) -> Result<String, NoMemory>
         }
     }
 }
+
+mod word;
+
+pub use word::commands_in;
 
 #[cfg(test)]
 mod tests;

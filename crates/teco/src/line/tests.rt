@@ -15,6 +15,77 @@ fn refuses_what_is_no_text(rt: HostRuntime) {
     assert!(rt; status == Some(3));
 }
 
+/// Where the commands come from.
+#[derive(Clone, Copy)]
+enum From<'a> {
+    StandardInput,
+    Word(&'a str),
+    File(&'a str),
+}
+
+fn is_from(commands: &Commands, given: &From) -> bool {
+    match (commands, given) {
+        (Commands::StandardInput, From::StandardInput) => true,
+        (Commands::Word(text), From::Word(word)) => text.as_str() == *word,
+        (Commands::File(name), From::File(file)) => name.as_str() == *file,
+        _ => false,
+    }
+}
+
+fn comes_from(alloc: Global, words: &str, given: &From) -> bool {
+    match words_of(alloc, words) {
+        Ok(words) => match line_of(alloc, words.as_slice()) {
+            Ok(line) => is_from(&line.commands, given),
+            Err(_) => false,
+        },
+        Err(NoMemory) => false,
+    }
+}
+
+static SOURCES: [(&str, From); 7] = [
+    ("teco in", From::StandardInput),
+    ("teco -e Y$$EX$$ in", From::Word("Y$$EX$$")),
+    ("teco in --execute ^EX$$", From::Word("^EX$$")),
+    ("teco --execute=-C$$ in", From::Word("-C$$")),
+    ("teco -f a in", From::File("a")),
+    ("teco in -fa", From::File("a")),
+    ("teco in --file=a", From::File("a")),
+];
+
+/// Where memory was refused, a row holds the second time.
+#[test]
+fn says_where_the_commands_come_from(rt: HostRuntime) {
+    for (words, from) in &SOURCES {
+        let held = comes_from(rt.alloc(), words, from) || comes_from(rt.alloc(), words, from);
+        assert_of(&rt, words, held);
+    }
+}
+
+/// The status of a refused line; none where memory was refused.
+fn status_of(alloc: Global, words: &str) -> Option<u8> {
+    let words = words_of(alloc, words).ok()?;
+    match line_of(alloc, words.as_slice()) {
+        Err(LineFault::Refused(error)) => Some(refused_status(&error)),
+        _ => None,
+    }
+}
+
+static REFUSED: [(&str, u8); 4] = [
+    ("teco -e EX$$ -f a in", 3),
+    ("teco -e EX$$ -e EX$$ in", 3),
+    ("teco -e -C$$ in", 3),
+    ("teco --help", 0),
+];
+
+/// Where memory was refused, a row holds the second time.
+#[test]
+fn gives_the_status_of_a_refused_line(rt: HostRuntime) {
+    for (words, status) in &REFUSED {
+        let got = status_of(rt.alloc(), words).or_else(|| status_of(rt.alloc(), words));
+        assert_of(&rt, words, got == Some(*status));
+    }
+}
+
 /// An input, an output, a limit, whether there is a prompt, and a depth.
 type Given<'a> = (&'a str, Option<&'a str>, u64, bool, Option<u64>);
 
