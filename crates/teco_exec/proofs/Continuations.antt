@@ -7,7 +7,7 @@ use Rattle.teco_scan.specs.declared.token.Found.{Found}
 use Rattle.teco_scan.specs.declared.token.Found.TheVariants.{Token}
 use Rattle.teco_exec.specs.Machine.{Caller, Config, Cursor as MachineCursor, block, Now, runs, halts, coming, arrives, pass, returned, step, run_within}
 use Rattle.teco_exec.specs.View.{beginning, coming_of, cursor, item_at, opening_of}
-use Rattle.teco_exec.specs.Running.{goes, over, config, ready_run, at_cursor, at_token, at_opening, at_return, Origin, Host, Continuation, Going, Comes, Ended, at_beginning, at_call, in_return, host, Reaches, code_left, exits, now_at, whole_run}
+use Rattle.teco_exec.specs.Running.{goes, over, config, ready_run, at_cursor, at_token, at_opening, at_return, Origin, Host, Continuation, Going, Comes, Ended, at_beginning, at_call, in_return, host, Reaches, code_left, exits, goes_back, now_at, whole_run}
 use Rattle.teco_exec.specs.declared.cursor.Cursor.{Cursor}
 use Rattle.teco_exec.specs.declared.moves.Opening.{Opening}
 use Rattle.teco_exec.specs.declared.moves.Next.{Next}
@@ -101,6 +101,14 @@ pub comes_back : (a : Arguments) (c d : Cursor) (callers : List Caller) → d.te
 comes_back a c d callers text e now fuel =
     ap (λ x. ready_run fuel (arrives (runs (config c.text.now x None callers now)))) (sym e)
     ∙ ap (λ t. ready_run fuel (arrives (runs (config t.now (cursor d) None callers now)))) (sym text)
+
+-- A called text is over: its caller goes on, or the run is over.
+pub comes_home : (o : Origin) (h k : Host) (a : Arguments) (c d : Cursor) (callers : List Caller) → d.text ≡ c.text → cursor d ≡ in_return a (cursor c) → (x : Exit)
+    → Reaches o h k (exits a (caller c ∷ callers) x) → Reaches o h k (goes_back d callers x)
+comes_home o h k a c d callers text e ending.Return r =
+    let back = continues o k (at_return a (caller c ∷ callers)) r.going (at_cursor d callers) (comes_back a c d callers text e) in
+    record { going = back.going; follows = r.follows }
+comes_home o h k a c d callers text e (ending.Over code) r = r
 
 -- After a step, or what uses none, less is left: steps of the limit, or bytes of the text.
 pub less_left : (limit k j n x y : ℕ) → k ≤ j → j ≤ limit → y ≤ n → (k < j) ⊎ (y < x) → (limit - j) * (n + 1) + y < (limit - k) * (n + 1) + x

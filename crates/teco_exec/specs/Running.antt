@@ -152,6 +152,11 @@ abbrev pub exits : Arguments → List Caller → Exit → Reached
 exits a callers exit.Return = goes (at_return a callers)
 exits a callers (exit.Over code) = over code
 
+-- where the end of a called text leads: its caller goes on at this cursor
+abbrev pub goes_back : Cursor → List Caller → Exit → Reached
+goes_back c callers exit.Return = goes (at_cursor c callers)
+goes_back c callers (exit.Over code) = over code
+
 -- the code that a text's end leaves, where nothing has called it
 abbrev pub code_left : Exit → Option Code
 code_left exit.Return = None

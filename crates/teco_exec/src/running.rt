@@ -4,7 +4,7 @@ ghost use Rattle.teco_core.specs.ArgumentsView.{arguments};
 ghost use Rattle.teco_core.specs.declared.code.Code.TheVariants.{Mem};
 ghost use Rattle.teco_scan.specs.Lists.{nodes};
 ghost use Rattle.teco_step.specs.Terminal.{Shows};
-ghost use Rattle.teco_exec.specs.Running.{LeadsAt, at_beginning, exits, host, in_return};
+ghost use Rattle.teco_exec.specs.Running.{LeadsAt, at_beginning, at_call, exits, goes_back, host};
 ghost use Rattle.teco_exec.specs.Tokens.{Counts};
 ghost use Rattle.teco_exec.specs.View.{cursor as cursor_of};
 ghost use Rattle.teco_exec.specs.Quiet.{takes_no_memory};
@@ -49,6 +49,7 @@ pub fn run<D: Desk, T: Terminal>(desk: &mut D, text: &[u8], limit: u64, term: &m
 }
 
 /// Runs a text at this depth of calls, from its beginning, with these arguments. Where it returns, `args` are what it leaves.
+#[cycle(run_text)]
 fn run_text<D: Desk, T: Terminal>(
     desk: &mut D,
     text: &[u8],
@@ -69,15 +70,8 @@ fn run_text<D: Desk, T: Terminal>(
         match step(desk, &mut cursor, steps, term) {
             Flow::On => continue 'running,
             Flow::Call(called) => {
-                if depth == CALL_LIMIT {
-                    return Exit::Over(Some(Code::Pdo));
-                }
-                let mut left = cursor.args;
-                match run_text(desk, &called, depth + 1, &mut left, steps, term) {
-                    Exit::Return => {
-                        go_on_with(&mut cursor, left);
-                        continue 'running;
-                    }
+                match run_called(desk, &called, depth, &mut cursor, steps, term) {
+                    Exit::Return => continue 'running,
                     Exit::Over(code) => return Exit::Over(code),
                 }
             }
@@ -90,11 +84,26 @@ fn run_text<D: Desk, T: Terminal>(
     }
 }
 
-/// The text goes on with the arguments that a call has left.
-#[inline]
-fn go_on_with(cursor: &mut Cursor, args: Args)
+/// Runs the text that is called at the cursor of a text at this depth of calls. Where it returns, the cursor goes on.
+#[cycle(run_text)]
+fn run_called<D: Desk, T: Terminal>(
+    desk: &mut D,
+    called: &[u8],
+    depth: usize,
+    cursor: &mut Cursor,
+    steps: &mut Steps,
+    term: &mut T,
+) -> Exit
+    requires { depth ≤ CALL_LIMIT }
     ensures text { cursor.new.text ≡ cursor.old.text }
-    ensures args { cursor_of cursor.new ≡ in_return (arguments args) (cursor_of cursor.old) }
+    ensures left { (cursor_of cursor.new).left ≡ (cursor_of cursor.old).left }
+    ensures counts { Counts steps.old steps.new }
+    ensures leads { LeadsAt depth steps.old.limit (host (D.state desk.old) (D.follows desk.old) (T.screen term.old) steps.old.done)
+        (host (D.state desk.new) (D.follows desk.new) (T.screen term.new) steps.new.done)
+        (at_call cursor.old called.now) (λ callers. goes_back cursor.new callers result) }
 {
-    cursor.args = args;
+    if depth == CALL_LIMIT {
+        return Exit::Over(Some(Code::Pdo));
+    }
+    run_text(desk, called, depth + 1, &mut cursor.args, steps, term)
 }

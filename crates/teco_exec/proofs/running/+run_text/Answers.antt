@@ -3,22 +3,22 @@ use Rattle.std.proofs.lemmas.List.{length-drop}
 use Rattle.teco_core.specs.ArgumentsView.{arguments}
 use Rattle.teco_exec.specs.View.{cursor}
 use Rattle.teco_exec.specs.Running.{Going, at_call, at_cursor, at_return, goes, host, over}
-use Rattle.teco_exec.proofs.Continuations.{begins, caller, comes_back, enters, less_left, too_deep}
-use Rattle.teco_exec.proofs.Going.{continues, since}
+use Rattle.teco_exec.proofs.Continuations.{begins, caller, comes_home, enters, less_left, too_deep}
+use Rattle.teco_exec.proofs.Going.{since}
 use Rattle.teco_exec.proofs.NoMemory.{begins_quietly}
 use Rattle.teco_exec.proofs.Stepped.{counts_on}
 use Rattle.teco_exec.proofs.running.+run_text.Goals as goal
 
-pub running-init : goal.running-init
-running-init g t c = record {
+pub run_text-running-init : goal.run_text-running-init
+run_text-running-init g t c = record {
   text = c.begin-cursor.ensures.text;
   counts = record { limit = refl; after = omega arith };
   quiet = begins_quietly (arguments c.args.args.now) c.args.text.now (cursor c.begin-cursor.result) c.begin-cursor.ensures.begins;
   going = λ o callers limit deep e. begins o _ (arguments c.args.args.now) c.args.text.now c.begin-cursor.result callers c.begin-cursor.ensures.text c.begin-cursor.ensures.begins e;
 }
 
-pub running-smaller-in-On : goal.running-smaller-in-On
-running-smaller-in-On g t c =
+pub run_text-running-smaller-in-On : goal.run_text-running-smaller-in-On
+run_text-running-smaller-in-On g t c =
     let steps = c.step.new.steps in
     let to = c.step.new.cursor in
     let short : length (drop to.at to.text.now) ≤ length c.args.text.now =
@@ -27,8 +27,8 @@ running-smaller-in-On g t c =
     let less = less_left steps.limit c.running.steps.done steps.done (length c.args.text.now) (length (cursor c.running.cursor).left) (length (cursor to).left) c.in-On.ensures.counts.after steps.within short (c.in-On.ensures.advances tt) in
     subst (λ limit. (steps.limit - steps.done) * (length c.args.text.now + 1) + length (cursor to).left < (limit - c.running.steps.done) * (length c.args.text.now + 1) + length (cursor c.running.cursor).left) c.in-On.ensures.counts.limit less
 
-pub running-preserved-in-On : goal.running-preserved-in-On
-running-preserved-in-On g t c = record {
+pub run_text-running-preserved-in-On : goal.run_text-running-preserved-in-On
+run_text-running-preserved-in-On g t c = record {
   text = ap (λ x. x.now) c.in-On.ensures.text ∙ c.running.invariant.text;
   counts = counts_on c.running.invariant.counts c.in-On.ensures.counts;
   quiet = λ h. c.in-On.ensures.quiet (c.running.invariant.quiet h);
@@ -37,74 +37,71 @@ running-preserved-in-On g t c = record {
       since o _ _ _ (goes (at_cursor c.step.new.cursor callers)) there.follows (c.in-On.ensures.leads o callers (limit ∙ sym c.running.invariant.counts.limit) there.going);
 }
 
-pub returns-then-depth-eq-CALL_LIMIT-clause-leads : goal.returns-then-depth-eq-CALL_LIMIT-clause-leads
-returns-then-depth-eq-CALL_LIMIT-clause-leads g t c o callers limit deep e =
+pub run_text-returns-in-Return-clause-leads : goal.run_text-returns-in-Return-clause-leads
+run_text-returns-in-Return-clause-leads g t c o callers limit deep e =
     let there = c.running.invariant.going o callers limit deep e in
-    let here = c.in-Call.ensures.leads o callers (limit ∙ sym c.running.invariant.counts.limit) there.going in
-    since o _ _ _ (over (Some _)) (λ floor p. here.follows floor (there.follows floor p))
-    (too_deep o _ c.step.new.cursor c.in-Call.called.items callers here.going (deep ∙ c.if-depth-eq-CALL_LIMIT.true) (omega (arith, limit, c.running.invariant.counts.limit, c.in-Call.ensures.counts.limit, c.step.new.steps.within)))
+    since o _ _ _ (goes (at_return (arguments c.step.new.cursor.args) callers)) there.follows (c.in-Return.ensures.leads o callers (limit ∙ sym c.running.invariant.counts.limit) there.going)
 
-pub running-smaller : goal.running-smaller
-running-smaller g t c =
-    let steps = c.run_text.new.steps in
+pub run_text-returns-in-Over-clause-leads : goal.run_text-returns-in-Over-clause-leads
+run_text-returns-in-Over-clause-leads g t c o callers limit deep e =
+    let there = c.running.invariant.going o callers limit deep e in
+    since o _ _ _ (over c.in-Over.code) there.follows (c.in-Over.ensures.leads o callers (limit ∙ sym c.running.invariant.counts.limit) there.going)
+
+pub run_text-returns-in-Over-clause-no_memory : goal.run_text-returns-in-Over-clause-no_memory
+run_text-returns-in-Over-clause-no_memory g t c h e = c.in-Over.ensures.quiet (c.running.invariant.quiet h) cc
+
+pub run_text-running-smaller : goal.run_text-running-smaller
+run_text-running-smaller g t c =
+    let steps = c.run_called.new.steps in
     let to = c.step.new.cursor in
-    let back = c.go_on_with.new.cursor in
-    let left : length (cursor back).left ≡ length (cursor to).left = ap (λ x. length x.left) c.go_on_with.ensures.args in
+    let back = c.run_called.new.cursor in
+    let left : length (cursor back).left ≡ length (cursor to).left = ap length c.in-Return-run_called.ensures.left in
     let short : length (cursor back).left ≤ length c.args.text.now =
     let same : length to.text.now ≡ length c.args.text.now = ap length (ap (λ x. x.now) c.in-Call.ensures.text ∙ c.running.invariant.text) in
     omega (arith, same, left, length-drop to.at to.text.now) in
     let later : (c.running.steps.done < steps.done) ⊎ (length (cursor back).left < length (cursor c.running.cursor).left) =
-    elim (c.in-Call.ensures.advances tt) [ inl lt ↦ inl (omega (arith, lt, c.in-Return-run_text.ensures.counts.after)) | inr lt ↦ inr (omega (arith, lt, left)) ] in
-    let less = less_left steps.limit c.running.steps.done steps.done (length c.args.text.now) (length (cursor c.running.cursor).left) (length (cursor back).left) (omega (arith, c.in-Call.ensures.counts.after, c.in-Return-run_text.ensures.counts.after)) steps.within short later in
-    subst (λ limit. (steps.limit - steps.done) * (length c.args.text.now + 1) + length (cursor back).left < (limit - c.running.steps.done) * (length c.args.text.now + 1) + length (cursor c.running.cursor).left) (c.in-Return-run_text.ensures.counts.limit ∙ c.in-Call.ensures.counts.limit) less
+    elim (c.in-Call.ensures.advances tt) [ inl lt ↦ inl (omega (arith, lt, c.in-Return-run_called.ensures.counts.after)) | inr lt ↦ inr (omega (arith, lt, left)) ] in
+    let less = less_left steps.limit c.running.steps.done steps.done (length c.args.text.now) (length (cursor c.running.cursor).left) (length (cursor back).left) (omega (arith, c.in-Call.ensures.counts.after, c.in-Return-run_called.ensures.counts.after)) steps.within short later in
+    subst (λ limit. (steps.limit - steps.done) * (length c.args.text.now + 1) + length (cursor back).left < (limit - c.running.steps.done) * (length c.args.text.now + 1) + length (cursor c.running.cursor).left) (c.in-Return-run_called.ensures.counts.limit ∙ c.in-Call.ensures.counts.limit) less
 
-pub running-preserved : goal.running-preserved
-running-preserved g t c = record {
-  text = ap (λ x. x.now) (c.go_on_with.ensures.text ∙ c.in-Call.ensures.text) ∙ c.running.invariant.text;
-  counts = counts_on c.running.invariant.counts (counts_on c.in-Call.ensures.counts c.in-Return-run_text.ensures.counts);
+pub run_text-running-preserved : goal.run_text-running-preserved
+run_text-running-preserved g t c = record {
+  text = ap (λ x. x.now) (c.in-Return-run_called.ensures.text ∙ c.in-Call.ensures.text) ∙ c.running.invariant.text;
+  counts = counts_on c.running.invariant.counts (counts_on c.in-Call.ensures.counts c.in-Return-run_called.ensures.counts);
   quiet = λ h. absurd (c.in-Call.ensures.quiet (c.running.invariant.quiet h));
   going = λ o callers limit deep e.
       let there = c.running.invariant.going o callers limit deep e in
       let here = c.in-Call.ensures.leads o callers (limit ∙ sym c.running.invariant.counts.limit) there.going in
-      let fewer : length callers < 32 = omega (arith, deep, c.requires, c.if-depth-eq-CALL_LIMIT.false) in
       let h = host (g.D.Desk.state c.step.new.desk) (g.D.Desk.follows c.step.new.desk) (g.T.Terminal.screen c.step.new.term) c.step.new.steps.done in
-      let from = c.step.new.cursor in
-      let called : Going o h (at_call from c.deref.result.now callers) = subst (λ x. Going o h (at_call from x callers)) (sym c.deref.ensures.value) here.going in
-      let into = enters o h from c.deref.result.now callers called fewer in
-      let deeper : length (caller from ∷ callers) ≡ c.args.depth + 1 = omega (arith, deep) in
-      let left = arguments c.run_text.new.args in
-      let r = c.in-Return-run_text.ensures.leads o (caller from ∷ callers) (limit ∙ sym c.running.invariant.counts.limit ∙ sym c.in-Call.ensures.counts.limit) deeper into.going in
-      let k = host (g.D.Desk.state c.run_text.new.desk) (g.D.Desk.follows c.run_text.new.desk) (g.T.Terminal.screen c.run_text.new.term) c.run_text.new.steps.done in
-      let back = continues o k (at_return left (caller from ∷ callers)) r.going (at_cursor c.go_on_with.new.cursor callers)
-      (comes_back left from c.go_on_with.new.cursor callers c.go_on_with.ensures.text c.go_on_with.ensures.args) in
-      record { going = back.going; follows = λ floor p. r.follows floor (here.follows floor (there.follows floor p)) };
+      let called : Going o h (at_call c.step.new.cursor c.deref.result.now callers) = subst (λ x. Going o h (at_call c.step.new.cursor x callers)) (sym c.deref.ensures.value) here.going in
+      let back = c.in-Return-run_called.ensures.leads o callers (limit ∙ sym c.running.invariant.counts.limit ∙ sym c.in-Call.ensures.counts.limit) deep called in
+      record { going = back.going; follows = λ floor p. back.follows floor (here.follows floor (there.follows floor p)) };
 }
 
-pub returns-in-Over-run_text-clause-leads : goal.returns-in-Over-run_text-clause-leads
-returns-in-Over-run_text-clause-leads g t c o callers limit deep e =
+pub run_text-returns-in-Over-run_called-clause-leads : goal.run_text-returns-in-Over-run_called-clause-leads
+run_text-returns-in-Over-run_called-clause-leads g t c o callers limit deep e =
     let there = c.running.invariant.going o callers limit deep e in
     let here = c.in-Call.ensures.leads o callers (limit ∙ sym c.running.invariant.counts.limit) there.going in
-    let fewer : length callers < 32 = omega (arith, deep, c.requires, c.if-depth-eq-CALL_LIMIT.false) in
     let h = host (g.D.Desk.state c.step.new.desk) (g.D.Desk.follows c.step.new.desk) (g.T.Terminal.screen c.step.new.term) c.step.new.steps.done in
-    let from = c.step.new.cursor in
-    let called : Going o h (at_call from c.deref.result.now callers) = subst (λ x. Going o h (at_call from x callers)) (sym c.deref.ensures.value) here.going in
-    let into = enters o h from c.deref.result.now callers called fewer in
+    let called : Going o h (at_call c.step.new.cursor c.deref.result.now callers) = subst (λ x. Going o h (at_call c.step.new.cursor x callers)) (sym c.deref.ensures.value) here.going in
+    let r = c.in-Over-run_called.ensures.leads o callers (limit ∙ sym c.running.invariant.counts.limit ∙ sym c.in-Call.ensures.counts.limit) deep called in
+    since o _ h _ (over c.in-Over-run_called.code) (λ floor p. here.follows floor (there.follows floor p)) r
+
+pub run_text-returns-in-Over-run_called-clause-no_memory : goal.run_text-returns-in-Over-run_called-clause-no_memory
+run_text-returns-in-Over-run_called-clause-no_memory g t c h e = c.in-Call.ensures.quiet (c.running.invariant.quiet h)
+
+pub run_called-returns-then-depth-eq-CALL_LIMIT-clause-leads : goal.run_called-returns-then-depth-eq-CALL_LIMIT-clause-leads
+run_called-returns-then-depth-eq-CALL_LIMIT-clause-leads g t c o callers limit deep e =
+    too_deep o _ c.args.cursor.now c.args.called.now callers e (deep ∙ c.if-depth-eq-CALL_LIMIT.true) (omega (arith, limit, c.args.steps.now.within))
+
+pub run_called-returns-clause-leads : goal.run_called-returns-clause-leads
+run_called-returns-clause-leads g t c o callers limit deep e =
+    let from = c.args.cursor.now in
+    let left = c.run_text.new.args in
+    let h = host (g.D.Desk.state c.args.desk.now) (g.D.Desk.follows c.args.desk.now) (g.T.Terminal.screen c.args.term.now) c.args.steps.now.done in
+    let k = host (g.D.Desk.state c.run_text.new.desk) (g.D.Desk.follows c.run_text.new.desk) (g.T.Terminal.screen c.run_text.new.term) c.run_text.new.steps.done in
+    let fewer : length callers < 32 = omega (arith, deep, c.requires, c.if-depth-eq-CALL_LIMIT.false) in
+    let into = enters o h from c.args.called.now callers e fewer in
     let deeper : length (caller from ∷ callers) ≡ c.args.depth + 1 = omega (arith, deep) in
-    let r = c.in-Over-run_text.ensures.leads o (caller from ∷ callers) (limit ∙ sym c.running.invariant.counts.limit ∙ sym c.in-Call.ensures.counts.limit) deeper into.going in
-    since o _ h _ (over c.in-Over-run_text.code) (λ floor p. here.follows floor (there.follows floor p)) r
-
-pub returns-in-Return-clause-leads : goal.returns-in-Return-clause-leads
-returns-in-Return-clause-leads g t c o callers limit deep e =
-    let there = c.running.invariant.going o callers limit deep e in
-    since o _ _ _ (goes (at_return (arguments c.step.new.cursor.args) callers)) there.follows (c.in-Return.ensures.leads o callers (limit ∙ sym c.running.invariant.counts.limit) there.going)
-
-pub returns-in-Over-clause-leads : goal.returns-in-Over-clause-leads
-returns-in-Over-clause-leads g t c o callers limit deep e =
-    let there = c.running.invariant.going o callers limit deep e in
-    since o _ _ _ (over c.in-Over.code) there.follows (c.in-Over.ensures.leads o callers (limit ∙ sym c.running.invariant.counts.limit) there.going)
-
-pub returns-in-Over-run_text-clause-no_memory : goal.returns-in-Over-run_text-clause-no_memory
-returns-in-Over-run_text-clause-no_memory g t c h e = c.in-Call.ensures.quiet (c.running.invariant.quiet h)
-
-pub returns-in-Over-clause-no_memory : goal.returns-in-Over-clause-no_memory
-returns-in-Over-clause-no_memory g t c h e = c.in-Over.ensures.quiet (c.running.invariant.quiet h) cc
+    comes_home o h k (arguments left) from (record from { args = left }) callers refl refl c.run_text.result
+    (c.run_text.ensures.leads o (caller from ∷ callers) limit deeper into.going)

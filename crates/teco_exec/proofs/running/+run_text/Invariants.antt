@@ -9,10 +9,13 @@ use Rattle.teco_exec.specs.Tokens.{Counts}
 use Rattle.teco_exec.proofs.running.+run_text.Given as goal
 
 abbrev pub decreases-run_text : goal.decreases-run_text
-decreases-run_text g l = 32 - l.depth
+decreases-run_text g l = 2 * (32 - l.depth) + 1
 
-abbrev pub invariant-running : goal.invariant-running
-invariant-running g l = record {
+abbrev pub decreases-run_called : goal.decreases-run_called
+decreases-run_called g l = 2 * (32 - l.depth)
+
+abbrev pub invariant-run_text-running : goal.invariant-run_text-running
+invariant-run_text-running g l = record {
   text : l.cursor.text.now ≡ l.text;
   counts : Counts l.fn.steps l.steps;
   quiet : takes_no_memory (nodes l.text) ≡ true → IsQuiet (cursor l.cursor);
@@ -22,5 +25,5 @@ invariant-running g l = record {
       (host (g.D.Desk.state l.desk) (g.D.Desk.follows l.desk) (g.T.Terminal.screen l.term) l.steps.done) (at_cursor l.cursor callers);
 }
 
-abbrev pub decreases-running : goal.decreases-running
-decreases-running g l = (l.steps.limit - l.steps.done) * (length l.text + 1) + length (cursor l.cursor).left
+abbrev pub decreases-run_text-running : goal.decreases-run_text-running
+decreases-run_text-running g l = (l.steps.limit - l.steps.done) * (length l.text + 1) + length (cursor l.cursor).left
