@@ -20,3 +20,4 @@ pub mod ListFaults
 pub mod Written
 pub mod Determined
 pub mod FirstRow
+pub mod TokensNest

@@ -6,5 +6,6 @@ pub mod Seen
 pub mod Tree
 pub mod Skip
 pub mod Lists
+pub mod Nesting
 pub mod ListLaws
 pub mod Written

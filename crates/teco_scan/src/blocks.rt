@@ -6,6 +6,7 @@ ghost use Rattle.teco_scan.specs.Skip.{AreAlike, byte_of, IsClosed, IsWholeClose
 ghost use Rattle.teco_scan.specs.Seen.{instruction_in, IsKindIn, close_of, past_of, tag_of};
 ghost use Rattle.teco_scan.specs.Lists.{at_instruction, at_mark, behind, behind_block, list_at, tag_at, tag_at_instruction, tag_behind};
 ghost use Rattle.teco_scan.specs.ListLaws.{BlockLaws};
+ghost use Rattle.teco_scan.specs.Nesting.{IsNested};
 ghost use Rattle.teco_scan.specs.declared.command.Modifiers.{Modifiers};
 
 use crate::command::{BlockMark, Form};
@@ -223,4 +224,10 @@ pub fn find_tag(text: &[u8], block_start: usize, depth: usize, name: &[u8]) -> O
 /// token has a byte, that the search leads to what the list has after the tag, and which faults there are.
 pub fn block_laws()
     ensures { BlockLaws }
+{}
+
+/// The law of nesting, as its clause: the tokens of a text, up to its first fault, nest as its nodes say, by a rule for each
+/// kind of node and two for a conditional. The call does nothing.
+pub fn nesting()
+    ensures nested { (text : List ℕ) → IsNested text }
 {}

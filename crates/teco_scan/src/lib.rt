@@ -9,7 +9,7 @@ mod scan;
 mod table;
 mod token;
 
-pub use blocks::{Kind, Stop, block_laws, find_tag, skip_block, skip_whole_block};
+pub use blocks::{Kind, Stop, block_laws, find_tag, nesting, skip_block, skip_whole_block};
 pub use command::{
     Arithmetic, Bare, BlockMark, Command, Form, LevelCommand, Modifiers, Name, Quantity,
     RegisterCommand, Row, Test, TextCommand,
