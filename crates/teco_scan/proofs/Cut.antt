@@ -16,7 +16,7 @@ use Rattle.teco_scan.specs.declared.command.Form.{Form}
 use Rattle.teco_scan.specs.declared.command.Form.TheVariants as form
 use Rattle.teco_scan.specs.declared.command.Test.{Test}
 use Rattle.teco_scan.specs.declared.command.Test.TheVariants as tests
-use Rattle.teco_scan.specs.Table.{is_upper, is_first_letter, is_name, is_apart, is_table}
+use Rattle.teco_scan.specs.Table.{is_not_lower, is_first_letter, is_name, is_apart, is_table}
 use Rattle.teco_scan.specs.Scan.{Reading, or_else, digits, bare, register, byte, text, set_text, replace, Instruction, step, mark, decide, tag, escape, run_of, after_run, test_of, byte_at, register_at, test_at, delimiter_at, text_at, operand_at, is_refused, admits, modifiers_at, ends_inside, is_cut, row_at, of_row, command_at, begins_run, token_from, no_modifiers}
 use Rattle.teco_scan.specs.Spelling.{Marks, SpellsName, one_spelled, two_spelled, three_spelled, control_spelled, caret_spelled, Delimits, TextUpTo, SpellsOperand, bare_spelled, mark_spelled, escape_spelled, register_spelled, byte_spelled, test_spelled, text_spelled, tag_spelled, set_text_spelled, replace_spelled, Spells, IsFront}
 use Rattle.teco_scan.proofs.IsSpelled.{Takes, IsByte, IsRegister, IsTest, append_nil, not_eqb, byte_takes, register_takes, test_takes, delimiter_takes, text_takes, IsCommand, as_token, TakesRow, row_takes, marks_take}
@@ -147,7 +147,7 @@ either_true true w e = inl refl
 either_true false w e = inr e
 
 first_upper : (l : ℕ) → is_first_letter l ≡ true → upper l ≡ l
-first_upper l e = eqb-true (upper l) l (both (is_upper l) (not (l == 64)) (both (is_upper l && not (l == 64)) (not (l == 58)) (both (is_upper l && not (l == 64) && not (l == 58)) (not (is_digit l)) e).0).0).0
+first_upper l e = eqb-true (upper l) l (both (is_not_lower l) (not (l == 64)) (both (is_not_lower l && not (l == 64)) (not (l == 58)) (both (is_not_lower l && not (l == 64) && not (l == 58)) (not (is_digit l)) e).0).0).0
 
 control_upper : (l : ℕ) → l ≤ 94 → upper l ≡ l
 control_upper l h = grind arith
@@ -156,22 +156,22 @@ control_upper l h = grind arith
 name_ends : (n : Name) (bs : List ℕ) → is_name n ≡ true → ends_inside n bs ≡ true → (more : List ℕ) × SpellsName n (bs ++ more)
 unfolding ends_inside
 name_ends (One l) [] ok e = (l ∷ [], one_spelled (first_upper l ok))
-name_ends (Two l k) [] ok e = let p = both (is_first_letter l) (is_upper k) ok in (l ∷ k ∷ [], two_spelled (first_upper l p.0) (eqb-true (upper k) k p.1))
+name_ends (Two l k) [] ok e = let p = both (is_first_letter l) (is_not_lower k) ok in (l ∷ k ∷ [], two_spelled (first_upper l p.0) (eqb-true (upper k) k p.1))
 name_ends (Three l k j) [] ok e =
-    let p = both (is_first_letter l && is_upper k) (is_upper j) ok in
-    let q = both (is_first_letter l) (is_upper k) p.0 in
+    let p = both (is_first_letter l && is_not_lower k) (is_not_lower j) ok in
+    let q = both (is_first_letter l) (is_not_lower k) p.0 in
     (l ∷ k ∷ j ∷ [], three_spelled (first_upper l q.0) (eqb-true (upper k) k q.1) (eqb-true (upper j) j p.1))
 name_ends (Control l) [] ok e = let p = both (nat_le 65 l) (nat_le l 94) ok in
     let high : 65 ≤ l = leb-true 65 l p.0 in
     ((l - 64) ∷ [], control_spelled (omega arith))
 name_ends (One l) (b ∷ bs) ok e = absurd cc
-name_ends (Two l k) (b ∷ []) ok e = (k ∷ [], two_spelled (eqb-true (upper b) l e) (eqb-true (upper k) k (both (is_first_letter l) (is_upper k) ok).1))
+name_ends (Two l k) (b ∷ []) ok e = (k ∷ [], two_spelled (eqb-true (upper b) l e) (eqb-true (upper k) k (both (is_first_letter l) (is_not_lower k) ok).1))
 name_ends (Two l k) (b ∷ c ∷ bs) ok e = absurd cc
 name_ends (Three l k j) (b ∷ []) ok e =
-    let p = both (is_first_letter l && is_upper k) (is_upper j) ok in
-    (k ∷ j ∷ [], three_spelled (eqb-true (upper b) l e) (eqb-true (upper k) k (both (is_first_letter l) (is_upper k) p.0).1) (eqb-true (upper j) j p.1))
+    let p = both (is_first_letter l && is_not_lower k) (is_not_lower j) ok in
+    (k ∷ j ∷ [], three_spelled (eqb-true (upper b) l e) (eqb-true (upper k) k (both (is_first_letter l) (is_not_lower k) p.0).1) (eqb-true (upper j) j p.1))
 name_ends (Three l k j) (b ∷ c ∷ []) ok e =
-    let p = both (is_first_letter l && is_upper k) (is_upper j) ok in
+    let p = both (is_first_letter l && is_not_lower k) (is_not_lower j) ok in
     let q = both (upper b == l) (upper c == k) e in
     (j ∷ [], three_spelled (eqb-true (upper b) l q.0) (eqb-true (upper c) k q.1) (eqb-true (upper j) j p.1))
 name_ends (Three l k j) (b ∷ c ∷ d ∷ bs) ok e = absurd cc

@@ -7,7 +7,7 @@ use Rattle.teco_scan.specs.declared.token.Item.TheVariants as items
 use Rattle.teco_scan.specs.declared.token.TokenKind.{TokenKind}
 use Rattle.teco_scan.specs.declared.token.TokenKind.TheVariants as kinds
 use Rattle.teco_scan.specs.declared.token.Found.{Found}
-use Rattle.teco_scan.specs.declared.token.Found.TheVariants as places
+use Rattle.teco_scan.specs.declared.token.Found.TheVariants as finds
 use Rattle.teco_scan.specs.Scan.{digits, bare, register, byte, text, set_text, replace, Instruction, step, mark, decide, tag, escape, TokenMeaning}
 use Rattle.teco_scan.specs.Seen.{bytes_in, instruction_in, meaning_in, found_in, IsSpanIn, IsKindIn, IsKindPlaced, IsTokenAt, IsFoundAt}
 
@@ -70,15 +70,15 @@ tokens_same bs at t u h k same rest =
     token_is bs at t h ∙ ap (λ s. made s (meaning_in bs t)) span ∙ ap (made u.span) same ∙ sym (token_is bs at u k)
 
 pub determined : (bs : List ℕ) (at : ℕ) (f g : Found) → IsFoundAt bs at f → IsFoundAt bs at g → found_in bs f ≡ found_in bs g → f ≡ g
-determined bs at (places.Token t) (places.Token u) h k e =
+determined bs at (finds.Token t) (finds.Token u) h k e =
     let order : meaning_in bs t ≡ meaning_in bs u = cc in
     let rest : drop t.span.to bs ≡ drop u.span.to bs = cc in
-    ap places.Token (tokens_same bs at t u h k order rest)
-determined bs at (places.Token t) places.End h k e = absurd cc
-determined bs at (places.Token t) (places.Fault d) h k e = absurd cc
-determined bs at places.End (places.Token u) h k e = absurd cc
-determined bs at places.End places.End h k e = refl
-determined bs at places.End (places.Fault d) h k e = absurd cc
-determined bs at (places.Fault c) (places.Token u) h k e = absurd cc
-determined bs at (places.Fault c) places.End h k e = absurd cc
-determined bs at (places.Fault c) (places.Fault d) h k e = let same : c ≡ d = cc in ap places.Fault same
+    ap finds.Token (tokens_same bs at t u h k order rest)
+determined bs at (finds.Token t) finds.End h k e = absurd cc
+determined bs at (finds.Token t) (finds.Fault d) h k e = absurd cc
+determined bs at finds.End (finds.Token u) h k e = absurd cc
+determined bs at finds.End finds.End h k e = refl
+determined bs at finds.End (finds.Fault d) h k e = absurd cc
+determined bs at (finds.Fault c) (finds.Token u) h k e = absurd cc
+determined bs at (finds.Fault c) finds.End h k e = absurd cc
+determined bs at (finds.Fault c) (finds.Fault d) h k e = let same : c ≡ d = cc in ap finds.Fault same

@@ -11,7 +11,7 @@ use Rattle.teco_scan.specs.declared.command.Modifiers.{Modifiers}
 use Rattle.teco_scan.specs.declared.command.Name.{Name}
 use Rattle.teco_scan.specs.declared.command.Form.{Form}
 use Rattle.teco_scan.specs.declared.command.Form.TheVariants as form
-use Rattle.teco_scan.specs.Table.{is_upper, is_first_letter, is_name, meets, is_alone, has_more_letters, is_longer, is_apart, is_table}
+use Rattle.teco_scan.specs.Table.{is_not_lower, is_first_letter, is_name, meets, is_alone, has_more_letters, is_longer, is_apart, is_table}
 use Rattle.teco_scan.specs.Scan.{Reading, Instruction, TokenMeaning, is_refused, admits, after_name, row_at, at_row, of_row, command_at, operand_at, modifiers_at, begins_run, after_run, token_from, no_modifiers}
 use Rattle.teco_scan.specs.Spelling.{Marks, no_mark, at_mark, colon_mark, SpellsName, one_spelled, two_spelled, three_spelled, control_spelled, caret_spelled, SpellsOperand, bare_spelled, mark_spelled, escape_spelled, register_spelled, byte_spelled, test_spelled, text_spelled, tag_spelled, set_text_spelled, replace_spelled, Among, BeginsWithRow, run_spelled, command_spelled, IsRefused, LeavesAtMost, IsLongest}
 use Rattle.teco_scan.proofs.IsSpelled.{TakesSome, name_takes, TakesRow, row_takes}
@@ -30,7 +30,7 @@ letter_start b l e ok =
       λ is. let wrong : is_first_letter (upper 58) ≡ true = subst (λ w. is_first_letter (upper w) ≡ true) is ok_b in absurd cc,
       false_from_ne_true (is_digit b) (λ d.
           let small : upper b ≡ b = same_small b (omega (arith, (digit_small b d).1)) in
-          let no : not (is_digit b) ≡ true = subst (λ w. not (is_digit w) ≡ true) small (both (is_upper (upper b) && not (upper b == 64) && not (upper b == 58)) (not (is_digit (upper b))) ok_b).1 in
+          let no : not (is_digit b) ≡ true = subst (λ w. not (is_digit w) ≡ true) small (both (is_not_lower (upper b) && not (upper b == 64) && not (upper b == 58)) (not (is_digit (upper b))) ok_b).1 in
           let never : not true ≡ true = subst (λ w. not w ≡ true) d no in
           absurd cc),
     )
@@ -44,9 +44,9 @@ first_letter a b e = (both a b e).0
 -- a command's name begins with neither a modifier nor a digit
 pub name_start : {n : Name} {bs : List ℕ} → SpellsName n bs → IsName n → (rest : List ℕ) → NoMark (bs ++ rest) × (begins_run (bs ++ rest) ≡ false)
 name_start (one_spelled {l = l} {b = b} e) ok rest = let p = letter_start b l e ok in ((p.0, p.1), p.2)
-name_start (two_spelled {l = l} {k = k} {b = b} e f) ok rest = let p = letter_start b l e (first_letter (is_first_letter l) (is_upper k) ok) in ((p.0, p.1), p.2)
+name_start (two_spelled {l = l} {k = k} {b = b} e f) ok rest = let p = letter_start b l e (first_letter (is_first_letter l) (is_not_lower k) ok) in ((p.0, p.1), p.2)
 name_start (three_spelled {l = l} {k = k} {j = j} {b = b} e f g) ok rest =
-    let p = letter_start b l e (first_letter (is_first_letter l) (is_upper k) (first_letter (is_first_letter l && is_upper k) (is_upper j) ok)) in ((p.0, p.1), p.2)
+    let p = letter_start b l e (first_letter (is_first_letter l) (is_not_lower k) (first_letter (is_first_letter l && is_not_lower k) (is_not_lower j) ok)) in ((p.0, p.1), p.2)
 name_start (control_spelled {l = l} {b = b} e) ok rest =
     let high : l ≤ 94 = leb-true l 94 (both (nat_le 65 l) (nat_le l 94) ok).1 in
     ((λ is. absurd (omega arith), λ is. absurd (omega arith)), no_digit b (omega arith))

@@ -87,7 +87,8 @@ at_instruction go (token.decide t) m bs k d = opened d (cond_at go k d t (go (So
 at_instruction go (token.tag name) m bs k d = put (tag name) (go k d bs)
 at_instruction go token.escape m bs k d = put escape (go k d bs)
 
--- from what was scanned on; the end of the text ends the text's own list, and inside a block it is UTC
+-- From what was scanned on. The end of the text ends the text's own list with no fault among its nodes; no mark closes that list,
+-- so its close is UTC too. Inside a block the end of the text is the fault UTC.
 abbrev pub at_scan : Lister → Scanned → Option Kind → ℕ → Listed
 at_scan go ended None d = (done, broken Utc)
 at_scan go ended (Some k) d = wrong Utc

@@ -8,7 +8,7 @@ use Rattle.teco_scan.specs.declared.token.Item.TheVariants as items
 use Rattle.teco_scan.specs.declared.token.TokenKind.{TokenKind}
 use Rattle.teco_scan.specs.declared.token.TokenKind.TheVariants as kinds
 use Rattle.teco_scan.specs.declared.token.Found.{Found}
-use Rattle.teco_scan.specs.declared.token.Found.TheVariants as places
+use Rattle.teco_scan.specs.declared.token.Found.TheVariants as finds
 use Rattle.teco_scan.specs.declared.blocks.Stop.{Stop}
 use Rattle.teco_scan.specs.Lists.{Close, closed, broken, Past}
 use Rattle.teco_scan.specs.Scan.{Item, digits, bare, register, byte, text, set_text, replace, Instruction, step, mark, decide, tag, escape, TokenMeaning, Scanned, found, ended, fault, after_fillers}
@@ -46,9 +46,9 @@ abbrev pub meaning_in : List ℕ → Token → TokenMeaning
 meaning_in bs t = record { modifiers = t.modifiers; instruction = instruction_in bs t.kind }
 
 abbrev pub found_in : List ℕ → Found → Scanned
-found_in bs (places.Token t) = found (meaning_in bs t) (drop t.span.to bs)
-found_in bs places.End = ended
-found_in bs (places.Fault e) = fault e
+found_in bs (finds.Token t) = found (meaning_in bs t) (drop t.span.to bs)
+found_in bs finds.End = ended
+found_in bs (finds.Fault e) = fault e
 
 -- A span lies in order, in a text of n bytes.
 pub record IsSpanIn (n : ℕ) (s : Span) : Type 0 where
@@ -99,9 +99,9 @@ pub record IsTokenAt (bs : List ℕ) (at : ℕ) (t : Token) : Type 0 where
   pub placed : IsKindPlaced t.span t.kind
 
 abbrev pub IsFoundAt : List ℕ → ℕ → Found → Type 0
-IsFoundAt bs at (places.Token t) = IsTokenAt bs at t
-IsFoundAt bs at places.End = Unit {0}
-IsFoundAt bs at (places.Fault e) = Unit {0}
+IsFoundAt bs at (finds.Token t) = IsTokenAt bs at t
+IsFoundAt bs at finds.End = Unit {0}
+IsFoundAt bs at (finds.Fault e) = Unit {0}
 
 -- All this leaves one answer: what is found there, with each of its places.
 abbrev pub IsDetermined : Type 0

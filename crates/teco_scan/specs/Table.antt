@@ -9,19 +9,19 @@ use Rattle.teco_scan.specs.declared.command.Form.{Form}
 use Rattle.teco_scan.specs.declared.command.Form.TheVariants as form
 use Rattle.teco_scan.specs.Scan.{is_refused}
 
--- letters are written in upper case
-abbrev pub is_upper : ℕ → Bool
-is_upper l = upper l == l
+-- the byte is no small letter: letters are written in upper case, and other bytes have no case
+abbrev pub is_not_lower : ℕ → Bool
+is_not_lower l = upper l == l
 
 -- a name's first letter is neither @ nor a colon nor a digit
 abbrev pub is_first_letter : ℕ → Bool
-is_first_letter l = is_upper l && not (l == 64) && not (l == 58) && not (is_digit l)
+is_first_letter l = is_not_lower l && not (l == 64) && not (l == 58) && not (is_digit l)
 
 -- the letter of a control command is from A to ^
 abbrev pub is_name : Name → Bool
 is_name (One l) = is_first_letter l
-is_name (Two l k) = is_first_letter l && is_upper k
-is_name (Three l k j) = is_first_letter l && is_upper k && is_upper j
+is_name (Two l k) = is_first_letter l && is_not_lower k
+is_name (Three l k j) = is_first_letter l && is_not_lower k && is_not_lower j
 is_name (Control l) = nat_le 65 l && nat_le l 94
 
 abbrev pub lower : ℕ → ℕ
