@@ -37,6 +37,7 @@ macro_rules! commands {
             [$($byte)*]
             Three(b'=', b'=', b'='), ANY, Form::Refused;
             Two(b'=', b'='), COLON, Form::Bare(Bare::Command(Command::PrintOctal));
+            One(b'='), COLON, Form::Bare(Bare::Command(Command::Print));
             One(b'B'), NONE, Form::Bare(Bare::Quantity(Quantity::Beginning));
             One(b'Z'), NONE, Form::Bare(Bare::Quantity(Quantity::End));
             One(b'.'), NONE, Form::Bare(Bare::Quantity(Quantity::Pointer));
@@ -65,7 +66,6 @@ macro_rules! commands {
             Control(b'T'), NONE, Form::Bare(Bare::Command(Command::TypeByte));
             One(b'\t'), NONE, Form::Text(TextCommand::InsertTab, ESC);
             One(b'T'), NONE, Form::Bare(Bare::Command(Command::TypeOut));
-            One(b'='), COLON, Form::Bare(Bare::Command(Command::Print));
             One(b'Y'), NONE, Form::Bare(Bare::Command(Command::NextPage));
             Two(b'P', b'W'), NONE, Form::Bare(Bare::Command(Command::WritePage));
             One(b'P'), NONE, Form::Bare(Bare::Command(Command::TurnPages));
@@ -106,7 +106,8 @@ macro_rules! rows {
 }
 
 /// Every command but the run of digits. The table is a definition: it says what commands there are. A longer name comes before one
-/// that begins it.
+/// that begins it. Rows whose names begin with the same byte stand close together, since they are tried one after another from the
+/// first of them on.
 pub const ROWS: [Row; 60] = commands!(rows);
 
 // The first row whose name may begin with the byte.
