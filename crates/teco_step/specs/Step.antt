@@ -99,7 +99,7 @@ gives s a v = do
 abbrev pub ends : State → Arguments → End → Attempt
 ends s a end = Ok (record { state = s; arguments = a; typed = []; load = 0; end = end })
 
--- A command that isn't built is none.
+-- A token that is no step, as a mark, a test or a tag, is refused as one.
 abbrev pub unbuilt : {A : Type 0} → Result A Code
 unbuilt = Err Ill
 

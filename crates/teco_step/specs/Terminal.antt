@@ -1,4 +1,4 @@
--- What a put does to what a terminal shows and to its count of failures.
+-- What a put does to what a terminal shows, where it tells that, and to its count of failures.
 use Rattle.std.specs.Prelude.{◌≡◌, ℕ, ◌+◌, ◌%◌, ◌^◌, List, ◌++◌, Option, Result, Ok, Err, Bool, true, false}
 use Rattle.std.specs.Io.KnownBytes.{Appends}
 
@@ -21,7 +21,8 @@ pub record Shows (old new : Screen) (bytes : List ℕ) (failed : Bool) : Type 0 
   pub more : Appends old.shown new.shown bytes
   pub count : new.failures ≡ count_after failed old.failures
 
--- A put that is Ok showed all the bytes and left the count. One that is Err showed a beginning of them and added one to the count.
+-- A put that is Ok left the count; of a terminal that tells its bytes, it showed all that were put. One that is Err added one to the
+-- count, and showed a beginning of them.
 abbrev pub Puts : {A E : Type 0} → Screen → Screen → List ℕ → Result A E → Type 0
 Puts old new bytes (Ok done) = Shows old new bytes false
 Puts old new bytes (Err fault) = (front : List ℕ) × IsFrontOf front bytes × Shows old new front true

@@ -26,6 +26,8 @@ pub trait Terminal {
     ghost screen: { Self → Screen };
 
     /// Shows the bytes. Where it fails, a beginning of them is shown, and the count of failures rises by one.
+    ///
+    /// A step that types nothing puts nothing. One that types may put twice: `T` and `V` put each half of the text by itself.
     fn put(&mut self, bytes: &[u8]) -> Result<(), TerminalFault>
         ensures { Puts (screen self.old) (screen self.new) bytes.now result };
 }
