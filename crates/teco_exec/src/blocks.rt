@@ -39,36 +39,34 @@ pub(crate) struct Block {
     pub body: Body,
 }
 
-/// The open blocks of one text, at most 64. A clause sees them as a list, the innermost first. They take no memory.
+/// The open blocks of one text, at most 64. A clause sees them as a list, the innermost first. They take no memory: their room is
+/// lent, so that a text can begin without a copy of it.
 #[derive(Drop)]
-pub(crate) struct Blocks {
+pub(crate) struct Blocks<'r> {
     /// The outermost first; after the open ones come blocks that mean nothing.
-    open: [Block; BLOCK_LIMIT],
+    open: &'r mut [Block],
     depth: usize,
 }
 
-impl Model for Blocks {
+impl<'r> Model for Blocks<'r> {
     ghost use Rattle.std.specs.Prelude.{◌≡◌, ◌≤◌, List, length, reverse, take};
     ghost use Rattle.teco_core.specs.declared.limits.TheConstants.{BLOCK_LIMIT};
     ghost use Rattle.teco_exec.specs.declared.blocks.Block.{Block};
 
     ghost Value = { List Block };
 
-    ghost view = { λ b. reverse (take b.depth b.open) };
+    ghost view = { λ b. reverse (take b.depth b.open.now) };
 
-    ghost invariant = { λ b. (b.depth ≤ BLOCK_LIMIT) × (length b.open ≡ BLOCK_LIMIT) };
+    ghost invariant = { λ b. (b.depth ≤ BLOCK_LIMIT) × (length b.open.now ≡ BLOCK_LIMIT) };
 }
 
-impl Blocks {
-    /// No block is open.
-    pub fn new() -> Blocks
+impl<'r> Blocks<'r> {
+    /// No block is open. What is in the room means nothing.
+    pub fn new(room: &'r mut [Block; BLOCK_LIMIT]) -> Blocks<'r>
         ensures { result ≡ [] }
     {
         Blocks {
-            open: [Block {
-                start: 0,
-                body: Body::Endless,
-            }; BLOCK_LIMIT],
+            open: room,
             depth: 0,
         }
     }

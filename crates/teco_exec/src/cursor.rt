@@ -4,8 +4,8 @@ ghost use Rattle.teco_scan.specs.Scan.{after_fillers};
 ghost use Rattle.teco_exec.specs.Semicolon.{is_semicolon};
 ghost use Rattle.teco_exec.specs.Machine as machine;
 
-use crate::blocks::Blocks;
-use teco_core::{Args, is_filler};
+use crate::blocks::{Block, Blocks};
+use teco_core::{Args, BLOCK_LIMIT, is_filler};
 use teco_scan::spelling;
 
 /// Where a text is being run: how many of its bytes come before, the arguments so far, and the open blocks.
@@ -14,7 +14,7 @@ pub(crate) struct Cursor<'t> {
     pub text: &'t [u8],
     pub at: usize,
     pub args: Args,
-    pub blocks: Blocks,
+    pub blocks: Blocks<'t>,
     ghost within: { at ≤ length text.now },
     ghost begin: { All (λ b. b.start ≤ length text.now) blocks },
 }
@@ -25,8 +25,8 @@ impl<'t> Cursor<'t> {
     ghost use Rattle.teco_scan.specs.Scan.{scan};
     ghost use Rattle.teco_exec.specs.View.{beginning, cursor};
 
-    /// The beginning of a text, with these arguments.
-    pub fn begin(text: &'t [u8], args: Args) -> Cursor<'t>
+    /// The beginning of a text, with these arguments and this room for its open blocks.
+    pub fn begin(text: &'t [u8], args: Args, room: &'t mut [Block; BLOCK_LIMIT]) -> Cursor<'t>
         ensures text { result.text.now ≡ text.now }
         ensures begins { cursor result ≡ beginning (arguments args) text.now }
     {
@@ -34,7 +34,7 @@ impl<'t> Cursor<'t> {
             text,
             at: 0,
             args,
-            blocks: Blocks::new(),
+            blocks: Blocks::new(room),
         }
     }
 

@@ -12,12 +12,13 @@ ghost use Rattle.teco_exec.specs.Runs.{Runs, is_tty, trail_of};
 ghost use Rattle.teco_exec.specs.StringMeaning.{string_meaning};
 ghost use Rattle.teco_exec.specs.declared.flow.Exit.TheVariants as exit;
 
+use crate::blocks::{Block, Body};
 use crate::cursor::Cursor;
 use crate::flow::{Exit, Flow, Steps};
 use crate::laws::{machine_laws, meaning_laws};
 use crate::outcome::Outcome;
 use crate::stepping::step;
-use teco_core::{Args, CALL_LIMIT, Code};
+use teco_core::{Args, BLOCK_LIMIT, CALL_LIMIT, Code};
 use teco_step::Terminal;
 use teco_store::Desk;
 
@@ -65,7 +66,11 @@ fn run_text<D: Desk, T: Terminal>(
         (at_beginning (arguments args.old) text.now) (λ callers. exits (arguments args.new) callers result) }
     ensures no_memory { takes_no_memory (nodes text.now) ≡ true → result ≡ exit.Over (Some Mem) → ⊥ }
 {
-    let mut cursor = Cursor::begin(text, *args);
+    let mut room = [Block {
+        start: 0,
+        body: Body::Endless,
+    }; BLOCK_LIMIT];
+    let mut cursor = Cursor::begin(text, *args, &mut room);
     'running: loop {
         match step(desk, &mut cursor, steps, term) {
             Flow::On => continue 'running,

@@ -9,7 +9,7 @@ pub returns-in-Iter : goal.returns-in-Iter
 returns-in-Iter c =
     let d = c.loop-depth.depth - 1 in
     let no : Block = record { start = 0; body = Endless } in
-    let xs = c.self.inside.open in
+    let xs = c.self.inside.open.now in
     let within : d < length xs = search rules in
     let one : c.loop-depth.depth ≡ d + 1 = omega (arith, c.loop-depth-test.true) in
     sym (ap (λ n. has_iteration (reverse (take n xs))) one ∙ ap has_iteration (innermost xs d no within) ∙ has_iteration-cons (get_or xs d no) (reverse (take d xs)) (sym c.kind.ensures ∙ c.in-Iter.is))
@@ -19,7 +19,7 @@ pub loop-depth-preserved : goal.loop-depth-preserved
 loop-depth-preserved c =
     let d = c.loop-depth.depth - 1 in
     let no : Block = record { start = 0; body = Endless } in
-    let xs = c.self.inside.open in
+    let xs = c.self.inside.open.now in
     let within : d < length xs = search rules in
     let one : c.loop-depth.depth ≡ d + 1 = omega (arith, c.loop-depth-test.true) in
     record {
@@ -31,4 +31,4 @@ loop-depth-preserved c =
 pub returns : goal.returns
 returns c =
     let none : c.loop-depth.depth ≡ 0 = omega (arith, c.loop-depth-test.false) in
-    sym (ap (λ n. has_iteration (reverse (take n c.self.inside.open))) none ∙ has_iteration-none) ∙ c.loop-depth.invariant.same
+    sym (ap (λ n. has_iteration (reverse (take n c.self.inside.open.now))) none ∙ has_iteration-none) ∙ c.loop-depth.invariant.same
