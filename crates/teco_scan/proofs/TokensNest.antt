@@ -13,7 +13,7 @@ use Rattle.teco_scan.specs.Scan.{Item, Instruction, TokenMeaning, Scanned, found
 use Rattle.teco_scan.specs.Scan as token
 use Rattle.teco_scan.specs.Tree.{Nodes, done, item, escape, iter, tag, faulty}
 use Rattle.teco_scan.specs.Tree as tree
-use Rattle.teco_scan.specs.Lists.{Close, closed, broken, Listed, Lister, behind, past, wrong, put, iter_at, cond_at, opened, at_mark, at_instruction, at_scan, list_within, list_at, nodes}
+use Rattle.teco_scan.specs.Lists.{Close, closed, broken, Listed, Lister, behind, past, wrong, put, iter_at, cond_at, at_mark, at_instruction, at_scan, list_within, list_at}
 use Rattle.teco_scan.specs.Nesting.{TokensRead, none_read, one_read, order, is_whole, Closes, Nests, done_nests, fault_nests, item_nests, escape_nests, tag_nests, iteration_nests, one_part_nests, two_parts_nest, IsNested}
 
 read_on : {bs mid left : List ℕ} {ts us : List TokenMeaning} → TokensRead bs ts mid → TokensRead mid us left → TokensRead bs (ts ++ us) left
