@@ -77,6 +77,7 @@ function display(    name) {
     if (!match($0, /-e '.*'/)) return
     begin("")
     put("commands", substr($0, RSTART + 4, RLENGTH - 5) "\n")
+    put("word", substr($0, RSTART + 4, RLENGTH - 5))
     for (name in held) put(name, held[name])
     if ("after" in held) has_after = 1
     split("", held)
