@@ -17,46 +17,45 @@ fn refuses_what_is_no_text(rt: HostRuntime) {
 
 /// Where the commands come from.
 #[derive(Clone, Copy)]
-enum From<'a> {
+enum Origin<'a> {
     StandardInput,
     Word(&'a str),
     File(&'a str),
 }
 
-fn is_from(commands: &Commands, given: &From) -> bool {
-    match (commands, given) {
-        (Commands::StandardInput, From::StandardInput) => true,
-        (Commands::Word(text), From::Word(word)) => text.as_str() == *word,
-        (Commands::File(name), From::File(file)) => name.as_str() == *file,
-        _ => false,
+fn is_from(commands: &Commands, origin: &Origin) -> bool {
+    match commands {
+        Commands::StandardInput => matches!(origin, Origin::StandardInput),
+        Commands::Word(text) => matches!(origin, Origin::Word(word) if text.as_str() == *word),
+        Commands::File(name) => matches!(origin, Origin::File(file) if name.as_str() == *file),
     }
 }
 
-fn comes_from(alloc: Global, words: &str, given: &From) -> bool {
+fn comes_from(alloc: Global, words: &str, origin: &Origin) -> bool {
     match words_of(alloc, words) {
         Ok(words) => match line_of(alloc, words.as_slice()) {
-            Ok(line) => is_from(&line.commands, given),
+            Ok(line) => is_from(&line.commands, origin),
             Err(_) => false,
         },
         Err(NoMemory) => false,
     }
 }
 
-static SOURCES: [(&str, From); 7] = [
-    ("teco in", From::StandardInput),
-    ("teco -e Y$$EX$$ in", From::Word("Y$$EX$$")),
-    ("teco in --execute ^EX$$", From::Word("^EX$$")),
-    ("teco --execute=-C$$ in", From::Word("-C$$")),
-    ("teco -f a in", From::File("a")),
-    ("teco in -fa", From::File("a")),
-    ("teco in --file=a", From::File("a")),
+static SOURCES: [(&str, Origin); 7] = [
+    ("teco in", Origin::StandardInput),
+    ("teco -e Y$$EX$$ in", Origin::Word("Y$$EX$$")),
+    ("teco in --execute ^EX$$", Origin::Word("^EX$$")),
+    ("teco --execute=-C$$ in", Origin::Word("-C$$")),
+    ("teco -f a in", Origin::File("a")),
+    ("teco in -fa", Origin::File("a")),
+    ("teco in --file=a", Origin::File("a")),
 ];
 
 /// Where memory was refused, a row holds the second time.
 #[test]
 fn says_where_the_commands_come_from(rt: HostRuntime) {
-    for (words, from) in &SOURCES {
-        let held = comes_from(rt.alloc(), words, from) || comes_from(rt.alloc(), words, from);
+    for (words, origin) in &SOURCES {
+        let held = comes_from(rt.alloc(), words, origin) || comes_from(rt.alloc(), words, origin);
         assert_of(&rt, words, held);
     }
 }
