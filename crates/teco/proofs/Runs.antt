@@ -8,7 +8,7 @@ use Rattle.teco.specs.Disk.{Files}
 use Rattle.teco.specs.Ending.{fate_without_input, output_of}
 use Rattle.teco.specs.Run.{Edits, EndsBy, FailsToWrite, Finishes, FinishesBy, IsFateOf, IsInput, KeepsDisk, LacksInput, ServesInput, WritesOutput}
 use Rattle.teco.specs.declared.ending.Fate.{Fate}
-use Rattle.teco.specs.declared.ending.Fate.TheVariants.{NoInput, LargeInput, NoMemory, NoOutput, Ended}
+use Rattle.teco.specs.declared.ending.Fate.TheVariants.{NoCommands, NoInput, LargeInput, NoMemory, NoOutput, Ended}
 use Rattle.teco.specs.declared.input.InputFault.{InputFault}
 use Rattle.teco.specs.declared.input.InputFault.TheVariants as input
 use Rattle.teco.specs.declared.line.Line.{Line}
@@ -29,6 +29,11 @@ lacks_output input.Read e = cc
 lacks_output input.TooLarge e = cc
 lacks_output input.Memory e = cc
 
+lacks_commands : (fault : InputFault) → NoCommands ≡ fate_without_input fault → ⊥
+lacks_commands input.Read e = cc
+lacks_commands input.TooLarge e = cc
+lacks_commands input.Memory e = cc
+
 module _ {I : Type 0} {coming : I → Option (List ℕ)} {bound failures : I → ℕ} {files : Option Files} {name : List ℕ} {gave : Error → Type 0} where
   -- no serving ends, and no writing fails, for want of the input
   served_none : (served : Served) → LacksInput coming bound failures files name gave (Ended served) → ⊥
@@ -39,9 +44,14 @@ module _ {I : Type 0} {coming : I → Option (List ℕ)} {bound failures : I →
   written_none (inl opens) = no_other opens.fate_is (λ e. cc) (λ e. cc)
   written_none (inr reads) = lacks_output reads.fault reads.fate_is
 
+  commands_none : LacksInput coming bound failures files name gave NoCommands → ⊥
+  commands_none (inl opens) = no_other opens.fate_is (λ e. cc) (λ e. cc)
+  commands_none (inr reads) = lacks_commands reads.fault reads.fate_is
+
   lacks_by : (idle keeps : Type 0) (serves : Served → List ℕ → Type 0) (writes : List ℕ → Type 0) (fails : List ℕ → Fate → Type 0) (fate : Fate)
       → LacksInput coming bound failures files name gave fate → idle → keeps
       → EndsBy (LacksInput coming bound failures files name gave) idle keeps serves writes fails fate
+  lacks_by idle keeps serves writes fails NoCommands l i k = absurd (commands_none l)
   lacks_by idle keeps serves writes fails NoInput l i k = (l, i, k)
   lacks_by idle keeps serves writes fails LargeInput l i k = (l, i, k)
   lacks_by idle keeps serves writes fails NoMemory l i k = inl (i, k)
@@ -61,6 +71,7 @@ lacks_ends {line} {old} {new} {a} {c} {refused} {idle} {gave} {at_end} {showed} 
 finishes_by : (lacks : Fate → Type 0) (idle keeps : Type 0) (serves : Served → List ℕ → Type 0) (writes : List ℕ → Type 0) (fails : List ℕ → Fate → Type 0)
     (output : List ℕ) (served : Served) (fate : Fate) → serves served output → FinishesBy keeps (writes output) (fails output) served fate
     → EndsBy lacks idle keeps serves writes fails fate
+finishes_by lacks idle keeps serves writes fails output served.Exit NoCommands s f = absurd f
 finishes_by lacks idle keeps serves writes fails output served.Exit NoInput s f = absurd f
 finishes_by lacks idle keeps serves writes fails output served.Exit LargeInput s f = absurd f
 finishes_by lacks idle keeps serves writes fails output served.Exit NoMemory s f = inr (output, s, f)
@@ -98,6 +109,7 @@ module _ {old mid : Option Files} {a b : Files → Type 0} (kept : KeepsDisk old
 
   pub finishes_after : {new : Option Files} {c : Files → Type 0} {gave : Error → Type 0} {name output : List ℕ} (served : Served) (fate : Fate)
       → Finishes mid new b c gave name output served fate → Finishes old new a c gave name output served fate
+  finishes_after served.Exit NoCommands f = record { ends = absurd f.ends }
   finishes_after served.Exit NoInput f = record { ends = absurd f.ends }
   finishes_after served.Exit LargeInput f = record { ends = absurd f.ends }
   finishes_after served.Exit NoMemory f = record { ends = fails_after f.ends }
@@ -111,6 +123,32 @@ module _ {old mid : Option Files} {a b : Files → Type 0} (kept : KeepsDisk old
   finishes_after served.ReadFault fate f = record { ends = (f.ends.0, keeps_after f.ends.1) }
   finishes_after served.ShowFault fate f = record { ends = (f.ends.0, keeps_after f.ends.1) }
   finishes_after served.NoMemory fate f = record { ends = (f.ends.0, keeps_after f.ends.1) }
+
+-- The same of a whole run, whose commands were opened on the disk before.
+edits_by : {old mid : Option Files} {a b : Files → Type 0} (new : Option Files) (c : Files → Type 0) (refused : Error → Type 0) (name : List ℕ) (kept : KeepsDisk old mid a b) (lacks : Fate → Type 0) (idle : Type 0)
+    (serves : Served → List ℕ → Type 0) (fate : Fate)
+    → EndsBy lacks idle (KeepsDisk mid new b c) serves (WritesOutput mid new b c name) (FailsToWrite mid new b c refused name) fate
+    → EndsBy lacks idle (KeepsDisk old new a c) serves (WritesOutput old new a c name) (FailsToWrite old new a c refused name) fate
+edits_by new c refused name kept lacks idle serves NoCommands e = e
+edits_by new c refused name kept lacks idle serves NoInput e = (e.0, e.1, keeps_after kept e.2)
+edits_by new c refused name kept lacks idle serves LargeInput e = (e.0, e.1, keeps_after kept e.2)
+edits_by new c refused name kept lacks idle serves NoMemory (inl e) = inl (e.0, keeps_after kept e.1)
+edits_by new c refused name kept lacks idle serves NoMemory (inr e) = inr (e.0, e.1, fails_after kept e.2)
+edits_by new c refused name kept lacks idle serves NoOutput e = (e.0, e.1, fails_after kept e.2)
+edits_by new c refused name kept lacks idle serves (Ended served.Exit) e = (e.0, e.1, writes_after kept e.2)
+edits_by new c refused name kept lacks idle serves (Ended served.EndOfCommands) e = (e.0, e.1, keeps_after kept e.2)
+edits_by new c refused name kept lacks idle serves (Ended served.ReadFault) e = (e.0, e.1, keeps_after kept e.2)
+edits_by new c refused name kept lacks idle serves (Ended served.ShowFault) e = (e.0, e.1, keeps_after kept e.2)
+edits_by new c refused name kept lacks idle serves (Ended served.NoMemory) e = (e.0, e.1, keeps_after kept e.2)
+
+pub edits_after : {line : Line} {old mid new : Option Files} {a b c : Files → Type 0} {refused : Error → Type 0} {lacks : Option Files → List ℕ → (Error → Type 0) → Fate → Type 0} {idle : Type 0}
+    {gave : List ℕ → Bool → Type 0} {at_end : Type 0} {showed : List ℕ → Bool → Type 0} {fate : Fate} (kept : KeepsDisk old mid a b)
+    → Edits line mid new b c refused lacks idle gave at_end showed fate → Edits line old new a c refused lacks idle gave at_end showed fate
+edits_after {line} {old} {mid} {new} {a} {b} {c} {refused} {lacks} {idle} {gave} {at_end} {showed} {fate} kept e = record {
+  ends = subst (λ files. EndsBy (lacks files (string_bytes line.input) refused) idle (KeepsDisk old new a c) (ServesInput line (IsInput files (string_bytes line.input)) gave at_end showed)
+      (WritesOutput old new a c (output_of line)) (FailsToWrite old new a c refused (output_of line)) fate) kept.files
+      (edits_by new c refused (output_of line) kept (lacks mid (string_bytes line.input) refused) idle (ServesInput line (IsInput mid (string_bytes line.input)) gave at_end showed) fate e.ends);
+}
 
 pub finishes_ends : {line : Line} {old new : Option Files} {a c : Files → Type 0} {refused : Error → Type 0} {lacks : Option Files → List ℕ → (Error → Type 0) → Fate → Type 0} {idle : Type 0}
     {gave : List ℕ → Bool → Type 0} {at_end : Type 0} {showed : List ℕ → Bool → Type 0} {name output : List ℕ} {served : Served} {fate : Fate}

@@ -3,9 +3,10 @@ use Rattle.std.specs.Prelude.{◌≡◌, ℕ, List, [], ◌∷◌, ◌++◌, Som
 use Rattle.std.specs.String.{string_bytes}
 use Rattle.teco.specs.declared.input.InputFault.{InputFault}
 use Rattle.teco.specs.declared.input.InputFault.TheVariants as input
+use Rattle.teco.specs.declared.line.Commands.TheVariants.{StandardInput, Word, File}
 use Rattle.teco.specs.declared.line.Line.{Line}
 use Rattle.teco.specs.declared.ending.Fate.{Fate}
-use Rattle.teco.specs.declared.ending.Fate.TheVariants.{NoInput, LargeInput, NoMemory, NoOutput, Ended}
+use Rattle.teco.specs.declared.ending.Fate.TheVariants.{NoCommands, NoInput, LargeInput, NoMemory, NoOutput, Ended}
 use Rattle.teco.specs.declared.served.Served.TheVariants as served
 
 -- the name of the output file: the one given, or the input's followed by .out
@@ -18,7 +19,12 @@ fate_without_input input.Read = NoInput
 fate_without_input input.TooLarge = LargeInput
 fate_without_input input.Memory = NoMemory
 
+-- the name of the file that the commands come from; nothing where they come from elsewhere
+abbrev pub commands_name : Line → List ℕ
+commands_name line = elim line.commands [ File name ↦ string_bytes name | Word text ↦ [] | StandardInput ↦ [] ]
+
 abbrev pub status_of : Fate → ℕ
+status_of NoCommands = 1
 status_of NoInput = 1
 status_of LargeInput = 1
 status_of NoMemory = 1
@@ -34,6 +40,7 @@ abbrev pub said : List ℕ → List ℕ
 said words = codes "teco: " ++ words ++ 10 ∷ []
 
 abbrev pub text_of : Line → Fate → List ℕ
+text_of line NoCommands = said (codes "cannot read " ++ commands_name line)
 text_of line NoInput = said (codes "cannot read " ++ string_bytes line.input)
 text_of line LargeInput = said (string_bytes line.input ++ codes " is too large")
 text_of line NoMemory = said (codes "no memory")

@@ -9,7 +9,7 @@ use Rattle.std.specs.declared.alloc.Global.{Global}
 use Rattle.clap.specs.Words.{kind_of}
 use Rattle.clap.specs.declared.error.kind.ErrorKind.TheVariants as kind
 use Rattle.teco_step.specs.Terminal.{IsFrontOf, Screen, Shows}
-use Rattle.teco.specs.CommandLine.{IsLine, IsLineFault}
+use Rattle.teco.specs.CommandLine.{IsLine, IsLineFault, typed}
 use Rattle.teco.specs.declared.line.LineFault.{LineFault}
 use Rattle.teco.specs.declared.line.LineFault.TheVariants as line_fault
 use Rattle.std.specs.IoError.{error_kind}
@@ -21,11 +21,13 @@ use Rattle.teco.specs.Disk.{Changes, Files, Opens, Passes}
 use Rattle.teco.specs.Ending.{fate_without_input, output_of, said, status_of, text_of}
 use Rattle.teco.specs.Input.{IsFaultOf}
 use Rattle.teco.specs.Serving.{Serves}
-use Rattle.teco.specs.Source.{Gives}
+use Rattle.teco.specs.Source.{Gives, HasEnded}
 use Rattle.teco.specs.Writing.{AddsDrafts, IsWriteError, IsWriting, Writes}
 use Rattle.teco.specs.declared.ending.Fate.{Fate}
-use Rattle.teco.specs.declared.ending.Fate.TheVariants.{NoInput, LargeInput, NoMemory, NoOutput, Ended}
+use Rattle.teco.specs.declared.ending.Fate.TheVariants.{NoCommands, NoInput, LargeInput, NoMemory, NoOutput, Ended}
 use Rattle.teco.specs.declared.input.InputFault.{InputFault}
+use Rattle.teco.specs.declared.line.Commands.{Commands}
+use Rattle.teco.specs.declared.line.Commands.TheVariants.{StandardInput, Word, File}
 use Rattle.teco.specs.declared.line.Line.{Line}
 use Rattle.teco.specs.declared.served.Served.{Served}
 use Rattle.teco.specs.declared.served.Served.TheVariants as served
@@ -103,6 +105,8 @@ pub record Finishes (old new : Option Files) (left_old left_new : Files → Type
 
 -- How a run ends, and what it has done then.
 abbrev pub EndsBy : (Fate → Type 0) → Type 0 → Type 0 → (Served → List ℕ → Type 0) → (List ℕ → Type 0) → (List ℕ → Fate → Type 0) → Fate → Type 0
+-- the file of the commands is opened before
+EndsBy lacks idle keeps serves writes fails NoCommands = ⊥
 EndsBy lacks idle keeps serves writes fails NoInput = lacks NoInput × idle × keeps
 EndsBy lacks idle keeps serves writes fails LargeInput = lacks LargeInput × idle × keeps
 -- memory was refused before the serving, or to the writing
@@ -125,6 +129,36 @@ pub record Edits (line : Line) (old new : Option Files) (left_old left_new : Fil
       (ServesInput line (IsInput old (string_bytes line.input)) gave at_end showed)
       (WritesOutput old new left_old left_new (output_of line))
       (FailsToWrite old new left_old left_new refused (output_of line)) fate
+
+-- A run was given the commands of a source: `edits` says what it did, by what stayed where no command was read, what the source gave and whether it has ended.
+pub record RunsOn {I : Type 0} (coming : I → Option (List ℕ)) (bound failures : I → ℕ) (ended : I → Bool) (begins : Option (List ℕ) → Type 0)
+    (edits : Type 0 → (List ℕ → Bool → Type 0) → Type 0 → Type 0) : Type 0 where
+  pub first : I
+  pub last : I
+  pub begins_so : begins (coming first)
+  pub run : edits (last ≡ first) (Gives coming bound failures first last) (HasEnded (coming last) (ended last))
+
+-- The disk refused to open the file of the commands.
+pub record LacksCommands (gave : Error → Type 0) (fate : Fate) : Type 0 where
+  pub error : Error
+  pub given : gave error
+  pub fate_is : IsFateOf error NoCommands fate
+
+-- By commands of the line's own: nothing is done where memory is refused for the word or the file is not opened; else the run is over the bytes of the word, or over the file's.
+abbrev pub EditsByWord : Type 0 → (List ℕ → Type 0) → Fate → List ℕ → Type 0
+EditsByWord idle word fate text = ((fate ≡ NoMemory) × idle) ⊎ word (map typed text)
+
+abbrev pub EditsByFile : (Error → Type 0) → Type 0 → (List ℕ → Type 0) → Fate → List ℕ → Type 0
+EditsByFile gave idle file fate name = (LacksCommands gave fate × idle) ⊎ file name
+
+-- The commands come from where the line says. Those on standard input stay as they are where they come from elsewhere.
+abbrev pub EditsByCommands : Type 0 → Type 0 → (List ℕ → Type 0) → (List ℕ → Type 0) → Commands → Type 0
+EditsByCommands still standard word file StandardInput = standard
+EditsByCommands still standard word file (Word text) = still × word (string_bytes text)
+EditsByCommands still standard word file (File name) = still × file (string_bytes name)
+
+pub record EditsByLine (line : Line) (still standard : Type 0) (word file : List ℕ → Type 0) : Type 0 where
+  pub edits : EditsByCommands still standard word file line.commands
 
 -- All of the text is shown, or a beginning of it and then the terminal fails.
 abbrev pub Tells : Screen → Screen → List ℕ → Type 0

@@ -1,10 +1,10 @@
 //! How the program ends.
 ghost use Rattle.std.specs.Prelude.{◌≡◌, ◌++◌, codes, IfOk, OnErr};
 ghost use Rattle.std.specs.String.{string_bytes};
-ghost use Rattle.teco.specs.Ending.{said, status_of, text_of};
+ghost use Rattle.teco.specs.Ending.{commands_name, said, status_of, text_of};
 
 use crate::input::InputFault;
-use crate::line::{Line, output_name};
+use crate::line::{Commands, Line, output_name};
 use crate::served::Served;
 use std::alloc::Global;
 use teco_core::NoMemory;
@@ -12,6 +12,8 @@ use teco_core::NoMemory;
 /// How the program ends, once its command line is read.
 #[derive(Clone, Copy)]
 pub enum Fate {
+    /// The file of the commands cannot be opened.
+    NoCommands,
     /// The input cannot be read.
     NoInput,
     /// The input has more bytes than it may have.
@@ -60,11 +62,22 @@ fn said_of(alloc: Global, before: &str, name: &str, after: &str) -> Result<Strin
     Ok(text)
 }
 
+/// The name of the file that the commands come from; nothing where they come from elsewhere.
+fn commands_name(line: &Line) -> &str
+    ensures { result.now ≡ commands_name line.now }
+{
+    match &line.commands {
+        Commands::File(name) => name.as_str(),
+        Commands::StandardInput | Commands::Word(_) => "",
+    }
+}
+
 fn text(alloc: Global, line: &Line, fate: Fate) -> Result<String, NoMemory>
     ensures ok { IfOk result (λ text. string_bytes text ≡ text_of line.now fate) }
     ensures err { OnErr result (status_of fate ≡ 1) }
 {
     match fate {
+        Fate::NoCommands => said_of(alloc, "cannot read ", commands_name(line), ""),
         Fate::NoInput => said_of(alloc, "cannot read ", line.input.as_str(), ""),
         Fate::LargeInput => said_of(alloc, "", line.input.as_str(), " is too large"),
         Fate::NoMemory | Fate::Ended(Served::NoMemory) => String::from_str(
@@ -92,7 +105,6 @@ pub fn ending(alloc: Global, line: &Line, fate: Fate) -> Result<(u8, String), No
 #[cfg(test)]
 mod tests {
     use super::*;
-    use crate::line::Commands;
     use crate::tests::assert_of;
 
     fn line(alloc: Global, output: Option<&str>) -> Result<Line, NoMemory> {
@@ -103,7 +115,7 @@ mod tests {
         Ok(Line {
             input: String::from_str(alloc, "in")?,
             output,
-            commands: Commands::StandardInput,
+            commands: Commands::File(String::from_str(alloc, "strings")?),
             limit: 0,
             prompt: false,
             undo: None,
@@ -125,7 +137,8 @@ mod tests {
         }
     }
 
-    static ROWS: [Row<'static>; 10] = [
+    static ROWS: [Row<'static>; 11] = [
+        (None, Fate::NoCommands, 1, "teco: cannot read strings\n"),
         (None, Fate::NoInput, 1, "teco: cannot read in\n"),
         (None, Fate::LargeInput, 1, "teco: in is too large\n"),
         (None, Fate::NoMemory, 1, "teco: no memory\n"),

@@ -7,7 +7,6 @@ mod exchange;
 mod file_disk;
 mod input;
 mod line;
-#[cfg(test)]
 mod memory_source;
 mod output;
 mod place;

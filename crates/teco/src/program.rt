@@ -1,10 +1,11 @@
 //! What the program does, on any disk, terminal and commands.
-ghost use Rattle.std.specs.Prelude.{◌≡◌, ◌≤◌, ◌⊎◌, codes, IfErr, IfOk, IfSome, OnErr, vec_len};
+ghost use Rattle.std.specs.Prelude.{◌≡◌, ◌≤◌, ◌⊎◌, ℕ, Bool, List, Some, codes, IfErr, IfOk, IfSome, OnErr, vec_len};
 ghost use Rattle.std.specs.Process.{exit_status};
 ghost use Rattle.std.specs.String.{string_bytes};
 ghost use Rattle.teco.specs.CommandLine.{IsDepth};
+ghost use Rattle.teco.specs.Disk.{Opens};
 ghost use Rattle.teco.specs.Ending.{said};
-ghost use Rattle.teco.specs.Run.{Concludes, Edits, Finishes, IsFateOf, IsFaultIn, IsInput, IsLineIn, IsRefusedBy, KeepsDisk, LacksInput, Refuses, RunsOver, Tells};
+ghost use Rattle.teco.specs.Run.{Concludes, Edits, EditsByFile, EditsByLine, EditsByWord, Finishes, IsFateOf, IsFaultIn, IsInput, IsLineIn, IsRefusedBy, KeepsDisk, LacksInput, Refuses, RunsOn, RunsOver, Tells};
 ghost use Rattle.teco.specs.Serving.{Serves};
 ghost use Rattle.teco.specs.Source.{Gives, HasEnded};
 ghost use Rattle.teco_core.specs.declared.limits.TheConstants.{FILE_LIMIT};
@@ -15,7 +16,8 @@ ghost use Rattle.teco_step.specs.Terminal.{Shows};
 use crate::disk::Disk;
 use crate::ending::{Fate, ending};
 use crate::input::read_input;
-use crate::line::{Line, LineFault, line_of, output_name, refused_status};
+use crate::line::{Commands, Line, LineFault, commands_in, line_of, output_name, refused_status};
+use crate::memory_source::MemorySource;
 use crate::output::write_output;
 use crate::served::Served;
 use crate::serving::serve;
@@ -147,6 +149,94 @@ fn edit<S: Source, T: Terminal, D: Disk>(
     )
 }
 
+/// The same by the commands in a word.
+fn edit_by_word<T: Terminal, D: Disk>(
+    alloc: Global,
+    line: &Line,
+    word: &str,
+    number: u32,
+    term: &mut T,
+    disk: &mut D,
+) -> Fate
+    requires depth { IfSome line.now.undo IsDepth }
+    ensures { EditsByWord
+        ((term.new ≡ term.old)
+        × KeepsDisk (D.files disk.old) (D.files disk.new) (D.left disk.old) (D.left disk.new))
+        (λ bytes. RunsOn ⟦<MemorySource as Source>⟧.coming ⟦<MemorySource as Source>⟧.bound
+        ⟦<MemorySource as Source>⟧.failures ⟦<MemorySource as Source>⟧.ended (λ coming. coming ≡ Some bytes)
+        (λ still gave at_end. Edits line.now (D.files disk.old) (D.files disk.new)
+        (D.left disk.old) (D.left disk.new) (D.gave disk.new)
+        (LacksInput D.Input.coming D.Input.bound D.Input.failures) (still × (term.new ≡ term.old))
+        gave at_end (Shows (T.screen term.old) (T.screen term.new)) result))
+        result word.now }
+{
+    let Ok(bytes) = commands_in(alloc, word) else {
+        return Fate::NoMemory;
+    };
+    let mut commands = MemorySource::new(bytes, Vec::new(alloc), false);
+    edit(alloc, line, number, &mut commands, term, disk)
+}
+
+/// The same by the commands in a file.
+fn edit_by_file<T: Terminal, D: Disk>(
+    alloc: Global,
+    line: &Line,
+    name: &str,
+    number: u32,
+    term: &mut T,
+    disk: &mut D,
+) -> Fate
+    requires depth { IfSome line.now.undo IsDepth }
+    ensures { EditsByFile (D.gave disk.new)
+        ((term.new ≡ term.old)
+        × KeepsDisk (D.files disk.old) (D.files disk.new) (D.left disk.old) (D.left disk.new))
+        (λ name. RunsOn D.Input.coming D.Input.bound D.Input.failures D.Input.ended
+        (Opens (D.files disk.old) name)
+        (λ still gave at_end. Edits line.now (D.files disk.old) (D.files disk.new)
+        (D.left disk.old) (D.left disk.new) (D.gave disk.new)
+        (LacksInput D.Input.coming D.Input.bound D.Input.failures) (still × (term.new ≡ term.old))
+        gave at_end (Shows (T.screen term.old) (T.screen term.new)) result))
+        result name.now }
+{
+    match disk.open(name) {
+        Ok(mut commands) => edit(alloc, line, number, &mut commands, term, disk),
+        Err(error) => fate_of(error, Fate::NoCommands),
+    }
+}
+
+/// The same by the commands that the line says: those on standard input, or its own.
+fn edit_by_line<S: Source, T: Terminal, D: Disk>(
+    alloc: Global,
+    line: &Line,
+    number: u32,
+    commands: &mut S,
+    term: &mut T,
+    disk: &mut D,
+) -> Fate
+    requires depth { IfSome line.now.undo IsDepth }
+    ensures { let edits : Type 0 → (List ℕ → Bool → Type 0) → Type 0 → Type 0 = λ still gave at_end.
+        Edits line.now (D.files disk.old) (D.files disk.new)
+        (D.left disk.old) (D.left disk.new) (D.gave disk.new)
+        (LacksInput D.Input.coming D.Input.bound D.Input.failures) (still × (term.new ≡ term.old))
+        gave at_end (Shows (T.screen term.old) (T.screen term.new)) result in
+        let idle : Type 0 = (term.new ≡ term.old)
+        × KeepsDisk (D.files disk.old) (D.files disk.new) (D.left disk.old) (D.left disk.new) in
+        EditsByLine line.now (commands.new ≡ commands.old)
+        (edits (commands.new ≡ commands.old) (Gives S.coming S.bound S.failures commands.old commands.new)
+        (HasEnded (S.coming commands.new) (S.ended commands.new)))
+        (EditsByWord idle (λ bytes. RunsOn ⟦<MemorySource as Source>⟧.coming
+        ⟦<MemorySource as Source>⟧.bound ⟦<MemorySource as Source>⟧.failures
+        ⟦<MemorySource as Source>⟧.ended (λ coming. coming ≡ Some bytes) edits) result)
+        (EditsByFile (D.gave disk.new) idle (λ name. RunsOn D.Input.coming D.Input.bound D.Input.failures
+        D.Input.ended (Opens (D.files disk.old) name) edits) result) }
+{
+    match &line.commands {
+        Commands::StandardInput => edit(alloc, line, number, commands, term, disk),
+        Commands::Word(word) => edit_by_word(alloc, line, word.as_str(), number, term, disk),
+        Commands::File(name) => edit_by_file(alloc, line, name.as_str(), number, term, disk),
+    }
+}
+
 fn no_memory<E: Terminal>(errors: &mut E) -> ExitCode
     ensures status { exit_status result ≡ 1 }
     ensures told { Tells (E.screen errors.old) (E.screen errors.new) (said (codes "no memory")) }
@@ -228,16 +318,26 @@ pub fn program<S: Source, T: Terminal, E: Terminal, D: Disk>(
 ) -> ExitCode
     ensures { Refuses words ((commands.new ≡ commands.old) × (disk.new ≡ disk.old)) result
         ⊎ RunsOver words
-        (λ line. Edits line (D.files disk.old) (D.files disk.new) (D.left disk.old) (D.left disk.new) (D.gave disk.new)
-        (LacksInput D.Input.coming D.Input.bound D.Input.failures) ((commands.new ≡ commands.old) × (term.new ≡ term.old))
-        (Gives S.coming S.bound S.failures commands.old commands.new)
-        (HasEnded (S.coming commands.new) (S.ended commands.new))
-        (Shows (T.screen term.old) (T.screen term.new)))
+        (λ line fate. let edits : Type 0 → (List ℕ → Bool → Type 0) → Type 0 → Type 0 = λ still gave at_end.
+        Edits line (D.files disk.old) (D.files disk.new)
+        (D.left disk.old) (D.left disk.new) (D.gave disk.new)
+        (LacksInput D.Input.coming D.Input.bound D.Input.failures) (still × (term.new ≡ term.old))
+        gave at_end (Shows (T.screen term.old) (T.screen term.new)) fate in
+        let idle : Type 0 = (term.new ≡ term.old)
+        × KeepsDisk (D.files disk.old) (D.files disk.new) (D.left disk.old) (D.left disk.new) in
+        EditsByLine line (commands.new ≡ commands.old)
+        (edits (commands.new ≡ commands.old) (Gives S.coming S.bound S.failures commands.old commands.new)
+        (HasEnded (S.coming commands.new) (S.ended commands.new)))
+        (EditsByWord idle (λ bytes. RunsOn ⟦<MemorySource as Source>⟧.coming
+        ⟦<MemorySource as Source>⟧.bound ⟦<MemorySource as Source>⟧.failures
+        ⟦<MemorySource as Source>⟧.ended (λ coming. coming ≡ Some bytes) edits) fate)
+        (EditsByFile (D.gave disk.new) idle (λ name. RunsOn D.Input.coming D.Input.bound D.Input.failures
+        D.Input.ended (Opens (D.files disk.old) name) edits) fate))
         (λ line fate. Concludes line fate (E.screen errors.old) (E.screen errors.new) result) }
 {
     match line_in(alloc, words) {
         Ok(line) => {
-            let fate = edit(alloc, &line, number, commands, term, disk);
+            let fate = edit_by_line(alloc, &line, number, commands, term, disk);
             conclude(alloc, &line, fate, errors)
         }
         Err(fault) => refuse(&fault, term, errors),

@@ -1,0 +1,10 @@
+use Rattle.std.proofs.Common.{Some, ap, inr, ◌∙◌}
+use Rattle.teco.proofs.program.edit_by_word.Goals as goal
+
+pub returns : goal.returns
+returns g c = inr (record {
+  first = c.new-commands.result;
+  last = c.edit.new.commands;
+  begins_so = c.new-commands.ensures.coming ∙ ap Some c.in-Ok.ensures;
+  run = c.edit.ensures;
+})
