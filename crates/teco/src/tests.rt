@@ -14,6 +14,7 @@ mod iterations;
 mod jumps;
 mod laws;
 mod limits;
+mod line_commands;
 pub(crate) mod memory_disk;
 mod modifiers;
 mod page_turns;
