@@ -1,9 +1,7 @@
 -- How the parts of a run make its end.
-use Rattle.std.proofs.Common.{◌≡◌, ◌≢◌, ◌⊎◌, inl, inr, ℕ, List, Option, Bool, refl, sym, ◌∙◌, subst}
+use Rattle.std.proofs.Common.{◌≡◌, ◌≢◌, inl, inr, ℕ, List, Option, Bool, sym, ◌∙◌, subst}
 use Rattle.std.specs.String.{string_bytes}
-use Rattle.std.specs.IoError.{error_kind}
 use Rattle.std.specs.declared.io.Error.{Error}
-use Rattle.std.specs.declared.io.ErrorKind.TheVariants.{OutOfMemory}
 use Rattle.teco.specs.Disk.{Files}
 use Rattle.teco.specs.Ending.{fate_without_input, output_of}
 use Rattle.teco.specs.Run.{Edits, EndsBy, FailsToWrite, Finishes, FinishesBy, IsFateOf, IsInput, KeepsDisk, LacksInput, ServesInput, WritesOutput}

@@ -1,5 +1,5 @@
 -- Writing a file by one draft after another.
-use Rattle.std.proofs.Common.{◌≡◌, ◌≢◌, inl, inr, ℕ, List, Option, Some, None, refl, sym, ◌∙◌}
+use Rattle.std.proofs.Common.{◌≡◌, ◌≢◌, inl, inr, ℕ, List, Option, refl, sym, ◌∙◌}
 use Rattle.teco.specs.Disk.{Changes, Files, IsWhole, LeavesFiles, Passes, Replaces}
 use Rattle.teco.specs.Draft.{draft_beside}
 use Rattle.teco.specs.Writing.{AddsDrafts, IsDraftOf, IsWriting, Writes}

@@ -1,5 +1,5 @@
 -- Files by their names, and how a call changes what they hold.
-use Rattle.std.specs.Prelude.{◌≡◌, ◌≢◌, ◌⊎◌, ℕ, List, Option, Some, None, Result, Ok, Err, true, false}
+use Rattle.std.specs.Prelude.{◌≡◌, ◌≢◌, ◌⊎◌, ◌++◌, ℕ, List, Option, Some, None, Result, Ok, Err, true, false}
 use Rattle.std.specs.String.{string_bytes}
 use Rattle.teco_step.specs.Terminal.{count_after}
 use Rattle.teco.specs.declared.place.Place.{Place}
@@ -20,6 +20,16 @@ Same before after = (name : List ℕ) → after name ≡ before name
 pub record Creates (name bytes : List ℕ) (before after : Files) : Type 0 where
   pub new : before name ≡ None
   pub whole : after name ≡ Some bytes
+  pub others : SameBut name before after
+
+-- The file has these bytes after those that it had.
+pub record Appends (name bytes : List ℕ) (before after : Files) : Type 0 where
+  pub whole : (had : List ℕ) → before name ≡ Some had → after name ≡ Some (had ++ bytes)
+  pub others : SameBut name before after
+
+-- There is no file of this name any more.
+pub record Removes (name : List ℕ) (before after : Files) : Type 0 where
+  pub gone : after name ≡ None
   pub others : SameBut name before after
 
 -- Each file that was there is as it was. Under this name alone there may be one more.

@@ -1,12 +1,13 @@
 //! The files of the system.
-ghost use Rattle.std.specs.Prelude.{◌≡◌, ⊤, None};
+ghost use Rattle.std.specs.IoError.{error_kind};
+ghost use Rattle.std.specs.Prelude.{◌≡◌, ⊤, IfErr, None, Some};
 ghost use Rattle.teco.specs.Disk.{Counts};
 
 use crate::disk::Disk;
 use crate::place::{Place, append, place_of};
 use crate::reader_source::ReaderSource;
 use std::fs::{Files, Metadata, OpenFile, OpenOptions};
-use std::io::Write;
+use std::io::{ErrorKind, Write};
 use std::os::unix::fs::{MetadataExt, OpenOptionsExt, chown};
 use std::{fs, io};
 
@@ -17,6 +18,8 @@ pub struct FileDisk<'a, R: Files> {
     // the file whose place a new one is to take
     replaced: Option<Metadata>,
     failures: u64,
+    // what the last failure was
+    failure: Option<ErrorKind>,
 }
 
 /// Opens a new file. One that is to take the place of another is for its owner alone at first.
@@ -36,31 +39,6 @@ fn make_like<R: Files>(rt: &R, file: &R::File, name: &str, old: &Metadata) {
     let _ = file.set_permissions(old.permissions());
 }
 
-/// Writes the bytes to a new file, and waits until they are kept.
-fn fill<R: Files>(
-    rt: &R,
-    file: &mut R::File,
-    name: &str,
-    old: Option<&Metadata>,
-    bytes: &[u8],
-) -> io::Result<()> {
-    file.write_all(bytes)?;
-    if let Some(old) = old {
-        make_like(rt, file, name, old);
-    }
-    file.sync_all()
-}
-
-/// Makes a new file with these bytes. It is removed again where they can't be written.
-fn create<R: Files>(rt: &R, name: &str, old: Option<&Metadata>, bytes: &[u8]) -> io::Result<()> {
-    let mut file = open_new(rt, name, old)?;
-    let filled = fill(rt, &mut file, name, old, bytes);
-    if filled.is_err() {
-        let _ = fs::remove_file(rt, name);
-    }
-    filled
-}
-
 impl<'a, R: Files> FileDisk<'a, R> {
     /// The files of the system; a new one is made like the one that it is to replace, if there is one.
     pub fn new(rt: &'a R) -> FileDisk<'a, R> {
@@ -68,16 +46,19 @@ impl<'a, R: Files> FileDisk<'a, R> {
             rt,
             replaced: None,
             failures: 0,
+            failure: None,
         }
     }
 
-    /// Counts a call that failed.
+    /// Counts a call that failed, and notes its error.
     fn counted<A: Drop>(&mut self, done: io::Result<A>) -> io::Result<A>
         ensures same { result ≡ done }
         ensures count { Counts done self.old.failures self.new.failures }
+        ensures error { IfErr done (λ error. self.new.failure ≡ Some (error_kind error)) }
     {
-        if done.is_err() {
+        if let Err(error) = &done {
             self.failures = self.failures.wrapping_add(1);
+            self.failure = Some(error.kind());
         }
         done
     }
@@ -86,13 +67,21 @@ impl<'a, R: Files> FileDisk<'a, R> {
 impl<'a, R: Files + AllocGlobal> Disk for FileDisk<'a, R> {
     type Input = ReaderSource<R::File>;
 
+    type Draft = R::File;
+
     ghost files = { λ _. None };
 
     ghost left = { λ _ _. ⊤ };
 
     ghost failures = { λ disk. disk.failures };
 
-    ghost gave = { λ _ _. ⊤ };
+    ghost gave = { λ disk error. disk.failure ≡ Some (error_kind error) };
+
+    ghost is_of = { λ _ _. ⊤ };
+
+    ghost kept = { λ _ _. ⊤ };
+
+    ghost unremoved = { λ _ _. ⊤ };
 
     fn open(&mut self, name: &str) -> io::Result<ReaderSource<R::File>> {
         let opened = fs::open(self.rt, name);
@@ -118,9 +107,25 @@ impl<'a, R: Files + AllocGlobal> Disk for FileDisk<'a, R> {
         self.counted(appended)
     }
 
-    fn create(&mut self, name: &str, bytes: &[u8]) -> io::Result<()> {
-        let created = create(self.rt, name, self.replaced.as_ref(), bytes);
-        self.counted(created)
+    fn make(&mut self, name: &str) -> io::Result<R::File> {
+        let made = open_new(self.rt, name, self.replaced.as_ref());
+        self.counted(made)
+    }
+
+    fn write(&mut self, draft: &mut R::File, _name: &str, bytes: &[u8]) -> io::Result<()> {
+        let written = draft.write_all(bytes);
+        self.counted(written)
+    }
+
+    fn make_like(&mut self, draft: &R::File, name: &str) {
+        if let Some(old) = &self.replaced {
+            make_like(self.rt, draft, name, old);
+        }
+    }
+
+    fn sync(&mut self, draft: &R::File, _name: &str) -> io::Result<()> {
+        let synced = draft.sync_all();
+        self.counted(synced)
     }
 
     fn rename(&mut self, from: &str, to: &str) -> io::Result<()> {
@@ -128,7 +133,7 @@ impl<'a, R: Files + AllocGlobal> Disk for FileDisk<'a, R> {
         self.counted(renamed)
     }
 
-    fn remove(&mut self, name: &str) {
-        let _ = fs::remove_file(self.rt, name);
+    fn remove(&mut self, name: &str) -> io::Result<()> {
+        fs::remove_file(self.rt, name)
     }
 }

@@ -7,6 +7,8 @@ mod exchange;
 mod file_disk;
 mod input;
 mod line;
+#[cfg(test)]
+mod memory_disk;
 mod memory_source;
 mod output;
 mod place;
@@ -26,6 +28,8 @@ use crate::reader_source::ReaderSource;
 use std::process;
 use std::process::ExitCode;
 use teco_step::WriterTerminal;
+
+// The theorem ends here: that these are the program's words, streams and files is told by no contract.
 
 /// The words that the program was called with.
 fn words_given(rt: &HostRuntime) -> Result<Vec<String>, LineFault> {

@@ -1,8 +1,8 @@
 //! Writing the output.
-ghost use Rattle.std.specs.Prelude.{◌≡◌, ◌≢◌, IfErr, IfOk, OnErr, OnOk};
+ghost use Rattle.std.specs.Prelude.{◌≡◌, ◌≢◌, ◌⊎◌, IfErr, IfOk, OnErr, OnOk};
 ghost use Rattle.std.specs.String.{string_bytes};
 ghost use Rattle.teco.specs.Draft.{draft_beside};
-ghost use Rattle.teco.specs.Disk.{Changes, Counts, IsWhole, LeavesFiles, Passes, Replaces};
+ghost use Rattle.teco.specs.Disk.{Appends, Changes, Counts, Creates, IsWhole, LeavesFiles, Passes, Replaces, Same, SameBut};
 ghost use Rattle.teco.specs.Writing.{AddsDrafts, IsWriteError, IsWriting, Writes};
 
 use crate::disk::Disk;
@@ -16,21 +16,55 @@ use teco_core::NoMemory;
 /// How many names are tried for a draft.
 const DRAFTS: u32 = 100;
 
+/// Writes the bytes to a draft, and waits until they outlast a crash.
+fn fill<D: Disk>(disk: &mut D, draft: &mut D::Draft, name: &str, bytes: &[u8]) -> io::Result<()>
+    requires { D.is_of draft.old name.now }
+    ensures ok { OnOk result (Changes (D.files disk.old) (D.files disk.new) (Appends name.now bytes.now)) }
+    ensures kept { OnOk result (D.kept disk.new name.now) }
+    ensures err { OnErr result (Changes (D.files disk.old) (D.files disk.new) (SameBut name.now)) }
+    ensures moments { Passes (D.files disk.old) (D.left disk.old) (D.left disk.new) (SameBut name.now) }
+    ensures count { Counts result (D.failures disk.old) (D.failures disk.new) }
+    ensures error { IfErr result (D.gave disk.new) }
+{
+    disk.write(draft, name, bytes)?;
+    disk.make_like(draft, name);
+    disk.sync(draft, name)
+}
+
+/// Makes a draft with these bytes, which outlast a crash. Where they can't be written, it is removed again.
+fn create<D: Disk>(disk: &mut D, name: &str, bytes: &[u8]) -> io::Result<()>
+    ensures ok { OnOk result (Changes (D.files disk.old) (D.files disk.new) (Creates name.now bytes.now)) }
+    ensures kept { OnOk result (D.kept disk.new name.now) }
+    ensures err { OnErr result (Changes (D.files disk.old) (D.files disk.new) (LeavesFiles name.now)) }
+    ensures removed { OnErr result (Changes (D.files disk.old) (D.files disk.new) Same ⊎ D.unremoved disk.new name.now) }
+    ensures moments { Passes (D.files disk.old) (D.left disk.old) (D.left disk.new) (SameBut name.now) }
+    ensures count { Counts result (D.failures disk.old) (D.failures disk.new) }
+    ensures error { IfErr result (D.gave disk.new) }
+{
+    let mut draft = disk.make(name)?;
+    if let Err(error) = fill(disk, &mut draft, name, bytes) {
+        let _ = disk.remove(name);
+        return Err(error);
+    }
+    Ok(())
+}
+
 /// Gives a file these bytes in the place of what it has. They are written to a new file, the draft, which then takes the file's name.
 ///
-/// So at no moment has the file a part of them. Where a call fails, each file stays as it was, and no draft is left that can be
-/// removed.
+/// So at no moment has the file a part of them. Where a call fails, each file stays as it was, and no draft is left, or it could
+/// not be removed.
 pub fn replace<D: Disk>(disk: &mut D, file: &str, draft: &str, bytes: &[u8]) -> io::Result<()>
     requires { draft.now ≢ file.now }
     ensures ok { OnOk result (Changes (D.files disk.old) (D.files disk.new) (Replaces file.now bytes.now)) }
     ensures err { OnErr result (Changes (D.files disk.old) (D.files disk.new) (LeavesFiles draft.now)) }
+    ensures removed { OnErr result (Changes (D.files disk.old) (D.files disk.new) Same ⊎ D.unremoved disk.new draft.now) }
     ensures moments { Passes (D.files disk.old) (D.left disk.old) (D.left disk.new) (IsWhole file.now draft.now bytes.now) }
     ensures count { Counts result (D.failures disk.old) (D.failures disk.new) }
     ensures error { IfErr result (D.gave disk.new) }
 {
-    disk.create(draft, bytes)?;
+    create(disk, draft, bytes)?;
     if let Err(error) = disk.rename(draft, file) {
-        disk.remove(draft);
+        let _ = disk.remove(draft);
         return Err(error);
     }
     Ok(())

@@ -15,7 +15,6 @@ mod jumps;
 mod laws;
 mod limits;
 mod line_commands;
-pub(crate) mod memory_disk;
 mod modifiers;
 mod page_turns;
 mod patterns;

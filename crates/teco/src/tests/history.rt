@@ -47,11 +47,11 @@ static ANSWERS: [Answer; 6] = [
     Answer::NothingToRedo,
 ];
 
-fn plays(alloc: Global, requests: &[Request]) -> bool {
-    let mut session = session_over(alloc, b"");
+fn plays(alloc: Global, input: &[u8], requests: &[Request], all: &[Answer], typed: &str) -> bool {
+    let mut session = session_over(alloc, input);
     let mut term = MemoryTerminal::new(alloc);
     match session.play(alloc, requests, 100, &mut term) {
-        Ok(answers) => answers.as_slice() == ANSWERS.as_slice(),
+        Ok(answers) => answers.as_slice() == all && term.bytes() == typed.as_bytes(),
         Err(NoMemory) => false,
     }
 }
@@ -67,7 +67,39 @@ fn plays_in_order(rt: HostRuntime) {
         Request::Redo,
         Request::Redo,
     ];
-    assert!(rt; plays(rt.alloc(), &requests) || plays(rt.alloc(), &requests));
+    let held = plays(rt.alloc(), b"", &requests, &ANSWERS, "1\r\n")
+        || plays(rt.alloc(), b"", &requests, &ANSWERS, "1\r\n");
+    assert!(rt; held);
+}
+
+/// What the requests of `plays_after_an_exit` are answered.
+static AFTER_AN_EXIT: [Answer; 5] = [
+    Answer::Ended(Outcome {
+        code: None,
+        steps: 2,
+    }),
+    Answer::AfterExit,
+    Answer::Undone,
+    Answer::Ended(Outcome {
+        code: None,
+        steps: 2,
+    }),
+    Answer::NothingToRedo,
+];
+
+// After an exit no string is begun, until the exit is undone; and a string that is begun then drops what was undone.
+#[test]
+fn plays_after_an_exit(rt: HostRuntime) {
+    let requests = [
+        Request::Run(joined(rt.alloc(), &[b"YEX"])),
+        Request::Run(joined(rt.alloc(), &[b"1="])),
+        Request::Undo,
+        Request::Run(joined(rt.alloc(), &[b"1="])),
+        Request::Redo,
+    ];
+    let held = plays(rt.alloc(), b"a", &requests, &AFTER_AN_EXIT, "1\r\n")
+        || plays(rt.alloc(), b"a", &requests, &AFTER_AN_EXIT, "1\r\n");
+    assert!(rt; held);
 }
 
 /// The pointer, the lengths of the text, of the output and of the text of register A, and the number of that register.

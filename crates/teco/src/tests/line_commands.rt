@@ -1,7 +1,7 @@
 //! Runs of the whole program by the commands of its line. Those on standard input are not read then.
 use super::assert_of;
 use super::bytes::joined;
-use super::memory_disk::{MemoryDisk, Refused};
+use crate::memory_disk::{MemoryDisk, Refused};
 use crate::line::LineFault;
 use crate::memory_source::MemorySource;
 use crate::program::program;

@@ -1,9 +1,9 @@
 //! Runs of the whole program: over files in memory, and what it says of files of the system that it cannot read or write.
 use super::bytes::joined;
-use super::memory_disk::{MemoryDisk, Refused};
 use crate::disk::Disk;
 use crate::file_disk::FileDisk;
 use crate::line::LineFault;
+use crate::memory_disk::{MemoryDisk, Refused};
 use crate::memory_source::MemorySource;
 use crate::program::program;
 use std::alloc::Global;
@@ -61,7 +61,7 @@ fn disk_with(alloc: Global, files: Files, refused: Refused) -> Result<MemoryDisk
 }
 
 fn has_just(disk: &MemoryDisk, files: Files) -> bool {
-    let mut held = disk.count() == files.len();
+    let mut held = disk.has_only(files);
     for (name, bytes) in files {
         held = held && disk.bytes(name) == Some(bytes.as_bytes());
     }
@@ -103,7 +103,7 @@ const UNWRITTEN: Run = Run {
 
 const IN: (&str, &str) = ("in", "hi\n");
 
-static ROWS: [Row; 13] = [
+static ROWS: [Row; 17] = [
     // An exit writes the output, in the place of what was there, and by another draft where one is taken.
     (EXITS, &[IN], Refused::Nothing, &[IN, ("in.out", "hi\n")]),
     (
@@ -195,13 +195,33 @@ static ROWS: [Row; 13] = [
         Refused::Nothing,
         &[IN],
     ),
-    // An output that cannot be written: what was there stays, and no draft is left.
-    (UNWRITTEN, &[IN], Refused::Create, &[IN]),
+    // A read that fails.
+    (
+        Run {
+            typed: "",
+            told: "teco: cannot read in\n",
+            status: 1,
+            ..EXITS
+        },
+        &[IN],
+        Refused::Read,
+        &[IN],
+    ),
+    // An output that cannot be written: what was there stays, and no draft is left but one that can't be removed.
+    (UNWRITTEN, &[IN], Refused::Make, &[IN]),
+    (UNWRITTEN, &[IN], Refused::Write, &[IN]),
+    (UNWRITTEN, &[IN], Refused::Sync, &[IN]),
     (
         UNWRITTEN,
         &[IN, ("in.out", "old")],
         Refused::Rename,
         &[IN, ("in.out", "old")],
+    ),
+    (
+        UNWRITTEN,
+        &[IN, ("in.out", "old")],
+        Refused::RenameAndRemove,
+        &[IN, ("in.out", "old"), (".teco-7", "hi\n")],
     ),
     // A faulty line.
     (

@@ -1,4 +1,4 @@
-use Rattle.std.proofs.Common.{◌≡◌, ◌≢◌, ◌∙◌, ap, sym}
+use Rattle.std.proofs.Common.{◌≡◌, ◌≢◌, ◌∙◌, sym}
 use Rattle.std.proofs.lemmas.Result.{on_err_weaker}
 use Rattle.teco.specs.Disk.{Changes, LeavesFiles}
 use Rattle.teco.specs.Writing.{AddsDrafts}
