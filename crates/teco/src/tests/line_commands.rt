@@ -1,8 +1,8 @@
 //! Runs of the whole program by the commands of its line. Those on standard input are not read then.
 use super::assert_of;
 use super::bytes::joined;
+use super::program::{Files, disk_with, has_just, words_in};
 use crate::memory_disk::{MemoryDisk, Refused};
-use crate::line::LineFault;
 use crate::memory_source::MemorySource;
 use crate::program::program;
 use crate::source::Source;
@@ -11,15 +11,11 @@ use std::process::ExitCode;
 use teco_core::NoMemory;
 use teco_step::MemoryTerminal;
 
-/// Files by their names.
-type Files<'a> = &'a [(&'a str, &'a str)];
-
-/// The words of a run, with blanks between them, the files before it and those that are there more after it, what it types, tells on
-/// standard error and ends with.
+/// The words of a run, with blanks between them, the files before and after it, what it types, tells on standard error and ends with.
 struct Run<'a> {
     words: &'a str,
     files: Files<'a>,
-    written: Files<'a>,
+    after: Files<'a>,
     typed: &'a str,
     told: &'a str,
     status: u8,
@@ -27,30 +23,6 @@ struct Run<'a> {
 
 /// What is on standard input, and not read.
 const UNREAD: &[u8] = b"Ino\x1b\x1bEX\x1b\x1b";
-
-fn words_of(alloc: Global, text: &str) -> Result<Vec<String>, LineFault> {
-    let mut words = Vec::new(alloc);
-    for word in text.split(' ') {
-        words.push(String::from_str(alloc, word)?)?;
-    }
-    Ok(words)
-}
-
-fn disk_with(alloc: Global, files: Files) -> Result<MemoryDisk, NoMemory> {
-    let mut disk = MemoryDisk::new(alloc, Refused::Nothing);
-    for (name, bytes) in files {
-        disk.put(name, bytes.as_bytes())?;
-    }
-    Ok(disk)
-}
-
-fn has_all(disk: &MemoryDisk, files: Files) -> bool {
-    let mut held = true;
-    for (name, bytes) in files {
-        held = held && disk.bytes(name) == Some(bytes.as_bytes());
-    }
-    held
-}
 
 fn is_unread(commands: &mut MemorySource) -> bool {
     let mut piece = [0; 100];
@@ -61,8 +33,15 @@ fn runs_over(alloc: Global, disk: &mut MemoryDisk, run: &Run) -> bool {
     let mut commands = MemorySource::new(joined(alloc, &[UNREAD]), Vec::new(alloc), false);
     let mut term = MemoryTerminal::new(alloc);
     let mut errors = MemoryTerminal::new(alloc);
-    let words = words_of(alloc, run.words);
-    let status = program(alloc, words, 7, &mut commands, &mut term, &mut errors, disk);
+    let status = program(
+        alloc,
+        words_in(alloc, run.words),
+        7,
+        &mut commands,
+        &mut term,
+        &mut errors,
+        disk,
+    );
     status == ExitCode::from(run.status)
         && term.bytes() == run.typed.as_bytes()
         && errors.bytes() == run.told.as_bytes()
@@ -70,11 +49,8 @@ fn runs_over(alloc: Global, disk: &mut MemoryDisk, run: &Run) -> bool {
 }
 
 fn runs(alloc: Global, run: &Run) -> bool {
-    match disk_with(alloc, run.files) {
-        Ok(mut disk) => runs_over(alloc, &mut disk, run)
-            && has_all(&disk, run.files)
-            && has_all(&disk, run.written)
-            && disk.count() == run.files.len().saturating_add(run.written.len()),
+    match disk_with(alloc, run.files, Refused::Nothing) {
+        Ok(mut disk) => runs_over(alloc, &mut disk, run) && has_just(&disk, run.after),
         Err(NoMemory) => false,
     }
 }
@@ -85,7 +61,7 @@ const IN: (&str, &str) = ("in", "hi\n");
 const PAGE: Run = Run {
     words: "teco -e Y$$Z=$$EX$$ in",
     files: &[IN],
-    written: &[("in.out", "hi\n")],
+    after: &[IN, ("in.out", "hi\n")],
     typed: "3\r\n",
     told: "",
     status: 0,
@@ -93,7 +69,7 @@ const PAGE: Run = Run {
 
 /// Does nothing, for the line is faulty.
 const FAULTY: Run = Run {
-    written: &[],
+    after: &[IN],
     typed: "",
     status: 3,
     ..PAGE
@@ -103,14 +79,14 @@ static RUNS: [Run; 9] = [
     PAGE,
     Run {
         words: "teco in --output=out --execute=YHT$$EX$$",
-        written: &[("out", "hi\n")],
+        after: &[IN, ("out", "hi\n")],
         typed: "hi\n",
         ..PAGE
     },
     // A caret and a letter are a control command; the word ends without an exit.
     Run {
         words: "teco -e @^UA/xy/GAHT$$ in",
-        written: &[],
+        after: &[IN],
         typed: "xy",
         status: 2,
         ..PAGE
@@ -118,13 +94,18 @@ static RUNS: [Run; 9] = [
     Run {
         words: "teco -f strings in",
         files: &[IN, ("strings", "Y\x1b\x1bZ=\x1b\x1bEX\x1b\x1b")],
+        after: &[
+            IN,
+            ("strings", "Y\x1b\x1bZ=\x1b\x1bEX\x1b\x1b"),
+            ("in.out", "hi\n"),
+        ],
         ..PAGE
     },
     // In a file a dollar sign is itself.
     Run {
         words: "teco --file=strings in",
         files: &[IN, ("strings", "I$\x1bHT\x1b\x1b")],
-        written: &[],
+        after: &[IN, ("strings", "I$\x1bHT\x1b\x1b")],
         typed: "$",
         status: 2,
         ..PAGE
@@ -132,7 +113,7 @@ static RUNS: [Run; 9] = [
     // A file of commands that is not there, and an input that is not.
     Run {
         words: "teco -f none in",
-        written: &[],
+        after: &[IN],
         typed: "",
         told: "teco: cannot read none\n",
         status: 1,
@@ -140,7 +121,7 @@ static RUNS: [Run; 9] = [
     },
     Run {
         words: "teco -e EX$$ none",
-        written: &[],
+        after: &[IN],
         typed: "",
         told: "teco: cannot read none\n",
         status: 1,

@@ -28,11 +28,16 @@ fn words_of(alloc: Global, text: &str) -> Result<Vec<String>, NoMemory> {
     Ok(words)
 }
 
-fn runs_on<D: Disk>(alloc: Global, disk: &mut D, run: &Run) -> bool {
-    let words = match words_of(alloc, run.words) {
+/// The words of a text with a blank between them, as the program is given them.
+pub(super) fn words_in(alloc: Global, text: &str) -> Result<Vec<String>, LineFault> {
+    match words_of(alloc, text) {
         Ok(words) => Ok(words),
         Err(NoMemory) => Err(LineFault::NoMemory),
-    };
+    }
+}
+
+fn runs_on<D: Disk>(alloc: Global, disk: &mut D, run: &Run) -> bool {
+    let words = words_in(alloc, run.words);
     let mut commands = MemorySource::new(
         joined(alloc, &[run.commands.as_bytes()]),
         Vec::new(alloc),
@@ -47,12 +52,16 @@ fn runs_on<D: Disk>(alloc: Global, disk: &mut D, run: &Run) -> bool {
 }
 
 /// Files by their names.
-type Files<'a> = &'a [(&'a str, &'a str)];
+pub(super) type Files<'a> = &'a [(&'a str, &'a str)];
 
 /// A run, the files before it, which call is refused, and the files after it.
 type Row<'a> = (Run<'a>, Files<'a>, Refused, Files<'a>);
 
-fn disk_with(alloc: Global, files: Files, refused: Refused) -> Result<MemoryDisk, NoMemory> {
+pub(super) fn disk_with(
+    alloc: Global,
+    files: Files,
+    refused: Refused,
+) -> Result<MemoryDisk, NoMemory> {
     let mut disk = MemoryDisk::new(alloc, refused);
     for (name, bytes) in files {
         disk.put(name, bytes.as_bytes())?;
@@ -60,7 +69,7 @@ fn disk_with(alloc: Global, files: Files, refused: Refused) -> Result<MemoryDisk
     Ok(disk)
 }
 
-fn has_just(disk: &MemoryDisk, files: Files) -> bool {
+pub(super) fn has_just(disk: &MemoryDisk, files: Files) -> bool {
     let mut held = disk.has_only(files);
     for (name, bytes) in files {
         held = held && disk.bytes(name) == Some(bytes.as_bytes());
