@@ -1,5 +1,5 @@
 -- What the effect of a token and what a terminal shows always say.
-use Rattle.std.specs.Prelude.{◌≡◌, ◌≢◌, List, [], ◌++◌, length, ℕ, Bool, true, false, ◌⊎◌, ℤ, int_le}
+use Rattle.std.specs.Prelude.{◌≡◌, ◌≢◌, ◌≤◌, List, [], ◌++◌, length, ℕ, Bool, true, false, ◌⊎◌, ℤ, int_le}
 use Rattle.teco_core.specs.declared.code.Code.{Code}
 use Rattle.teco_core.specs.declared.code.Code.TheVariants.{Srh}
 use Rattle.teco_core.specs.Arguments.{Arguments}
@@ -9,6 +9,7 @@ use Rattle.teco_store.specs.State.{State}
 use Rattle.std.specs.Fmt.{signed_decimal}
 use Rattle.teco_step.specs.Decimal.{numeral_at}
 use Rattle.teco_step.specs.Effect.{effect}
+use Rattle.teco_step.specs.Load.{Moves}
 use Rattle.teco_step.specs.Step.{Setting, on, leave, go, again, out, stop}
 use Rattle.teco_step.specs.Stepping.{may_go_further, name_of, takes_nothing}
 use Rattle.teco_step.specs.Terminal.{Screen, Shows}
@@ -38,6 +39,14 @@ OnlyExits = (i : Item) (w : Setting) (s : State) (a : Arguments) → (effect i w
 abbrev pub ErrorsChangeNothing : Type 0
 ErrorsChangeNothing = (i : Item) (w : Setting) (s : State) (a : Arguments) (c : Code) → (effect i w s a).end ≡ stop c → c ≢ Srh
     → ((effect i w s a).state ≡ s) × ((effect i w s a).arguments ≡ a) × ((effect i w s a).typed ≡ [])
+
+-- A step changes the state or it types, and never both.
+abbrev pub ChangesOrTypes : Type 0
+ChangesOrTypes = (i : Item) (w : Setting) (s : State) (a : Arguments) → ((effect i w s a).state ≡ s) ⊎ ((effect i w s a).typed ≡ [])
+
+-- The load of a step is the bytes that it moves, where the pointer is in the text.
+abbrev pub LoadIsWhatMoves : Type 0
+LoadIsWhatMoves = (i : Item) (w : Setting) (s : State) (a : Arguments) → s.pointer ≤ length s.text → Moves s (effect i w s a).state (effect i w s a).load
 
 -- What n\ inserts is read back by \ as n, where no digit comes after it.
 abbrev pub ReadsWhatItInserts : Type 0

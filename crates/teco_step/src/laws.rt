@@ -1,7 +1,9 @@
 //! What the effect of a token and what a terminal shows always say.
-ghost use Rattle.teco_step.specs.Laws.{ErrorsChangeNothing, GoesFurtherIfItMay, JumpsToItsName, LeavesInside, OnlyExits, ReadsWhatItInserts, ShowsMore, StillShows, ValueGoesOn};
+ghost use Rattle.teco_step.specs.Laws.{ChangesOrTypes, ErrorsChangeNothing, GoesFurtherIfItMay, JumpsToItsName, LeavesInside, LoadIsWhatMoves, OnlyExits, ReadsWhatItInserts, ShowsMore, StillShows, ValueGoesOn};
 
-/// How the step of a token may end. It does nothing: its clauses are laws.
+use teco_search::{occurrences, search_texts};
+
+/// How the step of a token may end, and what it changes. It does nothing: its clauses are laws.
 pub fn effect_laws()
     ensures leave { LeavesInside }
     ensures jump { JumpsToItsName }
@@ -9,7 +11,12 @@ pub fn effect_laws()
     ensures value { ValueGoesOn }
     ensures done { OnlyExits }
     ensures errors { ErrorsChangeNothing }
-{}
+    ensures apart { ChangesOrTypes }
+    ensures load { LoadIsWhatMoves }
+{
+    occurrences();
+    search_texts();
+}
 
 /// Numbers in the buffer. It does nothing: its clause is a law.
 pub fn decimal_laws()

@@ -1,7 +1,20 @@
 use Rattle.teco_step.proofs.Ends.{leave_is_inside, go_names, goes_further_if_it_may, value_goes_on}
 use Rattle.teco_step.proofs.Errors.{errors_leave}
 use Rattle.teco_step.proofs.Exits.{only_exits}
+use Rattle.teco_step.proofs.Loads.{changes_or_types, load_moves}
 use Rattle.teco_step.proofs.laws.effect_laws.Goals as goal
 
 pub returns : goal.returns
-returns c = record { leave = leave_is_inside; jump = go_names; further = goes_further_if_it_may; value = value_goes_on; done = only_exits; errors = errors_leave }
+returns c =
+    let found = c.occurrences.ensures in
+    let spelled = c.search_texts.ensures.spelled in
+    record {
+      leave = leave_is_inside;
+      jump = go_names;
+      further = goes_further_if_it_may;
+      value = value_goes_on;
+      done = only_exits;
+      errors = errors_leave;
+      apart = changes_or_types found.long found.forward found.backward spelled;
+      load = load_moves found.long found.forward found.backward spelled;
+    }
