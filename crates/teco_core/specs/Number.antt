@@ -1,5 +1,5 @@
 -- Numbers: whole, from -2147483648 to 2147483647.
-use Rattle.std.specs.Prelude.{ℕ, zero, ◌+◌, ◌-◌, ◌*◌, ◌^◌, ◌&&◌, List, [], ◌∷◌, Result, Ok, Err, ℤ, pos, negsuc, ◌+ℤ◌, ◌-ℤ◌, ◌*ℤ◌, Bool, true, false, nat_lt, int_le, int_div, bit_and, bit_or, if◌then◌else◌}
+use Rattle.std.specs.Prelude.{ℕ, zero, ◌+◌, ◌-◌, ◌*◌, ◌^◌, ◌&&◌, List, [], ◌∷◌, Result, Ok, Err, ℤ, pos, negsuc, ◌+ℤ◌, ◌-ℤ◌, ◌*ℤ◌, ◌≤ℤ◌, Bool, true, false, nat_lt, int_le, int_div, bit_and, bit_or, if◌then◌else◌}
 use Rattle.teco_core.specs.declared.code.Code.{Code}
 use Rattle.teco_core.specs.declared.code.Code.TheVariants.{Ovf, Dvz}
 use Rattle.teco_core.specs.declared.number.Op.{Op}
@@ -10,6 +10,10 @@ lowest = negsuc (2 ^ 31 - 1)
 
 abbrev pub highest : ℤ
 highest = pos (2 ^ 31 - 1)
+
+-- a number that is in the range
+abbrev pub IsNumber : ℤ → Type 0
+IsNumber n = (lowest ≤ℤ n) × (n ≤ℤ highest)
 
 -- A result outside the range is OVF.
 abbrev pub fitted : ℤ → Result ℤ Code

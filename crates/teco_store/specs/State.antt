@@ -4,6 +4,7 @@ use Rattle.std.specs.List.{All}
 use Rattle.std.specs.Option.{ForSome}
 use Rattle.teco_core.specs.declared.case_mode.CaseMode.{CaseMode}
 use Rattle.teco_core.specs.declared.case_mode.CaseMode.TheVariants.{Exact}
+use Rattle.teco_core.specs.Number.{IsNumber}
 use Rattle.teco_core.specs.Register.{Content, blank, blank_registers, content, with_content, with_number, with_text}
 use Rattle.teco_core.specs.declared.limits.TheConstants.{FILE_LIMIT, PUSHED_LIMIT, TEXT_LIMIT}
 
@@ -107,16 +108,23 @@ new_full input = record { body = beginning_over 0 input; stored = []; room = 0 }
 abbrev pub AreSmall : List Content → Type 0
 AreSmall contents = All (λ c. length c.text ≤ TEXT_LIMIT) contents
 
+-- each of these numbers is in the range
+abbrev pub AreNumbers : List Content → Type 0
+AreNumbers contents = All (λ c. IsNumber c.number) contents
+
 -- The pointer is in the text, the place in the input and the output's end in the `top` bytes that are stored; the registers are all
--- there; each part is within its limit, and the text within the capacity.
+-- there; each part is within its limit, each number of a register and of the push-down list in its range, and the text within the
+-- capacity.
 pub record IsSound (capacity top : ℕ) (b : Body) : Type 0 where
   pub pointer : b.pointer ≤ length b.text
   pub text : length b.text ≤ TEXT_LIMIT
   pub room : length b.text ≤ capacity
   pub all : length b.registers ≡ 36
   pub registers : AreSmall b.registers
+  pub numbers : AreNumbers b.registers
   pub few : length b.pushed ≤ PUSHED_LIMIT
   pub pushed : AreSmall b.pushed
+  pub pushed_numbers : AreNumbers b.pushed
   pub place : b.place ≤ length b.input
   pub input : length b.input ≤ FILE_LIMIT
   pub stored : b.output ≤ top

@@ -1,9 +1,14 @@
 use Rattle.std.proofs.Common.{◌≤◌, length, arith, rules, subst, sym}
+use Rattle.std.proofs.lemmas.Int.{ints}
 use Rattle.std.proofs.lemmas.List.Elements.{All-replicate}
+use Rattle.teco_core.specs.Number.{IsNumber}
 use Rattle.teco_core.specs.Register.{Content, blank}
 use Rattle.teco_core.specs.declared.limits.TheConstants.{TEXT_LIMIT}
-use Rattle.teco_store.specs.State.{AreSmall}
+use Rattle.teco_store.specs.State.{AreNumbers, AreSmall}
 use Rattle.teco_store.proofs.editor.Editor.new.Goals as goal
+
+blank_fits : IsNumber blank.number
+blank_fits = (omega (arith, ints), omega (arith, ints))
 
 pub invariant_of-result : goal.invariant_of-result
 invariant_of-result c = record {
@@ -12,8 +17,10 @@ invariant_of-result c = record {
   room = search rules;
   all = search rules;
   registers = subst AreSmall (sym c.new-2.ensures) (All-replicate (λ (c : Content). length c.text ≤ TEXT_LIMIT) 36 blank (omega arith));
+  numbers = subst AreNumbers (sym c.new-2.ensures) (All-replicate (λ (c : Content). IsNumber c.number) 36 blank blank_fits);
   few = search rules;
   pushed = subst AreSmall (sym c.new-3.ensures) (All-replicate (λ (c : Content). length c.text ≤ TEXT_LIMIT) 0 blank (omega arith));
+  pushed_numbers = subst AreNumbers (sym c.new-3.ensures) (All-replicate (λ (c : Content). IsNumber c.number) 0 blank blank_fits);
   place = search rules;
   input = search rules;
   stored = search rules;

@@ -1,13 +1,17 @@
 use Rattle.std.proofs.Common.{◌≤◌, length, rules, subst, sym}
 use Rattle.std.proofs.lemmas.List.Elements.{All-head, All-rest, All-set}
 use Rattle.teco_core.specs.Contents.{content_of}
+use Rattle.teco_core.specs.Number.{IsNumber}
 use Rattle.teco_core.specs.Register.{Content}
 use Rattle.teco_core.specs.declared.limits.TheConstants.{TEXT_LIMIT}
-use Rattle.teco_store.specs.State.{AreSmall}
+use Rattle.teco_store.specs.State.{AreNumbers, AreSmall}
 use Rattle.teco_store.proofs.editor.EditorDesk.pop.Goals as goal
 
 abbrev IsSmall : Content → Type 0
 IsSmall c = length c.text ≤ TEXT_LIMIT
+
+abbrev HasNumber : Content → Type 0
+HasNumber c = IsNumber c.number
 
 pub invariant_of-self : goal.invariant_of-self
 invariant_of-self c =
@@ -15,6 +19,7 @@ invariant_of-self c =
     let rest = c.pop-value.new.self in
     let old = c.self.inside.pushed in
     let all = c.self.invariant.pushed in
+    let numbers = c.self.invariant.pushed_numbers in
     record {
       pointer = search rules;
       text = search rules;
@@ -22,8 +27,11 @@ invariant_of-self c =
       all = search rules;
       registers = subst AreSmall (sym c.set.ensures.put)
           (All-set IsSmall c.self.inside.registers c.args.q top (All-head IsSmall top rest (subst AreSmall c.pop-value.ensures all)) c.self.invariant.registers);
+      numbers = subst AreNumbers (sym c.set.ensures.put)
+          (All-set HasNumber c.self.inside.registers c.args.q top (All-head HasNumber top rest (subst AreNumbers c.pop-value.ensures numbers)) c.self.invariant.numbers);
       few = search rules;
       pushed = All-rest IsSmall top rest old c.pop-value.ensures all;
+      pushed_numbers = All-rest HasNumber top rest old c.pop-value.ensures numbers;
       place = search rules;
       input = search rules;
       stored = search rules;
