@@ -16,24 +16,24 @@ pub enum Sign {
 }
 
 /// What a level of the arguments has so far. A level is the ground or an open parenthesis.
+///
+/// `Signed` is a sign that waits for a value, `Operation` a value and an operator that waits for the next one.
 #[derive(Clone, Copy, Debug, PartialEq, Eq)]
 pub enum Expression {
     Nothing,
     Number(i32),
-    /// A sign that waits for a value.
     Signed(Sign),
-    /// A value, and an operator that waits for the next one.
     Operation(i32, Op),
 }
 
 /// What the level in use has, for the commands that look at it without taking it.
+///
+/// `Sign` is a lone sign, as 1 or -1; at `Waits` an operator waits after a value.
 #[derive(Clone, Copy, Debug, PartialEq, Eq)]
 pub enum Level {
     Empty,
     Value(i32),
-    /// A lone sign, as 1 or -1.
     Sign(i32),
-    /// An operator waits after a value.
     Waits,
 }
 

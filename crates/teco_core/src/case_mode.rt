@@ -1,10 +1,8 @@
 //! The case mode.
 
-/// Whether a search tells the two cases of a letter apart.
+/// Whether a search tells the two cases of a letter apart: in `Exact` a letter matches itself alone, in `Either` in either case.
 #[derive(Clone, Copy, Debug, PartialEq, Eq)]
 pub enum CaseMode {
-    /// A letter matches itself alone.
     Exact,
-    /// A letter matches itself in either case.
     Either,
 }

@@ -8,71 +8,72 @@ use std::fmt;
 use thiserror::Error;
 
 /// Why a command string ended before its end, or why a request was refused.
+///
+/// - `Arg`: wrong argument, or wrong arithmetic.
+/// - `Bni`: `>` without its iteration.
+/// - `Cpq`: nothing on the push-down list.
+/// - `Dtb`: delete past the buffer.
+/// - `Ice`: search text not allowed.
+/// - `Iia`: insert with argument and text.
+/// - `Ill`: no such command.
+/// - `Ipa`: `P` with a number of at most 0.
+/// - `Iqc`: no such test.
+/// - `Iqn`: no such register.
+/// - `Isa`: search count not allowed.
+/// - `Iss`: no search text yet.
+/// - `Mrp`: parenthesis open at a command.
+/// - `Nae`: no number before `=`.
+/// - `Naq`: no number before a test.
+/// - `Nau`: no number before `U`.
+/// - `Ovf`: number out of range.
+/// - `Dvz`: division by zero.
+/// - `Pdo`: too many open or pushed.
+/// - `Pop`: place outside the buffer.
+/// - `Sni`: `;` without an iteration.
+/// - `Srh`: search failed.
+/// - `Tag`: no such tag to go to.
+/// - `Utc`: text ends inside a command or block.
+/// - `Yca`: page would replace a nonempty buffer.
+/// - `Big`: a text or the output past its limit.
+/// - `Lim`: step limit.
+/// - `Mem`: memory refused.
+/// - `Tty`: terminal failed.
+/// - `Ntu`: nothing to undo.
+/// - `Ntr`: nothing to redo.
+/// - `End`: session is done.
 #[derive(Clone, Copy, Debug, PartialEq, Eq, Error)]
 pub enum Code {
-    /// Wrong argument, or wrong arithmetic.
     Arg,
-    /// `>` without its iteration.
     Bni,
-    /// Nothing on the push-down list.
     Cpq,
-    /// Delete past the buffer.
     Dtb,
-    /// Search text not allowed.
     Ice,
-    /// Insert with argument and text.
     Iia,
-    /// No such command.
     Ill,
-    /// `P` with a number of at most 0.
     Ipa,
-    /// No such test.
     Iqc,
-    /// No such register.
     Iqn,
-    /// Search count not allowed.
     Isa,
-    /// No search text yet.
     Iss,
-    /// Parenthesis open at a command.
     Mrp,
-    /// No number before `=`.
     Nae,
-    /// No number before a test.
     Naq,
-    /// No number before `U`.
     Nau,
-    /// Number out of range.
     Ovf,
-    /// Division by zero.
     Dvz,
-    /// Too many open or pushed.
     Pdo,
-    /// Place outside the buffer.
     Pop,
-    /// `;` without an iteration.
     Sni,
-    /// Search failed.
     Srh,
-    /// No such tag to go to.
     Tag,
-    /// Text ends inside a command or block.
     Utc,
-    /// Page would replace a nonempty buffer.
     Yca,
-    /// A text or the output past its limit.
     Big,
-    /// Step limit.
     Lim,
-    /// Memory refused.
     Mem,
-    /// Terminal failed.
     Tty,
-    /// Nothing to undo.
     Ntu,
-    /// Nothing to redo.
     Ntr,
-    /// Session is done.
     End,
 }
 

@@ -4,17 +4,14 @@ ghost use Rattle.teco_core.specs.Number.{operation, decimal_value, fitted};
 
 use crate::code::Code;
 
-/// An operator between two numbers.
+/// An operator between two numbers: `Over` is division, cut toward zero, and `And` and `Or` are of 32 bits in two's complement.
 #[derive(Clone, Copy, Debug, PartialEq, Eq)]
 pub enum Op {
     Plus,
     Minus,
     Times,
-    /// Division, cut toward zero.
     Over,
-    /// Of 32 bits in two's complement.
     And,
-    /// Of 32 bits in two's complement.
     Or,
 }
 
