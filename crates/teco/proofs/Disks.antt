@@ -9,7 +9,7 @@ abbrev pub IsRenaming : List ℕ → List ℕ → Files → Files → Type 0
 IsRenaming draft file before now = Same before now ⊎ Renames draft file before now
 
 -- a call that may fail leaves one of two
-one_of : {A E X Y : Type 0} (result : Result A E) → OnOk result X → OnErr result Y → X ⊎ Y
+pub one_of : {A E X Y : Type 0} (result : Result A E) → OnOk result X → OnErr result Y → X ⊎ Y
 one_of (Ok done) ok err = inl ok
 one_of (Err fault) ok err = inr err
 

@@ -8,6 +8,7 @@ pub mod Texts
 mod CommandEntries
 pub mod CommandLines
 pub mod Disks
+pub mod FileLogs
 pub mod Writings
 pub mod Runs
 mod CommandRows

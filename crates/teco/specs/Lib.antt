@@ -9,6 +9,7 @@ pub mod Serving
 pub mod Held
 pub mod Ending
 pub mod Disk
+pub mod FileLog
 pub mod CommandLine
 pub mod Draft
 pub mod Writing
