@@ -5,10 +5,12 @@ use Rattle.teco_core.specs.Contents.{content_of}
 use Rattle.teco_store.specs.Turn as turn
 use Rattle.teco_store.specs.Turn.{Turn}
 use Rattle.teco_store.specs.declared.change.Kind.{Kind}
-use Rattle.teco_store.specs.declared.change.Kind.TheVariants.{Splice, Point, Number, Text, Push, TakeOff, PopInto, PutBack, Pages, Search, Found, Done, Mode}
+use Rattle.teco_store.specs.declared.change.Kind.TheVariants.{Splice, Short, Point, Number, Text, Push, TakeOff, PopInto, PutBack, Pages, Search, Found, Done, Mode}
+use Rattle.teco_store.specs.declared.short_text.TheConstants.{SHORT_LIMIT}
 
 abbrev pub turn_of : Kind → Turn
 turn_of (Splice p held) = turn.Splice p.at p.there p.pointer held.items
+turn_of (Short p held) = turn.Splice p.at p.there p.pointer held
 turn_of (Point pointer) = turn.Point pointer
 turn_of (Number q number) = turn.Number q number
 turn_of (Text q held) = turn.Text q held.items
@@ -22,7 +24,8 @@ turn_of (Found found) = turn.Found found
 turn_of (Done done) = turn.Done done
 turn_of (Mode mode) = turn.Mode mode
 
--- the bytes that stand in a place have room beside those that are held for it
+-- The bytes that stand in a place have room beside those that are held for it. A short text has the room that lies in the change.
 abbrev pub HasRoom : Kind → Type 0
 HasRoom (Splice p held) = p.there + length held.items ≤ vec_capacity held
+HasRoom (Short p held) = p.there + length held ≤ SHORT_LIMIT
 HasRoom k = Unit {0}

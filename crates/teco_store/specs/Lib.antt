@@ -6,6 +6,7 @@ pub mod PageLaws
 pub mod RecordLaws
 pub mod Refused
 pub mod Search
+pub mod ShortText
 pub mod State
 pub mod Trail
 pub mod Turn

@@ -5,6 +5,7 @@ ghost use Rattle.teco_store.specs.Entry.{held_by};
 ghost use Rattle.teco_store.specs.Turn.{note_after, full_after, FitsFull};
 
 use crate::editor::Editor;
+use crate::short_text::ShortText;
 use std::marker::Model;
 use std::mem;
 use teco_core::{CaseMode, Reg, Value};
@@ -21,6 +22,7 @@ pub(crate) struct Place {
 #[derive(Drop)]
 pub(crate) enum Kind {
     Splice(Place, Vec<u8>),
+    Short(Place, ShortText),
     Point(u32),
     Number(Reg, i32),
     Text(Reg, Vec<u8>),
@@ -79,6 +81,7 @@ impl Change {
     {
         match &self.kind {
             Kind::Splice(_, held) | Kind::Text(_, held) | Kind::Search(Some(held)) => held.len(),
+            Kind::Short(_, held) => held.len(),
             Kind::Push(value) | Kind::PutBack(_, value) => value.text.len(),
             Kind::Point(_)
             | Kind::Number(_, _)

@@ -5,6 +5,7 @@ ghost use Rattle.teco_gap.specs.Gap.{text};
 ghost use Rattle.teco_store.specs.State.{replaced};
 
 use crate::pages::append_within;
+use crate::short_text::{SHORT_LIMIT, ShortText};
 use teco_gap::GapBuffer;
 
 // Puts `ins` for the `there` bytes at `at`, and gives those that stood there in `held`, which is empty.
@@ -28,6 +29,25 @@ pub(crate) fn exchange(
     buffer.splice(at, 0, &[]);
     let (_, after) = buffer.halves();
     append_within(&mut held, &after[..there]);
+    buffer.splice(at, there, ins);
+    held
+}
+
+// Puts `ins` for the `there` bytes at `at`, which are few, and gives those that stood there.
+pub(crate) fn exchange_short(
+    buffer: &mut GapBuffer,
+    at: usize,
+    there: usize,
+    ins: &[u8],
+) -> ShortText
+    requires within { at + there ≤ length (text buffer.old) }
+    requires fits { length (text buffer.old) + length ins.now ≤ buffer.old.cap + there }
+    requires short { there ≤ SHORT_LIMIT }
+    ensures text { text buffer.new ≡ replaced (text buffer.old) at (at + there) ins.now }
+    ensures cap { buffer.new.cap ≡ buffer.old.cap }
+    ensures held { result ≡ take there (drop at (text buffer.old)) }
+{
+    let held = ShortText::copied(buffer, at, there);
     buffer.splice(at, there, ins);
     held
 }

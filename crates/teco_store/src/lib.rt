@@ -9,6 +9,7 @@ mod laws;
 mod noting;
 mod pages;
 mod recorder;
+mod short_text;
 mod turning;
 
 pub use change::Change;

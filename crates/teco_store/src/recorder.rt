@@ -14,6 +14,7 @@ mod texts;
 
 use crate::change::{Change, Kind};
 use crate::editor::Editor;
+use crate::short_text::SHORT_LIMIT;
 use std::marker::Model;
 use teco_core::{NoMemory, TEXT_LIMIT};
 
@@ -119,6 +120,19 @@ impl Recorder {
         Ok(held)
     }
 
+    // Finds room for so many changes, and for a text of `len` bytes.
+    fn find_room(&mut self, changes: usize, len: usize) -> Result<(), NoMemory>
+        ensures body { self.new.full.body ≡ self.old.full.body }
+        ensures stored { self.new.full.stored ≡ self.old.full.stored }
+        ensures sound { IsSound self.new.full.room (length self.new.full.stored) self.new.full.body }
+        ensures spare { OnOk result (changes ≤ self.new.spare) }
+        ensures room { OnOk result (len ≤ self.new.full.room) }
+        ensures keeps { Keeps self.old self.new }
+    {
+        self.reserve(changes)?;
+        self.reserve_text(len)
+    }
+
     // Puts a value in its place, and notes what stood there.
     #[inline(always)]
     fn note(&mut self, kind: Kind)
@@ -151,6 +165,24 @@ impl Recorder {
     {
         let _shown = self.editor.shown();
         let held = self.editor.exchange(at, there, ins, pointer, held);
+        self.entry.push_reserved(Change::new(self.done, held));
+    }
+
+    // Puts `ins` for the `there` bytes at `at`, and notes those that stood there, as a short text.
+    fn exchange_short(&mut self, at: usize, there: usize, ins: &[u8], pointer: usize)
+        requires spare { 0 < self.old.spare }
+        requires short { there + length ins.now ≤ SHORT_LIMIT }
+        requires there { at + there ≤ length self.old.full.body.text }
+        requires lands { pointer + there ≤ length self.old.full.body.text + length ins.now }
+        requires small { length self.old.full.body.text + length ins.now ≤ TEXT_LIMIT + there }
+        requires room { length self.old.full.body.text + length ins.now ≤ self.old.full.room + there }
+        ensures full { self.new.full ≡ full_after (Splice at there pointer ins.now) self.old.full }
+        ensures sound { IsSound self.new.full.room (length self.new.full.stored) self.new.full.body }
+        ensures spare { self.new.spare + 1 ≡ self.old.spare }
+        ensures goes { Goes (there + length ins.now) 1 self.old self.new }
+    {
+        let _shown = self.editor.shown();
+        let held = self.editor.exchange_short(at, there, ins, pointer);
         self.entry.push_reserved(Change::new(self.done, held));
     }
 }

@@ -9,8 +9,9 @@ ghost use Rattle.teco_store.specs.Turn.{turn_after, full_after, FitsFull};
 
 use crate::change::{Kind, Place};
 use crate::editor::Editor;
-use crate::exchange::{exchange, swap_bytes};
+use crate::exchange::{exchange, exchange_short, swap_bytes};
 use crate::pages::next_page;
+use crate::short_text::SHORT_LIMIT;
 use std::mem;
 use teco_core::{Reg, Value};
 
@@ -28,6 +29,12 @@ impl Editor {
     {
         match kind {
             Kind::Splice(place, held) => self.put_splice(place, held),
+            Kind::Short(place, held) => self.exchange_short(
+                place.at as usize,
+                place.there as usize,
+                held.as_slice(),
+                place.pointer as usize,
+            ),
             Kind::Point(pointer) => {
                 Kind::Point(mem::replace(&mut self.pointer, pointer as usize) as u32)
             }
@@ -104,6 +111,30 @@ impl Editor {
         let held = exchange(&mut self.text, at, there, ins, held);
         self.pointer = pointer;
         Kind::Splice(place, held)
+    }
+
+    // Puts `ins` for the `there` bytes at `at`, and gives those that stood there, as a short text.
+    pub(crate) fn exchange_short(
+        &mut self,
+        at: usize,
+        there: usize,
+        ins: &[u8],
+        pointer: usize,
+    ) -> Kind
+        requires short { there + length ins.now ≤ SHORT_LIMIT }
+        requires fits { FitsFull (turn.Splice at there pointer ins.now) self.old }
+        ensures editor { self.new ≡ full_after (turn.Splice at there pointer ins.now) self.old }
+        ensures kind { turn_of result ≡ turn_after (turn.Splice at there pointer ins.now) self.old.body }
+        ensures room { HasRoom result }
+    {
+        let place = Place {
+            at: at as u32,
+            there: ins.len() as u32,
+            pointer: self.pointer as u32,
+        };
+        let held = exchange_short(&mut self.text, at, there, ins);
+        self.pointer = pointer;
+        Kind::Short(place, held)
     }
 
     // Puts the next page for the `there` bytes at `at`, and gives those that stood there in `held`, which is empty.

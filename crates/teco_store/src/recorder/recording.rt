@@ -7,6 +7,7 @@ use crate::desk::{Desk, Refused};
 use crate::noting::is_long;
 use crate::pages::is_past;
 use crate::recorder::Recorder;
+use crate::short_text::SHORT_LIMIT;
 use teco_core::{CaseMode, PushList, Reg, Registers, TEXT_LIMIT};
 
 // Where the pointer comes to stand.
@@ -89,6 +90,11 @@ impl Desk for Recorder {
         let kept = self.editor().len() - del;
         if is_past(TEXT_LIMIT, kept, ins.len()) {
             return Err(Refused::Big);
+        }
+        if del + ins.len() <= SHORT_LIMIT {
+            self.find_room(1, kept + ins.len())?;
+            self.exchange_short(at, del, ins, landing(at, ins, point));
+            return Ok(());
         }
         let held = self.find_memory(1, del + ins.len(), kept + ins.len())?;
         self.exchange(at, del, ins, landing(at, ins, point), held);
@@ -218,6 +224,13 @@ impl Desk for Recorder {
             return Err(Refused::Big);
         }
         let text = self.fresh_text(text)?;
+        if del + ins.len() <= SHORT_LIMIT {
+            self.find_room(3, kept + ins.len())?;
+            self.note_text(text);
+            self.note(Kind::Found(true));
+            self.exchange_short(at, del, ins, at + ins.len());
+            return Ok(());
+        }
         let held = self.find_memory(3, del + ins.len(), kept + ins.len())?;
         self.note_text(text);
         self.note(Kind::Found(true));

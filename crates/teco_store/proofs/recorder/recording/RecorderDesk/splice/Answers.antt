@@ -3,10 +3,22 @@ use Rattle.teco_store.proofs.Fitting.{lands_within}
 use Rattle.teco_store.proofs.Recordings.{goes_call}
 use Rattle.teco_store.proofs.recorder.recording.RecorderDesk.splice.Goals as goal
 
+pub exchange_short-requires-clause-lands : goal.exchange_short-requires-clause-lands
+exchange_short-requires-clause-lands c =
+    let lands = lands_within c.args.self.now.full.body c.args.at c.args.del c.args.ins.now c.args.point c.requires.there c.requires.lands in
+    let pointer = c.landing.ensures in
+    let text : length c.find_room.new.self.full.body.text ≡ length c.args.self.now.full.body.text = ap (λ b. length b.text) c.find_room.ensures.body in
+    omega arith
+
+pub returns-then-del-ins-le-SHORT_LIMIT-clause-follows : goal.returns-then-del-ins-le-SHORT_LIMIT-clause-follows
+returns-then-del-ins-le-SHORT_LIMIT-clause-follows c =
+    let n = c.args.del + length c.args.ins.now in
+    goes_call c.args.self.now c.find_room.new.self c.exchange_short.new.self n 1 n c.find_room.ensures.keeps c.exchange_short.ensures.goes (omega arith) (omega arith)
+
 pub exchange-requires-clause-lands : goal.exchange-requires-clause-lands
 exchange-requires-clause-lands c =
     let lands = lands_within c.args.self.now.full.body c.args.at c.args.del c.args.ins.now c.args.point c.requires.there c.requires.lands in
-    let pointer = c.landing.ensures in
+    let pointer = c.landing-2.ensures in
     let text : length c.find_memory.new.self.full.body.text ≡ length c.args.self.now.full.body.text = ap (λ b. length b.text) c.find_memory.ensures.body in
     omega arith
 
