@@ -13,10 +13,12 @@ use Rattle.teco_scan.specs.declared.command.Row.{Row}
 use Rattle.teco_scan.specs.declared.command.Name.{Name}
 use Rattle.teco_scan.specs.declared.command.Name.TheVariants.{One, Two, Three, Control}
 use Rattle.teco_scan.specs.declared.command.Form.{Form}
-use Rattle.teco_scan.specs.declared.command.Form.TheVariants.{Register, Tag}
+use Rattle.teco_scan.specs.declared.command.Form.TheVariants.{Register, Tag, Test, Text}
 use Rattle.teco_scan.specs.declared.command.RegisterCommand.{RegisterCommand}
+use Rattle.teco_scan.specs.declared.command.TextCommand.{TextCommand}
+use Rattle.teco_scan.specs.declared.command.Test as tests
 use Rattle.teco_scan.specs.declared.table.TheConstants.{ROWS, FIRST}
-use Rattle.teco_scan.specs.Scan.{Reading, Instruction, TokenMeaning, no_modifiers, admits, after_letter, after_name, at_row, row_at, is_cut, of_row, command_at, modifiers_at, operand_at, begins_run, token_from, scanned, scan, after_fillers, run_of, after_run, register_at, text_at, step, digits, register, tag}
+use Rattle.teco_scan.specs.Scan.{Reading, Instruction, TokenMeaning, no_modifiers, admits, after_letter, after_name, at_row, row_at, is_cut, of_row, command_at, modifiers_at, operand_at, begins_run, token_from, scanned, scan, after_fillers, run_of, after_run, register_at, text_at, delimiter_at, test_at, step, digits, register, text, decide, tag}
 use Rattle.teco_scan.specs.Table.{begins_with}
 use Rattle.teco_scan.specs.FirstRow.{none_begins, is_whole, is_whole_first, picks, form_of, form_at, named_at, with_operand}
 use Rattle.teco_scan.proofs.SpelledReads.{both}
@@ -177,6 +179,18 @@ pub tag_read : (form : Form) (bs : List ℕ) (r : Reading (List ℕ)) → form �
     → operand_at form no_modifiers bs ≡ (r >>= (λ t. Ok (tag t.0, t.1)))
 unfolding operand_at
 tag_read form bs r is read = ap (λ (f : Form). operand_at f no_modifiers bs) is ∙ ap (λ (x : Reading (List ℕ)). x >>= (λ t. Ok (tag t.0, t.1))) read
+
+-- what follows a plain command with one text
+pub text_read : (form : Form) (c : TextCommand) (usual : ℕ) (bs : List ℕ) (r : Reading (List ℕ)) → form ≡ Text c usual → text_at usual bs ≡ r
+    → operand_at form no_modifiers bs ≡ (r >>= (λ t. Ok (step (text c t.0), t.1)))
+unfolding operand_at delimiter_at
+text_read form c usual bs r is read = ap (λ (f : Form). operand_at f no_modifiers bs) is ∙ ap (λ (x : Reading (List ℕ)). x >>= (λ t. Ok (step (text c t.0), t.1))) read
+
+-- what follows a plain `"`
+pub test_read : (form : Form) (bs : List ℕ) (r : Reading tests.Test) → form ≡ Test → test_at bs ≡ r
+    → operand_at form no_modifiers bs ≡ (r >>= (λ t. Ok (decide t.0, t.1)))
+unfolding operand_at
+test_read form bs r is read = ap (λ (f : Form). operand_at f no_modifiers bs) is ∙ ap (λ (x : Reading tests.Test). x >>= (λ t. Ok (decide t.0, t.1))) read
 
 -- what is scanned where no digit is, by the command that is read there
 pub command_read : (xs : List ℕ) (at from : ℕ) (r : Reading TokenMeaning) → from < length xs → drop from xs ≡ after_fillers (drop at xs) → is_digit (get_or xs from 0) ≡ false

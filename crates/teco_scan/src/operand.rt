@@ -55,7 +55,7 @@ pub(crate) fn register_at(text: &[u8], at: usize) -> Result<(Reg, usize), Code>
 }
 
 #[tactic(auto, unfolding(crate::specs::Scan::test_at))]
-fn test_at(text: &[u8], at: usize) -> Result<(Test, usize), Code>
+pub(crate) fn test_at(text: &[u8], at: usize) -> Result<(Test, usize), Code>
     ensures read { Gives (λ x. (x.0, drop x.1 text.now)) result (test_at (drop at text.now)) }
     ensures within { IfOk result (λ x. (at < x.1) × (x.1 ≤ length text.now)) }
 {

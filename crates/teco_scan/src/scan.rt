@@ -11,7 +11,7 @@ ghost use Rattle.teco_scan.specs.Seen.{Gives, IsKindIn, IsKindPlaced, IsFoundAt,
 
 use crate::command::{Form, Modifiers};
 use crate::names::{lone_form, named_at};
-use crate::operand::{operand_at, register_at, text_at};
+use crate::operand::{operand_at, register_at, test_at, text_at};
 use crate::table::{NONE, ROWS};
 use crate::token::{Found, Item, Span, Token, TokenKind};
 use teco_core::{Code, is_filler};
@@ -104,6 +104,16 @@ pub fn token_at(text: &[u8], at: usize) -> Found
         Some(Form::Tag) => {
             if let Ok((name, to)) = text_at(b'!', text, from + 1) {
                 return plain(from, to, TokenKind::Tag(name));
+            }
+        }
+        Some(Form::Text(command, usual)) => {
+            if let Ok((span, to)) = text_at(usual, text, from + 1) {
+                return plain(from, to, TokenKind::Item(Item::Text(command, span)));
+            }
+        }
+        Some(Form::Test) => {
+            if let Ok((test, to)) = test_at(text, from + 1) {
+                return plain(from, to, TokenKind::Test(test));
             }
         }
         _ => {}
