@@ -19,6 +19,8 @@ function begin(options) {
     system("mkdir -p '" folder "'")
     put("where", page ":" NR)
     put("options", options)
+    put("heading", heading)
+    put("table", page == "COOKBOOK.md" ? "cookbook_" part_name : page == "teco.1" ? "man_page" : tolower(substr(page, 1, length(page) - 3)))
     put("before", "")
     put("typed", "")
     has_after = status = 0
@@ -82,6 +84,13 @@ function display(    name) {
     if ("after" in held) has_after = 1
     split("", held)
     finish()
+}
+
+# The heading above, and for docs/rows the name of the part of the page.
+folder == "" && /^##/ {
+    heading = $0
+    sub(/^#* */, "", heading)
+    if (/^## /) { part_name = tolower(heading); gsub(/[^a-z]+/, "_", part_name) }
 }
 
 /^```teco/ || /^```session/ {

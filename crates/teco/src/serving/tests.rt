@@ -334,6 +334,7 @@ fn serves_requests(rt: HostRuntime) {
 
 mod commands;
 mod depths;
+mod documents;
 mod examples;
 mod failing;
 mod pages;
