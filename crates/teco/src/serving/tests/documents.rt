@@ -6,6 +6,7 @@ use crate::tests::assert_of;
 use std::alloc::Global;
 use std::process::Abort;
 use std::test::*;
+use teco_core::NoMemory;
 use teco_session::Session;
 use teco_step::MemoryTerminal;
 use teco_store::Desk;
@@ -28,14 +29,23 @@ type Example<'a> = (&'a str, &'a str, &'a str, Option<&'a str>);
 /// Examples that are served in the same way, each in a session of its own.
 type Group<'a> = (How<'a>, &'a [Example<'a>]);
 
-/// Whether the bytes are those of the text and some that the page does not tell.
-fn are_told(bytes: &[u8], text: &str, untold: &[u8]) -> bool {
-    let mut rest = text.as_bytes().iter();
-    let mut held = true;
+/// The bytes that a page tells.
+fn told_of(alloc: Global, bytes: &[u8], untold: &[u8]) -> Result<Vec<u8>, NoMemory> {
+    let mut told = Vec::new(alloc);
     for byte in bytes {
-        held = (untold.contains(byte) || rest.next() == Some(byte)) && held;
+        if !untold.contains(byte) {
+            told.push(*byte)?;
+        }
     }
-    held && rest.next().is_none()
+    Ok(told)
+}
+
+/// Whether the bytes that a page tells are this text.
+fn are_told(alloc: Global, bytes: &[u8], text: &str, untold: &[u8]) -> bool {
+    match told_of(alloc, bytes, untold) {
+        Ok(told) => told.as_slice() == text.as_bytes(),
+        Err(NoMemory) => false,
+    }
 }
 
 /// Whether the strings ended by an exit with this output, or without an exit.
@@ -64,7 +74,7 @@ fn holds_once(alloc: Global, how: &How, example: &Example, single: bool, untold:
         how.prompt,
         &mut term,
     );
-    are_told(term.bytes(), typed, untold) && is_ended(served, &session, *output)
+    are_told(alloc, term.bytes(), typed, untold) && is_ended(served, &session, *output)
 }
 
 fn holds(alloc: Global, how: &How, example: &Example, untold: &[u8]) -> bool {
