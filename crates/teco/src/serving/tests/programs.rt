@@ -5,14 +5,14 @@ pub(super) const SORT: &str =
   teco FILE --output OUT < examples/sort.tec
 Form feeds between pages go. A thousand lines take some 600000 steps, and more where they begin alike.!
 <A ZJ Z"N -A-10"N 10I$ ' ' -1-^N;>          !all pages, each with a line end!
-0UN                                         !the first N lines are in order!
-<JQNL .-Z; .UP                              !the next one begins at P!
-  0UL QNUH
-  <QL-QH; QL+QH/2UM JQML                    !its place is from L to H; M is the middle!
-    0UI <QIAUX QP-.+QIAUY QX-QY"N 0;' QX-10"E 0;' %I>
-    QX-10"E -1UX' QY-10"E -1UY'             !the end of a line comes before any byte!
-    QY-QX"L QMUH | QM+1UL ' >
-  QPJ XAK JQLL GA %N>
+1UW <J 0UC                                  !each W lines are in order; C tells whether two such parts were merged!
+  <.-Z; .UP QWL .UM QM-Z; QWL .UE 1UC QPJ   !one is from P to M, the next from M to E!
+    <QP-QM; QM-QE;
+      0UI <QIAUX QM-.+QIAUY QX-QY"N 0;' QX-10"E 0;' %I>
+      QX-10"E -1UX' QY-10"E -1UY'           !the end of a line comes before any byte!
+      QY-QX"L QMJ XAK QPJ GA QM+:QAUM | L ' .UP>
+    QEJ>
+  -QC; 2*QWUW>
 EX$$
 "#;
 
