@@ -1,9 +1,10 @@
 -- Tables of bytes, and the sets that are made of them.
-use Rattle.std.proofs.Common.{◌≡◌, ℕ, ◌+◌, ◌<◌, ◌≤◌, Bool, true, false, eqb, List, length, get_or, set, Fits, w8, ◌++◌, ◌-◌, Some, Option, refl, sym, ap, ◌∙◌, arith, ⊎_elim}
+use Rattle.std.proofs.Common.{replicate, ◌≡◌, ℕ, ◌+◌, ◌<◌, ◌≤◌, Bool, true, false, eqb, List, length, get_or, Fits, w8, ◌++◌, ◌-◌, Some, None, Option, refl, sym, ap, ◌∙◌, arith, ⊎_elim}
+use Rattle.std.specs.Option.{option_map_or, unwrap_or}
 use Rattle.std.specs.Prelude.{slice_get, ◌||◌}
 use Rattle.std.proofs.lemmas.Bool.{cases_eq, cases_lt, eq-eqb, ne_eqb}
-use Rattle.std.proofs.lemmas.List.{get_or-set_same, get_or-set_other, length-set, get_or_append_left, get_or-append_right}
-use Rattle.std.proofs.lemmas.Option.{slice_get-get_or, get_or_from_slice_get}
+use Rattle.std.proofs.lemmas.List.{get_or-replicate, get_or_append_left, get_or-append_right}
+use Rattle.std.proofs.lemmas.Option.{slice_get-get_or, get_or_from_slice_get, unwrap_or-slice_get}
 use Rattle.std.proofs.Math.Bool.{or-false}
 use Rattle.teco_search.specs.declared.byte_set.ByteSet.{ByteSet}
 use Rattle.teco_search.specs.ByteSet.{AreBytes, contains, in_table}
@@ -38,16 +39,22 @@ module _ (table : List Bool) (at : ℕ) (inside : at < length table) (old : Byte
     others = λ b above. so_far.others b (omega arith);
   }
 
--- One more entry of a table that tells what a test answers.
-pub table_more :
-    (test : ℕ → Bool) (table : List Bool) (at : ℕ) → at < length table → ((b : ℕ) → b < at → slice_get table b ≡ Some (test b))
-    → (b : ℕ) → b < at + 1 → slice_get (set table at (test at)) b ≡ Some (test b)
-table_more test table at inside seen b below =
-    let whole : b < length (set table at (test at)) = omega (arith, length-set table at (test at)) in
-    ⊎_elim
-    (λ same. slice_get-get_or (set table at (test at)) b false whole ∙ told _ (test b) (ap (λ k. get_or (set table at (test at)) k false) same ∙ get_or-set_same table at (test at) false inside ∙ ap test (sym same)))
-    (λ other. slice_get-get_or (set table at (test at)) b false whole ∙ told _ (get_or table b false) (get_or-set_other table at b (test at) false other)
-    ∙ sym (slice_get-get_or table b false (omega arith)) ∙ seen b (omega arith)) (cases_eq b at)
+tells : (entry : Option Bool) → option_map_or (λ is_in. is_in) entry false ≡ unwrap_or entry false
+tells None = refl
+tells (Some x) = refl
+
+in_table-get_or : (table : List Bool) (b : ℕ) → in_table table b ≡ get_or table b false
+in_table-get_or table b = tells (slice_get table b) ∙ unwrap_or-slice_get table b false
+
+-- A table that has no byte.
+pub in_table-none : (b : ℕ) → b < 256 → in_table (replicate 256 false) b ≡ false
+in_table-none b below = in_table-get_or (replicate 256 false) b ∙ get_or-replicate 256 b false false below
+
+-- So far the bytes below a place that pass a test are added to a table.
+pub record AddsBelow (old new : List Bool) (test : ℕ → Bool) (at : ℕ) : Type 0 where
+  pub whole : length new ≡ 256
+  pub below : (b : ℕ) → b < at → in_table new b ≡ (in_table old b || test b)
+  pub above : (b : ℕ) → at ≤ b → in_table new b ≡ in_table old b
 
 -- Two slices of bytes together are bytes.
 pub AreBytes-append : (xs ys : List ℕ) → ((i : ℕ) → Fits w8 (get_or xs i 0)) → ((i : ℕ) → Fits w8 (get_or ys i 0)) → AreBytes (xs ++ ys)

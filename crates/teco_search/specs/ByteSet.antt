@@ -18,6 +18,10 @@ contains (Three a b c) x = x == a || x == b || x == c
 contains (Kind class) x = is_in class x
 contains (Table table) x = in_table table x
 
+-- A table has what it had, and what passes a test.
+abbrev pub Adds : List Bool → List Bool → (ℕ → Bool) → Type 0
+Adds old new test = (b : ℕ) → b < 256 → in_table new b ≡ (in_table old b || test b)
+
 -- Each byte of a text fits in eight bits.
 pub record AreBytes (text : List ℕ) : Type 0 where
   pub fits : (k b : ℕ) → slice_get text k ≡ Some b → b < 256

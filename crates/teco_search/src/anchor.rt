@@ -5,7 +5,8 @@ ghost use Rattle.teco_search.specs.ByteSet.{contains};
 ghost use Rattle.teco_search.specs.Element.{item_admits};
 
 use crate::byte_set::ByteSet;
-use crate::element::{Element, Item, OneByte, is_exact};
+use crate::byte_table::{others, table_of};
+use crate::element::{Element, Item, OneByte, both_cases, is_exact};
 use crate::frequency::frequency;
 use teco_core::CaseMode;
 
@@ -16,17 +17,6 @@ use teco_core::CaseMode;
 pub(crate) struct Anchor {
     pub(crate) offset: usize,
     pub(crate) bytes: ByteSet,
-}
-
-/// A table of the bytes that the match of an element may begin with.
-fn table_of(mode: CaseMode, element: &Element) -> [bool; 256]
-    ensures { (b : ℕ) → b < 256 → slice_get result b ≡ Some (begins mode element.now b) }
-{
-    let mut table = [false; 256];
-    'bytes: for byte in 0..256usize {
-        table[byte] = element.begins(mode, byte as u8);
-    }
-    table
 }
 
 /// Which bytes an item admits.
@@ -40,7 +30,8 @@ fn bytes_of(mode: CaseMode, item: Item) -> ByteSet
             if is_exact(mode, byte) {
                 ByteSet::One(byte)
             } else {
-                ByteSet::Two(byte.to_ascii_lowercase(), byte.to_ascii_uppercase())
+                let (lower, upper) = both_cases(mode, byte);
+                ByteSet::Two(lower, upper)
             }
         }
     }
@@ -53,9 +44,8 @@ fn beginnings(mode: CaseMode, element: &Element) -> ByteSet
 {
     match element {
         Element::Among(OneByte::Single(item)) => bytes_of(mode, *item),
-        Element::Among(OneByte::Listed(_)) | Element::Except(_) => {
-            ByteSet::of(table_of(mode, element))
-        }
+        Element::Among(one) => ByteSet::of(table_of(mode, one)),
+        Element::Except(one) => ByteSet::of(others(&table_of(mode, one))),
         Element::Blanks => ByteSet::Two(b' ', b'\t'),
     }
 }

@@ -87,7 +87,7 @@ impl ByteSet {
 
     /// The bytes that a table has.
     pub(crate) fn of(table: [bool; 256]) -> ByteSet
-        ensures { (b : ℕ) → b < 256 → slice_get table b ≡ Some (contains result b) }
+        ensures { (b : ℕ) → b < 256 → contains result b ≡ in_table table b }
     {
         let mut set = ByteSet::Empty;
         'bytes: for byte in 0..256usize {

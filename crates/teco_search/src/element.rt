@@ -1,9 +1,9 @@
 //! The elements of a search text, and which bytes they admit.
-ghost use Rattle.std.specs.Prelude.{◌≡◌, ◌↔◌, IsTrue, Some};
+ghost use Rattle.std.specs.Prelude.{◌≡◌, ◌↔◌, ◌||◌, ◌==◌, ℕ, false, IsTrue, Some};
 ghost use Rattle.std.specs.Fmt.{WritesOnOk};
 ghost use Rattle.std.specs.List.{flat_map, list_any};
 ghost use Rattle.teco_search.specs.Anchor.{begins};
-ghost use Rattle.teco_search.specs.Element.{is_blank, is_in, item_admits, admits};
+ghost use Rattle.teco_search.specs.Element.{is_blank, is_in, is_same, item_admits, admits};
 ghost use Rattle.teco_search.specs.Literal.{is_exact};
 ghost use Rattle.teco_search.specs.Shown.{shown_byte, shown_class, shown_element, shown_item, shown_items, shown_one, shown_other};
 
@@ -85,6 +85,14 @@ pub(crate) fn is_exact(mode: CaseMode, byte: u8) -> bool
     }
 }
 
+/// A letter in both its cases, where it does not admit itself alone.
+pub(crate) fn both_cases(mode: CaseMode, letter: u8) -> (u8, u8)
+    requires { is_exact mode letter ≡ false }
+    ensures { (b : ℕ) → (b == result.0 || b == result.1) ≡ is_same mode letter b }
+{
+    (letter.to_ascii_lowercase(), letter.to_ascii_uppercase())
+}
+
 impl Class {
     /// Whether a byte is of this kind.
     #[tactic(auto, unfolding(crate::specs::Element::is_in))]
@@ -159,18 +167,6 @@ impl OneByte {
 }
 
 impl Element {
-    /// Whether its match may begin with a byte.
-    #[tactic(auto, unfolding(crate::specs::Anchor::begins))]
-    pub(crate) fn begins(&self, mode: CaseMode, byte: u8) -> bool
-        ensures { result ≡ begins mode self.now byte }
-    {
-        match self {
-            Element::Among(one) => one.admits(mode, byte),
-            Element::Except(one) => !one.admits(mode, byte),
-            Element::Blanks => is_blank(byte),
-        }
-    }
-
     /// Whether it is a run of spaces and tabs.
     #[inline]
     pub(crate) fn is_run(&self) -> bool

@@ -3,6 +3,7 @@
 
 mod anchor;
 mod byte_set;
+mod byte_table;
 mod element;
 mod frequency;
 mod joined;

@@ -1,0 +1,75 @@
+//! Tables that tell of each byte whether it may be here. The table of a list is made item by item.
+ghost use Rattle.std.specs.Prelude.{◌≡◌, ◌<◌, ◌==◌, ℕ, not};
+ghost use Rattle.std.specs.List.{list_any};
+ghost use Rattle.teco_search.specs.ByteSet.{Adds, in_table};
+ghost use Rattle.teco_search.specs.Element.{admits, is_in, item_admits};
+
+use crate::element::{Class, Item, OneByte, both_cases, is_exact};
+use teco_core::CaseMode;
+
+/// Adds a byte to a table.
+fn add_byte(table: &mut [bool; 256], byte: u8)
+    ensures { Adds table.old table.new (λ b. b == byte) }
+{
+    table[usize::from(byte)] = true;
+}
+
+/// Adds the bytes of a kind to a table.
+fn add_class(table: &mut [bool; 256], class: Class)
+    ensures { Adds table.old table.new (is_in class) }
+{
+    'bytes: for byte in 0..256usize {
+        if class.contains(byte as u8) {
+            table[byte] = true;
+        }
+    }
+}
+
+/// Adds the bytes that an item admits to a table.
+#[tactic(auto, unfolding(crate::specs::Element::item_admits))]
+fn add_item(table: &mut [bool; 256], mode: CaseMode, item: Item)
+    ensures { Adds table.old table.new (item_admits mode item) }
+{
+    match item {
+        Item::Class(class) => add_class(table, class),
+        Item::Byte(byte) if is_exact(mode, byte) => add_byte(table, byte),
+        Item::Byte(byte) => {
+            let (lower, upper) = both_cases(mode, byte);
+            add_byte(table, lower);
+            add_byte(table, upper);
+        }
+    }
+}
+
+/// The table of the bytes that one of some items admits.
+fn table_of_items(mode: CaseMode, items: &[Item]) -> [bool; 256]
+    ensures { (b : ℕ) → b < 256 → in_table result b ≡ list_any (λ i. item_admits mode i b) items.now }
+{
+    let mut table = [false; 256];
+    'items: for item in items {
+        add_item(&mut table, mode, *item);
+    }
+    table
+}
+
+/// The table of the bytes that are admitted here.
+#[tactic(auto, unfolding(crate::specs::Element::admits))]
+pub(crate) fn table_of(mode: CaseMode, one: &OneByte) -> [bool; 256]
+    ensures { (b : ℕ) → b < 256 → in_table result b ≡ admits mode one.now b }
+{
+    match one {
+        OneByte::Single(item) => table_of_items(mode, &[*item]),
+        OneByte::Listed(items) => table_of_items(mode, items.as_slice()),
+    }
+}
+
+/// The table of all other bytes.
+pub(crate) fn others(table: &[bool; 256]) -> [bool; 256]
+    ensures { (b : ℕ) → b < 256 → in_table result b ≡ not (in_table table.now b) }
+{
+    let mut others = [false; 256];
+    'bytes: for byte in 0..256usize {
+        others[byte] = !table[byte];
+    }
+    others
+}
