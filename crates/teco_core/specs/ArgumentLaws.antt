@@ -29,7 +29,8 @@ Signs = ((n : ℤ) → taken_after (sign Minus ∷ number n ∷ []) ≡ (fitted 
 
 -- 16 parentheses may be open; one more is PDO.
 abbrev pub Sixteen : Type 0
-Sixteen = IsOk (built (replicate 16 opening) no_arguments) × (built (replicate 17 opening) no_arguments ≡ Err Pdo)
+Sixteen = IsOk (built (replicate 16 opening) no_arguments)
+    × (built (replicate 17 opening) no_arguments ≡ Err Pdo)
 
 -- A comma makes a pair; a second one, or nothing after it, is ARG.
 abbrev pub Commas : Type 0

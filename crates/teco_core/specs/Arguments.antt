@@ -56,7 +56,8 @@ operate o a = do
 -- ( opens a level, not after a value alone; past the limit of open ones it is PDO.
 abbrev pub opened_after : Expression → Arguments → Result Arguments Code
 opened_after (Number v) a = Err Arg
-opened_after e a = if length a.outer == PARENTHESIS_LIMIT then Err Pdo else Ok (record a { expression = Nothing; outer = e ∷ a.outer })
+opened_after e a = if length a.outer == PARENTHESIS_LIMIT then Err Pdo
+    else Ok (record a { expression = Nothing; outer = e ∷ a.outer })
 
 unfoldable pub open_level : Arguments → Result Arguments Code
 open_level a = opened_after a.expression a

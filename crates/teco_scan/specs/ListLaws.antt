@@ -21,9 +21,13 @@ Finds name k d l (Some bs) = (after_tag name l.0 ≡ Some (list_at k d bs).0) ×
 -- breaks a list, is one of a text's own.
 pub record BlockLaws : Type 0 where
   pub list_unrolls : (k : Option Kind) (d : ℕ) (bs : List ℕ) → list_at k d bs ≡ at_scan list_at (scan bs) k d
-  pub search_unrolls : (name : List ℕ) (d : ℕ) (bs : List ℕ) → tag_at name d bs ≡ tag_at_scan name (tag_at name) (scan bs) d
-  pub token_shortens : (bs : List ℕ) (t : TokenMeaning) (more : List ℕ) → scan bs ≡ found t more → length more < length bs
+  pub search_unrolls : (name : List ℕ) (d : ℕ) (bs : List ℕ)
+      → tag_at name d bs ≡ tag_at_scan name (tag_at name) (scan bs) d
+  pub token_shortens : (bs : List ℕ) (t : TokenMeaning) (more : List ℕ) → scan bs ≡ found t more
+      → length more < length bs
   pub list_shortens : (k : Option Kind) (d : ℕ) (bs : List ℕ) → Within (length bs) (list_at k d bs).1
-  pub search_finds : (name : List ℕ) (k : Option Kind) (d : ℕ) (bs : List ℕ) → Finds name k d (list_at k d bs) (tag_at name d bs)
+  pub search_finds : (name : List ℕ) (k : Option Kind) (d : ℕ) (bs : List ℕ)
+      → Finds name k d (list_at k d bs) (tag_at name d bs)
   pub scan_faults : (bs : List ℕ) (c : Code) → scan bs ≡ fault c → is_fault c ≡ true
-  pub list_faults : (k : Option Kind) (d : ℕ) (bs : List ℕ) (c : Code) → (list_at k d bs).1 ≡ broken c → is_fault c ≡ true
+  pub list_faults : (k : Option Kind) (d : ℕ) (bs : List ℕ) (c : Code) → (list_at k d bs).1 ≡ broken c
+      → is_fault c ≡ true

@@ -63,7 +63,8 @@ abbrev pub iter_at : Lister → Option Kind → ℕ → Listed → Listed
 iter_at go k d body = put (iter body.0) (behind go k d (past body.1))
 
 abbrev pub cond_at : Lister → Option Kind → ℕ → Test → Listed → Listed
-cond_at go k d t one = let other : Listed = second go (suc d) one.1 in put (cond t one.0 other.0) (behind go k d (past other.1))
+cond_at go k d t one = let other : Listed = second go (suc d) one.1 in put (cond t one.0 other.0)
+    (behind go k d (past other.1))
 
 -- A block is opened where fewer than the most blocks are open; one more is PDO.
 abbrev pub opened : ℕ → Listed → Listed
@@ -122,9 +123,11 @@ tag_opened d o = if d == BLOCK_LIMIT then None else o
 -- Blocks are passed whole; the mark that closes the list ends the search.
 abbrev pub tag_at_instruction : List ℕ → Finder → Instruction → List ℕ → ℕ → Option (List ℕ)
 tag_at_instruction name go (token.step i) bs d = go d bs
-tag_at_instruction name go (token.mark Iterate) bs d = tag_opened d (tag_behind go d (behind_block list_at Iter (suc d) (list_at (Some Iter) (suc d) bs).1))
+tag_at_instruction name go (token.mark Iterate) bs d = tag_opened d
+    (tag_behind go d (behind_block list_at Iter (suc d) (list_at (Some Iter) (suc d) bs).1))
 tag_at_instruction name go (token.mark b) bs d = None
-tag_at_instruction name go (token.decide t) bs d = tag_opened d (tag_behind go d (behind_block list_at Then (suc d) (list_at (Some Then) (suc d) bs).1))
+tag_at_instruction name go (token.decide t) bs d = tag_opened d
+    (tag_behind go d (behind_block list_at Then (suc d) (list_at (Some Then) (suc d) bs).1))
 tag_at_instruction name go (token.tag other) bs d = if bytes_eq other name then Some bs else go d bs
 tag_at_instruction name go token.escape bs d = go d bs
 

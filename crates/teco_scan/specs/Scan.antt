@@ -48,10 +48,13 @@ Reading A = Result (A × List ℕ) Code
 
 abbrev pub test_named : ℕ → Option Test
 test_named b =
-    if b == 69 then Some tests.Zero else (if b == 70 then Some tests.Zero else (if b == 85 then Some tests.Zero
+    if b == 69 then Some tests.Zero
+    else (if b == 70 then Some tests.Zero else (if b == 85 then Some tests.Zero
     else (if b == 78 then Some tests.NotZero else (if b == 71 then Some tests.Above
-    else (if b == 76 then Some tests.Below else (if b == 83 then Some tests.Below else (if b == 84 then Some tests.Below
-    else (if b == 65 then Some tests.Letter else (if b == 68 then Some tests.Digit else (if b == 82 then Some tests.LetterOrDigit
+    else (if b == 76 then Some tests.Below
+    else (if b == 83 then Some tests.Below else (if b == 84 then Some tests.Below
+    else (if b == 65 then Some tests.Letter
+    else (if b == 68 then Some tests.Digit else (if b == 82 then Some tests.LetterOrDigit
     else (if b == 86 then Some tests.Lower else (if b == 87 then Some tests.Upper else None))))))))))))
 
 -- the test of a letter of either case
@@ -133,7 +136,8 @@ unfoldable pub modifiers_at : Modifiers → List ℕ → Reading Modifiers
 modifiers_at m [] = Ok (m, [])
 modifiers_at m (b ∷ bs) =
     if b == 64 then (if m.at then Err Ill else modifiers_at (record m { at = true }) bs)
-    else (if b == 58 then (if m.colons == 2 then Err Ill else modifiers_at (record m { colons = m.colons + 1 }) bs)
+    else (if b == 58 then (if m.colons == 2 then Err Ill
+    else modifiers_at (record m { colons = m.colons + 1 }) bs)
     else Ok (m, b ∷ bs))
 
 -- the command allows these modifiers
@@ -148,9 +152,11 @@ after_letter l (b ∷ bs) = if upper b == l then Some bs else None
 unfoldable pub after_name : Name → List ℕ → Option (List ℕ)
 after_name (One l) bs = after_letter l bs
 after_name (Two l k) bs = option_and_then (after_letter k) (after_letter l bs)
-after_name (Three l k j) bs = option_and_then (after_letter j) (option_and_then (after_letter k) (after_letter l bs))
+after_name (Three l k j) bs = option_and_then (after_letter j)
+    (option_and_then (after_letter k) (after_letter l bs))
 after_name (Control l) [] = None
-after_name (Control l) (b ∷ bs) = if b + 64 == l then Some bs else (if b == 94 then after_letter l bs else None)
+after_name (Control l) (b ∷ bs) = if b + 64 == l then Some bs
+    else (if b == 94 then after_letter l bs else None)
 
 -- the bytes are a front of the name, and not all of it
 unfoldable pub ends_inside : Name → List ℕ → Bool
@@ -205,10 +211,12 @@ begins_run (b ∷ bs) = is_digit b
 
 -- A token at the front: a run of digits, or modifiers and a command of the rows.
 unfoldable pub token_from : List Row → List ℕ → Reading TokenMeaning
-token_from rows bs = if begins_run bs then Ok (record { modifiers = no_modifiers; instruction = step (digits (run_of bs)) }, after_run bs) else (do
-  m ← modifiers_at no_modifiers bs
-  i ← command_at rows m.0 m.1
-  Ok (record { modifiers = m.0; instruction = i.0 }, i.1))
+token_from rows bs = if begins_run bs
+    then Ok (record { modifiers = no_modifiers; instruction = step (digits (run_of bs)) }, after_run bs)
+    else (do
+      m ← modifiers_at no_modifiers bs
+      i ← command_at rows m.0 m.1
+      Ok (record { modifiers = m.0; instruction = i.0 }, i.1))
 
 -- what is found after fillers: a token and the bytes after it, the end, or a fault
 pub data Scanned : Type 0 where

@@ -105,7 +105,8 @@ IsFoundAt bs at (finds.Fault e) = Unit {0}
 
 -- All this leaves one answer: what is found there, with each of its places.
 abbrev pub IsDetermined : Type 0
-IsDetermined = (bs : List ℕ) (at : ℕ) (f g : Found) → IsFoundAt bs at f → IsFoundAt bs at g → found_in bs f ≡ found_in bs g → f ≡ g
+IsDetermined = (bs : List ℕ) (at : ℕ) (f g : Found) → IsFoundAt bs at f → IsFoundAt bs at g
+    → found_in bs f ≡ found_in bs g → f ≡ g
 
 -- how a skip closed
 abbrev pub close_of : List ℕ → Result Stop Code → Close

@@ -21,14 +21,17 @@ use Rattle.teco_scan.specs.Scan.{digits, bare, register, byte, text, set_text, r
 -- modifiers that lead from these to those: at most one @ and two colons, in any order
 pub data Marks : Modifiers → List ℕ → Modifiers → Type 0 where
   no_mark : {m : Modifiers} → Marks m [] m
-  at_mark : {m n : Modifiers} {bs : List ℕ} → m.at ≡ false → Marks (record m { at = true }) bs n → Marks m (64 ∷ bs) n
-  colon_mark : {m n : Modifiers} {bs : List ℕ} → m.colons ≢ 2 → Marks (record m { colons = m.colons + 1 }) bs n → Marks m (58 ∷ bs) n
+  at_mark : {m n : Modifiers} {bs : List ℕ} → m.at ≡ false → Marks (record m { at = true }) bs n
+      → Marks m (64 ∷ bs) n
+  colon_mark : {m n : Modifiers} {bs : List ℕ} → m.colons ≢ 2
+      → Marks (record m { colons = m.colons + 1 }) bs n → Marks m (58 ∷ bs) n
 
 -- letters are of either case; a control command is its byte, or a caret and its letter
 pub data SpellsName : Name → List ℕ → Type 0 where
   one_spelled : {l b : ℕ} → upper b ≡ l → SpellsName (One l) (b ∷ [])
   two_spelled : {l k b c : ℕ} → upper b ≡ l → upper c ≡ k → SpellsName (Two l k) (b ∷ c ∷ [])
-  three_spelled : {l k j b c d : ℕ} → upper b ≡ l → upper c ≡ k → upper d ≡ j → SpellsName (Three l k j) (b ∷ c ∷ d ∷ [])
+  three_spelled : {l k j b c d : ℕ} → upper b ≡ l → upper c ≡ k → upper d ≡ j
+      → SpellsName (Three l k j) (b ∷ c ∷ d ∷ [])
   control_spelled : {l b : ℕ} → b + 64 ≡ l → SpellsName (Control l) (b ∷ [])
   caret_spelled : {l b : ℕ} → upper b ≡ l → SpellsName (Control l) (94 ∷ b ∷ [])
 
@@ -45,13 +48,21 @@ pub data SpellsOperand : Form → Modifiers → Instruction → List ℕ → Typ
   bare_spelled : {c : Bare} {m : Modifiers} → SpellsOperand (form.Bare c) m (step (bare c)) []
   mark_spelled : {c : BlockMark} {m : Modifiers} → SpellsOperand (form.Mark c) m (mark c) []
   escape_spelled : {m : Modifiers} → SpellsOperand form.Escape m escape []
-  register_spelled : {c : RegisterCommand} {m : Modifiers} {b q : ℕ} → register_of b ≡ Some q → SpellsOperand (form.Register c) m (step (register c q)) (b ∷ [])
+  register_spelled : {c : RegisterCommand} {m : Modifiers} {b q : ℕ} → register_of b ≡ Some q
+      → SpellsOperand (form.Register c) m (step (register c q)) (b ∷ [])
   byte_spelled : {m : Modifiers} {b : ℕ} → SpellsOperand form.Byte m (step (byte b)) (b ∷ [])
-  test_spelled : {m : Modifiers} {b : ℕ} {t : Test} → test_of b ≡ Some t → SpellsOperand form.Test m (decide t) (b ∷ [])
-  text_spelled : {c : TextCommand} {usual : ℕ} {m : Modifiers} {t bs : List ℕ} (d : ℕ) (front back : List ℕ) → Delimits m usual d front → TextUpTo d t back → bs ≡ front ++ back → SpellsOperand (form.Text c usual) m (step (text c t)) bs
+  test_spelled : {m : Modifiers} {b : ℕ} {t : Test} → test_of b ≡ Some t
+      → SpellsOperand form.Test m (decide t) (b ∷ [])
+  text_spelled : {c : TextCommand} {usual : ℕ} {m : Modifiers} {t bs : List ℕ} (d : ℕ) (front back : List ℕ)
+      → Delimits m usual d front → TextUpTo d t back → bs ≡ front ++ back
+      → SpellsOperand (form.Text c usual) m (step (text c t)) bs
   tag_spelled : {m : Modifiers} {t bs : List ℕ} → TextUpTo 33 t bs → SpellsOperand form.Tag m (tag t) bs
-  set_text_spelled : {q : ℕ} {m : Modifiers} {t bs : List ℕ} (b d : ℕ) (front back : List ℕ) → register_of b ≡ Some q → Delimits m 27 d front → TextUpTo d t back → bs ≡ b ∷ (front ++ back) → SpellsOperand form.SetText m (step (set_text q t)) bs
-  replace_spelled : {m : Modifiers} {t u bs : List ℕ} (d : ℕ) (front old new : List ℕ) → Delimits m 27 d front → TextUpTo d t old → TextUpTo d u new → bs ≡ front ++ (old ++ new) → SpellsOperand form.Replace m (step (replace t u)) bs
+  set_text_spelled : {q : ℕ} {m : Modifiers} {t bs : List ℕ} (b d : ℕ) (front back : List ℕ)
+      → register_of b ≡ Some q → Delimits m 27 d front → TextUpTo d t back → bs ≡ b ∷ (front ++ back)
+      → SpellsOperand form.SetText m (step (set_text q t)) bs
+  replace_spelled : {m : Modifiers} {t u bs : List ℕ} (d : ℕ) (front old new : List ℕ) → Delimits m 27 d front
+      → TextUpTo d t old → TextUpTo d u new → bs ≡ front ++ (old ++ new)
+      → SpellsOperand form.Replace m (step (replace t u)) bs
 
 abbrev pub Among : Row → List Row → Type 0
 Among r [] = ⊥
@@ -69,12 +80,16 @@ pub record BeginsWithRow (rows : List Row) (row : Row) (m : Modifiers) (bs more 
 
 -- a run of digits, or a command of the rows
 pub data Spells (rows : List Row) : TokenMeaning → List ℕ → Type 0 where
-  run_spelled : {bs : List ℕ} → 0 < length bs → AllByRecursion (λ b. is_digit b ≡ true) bs → Spells rows (record { modifiers = no_modifiers; instruction = step (digits bs) }) bs
-  command_spelled : {m : Modifiers} {i : Instruction} {bs : List ℕ} (row : Row) (operand : List ℕ) → BeginsWithRow rows row m bs operand → SpellsOperand row.form m i operand → Spells rows (record { modifiers = m; instruction = i }) bs
+  run_spelled : {bs : List ℕ} → 0 < length bs → AllByRecursion (λ b. is_digit b ≡ true) bs
+      → Spells rows (record { modifiers = no_modifiers; instruction = step (digits bs) }) bs
+  command_spelled : {m : Modifiers} {i : Instruction} {bs : List ℕ} (row : Row) (operand : List ℕ)
+      → BeginsWithRow rows row m bs operand → SpellsOperand row.form m i operand
+      → Spells rows (record { modifiers = m; instruction = i }) bs
 
 -- the bytes begin with a token
 abbrev pub BeginsWithToken : List Row → List ℕ → Type 0
-BeginsWithToken rows bs = (t : TokenMeaning) × (front : List ℕ) × (rest : List ℕ) × Spells rows t front × (bs ≡ front ++ rest)
+BeginsWithToken rows bs = (t : TokenMeaning) × (front : List ℕ) × (rest : List ℕ) × Spells rows t front
+    × (bs ≡ front ++ rest)
 
 -- some token's spelling goes on from the bytes, or is they
 abbrev pub IsFront : List Row → List ℕ → Type 0
@@ -82,7 +97,8 @@ IsFront rows bs = (t : TokenMeaning) × (more : List ℕ) × Spells rows t (bs +
 
 -- a refused name is there
 abbrev pub IsRefused : List Row → List ℕ → Type 0
-IsRefused rows bs = (row : Row) × (m : Modifiers) × (more : List ℕ) × BeginsWithRow rows row m bs more × (row.form ≡ form.Refused)
+IsRefused rows bs = (row : Row) × (m : Modifiers) × (more : List ℕ) × BeginsWithRow rows row m bs more
+    × (row.form ≡ form.Refused)
 
 abbrev pub NeedsRegister : Form → Type 0
 NeedsRegister (form.Register c) = Unit {0}
@@ -91,15 +107,18 @@ NeedsRegister _ = ⊥
 
 -- the bytes fit a spelling up to its register, and the next one names none
 abbrev pub LacksRegister : List Row → List ℕ → Type 0
-LacksRegister rows bs = (row : Row) × (m : Modifiers) × (b : ℕ) × (more : List ℕ) × BeginsWithRow rows row m bs (b ∷ more) × NeedsRegister row.form × (register_of b ≡ None)
+LacksRegister rows bs = (row : Row) × (m : Modifiers) × (b : ℕ) × (more : List ℕ)
+    × BeginsWithRow rows row m bs (b ∷ more) × NeedsRegister row.form × (register_of b ≡ None)
 
 -- the bytes fit a spelling up to its test, and the next one names none
 abbrev pub LacksTest : List Row → List ℕ → Type 0
-LacksTest rows bs = (row : Row) × (m : Modifiers) × (b : ℕ) × (more : List ℕ) × BeginsWithRow rows row m bs (b ∷ more) × (row.form ≡ form.Test) × (test_of b ≡ None)
+LacksTest rows bs = (row : Row) × (m : Modifiers) × (b : ℕ) × (more : List ℕ)
+    × BeginsWithRow rows row m bs (b ∷ more) × (row.form ≡ form.Test) × (test_of b ≡ None)
 
 -- The laws of spelling, of bytes that begin with no filler. What is read is spelled so.
 abbrev pub IsSpelled : List Row → Type 0
-IsSpelled rows = (bs rest : List ℕ) (t : TokenMeaning) → token_from rows bs ≡ Ok (t, rest) → (front : List ℕ) × Spells rows t front × (bs ≡ front ++ rest)
+IsSpelled rows = (bs rest : List ℕ) (t : TokenMeaning) → token_from rows bs ≡ Ok (t, rest) → (front : List ℕ)
+    × Spells rows t front × (bs ≡ front ++ rest)
 
 -- something was read, and no more than this is left after it
 abbrev pub LeavesAtMost : {A : Type 0} → List ℕ → Result (A × List ℕ) Code → Type 0
@@ -108,11 +127,13 @@ LeavesAtMost rest (Err e) = ⊥
 
 -- Of the tokens that the bytes begin with none is longer than the one that is read, but where a refused name is.
 abbrev pub IsLongest : List Row → Type 0
-IsLongest rows = (front rest : List ℕ) (t : TokenMeaning) → Spells rows t front → LeavesAtMost rest (token_from rows (front ++ rest)) ⊎ IsRefused rows (front ++ rest)
+IsLongest rows = (front rest : List ℕ) (t : TokenMeaning) → Spells rows t front
+    → LeavesAtMost rest (token_from rows (front ++ rest)) ⊎ IsRefused rows (front ++ rest)
 
 -- UTC is read exactly where the bytes are a front of a spelling, and no token begins there.
 abbrev pub IsCutExactly : List Row → Type 0
-IsCutExactly rows = (bs : List ℕ) → 0 < length bs → (token_from rows bs ≡ Err Utc) ↔ (IsFront rows bs × (¬ BeginsWithToken rows bs))
+IsCutExactly rows = (bs : List ℕ) → 0 < length bs
+    → (token_from rows bs ≡ Err Utc) ↔ (IsFront rows bs × (¬ BeginsWithToken rows bs))
 
 -- IQN exactly where the bytes fit a spelling up to its register, and IQC up to its test.
 abbrev pub LacksRegisterExactly : List Row → Type 0
@@ -130,11 +151,13 @@ pub record IsNothing (rows : List Row) (bs : List ℕ) : Type 0 where
 
 -- ILL exactly where a refused name is, or nothing of all this is so.
 abbrev pub IsIllExactly : List Row → Type 0
-IsIllExactly rows = (bs : List ℕ) → 0 < length bs → (token_from rows bs ≡ Err Ill) ↔ (IsRefused rows bs ⊎ IsNothing rows bs)
+IsIllExactly rows = (bs : List ℕ) → 0 < length bs
+    → (token_from rows bs ≡ Err Ill) ↔ (IsRefused rows bs ⊎ IsNothing rows bs)
 
 -- No other fault is read.
 abbrev pub IsFaultOfFour : List Row → Type 0
-IsFaultOfFour rows = (bs : List ℕ) (c : Code) → token_from rows bs ≡ Err c → (c ≡ Ill) ⊎ (c ≡ Iqn) ⊎ (c ≡ Iqc) ⊎ (c ≡ Utc)
+IsFaultOfFour rows = (bs : List ℕ) (c : Code) → token_from rows bs ≡ Err c → (c ≡ Ill) ⊎ (c ≡ Iqn) ⊎ (c ≡ Iqc)
+    ⊎ (c ≡ Utc)
 
 abbrev pub BeginsNoFiller : List ℕ → Type 0
 BeginsNoFiller [] = Unit {0}
@@ -142,4 +165,5 @@ BeginsNoFiller (b ∷ bs) = is_filler b ≡ false
 
 -- What is found is what is after the fillers.
 abbrev pub PassesFillers : Type 0
-PassesFillers = (fillers bs : List ℕ) → AllByRecursion (λ b. is_filler b ≡ true) fillers → BeginsNoFiller bs → scan (fillers ++ bs) ≡ scan_here bs
+PassesFillers = (fillers bs : List ℕ) → AllByRecursion (λ b. is_filler b ≡ true) fillers → BeginsNoFiller bs
+    → scan (fillers ++ bs) ≡ scan_here bs

@@ -61,7 +61,8 @@ has_more_letters _ _ = false
 
 -- The first of two rows has more letters, and nothing follows either name. What is longer than a refused name is refused.
 abbrev pub is_longer : Row → Row → Bool
-is_longer s r = has_more_letters s.name r.name && is_alone s.form && is_alone r.form && (is_refused s.form || not (is_refused r.form))
+is_longer s r = has_more_letters s.name r.name && is_alone s.form && is_alone r.form
+    && (is_refused s.form || not (is_refused r.form))
 
 abbrev pub is_apart : List Row → Bool
 is_apart [] = true

@@ -105,9 +105,11 @@ pub record TextCommandsAreSpelled : Type 0 where
   pub caret_A_types : IsToken (codes "^Aab" ++ 1 ∷ []) (plain (step (text texts.TypeOut (codes "ab"))))
   pub S_searches : IsToken (codes "Sab" ++ 27 ∷ []) (plain (step (text texts.Search (codes "ab"))))
   pub N_searches_pages : IsToken (codes "Nab" ++ 27 ∷ []) (plain (step (text texts.SearchPages (codes "ab"))))
-  pub low_line_searches_pages_quietly : IsToken (codes "_ab" ++ 27 ∷ []) (plain (step (text texts.SearchPagesQuietly (codes "ab"))))
+  pub low_line_searches_pages_quietly : IsToken (codes "_ab" ++ 27 ∷ [])
+      (plain (step (text texts.SearchPagesQuietly (codes "ab"))))
   pub O_goes_to_a_tag : IsToken (codes "Oab" ++ 27 ∷ []) (plain (step (text texts.Go (codes "ab"))))
-  pub FS_replaces : IsToken (codes "FSa" ++ 27 ∷ codes "b" ++ 27 ∷ []) (plain (step (replace (codes "a") (codes "b"))))
+  pub FS_replaces : IsToken (codes "FSa" ++ 27 ∷ codes "b" ++ 27 ∷ [])
+      (plain (step (replace (codes "a") (codes "b"))))
   pub control_U_sets_a_text : IsToken (21 ∷ codes "ax" ++ 27 ∷ []) (plain (step (set_text 0 (codes "x"))))
   pub caret_U_sets_a_text : IsToken (codes "^Uax" ++ 27 ∷ []) (plain (step (set_text 0 (codes "x"))))
 
@@ -130,8 +132,10 @@ admit_colons n = map (λ r. r.name) (filter (λ r. nat_le n r.allows.colons) ROW
 
 -- Which commands admit modifiers, by their names' letters in the order of the rows; no other does.
 pub record ModifiersAreAdmitted : Type 0 where
-  pub at : admit_at ≡ Three 61 61 61 ∷ Control 85 ∷ One 79 ∷ One 73 ∷ One 83 ∷ One 78 ∷ One 95 ∷ Two 70 83 ∷ Control 65 ∷ []
-  pub one_colon : admit_colons 1 ≡ Three 61 61 61 ∷ Two 61 61 ∷ One 61 ∷ One 81 ∷ One 71 ∷ One 83 ∷ One 78 ∷ One 95 ∷ Two 70 83 ∷ []
+  pub at : admit_at ≡ Three 61 61 61 ∷ Control 85 ∷ One 79 ∷ One 73 ∷ One 83 ∷ One 78 ∷ One 95 ∷ Two 70 83
+      ∷ Control 65 ∷ []
+  pub one_colon : admit_colons 1 ≡ Three 61 61 61 ∷ Two 61 61 ∷ One 61 ∷ One 81 ∷ One 71 ∷ One 83 ∷ One 78
+      ∷ One 95 ∷ Two 70 83 ∷ []
   pub two_colons : admit_colons 2 ≡ Three 61 61 61 ∷ One 83 ∷ []
   pub no_more : admit_colons 3 ≡ []
   pub colon_Q_is_a_length : IsToken (codes ":Qa") (colon (step (register registers.Number 0)))

@@ -67,10 +67,12 @@ fn is_tag(text: &[u8], kind: TokenKind, name: &[u8]) -> bool
 /// What a closing mark does to the innermost block, where the mark ends at this place.
 fn end_of_block(kind: Kind, mark: BlockMark, to: usize) -> Result<Stop, Code>
     requires { mark ≢ BlockMark.Iterate }
-    ensures closes { (text : List ℕ) (d : ℕ) → close_of text result ≡ (at_mark list_at mark (drop to text) (Some kind) d).1 }
+    ensures closes { (text : List ℕ) (d : ℕ)
+        → close_of text result ≡ (at_mark list_at mark (drop to text) (Some kind) d).1 }
     ensures place { IfOk result (λ stop. stop.to ≡ to) }
     ensures divided { IfOk result (λ stop. stop.divided ≡ true → kind ≡ Kind.Then) }
-    ensures ends { (text : List ℕ) → drop (to - 1) text ≡ byte_of mark ∷ drop to text → IfOk result (λ stop. IsClosed text kind stop) }
+    ensures ends { (text : List ℕ) → drop (to - 1) text ≡ byte_of mark ∷ drop to text
+        → IfOk result (λ stop. IsClosed text kind stop) }
     ensures fault { IfErr result (λ code. is_fault code ≡ true) }
 {
     let whole = Stop { to, divided: false };
@@ -120,8 +122,12 @@ fn skip_node(text: &[u8], token: Token, depth: usize) -> Result<usize, Code>
     requires inside { token.span.to ≤ length text.now }
     requires few { depth ≤ BLOCK_LIMIT }
     requires node { closing_mark (instruction_in text.now token.kind) ≡ None }
-    ensures closes { (k : Option Kind) (m : Modifiers) → (at_instruction list_at (instruction_in text.now token.kind) m (drop token.span.to text.now) k depth).1 ≡ (behind list_at k depth (past_of text.now result)).1 }
-    ensures finds { (name : List ℕ) → is_tag name (instruction_in text.now token.kind) ≡ false → tag_at_instruction name (tag_at name) (instruction_in text.now token.kind) (drop token.span.to text.now) depth ≡ tag_behind (tag_at name) depth (past_of text.now result) }
+    ensures closes { (k : Option Kind) (m : Modifiers)
+        → (at_instruction list_at (instruction_in text.now token.kind) m
+        (drop token.span.to text.now) k depth).1 ≡ (behind list_at k depth (past_of text.now result)).1 }
+    ensures finds { (name : List ℕ) → is_tag name (instruction_in text.now token.kind) ≡ false
+        → tag_at_instruction name (tag_at name) (instruction_in text.now token.kind)
+        (drop token.span.to text.now) depth ≡ tag_behind (tag_at name) depth (past_of text.now result) }
     ensures within { IfOk result (λ to. (token.span.to ≤ to) × (to ≤ length text.now)) }
     ensures fault { IfErr result (λ code. is_fault code ≡ true) }
 {
@@ -174,7 +180,8 @@ pub fn skip_block(text: &[u8], at: usize, kind: Kind, depth: usize) -> Result<St
 pub fn skip_whole_block(text: &[u8], at: usize, kind: Kind, depth: usize) -> Result<usize, Code>
     requires inside { at ≤ length text.now }
     requires few { depth ≤ BLOCK_LIMIT }
-    ensures passes { past_of text.now result ≡ behind_block list_at kind depth (list_at (Some kind) depth (drop at text.now)).1 }
+    ensures passes { past_of text.now result
+        ≡ behind_block list_at kind depth (list_at (Some kind) depth (drop at text.now)).1 }
     ensures within { IfOk result (λ to. (at < to) × (to ≤ length text.now)) }
     ensures fault { IfErr result (λ code. is_fault code ≡ true) }
     ensures ends { IfOk result (λ to. IsWholeClosed text.now kind to) }

@@ -131,7 +131,8 @@ fn is_refused(form: Form) -> bool
 /// The first row that admits the modifiers and whose name is here, and the place after it.
 #[tactic(auto, unfolding(crate::specs::Scan::row_at))]
 fn row_at(rows: &[Row], modifiers: Modifiers, text: &[u8], at: usize) -> Option<(Row, usize)>
-    ensures read { GivesSome (λ x. (x.0, drop x.1 text.now)) result (row_at rows.now modifiers (drop at text.now)) }
+    ensures read { GivesSome (λ x. (x.0, drop x.1 text.now)) result
+        (row_at rows.now modifiers (drop at text.now)) }
     ensures within { IfSome result (λ x. (at < x.1) × (x.1 ≤ length text.now)) }
 {
     for row in rows {
@@ -186,7 +187,8 @@ pub(crate) fn lone_form(b: u8) -> Option<Form>
 /// Where the rows begin by which a command at this place may be named.
 fn first_row_at(text: &[u8], at: usize) -> usize
     requires { at ≤ length text.now }
-    ensures same { (m : Modifiers) → row_at (drop result ROWS) m (drop at text.now) ≡ row_at ROWS m (drop at text.now) }
+    ensures same { (m : Modifiers) → row_at (drop result ROWS) m (drop at text.now)
+        ≡ row_at ROWS m (drop at text.now) }
     ensures within { result ≤ length ROWS }
 {
     if at == text.len() {

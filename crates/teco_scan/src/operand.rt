@@ -75,7 +75,8 @@ fn delimiter_at(
     at: usize,
 ) -> Result<(u8, usize), Code>
     requires { at ≤ length text.now }
-    ensures read { Gives (λ x. (x.0, drop x.1 text.now)) result (delimiter_at modifiers usual (drop at text.now)) }
+    ensures read { Gives (λ x. (x.0, drop x.1 text.now)) result
+        (delimiter_at modifiers usual (drop at text.now)) }
     ensures within { IfOk result (λ x. (at ≤ x.1) × (x.1 ≤ length text.now)) }
 {
     if modifiers.at {
@@ -88,7 +89,8 @@ fn delimiter_at(
 /// The bytes before the next delimiter, and the place after it.
 pub(crate) fn text_at(delimiter: u8, text: &[u8], at: usize) -> Result<(Span, usize), Code>
     requires { at ≤ length text.now }
-    ensures read { Gives (λ x. (bytes_in text.now x.0, drop x.1 text.now)) result (text_at delimiter (drop at text.now)) }
+    ensures read { Gives (λ x. (bytes_in text.now x.0, drop x.1 text.now)) result
+        (text_at delimiter (drop at text.now)) }
     ensures within { IfOk result (λ x. (at ≤ x.1) × (x.1 ≤ length text.now)) }
     ensures spans { IfOk result (λ x. IsSpanIn (length text.now) x.0) }
     ensures placed { IfOk result (λ x. (x.0.from ≡ at) × (x.0.to + 1 ≡ x.1)) }
@@ -115,7 +117,8 @@ fn one_text_at(
     at: usize,
 ) -> Result<(TokenKind, usize), Code>
     requires { at ≤ length text.now }
-    ensures read { Gives (λ x. (instruction_in text.now x.0, drop x.1 text.now)) result (operand_at (Form.Text command usual) modifiers (drop at text.now)) }
+    ensures read { Gives (λ x. (instruction_in text.now x.0, drop x.1 text.now)) result
+        (operand_at (Form.Text command usual) modifiers (drop at text.now)) }
     ensures within { IfOk result (λ x. (at ≤ x.1) × (x.1 ≤ length text.now)) }
     ensures spans { IfOk result (λ x. IsKindIn (length text.now) x.0) }
     ensures placed { (from : ℕ) → IfOk result (λ x. IsKindPlaced (record { from = from; to = x.1 }) x.0) }
@@ -129,7 +132,8 @@ fn one_text_at(
 #[tactic(auto, unfolding(crate::specs::Scan::operand_at))]
 fn set_text_at(modifiers: Modifiers, text: &[u8], at: usize) -> Result<(TokenKind, usize), Code>
     requires { at ≤ length text.now }
-    ensures read { Gives (λ x. (instruction_in text.now x.0, drop x.1 text.now)) result (operand_at Form.SetText modifiers (drop at text.now)) }
+    ensures read { Gives (λ x. (instruction_in text.now x.0, drop x.1 text.now)) result
+        (operand_at Form.SetText modifiers (drop at text.now)) }
     ensures within { IfOk result (λ x. (at ≤ x.1) × (x.1 ≤ length text.now)) }
     ensures spans { IfOk result (λ x. IsKindIn (length text.now) x.0) }
     ensures placed { (from : ℕ) → IfOk result (λ x. IsKindPlaced (record { from = from; to = x.1 }) x.0) }
@@ -144,7 +148,8 @@ fn set_text_at(modifiers: Modifiers, text: &[u8], at: usize) -> Result<(TokenKin
 #[tactic(auto, unfolding(crate::specs::Scan::operand_at))]
 fn replace_at(modifiers: Modifiers, text: &[u8], at: usize) -> Result<(TokenKind, usize), Code>
     requires { at ≤ length text.now }
-    ensures read { Gives (λ x. (instruction_in text.now x.0, drop x.1 text.now)) result (operand_at Form.Replace modifiers (drop at text.now)) }
+    ensures read { Gives (λ x. (instruction_in text.now x.0, drop x.1 text.now)) result
+        (operand_at Form.Replace modifiers (drop at text.now)) }
     ensures within { IfOk result (λ x. (at ≤ x.1) × (x.1 ≤ length text.now)) }
     ensures spans { IfOk result (λ x. IsKindIn (length text.now) x.0) }
     ensures placed { (from : ℕ) → IfOk result (λ x. IsKindPlaced (record { from = from; to = x.1 }) x.0) }
@@ -164,7 +169,8 @@ pub(crate) fn operand_at(
     at: usize,
 ) -> Result<(TokenKind, usize), Code>
     requires { at ≤ length text.now }
-    ensures read { Gives (λ x. (instruction_in text.now x.0, drop x.1 text.now)) result (operand_at form modifiers (drop at text.now)) }
+    ensures read { Gives (λ x. (instruction_in text.now x.0, drop x.1 text.now)) result
+        (operand_at form modifiers (drop at text.now)) }
     ensures within { IfOk result (λ x. (at ≤ x.1) × (x.1 ≤ length text.now)) }
     ensures spans { IfOk result (λ x. IsKindIn (length text.now) x.0) }
     ensures placed { (from : ℕ) → IfOk result (λ x. IsKindPlaced (record { from = from; to = x.1 }) x.0) }

@@ -22,7 +22,8 @@ AreSingle es n = (k : ℕ) (e : Element) → k < n → slice_get es k ≡ Some e
 pub record IsAnchored (mode : CaseMode) (es : List Element) (anchor : Anchor) : Type 0 where
   pub within : anchor.offset < length es
   pub single : AreSingle es anchor.offset
-  pub bytes : (e : Element) (b : ℕ) → slice_get es anchor.offset ≡ Some e → b < 256 → contains anchor.bytes b ≡ begins mode e b
+  pub bytes : (e : Element) (b : ℕ) → slice_get es anchor.offset ≡ Some e → b < 256
+      → contains anchor.bytes b ≡ begins mode e b
 
 -- a match whose anchor is below a place and which ends at or before another
 pub record MatchesBelow (sought : Sought) (text : List ℕ) (offset below to k q : ℕ) : Type 0 where
@@ -34,4 +35,5 @@ pub record MatchesBelow (sought : Sought) (text : List ℕ) (offset below to k q
 abbrev pub FindsLastBelow : Sought → List ℕ → ℕ → ℕ → ℕ → Option Span → Type 0
 FindsLastBelow sought text offset below to None = (k q : ℕ) → MatchesBelow sought text offset below to k q → ⊥
 FindsLastBelow sought text offset below to (Some m) =
-    MatchesBelow sought text offset below to m.0 m.1 × ((k q : ℕ) → MatchesBelow sought text offset below to k q → k ≤ m.0)
+    MatchesBelow sought text offset below to m.0 m.1
+    × ((k q : ℕ) → MatchesBelow sought text offset below to k q → k ≤ m.0)

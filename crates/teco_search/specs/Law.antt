@@ -51,12 +51,14 @@ AreForward sought text from (m ∷ ms) = IsNext sought text from m × AreForward
 -- and then there is none.
 unfoldable pub AreBackwardEndingBy : Sought → List ℕ → ℕ → List Span → Type 0
 AreBackwardEndingBy sought text to [] = (k q : ℕ) → q ≤ to → MatchesTo sought text k q → ⊥
-AreBackwardEndingBy sought text to (m ∷ ms) = IsLastEndingBy sought text to m × AreBackwardEndingBy sought text m.0 ms
+AreBackwardEndingBy sought text to (m ∷ ms) = IsLastEndingBy sought text to m
+    × AreBackwardEndingBy sought text m.0 ms
 
 -- Backward from a place: the first has the highest start at or before it, wherever it ends.
 unfoldable pub AreBackward : Sought → List ℕ → ℕ → List Span → Type 0
 AreBackward sought text from [] = (k q : ℕ) → k ≤ from → MatchesTo sought text k q → ⊥
-AreBackward sought text from (m ∷ ms) = IsLastStartingBy sought text from m × AreBackwardEndingBy sought text m.0 ms
+AreBackward sought text from (m ∷ ms) = IsLastStartingBy sought text from m
+    × AreBackwardEndingBy sought text m.0 ms
 
 -- They don't overlap, and rise or fall.
 abbrev pub AreRising : List Span → Type 0
@@ -71,4 +73,5 @@ ReadsAsItself bytes = All (λ b. is_control b ≡ false) bytes → read bytes �
 
 -- In exact case bytes match from p to q exactly where they stand at p, and q is their end.
 abbrev pub MatchesWhereItIs : List ℕ → List ℕ → ℕ → ℕ → Type 0
-MatchesWhereItIs bytes text p q = MatchesTo (looked_for Exact (map plain bytes)) text p q ↔ (OccursAt text bytes p × (q ≡ p + length bytes))
+MatchesWhereItIs bytes text p q = MatchesTo (looked_for Exact (map plain bytes)) text p q
+    ↔ (OccursAt text bytes p × (q ≡ p + length bytes))

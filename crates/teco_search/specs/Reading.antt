@@ -30,7 +30,8 @@ byte_at text at = option_map_or (λ b. Ok b) (slice_get text at) (Err Ice)
 abbrev pub class_named : ℕ → Result Class Code
 class_named b =
     if b == 88 then Ok class.Any else (if b == 66 then Ok class.Other else (if b == 65 then Ok class.Letter
-    else (if b == 68 then Ok class.Digit else (if b == 76 then Ok class.LineEnd else (if b == 82 then Ok class.LetterOrDigit
+    else (if b == 68 then Ok class.Digit
+    else (if b == 76 then Ok class.LineEnd else (if b == 82 then Ok class.LetterOrDigit
     else (if b == 86 then Ok class.LowerCase else (if b == 87 then Ok class.UpperCase else Err Ice)))))))
 
 -- the control bytes that are no item: ^N, ^R, ^V, ^W
@@ -88,7 +89,8 @@ one_byte_at text at =
 -- ^ES, or ^N and what is not to be there, or what is to be there
 unfoldable pub element_at : List ℕ → ℕ → Reading Element
 element_at text at =
-    if occurs_at text at 5 && (occurs_at text (at + 1) 83 || occurs_at text (at + 1) 115) then Ok (element.Blanks, at + 2)
+    if occurs_at text at 5 && (occurs_at text (at + 1) 83 || occurs_at text (at + 1) 115)
+    then Ok (element.Blanks, at + 2)
     else (if occurs_at text at 14 then (do
       c ← one_byte_at text (at + 1)
       Ok (element.Except c.0, c.1))

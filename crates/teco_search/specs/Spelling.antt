@@ -42,7 +42,8 @@ pub record SpellsListed (t : List ℕ) (i : Item) : Type 0 where
 -- items with a comma between two, and ] after the last
 pub data SpellsItems : List ℕ → List Item → Type 0 where
   last : (t : List ℕ) (i : Item) → SpellsListed t i → SpellsItems (t ++ 93 ∷ []) (i ∷ [])
-  more : (t u : List ℕ) (i : Item) (is : List Item) → SpellsListed t i → SpellsItems u is → SpellsItems (t ++ 44 ∷ u) (i ∷ is)
+  more : (t u : List ℕ) (i : Item) (is : List Item) → SpellsListed t i → SpellsItems u is
+      → SpellsItems (t ++ 44 ∷ u) (i ∷ is)
 
 -- an item, or a list after ^E[
 pub data SpellsOne : List ℕ → OneByte → Type 0 where
@@ -58,7 +59,8 @@ pub data SpellsElement : List ℕ → Element → Type 0 where
 -- A search text spells its elements one after the other.
 pub data Spells : List ℕ → List Element → Type 0 where
   nothing : Spells [] []
-  next : (t u : List ℕ) (e : Element) (es : List Element) → SpellsElement t e → Spells u es → Spells (t ++ u) (e ∷ es)
+  next : (t u : List ℕ) (e : Element) (es : List Element) → SpellsElement t e → Spells u es
+      → Spells (t ++ u) (e ∷ es)
 
 -- no elements at all
 abbrev pub SpellsNothing : List ℕ → Type 0

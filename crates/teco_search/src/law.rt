@@ -14,11 +14,16 @@ ghost use Rattle.teco_core.specs.declared.code.Code.TheVariants.{Ice};
 /// start at or before the place, and each next the highest start among those that end no later than the former began. So occurrences don't
 /// overlap, and rise or fall.
 pub fn occurrences()
-    ensures long { (sought : Sought) (text : List ℕ) → 0 < length sought.elements → MatchesAreLong sought text }
-    ensures forward { (sought : Sought) (text : List ℕ) (from : ℕ) (ms : List Span) → 0 < length sought.elements → AreForward sought text from ms ↔ (ms ≡ forward sought text from) }
-    ensures backward { (sought : Sought) (text : List ℕ) (from : ℕ) (ms : List Span) → 0 < length sought.elements → AreBackward sought text from ms ↔ (ms ≡ backward sought text from) }
-    ensures rising { (sought : Sought) (text : List ℕ) (from : ℕ) → 0 < length sought.elements → AreRising (forward sought text from) }
-    ensures falling { (sought : Sought) (text : List ℕ) (from : ℕ) → 0 < length sought.elements → AreFalling (backward sought text from) }
+    ensures long { (sought : Sought) (text : List ℕ) → 0 < length sought.elements
+        → MatchesAreLong sought text }
+    ensures forward { (sought : Sought) (text : List ℕ) (from : ℕ) (ms : List Span)
+        → 0 < length sought.elements → AreForward sought text from ms ↔ (ms ≡ forward sought text from) }
+    ensures backward { (sought : Sought) (text : List ℕ) (from : ℕ) (ms : List Span)
+        → 0 < length sought.elements → AreBackward sought text from ms ↔ (ms ≡ backward sought text from) }
+    ensures rising { (sought : Sought) (text : List ℕ) (from : ℕ) → 0 < length sought.elements
+        → AreRising (forward sought text from) }
+    ensures falling { (sought : Sought) (text : List ℕ) (from : ℕ) → 0 < length sought.elements
+        → AreFalling (backward sought text from) }
 {}
 
 /// The law of reading: what is read of a search text is what it spells, and it is refused exactly where it spells nothing.

@@ -107,8 +107,10 @@ impl fmt::Display for Pattern {
 
 /// The end of the match at a place of the text that the two halves are together; none where the pattern doesn't match there. Takes no memory.
 pub fn matches_at(pattern: &Pattern, halves: (&[u8], &[u8]), at: usize) -> Option<usize>
-    ensures value { result ≡ match_end pattern.now.mode pattern.now.elements (halves.entry.0.now ++ halves.entry.1.now) at }
-    ensures within { IfSome result (λ end. (at < end) × (end ≤ length (halves.entry.0.now ++ halves.entry.1.now))) }
+    ensures value { result ≡ match_end pattern.now.mode pattern.now.elements
+        (halves.entry.0.now ++ halves.entry.1.now) at }
+    ensures within { IfSome result (λ end. (at < end)
+        × (end ≤ length (halves.entry.0.now ++ halves.entry.1.now))) }
 {
     let text = Joined::new(halves.0, halves.1);
     match &pattern.form {
@@ -155,9 +157,11 @@ pub fn find(
     requires within { from ≤ length (halves.0.now ++ halves.1.now) }
     requires some { n ≢ pos 0 }
     ensures value { result ≡ occurrence pattern.now (halves.entry.0.now ++ halves.entry.1.now) from n }
-    ensures within { IfSome result (λ m. (m.0 < m.1) × (m.1 ≤ length (halves.entry.0.now ++ halves.entry.1.now))) }
+    ensures within { IfSome result (λ m. (m.0 < m.1)
+        × (m.1 ≤ length (halves.entry.0.now ++ halves.entry.1.now))) }
     ensures next { n ≡ pos 1 → FindsNext pattern.now (halves.entry.0.now ++ halves.entry.1.now) from result }
-    ensures last { n ≡ negsuc 0 → FindsLastBy pattern.now (halves.entry.0.now ++ halves.entry.1.now) from result }
+    ensures last { n ≡ negsuc 0 → FindsLastBy pattern.now
+        (halves.entry.0.now ++ halves.entry.1.now) from result }
 {
     if n > 0 {
         return find_forward(pattern, halves, from, n).ok();
@@ -176,10 +180,14 @@ pub fn find_forward(
 ) -> Result<(usize, usize), i32>
     requires within { from ≤ length (halves.0.now ++ halves.1.now) }
     requires some { pos 0 <ℤ n }
-    ensures value { result_ok result ≡ occurrence pattern.now (halves.entry.0.now ++ halves.entry.1.now) from n }
-    ensures within { IfOk result (λ m. (m.0 < m.1) × (m.1 ≤ length (halves.entry.0.now ++ halves.entry.1.now))) }
-    ensures next { n ≡ pos 1 → FindsNext pattern.now (halves.entry.0.now ++ halves.entry.1.now) from (result_ok result) }
-    ensures fewer { IfErr result (λ wanted. wanted ≡ n -ℤ pos (length (forward pattern.now (halves.entry.0.now ++ halves.entry.1.now) from))) }
+    ensures value { result_ok result
+        ≡ occurrence pattern.now (halves.entry.0.now ++ halves.entry.1.now) from n }
+    ensures within { IfOk result (λ m. (m.0 < m.1)
+        × (m.1 ≤ length (halves.entry.0.now ++ halves.entry.1.now))) }
+    ensures next { n ≡ pos 1 → FindsNext pattern.now (halves.entry.0.now ++ halves.entry.1.now) from
+        (result_ok result) }
+    ensures fewer { IfErr result (λ wanted. wanted
+        ≡ n -ℤ pos (length (forward pattern.now (halves.entry.0.now ++ halves.entry.1.now) from))) }
 {
     let text = Joined::new(halves.0, halves.1);
     match nth_forward(&pattern.forward(), &text, from, n.unsigned_abs()) {

@@ -72,7 +72,8 @@ pub(crate) fn last_by_start(
 ) -> Option<(usize, usize)>
     requires anchored { IsAnchored mode elements.now anchor.now }
     requires within { from ≤ length text.now }
-    ensures value { let sought = looked_for mode elements.now in BeginsBackward sought text.now (backward sought text.now from) result }
+    ensures value { let sought = looked_for mode elements.now in BeginsBackward sought text.now
+        (backward sought text.now from) result }
     ensures within { IfSome result (λ m. (m.0 < m.1) × (m.1 ≤ length text.now)) }
 {
     let len = text.len();
@@ -94,7 +95,8 @@ pub(crate) fn last_by_end(
 ) -> Option<(usize, usize)>
     requires anchored { IsAnchored mode elements.now anchor.now }
     requires within { to ≤ length text.now }
-    ensures value { let sought = looked_for mode elements.now in BeginsBackward sought text.now (backward_ending_by sought text.now to) result }
+    ensures value { let sought = looked_for mode elements.now in BeginsBackward sought text.now
+        (backward_ending_by sought text.now to) result }
     ensures within { IfSome result (λ m. (m.0 < m.1) × (m.1 ≤ to)) }
 {
     last_below(mode, elements, anchor, text, to, to)

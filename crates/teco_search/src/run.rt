@@ -78,7 +78,8 @@ pub(crate) fn match_from(
     start: usize,
 ) -> Result<usize, usize>
     ensures some { IfOk result (λ end. match_end mode elements.now text.now start ≡ Some end) }
-    ensures none { IfErr result (λ n. (k : ℕ) → start ≤ k → k ≤ start + n → match_end mode elements.now text.now k ≡ None) }
+    ensures none { IfErr result (λ n. (k : ℕ) → start ≤ k → k ≤ start + n
+        → match_end mode elements.now text.now k ≡ None) }
 {
     let tried = tried(mode, elements, text, start);
     match tried.end {
@@ -97,7 +98,8 @@ pub(crate) fn match_back(
     to: usize,
 ) -> Result<usize, usize>
     ensures some { IfOk result (λ end. (match_end mode elements.now text.now start ≡ Some end) × (end ≤ to)) }
-    ensures none { IfErr result (λ n. (k q : ℕ) → k ≤ start → start ≤ k + n → match_end mode elements.now text.now k ≡ Some q → to < q) }
+    ensures none { IfErr result (λ n. (k q : ℕ) → k ≤ start → start ≤ k + n
+        → match_end mode elements.now text.now k ≡ Some q → to < q) }
 {
     let tried = tried(mode, elements, text, start);
     if let Some(end) = tried.end {

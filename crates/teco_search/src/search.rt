@@ -54,7 +54,8 @@ pub(crate) fn nth_forward(
     requires within { from ≤ length text.now }
     requires some { 0 < n }
     ensures found { result_ok result ≡ slice_get (forward (sought_forward search.now) text.now from) (n - 1) }
-    ensures fewer { IfErr result (λ wanted. wanted + length (forward (sought_forward search.now) text.now from) ≡ n) }
+    ensures fewer { IfErr result (λ wanted. wanted + length
+        (forward (sought_forward search.now) text.now from) ≡ n) }
 {
     let mut at = from;
     let mut wanted = n;
@@ -90,7 +91,8 @@ pub(crate) fn count_forward(search: &Forward, text: &Joined, from: usize) -> usi
 fn last_by_start(search: &Backward, text: &Joined, from: usize) -> Option<(usize, usize)>
     requires ready { IsReadyBackward search.now }
     requires within { from ≤ length text.now }
-    ensures value { let sought = sought_backward search.now in BeginsBackward sought text.now (backward sought text.now from) result }
+    ensures value { let sought = sought_backward search.now in BeginsBackward sought text.now
+        (backward sought text.now from) result }
     ensures within { IfSome result (λ m. (m.0 < m.1) × (m.1 ≤ length text.now)) }
 {
     match search {
@@ -111,7 +113,8 @@ fn last_by_start(search: &Backward, text: &Joined, from: usize) -> Option<(usize
 fn last_by_end(search: &Backward, text: &Joined, to: usize) -> Option<(usize, usize)>
     requires ready { IsReadyBackward search.now }
     requires within { to ≤ length text.now }
-    ensures value { let sought = sought_backward search.now in BeginsBackward sought text.now (backward_ending_by sought text.now to) result }
+    ensures value { let sought = sought_backward search.now in BeginsBackward sought text.now
+        (backward_ending_by sought text.now to) result }
     ensures within { IfSome result (λ m. (m.0 < m.1) × (m.1 ≤ to)) }
 {
     match search {

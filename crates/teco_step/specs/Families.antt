@@ -53,10 +53,12 @@ tag_of e = []
 
 -- what a desk follows it follows on, by the load; or there is none, and it follows the same
 abbrev pub Carries : (Trail → Type 0) → (Trail → Type 0) → ℕ → Type 0
-Carries before after load = ((t : Trail) → before t → after (moved t load)) ⊎ ((load ≡ 0) × ((t : Trail) → before t → after t))
+Carries before after load = ((t : Trail) → before t → after (moved t load))
+    ⊎ ((load ≡ 0) × ((t : Trail) → before t → after t))
 
 -- A step that types nothing was done.
-pub record IsActed (attempt : Attempt) (new : State) (left : Arguments) (before after : Trail → Type 0) (n : Next) : Type 0 where
+pub record IsActed (attempt : Attempt) (new : State) (left : Arguments) (before after : Trail → Type 0)
+    (n : Next) : Type 0 where
   pub load : ℕ
   pub end : End
   pub step : attempt ≡ Ok (record { state = new; arguments = left; typed = []; load = load; end = end })
@@ -65,19 +67,22 @@ pub record IsActed (attempt : Attempt) (new : State) (left : Arguments) (before 
   pub carries : Carries before after load
 
 -- It was refused, or memory was, and nothing changed.
-pub record IsUnacted (attempt : Attempt) (s new : State) (a left : Arguments) (before after : Trail → Type 0) (f : Failure) : Type 0 where
+pub record IsUnacted (attempt : Attempt) (s new : State) (a left : Arguments) (before after : Trail → Type 0)
+    (f : Failure) : Type 0 where
   pub why : IsRefusal f attempt ⊎ (f ≡ failure.Memory)
   pub state : new ≡ s
   pub arguments : left ≡ a
   pub follows : (t : Trail) → before t → after t
 
 -- What a function that types nothing did, which is to do this, to a state and arguments and what a desk follows.
-abbrev pub Acts : Action → State → State → Arguments → Arguments → (Trail → Type 0) → (Trail → Type 0) → Result Next Failure → Type 0
+abbrev pub Acts : Action → State → State → Arguments → Arguments → (Trail → Type 0) → (Trail → Type 0)
+    → Result Next Failure → Type 0
 Acts f s new a left before after (Ok n) = IsActed (done_by f s a) new left before after n
 Acts f s new a left before after (Err e) = IsUnacted (done_by f s a) s new a left before after e
 
 -- Bytes were typed.
-pub record IsTyped (attempt : Attempt) (s : State) (left : Arguments) (before after : Screen) (n : Next) : Type 0 where
+pub record IsTyped (attempt : Attempt) (s : State) (left : Arguments) (before after : Screen)
+    (n : Next) : Type 0 where
   pub bytes : List ℕ
   pub step : attempt ≡ goes_on s (types s bytes)
   pub arguments : left ≡ no_arguments
@@ -85,13 +90,15 @@ pub record IsTyped (attempt : Attempt) (s : State) (left : Arguments) (before af
   pub shows : Shows before after bytes false
 
 -- Typing was refused, and nothing shown.
-pub record IsUntyped (attempt : Attempt) (a left : Arguments) (before after : Screen) (f : Failure) : Type 0 where
+pub record IsUntyped (attempt : Attempt) (a left : Arguments) (before after : Screen)
+    (f : Failure) : Type 0 where
   pub why : IsRefusal f attempt
   pub arguments : left ≡ a
   pub screen : after ≡ before
 
 -- A put failed: of the bytes, of which there are some, a beginning is shown.
-pub record IsCutShort (attempt : Attempt) (s : State) (a left : Arguments) (before after : Screen) (f : Failure) : Type 0 where
+pub record IsCutShort (attempt : Attempt) (s : State) (a left : Arguments) (before after : Screen)
+    (f : Failure) : Type 0 where
   pub is : f ≡ failure.Terminal
   pub bytes : List ℕ
   pub step : attempt ≡ goes_on s (types s bytes)
@@ -104,10 +111,13 @@ pub record IsCutShort (attempt : Attempt) (s : State) (a left : Arguments) (befo
 -- What a function that types did, which is to do this, to arguments and a screen.
 abbrev pub Types : Action → State → Arguments → Arguments → Screen → Screen → Result Next Failure → Type 0
 Types f s a left before after (Ok n) = IsTyped (done_by f s a) s left before after n
-Types f s a left before after (Err e) = IsUntyped (done_by f s a) a left before after e ⊎ IsCutShort (done_by f s a) s a left before after e
+Types f s a left before after (Err e) = IsUntyped (done_by f s a) a left before after e
+    ⊎ IsCutShort (done_by f s a) s a left before after e
 
 -- What a function for any token did: it acted and left the screen, or typed and left the state.
-abbrev pub Does : Action → Moment → Moment → (Trail → Type 0) → (Trail → Type 0) → Result Next Failure → Type 0
+abbrev pub Does : Action → Moment → Moment → (Trail → Type 0) → (Trail → Type 0) → Result Next Failure
+    → Type 0
 Does f old new before after r =
     ((new.screen ≡ old.screen) × Acts f old.state new.state old.arguments new.arguments before after r)
-    ⊎ ((new.state ≡ old.state) × ((t : Trail) → before t → after t) × Types f old.state old.arguments new.arguments old.screen new.screen r)
+    ⊎ ((new.state ≡ old.state) × ((t : Trail) → before t → after t)
+    × Types f old.state old.arguments new.arguments old.screen new.screen r)

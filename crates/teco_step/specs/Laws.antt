@@ -17,40 +17,49 @@ use Rattle.teco_step.specs.declared.next.Work.{Work}
 
 -- An iteration is left only inside one.
 abbrev pub LeavesInside : Type 0
-LeavesInside = (i : Item) (w : Setting) (s : State) (a : Arguments) → (effect i w s a).end ≡ leave → w.inside ≡ true
+LeavesInside = (i : Item) (w : Setting) (s : State) (a : Arguments) → (effect i w s a).end ≡ leave
+    → w.inside ≡ true
 
 -- A jump goes to the name that the token has.
 abbrev pub JumpsToItsName : Type 0
-JumpsToItsName = (i : Item) (w : Setting) (s : State) (a : Arguments) (name : List ℕ) → (effect i w s a).end ≡ go name → name_of i ≡ name
+JumpsToItsName = (i : Item) (w : Setting) (s : State) (a : Arguments) (name : List ℕ)
+    → (effect i w s a).end ≡ go name → name_of i ≡ name
 
 -- A further step is of a token that may have some.
 abbrev pub GoesFurtherIfItMay : Type 0
-GoesFurtherIfItMay = (i : Item) (w : Setting) (s : State) (a : Arguments) (work : Work) → (effect i w s a).end ≡ again work → may_go_further i ≡ true
+GoesFurtherIfItMay = (i : Item) (w : Setting) (s : State) (a : Arguments) (work : Work)
+    → (effect i w s a).end ≡ again work → may_go_further i ≡ true
 
 -- After a value or arithmetic the string goes on, or ends by an error.
 abbrev pub ValueGoesOn : Type 0
-ValueGoesOn = (i : Item) (w : Setting) (s : State) (a : Arguments) → takes_nothing i ≡ true → ((effect i w s a).end ≡ on) ⊎ ((c : Code) × ((effect i w s a).end ≡ stop c))
+ValueGoesOn = (i : Item) (w : Setting) (s : State) (a : Arguments) → takes_nothing i ≡ true
+    → ((effect i w s a).end ≡ on) ⊎ ((c : Code) × ((effect i w s a).end ≡ stop c))
 
 -- Only a step that ends by an exit makes a session done.
 abbrev pub OnlyExits : Type 0
-OnlyExits = (i : Item) (w : Setting) (s : State) (a : Arguments) → (effect i w s a).end ≢ out → (effect i w s a).state.is_done ≡ s.is_done
+OnlyExits = (i : Item) (w : Setting) (s : State) (a : Arguments) → (effect i w s a).end ≢ out
+    → (effect i w s a).state.is_done ≡ s.is_done
 
 -- An error leaves all as it was and types nothing, but for a search that failed.
 abbrev pub ErrorsChangeNothing : Type 0
-ErrorsChangeNothing = (i : Item) (w : Setting) (s : State) (a : Arguments) (c : Code) → (effect i w s a).end ≡ stop c → c ≢ Srh
+ErrorsChangeNothing = (i : Item) (w : Setting) (s : State) (a : Arguments) (c : Code)
+    → (effect i w s a).end ≡ stop c → c ≢ Srh
     → ((effect i w s a).state ≡ s) × ((effect i w s a).arguments ≡ a) × ((effect i w s a).typed ≡ [])
 
 -- A step changes the state or it types, and never both.
 abbrev pub ChangesOrTypes : Type 0
-ChangesOrTypes = (i : Item) (w : Setting) (s : State) (a : Arguments) → ((effect i w s a).state ≡ s) ⊎ ((effect i w s a).typed ≡ [])
+ChangesOrTypes = (i : Item) (w : Setting) (s : State) (a : Arguments) → ((effect i w s a).state ≡ s)
+    ⊎ ((effect i w s a).typed ≡ [])
 
 -- The load of a step is the bytes that it moves, where the pointer is in the text.
 abbrev pub LoadIsWhatMoves : Type 0
-LoadIsWhatMoves = (i : Item) (w : Setting) (s : State) (a : Arguments) → s.pointer ≤ length s.text → Moves s (effect i w s a).state (effect i w s a).load
+LoadIsWhatMoves = (i : Item) (w : Setting) (s : State) (a : Arguments) → s.pointer ≤ length s.text
+    → Moves s (effect i w s a).state (effect i w s a).load
 
 -- What n\ inserts is read back by \ as n, where no digit comes after it.
 abbrev pub ReadsWhatItInserts : Type 0
-ReadsWhatItInserts = (n : ℤ) (rest : List ℕ) → int_le lowest n ≡ true → int_le n highest ≡ true → begins_run rest ≡ false
+ReadsWhatItInserts = (n : ℤ) (rest : List ℕ) → int_le lowest n ≡ true → int_le n highest ≡ true
+    → begins_run rest ≡ false
     → numeral_at (signed_decimal n ++ rest) ≡ record { value = n; size = length (signed_decimal n) }
 
 -- A screen that is left alone shows nothing more.
@@ -59,4 +68,5 @@ StillShows = (w : Screen) → Shows w w [] false
 
 -- What is shown, and then more, is shown together.
 abbrev pub ShowsMore : Type 0
-ShowsMore = (a b c : Screen) (xs ys : List ℕ) (failed : Bool) → Shows a b xs false → Shows b c ys failed → Shows a c (xs ++ ys) failed
+ShowsMore = (a b c : Screen) (xs ys : List ℕ) (failed : Bool) → Shows a b xs false → Shows b c ys failed
+    → Shows a c (xs ++ ys) failed

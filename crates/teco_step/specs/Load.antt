@@ -6,13 +6,17 @@ use Rattle.teco_store.specs.State.{State}
 
 -- Of the buffer's text: the bytes that went, and those that came in their place.
 pub data MovesText : List ℕ → List ℕ → ℕ → Type 0 where
-  replaces : (before went came after : List ℕ) → MovesText (before ++ (went ++ after)) (before ++ (came ++ after)) (length went + length came)
+  replaces : (before went came after : List ℕ)
+      → MovesText (before ++ (went ++ after)) (before ++ (came ++ after)) (length went + length came)
 
 -- Of the registers: none where they stay or a number is set. Where one of them comes to hold another content: its old text and its new one.
 pub data MovesRegisters : List Content → List Content → ℕ → Type 0 where
   stay : (registers : List Content) → MovesRegisters registers registers 0
-  numbers : (registers : List Content) (q : ℕ) (n : ℤ) → MovesRegisters registers (with_number registers q n) 0
-  holds : (registers : List Content) (q : ℕ) (c : Content) → MovesRegisters registers (with_content registers q c) (length (content registers q).text + length c.text)
+  numbers : (registers : List Content) (q : ℕ) (n : ℤ)
+      → MovesRegisters registers (with_number registers q n) 0
+  holds : (registers : List Content) (q : ℕ) (c : Content)
+      → MovesRegisters registers (with_content registers q c)
+      (length (content registers q).text + length c.text)
 
 -- Of the push-down list: the text that comes onto it. What goes off it is counted where it comes in, at a register.
 pub data MovesPushed : List Content → List Content → ℕ → Type 0 where
@@ -23,7 +27,8 @@ pub data MovesPushed : List Content → List Content → ℕ → Type 0 where
 -- Of the last search text: none where it stays, and else the old text and the new one.
 pub data MovesSearch : Option (List ℕ) → Option (List ℕ) → ℕ → Type 0 where
   same : (last : Option (List ℕ)) → MovesSearch last last 0
-  notes : (last : Option (List ℕ)) (text : List ℕ) → MovesSearch last (Some text) (length_of last + length text)
+  notes : (last : Option (List ℕ)) (text : List ℕ)
+      → MovesSearch last (Some text) (length_of last + length text)
 
 -- From one state to another so many bytes are moved: in the text, in the registers, on the push-down list, and in the last search text.
 -- The pointer, numbers, flags and the place in the input weigh nothing. Nor does the output, which is only extended.

@@ -49,12 +49,20 @@ search_page text w s a = do
 abbrev pub goes_to_page : (State → Result State Code) → ℤ → State → Attempt
 goes_to_page with_next left s = do
   t ← with_next s
-  Ok (record { state = t; arguments = no_arguments; typed = []; load = page_load s; end = again (record { left = left; search = true }) })
+  Ok (record {
+    state = t;
+    arguments = no_arguments;
+    typed = [];
+    load = page_load s;
+    end = again (record { left = left; search = true });
+  })
 
 -- a step of such a search: its first, or the one that an earlier step left
-abbrev pub step_of : (State → Result State Code) → Option Work → List ℕ → Setting → State → Arguments → Attempt
+abbrev pub step_of : (State → Result State Code) → Option Work → List ℕ → Setting → State → Arguments
+    → Attempt
 step_of with_next None text w s a = search_page text w s a
-step_of with_next (Some work) text w s a = if work.search then search_page text w s a else goes_to_page with_next work.left s
+step_of with_next (Some work) text w s a = if work.search then search_page text w s a
+    else goes_to_page with_next work.left s
 
 -- nN and n_: look for the nth occurrence from the pointer on, in the buffer and in the pages after it. N turns pages, and _ reads them.
 abbrev pub search_pages : (State → Result State Code) → List ℕ → Setting → State → Arguments → Attempt

@@ -16,7 +16,8 @@ use Rattle.teco_step.specs.Typing.{part}
 
 -- Qq gives the number of q; with a colon the length of its text.
 abbrev pub value_of : Modifiers → ℕ → State → ℤ
-value_of m q s = if m.colons == 1 then pos (length (content s.registers q).text) else (content s.registers q).number
+value_of m q s = if m.colons == 1 then pos (length (content s.registers q).text)
+    else (content s.registers q).number
 
 abbrev pub register_value : Modifiers → ℕ → State → Arguments → Made
 register_value m q s a = gives s a (value_of m q s)
@@ -52,7 +53,9 @@ increment q s a = increments q (level_of a.expression) s a
 -- The text of q becomes this one, which must be within its limit, else BIG. The load is that of the old and the new one.
 abbrev pub sets_text : ℕ → List ℕ → State → Made
 sets_text q text s =
-    if nat_le (length text) TEXT_LIMIT then changes (with_register_text s q text) (length (content s.registers q).text + length text) else Err Big
+    if nat_le (length text) TEXT_LIMIT
+    then changes (with_register_text s q text) (length (content s.registers q).text + length text)
+    else Err Big
 
 -- ^Uqtext$: the text of q becomes this one.
 abbrev pub set_text : ℕ → List ℕ → State → Arguments → Made
@@ -68,7 +71,8 @@ extract q s a = do
 
 -- [q: what q holds is pushed, and PDO where no more can be. The arguments stay.
 abbrev pub push : ℕ → State → Arguments → Made
-push q s a = if length s.pushed == PUSHED_LIMIT then Err Pdo else edits (pushed_from s q) a (length (content s.registers q).text)
+push q s a = if length s.pushed == PUSHED_LIMIT then Err Pdo
+    else edits (pushed_from s q) a (length (content s.registers q).text)
 
 -- ]q: what was pushed last goes into q, and CPQ where nothing is pushed. The arguments stay. The load is that of the old and the new text.
 abbrev pub pop : ℕ → State → Arguments → Made

@@ -118,7 +118,13 @@ abbrev pub replaces : List ℕ → List ℕ → Setting → Span → State → A
 replaces text bytes w m s = do
   t ← with_text_in_limit (replaced_noted s (noted_text text) m.0 (m.1 - m.0) bytes)
   u ← with_search_in_limit t
-  Ok (record { state = u; arguments = answers w true; typed = []; load = note_load s (noted_text text) + ((m.1 - m.0) + length bytes); end = on })
+  Ok (record {
+    state = u;
+    arguments = answers w true;
+    typed = [];
+    load = note_load s (noted_text text) + ((m.1 - m.0) + length bytes);
+    end = on;
+  })
 
 abbrev pub replaced_or_not : List ℕ → List ℕ → Setting → Option Span → State → Arguments → Attempt
 replaced_or_not text bytes w None s a = fails text w s a

@@ -61,7 +61,13 @@ Made = Result Change Code
 
 -- The string goes on. Only an exit makes a session done, so this leaves it as it was.
 abbrev pub goes_on : State → Made → Attempt
-goes_on s (Ok c) = Ok (record { state = record c.state { is_done = s.is_done }; arguments = c.arguments; typed = c.typed; load = c.load; end = on })
+goes_on s (Ok c) = Ok (record {
+  state = record c.state { is_done = s.is_done };
+  arguments = c.arguments;
+  typed = c.typed;
+  load = c.load;
+  end = on;
+})
 goes_on s (Err c) = Err c
 
 -- What a token is to do: a change, after which the string goes on; or a step that ends as it says.

@@ -105,7 +105,8 @@ kind_effect text k w s a = settled s a unbuilt
 
 abbrev pub token_effect : List ℕ → Token → Option Work → Bool → Bool → State → Arguments → Step
 token_effect text token work inside before s a =
-    kind_effect text token.kind (record { modifiers = token.modifiers; work = work; inside = inside; before = before }) s a
+    kind_effect text token.kind
+    (record { modifiers = token.modifiers; work = work; inside = inside; before = before }) s a
 
 -- the name that a jump names
 abbrev pub name_of : Item → List ℕ

@@ -26,7 +26,10 @@ type_out s a = do
 
 -- what 0T and T reach together: the line that the pointer is in
 abbrev pub around : State → Range
-around s = record { low = (rising s.pointer (line s.text s.pointer (pos 0))).low; high = (rising s.pointer (line s.text s.pointer (pos 1))).high }
+around s = record {
+  low = (rising s.pointer (line s.text s.pointer (pos 0))).low;
+  high = (rising s.pointer (line s.text s.pointer (pos 1))).high;
+}
 
 -- V: types the line that the pointer is in.
 abbrev pub view : State → Arguments → Made

@@ -23,7 +23,8 @@ fn mode_of(n: i32) -> Result<CaseMode, Failure>
 
 /// `n^X` lets searches tell the cases of a letter apart, or not.
 pub(crate) fn set_case<D: Desk>(desk: &mut D, args: &mut Args) -> Result<Next, Failure>
-    ensures { Acts (goes case.set_case) (D.state desk.old) (D.state desk.new) (arguments args.old) (arguments args.new)
+    ensures { Acts (goes case.set_case) (D.state desk.old) (D.state desk.new) (arguments args.old)
+        (arguments args.new)
         (D.follows desk.old) (D.follows desk.new) result }
 {
     let mode = mode_of(takes_one(args, Code::Arg)?)?;

@@ -21,7 +21,8 @@ pub(crate) fn leave_or_not<D: Desk>(
     inside: bool,
     args: &mut Args,
 ) -> Result<Next, Failure>
-    ensures does { Acts (steers (control.leave_or_not inside)) (D.state desk.now) (D.state desk.now) (arguments args.old) (arguments args.new)
+    ensures does { Acts (steers (control.leave_or_not inside)) (D.state desk.now) (D.state desk.now)
+        (arguments args.old) (arguments args.new)
         (D.follows desk.now) (D.follows desk.now) result }
     ensures no_memory { result ≡ Err Memory → ⊥ }
 {
@@ -38,7 +39,8 @@ pub(crate) fn leave_or_not<D: Desk>(
 
 /// `Oname$` goes on after the tag of the name that the token has.
 pub(crate) fn jump_to<D: Desk>(desk: &D, name: &[u8], args: &mut Args) -> Result<Next, Failure>
-    ensures does { Acts (steers (control.jump_to name.now)) (D.state desk.now) (D.state desk.now) (arguments args.old) (arguments args.new)
+    ensures does { Acts (steers (control.jump_to name.now)) (D.state desk.now) (D.state desk.now)
+        (arguments args.old) (arguments args.new)
         (D.follows desk.now) (D.follows desk.now) result }
     ensures no_memory { result ≡ Err Memory → ⊥ }
 {

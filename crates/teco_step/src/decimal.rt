@@ -37,7 +37,8 @@ fn is_digit_at(before: &[u8], after: &[u8], place: usize) -> bool
 /// The value of the digits from a place on, or [`PAST_NUMBERS`] where it is higher, and the place after them.
 fn digits_at(before: &[u8], after: &[u8], from: usize) -> (u64, usize)
     requires { from ≤ length (before.now ++ after.now) }
-    ensures value { result.0 ≡ min PAST_NUMBERS (digits_value 0 (run_of (drop from (before.now ++ after.now)))) }
+    ensures value { result.0 ≡ min PAST_NUMBERS
+        (digits_value 0 (run_of (drop from (before.now ++ after.now)))) }
     ensures end { result.1 ≡ from + length (run_of (drop from (before.now ++ after.now))) }
     ensures within { result.1 ≤ length (before.now ++ after.now) }
 {
@@ -63,7 +64,8 @@ fn is_negative_at(before: &[u8], after: &[u8], place: usize) -> bool
 /// The number that is written from a place on: digits, and a `-` that is directly before them. Where no digit comes it is 0.
 fn numeral_at(before: &[u8], after: &[u8], from: usize) -> Numeral
     requires { from ≤ length (before.now ++ after.now) }
-    ensures value { fitted result.value ≡ fitted (decimal.numeral_at (drop from (before.now ++ after.now))).value }
+    ensures value { fitted result.value
+        ≡ fitted (decimal.numeral_at (drop from (before.now ++ after.now))).value }
     ensures end { result.end ≡ from + (decimal.numeral_at (drop from (before.now ++ after.now))).size }
     ensures within { result.end ≤ length (before.now ++ after.now) }
 {
@@ -93,7 +95,8 @@ fn fit(value: i64) -> Result<i32, Failure>
 
 /// Gives the number at the pointer, which goes after it. Where it can't be given, neither the arguments nor the pointer change.
 fn read_number<D: Desk>(desk: &mut D, args: &mut Args) -> Result<Next, Failure>
-    ensures { Acts (goes decimal.read_number) (D.state desk.old) (D.state desk.new) (arguments args.old) (arguments args.new)
+    ensures { Acts (goes decimal.read_number) (D.state desk.old) (D.state desk.new) (arguments args.old)
+        (arguments args.new)
         (D.follows desk.old) (D.follows desk.new) result }
 {
     let (before, after) = desk.halves();
@@ -107,7 +110,8 @@ fn read_number<D: Desk>(desk: &mut D, args: &mut Args) -> Result<Next, Failure>
 
 /// `n\` inserts n in decimal.
 fn insert_number<D: Desk>(desk: &mut D, args: &mut Args) -> Result<Next, Failure>
-    ensures { Acts (goes decimal.insert_number) (D.state desk.old) (D.state desk.new) (arguments args.old) (arguments args.new)
+    ensures { Acts (goes decimal.insert_number) (D.state desk.old) (D.state desk.new) (arguments args.old)
+        (arguments args.new)
         (D.follows desk.old) (D.follows desk.new) result }
 {
     let n = takes_one(args, Code::Arg)?;
@@ -118,7 +122,8 @@ fn insert_number<D: Desk>(desk: &mut D, args: &mut Args) -> Result<Next, Failure
 
 /// `\` inserts a number where the level has one, and else reads the one at the pointer.
 pub(crate) fn decimal<D: Desk>(desk: &mut D, args: &mut Args) -> Result<Next, Failure>
-    ensures { Acts (goes decimal.decimal) (D.state desk.old) (D.state desk.new) (arguments args.old) (arguments args.new)
+    ensures { Acts (goes decimal.decimal) (D.state desk.old) (D.state desk.new) (arguments args.old)
+        (arguments args.new)
         (D.follows desk.old) (D.follows desk.new) result }
 {
     match args.level() {

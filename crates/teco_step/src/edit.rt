@@ -18,7 +18,8 @@ use teco_store::Desk;
 /// Puts the pointer at a place. The command is then done, and its arguments gone.
 fn move_to<D: Desk>(desk: &mut D, place: usize, args: &mut Args) -> Result<Next, Failure>
     requires { place ≤ length (D.state desk.old).text }
-    ensures { Acts (goes (editing.moves place)) (D.state desk.old) (D.state desk.new) (arguments args.old) (arguments args.new)
+    ensures { Acts (goes (editing.moves place)) (D.state desk.old) (D.state desk.new) (arguments args.old)
+        (arguments args.new)
         (D.follows desk.old) (D.follows desk.new) result }
 {
     desk.point(place)?;
@@ -28,7 +29,8 @@ fn move_to<D: Desk>(desk: &mut D, place: usize, args: &mut Args) -> Result<Next,
 
 /// `nJ`: the pointer to n, or to 0.
 pub(crate) fn jump<D: Desk>(desk: &mut D, args: &mut Args) -> Result<Next, Failure>
-    ensures { Acts (goes editing.jump) (D.state desk.old) (D.state desk.new) (arguments args.old) (arguments args.new)
+    ensures { Acts (goes editing.jump) (D.state desk.old) (D.state desk.new) (arguments args.old)
+        (arguments args.new)
         (D.follows desk.old) (D.follows desk.new) result }
 {
     let n = takes_one_or(args, 0)?;
@@ -38,7 +40,8 @@ pub(crate) fn jump<D: Desk>(desk: &mut D, args: &mut Args) -> Result<Next, Failu
 
 /// `nC`: the pointer forward by n, or by 1.
 pub(crate) fn forward<D: Desk>(desk: &mut D, args: &mut Args) -> Result<Next, Failure>
-    ensures { Acts (goes editing.forward) (D.state desk.old) (D.state desk.new) (arguments args.old) (arguments args.new)
+    ensures { Acts (goes editing.forward) (D.state desk.old) (D.state desk.new) (arguments args.old)
+        (arguments args.new)
         (D.follows desk.old) (D.follows desk.new) result }
 {
     let n = takes_one_or(args, 1)?;
@@ -48,7 +51,8 @@ pub(crate) fn forward<D: Desk>(desk: &mut D, args: &mut Args) -> Result<Next, Fa
 
 /// `nR`: the pointer back by n, or by 1.
 pub(crate) fn back<D: Desk>(desk: &mut D, args: &mut Args) -> Result<Next, Failure>
-    ensures { Acts (goes editing.back) (D.state desk.old) (D.state desk.new) (arguments args.old) (arguments args.new)
+    ensures { Acts (goes editing.back) (D.state desk.old) (D.state desk.new) (arguments args.old)
+        (arguments args.new)
         (D.follows desk.old) (D.follows desk.new) result }
 {
     let n = takes_one_or(args, 1)?;
@@ -58,7 +62,8 @@ pub(crate) fn back<D: Desk>(desk: &mut D, args: &mut Args) -> Result<Next, Failu
 
 /// `nL`: the pointer to line n, or to the next one.
 pub(crate) fn to_line<D: Desk>(desk: &mut D, args: &mut Args) -> Result<Next, Failure>
-    ensures { Acts (goes editing.to_line) (D.state desk.old) (D.state desk.new) (arguments args.old) (arguments args.new)
+    ensures { Acts (goes editing.to_line) (D.state desk.old) (D.state desk.new) (arguments args.old)
+        (arguments args.new)
         (D.follows desk.old) (D.follows desk.new) result }
 {
     let n = takes_one_or(args, 1)?;
@@ -76,7 +81,8 @@ pub(crate) fn put<D: Desk>(
     args: &mut Args,
 ) -> Result<Next, Failure>
     requires { at + deleted ≤ length (D.state desk.old).text }
-    ensures { Acts (goes (editing.puts at deleted bytes.now)) (D.state desk.old) (D.state desk.new) (arguments args.old) (arguments args.new)
+    ensures { Acts (goes (editing.puts at deleted bytes.now)) (D.state desk.old) (D.state desk.new)
+        (arguments args.old) (arguments args.new)
         (D.follows desk.old) (D.follows desk.new) result }
 {
     desk.splice(at, deleted, bytes, None)?;
@@ -86,7 +92,8 @@ pub(crate) fn put<D: Desk>(
 
 /// `nD`: deletes n characters after the pointer, or -n before it; one where it takes none.
 pub(crate) fn delete<D: Desk>(desk: &mut D, args: &mut Args) -> Result<Next, Failure>
-    ensures { Acts (goes editing.delete) (D.state desk.old) (D.state desk.new) (arguments args.old) (arguments args.new)
+    ensures { Acts (goes editing.delete) (D.state desk.old) (D.state desk.new) (arguments args.old)
+        (arguments args.new)
         (D.follows desk.old) (D.follows desk.new) result }
 {
     let n = takes_one_or(args, 1)?;
@@ -96,7 +103,8 @@ pub(crate) fn delete<D: Desk>(desk: &mut D, args: &mut Args) -> Result<Next, Fai
 
 /// `nK` deletes what n lines reach, and `m,nK` the range. The pointer goes where they began.
 pub(crate) fn kill<D: Desk>(desk: &mut D, args: &mut Args) -> Result<Next, Failure>
-    ensures { Acts (goes editing.kill) (D.state desk.old) (D.state desk.new) (arguments args.old) (arguments args.new)
+    ensures { Acts (goes editing.kill) (D.state desk.old) (D.state desk.new) (arguments args.old)
+        (arguments args.new)
         (D.follows desk.old) (D.follows desk.new) result }
 {
     let range = takes_reach(desk, args)?;
@@ -121,7 +129,8 @@ fn inserted_byte(text: &[u8], taken: Taken) -> Result<Option<u8>, Failure>
 
 /// `Itext$` and `nI$`.
 pub(crate) fn insert<D: Desk>(desk: &mut D, text: &[u8], args: &mut Args) -> Result<Next, Failure>
-    ensures { Acts (goes (editing.insert text.now)) (D.state desk.old) (D.state desk.new) (arguments args.old) (arguments args.new)
+    ensures { Acts (goes (editing.insert text.now)) (D.state desk.old) (D.state desk.new) (arguments args.old)
+        (arguments args.new)
         (D.follows desk.old) (D.follows desk.new) result }
 {
     let pointer = desk.pointer();
@@ -148,7 +157,8 @@ pub(crate) fn insert_tab<D: Desk>(
     text: &[u8],
     args: &mut Args,
 ) -> Result<Next, Failure>
-    ensures { Acts (goes (editing.insert_tab text.now)) (D.state desk.old) (D.state desk.new) (arguments args.old) (arguments args.new)
+    ensures { Acts (goes (editing.insert_tab text.now)) (D.state desk.old) (D.state desk.new)
+        (arguments args.old) (arguments args.new)
         (D.follows desk.old) (D.follows desk.new) result }
 {
     untaken(taken(args)?)?;

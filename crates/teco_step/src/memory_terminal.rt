@@ -36,8 +36,11 @@ impl Terminal for MemoryTerminal {
     ghost screen = { λ terminal. record { shown = Some terminal.bytes.items; failures = terminal.failures } };
 
     fn put(&mut self, bytes: &[u8]) -> Result<(), TerminalFault>
-        ensures puts { Puts (⟦<MemoryTerminal as Terminal>⟧.screen self.old) (⟦<MemoryTerminal as Terminal>⟧.screen self.new) bytes.now result }
-        ensures nothing_added { OnErr result ((⟦<MemoryTerminal as Terminal>⟧.screen self.new).shown ≡ (⟦<MemoryTerminal as Terminal>⟧.screen self.old).shown) }
+        ensures puts { Puts (⟦<MemoryTerminal as Terminal>⟧.screen self.old)
+            (⟦<MemoryTerminal as Terminal>⟧.screen self.new) bytes.now result }
+        ensures nothing_added { OnErr result
+            ((⟦<MemoryTerminal as Terminal>⟧.screen self.new).shown
+            ≡ (⟦<MemoryTerminal as Terminal>⟧.screen self.old).shown) }
     {
         if self.bytes.extend_from_slice(bytes).is_err() {
             self.failures = self.failures.wrapping_add(1);

@@ -45,7 +45,8 @@ fn run_out<D: Desk>(
     left: i32,
     args: &mut Args,
 ) -> Result<Next, Failure>
-    ensures { Acts (steers (paging.runs_out text.now setting left)) (D.state desk.old) (D.state desk.new) (arguments args.old) (arguments args.new)
+    ensures { Acts (steers (paging.runs_out text.now setting left)) (D.state desk.old) (D.state desk.new)
+        (arguments args.old) (arguments args.new)
         (D.follows desk.old) (D.follows desk.new) result }
 {
     if desk.is_input_over() {
@@ -66,7 +67,8 @@ fn search_page<D: Desk>(
     setting: Setting,
     args: &mut Args,
 ) -> Result<Next, Failure>
-    ensures { Acts (steers (paging.search_page text.now setting)) (D.state desk.old) (D.state desk.new) (arguments args.old) (arguments args.new)
+    ensures { Acts (steers (paging.search_page text.now setting)) (D.state desk.old) (D.state desk.new)
+        (arguments args.old) (arguments args.new)
         (D.follows desk.old) (D.follows desk.new) result }
 {
     let n = wanted(setting.work, args)?;
@@ -79,7 +81,8 @@ fn search_page<D: Desk>(
 
 /// Turns the page. The search of the next one is a further step.
 fn turn_on<D: Desk>(desk: &mut D, left: i32, args: &mut Args) -> Result<Next, Failure>
-    ensures { Acts (steers (λ s _. paging.goes_to_page with_page_turned left s)) (D.state desk.old) (D.state desk.new) (arguments args.old) (arguments args.new)
+    ensures { Acts (steers (λ s _. paging.goes_to_page with_page_turned left s)) (D.state desk.old)
+        (D.state desk.new) (arguments args.old) (arguments args.new)
         (D.follows desk.old) (D.follows desk.new) result }
 {
     desk.turn_page()?;
@@ -89,7 +92,8 @@ fn turn_on<D: Desk>(desk: &mut D, left: i32, args: &mut Args) -> Result<Next, Fa
 
 /// Reads the next page. Where the buffer isn't empty it is [`Code::Yca`]. The search of the page is a further step.
 fn read_on<D: Desk>(desk: &mut D, left: i32, args: &mut Args) -> Result<Next, Failure>
-    ensures { Acts (steers (λ s _. paging.goes_to_page with_page_read left s)) (D.state desk.old) (D.state desk.new) (arguments args.old) (arguments args.new)
+    ensures { Acts (steers (λ s _. paging.goes_to_page with_page_read left s)) (D.state desk.old)
+        (D.state desk.new) (arguments args.old) (arguments args.new)
         (D.follows desk.old) (D.follows desk.new) result }
 {
     if text_length(desk) > 0 {
@@ -107,7 +111,8 @@ pub(crate) fn search_pages<D: Desk>(
     setting: Setting,
     args: &mut Args,
 ) -> Result<Next, Failure>
-    ensures { Acts (steers (paging.search_pages with_page_turned text.now setting)) (D.state desk.old) (D.state desk.new) (arguments args.old) (arguments args.new)
+    ensures { Acts (steers (paging.search_pages with_page_turned text.now setting)) (D.state desk.old)
+        (D.state desk.new) (arguments args.old) (arguments args.new)
         (D.follows desk.old) (D.follows desk.new) result }
 {
     match setting.work {
@@ -123,7 +128,8 @@ pub(crate) fn search_pages_quietly<D: Desk>(
     setting: Setting,
     args: &mut Args,
 ) -> Result<Next, Failure>
-    ensures { Acts (steers (paging.search_pages with_page_read text.now setting)) (D.state desk.old) (D.state desk.new) (arguments args.old) (arguments args.new)
+    ensures { Acts (steers (paging.search_pages with_page_read text.now setting)) (D.state desk.old)
+        (D.state desk.new) (arguments args.old) (arguments args.new)
         (D.follows desk.old) (D.follows desk.new) result }
 {
     match setting.work {

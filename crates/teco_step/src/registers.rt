@@ -45,7 +45,8 @@ pub(crate) fn register_value<D: Desk>(
     q: Reg,
     args: &mut Args,
 ) -> Result<Next, Failure>
-    ensures does { Acts (goes (registers.register_value modifiers q)) (D.state desk.now) (D.state desk.now) (arguments args.old) (arguments args.new)
+    ensures does { Acts (goes (registers.register_value modifiers q)) (D.state desk.now) (D.state desk.now)
+        (arguments args.old) (arguments args.new)
         (D.follows desk.now) (D.follows desk.now) result }
     ensures no_memory { result ≡ Err Memory → ⊥ }
 {
@@ -55,7 +56,8 @@ pub(crate) fn register_value<D: Desk>(
 
 /// `nUq`: the number of q becomes n.
 pub(crate) fn set_number<D: Desk>(desk: &mut D, q: Reg, args: &mut Args) -> Result<Next, Failure>
-    ensures { Acts (goes (registers.set_number q)) (D.state desk.old) (D.state desk.new) (arguments args.old) (arguments args.new)
+    ensures { Acts (goes (registers.set_number q)) (D.state desk.old) (D.state desk.new) (arguments args.old)
+        (arguments args.new)
         (D.follows desk.old) (D.follows desk.new) result }
 {
     let n = takes_one(args, Code::Nau)?;
@@ -78,7 +80,8 @@ pub(crate) fn give_alone(args: &mut Args, value: i32)
 
 /// Adds `n` to the number of q, and gives the sum in place of what the level has.
 fn add_alone<D: Desk>(desk: &mut D, q: Reg, n: i32, args: &mut Args) -> Result<Next, Failure>
-    ensures { Acts (goes (registers.adds_alone q n)) (D.state desk.old) (D.state desk.new) (arguments args.old) (arguments args.new)
+    ensures { Acts (goes (registers.adds_alone q n)) (D.state desk.old) (D.state desk.new)
+        (arguments args.old) (arguments args.new)
         (D.follows desk.old) (D.follows desk.new) result }
 {
     let sum = sum(desk.registers().number(q), n)?;
@@ -89,7 +92,8 @@ fn add_alone<D: Desk>(desk: &mut D, q: Reg, n: i32, args: &mut Args) -> Result<N
 
 /// Adds 1 to the number of q, and gives the sum to the operator that waits, which may refuse it.
 fn add_one<D: Desk>(desk: &mut D, q: Reg, args: &mut Args) -> Result<Next, Failure>
-    ensures { Acts (goes (registers.adds q (pos 1))) (D.state desk.old) (D.state desk.new) (arguments args.old) (arguments args.new)
+    ensures { Acts (goes (registers.adds q (pos 1))) (D.state desk.old) (D.state desk.new)
+        (arguments args.old) (arguments args.new)
         (D.follows desk.old) (D.follows desk.new) result }
 {
     let sum = sum(desk.registers().number(q), 1)?;
@@ -101,7 +105,8 @@ fn add_one<D: Desk>(desk: &mut D, q: Reg, args: &mut Args) -> Result<Next, Failu
 
 /// `n%q`: the sum becomes the number of q, and is given.
 pub(crate) fn increment<D: Desk>(desk: &mut D, q: Reg, args: &mut Args) -> Result<Next, Failure>
-    ensures { Acts (goes (registers.increment q)) (D.state desk.old) (D.state desk.new) (arguments args.old) (arguments args.new)
+    ensures { Acts (goes (registers.increment q)) (D.state desk.old) (D.state desk.new) (arguments args.old)
+        (arguments args.new)
         (D.follows desk.old) (D.follows desk.new) result }
 {
     match args.level() {
@@ -130,7 +135,8 @@ pub(crate) fn set_text<D: Desk>(
     text: &[u8],
     args: &mut Args,
 ) -> Result<Next, Failure>
-    ensures { Acts (goes (registers.set_text q text.now)) (D.state desk.old) (D.state desk.new) (arguments args.old) (arguments args.new)
+    ensures { Acts (goes (registers.set_text q text.now)) (D.state desk.old) (D.state desk.new)
+        (arguments args.old) (arguments args.new)
         (D.follows desk.old) (D.follows desk.new) result }
 {
     takes_none(args)?;
@@ -142,7 +148,8 @@ pub(crate) fn set_text<D: Desk>(
 
 /// `nXq`: what n lines reach becomes the text of q, and with `m,nXq` the range.
 pub(crate) fn extract<D: Desk>(desk: &mut D, q: Reg, args: &mut Args) -> Result<Next, Failure>
-    ensures { Acts (goes (registers.extract q)) (D.state desk.old) (D.state desk.new) (arguments args.old) (arguments args.new)
+    ensures { Acts (goes (registers.extract q)) (D.state desk.old) (D.state desk.new) (arguments args.old)
+        (arguments args.new)
         (D.follows desk.old) (D.follows desk.new) result }
 {
     let range = takes_reach(desk, args)?;
@@ -156,7 +163,8 @@ pub(crate) fn extract<D: Desk>(desk: &mut D, q: Reg, args: &mut Args) -> Result<
 
 /// `[q` pushes what q holds. The arguments stay.
 pub(crate) fn push<D: Desk>(desk: &mut D, q: Reg, args: &Args) -> Result<Next, Failure>
-    ensures { Acts (goes (registers.push q)) (D.state desk.old) (D.state desk.new) (arguments args.now) (arguments args.now)
+    ensures { Acts (goes (registers.push q)) (D.state desk.old) (D.state desk.new) (arguments args.now)
+        (arguments args.now)
         (D.follows desk.old) (D.follows desk.new) result }
 {
     if desk.pushed().is_full() {
@@ -168,7 +176,8 @@ pub(crate) fn push<D: Desk>(desk: &mut D, q: Reg, args: &Args) -> Result<Next, F
 
 /// `]q` takes off what was pushed last, and puts it into q. The arguments stay.
 pub(crate) fn pop<D: Desk>(desk: &mut D, q: Reg, args: &Args) -> Result<Next, Failure>
-    ensures { Acts (goes (registers.pop q)) (D.state desk.old) (D.state desk.new) (arguments args.now) (arguments args.now)
+    ensures { Acts (goes (registers.pop q)) (D.state desk.old) (D.state desk.new) (arguments args.now)
+        (arguments args.now)
         (D.follows desk.old) (D.follows desk.new) result }
 {
     if desk.pushed().is_empty() {
@@ -185,7 +194,8 @@ fn type_text<D: Desk, T: Terminal>(
     args: &mut Args,
     term: &mut T,
 ) -> Result<Next, Failure>
-    ensures { Types (goes (registers.type_text q)) (D.state desk.now) (arguments args.old) (arguments args.new) (T.screen term.old) (T.screen term.new) result }
+    ensures { Types (goes (registers.type_text q)) (D.state desk.now) (arguments args.old)
+        (arguments args.new) (T.screen term.old) (T.screen term.new) result }
 {
     takes_none(args)?;
     show(desk, desk.registers().text(q), args, term)
@@ -193,7 +203,8 @@ fn type_text<D: Desk, T: Terminal>(
 
 /// `Gq` inserts the text of q.
 fn insert_text<D: Desk>(desk: &mut D, q: Reg, args: &mut Args) -> Result<Next, Failure>
-    ensures { Acts (goes (registers.insert_text q)) (D.state desk.old) (D.state desk.new) (arguments args.old) (arguments args.new)
+    ensures { Acts (goes (registers.insert_text q)) (D.state desk.old) (D.state desk.new) (arguments args.old)
+        (arguments args.new)
         (D.follows desk.old) (D.follows desk.new) result }
 {
     takes_none(args)?;
@@ -210,8 +221,10 @@ pub(crate) fn get<D: Desk, T: Terminal>(
     args: &mut Args,
     term: &mut T,
 ) -> Result<Next, Failure>
-    ensures { Does (goes (registers.get modifiers q)) (at (D.state desk.old) (arguments args.old) (T.screen term.old))
-        (at (D.state desk.new) (arguments args.new) (T.screen term.new)) (D.follows desk.old) (D.follows desk.new) result }
+    ensures { Does (goes (registers.get modifiers q))
+        (at (D.state desk.old) (arguments args.old) (T.screen term.old))
+        (at (D.state desk.new) (arguments args.new) (T.screen term.new)) (D.follows desk.old)
+        (D.follows desk.new) result }
 {
     if modifiers.colons == 1 {
         return type_text(desk, q, args, term);

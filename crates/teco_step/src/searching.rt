@@ -32,7 +32,8 @@ fn meant<'a, D: Desk>(desk: &'a D, text: &'a [u8]) -> &'a [u8]
 /// What a search looks for. No text, and none before it, is [`Code::Iss`]; a text that spells nothing is [`Code::Ice`].
 pub(crate) fn sought<D: Desk>(desk: &D, text: &[u8]) -> Result<Pattern, Failure>
     ensures ok { IfOk result (λ pattern. searching.sought text.now (D.state desk.now) ≡ Ok pattern) }
-    ensures err { IfErr result (λ failure. IsRefusal failure (searching.sought text.now (D.state desk.now)) ⊎ (failure ≡ Memory)) }
+    ensures err { IfErr result (λ failure. IsRefusal failure (searching.sought text.now (D.state desk.now))
+        ⊎ (failure ≡ Memory)) }
 {
     let meant = meant(desk, text);
     if meant.is_empty() {
@@ -59,8 +60,10 @@ fn takes_count(args: &Args) -> Result<i32, Failure>
 /// Where the nth occurrence of a text from the pointer begins and ends, if there is one.
 fn found<D: Desk>(desk: &D, text: &[u8], args: &Args) -> Result<Option<(usize, usize)>, Failure>
     ensures ok { IfOk result (λ m. searching.found text.now (D.state desk.now) (arguments args.now) ≡ Ok m) }
-    ensures err { IfErr result (λ failure. IsRefusal failure (searching.found text.now (D.state desk.now) (arguments args.now)) ⊎ (failure ≡ Memory)) }
-    ensures within { IfOk result (λ found. IfSome found (λ m. (m.0 ≤ m.1) × (m.1 ≤ length (D.state desk.now).text))) }
+    ensures err { IfErr result (λ failure. IsRefusal failure
+        (searching.found text.now (D.state desk.now) (arguments args.now)) ⊎ (failure ≡ Memory)) }
+    ensures within { IfOk result (λ found. IfSome found
+        (λ m. (m.0 ≤ m.1) × (m.1 ≤ length (D.state desk.now).text))) }
 {
     let n = takes_count(args)?;
     let pattern = sought(desk, text)?;
@@ -100,7 +103,8 @@ pub(crate) fn fail<D: Desk>(
     setting: Setting,
     args: &mut Args,
 ) -> Result<Next, Failure>
-    ensures { Acts (steers (searching.fails text.now setting)) (D.state desk.old) (D.state desk.new) (arguments args.old) (arguments args.new)
+    ensures { Acts (steers (searching.fails text.now setting)) (D.state desk.old) (D.state desk.new)
+        (arguments args.old) (arguments args.new)
         (D.follows desk.old) (D.follows desk.new) result }
 {
     desk.note_search(noted_text(text), false, 0)?;
@@ -120,7 +124,8 @@ pub(crate) fn succeed<D: Desk>(
     args: &mut Args,
 ) -> Result<Next, Failure>
     requires { end ≤ length (D.state desk.old).text }
-    ensures { Acts (steers (λ s _. searching.succeeds text.now setting end s)) (D.state desk.old) (D.state desk.new) (arguments args.old) (arguments args.new)
+    ensures { Acts (steers (λ s _. searching.succeeds text.now setting end s)) (D.state desk.old)
+        (D.state desk.new) (arguments args.old) (arguments args.new)
         (D.follows desk.old) (D.follows desk.new) result }
 {
     desk.note_search(noted_text(text), true, end)?;
@@ -135,7 +140,8 @@ fn search<D: Desk>(
     setting: Setting,
     args: &mut Args,
 ) -> Result<Next, Failure>
-    ensures { Acts (steers (searching.search text.now setting)) (D.state desk.old) (D.state desk.new) (arguments args.old) (arguments args.new)
+    ensures { Acts (steers (searching.search text.now setting)) (D.state desk.old) (D.state desk.new)
+        (arguments args.old) (arguments args.new)
         (D.follows desk.old) (D.follows desk.new) result }
 {
     let Some((_, end)) = found(desk, text, args)? else {
@@ -147,7 +153,8 @@ fn search<D: Desk>(
 /// Where the text ends that is at the pointer, if it is there.
 fn matched<D: Desk>(desk: &D, text: &[u8]) -> Result<Option<usize>, Failure>
     ensures ok { IfOk result (λ end. searching.matched text.now (D.state desk.now) ≡ Ok end) }
-    ensures err { IfErr result (λ failure. IsRefusal failure (searching.matched text.now (D.state desk.now)) ⊎ (failure ≡ Memory)) }
+    ensures err { IfErr result (λ failure. IsRefusal failure (searching.matched text.now (D.state desk.now))
+        ⊎ (failure ≡ Memory)) }
     ensures within { IfOk result (λ end. IfSome end (λ place. place ≤ length (D.state desk.now).text)) }
 {
     let pattern = sought(desk, text)?;
@@ -163,7 +170,8 @@ fn note<D: Desk>(
     args: &mut Args,
 ) -> Result<Next, Failure>
     requires { place ≤ length (D.state desk.old).text }
-    ensures { Acts (steers (λ s _. searching.notes text.now found place (searching.answer found) on s)) (D.state desk.old) (D.state desk.new) (arguments args.old) (arguments args.new)
+    ensures { Acts (steers (λ s _. searching.notes text.now found place (searching.answer found) on s))
+        (D.state desk.old) (D.state desk.new) (arguments args.old) (arguments args.new)
         (D.follows desk.old) (D.follows desk.new) result }
 {
     desk.note_search(noted_text(text), found, place)?;
@@ -173,7 +181,8 @@ fn note<D: Desk>(
 
 /// `::S` tells whether the text is at the pointer, and puts the pointer after it.
 fn compare<D: Desk>(desk: &mut D, text: &[u8], args: &mut Args) -> Result<Next, Failure>
-    ensures { Acts (steers (searching.compare text.now)) (D.state desk.old) (D.state desk.new) (arguments args.old) (arguments args.new)
+    ensures { Acts (steers (searching.compare text.now)) (D.state desk.old) (D.state desk.new)
+        (arguments args.old) (arguments args.new)
         (D.follows desk.old) (D.follows desk.new) result }
 {
     takes_none(args)?;
@@ -193,7 +202,8 @@ pub(crate) fn search_or_compare<D: Desk>(
     setting: Setting,
     args: &mut Args,
 ) -> Result<Next, Failure>
-    ensures { Acts (steers (searching.search_or_compare text.now setting)) (D.state desk.old) (D.state desk.new) (arguments args.old) (arguments args.new)
+    ensures { Acts (steers (searching.search_or_compare text.now setting)) (D.state desk.old)
+        (D.state desk.new) (arguments args.old) (arguments args.new)
         (D.follows desk.old) (D.follows desk.new) result }
 {
     if setting.modifiers.colons == 2 {
@@ -210,7 +220,8 @@ pub(crate) fn search_and_replace<D: Desk>(
     setting: Setting,
     args: &mut Args,
 ) -> Result<Next, Failure>
-    ensures { Acts (steers (searching.search_and_replace text.now bytes.now setting)) (D.state desk.old) (D.state desk.new) (arguments args.old) (arguments args.new)
+    ensures { Acts (steers (searching.search_and_replace text.now bytes.now setting)) (D.state desk.old)
+        (D.state desk.new) (arguments args.old) (arguments args.new)
         (D.follows desk.old) (D.follows desk.new) result }
 {
     let Some((start, end)) = found(desk, text, args)? else {

@@ -36,8 +36,10 @@ fn command_step<D: Desk, T: Terminal>(
     args: &mut Args,
     term: &mut T,
 ) -> Result<Next, Failure>
-    ensures { Does (command_effect command setting) (at (D.state desk.old) (arguments args.old) (T.screen term.old))
-        (at (D.state desk.new) (arguments args.new) (T.screen term.new)) (D.follows desk.old) (D.follows desk.new) result }
+    ensures { Does (command_effect command setting)
+        (at (D.state desk.old) (arguments args.old) (T.screen term.old))
+        (at (D.state desk.new) (arguments args.new) (T.screen term.new)) (D.follows desk.old)
+        (D.follows desk.new) result }
 {
     match command {
         Command::Jump => jump(desk, args),
@@ -68,8 +70,10 @@ fn bare_step<D: Desk, T: Terminal>(
     args: &mut Args,
     term: &mut T,
 ) -> Result<Next, Failure>
-    ensures does { Does (bare_effect bare setting) (at (D.state desk.old) (arguments args.old) (T.screen term.old))
-        (at (D.state desk.new) (arguments args.new) (T.screen term.new)) (D.follows desk.old) (D.follows desk.new) result }
+    ensures does { Does (bare_effect bare setting)
+        (at (D.state desk.old) (arguments args.old) (T.screen term.old))
+        (at (D.state desk.new) (arguments args.new) (T.screen term.new)) (D.follows desk.old)
+        (D.follows desk.new) result }
     ensures no_memory { takes_nothing (token.bare bare) ≡ true → result ≡ Err Memory → ⊥ }
 {
     match bare {
@@ -89,8 +93,10 @@ fn register_step<D: Desk, T: Terminal>(
     args: &mut Args,
     term: &mut T,
 ) -> Result<Next, Failure>
-    ensures does { Does (register_effect command q setting) (at (D.state desk.old) (arguments args.old) (T.screen term.old))
-        (at (D.state desk.new) (arguments args.new) (T.screen term.new)) (D.follows desk.old) (D.follows desk.new) result }
+    ensures does { Does (register_effect command q setting)
+        (at (D.state desk.old) (arguments args.old) (T.screen term.old))
+        (at (D.state desk.new) (arguments args.new) (T.screen term.new)) (D.follows desk.old)
+        (D.follows desk.new) result }
     ensures no_memory { takes_nothing (token.register command q) ≡ true → result ≡ Err Memory → ⊥ }
 {
     match command {
@@ -114,8 +120,10 @@ fn text_step<D: Desk, T: Terminal>(
     args: &mut Args,
     term: &mut T,
 ) -> Result<Next, Failure>
-    ensures { Does (text_effect command text.now setting) (at (D.state desk.old) (arguments args.old) (T.screen term.old))
-        (at (D.state desk.new) (arguments args.new) (T.screen term.new)) (D.follows desk.old) (D.follows desk.new) result }
+    ensures { Does (text_effect command text.now setting)
+        (at (D.state desk.old) (arguments args.old) (T.screen term.old))
+        (at (D.state desk.new) (arguments args.new) (T.screen term.new)) (D.follows desk.old)
+        (D.follows desk.new) result }
 {
     match command {
         TextCommand::Insert => insert(desk, text, args),
@@ -146,8 +154,10 @@ fn item_step<D: Desk, T: Terminal>(
     term: &mut T,
 ) -> Result<Next, Failure>
     requires { IsItemIn (length text.now) item }
-    ensures does { Does (item_effect (item_in text.now item) setting) (at (D.state desk.old) (arguments args.old) (T.screen term.old))
-        (at (D.state desk.new) (arguments args.new) (T.screen term.new)) (D.follows desk.old) (D.follows desk.new) result }
+    ensures does { Does (item_effect (item_in text.now item) setting)
+        (at (D.state desk.old) (arguments args.old) (T.screen term.old))
+        (at (D.state desk.new) (arguments args.new) (T.screen term.new)) (D.follows desk.old)
+        (D.follows desk.new) result }
     ensures no_memory { takes_nothing (item_in text.now item) ≡ true → result ≡ Err Memory → ⊥ }
 {
     match item {
@@ -181,10 +191,13 @@ pub fn step_token<D: Desk, T: Terminal>(
     term: &mut T,
 ) -> Next
     requires { IsStepIn text.now token.now }
-    ensures steps { Steps (token_effect text.now token.now work inside before (D.state desk.old) (arguments args.old)) (name_in text.now token.now)
-        (at (D.state desk.old) (arguments args.old) (T.screen term.old)) (at (D.state desk.new) (arguments args.new) (T.screen term.new)) result }
+    ensures steps { Steps (token_effect text.now token.now work inside before (D.state desk.old)
+        (arguments args.old)) (name_in text.now token.now)
+        (at (D.state desk.old) (arguments args.old) (T.screen term.old))
+        (at (D.state desk.new) (arguments args.new) (T.screen term.new)) result }
     ensures follows { (t : Trail) → D.follows desk.old t → D.follows desk.new
-        (trail_after result t (token_effect text.now token.now work inside before (D.state desk.old) (arguments args.old)).load) }
+        (trail_after result t (token_effect text.now token.now work inside before (D.state desk.old)
+        (arguments args.old)).load) }
     ensures no_memory { takes_nothing_in text.now token.now ≡ true → result ≡ Error Mem → ⊥ }
 {
     let setting = Setting {

@@ -187,7 +187,8 @@ pub(crate) fn place_in<D: Desk>(desk: &D, code: Code, place: i64) -> Result<usiz
 /// The place `n` characters after the pointer. One outside the text is refused by this code.
 pub(crate) fn place_after<D: Desk>(desk: &D, code: Code, n: i32) -> Result<usize, Failure>
     requires { is_unfinished_code code ≡ false }
-    ensures value { let s = D.state desk.now in Takes (λ p. p) result (step.place_or code s (pos s.pointer +ℤ n)) }
+    ensures value { let s = D.state desk.now in Takes (λ p. p) result
+        (step.place_or code s (pos s.pointer +ℤ n)) }
     ensures within { IfOk result (λ place. place ≤ length (D.state desk.now).text) }
 {
     place_in(desk, code, desk.pointer() as i64 + i64::from(n))
@@ -195,7 +196,8 @@ pub(crate) fn place_after<D: Desk>(desk: &D, code: Code, n: i32) -> Result<usize
 
 /// The place `n` characters before the pointer. One outside the text is [`Code::Pop`].
 pub(crate) fn place_before<D: Desk>(desk: &D, n: i32) -> Result<usize, Failure>
-    ensures value { let s = D.state desk.now in Takes (λ p. p) result (step.place_or Pop s (pos s.pointer -ℤ n)) }
+    ensures value { let s = D.state desk.now in Takes (λ p. p) result
+        (step.place_or Pop s (pos s.pointer -ℤ n)) }
     ensures within { IfOk result (λ place. place ≤ length (D.state desk.now).text) }
 {
     place_in(desk, Code::Pop, desk.pointer() as i64 - i64::from(n))
@@ -220,7 +222,8 @@ pub(crate) fn rising(one: usize, other: usize) -> Range<usize>
 
 /// What lies between the pointer and line `n`.
 fn lines<D: Desk>(desk: &D, n: i32) -> Range<usize>
-    ensures value { let s = D.state desk.now in range_of result ≡ step.rising s.pointer (line s.text s.pointer n) }
+    ensures value { let s = D.state desk.now in range_of result
+        ≡ step.rising s.pointer (line s.text s.pointer n) }
     ensures ordered { result.start ≤ result.end }
     ensures within { result.end ≤ length (D.state desk.now).text }
 {

@@ -38,7 +38,8 @@ fn put_range<T: Terminal>(
 ) -> Result<(), TerminalFault>
     requires ordered { range.start ≤ range.end }
     requires within { range.end ≤ length (before.now ++ after.now) }
-    ensures puts { Puts (T.screen term.old) (T.screen term.new) (drop range.start (take range.end (before.now ++ after.now))) result }
+    ensures puts { Puts (T.screen term.old) (T.screen term.new)
+        (drop range.start (take range.end (before.now ++ after.now))) result }
     ensures some { OnErr result (drop range.start (take range.end (before.now ++ after.now)) ≢ []) }
 {
     let (first, second) = part(before, after, range.start, range.end);
@@ -53,7 +54,8 @@ pub(crate) fn show<D: Desk, T: Terminal>(
     args: &mut Args,
     term: &mut T,
 ) -> Result<Next, Failure>
-    ensures { Types (goes (typing.shows bytes.now)) (D.state desk.now) (arguments args.old) (arguments args.new) (T.screen term.old) (T.screen term.new) result }
+    ensures { Types (goes (typing.shows bytes.now)) (D.state desk.now) (arguments args.old)
+        (arguments args.new) (T.screen term.old) (T.screen term.new) result }
 {
     put_some(bytes, term)?;
     args.clear();
@@ -66,7 +68,8 @@ pub(crate) fn type_out<D: Desk, T: Terminal>(
     args: &mut Args,
     term: &mut T,
 ) -> Result<Next, Failure>
-    ensures { Types (goes typing.type_out) (D.state desk.now) (arguments args.old) (arguments args.new) (T.screen term.old) (T.screen term.new) result }
+    ensures { Types (goes typing.type_out) (D.state desk.now) (arguments args.old) (arguments args.new)
+        (T.screen term.old) (T.screen term.new) result }
 {
     let range = takes_reach(desk, args)?;
     let (before, after) = desk.halves();
@@ -81,7 +84,8 @@ pub(crate) fn view<D: Desk, T: Terminal>(
     args: &mut Args,
     term: &mut T,
 ) -> Result<Next, Failure>
-    ensures { Types (goes typing.view) (D.state desk.now) (arguments args.old) (arguments args.new) (T.screen term.old) (T.screen term.new) result }
+    ensures { Types (goes typing.view) (D.state desk.now) (arguments args.old) (arguments args.new)
+        (T.screen term.old) (T.screen term.new) result }
 {
     takes_none(args)?;
     let range = line_around(desk);
@@ -98,7 +102,8 @@ pub(crate) fn type_text<D: Desk, T: Terminal>(
     args: &mut Args,
     term: &mut T,
 ) -> Result<Next, Failure>
-    ensures { Types (goes (typing.type_text text.now)) (D.state desk.now) (arguments args.old) (arguments args.new) (T.screen term.old) (T.screen term.new) result }
+    ensures { Types (goes (typing.type_text text.now)) (D.state desk.now) (arguments args.old)
+        (arguments args.new) (T.screen term.old) (T.screen term.new) result }
 {
     takes_none(args)?;
     show(desk, text, args, term)
@@ -110,7 +115,8 @@ pub(crate) fn type_byte<D: Desk, T: Terminal>(
     args: &mut Args,
     term: &mut T,
 ) -> Result<Next, Failure>
-    ensures { Types (goes typing.type_byte) (D.state desk.now) (arguments args.old) (arguments args.new) (T.screen term.old) (T.screen term.new) result }
+    ensures { Types (goes typing.type_byte) (D.state desk.now) (arguments args.old) (arguments args.new)
+        (T.screen term.old) (T.screen term.new) result }
 {
     let byte = as_byte(takes_one(args, Code::Arg)?)?;
     show(desk, &[byte], args, term)
@@ -138,7 +144,8 @@ fn put_line<T: Terminal>(
 
 /// Shows a number in decimal.
 fn put_number<T: Terminal>(n: i32, modifiers: Modifiers, term: &mut T) -> Result<(), TerminalFault>
-    ensures puts { Puts (T.screen term.old) (T.screen term.new) (typing.ended modifiers (signed_decimal n)) result }
+    ensures puts { Puts (T.screen term.old) (T.screen term.new)
+        (typing.ended modifiers (signed_decimal n)) result }
     ensures some { OnErr result (typing.ended modifiers (signed_decimal n) ≢ []) }
 {
     let mut buffer = Buffer::new();
@@ -152,7 +159,8 @@ pub(crate) fn print<D: Desk, T: Terminal>(
     args: &mut Args,
     term: &mut T,
 ) -> Result<Next, Failure>
-    ensures { Types (goes (typing.print modifiers)) (D.state desk.now) (arguments args.old) (arguments args.new) (T.screen term.old) (T.screen term.new) result }
+    ensures { Types (goes (typing.print modifiers)) (D.state desk.now) (arguments args.old)
+        (arguments args.new) (T.screen term.old) (T.screen term.new) result }
 {
     let n = takes_one(args, Code::Nae)?;
     put_number(n, modifiers, term)?;
@@ -188,7 +196,8 @@ fn word(n: i32) -> u32
 
 /// Shows a number in octal, by its 32 bits.
 fn put_octal<T: Terminal>(n: i32, modifiers: Modifiers, term: &mut T) -> Result<(), TerminalFault>
-    ensures puts { Puts (T.screen term.old) (T.screen term.new) (typing.ended modifiers (digits 8 false (to_word n))) result }
+    ensures puts { Puts (T.screen term.old) (T.screen term.new)
+        (typing.ended modifiers (digits 8 false (to_word n))) result }
     ensures some { OnErr result (typing.ended modifiers (digits 8 false (to_word n)) ≢ []) }
 {
     let mut bytes = [0; 64];
@@ -203,7 +212,8 @@ pub(crate) fn print_octal<D: Desk, T: Terminal>(
     args: &mut Args,
     term: &mut T,
 ) -> Result<Next, Failure>
-    ensures { Types (goes (typing.print_octal modifiers)) (D.state desk.now) (arguments args.old) (arguments args.new) (T.screen term.old) (T.screen term.new) result }
+    ensures { Types (goes (typing.print_octal modifiers)) (D.state desk.now) (arguments args.old)
+        (arguments args.new) (T.screen term.old) (T.screen term.new) result }
 {
     let n = takes_one(args, Code::Nae)?;
     put_octal(n, modifiers, term)?;

@@ -20,7 +20,8 @@ use teco_store::Desk;
 
 /// A run of digits gives its value.
 pub(crate) fn number<D: Desk>(desk: &D, digits: &[u8], args: &mut Args) -> Result<Next, Failure>
-    ensures does { Acts (goes (values.number digits.now)) (D.state desk.now) (D.state desk.now) (arguments args.old) (arguments args.new)
+    ensures does { Acts (goes (values.number digits.now)) (D.state desk.now) (D.state desk.now)
+        (arguments args.old) (arguments args.new)
         (D.follows desk.now) (D.follows desk.now) result }
     ensures no_memory { result ≡ Err Memory → ⊥ }
 {
@@ -47,7 +48,8 @@ pub(crate) fn quantity<D: Desk>(
     quantity: Quantity,
     args: &mut Args,
 ) -> Result<Next, Failure>
-    ensures does { Acts (goes (values.give_quantity quantity)) (D.state desk.now) (D.state desk.now) (arguments args.old) (arguments args.new)
+    ensures does { Acts (goes (values.give_quantity quantity)) (D.state desk.now) (D.state desk.now)
+        (arguments args.old) (arguments args.new)
         (D.follows desk.now) (D.follows desk.now) result }
     ensures no_memory { result ≡ Err Memory → ⊥ }
 {
@@ -57,7 +59,8 @@ pub(crate) fn quantity<D: Desk>(
 
 /// `^^` and a byte gives the byte's code.
 pub(crate) fn byte<D: Desk>(desk: &D, byte: u8, args: &mut Args) -> Result<Next, Failure>
-    ensures does { Acts (goes (values.give_byte byte)) (D.state desk.now) (D.state desk.now) (arguments args.old) (arguments args.new)
+    ensures does { Acts (goes (values.give_byte byte)) (D.state desk.now) (D.state desk.now)
+        (arguments args.old) (arguments args.new)
         (D.follows desk.now) (D.follows desk.now) result }
     ensures no_memory { result ≡ Err Memory → ⊥ }
 {
@@ -71,7 +74,8 @@ pub(crate) fn arithmetic<D: Desk>(
     arithmetic: Arithmetic,
     args: &mut Args,
 ) -> Result<Next, Failure>
-    ensures does { Acts (goes (values.build arithmetic)) (D.state desk.now) (D.state desk.now) (arguments args.old) (arguments args.new)
+    ensures does { Acts (goes (values.build arithmetic)) (D.state desk.now) (D.state desk.now)
+        (arguments args.old) (arguments args.new)
         (D.follows desk.now) (D.follows desk.now) result }
     ensures no_memory { result ≡ Err Memory → ⊥ }
 {
@@ -116,7 +120,8 @@ fn code_near<D: Desk>(desk: &D, n: i32) -> i32
 
 /// Gives the code of the character `n` after the pointer, in place of what the level has.
 fn give_code<D: Desk>(desk: &D, n: i32, args: &mut Args) -> Result<Next, Failure>
-    ensures does { Acts (goes (values.gives_code n)) (D.state desk.now) (D.state desk.now) (arguments args.old) (arguments args.new)
+    ensures does { Acts (goes (values.gives_code n)) (D.state desk.now) (D.state desk.now)
+        (arguments args.old) (arguments args.new)
         (D.follows desk.now) (D.follows desk.now) result }
     ensures no_memory { result ≡ Err Memory → ⊥ }
 {
@@ -127,7 +132,8 @@ fn give_code<D: Desk>(desk: &D, n: i32, args: &mut Args) -> Result<Next, Failure
 
 /// `nA` gives the code of a character. `A` without n reads a page.
 fn append<D: Desk>(desk: &mut D, args: &mut Args) -> Result<Next, Failure>
-    ensures { Acts (goes values.append) (D.state desk.old) (D.state desk.new) (arguments args.old) (arguments args.new)
+    ensures { Acts (goes values.append) (D.state desk.old) (D.state desk.new) (arguments args.old)
+        (arguments args.new)
         (D.follows desk.old) (D.follows desk.new) result }
 {
     match args.level() {
@@ -144,7 +150,8 @@ pub(crate) fn at_level<D: Desk>(
     command: LevelCommand,
     args: &mut Args,
 ) -> Result<Next, Failure>
-    ensures { Acts (goes (values.at_level command)) (D.state desk.old) (D.state desk.new) (arguments args.old) (arguments args.new)
+    ensures { Acts (goes (values.at_level command)) (D.state desk.old) (D.state desk.new) (arguments args.old)
+        (arguments args.new)
         (D.follows desk.old) (D.follows desk.new) result }
 {
     match command {

@@ -39,7 +39,8 @@ impl<S: Sink + Drop> WriterTerminal<S> {
 /// Writes the bytes and flushes. Where it fails, a beginning of them is written.
 fn write_flushed<S: Sink>(sink: &mut S, bytes: &[u8]) -> Result<(), TerminalFault>
     ensures ok { OnOk result (Appends (S.taken sink.old) (S.taken sink.new) bytes.now) }
-    ensures err { OnErr result ((front : List ℕ) × IsFrontOf front bytes.now × Appends (S.taken sink.old) (S.taken sink.new) front) }
+    ensures err { OnErr result ((front : List ℕ) × IsFrontOf front bytes.now
+        × Appends (S.taken sink.old) (S.taken sink.new) front) }
     ensures flushed { OnOk result (S.flushed sink.new ≡ S.taken sink.new) }
     ensures failures { Counts (S.failures sink.old) (S.failures sink.new) (is_err result) }
 {
@@ -61,9 +62,12 @@ impl<S: Sink + Drop> Terminal for WriterTerminal<S> {
     ghost screen = { λ terminal. record { shown = S.taken terminal.sink; failures = terminal.failures } };
 
     fn put(&mut self, bytes: &[u8]) -> Result<(), TerminalFault>
-        ensures puts { Puts (⟦<WriterTerminal<S> as Terminal>⟧.screen self.old) (⟦<WriterTerminal<S> as Terminal>⟧.screen self.new) bytes.now result }
-        ensures flushed { OnOk result (S.flushed (sink_of self.new) ≡ (⟦<WriterTerminal<S> as Terminal>⟧.screen self.new).shown) }
-        ensures failures { Counts (S.failures (sink_of self.old)) (S.failures (sink_of self.new)) (is_err result) }
+        ensures puts { Puts (⟦<WriterTerminal<S> as Terminal>⟧.screen self.old)
+            (⟦<WriterTerminal<S> as Terminal>⟧.screen self.new) bytes.now result }
+        ensures flushed { OnOk result (S.flushed (sink_of self.new)
+            ≡ (⟦<WriterTerminal<S> as Terminal>⟧.screen self.new).shown) }
+        ensures failures { Counts (S.failures (sink_of self.old)) (S.failures (sink_of self.new))
+            (is_err result) }
     {
         let written = write_flushed(&mut self.sink, bytes);
         if written.is_err() {
