@@ -1,10 +1,11 @@
 -- How the parts of a run make its end.
-use Rattle.std.proofs.Common.{◌≡◌, ◌≢◌, inl, inr, ℕ, List, Option, Bool, sym, ◌∙◌, subst}
+use Rattle.std.proofs.Common.{◌≡◌, ◌≢◌, ◌⊎◌, inl, inr, ℕ, List, Option, Bool, sym, ◌∙◌, subst}
 use Rattle.std.specs.String.{string_bytes}
 use Rattle.std.specs.declared.io.Error.{Error}
 use Rattle.teco.specs.Disk.{Files}
 use Rattle.teco.specs.Ending.{fate_without_input, output_of}
-use Rattle.teco.specs.Run.{Edits, EndsBy, FailsToWrite, Finishes, FinishesBy, IsFateOf, IsInput, KeepsDisk, LacksInput, ServesInput, WritesOutput}
+use Rattle.teco.specs.Seen.{DiskSeen}
+use Rattle.teco.specs.Run.{Edits, EndsBy, FailsToOpen, FailsToRead, FailsToWrite, Finishes, FinishesBy, IsFateOf, IsInput, KeepsDisk, LacksInput, ServesInput, WritesOutput}
 use Rattle.teco.specs.declared.ending.Fate.{Fate}
 use Rattle.teco.specs.declared.ending.Fate.TheVariants.{NoCommands, NoInput, LargeInput, NoMemory, NoOutput, Ended}
 use Rattle.teco.specs.declared.input.InputFault.{InputFault}
@@ -32,23 +33,23 @@ lacks_commands input.Read e = cc
 lacks_commands input.TooLarge e = cc
 lacks_commands input.Memory e = cc
 
-module _ {I : Type 0} {coming : I → Option (List ℕ)} {bound failures : I → ℕ} {files : Option Files} {name : List ℕ} {gave : Error → Type 0} where
+module _ {I : Type 0} (old new : DiskSeen I) (name : List ℕ) where
   -- no serving ends, and no writing fails, for want of the input
-  served_none : (served : Served) → LacksInput coming bound failures files name gave (Ended served) → ⊥
+  served_none : (served : Served) → LacksInput old new name (Ended served) → ⊥
   served_none served (inl opens) = no_other opens.fate_is (λ e. cc) (λ e. cc)
   served_none served (inr reads) = lacks_some served reads.fault reads.fate_is
 
-  written_none : LacksInput coming bound failures files name gave NoOutput → ⊥
+  written_none : LacksInput old new name NoOutput → ⊥
   written_none (inl opens) = no_other opens.fate_is (λ e. cc) (λ e. cc)
   written_none (inr reads) = lacks_output reads.fault reads.fate_is
 
-  commands_none : LacksInput coming bound failures files name gave NoCommands → ⊥
+  commands_none : LacksInput old new name NoCommands → ⊥
   commands_none (inl opens) = no_other opens.fate_is (λ e. cc) (λ e. cc)
   commands_none (inr reads) = lacks_commands reads.fault reads.fate_is
 
   lacks_by : (idle keeps : Type 0) (serves : Served → List ℕ → Type 0) (writes : List ℕ → Type 0) (fails : List ℕ → Fate → Type 0) (fate : Fate)
-      → LacksInput coming bound failures files name gave fate → idle → keeps
-      → EndsBy (LacksInput coming bound failures files name gave) idle keeps serves writes fails fate
+      → LacksInput old new name fate → idle → keeps
+      → EndsBy (LacksInput old new name) idle keeps serves writes fails fate
   lacks_by idle keeps serves writes fails NoCommands l i k = absurd (commands_none l)
   lacks_by idle keeps serves writes fails NoInput l i k = (l, i, k)
   lacks_by idle keeps serves writes fails LargeInput l i k = (l, i, k)
@@ -57,12 +58,12 @@ module _ {I : Type 0} {coming : I → Option (List ℕ)} {bound failures : I →
   lacks_by idle keeps serves writes fails (Ended served) l i k = absurd (served_none served l)
 
 -- without the input
-pub lacks_ends : {I : Type 0} {coming : I → Option (List ℕ)} {bound failures : I → ℕ} {line : Line} {old new : Option Files} {a c : Files → Type 0} {refused : Error → Type 0}
+pub lacks_ends : {I : Type 0} {line : Line} {old new : DiskSeen I}
     {idle : Type 0} {gave : List ℕ → Bool → Type 0} {at_end : Type 0} {showed : List ℕ → Bool → Type 0} {fate : Fate}
-    → LacksInput coming bound failures old (string_bytes line.input) refused fate → idle → KeepsDisk old new a c
-    → Edits line old new a c refused (LacksInput coming bound failures) idle gave at_end showed fate
-lacks_ends {line} {old} {new} {a} {c} {refused} {idle} {gave} {at_end} {showed} {fate} l i k = record {
-  ends = lacks_by idle (KeepsDisk old new a c) (ServesInput line (IsInput old (string_bytes line.input)) gave at_end showed) (WritesOutput old new a c (output_of line)) (FailsToWrite old new a c refused (output_of line)) fate l i k;
+    → LacksInput old new (string_bytes line.input) fate → idle → KeepsDisk old new
+    → Edits line old new idle gave at_end showed fate
+lacks_ends {line} {old} {new} {idle} {gave} {at_end} {showed} {fate} l i k = record {
+  ends = lacks_by old new (string_bytes line.input) idle (KeepsDisk old new) (ServesInput line (IsInput old.files (string_bytes line.input)) gave at_end showed) (WritesOutput old new (output_of line)) (FailsToWrite old new (output_of line)) fate l i k;
 }
 
 -- after a serving
@@ -85,18 +86,17 @@ finishes_by lacks idle keeps serves writes fails output served.ShowFault fate s 
 finishes_by lacks idle keeps serves writes fails output served.NoMemory fate s f = subst (EndsBy lacks idle keeps serves writes fails) (sym f.0) (output, s, f.1)
 
 -- The disk that is written to is as it was before the input was read.
-module _ {old mid : Option Files} {a b : Files → Type 0} (kept : KeepsDisk old mid a b) where
-  keeps_after : {new : Option Files} {c : Files → Type 0} → KeepsDisk mid new b c → KeepsDisk old new a c
+module _ {I : Type 0} {old mid : DiskSeen I} (kept : KeepsDisk old mid) where
+  keeps_after : {new : DiskSeen I} → KeepsDisk mid new → KeepsDisk old new
   keeps_after k = record { files = k.files ∙ kept.files; moments = λ files left. kept.moments files (k.moments files left) }
 
-  writes_after : {new : Option Files} {c : Files → Type 0} {name output : List ℕ} → WritesOutput mid new b c name output → WritesOutput old new a c name output
+  writes_after : {new : DiskSeen I} {name output : List ℕ} → WritesOutput mid new name output → WritesOutput old new name output
   writes_after w = record {
     files = λ before told. w.files before (kept.files ∙ told);
     moments = λ before told files left. elim (w.moments before (kept.files ∙ told) files left) [ inl was ↦ inl (kept.moments files was) | inr now ↦ inr now ];
   }
 
-  fails_after : {new : Option Files} {c : Files → Type 0} {gave : Error → Type 0} {name output : List ℕ} {fate : Fate}
-      → FailsToWrite mid new b c gave name output fate → FailsToWrite old new a c gave name output fate
+  fails_after : {new : DiskSeen I} {name output : List ℕ} {fate : Fate} → FailsToWrite mid new name output fate → FailsToWrite old new name output fate
   fails_after f = record {
     files = λ before told. f.files before (kept.files ∙ told);
     moments = λ before told files left. elim (f.moments before (kept.files ∙ told) files left) [ inl was ↦ inl (kept.moments files was) | inr now ↦ inr now ];
@@ -105,8 +105,8 @@ module _ {old mid : Option Files} {a b : Files → Type 0} (kept : KeepsDisk old
     fate_is = f.fate_is;
   }
 
-  pub finishes_after : {new : Option Files} {c : Files → Type 0} {gave : Error → Type 0} {name output : List ℕ} (served : Served) (fate : Fate)
-      → Finishes mid new b c gave name output served fate → Finishes old new a c gave name output served fate
+  pub finishes_after : {new : DiskSeen I} {name output : List ℕ} (served : Served) (fate : Fate)
+      → Finishes mid new name output served fate → Finishes old new name output served fate
   finishes_after served.Exit NoCommands f = record { ends = absurd f.ends }
   finishes_after served.Exit NoInput f = record { ends = absurd f.ends }
   finishes_after served.Exit LargeInput f = record { ends = absurd f.ends }
@@ -123,36 +123,36 @@ module _ {old mid : Option Files} {a b : Files → Type 0} (kept : KeepsDisk old
   finishes_after served.NoMemory fate f = record { ends = (f.ends.0, keeps_after f.ends.1) }
 
 -- The same of a whole run, whose commands were opened on the disk before.
-edits_by : {old mid : Option Files} {a b : Files → Type 0} (new : Option Files) (c : Files → Type 0) (refused : Error → Type 0) (name : List ℕ) (kept : KeepsDisk old mid a b) (lacks : Fate → Type 0) (idle : Type 0)
+edits_by : {I : Type 0} {old mid : DiskSeen I} (new : DiskSeen I) (name : List ℕ) (kept : KeepsDisk old mid) (lacks : Fate → Type 0) (idle : Type 0)
     (serves : Served → List ℕ → Type 0) (fate : Fate)
-    → EndsBy lacks idle (KeepsDisk mid new b c) serves (WritesOutput mid new b c name) (FailsToWrite mid new b c refused name) fate
-    → EndsBy lacks idle (KeepsDisk old new a c) serves (WritesOutput old new a c name) (FailsToWrite old new a c refused name) fate
-edits_by new c refused name kept lacks idle serves NoCommands e = e
-edits_by new c refused name kept lacks idle serves NoInput e = (e.0, e.1, keeps_after kept e.2)
-edits_by new c refused name kept lacks idle serves LargeInput e = (e.0, e.1, keeps_after kept e.2)
-edits_by new c refused name kept lacks idle serves NoMemory (inl e) = inl (e.0, keeps_after kept e.1)
-edits_by new c refused name kept lacks idle serves NoMemory (inr e) = inr (e.0, e.1, fails_after kept e.2)
-edits_by new c refused name kept lacks idle serves NoOutput e = (e.0, e.1, fails_after kept e.2)
-edits_by new c refused name kept lacks idle serves (Ended served.Exit) e = (e.0, e.1, writes_after kept e.2)
-edits_by new c refused name kept lacks idle serves (Ended served.EndOfCommands) e = (e.0, e.1, keeps_after kept e.2)
-edits_by new c refused name kept lacks idle serves (Ended served.ReadFault) e = (e.0, e.1, keeps_after kept e.2)
-edits_by new c refused name kept lacks idle serves (Ended served.ShowFault) e = (e.0, e.1, keeps_after kept e.2)
-edits_by new c refused name kept lacks idle serves (Ended served.NoMemory) e = (e.0, e.1, keeps_after kept e.2)
+    → EndsBy lacks idle (KeepsDisk mid new) serves (WritesOutput mid new name) (FailsToWrite mid new name) fate
+    → EndsBy lacks idle (KeepsDisk old new) serves (WritesOutput old new name) (FailsToWrite old new name) fate
+edits_by new name kept lacks idle serves NoCommands e = e
+edits_by new name kept lacks idle serves NoInput e = (e.0, e.1, keeps_after kept e.2)
+edits_by new name kept lacks idle serves LargeInput e = (e.0, e.1, keeps_after kept e.2)
+edits_by new name kept lacks idle serves NoMemory (inl e) = inl (e.0, keeps_after kept e.1)
+edits_by new name kept lacks idle serves NoMemory (inr e) = inr (e.0, e.1, fails_after kept e.2)
+edits_by new name kept lacks idle serves NoOutput e = (e.0, e.1, fails_after kept e.2)
+edits_by new name kept lacks idle serves (Ended served.Exit) e = (e.0, e.1, writes_after kept e.2)
+edits_by new name kept lacks idle serves (Ended served.EndOfCommands) e = (e.0, e.1, keeps_after kept e.2)
+edits_by new name kept lacks idle serves (Ended served.ReadFault) e = (e.0, e.1, keeps_after kept e.2)
+edits_by new name kept lacks idle serves (Ended served.ShowFault) e = (e.0, e.1, keeps_after kept e.2)
+edits_by new name kept lacks idle serves (Ended served.NoMemory) e = (e.0, e.1, keeps_after kept e.2)
 
-pub edits_after : {line : Line} {old mid new : Option Files} {a b c : Files → Type 0} {refused : Error → Type 0} {lacks : Option Files → List ℕ → (Error → Type 0) → Fate → Type 0} {idle : Type 0}
-    {gave : List ℕ → Bool → Type 0} {at_end : Type 0} {showed : List ℕ → Bool → Type 0} {fate : Fate} (kept : KeepsDisk old mid a b)
-    → Edits line mid new b c refused lacks idle gave at_end showed fate → Edits line old new a c refused lacks idle gave at_end showed fate
-edits_after {line} {old} {mid} {new} {a} {b} {c} {refused} {lacks} {idle} {gave} {at_end} {showed} {fate} kept e = record {
-  ends = subst (λ files. EndsBy (lacks files (string_bytes line.input) refused) idle (KeepsDisk old new a c) (ServesInput line (IsInput files (string_bytes line.input)) gave at_end showed)
-      (WritesOutput old new a c (output_of line)) (FailsToWrite old new a c refused (output_of line)) fate) kept.files
-      (edits_by new c refused (output_of line) kept (lacks mid (string_bytes line.input) refused) idle (ServesInput line (IsInput mid (string_bytes line.input)) gave at_end showed) fate e.ends);
+pub edits_after : {I : Type 0} {line : Line} {old mid new : DiskSeen I} {idle : Type 0}
+    {gave : List ℕ → Bool → Type 0} {at_end : Type 0} {showed : List ℕ → Bool → Type 0} {fate : Fate} (kept : KeepsDisk old mid)
+    → Edits line mid new idle gave at_end showed fate → Edits line old new idle gave at_end showed fate
+edits_after {line} {old} {mid} {new} {idle} {gave} {at_end} {showed} {fate} kept e = record {
+  ends = subst (λ files. EndsBy (λ fate. FailsToOpen new.gave fate ⊎ FailsToRead new.input files (string_bytes line.input) fate) idle (KeepsDisk old new) (ServesInput line (IsInput files (string_bytes line.input)) gave at_end showed)
+      (WritesOutput old new (output_of line)) (FailsToWrite old new (output_of line)) fate) kept.files
+      (edits_by new (output_of line) kept (LacksInput mid new (string_bytes line.input)) idle (ServesInput line (IsInput mid.files (string_bytes line.input)) gave at_end showed) fate e.ends);
 }
 
-pub finishes_ends : {line : Line} {old new : Option Files} {a c : Files → Type 0} {refused : Error → Type 0} {lacks : Option Files → List ℕ → (Error → Type 0) → Fate → Type 0} {idle : Type 0}
+pub finishes_ends : {I : Type 0} {line : Line} {old new : DiskSeen I} {idle : Type 0}
     {gave : List ℕ → Bool → Type 0} {at_end : Type 0} {showed : List ℕ → Bool → Type 0} {name output : List ℕ} {served : Served} {fate : Fate}
-    → name ≡ output_of line → ServesInput line (IsInput old (string_bytes line.input)) gave at_end showed served output → Finishes old new a c refused name output served fate
-    → Edits line old new a c refused lacks idle gave at_end showed fate
-finishes_ends {line} {old} {new} {a} {c} {refused} {lacks} {idle} {gave} {at_end} {showed} {name} {output} {served} {fate} named s f = record {
-  ends = subst (λ n. EndsBy (lacks old (string_bytes line.input) refused) idle (KeepsDisk old new a c) (ServesInput line (IsInput old (string_bytes line.input)) gave at_end showed) (WritesOutput old new a c n) (FailsToWrite old new a c refused n) fate) named
-      (finishes_by (lacks old (string_bytes line.input) refused) idle (KeepsDisk old new a c) (ServesInput line (IsInput old (string_bytes line.input)) gave at_end showed) (WritesOutput old new a c name) (FailsToWrite old new a c refused name) output served fate s f.ends);
+    → name ≡ output_of line → ServesInput line (IsInput old.files (string_bytes line.input)) gave at_end showed served output → Finishes old new name output served fate
+    → Edits line old new idle gave at_end showed fate
+finishes_ends {line} {old} {new} {idle} {gave} {at_end} {showed} {name} {output} {served} {fate} named s f = record {
+  ends = subst (λ n. EndsBy (LacksInput old new (string_bytes line.input)) idle (KeepsDisk old new) (ServesInput line (IsInput old.files (string_bytes line.input)) gave at_end showed) (WritesOutput old new n) (FailsToWrite old new n) fate) named
+      (finishes_by (LacksInput old new (string_bytes line.input)) idle (KeepsDisk old new) (ServesInput line (IsInput old.files (string_bytes line.input)) gave at_end showed) (WritesOutput old new name) (FailsToWrite old new name) output served fate s f.ends);
 }

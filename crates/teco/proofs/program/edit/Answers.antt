@@ -1,6 +1,7 @@
 use Rattle.std.proofs.Common.{◌∙◌, ap, refl, subst}
 use Rattle.teco_session.specs.Kept.{history_of}
 use Rattle.teco.specs.Run.{IsInput, LacksInput, ServesInput}
+use Rattle.teco.specs.Seen.{disk_seen, source_view}
 use Rattle.teco.specs.Source.{Gives, HasEnded}
 use Rattle.teco_step.specs.Terminal.{Shows}
 use Rattle.std.specs.String.{string_bytes}
@@ -9,7 +10,9 @@ use Rattle.teco.proofs.program.edit.Goals as goal
 
 pub returns-in-Err : goal.returns-in-Err
 returns-in-Err g c =
-    let lacks = subst (λ name. LacksInput g.D.Input.Source.coming g.D.Input.Source.bound g.D.Input.Source.failures (g.D.Disk.files c.args.disk.now) name (g.D.Disk.gave c.input_of.new.disk) c.in-Err.fate)
+    let seen = disk_seen g.D.Disk.files g.D.Disk.left g.D.Disk.gave
+    (source_view g.D.Input.Source.coming g.D.Input.Source.bound g.D.Input.Source.failures g.D.Input.Source.ended) in
+    let lacks = subst (λ name. LacksInput (seen c.args.disk.now) (seen c.input_of.new.disk) name c.in-Err.fate)
     c.as_str.ensures.value c.in-Err.ensures.fault in
     lacks_ends lacks (refl, refl) c.in-Err.ensures.keeps
 
