@@ -1,7 +1,9 @@
--- What a run sees of its disk.
-use Rattle.std.specs.Prelude.{ℕ, List, Option, Bool}
+-- What a run sees of its disk, its commands and its terminal.
+use Rattle.std.specs.Prelude.{◌≡◌, ℕ, List, Option, Bool}
 use Rattle.std.specs.declared.io.Error.{Error}
 use Rattle.teco.specs.Disk.{Files}
+use Rattle.teco.specs.Source.{Gives, HasEnded}
+use Rattle.teco_step.specs.Terminal.{Screen, Shows}
 
 -- how a source is seen at each of its states
 pub record SourceView (S : Type 0) : Type 0 where
@@ -30,3 +32,29 @@ pub record DiskSeen (I : Type 0) : Type 1 where
 
 abbrev pub disk_seen : {D I : Type 0} → (D → Option Files) → (D → Files → Type 0) → (D → Error → Type 0) → SourceView I → D → DiskSeen I
 disk_seen files left gave input disk = record { files = files disk; left = left disk; gave = gave disk; input = input }
+
+-- what is seen of the commands of a run
+pub record CommandsSeen : Type 1 where
+  -- nothing was read of them
+  pub still : Type 0
+  -- which bytes their source gave, and whether a read failed
+  pub gave : List ℕ → Bool → Type 0
+  -- their source has ended
+  pub ended : Type 0
+
+abbrev pub commands_seen : {S : Type 0} → SourceView S → S → S → CommandsSeen
+commands_seen source old new = record {
+  still = new ≡ old;
+  gave = Gives source.coming source.bound source.failures old new;
+  ended = HasEnded (source.coming new) (source.ended new);
+}
+
+-- what is seen of the terminal of a run
+pub record TerminalSeen : Type 1 where
+  -- nothing was put on it
+  pub still : Type 0
+  -- which bytes it showed, and whether a put failed
+  pub showed : List ℕ → Bool → Type 0
+
+abbrev pub terminal_seen : {T : Type 0} → (T → Screen) → T → T → TerminalSeen
+terminal_seen screen old new = record { still = new ≡ old; showed = Shows (screen old) (screen new) }

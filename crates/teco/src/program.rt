@@ -6,7 +6,7 @@ ghost use Rattle.teco.specs.CommandLine.{IsDepth};
 ghost use Rattle.teco.specs.Disk.{Opens};
 ghost use Rattle.teco.specs.Ending.{said};
 ghost use Rattle.teco.specs.Run.{Concludes, Edits, EditsByFile, EditsByLine, EditsByWord, Finishes, IsFateOf, IsFaultIn, IsInput, IsLineIn, IsRefusedBy, KeepsDisk, LacksInput, Refuses, RunsOn, RunsOver, Tells};
-ghost use Rattle.teco.specs.Seen.{disk_seen, source_view};
+ghost use Rattle.teco.specs.Seen.{CommandsSeen, commands_seen, disk_seen, source_view, terminal_seen};
 ghost use Rattle.teco.specs.Serving.{Serves};
 ghost use Rattle.teco.specs.Source.{Gives, HasEnded};
 ghost use Rattle.teco_core.specs.declared.limits.TheConstants.{FILE_LIMIT};
@@ -133,10 +133,8 @@ fn edit<S: Source, T: Terminal, D: Disk>(
     ensures { let seen = disk_seen D.files D.left D.gave
         (source_view D.Input.coming D.Input.bound D.Input.failures D.Input.ended) in
         Edits line.now (seen disk.old) (seen disk.new)
-        ((commands.new ≡ commands.old) × (term.new ≡ term.old))
-        (Gives S.coming S.bound S.failures commands.old commands.new)
-        (HasEnded (S.coming commands.new) (S.ended commands.new))
-        (Shows (T.screen term.old) (T.screen term.new)) result }
+        (commands_seen (source_view S.coming S.bound S.failures S.ended) commands.old commands.new)
+        (terminal_seen T.screen term.old term.new) result }
 {
     let input = match input_of(alloc, line.input.as_str(), disk) {
         Ok(input) => input,
@@ -174,8 +172,8 @@ fn edit_by_word<T: Terminal, D: Disk>(
         ⟦<MemorySource as Source>⟧.failures ⟦<MemorySource as Source>⟧.ended in
         EditsByWord ((term.new ≡ term.old) × KeepsDisk (seen disk.old) (seen disk.new))
         (λ bytes. RunsOn word_view (λ coming. coming ≡ Some bytes)
-        (λ still gave at_end. Edits line.now (seen disk.old) (seen disk.new) (still × (term.new ≡ term.old))
-        gave at_end (Shows (T.screen term.old) (T.screen term.new)) result))
+        (λ given. Edits line.now (seen disk.old) (seen disk.new) given
+        (terminal_seen T.screen term.old term.new) result))
         result word.now }
 {
     let Ok(bytes) = commands_in(alloc, word) else {
@@ -200,8 +198,8 @@ fn edit_by_file<T: Terminal, D: Disk>(
         EditsByFile (D.gave disk.new)
         ((term.new ≡ term.old) × KeepsDisk (seen disk.old) (seen disk.new))
         (λ name. RunsOn (seen disk.old).input (Opens (D.files disk.old) name)
-        (λ still gave at_end. Edits line.now (seen disk.old) (seen disk.new) (still × (term.new ≡ term.old))
-        gave at_end (Shows (T.screen term.old) (T.screen term.new)) result))
+        (λ given. Edits line.now (seen disk.old) (seen disk.new) given
+        (terminal_seen T.screen term.old term.new) result))
         result name.now }
 {
     match disk.open(name) {
@@ -224,13 +222,11 @@ fn edit_by_line<S: Source, T: Terminal, D: Disk>(
         (source_view D.Input.coming D.Input.bound D.Input.failures D.Input.ended) in
         let word_view = source_view ⟦<MemorySource as Source>⟧.coming ⟦<MemorySource as Source>⟧.bound
         ⟦<MemorySource as Source>⟧.failures ⟦<MemorySource as Source>⟧.ended in
-        let edits : Type 0 → (List ℕ → Bool → Type 0) → Type 0 → Type 0 = λ still gave at_end.
-        Edits line.now (seen disk.old) (seen disk.new) (still × (term.new ≡ term.old))
-        gave at_end (Shows (T.screen term.old) (T.screen term.new)) result in
+        let edits : CommandsSeen → Type 0 = λ given. Edits line.now (seen disk.old) (seen disk.new)
+        given (terminal_seen T.screen term.old term.new) result in
         let idle : Type 0 = (term.new ≡ term.old) × KeepsDisk (seen disk.old) (seen disk.new) in
         EditsByLine line.now (commands.new ≡ commands.old)
-        (edits (commands.new ≡ commands.old) (Gives S.coming S.bound S.failures commands.old commands.new)
-        (HasEnded (S.coming commands.new) (S.ended commands.new)))
+        (edits (commands_seen (source_view S.coming S.bound S.failures S.ended) commands.old commands.new))
         (EditsByWord idle (λ bytes. RunsOn word_view (λ coming. coming ≡ Some bytes) edits) result)
         (EditsByFile (D.gave disk.new) idle
         (λ name. RunsOn (seen disk.old).input (Opens (D.files disk.old) name) edits) result) }
@@ -327,13 +323,11 @@ pub fn program<S: Source, T: Terminal, E: Terminal, D: Disk>(
         (source_view D.Input.coming D.Input.bound D.Input.failures D.Input.ended) in
         let word_view = source_view ⟦<MemorySource as Source>⟧.coming ⟦<MemorySource as Source>⟧.bound
         ⟦<MemorySource as Source>⟧.failures ⟦<MemorySource as Source>⟧.ended in
-        let edits : Type 0 → (List ℕ → Bool → Type 0) → Type 0 → Type 0 = λ still gave at_end.
-        Edits line (seen disk.old) (seen disk.new) (still × (term.new ≡ term.old))
-        gave at_end (Shows (T.screen term.old) (T.screen term.new)) fate in
+        let edits : CommandsSeen → Type 0 = λ given. Edits line (seen disk.old) (seen disk.new)
+        given (terminal_seen T.screen term.old term.new) fate in
         let idle : Type 0 = (term.new ≡ term.old) × KeepsDisk (seen disk.old) (seen disk.new) in
         EditsByLine line (commands.new ≡ commands.old)
-        (edits (commands.new ≡ commands.old) (Gives S.coming S.bound S.failures commands.old commands.new)
-        (HasEnded (S.coming commands.new) (S.ended commands.new)))
+        (edits (commands_seen (source_view S.coming S.bound S.failures S.ended) commands.old commands.new))
         (EditsByWord idle (λ bytes. RunsOn word_view (λ coming. coming ≡ Some bytes) edits) fate)
         (EditsByFile (D.gave disk.new) idle
         (λ name. RunsOn (seen disk.old).input (Opens (D.files disk.old) name) edits) fate))

@@ -1,9 +1,7 @@
 use Rattle.std.proofs.Common.{◌∙◌, ap, refl, subst}
 use Rattle.teco_session.specs.Kept.{history_of}
 use Rattle.teco.specs.Run.{IsInput, LacksInput, ServesInput}
-use Rattle.teco.specs.Seen.{disk_seen, source_view}
-use Rattle.teco.specs.Source.{Gives, HasEnded}
-use Rattle.teco_step.specs.Terminal.{Shows}
+use Rattle.teco.specs.Seen.{commands_seen, disk_seen, source_view, terminal_seen}
 use Rattle.std.specs.String.{string_bytes}
 use Rattle.teco.proofs.Runs.{finishes_after, finishes_ends, lacks_ends}
 use Rattle.teco.proofs.program.edit.Goals as goal
@@ -19,9 +17,8 @@ returns-in-Err g c =
 pub returns : goal.returns
 returns g c =
     let serves : ServesInput c.args.line.now (IsInput (g.D.Disk.files c.args.disk.now) (string_bytes c.args.line.now.input))
-    (Gives g.S.Source.coming g.S.Source.bound g.S.Source.failures c.args.commands.now c.serve_over.new.commands)
-    (HasEnded (g.S.Source.coming c.serve_over.new.commands) (g.S.Source.ended c.serve_over.new.commands))
-    (Shows (g.T.Terminal.screen c.args.term.now) (g.T.Terminal.screen c.serve_over.new.term))
+    (commands_seen (source_view g.S.Source.coming g.S.Source.bound g.S.Source.failures g.S.Source.ended) c.args.commands.now c.serve_over.new.commands)
+    (terminal_seen g.T.Terminal.screen c.args.term.now c.serve_over.new.term)
     c.in-Ok-serve_over.served c.output.result.now = record {
       input = c.in-Ok.input.items;
       input_is = subst (λ n. IsInput (g.D.Disk.files c.args.disk.now) n c.in-Ok.input.items) c.as_str.ensures.value c.in-Ok.ensures.input;
