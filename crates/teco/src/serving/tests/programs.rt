@@ -30,8 +30,11 @@ pub(super) const NUMBER: &str =
 and types how many lines there are.
   teco FILE --output OUT < examples/number.tec
 The pages are kept, and their lines are counted through.!
-0UN
-Y <J <.-Z; .UB %N\ 9I$ QB+7-.UD QBJ QD<32I$> L> -1-^N; P>
+0UN 9UT ^US     $                           !S is put before each number up to T!
+Y <J
+  <.-Z; QT-QN"E QT*10+9UT :QS"N .UB GS -D QB,.XS QB,.K' '
+    QT-QN<.-Z; GS %N\ 9I$ L>>
+-1-^N; P>
 QN= EX$$
 "#;
 
@@ -65,11 +68,11 @@ EX$$
 pub(super) const SWAP: &str =
     r#"!swap.tec: swaps the first two columns of a comma-separated file; a line without a comma stays.
   teco FILE --output OUT < examples/swap.tec!
-@^UF/<.-Z; 0A-44"E 0;' 0A-10"E 0;' C>/      !F goes to the next comma or the end of the line!
 Y <J
-  <.-Z; .UB MF 0A-44"N Onext$ '
-    QB,.XA QB,.+1K                          !A is the first column, with its comma taken off!
-    MF I,$ GA !next! L>
+  <:S,$; .UC 0L .UB QB,QC-1XA QB,QCK        !A is the first column; it goes, and its comma too!
+    L .UE -A-10"E QE-1UE'                   !the second column ends where the line does, or at a comma!
+    QBJ :S,$"S .-1-QE"L .-1UE' '
+    QEJ I,$ GA L>
 -1-^N; P>
 EX$$
 "#;
