@@ -1,10 +1,11 @@
 -- How the parts of a run make its end.
-use Rattle.std.proofs.Common.{◌≡◌, ◌≢◌, inl, inr, ℕ, List, Option, Bool, sym, ◌∙◌, subst}
+use Rattle.std.proofs.Common.{◌≡◌, ◌≢◌, ◌⊎◌, inl, inr, ℕ, List, Option, sym, ◌∙◌, subst}
 use Rattle.std.specs.String.{string_bytes}
 use Rattle.std.specs.declared.io.Error.{Error}
 use Rattle.teco.specs.Disk.{Files}
 use Rattle.teco.specs.Ending.{fate_without_input, output_of}
-use Rattle.teco.specs.Run.{Edits, EndsBy, FailsToWrite, Finishes, FinishesBy, IsFateOf, IsInput, KeepsDisk, LacksInput, ServesInput, WritesOutput}
+use Rattle.teco.specs.Seen.{CommandsSeen, DiskSeen, TerminalSeen}
+use Rattle.teco.specs.Run.{Doings, Edits, EndsBy, FailsToOpen, FailsToRead, FailsToWrite, Finishes, FinishesBy, IsFateOf, IsInput, KeepsDisk, LacksInput, ServesInput, WritesOutput, doings}
 use Rattle.teco.specs.declared.ending.Fate.{Fate}
 use Rattle.teco.specs.declared.ending.Fate.TheVariants.{NoCommands, NoInput, LargeInput, NoMemory, NoOutput, Ended}
 use Rattle.teco.specs.declared.input.InputFault.{InputFault}
@@ -32,71 +33,63 @@ lacks_commands input.Read e = cc
 lacks_commands input.TooLarge e = cc
 lacks_commands input.Memory e = cc
 
-module _ {I : Type 0} {coming : I → Option (List ℕ)} {bound failures : I → ℕ} {files : Option Files} {name : List ℕ} {gave : Error → Type 0} where
+module _ {I : Type 0} (old new : DiskSeen I) (name : List ℕ) where
   -- no serving ends, and no writing fails, for want of the input
-  served_none : (served : Served) → LacksInput coming bound failures files name gave (Ended served) → ⊥
+  served_none : (served : Served) → LacksInput old new name (Ended served) → ⊥
   served_none served (inl opens) = no_other opens.fate_is (λ e. cc) (λ e. cc)
   served_none served (inr reads) = lacks_some served reads.fault reads.fate_is
 
-  written_none : LacksInput coming bound failures files name gave NoOutput → ⊥
+  written_none : LacksInput old new name NoOutput → ⊥
   written_none (inl opens) = no_other opens.fate_is (λ e. cc) (λ e. cc)
   written_none (inr reads) = lacks_output reads.fault reads.fate_is
 
-  commands_none : LacksInput coming bound failures files name gave NoCommands → ⊥
+  commands_none : LacksInput old new name NoCommands → ⊥
   commands_none (inl opens) = no_other opens.fate_is (λ e. cc) (λ e. cc)
   commands_none (inr reads) = lacks_commands reads.fault reads.fate_is
 
-  lacks_by : (idle keeps : Type 0) (serves : Served → List ℕ → Type 0) (writes : List ℕ → Type 0) (fails : List ℕ → Fate → Type 0) (fate : Fate)
-      → LacksInput coming bound failures files name gave fate → idle → keeps
-      → EndsBy (LacksInput coming bound failures files name gave) idle keeps serves writes fails fate
-  lacks_by idle keeps serves writes fails NoCommands l i k = absurd (commands_none l)
-  lacks_by idle keeps serves writes fails NoInput l i k = (l, i, k)
-  lacks_by idle keeps serves writes fails LargeInput l i k = (l, i, k)
-  lacks_by idle keeps serves writes fails NoMemory l i k = inl (i, k)
-  lacks_by idle keeps serves writes fails NoOutput l i k = absurd (written_none l)
-  lacks_by idle keeps serves writes fails (Ended served) l i k = absurd (served_none served l)
+  lacks_by : (run : Doings) (fate : Fate) → LacksInput old new name fate → run.idle → run.keeps → EndsBy (record run { lacks = LacksInput old new name }) fate
+  lacks_by run NoCommands l i k = absurd (commands_none l)
+  lacks_by run NoInput l i k = (l, i, k)
+  lacks_by run LargeInput l i k = (l, i, k)
+  lacks_by run NoMemory l i k = inl (i, k)
+  lacks_by run NoOutput l i k = absurd (written_none l)
+  lacks_by run (Ended served) l i k = absurd (served_none served l)
 
 -- without the input
-pub lacks_ends : {I : Type 0} {coming : I → Option (List ℕ)} {bound failures : I → ℕ} {line : Line} {old new : Option Files} {a c : Files → Type 0} {refused : Error → Type 0}
-    {idle : Type 0} {gave : List ℕ → Bool → Type 0} {at_end : Type 0} {showed : List ℕ → Bool → Type 0} {fate : Fate}
-    → LacksInput coming bound failures old (string_bytes line.input) refused fate → idle → KeepsDisk old new a c
-    → Edits line old new a c refused (LacksInput coming bound failures) idle gave at_end showed fate
-lacks_ends {line} {old} {new} {a} {c} {refused} {idle} {gave} {at_end} {showed} {fate} l i k = record {
-  ends = lacks_by idle (KeepsDisk old new a c) (ServesInput line (IsInput old (string_bytes line.input)) gave at_end showed) (WritesOutput old new a c (output_of line)) (FailsToWrite old new a c refused (output_of line)) fate l i k;
-}
+pub lacks_ends : {I : Type 0} {line : Line} {old new : DiskSeen I} {commands : CommandsSeen} {term : TerminalSeen} {fate : Fate}
+    → LacksInput old new (string_bytes line.input) fate → commands.still × term.still → KeepsDisk old new → Edits line old new commands term fate
+lacks_ends {line} {old} {new} {commands} {term} {fate} l i k = record { ends = lacks_by old new (string_bytes line.input) (doings line old new commands term) fate l i k }
 
 -- after a serving
-finishes_by : (lacks : Fate → Type 0) (idle keeps : Type 0) (serves : Served → List ℕ → Type 0) (writes : List ℕ → Type 0) (fails : List ℕ → Fate → Type 0)
-    (output : List ℕ) (served : Served) (fate : Fate) → serves served output → FinishesBy keeps (writes output) (fails output) served fate
-    → EndsBy lacks idle keeps serves writes fails fate
-finishes_by lacks idle keeps serves writes fails output served.Exit NoCommands s f = absurd f
-finishes_by lacks idle keeps serves writes fails output served.Exit NoInput s f = absurd f
-finishes_by lacks idle keeps serves writes fails output served.Exit LargeInput s f = absurd f
-finishes_by lacks idle keeps serves writes fails output served.Exit NoMemory s f = inr (output, s, f)
-finishes_by lacks idle keeps serves writes fails output served.Exit NoOutput s f = (output, s, f)
-finishes_by lacks idle keeps serves writes fails output served.Exit (Ended served.Exit) s f = (output, s, f)
-finishes_by lacks idle keeps serves writes fails output served.Exit (Ended served.EndOfCommands) s f = absurd f
-finishes_by lacks idle keeps serves writes fails output served.Exit (Ended served.ReadFault) s f = absurd f
-finishes_by lacks idle keeps serves writes fails output served.Exit (Ended served.ShowFault) s f = absurd f
-finishes_by lacks idle keeps serves writes fails output served.Exit (Ended served.NoMemory) s f = absurd f
-finishes_by lacks idle keeps serves writes fails output served.EndOfCommands fate s f = subst (EndsBy lacks idle keeps serves writes fails) (sym f.0) (output, s, f.1)
-finishes_by lacks idle keeps serves writes fails output served.ReadFault fate s f = subst (EndsBy lacks idle keeps serves writes fails) (sym f.0) (output, s, f.1)
-finishes_by lacks idle keeps serves writes fails output served.ShowFault fate s f = subst (EndsBy lacks idle keeps serves writes fails) (sym f.0) (output, s, f.1)
-finishes_by lacks idle keeps serves writes fails output served.NoMemory fate s f = subst (EndsBy lacks idle keeps serves writes fails) (sym f.0) (output, s, f.1)
+finishes_by : (run : Doings) (output : List ℕ) (served : Served) (fate : Fate)
+    → run.serves served output → FinishesBy run.keeps (run.writes output) (run.fails output) served fate → EndsBy run fate
+finishes_by run output served.Exit NoCommands s f = absurd f
+finishes_by run output served.Exit NoInput s f = absurd f
+finishes_by run output served.Exit LargeInput s f = absurd f
+finishes_by run output served.Exit NoMemory s f = inr (output, s, f)
+finishes_by run output served.Exit NoOutput s f = (output, s, f)
+finishes_by run output served.Exit (Ended served.Exit) s f = (output, s, f)
+finishes_by run output served.Exit (Ended served.EndOfCommands) s f = absurd f
+finishes_by run output served.Exit (Ended served.ReadFault) s f = absurd f
+finishes_by run output served.Exit (Ended served.ShowFault) s f = absurd f
+finishes_by run output served.Exit (Ended served.NoMemory) s f = absurd f
+finishes_by run output served.EndOfCommands fate s f = subst (EndsBy run) (sym f.0) (output, s, f.1)
+finishes_by run output served.ReadFault fate s f = subst (EndsBy run) (sym f.0) (output, s, f.1)
+finishes_by run output served.ShowFault fate s f = subst (EndsBy run) (sym f.0) (output, s, f.1)
+finishes_by run output served.NoMemory fate s f = subst (EndsBy run) (sym f.0) (output, s, f.1)
 
 -- The disk that is written to is as it was before the input was read.
-module _ {old mid : Option Files} {a b : Files → Type 0} (kept : KeepsDisk old mid a b) where
-  keeps_after : {new : Option Files} {c : Files → Type 0} → KeepsDisk mid new b c → KeepsDisk old new a c
+module _ {I : Type 0} {old mid : DiskSeen I} (kept : KeepsDisk old mid) where
+  keeps_after : {new : DiskSeen I} → KeepsDisk mid new → KeepsDisk old new
   keeps_after k = record { files = k.files ∙ kept.files; moments = λ files left. kept.moments files (k.moments files left) }
 
-  writes_after : {new : Option Files} {c : Files → Type 0} {name output : List ℕ} → WritesOutput mid new b c name output → WritesOutput old new a c name output
+  writes_after : {new : DiskSeen I} {name output : List ℕ} → WritesOutput mid new name output → WritesOutput old new name output
   writes_after w = record {
     files = λ before told. w.files before (kept.files ∙ told);
     moments = λ before told files left. elim (w.moments before (kept.files ∙ told) files left) [ inl was ↦ inl (kept.moments files was) | inr now ↦ inr now ];
   }
 
-  fails_after : {new : Option Files} {c : Files → Type 0} {gave : Error → Type 0} {name output : List ℕ} {fate : Fate}
-      → FailsToWrite mid new b c gave name output fate → FailsToWrite old new a c gave name output fate
+  fails_after : {new : DiskSeen I} {name output : List ℕ} {fate : Fate} → FailsToWrite mid new name output fate → FailsToWrite old new name output fate
   fails_after f = record {
     files = λ before told. f.files before (kept.files ∙ told);
     moments = λ before told files left. elim (f.moments before (kept.files ∙ told) files left) [ inl was ↦ inl (kept.moments files was) | inr now ↦ inr now ];
@@ -105,8 +98,8 @@ module _ {old mid : Option Files} {a b : Files → Type 0} (kept : KeepsDisk old
     fate_is = f.fate_is;
   }
 
-  pub finishes_after : {new : Option Files} {c : Files → Type 0} {gave : Error → Type 0} {name output : List ℕ} (served : Served) (fate : Fate)
-      → Finishes mid new b c gave name output served fate → Finishes old new a c gave name output served fate
+  pub finishes_after : {new : DiskSeen I} {name output : List ℕ} (served : Served) (fate : Fate)
+      → Finishes mid new name output served fate → Finishes old new name output served fate
   finishes_after served.Exit NoCommands f = record { ends = absurd f.ends }
   finishes_after served.Exit NoInput f = record { ends = absurd f.ends }
   finishes_after served.Exit LargeInput f = record { ends = absurd f.ends }
@@ -122,37 +115,43 @@ module _ {old mid : Option Files} {a b : Files → Type 0} (kept : KeepsDisk old
   finishes_after served.ShowFault fate f = record { ends = (f.ends.0, keeps_after f.ends.1) }
   finishes_after served.NoMemory fate f = record { ends = (f.ends.0, keeps_after f.ends.1) }
 
--- The same of a whole run, whose commands were opened on the disk before.
-edits_by : {old mid : Option Files} {a b : Files → Type 0} (new : Option Files) (c : Files → Type 0) (refused : Error → Type 0) (name : List ℕ) (kept : KeepsDisk old mid a b) (lacks : Fate → Type 0) (idle : Type 0)
-    (serves : Served → List ℕ → Type 0) (fate : Fate)
-    → EndsBy lacks idle (KeepsDisk mid new b c) serves (WritesOutput mid new b c name) (FailsToWrite mid new b c refused name) fate
-    → EndsBy lacks idle (KeepsDisk old new a c) serves (WritesOutput old new a c name) (FailsToWrite old new a c refused name) fate
-edits_by new c refused name kept lacks idle serves NoCommands e = e
-edits_by new c refused name kept lacks idle serves NoInput e = (e.0, e.1, keeps_after kept e.2)
-edits_by new c refused name kept lacks idle serves LargeInput e = (e.0, e.1, keeps_after kept e.2)
-edits_by new c refused name kept lacks idle serves NoMemory (inl e) = inl (e.0, keeps_after kept e.1)
-edits_by new c refused name kept lacks idle serves NoMemory (inr e) = inr (e.0, e.1, fails_after kept e.2)
-edits_by new c refused name kept lacks idle serves NoOutput e = (e.0, e.1, fails_after kept e.2)
-edits_by new c refused name kept lacks idle serves (Ended served.Exit) e = (e.0, e.1, writes_after kept e.2)
-edits_by new c refused name kept lacks idle serves (Ended served.EndOfCommands) e = (e.0, e.1, keeps_after kept e.2)
-edits_by new c refused name kept lacks idle serves (Ended served.ReadFault) e = (e.0, e.1, keeps_after kept e.2)
-edits_by new c refused name kept lacks idle serves (Ended served.ShowFault) e = (e.0, e.1, keeps_after kept e.2)
-edits_by new c refused name kept lacks idle serves (Ended served.NoMemory) e = (e.0, e.1, keeps_after kept e.2)
+-- the same over these disks, to the output of this name
+abbrev over : {I : Type 0} → DiskSeen I → DiskSeen I → List ℕ → Doings → Doings
+over old new name run = record run { keeps = KeepsDisk old new; writes = WritesOutput old new name; fails = FailsToWrite old new name }
 
-pub edits_after : {line : Line} {old mid new : Option Files} {a b c : Files → Type 0} {refused : Error → Type 0} {lacks : Option Files → List ℕ → (Error → Type 0) → Fate → Type 0} {idle : Type 0}
-    {gave : List ℕ → Bool → Type 0} {at_end : Type 0} {showed : List ℕ → Bool → Type 0} {fate : Fate} (kept : KeepsDisk old mid a b)
-    → Edits line mid new b c refused lacks idle gave at_end showed fate → Edits line old new a c refused lacks idle gave at_end showed fate
-edits_after {line} {old} {mid} {new} {a} {b} {c} {refused} {lacks} {idle} {gave} {at_end} {showed} {fate} kept e = record {
-  ends = subst (λ files. EndsBy (lacks files (string_bytes line.input) refused) idle (KeepsDisk old new a c) (ServesInput line (IsInput files (string_bytes line.input)) gave at_end showed)
-      (WritesOutput old new a c (output_of line)) (FailsToWrite old new a c refused (output_of line)) fate) kept.files
-      (edits_by new c refused (output_of line) kept (lacks mid (string_bytes line.input) refused) idle (ServesInput line (IsInput mid (string_bytes line.input)) gave at_end showed) fate e.ends);
+-- The same of a whole run, whose commands were opened on the disk before.
+edits_by : {I : Type 0} {old mid : DiskSeen I} (new : DiskSeen I) (name : List ℕ) (kept : KeepsDisk old mid) (run : Doings) (fate : Fate)
+    → EndsBy (over mid new name run) fate → EndsBy (over old new name run) fate
+edits_by new name kept run NoCommands e = e
+edits_by new name kept run NoInput e = (e.0, e.1, keeps_after kept e.2)
+edits_by new name kept run LargeInput e = (e.0, e.1, keeps_after kept e.2)
+edits_by new name kept run NoMemory (inl e) = inl (e.0, keeps_after kept e.1)
+edits_by new name kept run NoMemory (inr e) = inr (e.0, e.1, fails_after kept e.2)
+edits_by new name kept run NoOutput e = (e.0, e.1, fails_after kept e.2)
+edits_by new name kept run (Ended served.Exit) e = (e.0, e.1, writes_after kept e.2)
+edits_by new name kept run (Ended served.EndOfCommands) e = (e.0, e.1, keeps_after kept e.2)
+edits_by new name kept run (Ended served.ReadFault) e = (e.0, e.1, keeps_after kept e.2)
+edits_by new name kept run (Ended served.ShowFault) e = (e.0, e.1, keeps_after kept e.2)
+edits_by new name kept run (Ended served.NoMemory) e = (e.0, e.1, keeps_after kept e.2)
+
+-- the same over an input of these files
+abbrev of_files : {I : Type 0} → Line → DiskSeen I → DiskSeen I → CommandsSeen → TerminalSeen → Option Files → Doings
+of_files line old new commands term files = record (doings line old new commands term) {
+  lacks = λ fate. FailsToOpen new.gave fate ⊎ FailsToRead new.input files (string_bytes line.input) fate;
+  serves = ServesInput line (IsInput files (string_bytes line.input)) commands term;
 }
 
-pub finishes_ends : {line : Line} {old new : Option Files} {a c : Files → Type 0} {refused : Error → Type 0} {lacks : Option Files → List ℕ → (Error → Type 0) → Fate → Type 0} {idle : Type 0}
-    {gave : List ℕ → Bool → Type 0} {at_end : Type 0} {showed : List ℕ → Bool → Type 0} {name output : List ℕ} {served : Served} {fate : Fate}
-    → name ≡ output_of line → ServesInput line (IsInput old (string_bytes line.input)) gave at_end showed served output → Finishes old new a c refused name output served fate
-    → Edits line old new a c refused lacks idle gave at_end showed fate
-finishes_ends {line} {old} {new} {a} {c} {refused} {lacks} {idle} {gave} {at_end} {showed} {name} {output} {served} {fate} named s f = record {
-  ends = subst (λ n. EndsBy (lacks old (string_bytes line.input) refused) idle (KeepsDisk old new a c) (ServesInput line (IsInput old (string_bytes line.input)) gave at_end showed) (WritesOutput old new a c n) (FailsToWrite old new a c refused n) fate) named
-      (finishes_by (lacks old (string_bytes line.input) refused) idle (KeepsDisk old new a c) (ServesInput line (IsInput old (string_bytes line.input)) gave at_end showed) (WritesOutput old new a c name) (FailsToWrite old new a c refused name) output served fate s f.ends);
+pub edits_after : {I : Type 0} {line : Line} {old mid new : DiskSeen I} {commands : CommandsSeen} {term : TerminalSeen} {fate : Fate}
+    (kept : KeepsDisk old mid) → Edits line mid new commands term fate → Edits line old new commands term fate
+edits_after {line} {old} {mid} {new} {commands} {term} {fate} kept e = record {
+  ends = subst (λ files. EndsBy (of_files line old new commands term files) fate) kept.files
+      (edits_by new (output_of line) kept (doings line mid new commands term) fate e.ends);
+}
+
+pub finishes_ends : {I : Type 0} {line : Line} {old new : DiskSeen I} {commands : CommandsSeen} {term : TerminalSeen} {name output : List ℕ} {served : Served} {fate : Fate}
+    → name ≡ output_of line → ServesInput line (IsInput old.files (string_bytes line.input)) commands term served output → Finishes old new name output served fate
+    → Edits line old new commands term fate
+finishes_ends {line} {old} {new} {commands} {term} {name} {output} {served} {fate} named s f = record {
+  ends = subst (λ n. EndsBy (over old new n (doings line old new commands term)) fate) named
+      (finishes_by (over old new name (doings line old new commands term)) output served fate s f.ends);
 }

@@ -13,4 +13,5 @@ pub mod FileLog
 pub mod CommandLine
 pub mod Draft
 pub mod Writing
+pub mod Seen
 pub mod Run

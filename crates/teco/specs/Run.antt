@@ -21,7 +21,8 @@ use Rattle.teco.specs.Disk.{Changes, Files, Opens, Passes}
 use Rattle.teco.specs.Ending.{fate_without_input, output_of, said, status_of, text_of}
 use Rattle.teco.specs.Input.{IsFaultOf}
 use Rattle.teco.specs.Serving.{Serves}
-use Rattle.teco.specs.Source.{Gives, HasEnded}
+use Rattle.teco.specs.Seen.{CommandsSeen, DiskSeen, SourceView, TerminalSeen, commands_seen}
+use Rattle.teco.specs.Source.{Gives}
 use Rattle.teco.specs.Writing.{AddsDrafts, IsWriteError, IsWriting, Writes}
 use Rattle.teco.specs.declared.ending.Fate.{Fate}
 use Rattle.teco.specs.declared.ending.Fate.TheVariants.{NoCommands, NoInput, LargeInput, NoMemory, NoOutput, Ended}
@@ -43,12 +44,12 @@ pub record IsInput (files : Option Files) (name bytes : List ℕ) : Type 0 where
   pub whole : (before : Files) → files ≡ Some before → before name ≡ Some bytes
 
 -- What the disk opened under the name was read, and that ended by a fault.
-pub record FailsToRead {I : Type 0} (coming : I → Option (List ℕ)) (bound failures : I → ℕ) (files : Option Files) (name : List ℕ) (fate : Fate) : Type 0 where
+pub record FailsToRead {I : Type 0} (input : SourceView I) (files : Option Files) (name : List ℕ) (fate : Fate) : Type 0 where
   pub first : I
   pub last : I
   pub fault : InputFault
-  pub opened : Opens files name (coming first)
-  pub fault_is : IsFaultOf FILE_LIMIT (Gives coming bound failures first last) fault
+  pub opened : Opens files name (input.coming first)
+  pub fault_is : IsFaultOf FILE_LIMIT (Gives input.coming input.bound input.failures first last) fault
   pub fate_is : fate ≡ fate_without_input fault
 
 -- The disk refused to open the file.
@@ -58,33 +59,33 @@ pub record FailsToOpen (gave : Error → Type 0) (fate : Fate) : Type 0 where
   pub fate_is : IsFateOf error NoInput fate
 
 -- Why there is no input.
-abbrev pub LacksInput : {I : Type 0} → (I → Option (List ℕ)) → (I → ℕ) → (I → ℕ) → Option Files → List ℕ → (Error → Type 0) → Fate → Type 0
-LacksInput coming bound failures files name gave fate = FailsToOpen gave fate ⊎ FailsToRead coming bound failures files name fate
+abbrev pub LacksInput : {I : Type 0} → DiskSeen I → DiskSeen I → List ℕ → Fate → Type 0
+LacksInput old new name fate = FailsToOpen new.gave fate ⊎ FailsToRead new.input old.files name fate
 
 -- The files are as they were, and a crash leaves no more than before.
-pub record KeepsDisk (old new : Option Files) (left_old left_new : Files → Type 0) : Type 0 where
-  pub files : new ≡ old
-  pub moments : (files : Files) → left_new files → left_old files
+pub record KeepsDisk {I : Type 0} (old new : DiskSeen I) : Type 0 where
+  pub files : new.files ≡ old.files
+  pub moments : (files : Files) → new.left files → old.left files
 
 -- The output file has these bytes; and at each moment it was as before, or had them.
-pub record WritesOutput (old new : Option Files) (left_old left_new : Files → Type 0) (name bytes : List ℕ) : Type 0 where
-  pub files : Changes old new (Writes name bytes)
-  pub moments : Passes old left_old left_new (IsWriting name bytes)
+pub record WritesOutput {I : Type 0} (old new : DiskSeen I) (name bytes : List ℕ) : Type 0 where
+  pub files : Changes old.files new.files (Writes name bytes)
+  pub moments : Passes old.files old.left new.left (IsWriting name bytes)
 
 -- The output file is as it was; and at each moment it was so, or had these bytes. The fate is that of the error.
-pub record FailsToWrite (old new : Option Files) (left_old left_new : Files → Type 0) (gave : Error → Type 0) (name bytes : List ℕ) (fate : Fate) : Type 0 where
-  pub files : Changes old new (AddsDrafts name)
-  pub moments : Passes old left_old left_new (IsWriting name bytes)
+pub record FailsToWrite {I : Type 0} (old new : DiskSeen I) (name bytes : List ℕ) (fate : Fate) : Type 0 where
+  pub files : Changes old.files new.files (AddsDrafts name)
+  pub moments : Passes old.files old.left new.left (IsWriting name bytes)
   pub error : Error
-  pub given : IsWriteError gave error
+  pub given : IsWriteError new.gave error
   pub fate_is : IsFateOf error NoOutput fate
 
 -- The commands were served over an input, from its first state, by the line's limit, prompt and depth. This ended so, with this output.
-pub record ServesInput (line : Line) (is_input : List ℕ → Type 0) (gave : List ℕ → Bool → Type 0) (at_end : Type 0) (showed : List ℕ → Bool → Type 0) (served : Served) (output : List ℕ) : Type 0 where
+pub record ServesInput (line : Line) (is_input : List ℕ → Type 0) (commands : CommandsSeen) (term : TerminalSeen) (served : Served) (output : List ℕ) : Type 0 where
   pub input : List ℕ
   pub input_is : is_input input
   pub history : History
-  pub serves : Serves line.limit line.prompt gave at_end showed (new_history line.undo input) history served
+  pub serves : Serves line.limit line.prompt commands.gave commands.ended term.showed (new_history line.undo input) history served
   pub output_is : output ≡ (present history).output
 
 -- How a run ends after its serving: after an exit the output is written, or that fails; and otherwise no file has changed.
@@ -100,43 +101,62 @@ FinishesBy keeps writes fails served.ReadFault fate = (fate ≡ Ended served.Rea
 FinishesBy keeps writes fails served.ShowFault fate = (fate ≡ Ended served.ShowFault) × keeps
 FinishesBy keeps writes fails served.NoMemory fate = (fate ≡ Ended served.NoMemory) × keeps
 
-pub record Finishes (old new : Option Files) (left_old left_new : Files → Type 0) (gave : Error → Type 0) (name output : List ℕ) (served : Served) (fate : Fate) : Type 0 where
-  pub ends : FinishesBy (KeepsDisk old new left_old left_new) (WritesOutput old new left_old left_new name output) (FailsToWrite old new left_old left_new gave name output) served fate
+pub record Finishes {I : Type 0} (old new : DiskSeen I) (name output : List ℕ) (served : Served) (fate : Fate) : Type 0 where
+  pub ends : FinishesBy (KeepsDisk old new) (WritesOutput old new name output) (FailsToWrite old new name output) served fate
+
+-- What a run may have done. How it ends says which of these it did.
+pub record Doings : Type 1 where
+  -- there was no input: why, by the fate
+  pub lacks : Fate → Type 0
+  -- nothing was read of the commands or shown
+  pub idle : Type 0
+  -- no file has changed
+  pub keeps : Type 0
+  -- the commands were served, and that ended so with this output
+  pub serves : Served → List ℕ → Type 0
+  -- the output was written
+  pub writes : List ℕ → Type 0
+  -- writing the output failed
+  pub fails : List ℕ → Fate → Type 0
 
 -- How a run ends, and what it has done then.
-abbrev pub EndsBy : (Fate → Type 0) → Type 0 → Type 0 → (Served → List ℕ → Type 0) → (List ℕ → Type 0) → (List ℕ → Fate → Type 0) → Fate → Type 0
+abbrev pub EndsBy : Doings → Fate → Type 0
 -- the file of the commands is opened before
-EndsBy lacks idle keeps serves writes fails NoCommands = ⊥
-EndsBy lacks idle keeps serves writes fails NoInput = lacks NoInput × idle × keeps
-EndsBy lacks idle keeps serves writes fails LargeInput = lacks LargeInput × idle × keeps
+EndsBy run NoCommands = ⊥
+EndsBy run NoInput = run.lacks NoInput × run.idle × run.keeps
+EndsBy run LargeInput = run.lacks LargeInput × run.idle × run.keeps
 -- memory was refused before the serving, or to the writing
-EndsBy lacks idle keeps serves writes fails NoMemory = (idle × keeps) ⊎ ((output : List ℕ) × serves served.Exit output × fails output NoMemory)
-EndsBy lacks idle keeps serves writes fails NoOutput = (output : List ℕ) × serves served.Exit output × fails output NoOutput
+EndsBy run NoMemory = (run.idle × run.keeps) ⊎ ((output : List ℕ) × run.serves served.Exit output × run.fails output NoMemory)
+EndsBy run NoOutput = (output : List ℕ) × run.serves served.Exit output × run.fails output NoOutput
 -- after an exit the output is written
-EndsBy lacks idle keeps serves writes fails (Ended served.Exit) = (output : List ℕ) × serves served.Exit output × writes output
+EndsBy run (Ended served.Exit) = (output : List ℕ) × run.serves served.Exit output × run.writes output
 -- and otherwise no file has changed
-EndsBy lacks idle keeps serves writes fails (Ended served.EndOfCommands) = (output : List ℕ) × serves served.EndOfCommands output × keeps
-EndsBy lacks idle keeps serves writes fails (Ended served.ReadFault) = (output : List ℕ) × serves served.ReadFault output × keeps
-EndsBy lacks idle keeps serves writes fails (Ended served.ShowFault) = (output : List ℕ) × serves served.ShowFault output × keeps
-EndsBy lacks idle keeps serves writes fails (Ended served.NoMemory) = (output : List ℕ) × serves served.NoMemory output × keeps
+EndsBy run (Ended served.EndOfCommands) = (output : List ℕ) × run.serves served.EndOfCommands output × run.keeps
+EndsBy run (Ended served.ReadFault) = (output : List ℕ) × run.serves served.ReadFault output × run.keeps
+EndsBy run (Ended served.ShowFault) = (output : List ℕ) × run.serves served.ShowFault output × run.keeps
+EndsBy run (Ended served.NoMemory) = (output : List ℕ) × run.serves served.NoMemory output × run.keeps
+
+-- what a run over a line may have done: `old` and `new` are the disk before and after
+abbrev pub doings : {I : Type 0} → Line → DiskSeen I → DiskSeen I → CommandsSeen → TerminalSeen → Doings
+doings line old new commands term = record {
+  lacks = LacksInput old new (string_bytes line.input);
+  idle = commands.still × term.still;
+  keeps = KeepsDisk old new;
+  serves = ServesInput line (IsInput old.files (string_bytes line.input)) commands term;
+  writes = WritesOutput old new (output_of line);
+  fails = FailsToWrite old new (output_of line);
+}
 
 -- A run of the program over its line ends so.
--- `old` and `new` are the files before and after, `left_old` and `left_new` what a crash might have left, and `refused` the errors that the disk gave. `lacks` says why there is no input of a name, `idle` that nothing was read of the commands or shown, `gave`, `at_end` and `showed` what the commands gave and the terminal showed.
-pub record Edits (line : Line) (old new : Option Files) (left_old left_new : Files → Type 0) (refused : Error → Type 0)
-    (lacks : Option Files → List ℕ → (Error → Type 0) → Fate → Type 0) (idle : Type 0) (gave : List ℕ → Bool → Type 0) (at_end : Type 0) (showed : List ℕ → Bool → Type 0) (fate : Fate) : Type 0 where
-  pub ends : EndsBy (lacks old (string_bytes line.input) refused) idle
-      (KeepsDisk old new left_old left_new)
-      (ServesInput line (IsInput old (string_bytes line.input)) gave at_end showed)
-      (WritesOutput old new left_old left_new (output_of line))
-      (FailsToWrite old new left_old left_new refused (output_of line)) fate
+pub record Edits {I : Type 0} (line : Line) (old new : DiskSeen I) (commands : CommandsSeen) (term : TerminalSeen) (fate : Fate) : Type 0 where
+  pub ends : EndsBy (doings line old new commands term) fate
 
--- A run was given the commands of a source: `edits` says what it did, by what stayed where no command was read, what the source gave and whether it has ended.
-pub record RunsOn {I : Type 0} (coming : I → Option (List ℕ)) (bound failures : I → ℕ) (ended : I → Bool) (begins : Option (List ℕ) → Type 0)
-    (edits : Type 0 → (List ℕ → Bool → Type 0) → Type 0 → Type 0) : Type 0 where
-  pub first : I
-  pub last : I
-  pub begins_so : begins (coming first)
-  pub run : edits (last ≡ first) (Gives coming bound failures first last) (HasEnded (coming last) (ended last))
+-- A run was given the commands of a source: `edits` says what it did, by what was seen of them.
+pub record RunsOn {S : Type 0} (source : SourceView S) (begins : Option (List ℕ) → Type 0) (edits : CommandsSeen → Type 0) : Type 0 where
+  pub first : S
+  pub last : S
+  pub begins_so : begins (source.coming first)
+  pub run : edits (commands_seen source first last)
 
 -- The disk refused to open the file of the commands.
 pub record LacksCommands (gave : Error → Type 0) (fate : Fate) : Type 0 where

@@ -6,6 +6,7 @@ ghost use Rattle.teco.specs.CommandLine.{IsDepth};
 ghost use Rattle.teco.specs.Disk.{Opens};
 ghost use Rattle.teco.specs.Ending.{said};
 ghost use Rattle.teco.specs.Run.{Concludes, Edits, EditsByFile, EditsByLine, EditsByWord, Finishes, IsFateOf, IsFaultIn, IsInput, IsLineIn, IsRefusedBy, KeepsDisk, LacksInput, Refuses, RunsOn, RunsOver, Tells};
+ghost use Rattle.teco.specs.Seen.{CommandsSeen, commands_seen, disk_seen, source_view, terminal_seen};
 ghost use Rattle.teco.specs.Serving.{Serves};
 ghost use Rattle.teco.specs.Source.{Gives, HasEnded};
 ghost use Rattle.teco_core.specs.declared.limits.TheConstants.{FILE_LIMIT};
@@ -46,8 +47,12 @@ fn fate_of(error: io::Error, other: Fate) -> Fate
 fn input_of<D: Disk>(alloc: Global, name: &str, disk: &mut D) -> Result<Vec<u8>, Fate>
     ensures input { IfOk result (λ input. IsInput (D.files disk.old) name.now input.items) }
     ensures small { IfOk result (λ input. vec_len input ≤ FILE_LIMIT) }
-    ensures fault { IfErr result (LacksInput D.Input.coming D.Input.bound D.Input.failures (D.files disk.old) name.now (D.gave disk.new)) }
-    ensures keeps { KeepsDisk (D.files disk.old) (D.files disk.new) (D.left disk.old) (D.left disk.new) }
+    ensures fault { let seen = disk_seen D.files D.left D.gave
+        (source_view D.Input.coming D.Input.bound D.Input.failures D.Input.ended) in
+        IfErr result (LacksInput (seen disk.old) (seen disk.new) name.now) }
+    ensures keeps { let seen = disk_seen D.files D.left D.gave
+        (source_view D.Input.coming D.Input.bound D.Input.failures D.Input.ended) in
+        KeepsDisk (seen disk.old) (seen disk.new) }
 {
     let mut source = match disk.open(name) {
         Ok(source) => source,
@@ -102,7 +107,9 @@ fn finish<D: Disk>(
     output: &[u8],
     disk: &mut D,
 ) -> Fate
-    ensures { Finishes (D.files disk.old) (D.files disk.new) (D.left disk.old) (D.left disk.new) (D.gave disk.new) name.now output.now served result }
+    ensures { let seen = disk_seen D.files D.left D.gave
+        (source_view D.Input.coming D.Input.bound D.Input.failures D.Input.ended) in
+        Finishes (seen disk.old) (seen disk.new) name.now output.now served result }
 {
     match served {
         Served::Exit => match write_output(alloc, disk, name, number, output) {
@@ -123,11 +130,11 @@ fn edit<S: Source, T: Terminal, D: Disk>(
     disk: &mut D,
 ) -> Fate
     requires depth { IfSome line.now.undo IsDepth }
-    ensures { Edits line.now (D.files disk.old) (D.files disk.new) (D.left disk.old) (D.left disk.new) (D.gave disk.new)
-        (LacksInput D.Input.coming D.Input.bound D.Input.failures) ((commands.new ≡ commands.old) × (term.new ≡ term.old))
-        (Gives S.coming S.bound S.failures commands.old commands.new)
-        (HasEnded (S.coming commands.new) (S.ended commands.new))
-        (Shows (T.screen term.old) (T.screen term.new)) result }
+    ensures { let seen = disk_seen D.files D.left D.gave
+        (source_view D.Input.coming D.Input.bound D.Input.failures D.Input.ended) in
+        Edits line.now (seen disk.old) (seen disk.new)
+        (commands_seen (source_view S.coming S.bound S.failures S.ended) commands.old commands.new)
+        (terminal_seen T.screen term.old term.new) result }
 {
     let input = match input_of(alloc, line.input.as_str(), disk) {
         Ok(input) => input,
@@ -159,15 +166,14 @@ fn edit_by_word<T: Terminal, D: Disk>(
     disk: &mut D,
 ) -> Fate
     requires depth { IfSome line.now.undo IsDepth }
-    ensures { EditsByWord
-        ((term.new ≡ term.old)
-        × KeepsDisk (D.files disk.old) (D.files disk.new) (D.left disk.old) (D.left disk.new))
-        (λ bytes. RunsOn ⟦<MemorySource as Source>⟧.coming ⟦<MemorySource as Source>⟧.bound
-        ⟦<MemorySource as Source>⟧.failures ⟦<MemorySource as Source>⟧.ended (λ coming. coming ≡ Some bytes)
-        (λ still gave at_end. Edits line.now (D.files disk.old) (D.files disk.new)
-        (D.left disk.old) (D.left disk.new) (D.gave disk.new)
-        (LacksInput D.Input.coming D.Input.bound D.Input.failures) (still × (term.new ≡ term.old))
-        gave at_end (Shows (T.screen term.old) (T.screen term.new)) result))
+    ensures { let seen = disk_seen D.files D.left D.gave
+        (source_view D.Input.coming D.Input.bound D.Input.failures D.Input.ended) in
+        let word_view = source_view ⟦<MemorySource as Source>⟧.coming ⟦<MemorySource as Source>⟧.bound
+        ⟦<MemorySource as Source>⟧.failures ⟦<MemorySource as Source>⟧.ended in
+        EditsByWord ((term.new ≡ term.old) × KeepsDisk (seen disk.old) (seen disk.new))
+        (λ bytes. RunsOn word_view (λ coming. coming ≡ Some bytes)
+        (λ given. Edits line.now (seen disk.old) (seen disk.new) given
+        (terminal_seen T.screen term.old term.new) result))
         result word.now }
 {
     let Ok(bytes) = commands_in(alloc, word) else {
@@ -187,15 +193,13 @@ fn edit_by_file<T: Terminal, D: Disk>(
     disk: &mut D,
 ) -> Fate
     requires depth { IfSome line.now.undo IsDepth }
-    ensures { EditsByFile (D.gave disk.new)
-        ((term.new ≡ term.old)
-        × KeepsDisk (D.files disk.old) (D.files disk.new) (D.left disk.old) (D.left disk.new))
-        (λ name. RunsOn D.Input.coming D.Input.bound D.Input.failures D.Input.ended
-        (Opens (D.files disk.old) name)
-        (λ still gave at_end. Edits line.now (D.files disk.old) (D.files disk.new)
-        (D.left disk.old) (D.left disk.new) (D.gave disk.new)
-        (LacksInput D.Input.coming D.Input.bound D.Input.failures) (still × (term.new ≡ term.old))
-        gave at_end (Shows (T.screen term.old) (T.screen term.new)) result))
+    ensures { let seen = disk_seen D.files D.left D.gave
+        (source_view D.Input.coming D.Input.bound D.Input.failures D.Input.ended) in
+        EditsByFile (D.gave disk.new)
+        ((term.new ≡ term.old) × KeepsDisk (seen disk.old) (seen disk.new))
+        (λ name. RunsOn (seen disk.old).input (Opens (D.files disk.old) name)
+        (λ given. Edits line.now (seen disk.old) (seen disk.new) given
+        (terminal_seen T.screen term.old term.new) result))
         result name.now }
 {
     match disk.open(name) {
@@ -214,21 +218,18 @@ fn edit_by_line<S: Source, T: Terminal, D: Disk>(
     disk: &mut D,
 ) -> Fate
     requires depth { IfSome line.now.undo IsDepth }
-    ensures { let edits : Type 0 → (List ℕ → Bool → Type 0) → Type 0 → Type 0 = λ still gave at_end.
-        Edits line.now (D.files disk.old) (D.files disk.new)
-        (D.left disk.old) (D.left disk.new) (D.gave disk.new)
-        (LacksInput D.Input.coming D.Input.bound D.Input.failures) (still × (term.new ≡ term.old))
-        gave at_end (Shows (T.screen term.old) (T.screen term.new)) result in
-        let idle : Type 0 = (term.new ≡ term.old)
-        × KeepsDisk (D.files disk.old) (D.files disk.new) (D.left disk.old) (D.left disk.new) in
+    ensures { let seen = disk_seen D.files D.left D.gave
+        (source_view D.Input.coming D.Input.bound D.Input.failures D.Input.ended) in
+        let word_view = source_view ⟦<MemorySource as Source>⟧.coming ⟦<MemorySource as Source>⟧.bound
+        ⟦<MemorySource as Source>⟧.failures ⟦<MemorySource as Source>⟧.ended in
+        let edits : CommandsSeen → Type 0 = λ given. Edits line.now (seen disk.old) (seen disk.new)
+        given (terminal_seen T.screen term.old term.new) result in
+        let idle : Type 0 = (term.new ≡ term.old) × KeepsDisk (seen disk.old) (seen disk.new) in
         EditsByLine line.now (commands.new ≡ commands.old)
-        (edits (commands.new ≡ commands.old) (Gives S.coming S.bound S.failures commands.old commands.new)
-        (HasEnded (S.coming commands.new) (S.ended commands.new)))
-        (EditsByWord idle (λ bytes. RunsOn ⟦<MemorySource as Source>⟧.coming
-        ⟦<MemorySource as Source>⟧.bound ⟦<MemorySource as Source>⟧.failures
-        ⟦<MemorySource as Source>⟧.ended (λ coming. coming ≡ Some bytes) edits) result)
-        (EditsByFile (D.gave disk.new) idle (λ name. RunsOn D.Input.coming D.Input.bound D.Input.failures
-        D.Input.ended (Opens (D.files disk.old) name) edits) result) }
+        (edits (commands_seen (source_view S.coming S.bound S.failures S.ended) commands.old commands.new))
+        (EditsByWord idle (λ bytes. RunsOn word_view (λ coming. coming ≡ Some bytes) edits) result)
+        (EditsByFile (D.gave disk.new) idle
+        (λ name. RunsOn (seen disk.old).input (Opens (D.files disk.old) name) edits) result) }
 {
     match &line.commands {
         Commands::StandardInput => edit(alloc, line, number, commands, term, disk),
@@ -318,21 +319,18 @@ pub fn program<S: Source, T: Terminal, E: Terminal, D: Disk>(
 ) -> ExitCode
     ensures { Refuses words ((commands.new ≡ commands.old) × (disk.new ≡ disk.old)) result
         ⊎ RunsOver words
-        (λ line fate. let edits : Type 0 → (List ℕ → Bool → Type 0) → Type 0 → Type 0 = λ still gave at_end.
-        Edits line (D.files disk.old) (D.files disk.new)
-        (D.left disk.old) (D.left disk.new) (D.gave disk.new)
-        (LacksInput D.Input.coming D.Input.bound D.Input.failures) (still × (term.new ≡ term.old))
-        gave at_end (Shows (T.screen term.old) (T.screen term.new)) fate in
-        let idle : Type 0 = (term.new ≡ term.old)
-        × KeepsDisk (D.files disk.old) (D.files disk.new) (D.left disk.old) (D.left disk.new) in
+        (λ line fate. let seen = disk_seen D.files D.left D.gave
+        (source_view D.Input.coming D.Input.bound D.Input.failures D.Input.ended) in
+        let word_view = source_view ⟦<MemorySource as Source>⟧.coming ⟦<MemorySource as Source>⟧.bound
+        ⟦<MemorySource as Source>⟧.failures ⟦<MemorySource as Source>⟧.ended in
+        let edits : CommandsSeen → Type 0 = λ given. Edits line (seen disk.old) (seen disk.new)
+        given (terminal_seen T.screen term.old term.new) fate in
+        let idle : Type 0 = (term.new ≡ term.old) × KeepsDisk (seen disk.old) (seen disk.new) in
         EditsByLine line (commands.new ≡ commands.old)
-        (edits (commands.new ≡ commands.old) (Gives S.coming S.bound S.failures commands.old commands.new)
-        (HasEnded (S.coming commands.new) (S.ended commands.new)))
-        (EditsByWord idle (λ bytes. RunsOn ⟦<MemorySource as Source>⟧.coming
-        ⟦<MemorySource as Source>⟧.bound ⟦<MemorySource as Source>⟧.failures
-        ⟦<MemorySource as Source>⟧.ended (λ coming. coming ≡ Some bytes) edits) fate)
-        (EditsByFile (D.gave disk.new) idle (λ name. RunsOn D.Input.coming D.Input.bound D.Input.failures
-        D.Input.ended (Opens (D.files disk.old) name) edits) fate))
+        (edits (commands_seen (source_view S.coming S.bound S.failures S.ended) commands.old commands.new))
+        (EditsByWord idle (λ bytes. RunsOn word_view (λ coming. coming ≡ Some bytes) edits) fate)
+        (EditsByFile (D.gave disk.new) idle
+        (λ name. RunsOn (seen disk.old).input (Opens (D.files disk.old) name) edits) fate))
         (λ line fate. Concludes line fate (E.screen errors.old) (E.screen errors.new) result) }
 {
     match line_in(alloc, words) {

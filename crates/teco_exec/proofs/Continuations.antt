@@ -5,13 +5,13 @@ use Rattle.teco_core.specs.declared.code.Code.{Code}
 use Rattle.teco_scan.specs.declared.token.Token.{Token as ScannedToken}
 use Rattle.teco_scan.specs.declared.token.Found.{Found}
 use Rattle.teco_scan.specs.declared.token.Found.TheVariants.{Token}
-use Rattle.teco_exec.specs.Machine.{Caller, Config, Cursor as MachineCursor, block, Now, runs, halts, coming, arrives, pass, returned, step, run_within}
-use Rattle.teco_exec.specs.View.{beginning, coming_of, cursor, item_at, opening_of}
-use Rattle.teco_exec.specs.Running.{goes, over, config, ready_run, at_cursor, at_token, at_opening, at_return, Origin, Host, Continuation, Going, Comes, Ended, at_beginning, at_call, in_return, host, Reaches, code_left, exits, goes_back, now_at, whole_run}
+use Rattle.teco_exec.specs.Machine.{Caller, Config, Cursor as MachineCursor, block, Now, runs, halts, ready_where_comes, ready_of, pass, after_text_end, step, run_within}
+use Rattle.teco_exec.specs.View.{cursor_at_start, coming_of, cursor, item_of_kind, block_step_of}
+use Rattle.teco_exec.specs.Running.{goes, over, config, ready_run, at_cursor, at_token, at_block_step, at_return, Origin, Host, Continuation, RunGoesOn, ReachesContinuation, ReachesEnd, at_beginning, at_call, cursor_after_call, host, Reaches, code_left, reached_by_exit, reached_after_call, now_at, whole_run}
 use Rattle.teco_exec.specs.declared.cursor.Cursor.{Cursor}
-use Rattle.teco_exec.specs.declared.moves.Opening.{Opening}
-use Rattle.teco_exec.specs.declared.moves.Next.{Next}
-use Rattle.teco_exec.specs.declared.moves.Next.TheVariants.{Passed, Step, Block, Over, Fault}
+use Rattle.teco_exec.specs.declared.moves.BlockStep.{BlockStep}
+use Rattle.teco_exec.specs.declared.moves.Coming.{Coming}
+use Rattle.teco_exec.specs.declared.moves.Coming.TheVariants.{Passed, Step, Block, End, Fault}
 use Rattle.teco_exec.proofs.MachineMeans.{arrives_step, halted, run_ready, arrives_stays}
 use Rattle.teco_exec.proofs.Going.{Settles, continues, settles, now_there, shows_nothing, since}
 use Rattle.teco_scan.specs.ListLaws.{BlockLaws}
@@ -28,83 +28,83 @@ use Rattle.teco_exec.specs.declared.flow.Exit.TheVariants as ending
 
 -- A text is over: what it leaves is all that its caller sees.
 returns : (fuel : ℕ) (text : List ℕ) (c : MachineCursor) (callers : List Caller) (now : Now)
-    → ready_run fuel (arrives (returned (config text c None callers now) callers)) ≡ ready_run fuel (at_return c.args callers now)
+    → ready_run fuel (ready_of (after_text_end (config text c None callers now) callers)) ≡ ready_run fuel (at_return c.args callers now)
 returns fuel text c [] now =
     sym (run_ready fuel (halts (config text c None [] now) None)) ∙ halted fuel (config text c None [] now) None
-    ∙ sym (halted fuel (config [] (beginning c.args []) None [] now) None) ∙ run_ready fuel (halts (config [] (beginning c.args []) None [] now) None)
+    ∙ sym (halted fuel (config [] (cursor_at_start c.args []) None [] now) None) ∙ run_ready fuel (halts (config [] (cursor_at_start c.args []) None [] now) None)
 returns fuel text c (b ∷ bs) now = refl
 
 module _ (laws : BlockLaws) (old to : Cursor) (found : Found) (callers : List Caller) where
   abbrev here : Now → Config
   here now = config old.text.now (cursor old) None callers now
 
-  ready : (n : Next) → coming_of to found n ≡ pass (cursor old) → (now : Now) (fuel : ℕ) → ready_run fuel (at_cursor old callers now) ≡ ready_run fuel (coming arrives (here now) (coming_of to found n))
-  ready n e now fuel = ap (ready_run fuel) (arrives_step laws (here now) ∙ ap (coming arrives (here now)) (sym e))
+  ready : (n : Coming) → coming_of to found n ≡ pass (cursor old) → (now : Now) (fuel : ℕ) → ready_run fuel (at_cursor old callers now) ≡ ready_run fuel (ready_where_comes ready_of (here now) (coming_of to found n))
+  ready n e now fuel = ap (ready_run fuel) (arrives_step laws (here now) ∙ ap (ready_where_comes ready_of (here now)) (sym e))
 
   pub passes_on : to.text ≡ old.text → coming_of to found Passed ≡ pass (cursor old) → Settles (at_cursor old callers) (goes (at_cursor to callers))
   passes_on text e now fuel =
-      ready Passed e now fuel ∙ ap (λ t. ready_run fuel (arrives (runs (config t.now (cursor to) None callers now)))) (sym text)
+      ready Passed e now fuel ∙ ap (λ t. ready_run fuel (ready_of (runs (config t.now (cursor to) None callers now)))) (sym text)
 
   pub passes_short : coming_of to found Passed ≡ pass (cursor old) → length (cursor to).left < length (cursor old).left
   passes_short e = subst (Shorter (length (cursor old).left)) (sym e) (pass_short laws (cursor old))
 
   pub comes_token : to.text ≡ old.text → (token : ScannedToken) → found ≡ Token token → coming_of to found Step ≡ pass (cursor old) → Settles (at_cursor old callers) (goes (at_token to token None callers))
   comes_token text token is e now fuel =
-      ready Step e now fuel ∙ ap (λ f. ready_run fuel (coming arrives (here now) (coming_of to f Step))) is
-      ∙ ap (λ t. ready_run fuel (step token.modifiers (item_at to.text.now token.kind) None (config t.now (cursor to) None callers now))) (sym text)
+      ready Step e now fuel ∙ ap (λ f. ready_run fuel (ready_where_comes ready_of (here now) (coming_of to f Step))) is
+      ∙ ap (λ t. ready_run fuel (step token.modifiers (item_of_kind to.text.now token.kind) None (config t.now (cursor to) None callers now))) (sym text)
 
-  pub comes_block : to ≡ old → (o : Opening) (after : ℕ) → coming_of to found (Block o after) ≡ pass (cursor old) → Settles (at_cursor old callers) (goes (at_opening to o after callers))
+  pub comes_block : to ≡ old → (o : BlockStep) (after : ℕ) → coming_of to found (Block o after) ≡ pass (cursor old) → Settles (at_cursor old callers) (goes (at_block_step to o after callers))
   comes_block same o after e now fuel =
-      ready (Block o after) e now fuel ∙ ap (λ (c : Cursor). ready_run fuel (block (opening_of o) (drop after to.text.now) (config c.text.now (cursor c) None callers now))) (sym same)
+      ready (Block o after) e now fuel ∙ ap (λ (c : Cursor). ready_run fuel (block (block_step_of o) (drop after to.text.now) (config c.text.now (cursor c) None callers now))) (sym same)
 
-  pub comes_over : to ≡ old → coming_of to found Over ≡ pass (cursor old) → Settles (at_cursor old callers) (goes (at_return (arguments to.args) callers))
+  pub comes_over : to ≡ old → coming_of to found End ≡ pass (cursor old) → Settles (at_cursor old callers) (goes (at_return (arguments to.args) callers))
   comes_over same e now fuel =
-      ready Over e now fuel ∙ returns fuel old.text.now (cursor old) callers now ∙ ap (λ (c : Cursor). ready_run fuel (at_return (arguments c.args) callers now)) (sym same)
+      ready End e now fuel ∙ returns fuel old.text.now (cursor old) callers now ∙ ap (λ (c : Cursor). ready_run fuel (at_return (arguments c.args) callers now)) (sym same)
 
   pub comes_fault : (code : Code) → coming_of to found (Fault code) ≡ pass (cursor old) → Settles (at_cursor old callers) (over (Some code))
   comes_fault code e now zero = ready (Fault code) e now zero
   comes_fault code e now (suc fuel) = ready (Fault code) e now (suc fuel)
 
 -- A text is at its beginning.
-pub begins : (o : Origin) (h : Host) (a : Arguments) (text : List ℕ) (c : Cursor) (callers : List Caller) → c.text.now ≡ text → cursor c ≡ beginning a text
-    → Going o h (at_beginning a text callers) → Comes o h h (at_cursor c callers)
+pub begins : (o : Origin) (h : Host) (a : Arguments) (text : List ℕ) (c : Cursor) (callers : List Caller) → c.text.now ≡ text → cursor c ≡ cursor_at_start a text
+    → RunGoesOn o h (at_beginning a text callers) → ReachesContinuation o h h (at_cursor c callers)
 begins o h a text c callers same e g =
     continues o h (at_beginning a text callers) g (at_cursor c callers) (λ now fuel.
-    ap (λ x. ready_run fuel (arrives (runs (config x (beginning a text) None callers now)))) (sym same)
-    ∙ ap (λ x. ready_run fuel (arrives (runs (config c.text.now x None callers now)))) (sym e))
+    ap (λ x. ready_run fuel (ready_of (runs (config x (cursor_at_start a text) None callers now)))) (sym same)
+    ∙ ap (λ x. ready_run fuel (ready_of (runs (config c.text.now x None callers now)))) (sym e))
 
 -- a text that has called another
 abbrev pub caller : Cursor → Caller
 caller c = record { text = c.text.now; left = (cursor c).left; blocks = (cursor c).blocks }
 
-module _ (o : Origin) (h : Host) (c : Cursor) (text : List ℕ) (callers : List Caller) (g : Going o h (at_call c text callers)) where
+module _ (o : Origin) (h : Host) (c : Cursor) (text : List ℕ) (callers : List Caller) (g : RunGoesOn o h (at_call c text callers)) where
   abbrev chosen : Bool → Continuation
   chosen deep now = let here : Config = config c.text.now (cursor c) None callers now in
-      arrives (if deep then halts here (Some Pdo) else runs (config text (beginning (cursor c).args text) None (caller c ∷ callers) now))
+      ready_of (if deep then halts here (Some Pdo) else runs (config text (cursor_at_start (cursor c).args text) None (caller c ∷ callers) now))
 
   -- the thirty-third call
-  pub too_deep : length callers ≡ 32 → h.steps ≤ o.limit → Ended o h h (Some Pdo)
+  pub too_deep : length callers ≡ 32 → h.steps ≤ o.limit → ReachesEnd o h h (Some Pdo)
   too_deep deep le =
       let so : (length callers == 32) ≡ true = grind (arith, nat_tests) in
       settles o h (at_call c text callers) g (over (Some Pdo)) refl le (λ now fuel.
       let here : Config = config c.text.now (cursor c) None callers now in
       ap (λ b. ready_run fuel (chosen b now)) so ∙ sym (run_ready fuel (halts here (Some Pdo))) ∙ halted fuel here (Some Pdo))
 
-  pub enters : length callers < 32 → Comes o h h (at_beginning (cursor c).args text (caller c ∷ callers))
+  pub enters : length callers < 32 → ReachesContinuation o h h (at_beginning (cursor c).args text (caller c ∷ callers))
   enters few =
       let so : (length callers == 32) ≡ false = grind (arith, nat_tests) in
       continues o h (at_call c text callers) g (at_beginning (cursor c).args text (caller c ∷ callers)) (λ now fuel. ap (λ b. ready_run fuel (chosen b now)) so)
 
 -- and back from there, with the arguments that it left
-pub comes_back : (a : Arguments) (c d : Cursor) (callers : List Caller) → d.text ≡ c.text → cursor d ≡ in_return a (cursor c)
+pub comes_back : (a : Arguments) (c d : Cursor) (callers : List Caller) → d.text ≡ c.text → cursor d ≡ cursor_after_call a (cursor c)
     → Settles (at_return a (caller c ∷ callers)) (goes (at_cursor d callers))
 comes_back a c d callers text e now fuel =
-    ap (λ x. ready_run fuel (arrives (runs (config c.text.now x None callers now)))) (sym e)
-    ∙ ap (λ t. ready_run fuel (arrives (runs (config t.now (cursor d) None callers now)))) (sym text)
+    ap (λ x. ready_run fuel (ready_of (runs (config c.text.now x None callers now)))) (sym e)
+    ∙ ap (λ t. ready_run fuel (ready_of (runs (config t.now (cursor d) None callers now)))) (sym text)
 
 -- A called text is over: its caller goes on, or the run is over.
-pub comes_home : (o : Origin) (h k : Host) (a : Arguments) (c d : Cursor) (callers : List Caller) → d.text ≡ c.text → cursor d ≡ in_return a (cursor c) → (x : Exit)
-    → Reaches o h k (exits a (caller c ∷ callers) x) → Reaches o h k (goes_back d callers x)
+pub comes_home : (o : Origin) (h k : Host) (a : Arguments) (c d : Cursor) (callers : List Caller) → d.text ≡ c.text → cursor d ≡ cursor_after_call a (cursor c) → (x : Exit)
+    → Reaches o h k (reached_by_exit a (caller c ∷ callers) x) → Reaches o h k (reached_after_call d callers x)
 comes_home o h k a c d callers text e ending.Return r =
     let back = continues o k (at_return a (caller c ∷ callers)) r.going (at_cursor d callers) (comes_back a c d callers text e) in
     record { going = back.going; follows = r.follows }
@@ -123,11 +123,11 @@ less_left limit k j n x y kj jl yn (inr lt) =
 abbrev first_now : Origin → Now
 first_now o = record { state = o.state; typed = []; load = 0 }
 
-pub whole_begins : MachineMeans → (o : Origin) (F : Trail → Type 0) (a : Arguments) → a ≡ no_arguments → Going o (host o.state F o.screen 0) (at_beginning a o.text [])
+pub whole_begins : MachineMeans → (o : Origin) (F : Trail → Type 0) (a : Arguments) → a ≡ no_arguments → RunGoesOn o (host o.state F o.screen 0) (at_beginning a o.text [])
 whole_begins means o F a none =
-    let all : (fuel : ℕ) → run_within (0 + fuel) (whole_run o) ≡ ready_run fuel (arrives (whole_run o)) =
+    let all : (fuel : ℕ) → run_within (0 + fuel) (whole_run o) ≡ ready_run fuel (ready_of (whole_run o)) =
     λ fuel. (let same : 0 + fuel ≡ fuel = omega arith in ap (λ k. run_within k (whole_run o)) same ∙ run_ready fuel (whole_run o)) in
-    let now : now_at o 0 ≡ first_now o = now_there means o 0 (λ x. arrives (whole_run o)) (first_now o) all (arrives_stays (whole_run o)) in
+    let now : now_at o 0 ≡ first_now o = now_there means o 0 (λ x. ready_of (whole_run o)) (first_now o) all (arrives_stays (whole_run o)) in
     record {
       means = means;
       state = sym (ap (λ (x : Now). x.state) now);
@@ -135,10 +135,10 @@ whole_begins means o F a none =
       leads = λ fuel. all fuel ∙ ap (λ x. ready_run fuel (at_beginning x o.text [] (first_now o))) (sym none) ∙ ap (λ x. ready_run fuel (at_beginning a o.text [] x)) (sym now);
     }
 
-pub whole_ends : (o : Origin) (before after : Host) (a : Arguments) (exit : Exit) (code : Option Code) → code ≡ code_left exit → after.steps ≤ o.limit → Reaches o before after (exits a [] exit) → Ended o before after code
+pub whole_ends : (o : Origin) (before after : Host) (a : Arguments) (exit : Exit) (code : Option Code) → code ≡ code_left exit → after.steps ≤ o.limit → Reaches o before after (reached_by_exit a [] exit) → ReachesEnd o before after code
 whole_ends o before after a ending.Return code is le r =
-    subst (Ended o before after) (sym is)
+    subst (ReachesEnd o before after) (sym is)
     (since o before after after (over None) r.follows (settles o after (at_return a []) r.going (over None) tt le (λ now fuel.
-    let there : Config = config [] (beginning a []) None [] now in
+    let there : Config = config [] (cursor_at_start a []) None [] now in
     sym (run_ready fuel (halts there None)) ∙ halted fuel there None)))
-whole_ends o before after a (ending.Over left) code is le r = subst (Ended o before after) (sym is) r
+whole_ends o before after a (ending.Over left) code is le r = subst (ReachesEnd o before after) (sym is) r

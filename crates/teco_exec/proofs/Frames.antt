@@ -10,7 +10,7 @@ use Rattle.teco_scan.specs.declared.blocks.Kind.TheVariants.{Iter, Then, Else}
 use Rattle.teco_exec.specs.Frames.{EndsTurn, frame, frames, has_iteration, in_turn, kind_of, list_start, next_body, next_turn}
 use Rattle.teco_scan.specs.Lists.{Close, Past, past, behind_block, list_at, tag_at}
 use Rattle.teco_scan.specs.Lists as lists
-use Rattle.teco_exec.specs.Machine.{Frame, at_end, ends, Cursor, Coming, left_block, leaving, passing, skipped, second_part, moved, at_block, breaks, closes, inside, jumping, landed}
+use Rattle.teco_exec.specs.Machine.{Frame, pass_text_end, end_comes, Cursor, Coming, after_leaving_block, after_leaving_iteration, passed_or_fault, after_skip, inside_second_part, passed_to, block_comes, fault_comes, after_block_end, inside_iteration, after_jump, after_tag_or}
 use Rattle.teco_exec.specs.Machine as machine
 use Rattle.teco_exec.specs.declared.blocks.Block.{Block}
 use Rattle.teco_exec.specs.declared.blocks.Body.{Body}
@@ -50,8 +50,8 @@ top_cons [] e = absurd cc
 top_cons (a ∷ bs) e = (bs, cc)
 
 -- an iteration is open
-pub inside_is : (text : List ℕ) (bs : List Block) → has_iteration bs ≡ inside (frames text bs)
-unfolding frames has_iteration inside
+pub inside_is : (text : List ℕ) (bs : List Block) → has_iteration bs ≡ inside_iteration (frames text bs)
+unfolding frames has_iteration inside_iteration
 inside_is text [] = refl
 inside_is text (b ∷ bs) = ap (λ (i : Bool). elim (kind_of b.body) [ Iter ↦ true | Then ↦ i | Else ↦ i ]) (inside_is text bs)
 
@@ -108,17 +108,17 @@ start_within (b ∷ bs) h = h 0 b (omega arith)
 
 -- a block more is opened, or 64 are open
 module _ (text more : List ℕ) (step : machine.BlockStep) (bs : List Block) (a : Arguments) (left : List ℕ) where
-  pub opening_full : length bs ≡ 64 → breaks Pdo ≡ machine.opening step more (record { args = a; left = left; blocks = frames text bs })
+  pub opening_full : length bs ≡ 64 → fault_comes Pdo ≡ machine.pass_opening step more (record { args = a; left = left; blocks = frames text bs })
   opening_full e = rw (eq-eqb (length (frames text bs)) 64 (frames_length text bs ∙ e))
 
-  pub opening_free : (length bs ≡ 64 → ⊥) → at_block step more ≡ machine.opening step more (record { args = a; left = left; blocks = frames text bs })
+  pub opening_free : (length bs ≡ 64 → ⊥) → block_comes step more ≡ machine.pass_opening step more (record { args = a; left = left; blocks = frames text bs })
   opening_free ne = rw (false_from_ne_true (eqb (length (frames text bs)) 64) (λ e. ne (sym (frames_length text bs) ∙ eqb-true (length (frames text bs)) 64 e)))
 
 -- the text ends, or it ends in a block
-pub no_block : (text : List ℕ) (bs : List Block) → length bs ≡ 0 → ends ≡ at_end (frames text bs)
+pub no_block : (text : List ℕ) (bs : List Block) → length bs ≡ 0 → end_comes ≡ pass_text_end (frames text bs)
 no_block text bs e = grind (arith, frames_length)
 
-pub some_block : (text : List ℕ) (bs : List Block) → (length bs ≡ 0 → ⊥) → breaks Utc ≡ at_end (frames text bs)
+pub some_block : (text : List ℕ) (bs : List Block) → (length bs ≡ 0 → ⊥) → fault_comes Utc ≡ pass_text_end (frames text bs)
 some_block text bs ne = grind (arith, frames_length)
 
 -- the depth at which the innermost block is, as the code counts it and as the machine does
@@ -129,31 +129,31 @@ deeper : (text : List ℕ) (bs : List Block) (n : ℕ) → n ≡ length bs → n
 deeper text bs n e = omega (arith, frames_length text bs)
 
 pub divides_then : {bs outer : List Block} {b : Block} {n : ℕ} (text more : List ℕ) (x : Close) → bs ≡ b ∷ outer → kind_of b.body ≡ Then → n ≡ length bs
-    → x ≡ (list_at (Some Else) n more).1 → passing (skipped (past x) (closes more (frames text outer))) ≡ machine.divides more (frames text bs)
+    → x ≡ (list_at (Some Else) n more).1 → passed_or_fault (after_skip (past x) (after_block_end more (frames text outer))) ≡ machine.pass_divider more (frames text bs)
 divides_then text more x e is len skip = rw (skip, deep text e len, frames_kind text e is)
 
 -- the same where it ends well, with arguments that were dropped
 pub divides_on : {bs outer : List Block} {b : Block} {n : ℕ} {a : Arguments} (text more rest : List ℕ) (divided : Bool) → a ≡ no_arguments → bs ≡ b ∷ outer → kind_of b.body ≡ Then → n ≡ length bs
-    → lists.closed divided rest ≡ (list_at (Some Else) n more).1 → moved (record { args = a; left = rest; blocks = frames text outer }) ≡ machine.divides more (frames text bs)
+    → lists.closed divided rest ≡ (list_at (Some Else) n more).1 → passed_to (record { args = a; left = rest; blocks = frames text outer }) ≡ machine.pass_divider more (frames text bs)
 divides_on {outer = outer} text more rest divided dropped e is len skip =
-    ap (λ a. moved (record { args = a; left = rest; blocks = frames text outer })) dropped ∙ divides_then text more (lists.closed divided rest) e is len skip
+    ap (λ a. passed_to (record { args = a; left = rest; blocks = frames text outer })) dropped ∙ divides_then text more (lists.closed divided rest) e is len skip
 
 pub passed_over : {n : ℕ} (text more : List ℕ) (bs : List Block) (x : Past) (c : Cursor) → n ≡ length bs → x ≡ past (list_at (Some Iter) (n + 1) more).1
-    → skipped x c ≡ skipped (past (list_at (Some Iter) (suc (length (frames text bs))) more).1) c
+    → after_skip x c ≡ after_skip (past (list_at (Some Iter) (suc (length (frames text bs))) more).1) c
 passed_over {n = n} text more bs x c len skip = rw (skip, deeper text bs n len)
 
 pub second_is : {n : ℕ} (text more : List ℕ) (bs : List Block) (x : Close) (c : Cursor) → n ≡ length bs → x ≡ (list_at (Some Then) (n + 1) more).1
-    → second_part x c ≡ second_part (list_at (Some Then) (suc (length (frames text bs))) more).1 c
+    → inside_second_part x c ≡ inside_second_part (list_at (Some Then) (suc (length (frames text bs))) more).1 c
 second_is {n = n} text more bs x c len skip = rw (skip, deeper text bs n len)
 
 -- A turn ends: the next one begins, or the iteration is over.
 module _ (text more left : List ℕ) (a : Arguments) where
   abbrev turned_to : List Block → Option (List Block) → Cursor
-  turned_to outer None = closes more (frames text outer)
+  turned_to outer None = after_block_end more (frames text outer)
   turned_to outer (Some new) = record { args = no_arguments; left = drop (list_start new) text; blocks = frames text new }
 
   turned : (b : Block) (outer : List Block) (x : Body) → kind_of x ≡ Iter
-      → Ok (turned_to outer (in_turn b outer (next_body x))) ≡ machine.end_turn more (record { args = a; left = left; blocks = frames text (record b { body = x } ∷ outer) })
+      → Ok (turned_to outer (in_turn b outer (next_body x))) ≡ machine.after_turn_end more (record { args = a; left = left; blocks = frames text (record b { body = x } ∷ outer) })
   unfolding frames
   turned b outer body.Endless is = refl
   turned b outer (body.Turns zero) is = refl
@@ -161,38 +161,38 @@ module _ (text more left : List ℕ) (a : Arguments) where
   turned b outer x is = absurd cc
 
   pub turn_goes_on : {new : List Block} {start : ℕ} (bs : List Block) → EndsTurn bs → next_turn bs ≡ Some new → list_start new ≡ start
-      → Ok (record { args = no_arguments; left = drop start text; blocks = frames text new }) ≡ machine.end_turn more (record { args = a; left = left; blocks = frames text bs })
+      → Ok (record { args = no_arguments; left = drop start text; blocks = frames text new }) ≡ machine.after_turn_end more (record { args = a; left = left; blocks = frames text bs })
   turn_goes_on [] is e at = absurd is
   turn_goes_on (b ∷ outer) is e at = rw (← at) (ap (λ o. Ok (turned_to outer o)) (sym e) ∙ turned b outer b.body is)
 
   pub turn_is_last : (bs outer : List Block) (closed : Option Block) → Closes bs outer closed → EndsTurn bs → next_turn bs ≡ None
-      → Ok (closes more (frames text outer)) ≡ machine.end_turn more (record { args = a; left = left; blocks = frames text bs })
+      → Ok (after_block_end more (frames text outer)) ≡ machine.after_turn_end more (record { args = a; left = left; blocks = frames text bs })
   turn_is_last bs outer None e is last = absurd (subst EndsTurn e.0 is)
   turn_is_last bs outer (Some b) e is last = rw e (ap (λ o. Ok (turned_to outer o)) (sym (subst (λ bs. next_turn bs ≡ None) e last)) ∙ turned b outer b.body (subst EndsTurn e is))
 
 -- blocks that are left
-pub leaving_none : {bs : List Block} (text : List ℕ) (a : Arguments) (left : List ℕ) → bs ≡ [] → Err Sni ≡ leaving (frames text bs) a left
-unfolding leaving
-leaving_none text a left e = sym (ap (λ fs. leaving fs a left) (frames_nil text e))
+pub leaving_none : {bs : List Block} (text : List ℕ) (a : Arguments) (left : List ℕ) → bs ≡ [] → Err Sni ≡ after_leaving_iteration (frames text bs) a left
+unfolding after_leaving_iteration
+leaving_none text a left e = sym (ap (λ fs. after_leaving_iteration fs a left) (frames_nil text e))
 
 module _ {bs outer : List Block} {b : Block} {n : ℕ} (text left : List ℕ) (a : Arguments) (k : Kind) (x : Past)
     (e : bs ≡ b ∷ outer) (is : k ≡ kind_of b.body) (len : n ≡ length bs) (skip : x ≡ behind_block list_at k n (list_at (Some k) n left).1) where
   -- one block is left, of a kind that is known
-  pub leaves : {j : Kind} → k ≡ j → left_block (λ c. leaving (frames text outer) c.args c.left) j a (frames text outer) x ≡ leaving (frames text bs) a left
-  unfolding leaving
+  pub leaves : {j : Kind} → k ≡ j → after_leaving_block (λ c. after_leaving_iteration (frames text outer) c.args c.left) j a (frames text outer) x ≡ after_leaving_iteration (frames text bs) a left
+  unfolding after_leaving_iteration
   leaves same = rw (← same, skip, deep text e len, is, frames_cons text e)
 
-  pub leaves_part : (more : List ℕ) → x ≡ Ok more → (k ≡ Then) ⊎ (k ≡ Else) → leaving (frames text outer) a more ≡ leaving (frames text bs) a left
-  leaves_part more passed (inl part) = ap (left_block (λ c. leaving (frames text outer) c.args c.left) Then a (frames text outer)) (sym passed) ∙ leaves part
-  leaves_part more passed (inr part) = ap (left_block (λ c. leaving (frames text outer) c.args c.left) Else a (frames text outer)) (sym passed) ∙ leaves part
+  pub leaves_part : (more : List ℕ) → x ≡ Ok more → (k ≡ Then) ⊎ (k ≡ Else) → after_leaving_iteration (frames text outer) a more ≡ after_leaving_iteration (frames text bs) a left
+  leaves_part more passed (inl part) = ap (after_leaving_block (λ c. after_leaving_iteration (frames text outer) c.args c.left) Then a (frames text outer)) (sym passed) ∙ leaves part
+  leaves_part more passed (inr part) = ap (after_leaving_block (λ c. after_leaving_iteration (frames text outer) c.args c.left) Else a (frames text outer)) (sym passed) ∙ leaves part
 
 -- Jumps: to a tag in the innermost list, or in a list around it.
-abbrev pub around : List ℕ → List ℕ → Arguments → List Block → machine.Moved
+abbrev pub around : List ℕ → List ℕ → Arguments → List Block → machine.CursorOrError
 around text name a [] = Err Tag
-around text name a (b ∷ outer) = jumping name text (frames text outer) a
+around text name a (b ∷ outer) = after_jump name text (frames text outer) a
 
 pub jumps : {n start : ℕ} (text name : List ℕ) (a : Arguments) (bs : List Block) (o : Option (List ℕ)) → n ≡ length bs → start ≡ list_start bs → o ≡ tag_at name n (drop start text)
-    → landed o a (frames text bs) (around text name a bs) ≡ jumping name text (frames text bs) a
-unfolding frames jumping
+    → after_tag_or o a (frames text bs) (around text name a bs) ≡ after_jump name text (frames text bs) a
+unfolding frames after_jump
 jumps text name a [] o len at finds = rw (finds, len, at)
 jumps text name a (b ∷ outer) o len at finds = rw (finds, len, at, frames_length text outer)

@@ -8,9 +8,9 @@ use Rattle.teco_store.specs.State.{State}
 use Rattle.teco_store.specs.Trail.{Trail, moved, stepped}
 use Rattle.teco_step.specs.Terminal.{Screen, Shows, IsFrontOf, count_after}
 use Rattle.teco_exec.specs.Machine.{Final, Now, run_within}
-use Rattle.teco_exec.specs.StringMeaning.{Meant, string_meaning}
+use Rattle.teco_exec.specs.StringMeaning.{StringMeaning, string_meaning}
 use Rattle.teco_exec.specs.Runs.{Runs, EndsWell, is_tty, trail_of}
-use Rattle.teco_exec.specs.Running.{Origin, Host, host, Continuation, Going, Follows, Comes, Ended, Reached, goes, over, Reaches, reached_run, ready_run, whole_run, now_at, ended_by, IsFinished}
+use Rattle.teco_exec.specs.Running.{Origin, Host, host, Continuation, RunGoesOn, StillFollows, ReachesContinuation, ReachesEnd, Reached, goes, over, Reaches, reached_run, ready_run, whole_run, now_at, ended_by, IsFinished}
 use Rattle.teco_exec.specs.MachineLaws.{MachineMeans}
 use Rattle.teco_exec.proofs.MachineMeans.{final_now, Stays, ready_fuel}
 
@@ -31,7 +31,7 @@ well_runs s text limit (Some c) steps typed new f e = e
 well_shown : (code : Option Code) (steps : ℕ) → IsFinished code → false ≡ is_tty (ended_by code steps)
 well_shown code steps f = grind arith
 
-abbrev meant_now : Meant → Now
+abbrev meant_now : StringMeaning → Now
 meant_now m = record { state = m.state; typed = m.typed; load = m.load }
 
 -- Where the run has come to after some steps is what the text means under that limit.
@@ -41,7 +41,7 @@ now_there means o k next now leads stays =
     sym (ap meant_now (means o.state o.text k)) ∙ ap (λ j. final_now (run_within j (whole_run o))) none ∙ ap final_now (leads 0) ∙ stays
 
 -- What is followed from one moment to the next is followed from the first.
-pub since : (o : Origin) (first before after : Host) (d : Reached) → Follows o first before → Reaches o before after d → Reaches o first after d
+pub since : (o : Origin) (first before after : Host) (d : Reached) → StillFollows o first before → Reaches o before after d → Reaches o first after d
 since o first before after (goes next) f r = record { going = r.going; follows = λ floor p. r.follows floor (f floor p) }
 since o first before after (over code) f r = record { typed = r.typed; runs = r.runs; shows = r.shows; again = r.again; follows = λ floor p. r.follows floor (f floor p) }
 
@@ -61,23 +61,23 @@ advanced t bytes n now = record { state = t; typed = now.typed ++ bytes; load = 
 abbrev pub Pays : Continuation → Continuation → State → State → List ℕ → ℕ → Type 0
 Pays next further s t bytes n = (now : Now) → now.state ≡ s → (fuel : ℕ) → ready_run (suc fuel) (next now) ≡ ready_run fuel (further (advanced t bytes n now))
 
-module _ (o : Origin) (h : Host) (next : Continuation) (g : Going o h next) where
+module _ (o : Origin) (h : Host) (next : Continuation) (g : RunGoesOn o h next) where
   pub ends_here : (code : Option Code) → IsFinished code → h.steps ≤ o.limit
-      → (let left = o.limit - h.steps in ready_run left (next (now_at o h.steps)) ≡ reached_run left (now_at o h.steps) (over code)) → Ended o h h code
+      → (let left = o.limit - h.steps in ready_run left (next (now_at o h.steps)) ≡ reached_run left (now_at o h.steps) (over code)) → ReachesEnd o h h code
   ends_here code f le e =
       let now = now_at o h.steps in
       let left = o.limit - h.steps in
       let all : h.steps + left ≡ o.limit = omega arith in
       let r : run_within o.limit (whole_run o) ≡ reached_run left now (over code) = sym (ap (λ k. run_within k (whole_run o)) all) ∙ g.leads left ∙ e in
-      let m : string_meaning o.state o.text o.limit ≡ (let x : Meant = record { state = now.state; typed = now.typed; code = code; steps = o.limit - left; load = now.load } in x) =
-      sym (g.means o.state o.text o.limit) ∙ ap (λ (x : Final). let y : Meant = record { state = x.state; typed = x.typed; code = x.code; steps = o.limit - x.fuel; load = x.load } in y) r in
+      let m : string_meaning o.state o.text o.limit ≡ (let x : StringMeaning = record { state = now.state; typed = now.typed; code = code; steps = o.limit - left; load = now.load } in x) =
+      sym (g.means o.state o.text o.limit) ∙ ap (λ (x : Final). let y : StringMeaning = record { state = x.state; typed = x.typed; code = x.code; steps = o.limit - x.fuel; load = x.load } in y) r in
       record {
         typed = now.typed;
         runs = well_runs o.state o.text o.limit code h.steps now.typed h.state f (record {
-          code = sym (ap (λ (x : Meant). x.code) m);
-          steps = let same : (string_meaning o.state o.text o.limit).steps ≡ o.limit - left = ap (λ (x : Meant). x.steps) m in omega arith;
-          state = g.state ∙ sym (ap (λ (x : Meant). x.state) m);
-          bytes = sym (ap (λ (x : Meant). x.typed) m);
+          code = sym (ap (λ (x : StringMeaning). x.code) m);
+          steps = let same : (string_meaning o.state o.text o.limit).steps ≡ o.limit - left = ap (λ (x : StringMeaning). x.steps) m in omega arith;
+          state = g.state ∙ sym (ap (λ (x : StringMeaning). x.state) m);
+          bytes = sym (ap (λ (x : StringMeaning). x.typed) m);
         });
         shows = subst (λ failed. Shows o.screen h.screen now.typed failed) (well_shown code h.steps f) g.shows;
         again = g.state;
@@ -85,13 +85,13 @@ module _ (o : Origin) (h : Host) (next : Continuation) (g : Going o h next) wher
       }
 
   -- no step is left
-  pub limit_ends : h.steps ≡ o.limit → ((now : Now) → ready_run 0 (next now) ≡ reached_run 0 now (over (Some Lim))) → Ended o h h (Some Lim)
+  pub limit_ends : h.steps ≡ o.limit → ((now : Now) → ready_run 0 (next now) ≡ reached_run 0 now (over (Some Lim))) → ReachesEnd o h h (Some Lim)
   limit_ends same e =
       let none : 0 ≡ o.limit - h.steps = omega arith in
       ends_here (Some Lim) refl (omega arith) (subst (λ k. ready_run k (next (now_at o h.steps)) ≡ reached_run k (now_at o h.steps) (over (Some Lim))) none (e (now_at o h.steps)))
 
   -- what uses no step
-  pub continues : (further : Continuation) → Settles next (goes further) → Comes o h h further
+  pub continues : (further : Continuation) → Settles next (goes further) → ReachesContinuation o h h further
   continues further e = record {
     going = record { means = g.means; state = g.state; shows = g.shows; leads = λ fuel. g.leads fuel ∙ e (now_at o h.steps) fuel };
     follows = λ floor p. p;
@@ -116,10 +116,10 @@ module _ (o : Origin) (h : Host) (next : Continuation) (g : Going o h next) wher
 
     pub step_done : (later : Host) → later.steps ≡ h.steps + 1 → later.state ≡ t → Shows h.screen later.screen bytes false
         → ((u : Trail) → h.follows u → u.changes ≡ 0 → u.steps ≡ h.steps → u.states (h.steps + 1) ≡ t → u.load + n ≤ u.loads (h.steps + 1) → later.follows (stepped (moved u n)))
-        → Comes o h later further
+        → ReachesContinuation o h later further
     step_done later count state shows on =
         let told = trail_of o.state o.text in
-        subst (λ k. Comes o h (host later.state later.follows later.screen k) further) (sym count) (record {
+        subst (λ k. ReachesContinuation o h (host later.state later.follows later.screen k) further) (sym count) (record {
           going = record {
             means = g.means;
             state = state ∙ sym (ap (λ (x : Now). x.state) now_later);
@@ -140,11 +140,11 @@ module _ (o : Origin) (h : Host) (next : Continuation) (g : Going o h next) wher
           let all : o.limit ≡ h.steps + 1 + left = omega arith in
           let e : run_within o.limit (whole_run o) ≡ ready_run left (further later_now) = ap (λ k. run_within k (whole_run o)) all ∙ leads_on left in
           let fuel : (run_within o.limit (whole_run o)).fuel ≤ left = subst (λ (x : Final). x.fuel ≤ left) (sym e) (ready_fuel left (further later_now)) in
-          let steps : o.limit - (run_within o.limit (whole_run o)).fuel ≡ (string_meaning o.state o.text o.limit).steps = ap (λ (x : Meant). x.steps) (g.means o.state o.text o.limit) in
+          let steps : o.limit - (run_within o.limit (whole_run o)).fuel ≡ (string_meaning o.state o.text o.limit).steps = ap (λ (x : StringMeaning). x.steps) (g.means o.state o.text o.limit) in
           omega arith
 
       -- memory was refused
-      pub no_memory : (w : Screen) → Shows h.screen w [] false → Ended o h (host new G w h.steps) (Some Mem)
+      pub no_memory : (w : Screen) → Shows h.screen w [] false → ReachesEnd o h (host new G w h.steps) (Some Mem)
       no_memory w shows = record {
         typed = (now_at o h.steps).typed;
         runs = record { before = more_steps; state = same ∙ g.state; bytes = refl };
@@ -154,7 +154,7 @@ module _ (o : Origin) (h : Host) (next : Continuation) (g : Going o h next) wher
       }
 
       -- the terminal failed in a step that types these bytes
-      pub no_terminal : (w : Screen) (front : List ℕ) → bytes ≢ [] → IsFrontOf front bytes → Shows h.screen w front true → Ended o h (host new G w h.steps) (Some Tty)
+      pub no_terminal : (w : Screen) (front : List ℕ) → bytes ≢ [] → IsFrontOf front bytes → Shows h.screen w front true → ReachesEnd o h (host new G w h.steps) (Some Tty)
       no_terminal w front some part shows =
           let typed = (now_at o h.steps).typed in
           let typed_on : (now_at o (h.steps + 1)).typed ≡ typed ++ bytes = ap (λ (x : Now). x.typed) now_later in

@@ -14,7 +14,7 @@ use Rattle.teco_scan.specs.Lists.{Close, closed, broken, past, Listed, wrong, pu
 use Rattle.teco_scan.specs.Scan.{Item, Instruction, TokenMeaning, Scanned, found, ended, fault, scan}
 use Rattle.teco_scan.specs.Scan as token
 use Rattle.teco_scan.specs.Tree.{is_fault, done, item, escape, tag}
-use Rattle.teco_exec.specs.Machine.{Frame, Cursor, BlockStep, iterates, ends_turn, decides, Coming, moved, comes, at_block, ends, breaks, kind_of, skipped, passing, closes, pass_mark, pass_instruction, pass_scanned, pass, Moved, inside, opening, counted, iterated, turned, second_part, decided, left_block, leaving, landed, jumping, block_step}
+use Rattle.teco_exec.specs.Machine.{Frame, Cursor, BlockStep, iterates, ends_turn, decides, Coming, passed_to, step_comes, block_comes, end_comes, fault_comes, innermost_kind, after_skip, passed_or_fault, after_block_end, pass_mark, pass_instruction, pass_scanned, pass, CursorOrError, inside_iteration, pass_opening, after_counted_start, after_iteration_start, next_turn_or_end, inside_second_part, inside_chosen_part, after_leaving_block, after_leaving_iteration, after_tag_or, after_jump, after_block_step}
 use Rattle.teco_exec.proofs.Denoting.{here, after, after_iteration, after_conditional, Fits, FitsAt}
 use Rattle.teco_exec.specs.Machine as machine
 
@@ -28,31 +28,31 @@ IsPart k = Unit {0}
 
 -- From a cursor, whose list from there on is this, comes this. What is passed leaves fewer bytes, and what breaks is a text's own fault.
 pub data Passes : Cursor → Listed → Coming → Type 0 where
-  text_ends : (a : Arguments) (left : List ℕ) → Passes (at a left []) (done, broken Utc) ends
-  faults : (c : Cursor) (e : Code) → is_fault e ≡ true → Passes c (wrong e) (breaks e)
-  item_comes : (c : Cursor) (m : Modifiers) (i : Item) (bs : List ℕ) → Passes c (put (item m i) (here c.blocks bs)) (comes m i (record c { left = bs }))
-  tag_passes : (c : Cursor) (name bs : List ℕ) → length bs < length c.left → Passes c (put (tag name) (here c.blocks bs)) (moved (record c { left = bs }))
-  escape_passes : (c : Cursor) (bs : List ℕ) → length bs < length c.left → Passes c (put escape (here c.blocks bs)) (moved (record c { args = no_arguments; left = bs }))
-  iteration_opens : (c : Cursor) (bs : List ℕ) → Passes c (iter_at list_at (kind_of c.blocks) (length c.blocks) (list_at (Some Iter) (suc (length c.blocks)) bs)) (at_block iterates bs)
-  conditional_opens : (c : Cursor) (t : Test) (bs : List ℕ) → Passes c (cond_at list_at (kind_of c.blocks) (length c.blocks) t (list_at (Some Then) (suc (length c.blocks)) bs)) (at_block (decides t) bs)
-  turn_ends : (a : Arguments) (left start : List ℕ) (turns : Option ℕ) (outer : List Frame) (bs : List ℕ) → Passes (at a left (record { kind = Iter; start = start; left = turns } ∷ outer)) (done, closed false bs) (at_block ends_turn bs)
+  text_ends : (a : Arguments) (left : List ℕ) → Passes (at a left []) (done, broken Utc) end_comes
+  faults : (c : Cursor) (e : Code) → is_fault e ≡ true → Passes c (wrong e) (fault_comes e)
+  item_comes : (c : Cursor) (m : Modifiers) (i : Item) (bs : List ℕ) → Passes c (put (item m i) (here c.blocks bs)) (step_comes m i (record c { left = bs }))
+  tag_passes : (c : Cursor) (name bs : List ℕ) → length bs < length c.left → Passes c (put (tag name) (here c.blocks bs)) (passed_to (record c { left = bs }))
+  escape_passes : (c : Cursor) (bs : List ℕ) → length bs < length c.left → Passes c (put escape (here c.blocks bs)) (passed_to (record c { args = no_arguments; left = bs }))
+  iteration_opens : (c : Cursor) (bs : List ℕ) → Passes c (iter_at list_at (innermost_kind c.blocks) (length c.blocks) (list_at (Some Iter) (suc (length c.blocks)) bs)) (block_comes iterates bs)
+  conditional_opens : (c : Cursor) (t : Test) (bs : List ℕ) → Passes c (cond_at list_at (innermost_kind c.blocks) (length c.blocks) t (list_at (Some Then) (suc (length c.blocks)) bs)) (block_comes (decides t) bs)
+  turn_ends : (a : Arguments) (left start : List ℕ) (turns : Option ℕ) (outer : List Frame) (bs : List ℕ) → Passes (at a left (record { kind = Iter; start = start; left = turns } ∷ outer)) (done, closed false bs) (block_comes ends_turn bs)
   part_ends : (a : Arguments) (left : List ℕ) (b : Frame) (outer : List Frame) (l : Close) (bs : List ℕ) → IsPart b.kind → behind_block list_at b.kind (suc (length outer)) l ≡ Ok bs → length bs < length left
-      → Passes (at a left (b ∷ outer)) (done, l) (moved (closes bs outer))
+      → Passes (at a left (b ∷ outer)) (done, l) (passed_to (after_block_end bs outer))
   part_faults : (a : Arguments) (left : List ℕ) (b : Frame) (outer : List Frame) (l : Close) (e : Code) → IsPart b.kind → behind_block list_at b.kind (suc (length outer)) l ≡ Err e → is_fault e ≡ true
-      → Passes (at a left (b ∷ outer)) (done, l) (breaks e)
+      → Passes (at a left (b ∷ outer)) (done, l) (fault_comes e)
 
-opened : (b : Bool) (c : Cursor) (l : Listed) (o : BlockStep) (bs : List ℕ) → Passes c l (at_block o bs) → Passes c (if b then wrong Pdo else l) (if b then breaks Pdo else at_block o bs)
+opened : (b : Bool) (c : Cursor) (l : Listed) (o : BlockStep) (bs : List ℕ) → Passes c l (block_comes o bs) → Passes c (if b then wrong Pdo else l) (if b then fault_comes Pdo else block_comes o bs)
 opened true c l o bs h = faults c Pdo refl
 opened false c l o bs h = h
 
 module _ (laws : BlockLaws) (a : Arguments) (left : List ℕ) where
   -- a first part ends, and the second, whose list closes so, is passed over
   divided : (b : Frame) (outer : List Frame) (bs : List ℕ) (l : Close) → length bs < length left → IsPart b.kind → behind_block list_at b.kind (suc (length outer)) (closed true bs) ≡ past l
-      → Within (length bs) l → ((e : Code) → l ≡ broken e → is_fault e ≡ true) → Passes (at a left (b ∷ outer)) (done, closed true bs) (passing (skipped (past l) (closes bs outer)))
+      → Within (length bs) l → ((e : Code) → l ≡ broken e → is_fault e ≡ true) → Passes (at a left (b ∷ outer)) (done, closed true bs) (passed_or_fault (after_skip (past l) (after_block_end bs outer)))
   divided b outer bs (closed d more) lt part is within faulty = part_ends a left b outer (closed true bs) more part is (omega arith)
   divided b outer bs (broken e) lt part is within faulty = part_faults a left b outer (closed true bs) e part is (faulty e refl)
 
-  marked : (m : BlockMark) (bs : List ℕ) (blocks : List Frame) → length bs < length left → Passes (at a left blocks) (at_mark list_at m bs (kind_of blocks) (length blocks)) (pass_mark m bs (at a left blocks))
+  marked : (m : BlockMark) (bs : List ℕ) (blocks : List Frame) → length bs < length left → Passes (at a left blocks) (at_mark list_at m bs (innermost_kind blocks) (length blocks)) (pass_mark m bs (at a left blocks))
   marked Iterate bs blocks lt = opened (length blocks == 64) (at a left blocks) _ iterates bs (iteration_opens (at a left blocks) bs)
   marked EndIteration bs [] lt = faults _ Bni refl
   marked m bs [] lt = faults _ Ill refl
@@ -68,13 +68,13 @@ module _ (laws : BlockLaws) (a : Arguments) (left : List ℕ) where
       by m k = faults _ Ill refl
 
   scanned : (s : Scanned) (blocks : List Frame) → ((t : TokenMeaning) (bs : List ℕ) → s ≡ found t bs → length bs < length left) → ((e : Code) → s ≡ fault e → is_fault e ≡ true)
-      → Passes (at a left blocks) (at_scan list_at s (kind_of blocks) (length blocks)) (pass_scanned s (at a left blocks))
+      → Passes (at a left blocks) (at_scan list_at s (innermost_kind blocks) (length blocks)) (pass_scanned s (at a left blocks))
   scanned ended [] lt f = text_ends a left
   scanned ended (b ∷ bs) lt f = faults _ Utc refl
   scanned (fault e) blocks lt f = faults _ e (f e refl)
   scanned (found t bs) blocks lt f = by t.instruction (lt t bs refl)
     where
-      by : (i : Instruction) → length bs < length left → Passes (at a left blocks) (at_instruction list_at i t.modifiers bs (kind_of blocks) (length blocks)) (pass_instruction t.modifiers i bs (at a left blocks))
+      by : (i : Instruction) → length bs < length left → Passes (at a left blocks) (at_instruction list_at i t.modifiers bs (innermost_kind blocks) (length blocks)) (pass_instruction t.modifiers i bs (at a left blocks))
       by (token.step i) lt = item_comes (at a left blocks) t.modifiers i bs
       by (token.mark m) lt = marked m bs blocks lt
       by (token.decide t) lt = opened (length blocks == 64) (at a left blocks) _ (decides t) bs (conditional_opens (at a left blocks) t bs)
@@ -82,7 +82,7 @@ module _ (laws : BlockLaws) (a : Arguments) (left : List ℕ) where
       by token.escape lt = escape_passes (at a left blocks) bs lt
 
 pub passes : BlockLaws → (c : Cursor) → Passes c (here c.blocks c.left) (pass c)
-passes laws c = subst (λ (l : Listed). Passes c l (pass c)) (sym (laws.list_unrolls (kind_of c.blocks) (length c.blocks) c.left)) (scanned laws c.args c.left (scan c.left) c.blocks (laws.token_shortens c.left) (laws.scan_faults c.left))
+passes laws c = subst (λ (l : Listed). Passes c l (pass c)) (sym (laws.list_unrolls (innermost_kind c.blocks) (length c.blocks) c.left)) (scanned laws c.args c.left (scan c.left) c.blocks (laws.token_shortens c.left) (laws.scan_faults c.left))
 
 -- The innermost block is an iteration, whose list closes so.
 pub data TurnEnds (bs : List ℕ) : List Frame → Type 0 where
@@ -95,11 +95,11 @@ FitsStep (machine.decides t) bs blocks = Fits blocks (after_conditional blocks b
 FitsStep machine.ends_turn bs blocks = TurnEnds bs blocks
 
 abbrev pub FitsComing : Cursor → Coming → Type 0
-FitsComing c (moved d) = FitsAt d
-FitsComing c (comes m i d) = FitsAt d
-FitsComing c (at_block b bs) = FitsStep b bs c.blocks
-FitsComing c ends = Unit {0}
-FitsComing c (breaks e) = Unit {0}
+FitsComing c (passed_to d) = FitsAt d
+FitsComing c (step_comes m i d) = FitsAt d
+FitsComing c (block_comes b bs) = FitsStep b bs c.blocks
+FitsComing c end_comes = Unit {0}
+FitsComing c (fault_comes e) = Unit {0}
 
 keeps : {c : Cursor} {l : Listed} {k : Coming} → Passes c l k → Fits c.blocks l.1 → FitsComing c k
 unfolding Fits
@@ -117,7 +117,7 @@ pass_keeps laws c f = keeps (passes laws c) f
 
 -- What is passed has a byte.
 abbrev pub Shorter : ℕ → Coming → Type 0
-Shorter n (moved d) = length d.left < n
+Shorter n (passed_to d) = length d.left < n
 Shorter n k = Unit {0}
 
 shorter : {c : Cursor} {l : Listed} {k : Coming} → Passes c l k → Shorter (length c.left) k

@@ -17,7 +17,7 @@ use Rattle.teco_scan.specs.declared.table.TheConstants.{ROWS}
 use Rattle.teco_core.specs.Ascii.{is_filler}
 use Rattle.teco_scan.specs.Scan.{Instruction, TokenMeaning, Reading, found, scanned, scan, scan_here, after_fillers, after_letter, after_name, row_at, command_at, operand_at, modifiers_at, token_from}
 use Rattle.teco_scan.specs.Spelling.{Marks, no_mark, at_mark, colon_mark, SpellsName, one_spelled, SpellsOperand, bare_spelled, Among, Spells, run_spelled, command_spelled, IsSpelled}
-use Rattle.teco_exec.specs.Machine.{leave_found}
+use Rattle.teco_exec.specs.Machine.{leave_is_next}
 use Rattle.teco_exec.specs.Semicolon.{is_semicolon}
 
 abbrev is_leave_form : Form → Bool
@@ -54,36 +54,36 @@ no_marks (at_mark one s) is = let e = (no_marks s is).1 in absurd cc
 no_marks (colon_mark {m = m} few s) is = absurd (counts m (no_marks s is).1)
 
 -- a token
-operand_leaves : {f : Form} {m : Modifiers} {i : Instruction} {bs : List ℕ} (rest : List ℕ) → SpellsOperand f m i bs → leave_found (found (record { modifiers = m; instruction = i }) rest) ≡ true
+operand_leaves : {f : Form} {m : Modifiers} {i : Instruction} {bs : List ℕ} (rest : List ℕ) → SpellsOperand f m i bs → leave_is_next (found (record { modifiers = m; instruction = i }) rest) ≡ true
     → (is_plain m ≡ true) × (is_leave_form f ≡ true)
 operand_leaves rest (bare_spelled {c = bares.Command commands.Leave}) e = (e, refl)
 operand_leaves rest (bare_spelled {c = c}) e = absurd cc
 operand_leaves rest s e = absurd cc
 
-token_leaves : {t : TokenMeaning} {bs : List ℕ} (rest : List ℕ) → Spells ROWS t bs → leave_found (found t rest) ≡ true → is_semicolon (bs ++ rest) ≡ true
+token_leaves : {t : TokenMeaning} {bs : List ℕ} (rest : List ℕ) → Spells ROWS t bs → leave_is_next (found t rest) ≡ true → is_semicolon (bs ++ rest) ≡ true
 token_leaves rest (run_spelled some digits) e = absurd cc
 token_leaves rest (command_spelled row operand b so) e =
     let is = operand_leaves rest so e in
     rw (b.whole, (no_marks b.marked is.0).0) (spells_semicolon operand rest b.named (row_names row ROWS b.among refl is.1))
 
-leads : IsSpelled ROWS → (bs : List ℕ) → leave_found (scanned (token_from ROWS bs)) ≡ true → is_semicolon bs ≡ true
+leads : IsSpelled ROWS → (bs : List ℕ) → leave_is_next (scanned (token_from ROWS bs)) ≡ true → is_semicolon bs ≡ true
 leads spelled bs = by (token_from ROWS bs) (λ t rest. spelled bs rest t)
   where
-    by : (r : Reading TokenMeaning) → ((t : TokenMeaning) (rest : List ℕ) → r ≡ Ok (t, rest) → (front : List ℕ) × Spells ROWS t front × (bs ≡ front ++ rest)) → leave_found (scanned r) ≡ true → is_semicolon bs ≡ true
+    by : (r : Reading TokenMeaning) → ((t : TokenMeaning) (rest : List ℕ) → r ≡ Ok (t, rest) → (front : List ℕ) × Spells ROWS t front × (bs ≡ front ++ rest)) → leave_is_next (scanned r) ≡ true → is_semicolon bs ≡ true
     by (Ok x) read e = let s = read x.0 x.1 refl in ap is_semicolon s.2 ∙ token_leaves x.1 s.1 e
     by (Err c) read e = absurd cc
 
-semicolon_leaves : (bs : List ℕ) → leave_found (scanned (token_from ROWS (59 ∷ bs))) ≡ true
+semicolon_leaves : (bs : List ℕ) → leave_is_next (scanned (token_from ROWS (59 ∷ bs))) ≡ true
 unfolding token_from modifiers_at command_at row_at after_name after_letter operand_at
 semicolon_leaves bs = refl
 
-leave_here : IsSpelled ROWS → (xs : List ℕ) → is_semicolon xs ≡ leave_found (scan_here xs)
+leave_here : IsSpelled ROWS → (xs : List ℕ) → is_semicolon xs ≡ leave_is_next (scan_here xs)
 leave_here spelled [] = refl
-leave_here spelled (b ∷ bs) = both_ways (b == 59) (leave_found (scanned (token_from ROWS (b ∷ bs))))
-    (λ e. subst (λ b. leave_found (scanned (token_from ROWS (b ∷ bs))) ≡ true) (sym (eqb-true b 59 e)) (semicolon_leaves bs))
+leave_here spelled (b ∷ bs) = both_ways (b == 59) (leave_is_next (scanned (token_from ROWS (b ∷ bs))))
+    (λ e. subst (λ b. leave_is_next (scanned (token_from ROWS (b ∷ bs))) ≡ true) (sym (eqb-true b 59 e)) (semicolon_leaves bs))
     (leads spelled (b ∷ bs))
 
-pub leave_comes : IsSpelled ROWS → (bs : List ℕ) → is_semicolon (after_fillers bs) ≡ leave_found (scan bs)
+pub leave_comes : IsSpelled ROWS → (bs : List ℕ) → is_semicolon (after_fillers bs) ≡ leave_is_next (scan bs)
 unfolding scan
 leave_comes spelled bs = leave_here spelled (after_fillers bs)
 

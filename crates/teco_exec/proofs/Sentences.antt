@@ -13,14 +13,14 @@ use Rattle.teco_step.specs.Step.{Step, End, on, leave, go, call, again, stop, ta
 use Rattle.teco_step.specs.Effect.{effect}
 use Rattle.teco_scan.specs.Lists.{nodes}
 use Rattle.teco_exec.specs.Test.{holds}
-use Rattle.teco_exec.specs.World.{World, Ran, cleared, after, pay_from, pay}
+use Rattle.teco_exec.specs.World.{World, WorldAndEnd, without_arguments, world_after, pay_from, pay}
 use Rattle.teco_exec.specs.Laws.{MeaningUnrolls, with_fuel, comes_to, StepEnds, first_effect, stepped_world, EmptyListEnds, FaultStops, TagIsPassed, EscapeDrops, NothingWithoutFuel, StepGoesOn, StepStops, JumpLands, JumpLeaves, CallReturns, CallTooDeep, FurtherStep, IterationCounts, IterationGoesOn, TurnEnds, LeavingEnds, ConditionalChooses}
-use Rattle.teco_exec.specs.Meaning.{Meaning, lands, then_rest, returned, calls, carries, steps, turns_of, iterates, part_end, chooses, leave_comes, first_setting, list_by, turn_end, turn, turns_by, further_by, layer, layers, meaning}
+use Rattle.teco_exec.specs.Meaning.{Meaning, run_after_tag, then_rest, after_call, run_call, run_after_step, run_step, turns_of, run_iteration, after_part, run_conditional, leave_comes, first_setting, list_by, after_turn, run_turn, turns_by, further_by, layer, layers, meaning}
 use Rattle.std.proofs.lemmas.Bool.Decides.{nat_tests}
 use Rattle.teco_scan.specs.declared.command.Modifiers.{Modifiers}
 
 -- Two runs are one, and leave no more than this fuel.
-record Same (k : ℕ) (x y : Ran) : Type 0 where
+record Same (k : ℕ) (x y : WorldAndEnd) : Type 0 where
   pub is : x ≡ y
   pub falls : x.0.fuel ≤ k
 
@@ -34,27 +34,27 @@ here : (w : World) (e : End) → Same w.fuel (w, e) (w, e)
 here w e = record { is = refl; falls = omega arith }
 
 -- one thing after another
-then_same : (k : ℕ) (f g : World → End → Ran) {x y : Ran} → Same k x y → ((w : World) (e : End) → w.fuel ≤ k → Same w.fuel (f w e) (g w e)) → Same k (f x.0 x.1) (g y.0 y.1)
+then_same : (k : ℕ) (f g : World → End → WorldAndEnd) {x y : WorldAndEnd} → Same k x y → ((w : World) (e : End) → w.fuel ≤ k → Same w.fuel (f w e) (g w e)) → Same k (f x.0 x.1) (g y.0 y.1)
 then_same k f g {x} {y} s h =
     let t : Same x.0.fuel (f x.0 x.1) (g x.0 x.1) = h x.0 x.1 s.falls in
-    record { is = t.is ∙ ap (λ (r : Ran). g r.0 r.1) s.is; falls = omega (arith, t.falls, s.falls) }
+    record { is = t.is ∙ ap (λ (r : WorldAndEnd). g r.0 r.1) s.is; falls = omega (arith, t.falls, s.falls) }
 
-pay_same : (k : ℕ) (w : World) (a b : World → Ran) → k ≡ w.fuel → ((v : World) → v.fuel < w.fuel → Same v.fuel (a v) (b v)) → Same w.fuel (pay_from k w a) (pay_from k w b)
+pay_same : (k : ℕ) (w : World) (a b : World → WorldAndEnd) → k ≡ w.fuel → ((v : World) → v.fuel < w.fuel → Same v.fuel (a v) (b v)) → Same w.fuel (pay_from k w a) (pay_from k w b)
 pay_same zero w a b e h = here w (stop Lim)
 pay_same (suc k) w a b e h =
     let s : Same k (a (record w { fuel = k })) (b (record w { fuel = k })) = h (record w { fuel = k }) (omega arith) in
     record { is = s.is; falls = omega (arith, s.falls) }
 
-returned_same : (w : World) (e : End) → Same w.fuel (returned w e) (returned w e)
+returned_same : (w : World) (e : End) → Same w.fuel (after_call w e) (after_call w e)
 returned_same w (go name) = here w (stop Tag)
 returned_same w e = here w e
 
-part_end_same : (w : World) (e : End) → Same w.fuel (part_end w e) (part_end w e)
-part_end_same w on = here (cleared w) on
+part_end_same : (w : World) (e : End) → Same w.fuel (after_part w e) (after_part w e)
+part_end_same w on = here (without_arguments w) on
 part_end_same w e = here w e
 
 module _ (f : ℕ) (m n : Meaning) (h : Agree f m n) where
-  lands_same : (whole : Nodes) (w : World) (depth : ℕ) (inside : Bool) (name : List ℕ) (o : Option Nodes) → w.fuel < f → Same w.fuel (lands m whole w depth inside name o) (lands n whole w depth inside name o)
+  lands_same : (whole : Nodes) (w : World) (depth : ℕ) (inside : Bool) (name : List ℕ) (o : Option Nodes) → w.fuel < f → Same w.fuel (run_after_tag m whole w depth inside name o) (run_after_tag n whole w depth inside name o)
   lands_same whole w depth inside name None lt = here w (go name)
   lands_same whole w depth inside name (Some rest) lt = h.list whole rest w depth inside lt
 
@@ -63,37 +63,37 @@ module _ (f : ℕ) (m n : Meaning) (h : Agree f m n) where
   then_rest_same whole rest depth inside w (go name) lt = lands_same whole w depth inside name (after_tag name whole) lt
   then_rest_same whole rest depth inside w e lt = here w e
 
-  calls_same : (text : List ℕ) (w : World) (depth : ℕ) → w.fuel < f → Same w.fuel (calls m text w depth) (calls n text w depth)
+  calls_same : (text : List ℕ) (w : World) (depth : ℕ) → w.fuel < f → Same w.fuel (run_call m text w depth) (run_call n text w depth)
   calls_same text w depth lt = by (depth == 32)
     where
       by : (b : Bool) → Same w.fuel
-          (if b then (w, stop Pdo) else (let r : Ran = m.list (nodes text) (nodes text) w (depth + 1) false in returned r.0 r.1))
-          (if b then (w, stop Pdo) else (let r : Ran = n.list (nodes text) (nodes text) w (depth + 1) false in returned r.0 r.1))
+          (if b then (w, stop Pdo) else (let r : WorldAndEnd = m.list (nodes text) (nodes text) w (depth + 1) false in after_call r.0 r.1))
+          (if b then (w, stop Pdo) else (let r : WorldAndEnd = n.list (nodes text) (nodes text) w (depth + 1) false in after_call r.0 r.1))
       by true = here w (stop Pdo)
-      by false = then_same w.fuel returned returned (h.list (nodes text) (nodes text) w (depth + 1) false lt) (λ v e le. returned_same v e)
+      by false = then_same w.fuel after_call after_call (h.list (nodes text) (nodes text) w (depth + 1) false lt) (λ v e le. returned_same v e)
 
-  carries_same : (i : Item) (setting : Setting) (depth : ℕ) (w : World) (e : End) → w.fuel < f → Same w.fuel (carries m i setting depth w e) (carries n i setting depth w e)
+  carries_same : (i : Item) (setting : Setting) (depth : ℕ) (w : World) (e : End) → w.fuel < f → Same w.fuel (run_after_step m i setting depth w e) (run_after_step n i setting depth w e)
   carries_same i setting depth w (call text) lt = calls_same text w depth lt
   carries_same i setting depth w (again work) lt = h.further i (record setting { work = Some work }) w depth lt
   carries_same i setting depth w e lt = here w e
 
-  steps_same : (i : Item) (setting : Setting) (w : World) (depth : ℕ) → w.fuel < f → Same w.fuel (steps m i setting w depth) (steps n i setting w depth)
-  steps_same i setting w depth lt = let d : Step = effect i setting w.state w.arguments in carries_same i setting depth (after w d) d.end lt
+  steps_same : (i : Item) (setting : Setting) (w : World) (depth : ℕ) → w.fuel < f → Same w.fuel (run_step m i setting w depth) (run_step n i setting w depth)
+  steps_same i setting w depth lt = let d : Step = effect i setting w.state w.arguments in carries_same i setting depth (world_after w d) d.end lt
 
-  iterates_same : (body : Nodes) (w : World) (depth : ℕ) (t : Result Taken Code) → w.fuel < f → Same w.fuel (iterates m body w depth t) (iterates n body w depth t)
-  iterates_same body w depth (Ok taken.None) lt = h.turns None body (cleared w) depth lt
-  iterates_same body w depth (Ok (taken.One k)) lt = h.turns (Some (turns_of k)) body (cleared w) depth lt
+  iterates_same : (body : Nodes) (w : World) (depth : ℕ) (t : Result Taken Code) → w.fuel < f → Same w.fuel (run_iteration m body w depth t) (run_iteration n body w depth t)
+  iterates_same body w depth (Ok taken.None) lt = h.turns None body (without_arguments w) depth lt
+  iterates_same body w depth (Ok (taken.One k)) lt = h.turns (Some (turns_of k)) body (without_arguments w) depth lt
   iterates_same body w depth _ lt = here w _
 
-  chooses_same : (t : Test) (first second : Nodes) (w : World) (depth : ℕ) (inside : Bool) (k : Result ℤ Code) → w.fuel < f → Same w.fuel (chooses m t first second w depth inside k) (chooses n t first second w depth inside k)
+  chooses_same : (t : Test) (first second : Nodes) (w : World) (depth : ℕ) (inside : Bool) (k : Result ℤ Code) → w.fuel < f → Same w.fuel (run_conditional m t first second w depth inside k) (run_conditional n t first second w depth inside k)
   chooses_same t first second w depth inside (Ok k) lt =
       let nodes : Nodes = if holds t k then first else second in
-      then_same w.fuel part_end part_end (h.list nodes nodes (cleared w) depth inside lt) (λ v e le. part_end_same v e)
+      then_same w.fuel after_part after_part (h.list nodes nodes (without_arguments w) depth inside lt) (λ v e le. part_end_same v e)
   chooses_same t first second w depth inside (Err c) lt = here w (stop c)
 
   -- a node that is paid for, and the rest of its list
-  node_same : (whole rest : Nodes) (w : World) (depth : ℕ) (inside : Bool) (a b : World → Ran) → w.fuel < suc f → ((v : World) → v.fuel < f → Same v.fuel (a v) (b v))
-      → Same w.fuel (pay_from w.fuel w (λ v. let r : Ran = a v in then_rest m whole rest depth inside r.0 r.1)) (pay_from w.fuel w (λ v. let r : Ran = b v in then_rest n whole rest depth inside r.0 r.1))
+  node_same : (whole rest : Nodes) (w : World) (depth : ℕ) (inside : Bool) (a b : World → WorldAndEnd) → w.fuel < suc f → ((v : World) → v.fuel < f → Same v.fuel (a v) (b v))
+      → Same w.fuel (pay_from w.fuel w (λ v. let r : WorldAndEnd = a v in then_rest m whole rest depth inside r.0 r.1)) (pay_from w.fuel w (λ v. let r : WorldAndEnd = b v in then_rest n whole rest depth inside r.0 r.1))
   node_same whole rest w depth inside a b lt s =
       pay_same w.fuel w _ _ refl (λ v l. then_same v.fuel (then_rest m whole rest depth inside) (then_rest n whole rest depth inside) (s v (omega arith)) (λ u e le. then_rest_same whole rest depth inside u e (omega arith)))
 
@@ -102,24 +102,24 @@ module _ (f : ℕ) (m n : Meaning) (h : Agree f m n) where
   list_by_same whole done w depth inside lt = here w on
   list_by_same whole (faulty c) w depth inside lt = here w (stop c)
   list_by_same whole (tag name rest) w depth inside lt = list_by_same whole rest w depth inside lt
-  list_by_same whole (escape rest) w depth inside lt = list_by_same whole rest (cleared w) depth inside lt
+  list_by_same whole (escape rest) w depth inside lt = list_by_same whole rest (without_arguments w) depth inside lt
   list_by_same whole (item marks i rest) w depth inside lt =
       let setting : Setting = first_setting marks inside (leave_comes rest) in
-      node_same whole rest w depth inside (λ v. steps m i setting v depth) (λ v. steps n i setting v depth) lt (λ v l. steps_same i setting v depth l)
+      node_same whole rest w depth inside (λ v. run_step m i setting v depth) (λ v. run_step n i setting v depth) lt (λ v l. steps_same i setting v depth l)
   list_by_same whole (iter body rest) w depth inside lt =
-      node_same whole rest w depth inside (λ v. iterates m body v depth (taken_from v.arguments)) (λ v. iterates n body v depth (taken_from v.arguments)) lt (λ v l. iterates_same body v depth (taken_from v.arguments) l)
+      node_same whole rest w depth inside (λ v. run_iteration m body v depth (taken_from v.arguments)) (λ v. run_iteration n body v depth (taken_from v.arguments)) lt (λ v l. iterates_same body v depth (taken_from v.arguments) l)
   list_by_same whole (cond t first second rest) w depth inside lt =
-      node_same whole rest w depth inside (λ v. chooses m t first second v depth inside (takes_one Naq v.arguments)) (λ v. chooses n t first second v depth inside (takes_one Naq v.arguments)) lt
+      node_same whole rest w depth inside (λ v. run_conditional m t first second v depth inside (takes_one Naq v.arguments)) (λ v. run_conditional n t first second v depth inside (takes_one Naq v.arguments)) lt
       (λ v l. chooses_same t first second v depth inside (takes_one Naq v.arguments) l)
 
-  turn_end_same : (left : Option ℕ) (body : Nodes) (depth : ℕ) (w : World) (e : End) → w.fuel < suc f → Same w.fuel (turn_end m left body depth w e) (turn_end n left body depth w e)
-  turn_end_same left body depth w on lt = pay_same w.fuel w _ _ refl (λ v l. h.turns left body (cleared v) depth (omega arith))
+  turn_end_same : (left : Option ℕ) (body : Nodes) (depth : ℕ) (w : World) (e : End) → w.fuel < suc f → Same w.fuel (after_turn m left body depth w e) (after_turn n left body depth w e)
+  turn_end_same left body depth w on lt = pay_same w.fuel w _ _ refl (λ v l. h.turns left body (without_arguments v) depth (omega arith))
   turn_end_same left body depth w leave lt = here w on
   turn_end_same left body depth w e lt = here w e
 
-  turn_same : (left : Option ℕ) (body : Nodes) (w : World) (depth : ℕ) → w.fuel < suc f → Same w.fuel (turn m left body w depth) (turn n left body w depth)
+  turn_same : (left : Option ℕ) (body : Nodes) (w : World) (depth : ℕ) → w.fuel < suc f → Same w.fuel (run_turn m left body w depth) (run_turn n left body w depth)
   turn_same left body w depth lt =
-      then_same w.fuel (turn_end m left body depth) (turn_end n left body depth) (list_by_same body body w depth true lt) (λ v e le. turn_end_same left body depth v e (omega arith))
+      then_same w.fuel (after_turn m left body depth) (after_turn n left body depth) (list_by_same body body w depth true lt) (λ v e le. turn_end_same left body depth v e (omega arith))
 
   turns_by_same : (left : Option ℕ) (body : Nodes) (w : World) (depth : ℕ) → w.fuel < suc f → Same w.fuel (turns_by m left body w depth) (turns_by n left body w depth)
   unfolding turns_by
@@ -175,10 +175,10 @@ tag_passed whole rest name w depth inside = unrolls.list whole (tag name rest) w
 
 pub escape_drops : EscapeDrops
 unfolding list_by
-escape_drops whole rest w depth inside = unrolls.list whole (escape rest) w depth inside ∙ sym (unrolls.list whole rest (cleared w) depth inside)
+escape_drops whole rest w depth inside = unrolls.list whole (escape rest) w depth inside ∙ sym (unrolls.list whole rest (without_arguments w) depth inside)
 
 -- what is paid for, with this much fuel
-paying : (n : ℕ) (w : World) (act : World → Ran) → w.fuel ≡ n → pay w act ≡ pay_from n w act
+paying : (n : ℕ) (w : World) (act : World → WorldAndEnd) → w.fuel ≡ n → pay w act ≡ pay_from n w act
 paying n w act e = ap (λ k. pay_from k w act) e
 
 pub no_fuel : NothingWithoutFuel
@@ -191,7 +191,7 @@ no_fuel = record {
 
 -- A step of an item, by its end.
 module _ (whole rest : Nodes) (i : Item) (setting : Setting) (depth : ℕ) (u : World) where
-  carried : (e : End) → (let r : Ran = carries meaning i setting depth u e in then_rest meaning whole rest depth setting.inside r.0 r.1) ≡ comes_to whole rest i setting depth u e
+  carried : (e : End) → (let r : WorldAndEnd = run_after_step meaning i setting depth u e in then_rest meaning whole rest depth setting.inside r.0 r.1) ≡ comes_to whole rest i setting depth u e
   carried e = grind arith
 
 pub step_ends : StepEnds
@@ -211,14 +211,14 @@ pub error : StepStops
 error whole rest m i c w depth n inside fuel is = stepped whole rest m i w depth n inside fuel (stop c) is
 
 pub jump_caught : JumpLands
-jump_caught whole rest later m i name w depth n inside fuel is found = stepped whole rest m i w depth n inside fuel (go name) is ∙ ap (lands meaning whole (stepped_world m i rest w inside n) depth inside name) found
+jump_caught whole rest later m i name w depth n inside fuel is found = stepped whole rest m i w depth n inside fuel (go name) is ∙ ap (run_after_tag meaning whole (stepped_world m i rest w inside n) depth inside name) found
 
 pub jump_not_caught : JumpLeaves
-jump_not_caught whole rest m i name w depth n inside fuel is found = stepped whole rest m i w depth n inside fuel (go name) is ∙ ap (lands meaning whole (stepped_world m i rest w inside n) depth inside name) found
+jump_not_caught whole rest m i name w depth n inside fuel is found = stepped whole rest m i w depth n inside fuel (go name) is ∙ ap (run_after_tag meaning whole (stepped_world m i rest w inside n) depth inside name) found
 
 -- what a call comes to, by the test of its depth
-abbrev calls_by : Nodes → Nodes → Bool → ℕ → World → Ran → Bool → Ran
-calls_by whole rest inside depth u r deep = if deep then (u, stop Pdo) else (let q : Ran = returned r.0 r.1 in then_rest meaning whole rest depth inside q.0 q.1)
+abbrev calls_by : Nodes → Nodes → Bool → ℕ → World → WorldAndEnd → Bool → WorldAndEnd
+calls_by whole rest inside depth u r deep = if deep then (u, stop Pdo) else (let q : WorldAndEnd = after_call r.0 r.1 in then_rest meaning whole rest depth inside q.0 q.1)
 
 pub call_too_deep : CallTooDeep
 call_too_deep whole rest m i text w depth n inside fuel is deep =
@@ -231,29 +231,29 @@ macro_call whole rest m i text w v depth n inside fuel is shallow back =
     let u : World = stepped_world m i rest w inside n in
     let test : (depth == 32) ≡ false = grind (arith, nat_tests) in
     stepped whole rest m i w depth n inside fuel (call text) is ∙ ap (calls_by whole rest inside depth u (meaning.list (nodes text) (nodes text) u (depth + 1) false)) test
-    ∙ ap (λ (r : Ran). calls_by whole rest inside depth u r false) back
+    ∙ ap (λ (r : WorldAndEnd). calls_by whole rest inside depth u r false) back
 
 pub further_step : FurtherStep
 unfolding further_by
 further_step i setting w depth n fuel is =
-    unrolls.further i setting w depth ∙ paying (suc n) w _ fuel ∙ ap (λ e. carries meaning i setting depth (after (with_fuel w n) (effect i setting w.state w.arguments)) e) is
+    unrolls.further i setting w depth ∙ paying (suc n) w _ fuel ∙ ap (λ e. run_after_step meaning i setting depth (world_after (with_fuel w n) (effect i setting w.state w.arguments)) e) is
 
 pub iteration : IterationCounts
 unfolding list_by
 iteration whole body rest k w v depth n inside fuel taken back =
     unrolls.list whole (iter body rest) w depth inside ∙ paying (suc n) w _ fuel
-    ∙ ap (λ t. let r : Ran = iterates meaning body (with_fuel w n) depth t in then_rest meaning whole rest depth inside r.0 r.1) taken
-    ∙ ap (λ (r : Ran). then_rest meaning whole rest depth inside r.0 r.1) back
+    ∙ ap (λ t. let r : WorldAndEnd = run_iteration meaning body (with_fuel w n) depth t in then_rest meaning whole rest depth inside r.0 r.1) taken
+    ∙ ap (λ (r : WorldAndEnd). then_rest meaning whole rest depth inside r.0 r.1) back
 
 pub endless_iteration : IterationGoesOn
 unfolding list_by
 endless_iteration whole body rest w v depth n inside fuel taken back =
     unrolls.list whole (iter body rest) w depth inside ∙ paying (suc n) w _ fuel
-    ∙ ap (λ t. let r : Ran = iterates meaning body (with_fuel w n) depth t in then_rest meaning whole rest depth inside r.0 r.1) taken
-    ∙ ap (λ (r : Ran). then_rest meaning whole rest depth inside r.0 r.1) back
+    ∙ ap (λ t. let r : WorldAndEnd = run_iteration meaning body (with_fuel w n) depth t in then_rest meaning whole rest depth inside r.0 r.1) taken
+    ∙ ap (λ (r : WorldAndEnd). then_rest meaning whole rest depth inside r.0 r.1) back
 
-turned : (left : Option ℕ) (body : Nodes) (w : World) (depth : ℕ) (r : Ran) → meaning.list body body w depth true ≡ r → turn meaning left body w depth ≡ turn_end meaning left body depth r.0 r.1
-turned left body w depth r e = ap (λ (x : Ran). turn_end meaning left body depth x.0 x.1) (sym (unrolls.list body body w depth true) ∙ e)
+turned : (left : Option ℕ) (body : Nodes) (w : World) (depth : ℕ) (r : WorldAndEnd) → meaning.list body body w depth true ≡ r → run_turn meaning left body w depth ≡ after_turn meaning left body depth r.0 r.1
+turned left body w depth r e = ap (λ (x : WorldAndEnd). after_turn meaning left body depth x.0 x.1) (sym (unrolls.list body body w depth true) ∙ e)
 
 pub turn_ends : TurnEnds
 unfolding turns_by
@@ -275,5 +275,5 @@ pub conditional : ConditionalChooses
 unfolding list_by
 conditional whole first second rest t k w v depth n inside fuel taken back =
     unrolls.list whole (cond t first second rest) w depth inside ∙ paying (suc n) w _ fuel
-    ∙ ap (λ x. let r : Ran = chooses meaning t first second (with_fuel w n) depth inside x in then_rest meaning whole rest depth inside r.0 r.1) taken
-    ∙ ap (λ (q : Ran). let r : Ran = part_end q.0 q.1 in then_rest meaning whole rest depth inside r.0 r.1) back
+    ∙ ap (λ x. let r : WorldAndEnd = run_conditional meaning t first second (with_fuel w n) depth inside x in then_rest meaning whole rest depth inside r.0 r.1) taken
+    ∙ ap (λ (q : WorldAndEnd). let r : WorldAndEnd = after_part q.0 q.1 in then_rest meaning whole rest depth inside r.0 r.1) back

@@ -14,9 +14,9 @@ use Rattle.teco_step.specs.Effect.{effect, item_effect}
 use Rattle.teco_step.specs.declared.next.Setting.{Setting}
 use Rattle.teco_step.specs.Step.{done_by, settled, Step, End, at}
 use Rattle.teco_step.specs.Stepping.{IsStepIn, IsStepKind, kind_effect, token_effect, end_of, is_unfinished, is_unfinished_code, Steps, IsDone, trail_after, name_in}
-use Rattle.teco_exec.specs.Machine.{inside, leave_found, setting_of, Caller, Config, Moved, Now, runs, going, resumed, run_within, arrives, block_step, arrives_within}
-use Rattle.teco_exec.specs.Tokens.{looks_around, Counts, ProgressFinishes, progresses}
-use Rattle.teco_exec.specs.View.{cursor, item_at, Finishes as MovesWell, moved_of, opening_of}
+use Rattle.teco_exec.specs.Machine.{inside_iteration, leave_is_next, setting_of, Caller, Config, CursorOrError, Now, runs, runs_or_halts, after_step_end, run_within, ready_of, after_block_step, ready_within}
+use Rattle.teco_exec.specs.Tokens.{looks_around, CountsSteps, ProgressFinishes, reached_by_progress}
+use Rattle.teco_exec.specs.View.{cursor, item_of_kind, ResultFinishes as MovesWell, cursor_or_error, block_step_of}
 use Rattle.teco_exec.specs.declared.cursor.Cursor.{Cursor}
 use Rattle.teco_core.specs.declared.arguments.Args.{Args}
 use Rattle.teco_core.specs.declared.code.Code.{Code}
@@ -25,10 +25,10 @@ use Rattle.teco_store.specs.Trail.{Trail, moved, stepped}
 use Rattle.teco_step.specs.declared.next.Next.{Next}
 use Rattle.teco_step.specs.declared.next.Next.TheVariants as next
 use Rattle.teco_step.specs.Terminal.{Screen}
-use Rattle.teco_exec.specs.Running.{Origin, Host, host, Continuation, Going, Comes, Ended, Reached, Reaches, reached_run, ready_run, config, at_cursor, at_token, at_opening, flows, Finishes}
+use Rattle.teco_exec.specs.Running.{Origin, Host, host, Continuation, RunGoesOn, ReachesContinuation, ReachesEnd, Reached, Reaches, reached_run, ready_run, config, at_cursor, at_token, at_block_step, reached_by_flow, FlowFinishes}
 use Rattle.teco_exec.specs.declared.flow.Flow.{Flow}
 use Rattle.teco_exec.specs.declared.flow.Flow.TheVariants.{On, Call, Return, Over}
-use Rattle.teco_exec.specs.declared.moves.Opening.{Opening}
+use Rattle.teco_exec.specs.declared.moves.BlockStep.{BlockStep}
 use Rattle.teco_exec.proofs.Going.{EndsByItself, Pays, advanced, since, settles, step_done, no_memory, no_terminal, shows_nothing}
 use Rattle.teco_exec.proofs.MachineMeans.{going_now, resumed_now, Stays, arrives_stays, halted, run_ready}
 use Rattle.teco_exec.specs.declared.flow.Progress.{Progress}
@@ -51,88 +51,88 @@ module _ (text : List ℕ) (w : Setting) (i b : Bool) (s : State) (a : Arguments
   by_seen t false e opens sees = unseen w i b text t s a e
 
   by_kind : (k : TokenKind) → IsStepKind (length text) k → (looks_around k ≡ true → w.inside ≡ i) → (looks_around k ≡ true → w.before ≡ b)
-      → kind_effect text k w s a ≡ effect (item_at text k) (record w { inside = i; before = b }) s a
+      → kind_effect text k w s a ≡ effect (item_of_kind text k) (record w { inside = i; before = b }) s a
   by_kind (kind.Item t) h opens sees = by_seen t (looks_around (kind.Item t)) refl opens sees
   by_kind k h opens sees = absurd h
 
 -- The effect of a token is that of its item where it is.
 pub effect_here : (c : Cursor) (token : Token) (work : Option Work) (opens before : Bool) (s : State) → IsStepIn c.text.now token
-    → (looks_around token.kind ≡ true → opens ≡ inside (cursor c).blocks) → (looks_around token.kind ≡ true → before ≡ leave_found (scan (cursor c).left))
-    → token_effect c.text.now token work opens before s (arguments c.args) ≡ effect (item_at c.text.now token.kind) (setting_of token.modifiers work (cursor c)) s (arguments c.args)
+    → (looks_around token.kind ≡ true → opens ≡ inside_iteration (cursor c).blocks) → (looks_around token.kind ≡ true → before ≡ leave_is_next (scan (cursor c).left))
+    → token_effect c.text.now token work opens before s (arguments c.args) ≡ effect (item_of_kind c.text.now token.kind) (setting_of token.modifiers work (cursor c)) s (arguments c.args)
 effect_here c token work opens before s =
-    by_kind c.text.now (record { modifiers = token.modifiers; work = work; inside = opens; before = before }) (inside (cursor c).blocks) (leave_found (scan (cursor c).left)) s (arguments c.args) token.kind
+    by_kind c.text.now (record { modifiers = token.modifiers; work = work; inside = opens; before = before }) (inside_iteration (cursor c).blocks) (leave_is_next (scan (cursor c).left)) s (arguments c.args) token.kind
 
 -- how the text goes on after a step
 module _ (callers : List Caller) (now : Now) (fuel : ℕ) where
   pub ends_so : (c : Cursor) (token : Token) (n k : Next) → n ≡ k
-      → run_within fuel (resumed token.modifiers (item_at c.text.now token.kind) (end_of (name_in c.text.now token) n) (config c.text.now (cursor c) None callers now))
-      ≡ run_within fuel (resumed token.modifiers (item_at c.text.now token.kind) (end_of (name_in c.text.now token) k) (config c.text.now (cursor c) None callers now))
-  ends_so c token n k e = ap (λ x. run_within fuel (resumed token.modifiers (item_at c.text.now token.kind) (end_of (name_in c.text.now token) x) (config c.text.now (cursor c) None callers now))) e
+      → run_within fuel (after_step_end token.modifiers (item_of_kind c.text.now token.kind) (end_of (name_in c.text.now token) n) (config c.text.now (cursor c) None callers now))
+      ≡ run_within fuel (after_step_end token.modifiers (item_of_kind c.text.now token.kind) (end_of (name_in c.text.now token) k) (config c.text.now (cursor c) None callers now))
+  ends_so c token n k e = ap (λ x. run_within fuel (after_step_end token.modifiers (item_of_kind c.text.now token.kind) (end_of (name_in c.text.now token) x) (config c.text.now (cursor c) None callers now))) e
 
   pub goes_on : (c : Cursor) → run_within fuel (runs (config c.text.now (cursor c) None callers now)) ≡ ready_run fuel (at_cursor c callers now)
   goes_on c = run_ready fuel (runs (config c.text.now (cursor c) None callers now))
 
-  pub moves_on : (old to : Cursor) → to.text ≡ old.text → (r : Result (Unit {0}) Code) (f : Flow) → MatchResult r (λ _. f ≡ On) (λ code. f ≡ Over (Some code)) → (m : Moved) → moved_of to r ≡ m
-      → run_within fuel (going (config old.text.now (cursor old) None callers now) m) ≡ reached_run fuel now (flows to callers f)
+  pub moves_on : (old to : Cursor) → to.text ≡ old.text → (r : Result (Unit {0}) Code) (f : Flow) → MatchResult r (λ _. f ≡ On) (λ code. f ≡ Over (Some code)) → (m : CursorOrError) → cursor_or_error to r ≡ m
+      → run_within fuel (runs_or_halts (config old.text.now (cursor old) None callers now) m) ≡ reached_run fuel now (reached_by_flow to callers f)
   moves_on old to text (Ok done) f is m e =
-      ap (λ x. run_within fuel (going (config old.text.now (cursor old) None callers now) x)) (sym e)
+      ap (λ x. run_within fuel (runs_or_halts (config old.text.now (cursor old) None callers now) x)) (sym e)
       ∙ ap (λ t. run_within fuel (runs (config t.now (cursor to) None callers now))) (sym text)
-      ∙ goes_on to ∙ ap (λ x. reached_run fuel now (flows to callers x)) (sym is)
+      ∙ goes_on to ∙ ap (λ x. reached_run fuel now (reached_by_flow to callers x)) (sym is)
   moves_on old to text (Err code) f is m e =
-      ap (λ x. run_within fuel (going (config old.text.now (cursor old) None callers now) x)) (sym e)
-      ∙ halted fuel (config old.text.now (cursor old) None callers now) (Some code) ∙ ap (λ x. reached_run fuel now (flows to callers x)) (sym is)
+      ap (λ x. run_within fuel (runs_or_halts (config old.text.now (cursor old) None callers now) x)) (sym e)
+      ∙ halted fuel (config old.text.now (cursor old) None callers now) (Some code) ∙ ap (λ x. reached_run fuel now (reached_by_flow to callers x)) (sym is)
 
-pub finishes : (c : Cursor) (callers : List Caller) (f : Flow) → Finishes f → EndsByItself (flows c callers f)
+pub finishes : (c : Cursor) (callers : List Caller) (f : Flow) → FlowFinishes f → EndsByItself (reached_by_flow c callers f)
 finishes c callers On h = tt
 finishes c callers (Call text) h = tt
 finishes c callers Return h = tt
 finishes c callers (Over code) h = h
 
-pub ends_over : (o : Origin) (before after : Host) (c : Cursor) (callers : List Caller) (f : Flow) (code : Option Code) → f ≡ Over code → Ended o before after code → Reaches o before after (flows c callers f)
-ends_over o before after c callers f code is e = subst (λ x. Reaches o before after (flows c callers x)) (sym is) e
+pub ends_over : (o : Origin) (before after : Host) (c : Cursor) (callers : List Caller) (f : Flow) (code : Option Code) → f ≡ Over code → ReachesEnd o before after code → Reaches o before after (reached_by_flow c callers f)
+ends_over o before after c callers f code is e = subst (λ x. Reaches o before after (reached_by_flow c callers x)) (sym is) e
 
-pub unless_finishes : (r : Result (Unit {0}) Code) (f : Flow) → MatchResult r (λ _. f ≡ On) (λ code. f ≡ Over (Some code)) → MovesWell r → Finishes f
-unless_finishes (Ok done) f is h = subst Finishes (sym is) tt
-unless_finishes (Err code) f is h = subst Finishes (sym is) h
+pub unless_finishes : (r : Result (Unit {0}) Code) (f : Flow) → MatchResult r (λ _. f ≡ On) (λ code. f ≡ Over (Some code)) → MovesWell r → FlowFinishes f
+unless_finishes (Ok done) f is h = subst FlowFinishes (sym is) tt
+unless_finishes (Err code) f is h = subst FlowFinishes (sym is) h
 
 -- a step of a token
 module _ (c : Cursor) (token : Token) (work : Option Work) (callers : List Caller) where
   -- where it has left these arguments, and ended so
   abbrev pub after_token : Arguments → End → Continuation
-  after_token a e now = arrives (resumed token.modifiers (item_at c.text.now token.kind) e (config c.text.now (record (cursor c) { args = a }) None callers now))
+  after_token a e now = ready_of (after_step_end token.modifiers (item_of_kind c.text.now token.kind) e (config c.text.now (record (cursor c) { args = a }) None callers now))
 
   after_stays : (a : Arguments) (e : End) (now : Now) → Stays (after_token a e) now
   after_stays a e now =
       let to : Config = config c.text.now (record (cursor c) { args = a }) None callers now in
-      arrives_stays (resumed token.modifiers (item_at c.text.now token.kind) e to) ∙ resumed_now token.modifiers (item_at c.text.now token.kind) e to
+      arrives_stays (after_step_end token.modifiers (item_of_kind c.text.now token.kind) e to) ∙ resumed_now token.modifiers (item_of_kind c.text.now token.kind) e to
 
-  module _ (opens before : Bool) (is : IsStepIn c.text.now token) (looks : looks_around token.kind ≡ true → opens ≡ inside (cursor c).blocks) (sees : looks_around token.kind ≡ true → before ≡ leave_found (scan (cursor c).left)) where
+  module _ (opens before : Bool) (is : IsStepIn c.text.now token) (looks : looks_around token.kind ≡ true → opens ≡ inside_iteration (cursor c).blocks) (sees : looks_around token.kind ≡ true → before ≡ leave_is_next (scan (cursor c).left)) where
     abbrev pub effect_in : State → Step
     effect_in s = token_effect c.text.now token work opens before s (arguments c.args)
 
     token_pays : (s : State) → Pays (at_token c token work callers) (after_token (effect_in s).arguments (effect_in s).end) s (effect_in s).state (effect_in s).typed (effect_in s).load
     token_pays s now same fuel =
         run_ready fuel _
-        ∙ ap (λ x. (let d : Step = effect (item_at c.text.now token.kind) (setting_of token.modifiers work (cursor c)) x (arguments c.args) in ready_run fuel (after_token d.arguments d.end (advanced d.state d.typed d.load now)))) same
+        ∙ ap (λ x. (let d : Step = effect (item_of_kind c.text.now token.kind) (setting_of token.modifiers work (cursor c)) x (arguments c.args) in ready_run fuel (after_token d.arguments d.end (advanced d.state d.typed d.load now)))) same
         ∙ ap (λ (d : Step). ready_run fuel (after_token d.arguments d.end (advanced d.state d.typed d.load now))) (sym (effect_here c token work opens before s is looks sees))
 
-    module _ (o : Origin) (h : Host) (g : Going o h (at_token c token work callers)) (lt : h.steps < o.limit) (name : List ℕ) (new : State) (args : Args) (w : Screen) (n : Next) (G : Trail → Type 0)
+    module _ (o : Origin) (h : Host) (g : RunGoesOn o h (at_token c token work callers)) (lt : h.steps < o.limit) (name : List ℕ) (new : State) (args : Args) (w : Screen) (n : Next) (G : Trail → Type 0)
         (took : (u : Trail) → h.follows u → G (trail_after n u (effect_in h.state).load)) where
       took_so : (b : Bool) → is_unfinished n ≡ b → (u : Trail) → h.follows u → G (elim b [ true ↦ u | false ↦ moved u (effect_in h.state).load ])
       took_so b e u f = subst (λ b. G (elim b [ true ↦ u | false ↦ moved u (effect_in h.state).load ])) e (took u f)
 
       -- it was begun and not done
-      pub token_fails : (code : Code) → n ≡ next.Error code → is_unfinished_code code ≡ true → Steps (effect_in h.state) name (at h.state (arguments c.args) h.screen) (at new (arguments args) w) n → Ended o h (host new G w h.steps) (Some code)
+      pub token_fails : (code : Code) → n ≡ next.Error code → is_unfinished_code code ≡ true → Steps (effect_in h.state) name (at h.state (arguments c.args) h.screen) (at new (arguments args) w) n → ReachesEnd o h (host new G w h.steps) (Some code)
       token_fails code e unfinished (inl done) = let x : true ≡ false = sym unfinished ∙ sym (ap is_unfinished e) ∙ done.finished in absurd cc
       token_fails code e unfinished (inr (inl lacks)) =
           let same : Mem ≡ code = let both : next.Error Mem ≡ next.Error code = sym lacks.code ∙ e in cc in
           let d = effect_in h.state in
-          subst (λ k. Ended o h (host new G w h.steps) (Some k)) same
+          subst (λ k. ReachesEnd o h (host new G w h.steps) (Some k)) same
           (no_memory o h (at_token c token work callers) g (after_token d.arguments d.end) d.state d.typed d.load (token_pays h.state) (after_stays d.arguments d.end) lt new lacks.state G (took_so true (ap is_unfinished e ∙ unfinished)) w lacks.shows)
       token_fails code e unfinished (inr (inr lacks)) =
           let same : Tty ≡ code = let both : next.Error Tty ≡ next.Error code = sym lacks.code ∙ e in cc in
           let d = effect_in h.state in
-          subst (λ k. Ended o h (host new G w h.steps) (Some k)) same
+          subst (λ k. ReachesEnd o h (host new G w h.steps) (Some k)) same
           (no_terminal o h (at_token c token work callers) g (after_token d.arguments d.end) d.state d.typed d.load (token_pays h.state) (after_stays d.arguments d.end) lt new lacks.state G (took_so true (ap is_unfinished e ∙ unfinished)) w lacks.front lacks.types lacks.beginning lacks.shows)
 
       finished_done : is_unfinished n ≡ false → Steps (effect_in h.state) name (at h.state (arguments c.args) h.screen) (at new (arguments args) w) n → IsDone (effect_in h.state) name (at h.state (arguments c.args) h.screen) (at new (arguments args) w) n
@@ -145,64 +145,64 @@ module _ (c : Cursor) (token : Token) (work : Option Work) (callers : List Calle
           → (steps : ℕ) → steps ≡ h.steps + 1 → (same : State) → same ≡ new → (H : Trail → Type 0)
           → ((u : Trail) → G u → u.changes ≤ 6 → steps ≡ u.steps + 1 → u.states steps ≡ new → u.load ≤ u.loads steps → H (stepped u))
           → (d : Reached) → EndsByItself d
-          → ((now : Now) (fuel : ℕ) → run_within fuel (resumed token.modifiers (item_at c.text.now token.kind) (end_of name n) (config c.text.now (record (cursor c) { args = arguments args }) None callers now)) ≡ reached_run fuel now d)
+          → ((now : Now) (fuel : ℕ) → run_within fuel (after_step_end token.modifiers (item_of_kind c.text.now token.kind) (end_of name n) (config c.text.now (record (cursor c) { args = arguments args }) None callers now)) ≡ reached_run fuel now d)
           → Reaches o h (host same H w steps) d
       token_goes f did steps count same is_same H marks d fin leads =
           let e = effect_in h.state in
           let done = finished_done f did in
           let later : Host = host same H w steps in
-          let to : Comes o h later (after_token e.arguments e.end) =
+          let to : ReachesContinuation o h later (after_token e.arguments e.end) =
           step_done o h (at_token c token work callers) g (after_token e.arguments e.end) e.state e.typed e.load (token_pays h.state) (after_stays e.arguments e.end) later count (is_same ∙ done.state) done.shows
           (λ u p none at state within. marks (moved u e.load) (took_so false f u p) (omega arith) (omega arith) (ap u.states count ∙ state ∙ sym done.state) (subst (λ k. u.load + e.load ≤ u.loads k) (sym count) within)) in
-          let there : Comes o h later (after_token (arguments args) (end_of name n)) =
-          subst (λ x. Comes o h later (after_token (arguments args) x)) (sym done.end) (subst (λ x. Comes o h later (after_token x e.end)) (sym done.arguments) to) in
+          let there : ReachesContinuation o h later (after_token (arguments args) (end_of name n)) =
+          subst (λ x. ReachesContinuation o h later (after_token (arguments args) x)) (sym done.end) (subst (λ x. ReachesContinuation o h later (after_token x e.end)) (sym done.arguments) to) in
           since o h later later d there.follows (settles o later (after_token (arguments args) (end_of name n)) there.going d fin (omega arith) (λ now fuel. sym (run_ready fuel _) ∙ leads now fuel))
 
 -- a step of a block
-module _ (c : Cursor) (b : Opening) (to : ℕ) (callers : List Caller) where
+module _ (c : Cursor) (b : BlockStep) (to : ℕ) (callers : List Caller) where
   -- where it has been done
   abbrev after_block : Continuation
-  after_block now = arrives (going (config c.text.now (cursor c) None callers now) (block_step (opening_of b) (drop to c.text.now) (cursor c)))
+  after_block now = ready_of (runs_or_halts (config c.text.now (cursor c) None callers now) (after_block_step (block_step_of b) (drop to c.text.now) (cursor c)))
 
   block_stays : (now : Now) → Stays after_block now
   block_stays now =
       let there : Config = config c.text.now (cursor c) None callers now in
-      let m : Moved = block_step (opening_of b) (drop to c.text.now) (cursor c) in
-      arrives_stays (going there m) ∙ going_now there m
+      let m : CursorOrError = after_block_step (block_step_of b) (drop to c.text.now) (cursor c) in
+      arrives_stays (runs_or_halts there m) ∙ going_now there m
 
   still : (s : State) (now : Now) → now.state ≡ s → now ≡ advanced s [] 0 now
   still s now same =
       let all : now.load + 0 ≡ now.load = omega arith in
       rw (← same, append-nil now.typed, all)
 
-  block_pays : (s : State) → Pays (at_opening c b to callers) after_block s s [] 0
+  block_pays : (s : State) → Pays (at_block_step c b to callers) after_block s s [] 0
   block_pays s now same fuel = run_ready fuel _ ∙ ap (λ x. ready_run fuel (after_block x)) (still s now same)
 
-  pub block_leads : (o : Origin) (h : Host) → Going o h (at_opening c b to callers) → h.steps < o.limit
+  pub block_leads : (o : Origin) (h : Host) → RunGoesOn o h (at_block_step c b to callers) → h.steps < o.limit
       → (steps : ℕ) → steps ≡ h.steps + 1 → (same : State) → same ≡ h.state → (G : Trail → Type 0) → ((u : Trail) → h.follows u → h.follows (moved u 0))
       → ((u : Trail) → h.follows u → u.changes ≤ 6 → steps ≡ u.steps + 1 → u.states steps ≡ h.state → u.load ≤ u.loads steps → G (stepped u))
       → (d : Reached) → EndsByItself d
-      → ((now : Now) (fuel : ℕ) → run_within fuel (going (config c.text.now (cursor c) None callers now) (block_step (opening_of b) (drop to c.text.now) (cursor c))) ≡ reached_run fuel now d)
+      → ((now : Now) (fuel : ℕ) → run_within fuel (runs_or_halts (config c.text.now (cursor c) None callers now) (after_block_step (block_step_of b) (drop to c.text.now) (cursor c))) ≡ reached_run fuel now d)
       → Reaches o h (host same G h.screen steps) d
   block_leads o h g lt steps count same is_same G eases marks d fin leads =
       let later : Host = host same G h.screen steps in
-      let there : Comes o h later after_block =
-      step_done o h (at_opening c b to callers) g after_block h.state [] 0 (block_pays h.state) block_stays later count is_same (shows_nothing h.screen)
+      let there : ReachesContinuation o h later after_block =
+      step_done o h (at_block_step c b to callers) g after_block h.state [] 0 (block_pays h.state) block_stays later count is_same (shows_nothing h.screen)
       (λ u p none at state within. marks (moved u 0) (eases u p) (omega arith) (omega arith) (ap u.states count ∙ state) (subst (λ k. u.load + 0 ≤ u.loads k) (sym count) within)) in
       since o h later later d there.follows (settles o later after_block there.going d fin (omega arith) (λ now fuel. sym (run_ready fuel _) ∙ leads now fuel))
 
 -- Steps of tokens: what is counted, and a further step.
-pub counts_on : {a b c : StepCount} → Counts a b → Counts b c → Counts a c
+pub counts_on : {a b c : StepCount} → CountsSteps a b → CountsSteps b c → CountsSteps a c
 counts_on p q = record { limit = q.limit ∙ p.limit; after = omega (arith, p.after, q.after) }
 
 -- A token has a further step.
 pub goes_further : (callers : List Caller) (now : Now) (fuel : ℕ) (c : Cursor) (token : Token) (work : Work)
-    → run_within fuel (runs (config c.text.now (cursor c) (Some (record { modifiers = token.modifiers; item = item_at c.text.now token.kind; work = work })) callers now))
+    → run_within fuel (runs (config c.text.now (cursor c) (Some (record { modifiers = token.modifiers; item = item_of_kind c.text.now token.kind; work = work })) callers now))
     ≡ ready_run fuel (at_token c token (Some work) callers now)
-unfolding run_within arrives arrives_within
+unfolding run_within ready_of ready_within
 goes_further callers now zero c token work = refl
 goes_further callers now (suc fuel) c token work = refl
 
-pub progress_finishes : (c : Cursor) (token : Token) (callers : List Caller) (p : Progress) → ProgressFinishes p → EndsByItself (progresses c token callers p)
+pub progress_finishes : (c : Cursor) (token : Token) (callers : List Caller) (p : Progress) → ProgressFinishes p → EndsByItself (reached_by_progress c token callers p)
 progress_finishes c token callers (Further work) h = tt
 progress_finishes c token callers (Done flow) h = finishes c callers flow h

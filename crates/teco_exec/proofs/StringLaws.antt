@@ -3,8 +3,8 @@ use Rattle.std.proofs.Common.{◌≡◌, ℕ, zero, suc, ◌+◌, ◌-◌, ◌<�
 use Rattle.teco_core.specs.declared.code.Code.{Code}
 use Rattle.teco_core.specs.declared.code.Code.TheVariants.{Lim}
 use Rattle.teco_store.specs.State.{State}
-use Rattle.teco_exec.specs.StringMeaning.{Meant, string_meaning}
-use Rattle.teco_exec.specs.Machine.{Config, Machine, runs, Ready, step, block, finished, Final, final, arrives, pays, unpaid, paid, run_within, exec, start_config, Now, now_of, halts, resumed, setting_of, arrives_within, block_step}
+use Rattle.teco_exec.specs.StringMeaning.{StringMeaning, string_meaning}
+use Rattle.teco_exec.specs.Machine.{Config, Machine, runs, Ready, step, block, finished, Final, final, ready_of, after_paid_step, final_without_fuel, final_with_fuel, run_within, after_steps, start_config, Now, now_of, halts, after_step_end, setting_of, ready_within, after_block_step}
 use Rattle.teco_exec.specs.Laws.{StepsWithinLimit, MoreLimitChangesNothing, EnoughIsEnough, ZeroLimitChangesNothing, ExitEndsWell}
 use Rattle.teco_exec.specs.MachineLaws.{MachineMeans, MachineFollows}
 use Rattle.teco_core.specs.declared.code.Code.TheVariants as code
@@ -27,27 +27,27 @@ data Raises (j : ℕ) (f g : Final) : Type 0 where
 with_fuel : (f : Final) (n m : ℕ) → n ≡ m → record f { fuel = n } ≡ record f { fuel = m }
 with_fuel f n m is = ap (λ k. let g : Final = record f { fuel = k } in g) is
 
-unpaid_raises : (j k : ℕ) (r : Ready) → suc k ≡ j → Raises j (unpaid r) (paid k (run_within k) r)
+unpaid_raises : (j k : ℕ) (r : Ready) → suc k ≡ j → Raises j (final_without_fuel r) (final_with_fuel k (run_within k) r)
 unpaid_raises j k (finished c x) e = same (with_fuel (final 0 c x) (suc k) (0 + j) (omega arith))
-unpaid_raises j k r e = spent refl refl (omega (arith, fuel_within k (pays r)))
+unpaid_raises j k r e = spent refl refl (omega (arith, fuel_within k (after_paid_step r)))
 
-paid_raises : (j n k : ℕ) (r : Ready) → suc k ≡ suc n + j → Raises j (run_within n (pays r)) (run_within k (pays r)) → Raises j (paid n (run_within n) r) (paid k (run_within k) r)
+paid_raises : (j n k : ℕ) (r : Ready) → suc k ≡ suc n + j → Raises j (run_within n (after_paid_step r)) (run_within k (after_paid_step r)) → Raises j (final_with_fuel n (run_within n) r) (final_with_fuel k (run_within k) r)
 paid_raises j n k (finished c x) e h = same (with_fuel (final 0 c x) (suc k) (suc n + j) e)
 paid_raises j n k r e h = h
 
 run_raises : (j n k : ℕ) (m : Machine) → k ≡ n + j → Raises j (run_within n m) (run_within k m)
 unfolding run_within
-run_raises j zero zero m e = let f = unpaid (arrives m) in same (with_fuel f f.fuel (f.fuel + j) (omega arith))
-run_raises j zero (suc k) m e = unpaid_raises j k (arrives m) (omega arith)
+run_raises j zero zero m e = let f = final_without_fuel (ready_of m) in same (with_fuel f f.fuel (f.fuel + j) (omega arith))
+run_raises j zero (suc k) m e = unpaid_raises j k (ready_of m) (omega arith)
 run_raises j (suc n) zero m e = absurd (omega arith)
-run_raises j (suc n) (suc k) m e = paid_raises j n k (arrives m) e (run_raises j n k (pays (arrives m)) (omega arith))
+run_raises j (suc n) (suc k) m e = paid_raises j n k (ready_of m) e (run_raises j n k (after_paid_step (ready_of m)) (omega arith))
 
-abbrev meant_by : ℕ → Final → Meant
+abbrev meant_by : ℕ → Final → StringMeaning
 meant_by limit f = record { state = f.state; typed = f.typed; code = f.code; steps = limit - f.fuel; load = f.load }
 
 meant_raised : (n k j : ℕ) (f : Final) → k ≡ n + j → f.fuel ≤ n → meant_by k (raised j f) ≡ meant_by n f
 meant_raised n k j f e le =
-    ap (λ x. let m : Meant = record (meant_by n f) { steps = x } in m) (let steps : k - (f.fuel + j) ≡ n - f.fuel = omega arith in steps)
+    ap (λ x. let m : StringMeaning = record (meant_by n f) { steps = x } in m) (let steps : k - (f.fuel + j) ≡ n - f.fuel = omega arith in steps)
 
 module _ (means : MachineMeans) (s : State) (text : List ℕ) where
   abbrev start : Machine
@@ -56,7 +56,7 @@ module _ (means : MachineMeans) (s : State) (text : List ℕ) where
   -- The string ends by LIM under a limit, or does the same under more.
   more : (j n k : ℕ) (g : Final) → run_within k start ≡ g → k ≡ n + j → Raises j (run_within n start) g → (((string_meaning s text n).code ≡ Some Lim) × (g.fuel < j)) ⊎ (string_meaning s text k ≡ string_meaning s text n)
   more j n k g is e (same f) = inr (sym (means s text k) ∙ ap (meant_by k) (is ∙ f) ∙ meant_raised n k j (run_within n start) e (fuel_within n start) ∙ means s text n)
-  more j n k g is e (spent lim none less) = inl (ap (λ (m : Meant). m.code) (sym (means s text n)) ∙ lim, less)
+  more j n k g is e (spent lim none less) = inl (ap (λ (m : StringMeaning). m.code) (sym (means s text n)) ∙ lim, less)
 
 -- More limit changes nothing once the string has ended.
 pub more_limit : MachineMeans → MoreLimitChangesNothing
@@ -72,17 +72,17 @@ pub same_again : MachineMeans → EnoughIsEnough
 same_again means s text n =
     let f : Final = run_within n (runs (start_config s text)) in
     let all : n ≡ (n - f.fuel) + f.fuel = omega (arith, fuel_within n (runs (start_config s text))) in
-    let took : (string_meaning s text n).steps ≡ n - f.fuel = ap (λ (m : Meant). m.steps) (sym (means s text n)) in
+    let took : (string_meaning s text n).steps ≡ n - f.fuel = ap (λ (m : StringMeaning). m.steps) (sym (means s text n)) in
     let same : string_meaning s text (n - f.fuel) ≡ string_meaning s text n =
     elim (more means s text f.fuel (n - f.fuel) n f refl all (run_raises f.fuel (n - f.fuel) n (runs (start_config s text)) all)) [ inl h ↦ absurd (omega (arith, h.1)) | inr e ↦ sym e ] in
     ap (string_meaning s text) took ∙ same
 
-abbrev now_meant : Meant → Now
+abbrev now_meant : StringMeaning → Now
 now_meant m = record { state = m.state; typed = m.typed; load = m.load }
 
 -- Under limit 0 nothing changes.
 pub limit_zero : MachineFollows → ZeroLimitChangesNothing
-unfolding exec
+unfolding after_steps
 limit_zero follows s text =
     let now : now_of (runs (start_config s text)) ≡ now_meant (string_meaning s text 0) = follows s text 0 in
     record { state = sym (ap (λ (x : Now). x.state) now); typed = sym (ap (λ (x : Now). x.typed) now); load = sym (ap (λ (x : Now). x.load) now); steps = omega arith }
@@ -113,37 +113,37 @@ module _ (k : Bool) where
   waits (finished c e) p = keeps c.state e p
   waits r p = p
 
-  arrives_waits : (m : Machine) → Stays k m → Waits k (arrives m)
-  unfolding arrives arrives_within
+  arrives_waits : (m : Machine) → Stays k m → Waits k (ready_of m)
+  unfolding ready_of ready_within
   arrives_waits (halts c e) p = p
-  arrives_waits (runs c) p = waits (arrives (runs c)) (ap (λ (x : Now). x.state.is_done) (arrives_now (runs c)) ∙ p)
+  arrives_waits (runs c) p = waits (ready_of (runs c)) (ap (λ (x : Now). x.state.is_done) (arrives_now (runs c)) ∙ p)
 
   -- Only an exit lets the state be done after the step.
-  resumed_stays : (m : Modifiers) (i : Item) (e : End) (c : Config) → (e ≢ out → c.state.is_done ≡ k) → Stays k (resumed m i e c)
+  resumed_stays : (m : Modifiers) (i : Item) (e : End) (c : Config) → (e ≢ out → c.state.is_done ≡ k) → Stays k (after_step_end m i e c)
   resumed_stays m i out c h = tt
-  resumed_stays m i e c h = stays (resumed m i e c) (ap (λ (x : Now). x.state.is_done) (resumed_now m i e c) ∙ h (λ x. cc))
+  resumed_stays m i e c h = stays (after_step_end m i e c) (ap (λ (x : Now). x.state.is_done) (resumed_now m i e c) ∙ h (λ x. cc))
 
   module _ (only : OnlyExits) where
-    pays_stays : (r : Ready) → Waits k r → Stays k (pays r)
+    pays_stays : (r : Ready) → Waits k r → Stays k (after_paid_step r)
     pays_stays (step m i work c) p =
         resumed_stays m i (effect i (setting_of m work c.at) c.state c.at.args).end _ (λ going. only i (setting_of m work c.at) c.state c.at.args going ∙ p)
-    pays_stays (block b bs c) p = stays (pays (block b bs c)) (ap (λ (x : Now). x.state.is_done) (going_now c (block_step b bs c.at)) ∙ p)
+    pays_stays (block b bs c) p = stays (after_paid_step (block b bs c)) (ap (λ (x : Now). x.state.is_done) (going_now c (after_block_step b bs c.at)) ∙ p)
     pays_stays (finished c e) p = p
 
-    unpaid_keeps : (r : Ready) → Waits k r → Keeps k (unpaid r).state (unpaid r).code
+    unpaid_keeps : (r : Ready) → Waits k r → Keeps k (final_without_fuel r).state (final_without_fuel r).code
     unpaid_keeps (finished c e) p = p
     unpaid_keeps r p = p
 
-    paid_keeps : (n : ℕ) (next : Machine → Final) (r : Ready) → Waits k r → Keeps k (next (pays r)).state (next (pays r)).code → Keeps k (paid n next r).state (paid n next r).code
+    paid_keeps : (n : ℕ) (next : Machine → Final) (r : Ready) → Waits k r → Keeps k (next (after_paid_step r)).state (next (after_paid_step r)).code → Keeps k (final_with_fuel n next r).state (final_with_fuel n next r).code
     paid_keeps n next (finished c e) p h = p
     paid_keeps n next r p h = h
 
     run_keeps : (n : ℕ) (m : Machine) → Stays k m → Keeps k (run_within n m).state (run_within n m).code
     unfolding run_within
-    run_keeps zero m p = unpaid_keeps (arrives m) (arrives_waits m p)
+    run_keeps zero m p = unpaid_keeps (ready_of m) (arrives_waits m p)
     run_keeps (suc n) m p =
         let ready = arrives_waits m p in
-        paid_keeps n (run_within n) (arrives m) ready (run_keeps n (pays (arrives m)) (pays_stays (arrives m) ready))
+        paid_keeps n (run_within n) (ready_of m) ready (run_keeps n (after_paid_step (ready_of m)) (pays_stays (ready_of m) ready))
 
 no_code : (k : Bool) (s : State) (e : Option Code) → Keeps k s e → k ≡ false → s.is_done ≡ true → e ≡ None
 no_code k s None p not_yet over = refl
@@ -152,7 +152,7 @@ no_code k s (Some e) p not_yet over = absurd (true≢false (sym over ∙ p ∙ n
 pub exit_ends_well : MachineMeans → OnlyExits → ExitEndsWell
 exit_ends_well means only s text limit not_yet over =
     no_code s.is_done (string_meaning s text limit).state (string_meaning s text limit).code
-    (subst (λ (m : Meant). Keeps s.is_done m.state m.code) (means s text limit) (run_keeps s.is_done only limit (runs (start_config s text)) refl)) not_yet over
+    (subst (λ (m : StringMeaning). Keeps s.is_done m.state m.code) (means s text limit) (run_keeps s.is_done only limit (runs (start_config s text)) refl)) not_yet over
 
 module _ (exit : ExitEndsWell) (more : MoreLimitChangesNothing) (s : State) (text : List ℕ) (limit : ℕ) (going : s.is_done ≡ false) where
   -- A string that takes more steps is not yet over after these, so it has made nothing done.
@@ -161,7 +161,7 @@ module _ (exit : ExitEndsWell) (more : MoreLimitChangesNothing) (s : State) (tex
       let none : (string_meaning s text k).code ≡ None = exit s text k going over in
       let all : k + (limit - k) ≡ limit = omega arith in
       let same : string_meaning s text limit ≡ string_meaning s text k = ap (string_meaning s text) (sym all) ∙ more s text k (limit - k) (λ lim. let x : None ≡ Some code.Lim = sym none ∙ lim in cc) in
-      let steps : (string_meaning s text limit).steps ≡ (string_meaning s text k).steps = ap (λ (m : Meant). m.steps) same in
+      let steps : (string_meaning s text limit).steps ≡ (string_meaning s text k).steps = ap (λ (m : StringMeaning). m.steps) same in
       absurd (omega arith)
 
   pub runs_exit : (code : Option Code) (steps : ℕ) (typed : List ℕ) (new : State) → (string_meaning s text limit).steps ≤ limit → (string_meaning s text steps).steps ≤ steps

@@ -15,9 +15,9 @@ use Rattle.teco_step.specs.Effect.{effect}
 use Rattle.teco_store.specs.State.{State}
 use Rattle.teco_scan.specs.Lists.{nodes}
 use Rattle.teco_exec.specs.Test.{holds}
-use Rattle.teco_exec.specs.World.{World, Ran, cleared, after}
-use Rattle.teco_exec.specs.Meaning.{meaning, lands, then_rest, returned, turns_of, leave_comes, first_setting, list_by, turns_by, further_by}
-use Rattle.teco_exec.specs.StringMeaning.{Meant, string_meaning}
+use Rattle.teco_exec.specs.World.{World, WorldAndEnd, without_arguments, world_after}
+use Rattle.teco_exec.specs.Meaning.{meaning, run_after_tag, then_rest, after_call, turns_of, leave_comes, first_setting, list_by, turns_by, further_by}
+use Rattle.teco_exec.specs.StringMeaning.{StringMeaning, string_meaning}
 
 -- the same world with this much fuel
 abbrev pub with_fuel : World → ℕ → World
@@ -43,7 +43,7 @@ TagIsPassed = (whole rest : Nodes) (name : List ℕ) (w : World) (depth : ℕ) (
 
 -- ESC drops the arguments, and uses no step.
 abbrev pub EscapeDrops : Type 0
-EscapeDrops = (whole rest : Nodes) (w : World) (depth : ℕ) (inside : Bool) → meaning.list whole (escape rest) w depth inside ≡ meaning.list whole rest (cleared w) depth inside
+EscapeDrops = (whole rest : Nodes) (w : World) (depth : ℕ) (inside : Bool) → meaning.list whole (escape rest) w depth inside ≡ meaning.list whole rest (without_arguments w) depth inside
 
 -- Without fuel a step, an iteration and a conditional aren't begun: LIM.
 pub record NothingWithoutFuel : Type 0 where
@@ -56,19 +56,19 @@ abbrev pub first_effect : Modifiers → Item → Nodes → World → Bool → St
 first_effect m i rest w inside = effect i (first_setting m inside (leave_comes rest)) w.state w.arguments
 
 abbrev pub stepped_world : Modifiers → Item → Nodes → World → Bool → ℕ → World
-stepped_world m i rest w inside n = after (with_fuel w n) (first_effect m i rest w inside)
+stepped_world m i rest w inside n = world_after (with_fuel w n) (first_effect m i rest w inside)
 
 -- What a list comes to where a step of an item has ended so. The string goes on with the rest of the list. Leaving, an exit and an
 -- error end the list. A jump goes to its tag in the list, or leaves it. A call runs the text, one deeper and inside no iteration,
 -- and the rest follows where that ends well; inside CALL_LIMIT others it is PDO. A further step is taken, and then the rest follows.
-abbrev pub comes_to : Nodes → Nodes → Item → Setting → ℕ → World → End → Ran
+abbrev pub comes_to : Nodes → Nodes → Item → Setting → ℕ → World → End → WorldAndEnd
 comes_to whole rest i setting depth w on = meaning.list whole rest w depth setting.inside
 comes_to whole rest i setting depth w leave = (w, leave)
-comes_to whole rest i setting depth w (go name) = lands meaning whole w depth setting.inside name (after_tag name whole)
-comes_to whole rest i setting depth w (call text) = if depth == CALL_LIMIT then (w, stop code.Pdo) else (let r : Ran = meaning.list (nodes text) (nodes text) w (depth + 1) false in
-    let q : Ran = returned r.0 r.1 in then_rest meaning whole rest depth setting.inside q.0 q.1)
+comes_to whole rest i setting depth w (go name) = run_after_tag meaning whole w depth setting.inside name (after_tag name whole)
+comes_to whole rest i setting depth w (call text) = if depth == CALL_LIMIT then (w, stop code.Pdo) else (let r : WorldAndEnd = meaning.list (nodes text) (nodes text) w (depth + 1) false in
+    let q : WorldAndEnd = after_call r.0 r.1 in then_rest meaning whole rest depth setting.inside q.0 q.1)
 comes_to whole rest i setting depth w out = (w, out)
-comes_to whole rest i setting depth w (again work) = let r : Ran = meaning.further i (record setting { work = Some work }) w depth in then_rest meaning whole rest depth setting.inside r.0 r.1
+comes_to whole rest i setting depth w (again work) = let r : WorldAndEnd = meaning.further i (record setting { work = Some work }) w depth in then_rest meaning whole rest depth setting.inside r.0 r.1
 comes_to whole rest i setting depth w (stop c) = (w, stop c)
 
 -- So a step of an item, whatever its end: the list comes to what follows the effect.
@@ -110,25 +110,25 @@ CallTooDeep = (whole rest : Nodes) (m : Modifiers) (i : Item) (text : List ℕ) 
 -- A further step of a token has fuel of its own, and this work left.
 abbrev pub FurtherStep : Type 0
 FurtherStep = (i : Item) (setting : Setting) (w : World) (depth n : ℕ) → w.fuel ≡ suc n → (effect i setting w.state w.arguments).end ≡ on
-    → meaning.further i setting w depth ≡ (after (with_fuel w n) (effect i setting w.state w.arguments), on)
+    → meaning.further i setting w depth ≡ (world_after (with_fuel w n) (effect i setting w.state w.arguments), on)
 
 -- An iteration uses one of the fuel and takes n. It runs its body n times and goes on with the arguments that are left;
 abbrev pub IterationCounts : Type 0
 IterationCounts = (whole body rest : Nodes) (k : ℤ) (w v : World) (depth n : ℕ) (inside : Bool) → w.fuel ≡ suc n → taken_from w.arguments ≡ Ok (taken.One k)
-    → meaning.turns (Some (turns_of k)) body (cleared (with_fuel w n)) depth ≡ (v, on)
+    → meaning.turns (Some (turns_of k)) body (without_arguments (with_fuel w n)) depth ≡ (v, on)
     → meaning.list whole (iter body rest) w depth inside ≡ meaning.list whole rest v depth inside
 
 -- without n it runs it until it is left.
 abbrev pub IterationGoesOn : Type 0
 IterationGoesOn = (whole body rest : Nodes) (w v : World) (depth n : ℕ) (inside : Bool) → w.fuel ≡ suc n → taken_from w.arguments ≡ Ok taken.None
-    → meaning.turns None body (cleared (with_fuel w n)) depth ≡ (v, on)
+    → meaning.turns None body (without_arguments (with_fuel w n)) depth ≡ (v, on)
     → meaning.list whole (iter body rest) w depth inside ≡ meaning.list whole rest v depth inside
 
 -- The end of a turn uses one of the fuel and drops the arguments. After the last turn nothing more is done; the body runs inside an iteration.
 pub record TurnEnds : Type 0 where
   pub last : (body : Nodes) (w : World) (depth : ℕ) → meaning.turns (Some 0) body w depth ≡ (w, on)
-  pub counted : (body : Nodes) (w v : World) (depth left n : ℕ) → meaning.list body body w depth true ≡ (v, on) → v.fuel ≡ suc n → meaning.turns (Some (suc left)) body w depth ≡ meaning.turns (Some left) body (cleared (with_fuel v n)) depth
-  pub endless : (body : Nodes) (w v : World) (depth n : ℕ) → meaning.list body body w depth true ≡ (v, on) → v.fuel ≡ suc n → meaning.turns None body w depth ≡ meaning.turns None body (cleared (with_fuel v n)) depth
+  pub counted : (body : Nodes) (w v : World) (depth left n : ℕ) → meaning.list body body w depth true ≡ (v, on) → v.fuel ≡ suc n → meaning.turns (Some (suc left)) body w depth ≡ meaning.turns (Some left) body (without_arguments (with_fuel v n)) depth
+  pub endless : (body : Nodes) (w v : World) (depth n : ℕ) → meaning.list body body w depth true ≡ (v, on) → v.fuel ≡ suc n → meaning.turns None body w depth ≡ meaning.turns None body (without_arguments (with_fuel v n)) depth
   pub without_fuel : (body : Nodes) (w v : World) (depth left : ℕ) → meaning.list body body w depth true ≡ (v, on) → v.fuel ≡ 0 → meaning.turns (Some (suc left)) body w depth ≡ (v, stop code.Lim)
 
 -- Leaving ends the iteration well.
@@ -139,8 +139,8 @@ pub record LeavingEnds : Type 0 where
 -- A conditional uses one of the fuel, takes a number, runs the part that its test chooses, and drops the arguments.
 abbrev pub ConditionalChooses : Type 0
 ConditionalChooses = (whole first second rest : Nodes) (t : Test) (k : ℤ) (w v : World) (depth n : ℕ) (inside : Bool) → w.fuel ≡ suc n → takes_one code.Naq w.arguments ≡ Ok k
-    → (let part : Nodes = if holds t k then first else second in meaning.list part part (cleared (with_fuel w n)) depth inside ≡ (v, on))
-    → meaning.list whole (cond t first second rest) w depth inside ≡ meaning.list whole rest (cleared v) depth inside
+    → (let part : Nodes = if holds t k then first else second in meaning.list part part (without_arguments (with_fuel w n)) depth inside ≡ (v, on))
+    → meaning.list whole (cond t first second rest) w depth inside ≡ meaning.list whole rest (without_arguments v) depth inside
 
 -- No string takes more steps than its limit.
 abbrev pub StepsWithinLimit : Type 0
@@ -155,7 +155,7 @@ abbrev pub EnoughIsEnough : Type 0
 EnoughIsEnough = (s : State) (text : List ℕ) (limit : ℕ) → string_meaning s text (string_meaning s text limit).steps ≡ string_meaning s text limit
 
 -- Under limit 0 nothing changes: no step is taken, no byte typed, and the state is the one before.
-pub record ChangesNothing (s : State) (m : Meant) : Type 0 where
+pub record ChangesNothing (s : State) (m : StringMeaning) : Type 0 where
   pub steps : m.steps ≡ 0
   pub state : m.state ≡ s
   pub typed : m.typed ≡ []

@@ -35,25 +35,28 @@ pub record Cursor : Type 0 where
   pub left : List ℕ
   pub blocks : List Frame
 
-abbrev pub kind_of : List Frame → Option Kind
-kind_of [] = None
-kind_of (b ∷ bs) = Some b.kind
+-- the kind of the innermost block, if one is open
+abbrev pub innermost_kind : List Frame → Option Kind
+innermost_kind [] = None
+innermost_kind (b ∷ bs) = Some b.kind
 
-unfoldable pub inside : List Frame → Bool
-inside [] = false
-inside (b ∷ bs) = elim b.kind [ Iter ↦ true | Then ↦ inside bs | Else ↦ inside bs ]
+-- an iteration is open
+unfoldable pub inside_iteration : List Frame → Bool
+inside_iteration [] = false
+inside_iteration (b ∷ bs) = elim b.kind [ Iter ↦ true | Then ↦ inside_iteration bs | Else ↦ inside_iteration bs ]
 
--- A cursor goes on, or the run is over by an error.
-abbrev pub Moved : Type 0
-Moved = Result Cursor Code
+-- What a move gives: the cursor from which the text goes on, or the error by which the run is over.
+abbrev pub CursorOrError : Type 0
+CursorOrError = Result Cursor Code
 
-abbrev pub entered : Kind → Option ℕ → List ℕ → Cursor → Cursor
-entered k turns bs c = record c { left = bs; blocks = record { kind = k; start = bs; left = turns } ∷ c.blocks }
+-- inside a block that opens here
+abbrev pub inside_block : Kind → Option ℕ → List ℕ → Cursor → Cursor
+inside_block k turns bs c = record c { left = bs; blocks = record { kind = k; start = bs; left = turns } ∷ c.blocks }
 
 -- after what is passed over
-abbrev pub skipped : Past → Cursor → Moved
-skipped (Ok bs) c = Ok (record c { left = bs })
-skipped (Err e) c = Err e
+abbrev pub after_skip : Past → Cursor → CursorOrError
+after_skip (Ok bs) c = Ok (record c { left = bs })
+after_skip (Err e) c = Err e
 
 -- the steps that no item makes: an iteration or a conditional opens, or a turn ends
 pub data BlockStep : Type 0 where
@@ -63,120 +66,133 @@ pub data BlockStep : Type 0 where
 
 -- What comes next in a text.
 pub data Coming : Type 0 where
-  moved : Cursor → Coming  -- something was passed that uses no step
-  comes : Modifiers → Item → Cursor → Coming  -- a step of this token; the cursor is after it
-  at_block : BlockStep → List ℕ → Coming  -- such a step; these bytes are after its token
-  ends : Coming  -- the text is over
-  breaks : Code → Coming
+  passed_to : Cursor → Coming  -- something was passed that uses no step
+  step_comes : Modifiers → Item → Cursor → Coming  -- a step of this token; the cursor is after it
+  block_comes : BlockStep → List ℕ → Coming  -- such a step; these bytes are after its token
+  end_comes : Coming  -- the text is over
+  fault_comes : Code → Coming
 
-abbrev pub passing : Moved → Coming
-passing (Ok c) = moved c
-passing (Err e) = breaks e
+-- what comes where a token that uses no step was passed so
+abbrev pub passed_or_fault : CursorOrError → Coming
+passed_or_fault (Ok c) = passed_to c
+passed_or_fault (Err e) = fault_comes e
 
-abbrev pub opening : BlockStep → List ℕ → Cursor → Coming
-opening b bs c = if length c.blocks == BLOCK_LIMIT then breaks code.Pdo else at_block b bs
+-- A block opens here, unless BLOCK_LIMIT are open.
+abbrev pub pass_opening : BlockStep → List ℕ → Cursor → Coming
+pass_opening b bs c = if length c.blocks == BLOCK_LIMIT then fault_comes code.Pdo else block_comes b bs
 
-abbrev pub at_end : List Frame → Coming
-at_end [] = ends
-at_end (b ∷ bs) = breaks code.Utc
+-- The text ends here: in no block, or else it is UTC.
+abbrev pub pass_text_end : List Frame → Coming
+pass_text_end [] = end_comes
+pass_text_end (b ∷ bs) = fault_comes code.Utc
 
--- A part of a conditional ends; of a first part the second is passed over.
-abbrev pub closes : List ℕ → List Frame → Cursor
-closes bs outer = record { args = no_arguments; left = bs; blocks = outer }
+-- after the end of a block: the arguments are dropped, and the blocks around it are open
+abbrev pub after_block_end : List ℕ → List Frame → Cursor
+after_block_end bs outer = record { args = no_arguments; left = bs; blocks = outer }
 
-abbrev pub turn_ends : List ℕ → List Frame → Coming
-turn_ends bs [] = breaks code.Bni
-turn_ends bs (b ∷ outer) = elim b.kind [ Iter ↦ at_block ends_turn bs | _ ↦ breaks code.Bni ]
+-- At `>`: a turn ends here, if the innermost block is an iteration.
+abbrev pub pass_turn_end : List ℕ → List Frame → Coming
+pass_turn_end bs [] = fault_comes code.Bni
+pass_turn_end bs (b ∷ outer) = elim b.kind [ Iter ↦ block_comes ends_turn bs | _ ↦ fault_comes code.Bni ]
 
-abbrev pub divides : List ℕ → List Frame → Coming
-divides bs [] = breaks code.Ill
-divides bs (b ∷ outer) = elim b.kind [ Then ↦ passing (skipped (past (list_at (Some Else) (suc (length outer)) bs).1) (closes bs outer)) | _ ↦ breaks code.Ill ]
+-- At the `|` after a first part that was run: the second part is passed over.
+abbrev pub pass_divider : List ℕ → List Frame → Coming
+pass_divider bs [] = fault_comes code.Ill
+pass_divider bs (b ∷ outer) = elim b.kind [ Then ↦ passed_or_fault (after_skip (past (list_at (Some Else) (suc (length outer)) bs).1) (after_block_end bs outer)) | _ ↦ fault_comes code.Ill ]
 
-abbrev pub part_ends : List ℕ → List Frame → Coming
-part_ends bs [] = breaks code.Ill
-part_ends bs (b ∷ outer) = elim b.kind [ Iter ↦ breaks code.Ill | _ ↦ moved (closes bs outer) ]
+-- At the `'` after a part that was run.
+abbrev pub pass_part_end : List ℕ → List Frame → Coming
+pass_part_end bs [] = fault_comes code.Ill
+pass_part_end bs (b ∷ outer) = elim b.kind [ Iter ↦ fault_comes code.Ill | _ ↦ passed_to (after_block_end bs outer) ]
 
+-- a mark, an instruction, and what was read: each is passed, or tells what comes
 abbrev pub pass_mark : BlockMark → List ℕ → Cursor → Coming
-pass_mark Iterate bs c = opening iterates bs c
-pass_mark EndIteration bs c = turn_ends bs c.blocks
-pass_mark Otherwise bs c = divides bs c.blocks
-pass_mark EndTest bs c = part_ends bs c.blocks
+pass_mark Iterate bs c = pass_opening iterates bs c
+pass_mark EndIteration bs c = pass_turn_end bs c.blocks
+pass_mark Otherwise bs c = pass_divider bs c.blocks
+pass_mark EndTest bs c = pass_part_end bs c.blocks
 
 abbrev pub pass_instruction : Modifiers → Instruction → List ℕ → Cursor → Coming
-pass_instruction m (token.step i) bs c = comes m i (record c { left = bs })
+pass_instruction m (token.step i) bs c = step_comes m i (record c { left = bs })
 pass_instruction m (token.mark b) bs c = pass_mark b bs c
-pass_instruction m (token.decide t) bs c = opening (decides t) bs c
-pass_instruction m (token.tag name) bs c = moved (record c { left = bs })
-pass_instruction m token.escape bs c = moved (record c { args = no_arguments; left = bs })
+pass_instruction m (token.decide t) bs c = pass_opening (decides t) bs c
+pass_instruction m (token.tag name) bs c = passed_to (record c { left = bs })
+pass_instruction m token.escape bs c = passed_to (record c { args = no_arguments; left = bs })
 
 abbrev pub pass_scanned : Scanned → Cursor → Coming
-pass_scanned ended c = at_end c.blocks
-pass_scanned (fault e) c = breaks e
+pass_scanned ended c = pass_text_end c.blocks
+pass_scanned (fault e) c = fault_comes e
 pass_scanned (found t bs) c = pass_instruction t.modifiers t.instruction bs c
 
 -- one token that uses no step is passed, or is what comes
 abbrev pub pass : Cursor → Coming
 pass c = pass_scanned (scan c.left) c
 
--- The steps of blocks. An iteration begins: without end where it takes nothing, and not at all where its number is at most 0.
-abbrev pub counted : ℕ → List ℕ → Cursor → Moved
-counted zero bs c = skipped (past (list_at (Some Iter) (suc (length c.blocks)) bs).1) c
-counted (suc n) bs c = Ok (entered Iter (Some n) bs c)
+-- after the start of an iteration of so many turns: inside its block, or after it where there are none
+abbrev pub after_counted_start : ℕ → List ℕ → Cursor → CursorOrError
+after_counted_start zero bs c = after_skip (past (list_at (Some Iter) (suc (length c.blocks)) bs).1) c
+after_counted_start (suc n) bs c = Ok (inside_block Iter (Some n) bs c)
 
-abbrev pub iterated : Result Taken Code → List ℕ → Cursor → Moved
-iterated (Ok taken.None) bs c = Ok (entered Iter None bs (record c { args = no_arguments }))
-iterated (Ok (taken.One n)) bs c = counted (turns_of n) bs (record c { args = no_arguments })
-iterated (Ok (taken.Two m n)) bs c = Err code.Arg
-iterated (Err e) bs c = Err e
+-- An iteration starts: without end where it takes nothing, and not at all where its number is at most 0.
+abbrev pub after_iteration_start : Result Taken Code → List ℕ → Cursor → CursorOrError
+after_iteration_start (Ok taken.None) bs c = Ok (inside_block Iter None bs (record c { args = no_arguments }))
+after_iteration_start (Ok (taken.One n)) bs c = after_counted_start (turns_of n) bs (record c { args = no_arguments })
+after_iteration_start (Ok (taken.Two m n)) bs c = Err code.Arg
+after_iteration_start (Err e) bs c = Err e
+
+-- the beginning of the next turn, or the end of the iteration where no turn is left
+abbrev pub next_turn_or_end : Option ℕ → Frame → List Frame → List ℕ → Cursor
+next_turn_or_end None b outer bs = record { args = no_arguments; left = b.start; blocks = b ∷ outer }
+next_turn_or_end (Some zero) b outer bs = after_block_end bs outer
+next_turn_or_end (Some (suc n)) b outer bs = record { args = no_arguments; left = b.start; blocks = record b { left = Some n } ∷ outer }
 
 -- A turn ends: the next one begins, or the iteration is over.
-abbrev pub turned : Option ℕ → Frame → List Frame → List ℕ → Cursor
-turned None b outer bs = record { args = no_arguments; left = b.start; blocks = b ∷ outer }
-turned (Some zero) b outer bs = closes bs outer
-turned (Some (suc n)) b outer bs = record { args = no_arguments; left = b.start; blocks = record b { left = Some n } ∷ outer }
+abbrev pub after_turn_end : List ℕ → Cursor → CursorOrError
+after_turn_end bs c = elim c.blocks [ [] ↦ Err code.Bni | b ∷ outer ↦ elim b.kind [ Iter ↦ Ok (next_turn_or_end b.left b outer bs) | _ ↦ Err code.Bni ] ]
 
-abbrev pub end_turn : List ℕ → Cursor → Moved
-end_turn bs c = elim c.blocks [ [] ↦ Err code.Bni | b ∷ outer ↦ elim b.kind [ Iter ↦ Ok (turned b.left b outer bs) | _ ↦ Err code.Bni ] ]
+-- inside the second part of a conditional, or after the conditional where it has none
+abbrev pub inside_second_part : Close → Cursor → CursorOrError
+inside_second_part (closed true bs) c = Ok (inside_block Else None bs c)
+inside_second_part (closed false bs) c = Ok (record c { left = bs })
+inside_second_part (broken e) c = Err e
 
--- A conditional begins: the part that its test chooses is run.
-abbrev pub second_part : Close → Cursor → Moved
-second_part (closed true bs) c = Ok (entered Else None bs c)
-second_part (closed false bs) c = Ok (record c { left = bs })
-second_part (broken e) c = Err e
+-- The first part, which the test does not choose, is passed over.
+abbrev pub after_first_part : List ℕ → Cursor → CursorOrError
+after_first_part bs c = inside_second_part (list_at (Some Then) (suc (length c.blocks)) bs).1 c
 
--- the part that the test does not choose is passed over
-abbrev pub second_of : List ℕ → Cursor → Moved
-second_of bs c = second_part (list_at (Some Then) (suc (length c.blocks)) bs).1 c
+-- A conditional starts: the part that its test chooses is run.
+abbrev pub inside_chosen_part : Test → Result ℤ Code → List ℕ → Cursor → CursorOrError
+inside_chosen_part t (Ok n) bs c = let d : Cursor = record c { args = no_arguments } in
+    if holds t n then Ok (inside_block Then None bs d) else after_first_part bs d
+inside_chosen_part t (Err e) bs c = Err e
 
-abbrev pub decided : Test → Result ℤ Code → List ℕ → Cursor → Moved
-decided t (Ok n) bs c = let d : Cursor = record c { args = no_arguments } in
-    if holds t n then Ok (entered Then None bs d) else second_of bs d
-decided t (Err e) bs c = Err e
+-- after a step of a block
+abbrev pub after_block_step : BlockStep → List ℕ → Cursor → CursorOrError
+after_block_step iterates bs c = after_iteration_start (taken_from c.args) bs c
+after_block_step ends_turn bs c = after_turn_end bs c
+after_block_step (decides t) bs c = inside_chosen_part t (takes_one code.Naq c.args) bs c
 
-abbrev pub block_step : BlockStep → List ℕ → Cursor → Moved
-block_step iterates bs c = iterated (taken_from c.args) bs c
-block_step ends_turn bs c = end_turn bs c
-block_step (decides t) bs c = decided t (takes_one code.Naq c.args) bs c
+-- One block is left: an iteration is the last one, and what is around a conditional is left too.
+abbrev pub after_leaving_block : (Cursor → CursorOrError) → Kind → Arguments → List Frame → Past → CursorOrError
+after_leaving_block on_ Iter a outer (Ok bs) = Ok (record { args = a; left = bs; blocks = outer })
+after_leaving_block on_ k a outer (Ok bs) = on_ (record { args = a; left = bs; blocks = outer })
+after_leaving_block on_ k a outer (Err e) = Err e
 
--- The innermost iteration is left.
-abbrev pub left_block : (Cursor → Moved) → Kind → Arguments → List Frame → Past → Moved
-left_block on_ Iter a outer (Ok bs) = Ok (record { args = a; left = bs; blocks = outer })
-left_block on_ k a outer (Ok bs) = on_ (record { args = a; left = bs; blocks = outer })
-left_block on_ k a outer (Err e) = Err e
-
-unfoldable pub leaving : List Frame → Arguments → List ℕ → Moved
-leaving [] a bs = Err code.Sni
-leaving (b ∷ outer) a bs = left_block (λ c. leaving outer c.args c.left) b.kind a outer
+-- The innermost iteration is left; SNI where none is open.
+unfoldable pub after_leaving_iteration : List Frame → Arguments → List ℕ → CursorOrError
+after_leaving_iteration [] a bs = Err code.Sni
+after_leaving_iteration (b ∷ outer) a bs = after_leaving_block (λ c. after_leaving_iteration outer c.args c.left) b.kind a outer
     (behind_block list_at b.kind (suc (length outer)) (list_at (Some b.kind) (suc (length outer)) bs).1)
 
--- A jump goes on after the first such tag directly in the innermost list that has one.
-abbrev pub landed : Option (List ℕ) → Arguments → List Frame → Moved → Moved
-landed (Some bs) a blocks on_ = Ok (record { args = a; left = bs; blocks = blocks })
-landed None a blocks on_ = on_
+-- after a tag that was found, or else this
+abbrev pub after_tag_or : Option (List ℕ) → Arguments → List Frame → CursorOrError → CursorOrError
+after_tag_or (Some bs) a blocks on_ = Ok (record { args = a; left = bs; blocks = blocks })
+after_tag_or None a blocks on_ = on_
 
-unfoldable pub jumping : List ℕ → List ℕ → List Frame → Arguments → Moved
-jumping name text [] a = landed (tag_at name 0 text) a [] (Err code.Tag)
-jumping name text (b ∷ outer) a = landed (tag_at name (suc (length outer)) b.start) a (b ∷ outer) (jumping name text outer a)
+-- A jump goes on after the first such tag directly in the innermost list that has one; TAG where none has.
+unfoldable pub after_jump : List ℕ → List ℕ → List Frame → Arguments → CursorOrError
+after_jump name text [] a = after_tag_or (tag_at name 0 text) a [] (Err code.Tag)
+after_jump name text (b ∷ outer) a = after_tag_or (tag_at name (suc (length outer)) b.start) a (b ∷ outer) (after_jump name text outer a)
 
 -- A text that has called another: its bytes, those that are left, and its open blocks.
 pub record Caller : Type 0 where
@@ -205,45 +221,49 @@ pub data Machine : Type 0 where
   runs : Config → Machine
   halts : Config → Option Code → Machine
 
-abbrev pub going : Config → Moved → Machine
-going c (Ok cur) = runs (record c { at = cur })
-going c (Err e) = halts c (Some e)
+-- The run goes on at this cursor, or is over by this error.
+abbrev pub runs_or_halts : Config → CursorOrError → Machine
+runs_or_halts c (Ok cur) = runs (record c { at = cur })
+runs_or_halts c (Err e) = halts c (Some e)
 
 -- whether `;` without modifiers comes next
-abbrev pub leave_found : Scanned → Bool
-leave_found (found t bs) = elim t.instruction [ token.step i ↦ is_plain_leave t.modifiers i | _ ↦ false ]
-leave_found s = false
+abbrev pub leave_is_next : Scanned → Bool
+leave_is_next (found t bs) = elim t.instruction [ token.step i ↦ is_plain_leave t.modifiers i | _ ↦ false ]
+leave_is_next s = false
 
+-- what a step of a token looks at around it
 abbrev pub setting_of : Modifiers → Option Work → Cursor → Setting
-setting_of m work c = record { modifiers = m; work = work; inside = inside c.blocks; before = leave_found (scan c.left) }
+setting_of m work c = record { modifiers = m; work = work; inside = inside_iteration c.blocks; before = leave_is_next (scan c.left) }
 
-abbrev pub called : List ℕ → Config → Machine
-called text c =
+-- at the beginning of a text that is called, with the same arguments; PDO inside CALL_LIMIT others
+abbrev pub in_called_text : List ℕ → Config → Machine
+in_called_text text c =
     if length c.callers == CALL_LIMIT then halts c (Some code.Pdo) else runs (record c {
       text = text;
       at = record { args = c.at.args; left = text; blocks = [] };
       callers = record { text = c.text; left = c.at.left; blocks = c.at.blocks } ∷ c.callers;
     })
 
--- where a step has ended so
-abbrev pub resumed : Modifiers → Item → End → Config → Machine
-resumed m i on c = runs c
-resumed m i leave c = going c (leaving c.at.blocks c.at.args c.at.left)
-resumed m i (go name) c = going c (jumping name c.text c.at.blocks c.at.args)
-resumed m i (call text) c = called text c
-resumed m i out c = halts c None
-resumed m i (again work) c = runs (record c { further = Some (record { modifiers = m; item = i; work = work }) })
-resumed m i (stop e) c = halts c (Some e)
+-- where a step of a token has ended so
+abbrev pub after_step_end : Modifiers → Item → End → Config → Machine
+after_step_end m i on c = runs c
+after_step_end m i leave c = runs_or_halts c (after_leaving_iteration c.at.blocks c.at.args c.at.left)
+after_step_end m i (go name) c = runs_or_halts c (after_jump name c.text c.at.blocks c.at.args)
+after_step_end m i (call text) c = in_called_text text c
+after_step_end m i out c = halts c None
+after_step_end m i (again work) c = runs (record c { further = Some (record { modifiers = m; item = i; work = work }) })
+after_step_end m i (stop e) c = halts c (Some e)
 
-abbrev pub stepped : Modifiers → Item → Option Work → Config → Machine
-stepped m i work c =
+-- after a step of a token, its first or a further one
+abbrev pub after_token_step : Modifiers → Item → Option Work → Config → Machine
+after_token_step m i work c =
     let d : Step = effect i (setting_of m work c.at) c.state c.at.args in
-    resumed m i d.end (record c { state = d.state; typed = c.typed ++ d.typed; load = c.load + d.load; at = record c.at { args = d.arguments }; further = None })
+    after_step_end m i d.end (record c { state = d.state; typed = c.typed ++ d.typed; load = c.load + d.load; at = record c.at { args = d.arguments }; further = None })
 
 -- Where a text is over, its caller goes on with the arguments that are left.
-abbrev pub returned : Config → List Caller → Machine
-returned c [] = halts c None
-returned c (b ∷ bs) = runs (record c { text = b.text; at = record { args = c.at.args; left = b.left; blocks = b.blocks }; callers = bs })
+abbrev pub after_text_end : Config → List Caller → Machine
+after_text_end c [] = halts c None
+after_text_end c (b ∷ bs) = runs (record c { text = b.text; at = record { args = c.at.args; left = b.left; blocks = b.blocks }; callers = bs })
 
 -- What comes next, once all is passed that uses no step: a step, or the end of the run.
 pub data Ready : Type 0 where
@@ -251,40 +271,44 @@ pub data Ready : Type 0 where
   block : BlockStep → List ℕ → Config → Ready
   finished : Config → Option Code → Ready
 
-abbrev pub coming : (Machine → Ready) → Config → Coming → Ready
-coming next c (moved cur) = next (runs (record c { at = cur }))
-coming next c (comes m i cur) = step m i None (record c { at = cur })
-coming next c (at_block b bs) = block b bs c
-coming next c ends = next (returned c c.callers)
-coming next c (breaks e) = finished c (Some e)
+-- what a run is ready for where this comes in its text
+abbrev pub ready_where_comes : (Machine → Ready) → Config → Coming → Ready
+ready_where_comes next c (passed_to cur) = next (runs (record c { at = cur }))
+ready_where_comes next c (step_comes m i cur) = step m i None (record c { at = cur })
+ready_where_comes next c (block_comes b bs) = block b bs c
+ready_where_comes next c end_comes = next (after_text_end c c.callers)
+ready_where_comes next c (fault_comes e) = finished c (Some e)
 
-abbrev pub arriving : (Machine → Ready) → Config → Option Further → Ready
-arriving next c (Some f) = step f.modifiers f.item (Some f.work) c
-arriving next c None = coming next c (pass c.at)
+-- what a run is ready for at this moment: a further step of the same token, or what comes
+abbrev pub ready_at : (Machine → Ready) → Config → Option Further → Ready
+ready_at next c (Some f) = step f.modifiers f.item (Some f.work) c
+ready_at next c None = ready_where_comes next c (pass c.at)
 
--- within so many moves
-unfoldable pub arrives_within : ℕ → Machine → Ready
-arrives_within n (halts c e) = finished c e
-arrives_within zero (runs c) = finished c None
-arrives_within (suc n) (runs c) = arriving (arrives_within n) c c.further
+-- the same within so many moves
+unfoldable pub ready_within : ℕ → Machine → Ready
+ready_within n (halts c e) = finished c e
+ready_within zero (runs c) = finished c None
+ready_within (suc n) (runs c) = ready_at (ready_within n) c c.further
 
-unfoldable pub waiting : List Caller → ℕ
-waiting [] = 0
-waiting (b ∷ bs) = suc (length b.left) + waiting bs
+-- the bytes that are left of the texts that have called
+unfoldable pub bytes_of_callers : List Caller → ℕ
+bytes_of_callers [] = 0
+bytes_of_callers (b ∷ bs) = suc (length b.left) + bytes_of_callers bs
 
 -- the bytes that may be passed
-abbrev pub weight : Machine → ℕ
-weight (runs c) = suc (length c.at.left + waiting c.callers)
-weight (halts c e) = 0
+abbrev pub bytes_left : Machine → ℕ
+bytes_left (runs c) = suc (length c.at.left + bytes_of_callers c.callers)
+bytes_left (halts c e) = 0
 
-unfoldable pub arrives : Machine → Ready
-arrives m = arrives_within (suc (weight m)) m
+-- what the machine is ready for, once all is passed that uses no step
+unfoldable pub ready_of : Machine → Ready
+ready_of m = ready_within (suc (bytes_left m)) m
 
--- a step that pays
-abbrev pub pays : Ready → Machine
-pays (step m i work c) = stepped m i work c
-pays (block b bs c) = going c (block_step b bs c.at)
-pays (finished c e) = halts c e
+-- after the step for which a run is ready, which one of the limit pays
+abbrev pub after_paid_step : Ready → Machine
+after_paid_step (step m i work c) = after_token_step m i work c
+after_paid_step (block b bs c) = runs_or_halts c (after_block_step b bs c.at)
+after_paid_step (finished c e) = halts c e
 
 -- what a run comes to: its state, the bytes typed, the load, what is left of its limit, and its code
 pub record Final : Type 0 where
@@ -298,24 +322,25 @@ abbrev pub final : ℕ → Config → Option Code → Final
 final n c e = record { state = c.state; typed = c.typed; load = c.load; fuel = n; code = e }
 
 -- A step that is reached without fuel isn't begun.
-abbrev pub unpaid : Ready → Final
-unpaid (finished c e) = final 0 c e
-unpaid (step m i work c) = final 0 c (Some code.Lim)
-unpaid (block b bs c) = final 0 c (Some code.Lim)
+abbrev pub final_without_fuel : Ready → Final
+final_without_fuel (finished c e) = final 0 c e
+final_without_fuel (step m i work c) = final 0 c (Some code.Lim)
+final_without_fuel (block b bs c) = final 0 c (Some code.Lim)
 
-abbrev pub paid : ℕ → (Machine → Final) → Ready → Final
-paid n next (finished c e) = final (suc n) c e
-paid n next r = next (pays r)
+-- With fuel it is taken, and the run goes on with one less.
+abbrev pub final_with_fuel : ℕ → (Machine → Final) → Ready → Final
+final_with_fuel n next (finished c e) = final (suc n) c e
+final_with_fuel n next r = next (after_paid_step r)
 
 -- the run under a limit of steps
 unfoldable pub run_within : ℕ → Machine → Final
-run_within zero m = unpaid (arrives m)
-run_within (suc n) m = paid n (run_within n) (arrives m)
+run_within zero m = final_without_fuel (ready_of m)
+run_within (suc n) m = final_with_fuel n (run_within n) (ready_of m)
 
--- so many steps
-unfoldable pub exec : ℕ → Machine → Machine
-exec zero m = m
-exec (suc n) m = exec n (pays (arrives m))
+-- the machine after so many steps
+unfoldable pub after_steps : ℕ → Machine → Machine
+after_steps zero m = m
+after_steps (suc n) m = after_steps n (after_paid_step (ready_of m))
 
 abbrev pub start_config : State → List ℕ → Config
 start_config s text = record {

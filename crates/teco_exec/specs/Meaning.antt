@@ -17,67 +17,67 @@ use Rattle.teco_step.specs.Step.{Step, End, on, leave, go, call, again, stop, ta
 use Rattle.teco_step.specs.Effect.{effect}
 use Rattle.teco_scan.specs.Lists.{nodes}
 use Rattle.teco_exec.specs.Test.{holds}
-use Rattle.teco_exec.specs.World.{World, Ran, cleared, after, pay}
+use Rattle.teco_exec.specs.World.{World, WorldAndEnd, without_arguments, world_after, pay}
 
 -- the meaning of a list from a place in it; of the turns of an iteration that are left (none: without end); and of a further step
 pub record Meaning : Type 0 where
-  pub list : Nodes → Nodes → World → ℕ → Bool → Ran
-  pub turns : Option ℕ → Nodes → World → ℕ → Ran
-  pub further : Item → Setting → World → ℕ → Ran
+  pub list : Nodes → Nodes → World → ℕ → Bool → WorldAndEnd
+  pub turns : Option ℕ → Nodes → World → ℕ → WorldAndEnd
+  pub further : Item → Setting → World → ℕ → WorldAndEnd
 
 -- Below, m is the meaning itself; it is used only with less fuel.
 
 -- A jump goes on after the first such tag directly in the list, and otherwise ends the list.
-abbrev pub lands : Meaning → Nodes → World → ℕ → Bool → List ℕ → Option Nodes → Ran
-lands m whole w depth inside name (Some rest) = m.list whole rest w depth inside
-lands m whole w depth inside name None = (w, go name)
+abbrev pub run_after_tag : Meaning → Nodes → World → ℕ → Bool → List ℕ → Option Nodes → WorldAndEnd
+run_after_tag m whole w depth inside name (Some rest) = m.list whole rest w depth inside
+run_after_tag m whole w depth inside name None = (w, go name)
 
 -- what a list does after a node of it
-abbrev pub then_rest : Meaning → Nodes → Nodes → ℕ → Bool → World → End → Ran
+abbrev pub then_rest : Meaning → Nodes → Nodes → ℕ → Bool → World → End → WorldAndEnd
 then_rest m whole rest depth inside w on = m.list whole rest w depth inside
-then_rest m whole rest depth inside w (go name) = lands m whole w depth inside name (after_tag name whole)
+then_rest m whole rest depth inside w (go name) = run_after_tag m whole w depth inside name (after_tag name whole)
 then_rest m whole rest depth inside w e = (w, e)
 
 -- A macro's text is run with the same arguments, inside no iteration; at most CALL_LIMIT calls are open; its jump to nowhere is TAG.
-abbrev pub returned : World → End → Ran
-returned w (go name) = (w, stop code.Tag)
-returned w e = (w, e)
+abbrev pub after_call : World → End → WorldAndEnd
+after_call w (go name) = (w, stop code.Tag)
+after_call w e = (w, e)
 
-abbrev pub calls : Meaning → List ℕ → World → ℕ → Ran
-calls m text w depth =
-    if depth == CALL_LIMIT then (w, stop code.Pdo) else (let r : Ran = m.list (nodes text) (nodes text) w (depth + 1) false in returned r.0 r.1)
+abbrev pub run_call : Meaning → List ℕ → World → ℕ → WorldAndEnd
+run_call m text w depth =
+    if depth == CALL_LIMIT then (w, stop code.Pdo) else (let r : WorldAndEnd = m.list (nodes text) (nodes text) w (depth + 1) false in after_call r.0 r.1)
 
 -- what a token does after a step of it: a call runs its text, and a further step has fuel of its own
-abbrev pub carries : Meaning → Item → Setting → ℕ → World → End → Ran
-carries m i setting depth w (call text) = calls m text w depth
-carries m i setting depth w (again work) = m.further i (record setting { work = Some work }) w depth
-carries m i setting depth w e = (w, e)
+abbrev pub run_after_step : Meaning → Item → Setting → ℕ → World → End → WorldAndEnd
+run_after_step m i setting depth w (call text) = run_call m text w depth
+run_after_step m i setting depth w (again work) = m.further i (record setting { work = Some work }) w depth
+run_after_step m i setting depth w e = (w, e)
 
-abbrev pub steps : Meaning → Item → Setting → World → ℕ → Ran
-steps m i setting w depth = let d : Step = effect i setting w.state w.arguments in carries m i setting depth (after w d) d.end
+abbrev pub run_step : Meaning → Item → Setting → World → ℕ → WorldAndEnd
+run_step m i setting w depth = let d : Step = effect i setting w.state w.arguments in run_after_step m i setting depth (world_after w d) d.end
 
 -- the arguments that an iteration takes: n turns, not at all where n is at most 0, without end where n is missing
 abbrev pub turns_of : ℤ → ℕ
 turns_of (pos n) = n
 turns_of (negsuc n) = 0
 
-abbrev pub iterates : Meaning → Nodes → World → ℕ → Result Taken Code → Ran
-iterates m body w depth (Ok taken.None) = m.turns None body (cleared w) depth
-iterates m body w depth (Ok (taken.One n)) = m.turns (Some (turns_of n)) body (cleared w) depth
-iterates m body w depth (Ok (taken.Two p n)) = (w, stop code.Arg)
-iterates m body w depth (Err c) = (w, stop c)
+abbrev pub run_iteration : Meaning → Nodes → World → ℕ → Result Taken Code → WorldAndEnd
+run_iteration m body w depth (Ok taken.None) = m.turns None body (without_arguments w) depth
+run_iteration m body w depth (Ok (taken.One n)) = m.turns (Some (turns_of n)) body (without_arguments w) depth
+run_iteration m body w depth (Ok (taken.Two p n)) = (w, stop code.Arg)
+run_iteration m body w depth (Err c) = (w, stop c)
 
 -- A conditional runs the one part or the other, and drops the arguments.
-abbrev pub part_end : World → End → Ran
-part_end w on = (cleared w, on)
-part_end w e = (w, e)
+abbrev pub after_part : World → End → WorldAndEnd
+after_part w on = (without_arguments w, on)
+after_part w e = (w, e)
 
-abbrev pub part : Meaning → Nodes → World → ℕ → Bool → Ran
-part m nodes w depth inside = let r : Ran = m.list nodes nodes w depth inside in part_end r.0 r.1
+abbrev pub run_part : Meaning → Nodes → World → ℕ → Bool → WorldAndEnd
+run_part m nodes w depth inside = let r : WorldAndEnd = m.list nodes nodes w depth inside in after_part r.0 r.1
 
-abbrev pub chooses : Meaning → Test → Nodes → Nodes → World → ℕ → Bool → Result ℤ Code → Ran
-chooses m t first second w depth inside (Ok n) = part m (if holds t n then first else second) (cleared w) depth inside
-chooses m t first second w depth inside (Err c) = (w, stop c)
+abbrev pub run_conditional : Meaning → Test → Nodes → Nodes → World → ℕ → Bool → Result ℤ Code → WorldAndEnd
+run_conditional m t first second w depth inside (Ok n) = run_part m (if holds t n then first else second) (without_arguments w) depth inside
+run_conditional m t first second w depth inside (Err c) = (w, stop c)
 
 -- whether the next node is `;` without modifiers
 abbrev pub is_plain_leave : Modifiers → Item → Bool
@@ -92,34 +92,34 @@ abbrev pub first_setting : Modifiers → Bool → Bool → Setting
 first_setting m inside before = record { modifiers = m; work = None; inside = inside; before = before }
 
 -- A list, by its nodes. A tag, a fault and an escape, which drops the arguments, use no step.
-unfoldable pub list_by : Meaning → Nodes → Nodes → World → ℕ → Bool → Ran
+unfoldable pub list_by : Meaning → Nodes → Nodes → World → ℕ → Bool → WorldAndEnd
 list_by m whole done w depth inside = (w, on)
 list_by m whole (faulty c) w depth inside = (w, stop c)
 list_by m whole (tag name rest) w depth inside = list_by m whole rest w depth inside
-list_by m whole (escape rest) w depth inside = list_by m whole rest (cleared w) depth inside
+list_by m whole (escape rest) w depth inside = list_by m whole rest (without_arguments w) depth inside
 list_by m whole (item marks i rest) w depth inside =
-    pay w (λ v. let r : Ran = steps m i (first_setting marks inside (leave_comes rest)) v depth in then_rest m whole rest depth inside r.0 r.1)
+    pay w (λ v. let r : WorldAndEnd = run_step m i (first_setting marks inside (leave_comes rest)) v depth in then_rest m whole rest depth inside r.0 r.1)
 list_by m whole (iter body rest) w depth inside =
-    pay w (λ v. let r : Ran = iterates m body v depth (taken_from v.arguments) in then_rest m whole rest depth inside r.0 r.1)
+    pay w (λ v. let r : WorldAndEnd = run_iteration m body v depth (taken_from v.arguments) in then_rest m whole rest depth inside r.0 r.1)
 list_by m whole (cond t first second rest) w depth inside =
-    pay w (λ v. let r : Ran = chooses m t first second v depth inside (takes_one code.Naq v.arguments) in then_rest m whole rest depth inside r.0 r.1)
+    pay w (λ v. let r : WorldAndEnd = run_conditional m t first second v depth inside (takes_one code.Naq v.arguments) in then_rest m whole rest depth inside r.0 r.1)
 
 -- The end of each turn uses a step and drops the arguments; leaving ends the iteration.
-abbrev pub turn_end : Meaning → Option ℕ → Nodes → ℕ → World → End → Ran
-turn_end m left body depth w on = pay w (λ v. m.turns left body (cleared v) depth)
-turn_end m left body depth w leave = (w, on)
-turn_end m left body depth w e = (w, e)
+abbrev pub after_turn : Meaning → Option ℕ → Nodes → ℕ → World → End → WorldAndEnd
+after_turn m left body depth w on = pay w (λ v. m.turns left body (without_arguments v) depth)
+after_turn m left body depth w leave = (w, on)
+after_turn m left body depth w e = (w, e)
 
-abbrev pub turn : Meaning → Option ℕ → Nodes → World → ℕ → Ran
-turn m left body w depth = let r : Ran = list_by m body body w depth true in turn_end m left body depth r.0 r.1
+abbrev pub run_turn : Meaning → Option ℕ → Nodes → World → ℕ → WorldAndEnd
+run_turn m left body w depth = let r : WorldAndEnd = list_by m body body w depth true in after_turn m left body depth r.0 r.1
 
-unfoldable pub turns_by : Meaning → Option ℕ → Nodes → World → ℕ → Ran
-turns_by m None body w depth = turn m None body w depth
+unfoldable pub turns_by : Meaning → Option ℕ → Nodes → World → ℕ → WorldAndEnd
+turns_by m None body w depth = run_turn m None body w depth
 turns_by m (Some zero) body w depth = (w, on)
-turns_by m (Some (suc n)) body w depth = turn m (Some n) body w depth
+turns_by m (Some (suc n)) body w depth = run_turn m (Some n) body w depth
 
-unfoldable pub further_by : Meaning → Item → Setting → World → ℕ → Ran
-further_by m i setting w depth = pay w (λ v. steps m i setting v depth)
+unfoldable pub further_by : Meaning → Item → Setting → World → ℕ → WorldAndEnd
+further_by m i setting w depth = pay w (λ v. run_step m i setting v depth)
 
 abbrev pub layer : Meaning → Meaning
 layer m = record { list = list_by m; turns = turns_by m; further = further_by m }

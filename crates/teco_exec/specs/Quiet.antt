@@ -4,7 +4,7 @@ use Rattle.teco_scan.specs.Lists.{nodes}
 use Rattle.teco_scan.specs.Tree.{Nodes, done, item, escape, iter, cond, tag, faulty}
 use Rattle.teco_step.specs.Step.{End, on, leave, go, call, out, again, stop}
 use Rattle.teco_step.specs.Stepping.{takes_nothing}
-use Rattle.teco_exec.specs.Machine.{Cursor, Coming, moved, comes, at_block, ends, breaks}
+use Rattle.teco_exec.specs.Machine.{Cursor, Coming, passed_to, step_comes, block_comes, end_comes, fault_comes}
 
 -- Values and arithmetic alone, with ESC between them, and perhaps a fault at the end.
 abbrev pub takes_no_memory : Nodes → Bool
@@ -33,8 +33,8 @@ pub record IsQuiet (c : Cursor) : Type 0 where
 
 -- What comes next is a step that takes nothing, or the end.
 abbrev pub QuietComing : Coming → Type 0
-QuietComing (moved c) = IsQuiet c
-QuietComing (comes m i c) = (takes_nothing i ≡ true) × IsQuiet c
-QuietComing (at_block b bs) = ⊥
-QuietComing ends = Unit {0}
-QuietComing (breaks e) = Unit {0}
+QuietComing (passed_to c) = IsQuiet c
+QuietComing (step_comes m i c) = (takes_nothing i ≡ true) × IsQuiet c
+QuietComing (block_comes b bs) = ⊥
+QuietComing end_comes = Unit {0}
+QuietComing (fault_comes e) = Unit {0}

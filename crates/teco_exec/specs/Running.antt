@@ -10,19 +10,19 @@ use Rattle.teco_store.specs.Trail.{Trail}
 use Rattle.teco_step.specs.declared.next.Work.{Work}
 use Rattle.teco_step.specs.Stepping.{is_unfinished_code}
 use Rattle.teco_step.specs.Terminal.{Screen, Shows}
-use Rattle.teco_exec.specs.Machine.{Caller, Config, Further, Machine, runs, called, returned, Ready, step, block, Final, Now, arrives, paid, unpaid, run_within, start_config}
+use Rattle.teco_exec.specs.Machine.{Caller, Config, Further, Machine, runs, in_called_text, after_text_end, Ready, step, block, Final, Now, ready_of, final_with_fuel, final_without_fuel, run_within, start_config}
 use Rattle.teco_exec.specs.Machine as machine
 use Rattle.teco_exec.specs.MachineLaws.{MachineMeans}
 use Rattle.teco_exec.specs.Quiet.{IsQuiet}
 use Rattle.teco_exec.specs.Runs.{Runs, is_tty, trail_of}
 use Rattle.teco_exec.specs.StringMeaning.{string_meaning}
-use Rattle.teco_exec.specs.View.{beginning, cursor, item_at, opening_of}
+use Rattle.teco_exec.specs.View.{cursor_at_start, cursor, item_of_kind, block_step_of}
 use Rattle.teco_exec.specs.declared.cursor.Cursor.{Cursor}
 use Rattle.teco_exec.specs.declared.flow.Exit.{Exit}
 use Rattle.teco_exec.specs.declared.flow.Exit.TheVariants as exit
 use Rattle.teco_exec.specs.declared.flow.Flow.{Flow}
 use Rattle.teco_exec.specs.declared.flow.Flow.TheVariants as flow
-use Rattle.teco_exec.specs.declared.moves.Opening.{Opening}
+use Rattle.teco_exec.specs.declared.moves.BlockStep.{BlockStep}
 use Rattle.teco_exec.specs.declared.outcome.Outcome.{Outcome}
 
 -- Where a whole run began: the state, the text, what the screen showed, and the limit of steps.
@@ -48,8 +48,8 @@ Continuation = Now → Ready
 
 -- what a run comes to under a limit of steps, from what it is ready for
 abbrev pub ready_run : ℕ → Ready → Final
-ready_run zero r = unpaid r
-ready_run (suc n) r = paid n (run_within n) r
+ready_run zero r = final_without_fuel r
+ready_run (suc n) r = final_with_fuel n (run_within n) r
 
 -- the run of the whole text, from its beginning
 abbrev pub whole_run : Origin → Machine
@@ -60,30 +60,30 @@ abbrev pub now_at : Origin → ℕ → Now
 now_at o k = record { state = (string_meaning o.state o.text k).state; typed = (string_meaning o.state o.text k).typed; load = (string_meaning o.state o.text k).load }
 
 -- By this moment the desk and the screen are as the whole text means, and its run, which the machine is, goes on so under each limit.
-pub record Going (o : Origin) (h : Host) (next : Continuation) : Type 0 where
+pub record RunGoesOn (o : Origin) (h : Host) (next : Continuation) : Type 0 where
   pub means : MachineMeans
   pub state : h.state ≡ (now_at o h.steps).state
   pub shows : Shows o.screen h.screen (now_at o h.steps).typed false
   pub leads : (fuel : ℕ) → run_within (h.steps + fuel) (whole_run o) ≡ ready_run fuel (next (now_at o h.steps))
 
 -- If the desk followed the run up to one moment, it follows it up to another.
-abbrev pub Follows : Origin → Host → Host → Type 0
-Follows o before after = (floor : ℕ) → before.follows (trail_of o.state o.text floor before.steps) → after.follows (trail_of o.state o.text floor after.steps)
+abbrev pub StillFollows : Origin → Host → Host → Type 0
+StillFollows o before after = (floor : ℕ) → before.follows (trail_of o.state o.text floor before.steps) → after.follows (trail_of o.state o.text floor after.steps)
 
-pub record Comes (o : Origin) (before after : Host) (next : Continuation) : Type 0 where
-  pub going : Going o after next
-  pub follows : Follows o before after
+pub record ReachesContinuation (o : Origin) (before after : Host) (next : Continuation) : Type 0 where
+  pub going : RunGoesOn o after next
+  pub follows : StillFollows o before after
 
 abbrev pub ended_by : Option Code → ℕ → Outcome
 ended_by code k = record { code = code; steps = k }
 
 -- By this moment the whole run is over, by this code.
-pub record Ended (o : Origin) (before after : Host) (code : Option Code) : Type 0 where
+pub record ReachesEnd (o : Origin) (before after : Host) (code : Option Code) : Type 0 where
   pub typed : List ℕ
   pub runs : Runs o.state o.text o.limit (ended_by code after.steps) typed after.state
   pub shows : Shows o.screen after.screen typed (is_tty (ended_by code after.steps))
   pub again : after.state ≡ (now_at o after.steps).state
-  pub follows : Follows o before after
+  pub follows : StillFollows o before after
 
 -- Where a run has got: it goes on, or is over.
 pub data Reached : Type 0 where
@@ -91,17 +91,17 @@ pub data Reached : Type 0 where
   over : (code : Option Code) → Reached
 
 abbrev pub Reaches : Origin → Host → Host → Reached → Type 0
-Reaches o before after (goes next) = Comes o before after next
-Reaches o before after (over code) = Ended o before after code
+Reaches o before after (goes next) = ReachesContinuation o before after next
+Reaches o before after (over code) = ReachesEnd o before after code
 
 -- From one moment to a later one a run under this limit is led from a continuation to where it then has got, whatever has called the text.
-abbrev pub Leads : ℕ → Host → Host → (List Caller → Continuation) → (List Caller → Reached) → Type 0
-Leads limit before after from to = (o : Origin) (callers : List Caller) → o.limit ≡ limit → Going o before (from callers) → Reaches o before after (to callers)
+abbrev pub RunLeads : ℕ → Host → Host → (List Caller → Continuation) → (List Caller → Reached) → Type 0
+RunLeads limit before after from to = (o : Origin) (callers : List Caller) → o.limit ≡ limit → RunGoesOn o before (from callers) → Reaches o before after (to callers)
 
 -- The same, for a text at this depth of calls.
-abbrev pub LeadsAt : ℕ → ℕ → Host → Host → (List Caller → Continuation) → (List Caller → Reached) → Type 0
-LeadsAt depth limit before after from to =
-    (o : Origin) (callers : List Caller) → o.limit ≡ limit → length callers ≡ depth → Going o before (from callers) → Reaches o before after (to callers)
+abbrev pub RunLeadsAt : ℕ → ℕ → Host → Host → (List Caller → Continuation) → (List Caller → Reached) → Type 0
+RunLeadsAt depth limit before after from to =
+    (o : Origin) (callers : List Caller) → o.limit ≡ limit → length callers ≡ depth → RunGoesOn o before (from callers) → Reaches o before after (to callers)
 
 -- what a run comes to from there
 abbrev pub reached_run : ℕ → Now → Reached → Final
@@ -114,48 +114,48 @@ config text c further callers now =
 
 -- A text goes on at a cursor.
 abbrev pub at_cursor : Cursor → List Caller → Continuation
-at_cursor c callers now = arrives (runs (config c.text.now (cursor c) None callers now))
+at_cursor c callers now = ready_of (runs (config c.text.now (cursor c) None callers now))
 
 -- It goes on with a step of this token, the first or a further one.
 abbrev pub at_token : Cursor → Token → Option Work → List Caller → Continuation
-at_token c token work callers now = step token.modifiers (item_at c.text.now token.kind) work (config c.text.now (cursor c) None callers now)
+at_token c token work callers now = step token.modifiers (item_of_kind c.text.now token.kind) work (config c.text.now (cursor c) None callers now)
 
 -- It goes on with a step of a block, whose token ends at a place.
-abbrev pub at_opening : Cursor → Opening → ℕ → List Caller → Continuation
-at_opening c o to callers now = block (opening_of o) (drop to c.text.now) (config c.text.now (cursor c) None callers now)
+abbrev pub at_block_step : Cursor → BlockStep → ℕ → List Caller → Continuation
+at_block_step c o to callers now = block (block_step_of o) (drop to c.text.now) (config c.text.now (cursor c) None callers now)
 
 -- It goes on with a call of this text.
 abbrev pub at_call : Cursor → List ℕ → List Caller → Continuation
-at_call c text callers now = arrives (called text (config c.text.now (cursor c) None callers now))
+at_call c text callers now = ready_of (in_called_text text (config c.text.now (cursor c) None callers now))
 
 -- A text begins.
 abbrev pub at_beginning : Arguments → List ℕ → List Caller → Continuation
-at_beginning a text callers now = arrives (runs (config text (beginning a text) None callers now))
+at_beginning a text callers now = ready_of (runs (config text (cursor_at_start a text) None callers now))
 
 -- A text is over, with these arguments: the latest caller goes on.
 abbrev pub at_return : Arguments → List Caller → Continuation
-at_return a callers now = arrives (returned (config [] (beginning a []) None [] now) callers)
+at_return a callers now = ready_of (after_text_end (config [] (cursor_at_start a []) None [] now) callers)
 
 -- a cursor after a call, with the arguments that it left
-abbrev pub in_return : Arguments → machine.Cursor → machine.Cursor
-in_return a c = record { args = a; left = c.left; blocks = c.blocks }
+abbrev pub cursor_after_call : Arguments → machine.Cursor → machine.Cursor
+cursor_after_call a c = record { args = a; left = c.left; blocks = c.blocks }
 
 -- where a flow leads
-abbrev pub flows : Cursor → List Caller → Flow → Reached
-flows c callers flow.On = goes (at_cursor c callers)
-flows c callers (flow.Call text) = goes (at_call c text.items callers)
-flows c callers flow.Return = goes (at_return (arguments c.args) callers)
-flows c callers (flow.Over code) = over code
+abbrev pub reached_by_flow : Cursor → List Caller → Flow → Reached
+reached_by_flow c callers flow.On = goes (at_cursor c callers)
+reached_by_flow c callers (flow.Call text) = goes (at_call c text.items callers)
+reached_by_flow c callers flow.Return = goes (at_return (arguments c.args) callers)
+reached_by_flow c callers (flow.Over code) = over code
 
 -- where the end of a text leads
-abbrev pub exits : Arguments → List Caller → Exit → Reached
-exits a callers exit.Return = goes (at_return a callers)
-exits a callers (exit.Over code) = over code
+abbrev pub reached_by_exit : Arguments → List Caller → Exit → Reached
+reached_by_exit a callers exit.Return = goes (at_return a callers)
+reached_by_exit a callers (exit.Over code) = over code
 
 -- where the end of a called text leads: its caller goes on at this cursor
-abbrev pub goes_back : Cursor → List Caller → Exit → Reached
-goes_back c callers exit.Return = goes (at_cursor c callers)
-goes_back c callers (exit.Over code) = over code
+abbrev pub reached_after_call : Cursor → List Caller → Exit → Reached
+reached_after_call c callers exit.Return = goes (at_cursor c callers)
+reached_after_call c callers (exit.Over code) = over code
 
 -- the code that a text's end leaves, where nothing has called it
 abbrev pub code_left : Exit → Option Code
@@ -181,6 +181,6 @@ abbrev pub IsFinished : Option Code → Type 0
 IsFinished None = Unit {0}
 IsFinished (Some c) = is_unfinished_code c ≡ false
 
-abbrev pub Finishes : Flow → Type 0
-Finishes (flow.Over code) = IsFinished code
-Finishes f = Unit {0}
+abbrev pub FlowFinishes : Flow → Type 0
+FlowFinishes (flow.Over code) = IsFinished code
+FlowFinishes f = Unit {0}

@@ -8,14 +8,14 @@ use Rattle.teco_scan.specs.declared.token.Token.{Token}
 use Rattle.teco_scan.specs.declared.token.TokenKind.{TokenKind}
 use Rattle.teco_scan.specs.declared.token.TokenKind.TheVariants.{Item}
 use Rattle.teco_exec.specs.Machine.{Caller}
-use Rattle.teco_exec.specs.Running.{Finishes, GoesOn, GoesQuietly, Reached, at_token, flows, goes}
+use Rattle.teco_exec.specs.Running.{FlowFinishes, GoesOn, GoesQuietly, Reached, at_token, reached_by_flow, goes}
 use Rattle.teco_exec.specs.declared.cursor.Cursor.{Cursor}
 use Rattle.teco_exec.specs.declared.flow.Progress.{Progress}
 use Rattle.teco_exec.specs.declared.flow.Progress.TheVariants.{Further, Done}
 use Rattle.teco_exec.specs.declared.flow.Steps.{Steps}
 
 -- No step is taken back, and the limit stays.
-pub record Counts (old new : Steps) : Type 0 where
+pub record CountsSteps (old new : Steps) : Type 0 where
   pub limit : new.limit ≡ old.limit
   pub after : old.done ≤ new.done
 
@@ -29,9 +29,9 @@ looks_around (Item (Replace old new)) = true
 looks_around k = false
 
 -- where a step of a token leads
-abbrev pub progresses : Cursor → Token → List Caller → Progress → Reached
-progresses c token callers (Further work) = goes (at_token c token (Some work) callers)
-progresses c token callers (Done flow) = flows c callers flow
+abbrev pub reached_by_progress : Cursor → Token → List Caller → Progress → Reached
+reached_by_progress c token callers (Further work) = goes (at_token c token (Some work) callers)
+reached_by_progress c token callers (Done flow) = reached_by_flow c callers flow
 
 -- the token goes on, or the text
 abbrev pub Continues : Progress → Type 0
@@ -41,7 +41,7 @@ Continues (Done flow) = GoesOn flow
 -- neither want of memory nor a failed terminal
 abbrev pub ProgressFinishes : Progress → Type 0
 ProgressFinishes (Further work) = Unit {0}
-ProgressFinishes (Done flow) = Finishes flow
+ProgressFinishes (Done flow) = FlowFinishes flow
 
 -- A token that takes nothing has one step.
 abbrev pub ProgressesQuietly : Cursor → Progress → Type 0

@@ -23,12 +23,12 @@ impl<'t> Cursor<'t> {
     ghost use Rattle.std.specs.Prelude.{◌≡◌, drop};
     ghost use Rattle.teco_core.specs.ArgumentsView.{arguments};
     ghost use Rattle.teco_scan.specs.Scan.{scan};
-    ghost use Rattle.teco_exec.specs.View.{beginning, cursor};
+    ghost use Rattle.teco_exec.specs.View.{cursor_at_start, cursor};
 
     /// The beginning of a text, with these arguments and this room for its open blocks.
     pub fn begin(text: &'t [u8], args: Args, room: &'t mut [Block; BLOCK_LIMIT]) -> Cursor<'t>
         ensures text { result.text.now ≡ text.now }
-        ensures begins { cursor result ≡ beginning (arguments args) text.now }
+        ensures begins { cursor result ≡ cursor_at_start (arguments args) text.now }
     {
         Cursor {
             text,
@@ -40,14 +40,14 @@ impl<'t> Cursor<'t> {
 
     /// Whether an iteration is open.
     pub fn has_iteration(&self) -> bool
-        ensures { result ≡ machine.inside (cursor self.now).blocks }
+        ensures { result ≡ machine.inside_iteration (cursor self.now).blocks }
     {
         self.blocks.has_iteration()
     }
 
     /// Whether `;` without modifiers comes next.
     pub fn leave_is_next(&self) -> bool
-        ensures { result ≡ machine.leave_found (scan (cursor self.now).left) }
+        ensures { result ≡ machine.leave_is_next (scan (cursor self.now).left) }
     {
         spelling();
         is_leave_first(&self.text[self.at..])

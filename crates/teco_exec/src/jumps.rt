@@ -1,7 +1,7 @@
 //! Iterations that are left, and jumps to tags.
 ghost use Rattle.std.specs.Prelude.{◌≡◌};
 ghost use Rattle.teco_exec.specs.Machine as machine;
-ghost use Rattle.teco_exec.specs.View.{Finishes, cursor, moved_of};
+ghost use Rattle.teco_exec.specs.View.{ResultFinishes, cursor, cursor_or_error};
 
 use crate::cursor::Cursor;
 use teco_core::Code;
@@ -11,8 +11,8 @@ impl<'t> Cursor<'t> {
     /// Leaves the innermost iteration.
     pub fn leave(&mut self) -> Result<(), Code>
         ensures text { self.new.text ≡ self.old.text }
-        ensures moves { moved_of self.new result ≡ machine.leaving (cursor self.old).blocks (cursor self.old).args (cursor self.old).left }
-        ensures finished { Finishes result }
+        ensures moves { cursor_or_error self.new result ≡ machine.after_leaving_iteration (cursor self.old).blocks (cursor self.old).args (cursor self.old).left }
+        ensures finished { ResultFinishes result }
     {
         'leaving: loop {
             let depth = self.blocks.len();
@@ -31,8 +31,8 @@ impl<'t> Cursor<'t> {
     /// Jumps past the first tag of this name that is directly in the innermost list of commands that has one.
     pub fn jump(&mut self, name: &[u8]) -> Result<(), Code>
         ensures text { self.new.text ≡ self.old.text }
-        ensures moves { moved_of self.new result ≡ machine.jumping name.now self.old.text.now (cursor self.old).blocks (cursor self.old).args }
-        ensures finished { Finishes result }
+        ensures moves { cursor_or_error self.new result ≡ machine.after_jump name.now self.old.text.now (cursor self.old).blocks (cursor self.old).args }
+        ensures finished { ResultFinishes result }
     {
         'jumping: loop {
             let start = self.blocks.list_start();

@@ -4,7 +4,7 @@ ghost use Rattle.teco_scan.specs.Scan.{scan};
 ghost use Rattle.teco_scan.specs.Seen.{IsFoundAt, found_in};
 ghost use Rattle.teco_exec.specs.Frames.{EndsTurn, kind_of, turns_left};
 ghost use Rattle.teco_exec.specs.Machine as machine;
-ghost use Rattle.teco_exec.specs.View.{Finishes, MayOpen, Tells, coming_of, cursor, moved_of, opening_of};
+ghost use Rattle.teco_exec.specs.View.{ResultFinishes, MayOpen, TellsComing, coming_of, cursor, cursor_or_error, block_step_of};
 
 use crate::blocks::{Block, Body};
 use crate::conditions::holds;
@@ -16,7 +16,7 @@ use teco_scan::{
 
 /// What opens a block or ends a turn: a step that no item makes.
 #[derive(Clone, Copy)]
-pub(crate) enum Opening {
+pub(crate) enum BlockStep {
     Iterate,
     EndTurn,
     Decide(Test),
@@ -24,14 +24,14 @@ pub(crate) enum Opening {
 
 /// What comes next in a text, or that something was passed that uses no step.
 #[derive(Clone, Copy)]
-pub(crate) enum Next {
+pub(crate) enum Coming {
     Passed,
     /// A step of the token that was found, after which the cursor is.
     Step,
     /// A step that opens a block or ends a turn, and the place after its token.
-    Block(Opening, usize),
+    Block(BlockStep, usize),
     /// The end of the text.
-    Over,
+    End,
     /// An error, which uses no step.
     Fault(Code),
 }
@@ -40,108 +40,108 @@ impl<'t> Cursor<'t> {
     /// Passes a token that uses no step, or tells what comes.
     ///
     /// It is the token that was found here.
-    pub fn pass(&mut self, found: &Found) -> Next
+    pub fn pass(&mut self, found: &Found) -> Coming
         requires read { found_in self.old.text.now found.now ≡ scan (drop self.old.at self.old.text.now) }
         requires place { IsFoundAt self.old.text.now self.old.at found.now }
         ensures text { self.new.text ≡ self.old.text }
         ensures comes { coming_of self.new found.now result ≡ machine.pass (cursor self.old) }
-        ensures told { Tells self.old self.new found.now result }
+        ensures told { TellsComing self.old self.new found.now result }
     {
         match found {
             Found::End => {
                 if self.blocks.len() == 0 {
-                    Next::Over
+                    Coming::End
                 } else {
-                    Next::Fault(Code::Utc)
+                    Coming::Fault(Code::Utc)
                 }
             }
             Found::Fault(code) => {
                 // By its laws a fault is one of the text's own, and never want of memory.
                 block_laws();
-                Next::Fault(*code)
+                Coming::Fault(*code)
             }
             Found::Token(token) => match token.kind {
                 TokenKind::Item(_) => {
                     self.at = token.span.to;
-                    Next::Step
+                    Coming::Step
                 }
                 TokenKind::Escape => {
                     self.args.clear();
                     self.at = token.span.to;
-                    Next::Passed
+                    Coming::Passed
                 }
                 TokenKind::Tag(_) => {
                     self.at = token.span.to;
-                    Next::Passed
+                    Coming::Passed
                 }
-                TokenKind::Test(test) => self.opening(Opening::Decide(test), token.span.to),
+                TokenKind::Test(test) => self.pass_opening(BlockStep::Decide(test), token.span.to),
                 TokenKind::Mark(mark) => self.pass_mark(mark, token.span.to),
             },
         }
     }
 
     /// Passes a mark that uses no step, or tells what comes.
-    fn pass_mark(&mut self, mark: BlockMark, to: usize) -> Next
+    fn pass_mark(&mut self, mark: BlockMark, to: usize) -> Coming
         requires { to ≤ length self.old.text.now }
         ensures text { self.new.text ≡ self.old.text }
         ensures comes { (found : Found) → coming_of self.new found result ≡ machine.pass_mark mark (drop to self.old.text.now) (cursor self.old) }
-        ensures told { (found : Found) → Tells self.old self.new found result }
+        ensures told { (found : Found) → TellsComing self.old self.new found result }
     {
         match mark {
-            BlockMark::Iterate => self.opening(Opening::Iterate, to),
-            BlockMark::EndIteration => self.turn_ending(to),
-            BlockMark::Otherwise => self.divide(to),
-            BlockMark::EndTest => self.end_part(to),
+            BlockMark::Iterate => self.pass_opening(BlockStep::Iterate, to),
+            BlockMark::EndIteration => self.pass_turn_end(to),
+            BlockMark::Otherwise => self.pass_divider(to),
+            BlockMark::EndTest => self.pass_part_end(to),
         }
     }
 
     /// A block opens here, unless `BLOCK_LIMIT` are open.
-    fn opening(&self, opening: Opening, to: usize) -> Next
+    fn pass_opening(&self, block: BlockStep, to: usize) -> Coming
         requires within { to ≤ length self.now.text.now }
-        requires opens { opening_of opening ≢ machine.ends_turn }
-        ensures comes { (found : Found) → coming_of self.now found result ≡ machine.opening (opening_of opening) (drop to self.now.text.now) (cursor self.now) }
-        ensures told { (found : Found) → Tells self.now self.now found result }
+        requires opens { block_step_of block ≢ machine.ends_turn }
+        ensures comes { (found : Found) → coming_of self.now found result ≡ machine.pass_opening (block_step_of block) (drop to self.now.text.now) (cursor self.now) }
+        ensures told { (found : Found) → TellsComing self.now self.now found result }
     {
         if self.blocks.len() == BLOCK_LIMIT {
-            Next::Fault(Code::Pdo)
+            Coming::Fault(Code::Pdo)
         } else {
-            Next::Block(opening, to)
+            Coming::Block(block, to)
         }
     }
 
     /// At `>`: a turn ends here, if the innermost block is an iteration.
-    fn turn_ending(&self, to: usize) -> Next
+    fn pass_turn_end(&self, to: usize) -> Coming
         requires { to ≤ length self.now.text.now }
-        ensures comes { (found : Found) → coming_of self.now found result ≡ machine.turn_ends (drop to self.now.text.now) (cursor self.now).blocks }
-        ensures told { (found : Found) → Tells self.now self.now found result }
+        ensures comes { (found : Found) → coming_of self.now found result ≡ machine.pass_turn_end (drop to self.now.text.now) (cursor self.now).blocks }
+        ensures told { (found : Found) → TellsComing self.now self.now found result }
     {
         match self.blocks.top() {
-            None => Next::Fault(Code::Bni),
+            None => Coming::Fault(Code::Bni),
             Some(block) => match block.body.kind() {
-                Kind::Iter => Next::Block(Opening::EndTurn, to),
-                Kind::Then | Kind::Else => Next::Fault(Code::Bni),
+                Kind::Iter => Coming::Block(BlockStep::EndTurn, to),
+                Kind::Then | Kind::Else => Coming::Fault(Code::Bni),
             },
         }
     }
 
     /// At the `|` after a part that was run: the other part is skipped.
-    fn divide(&mut self, to: usize) -> Next
+    fn pass_divider(&mut self, to: usize) -> Coming
         requires { to ≤ length self.old.text.now }
         ensures text { self.new.text ≡ self.old.text }
-        ensures comes { (found : Found) → coming_of self.new found result ≡ machine.divides (drop to self.old.text.now) (cursor self.old).blocks }
-        ensures told { (found : Found) → Tells self.old self.new found result }
+        ensures comes { (found : Found) → coming_of self.new found result ≡ machine.pass_divider (drop to self.old.text.now) (cursor self.old).blocks }
+        ensures told { (found : Found) → TellsComing self.old self.new found result }
     {
         let depth = self.blocks.len();
         match self.blocks.pop() {
-            None => Next::Fault(Code::Ill),
+            None => Coming::Fault(Code::Ill),
             Some(block) => match block.body.kind() {
-                Kind::Iter | Kind::Else => Next::Fault(Code::Ill),
+                Kind::Iter | Kind::Else => Coming::Fault(Code::Ill),
                 Kind::Then => match skip_block(self.text, to, Kind::Else, depth) {
-                    Err(code) => Next::Fault(code),
+                    Err(code) => Coming::Fault(code),
                     Ok(stop) => {
                         self.args.clear();
                         self.at = stop.to;
-                        Next::Passed
+                        Coming::Passed
                     }
                 },
             },
@@ -149,40 +149,40 @@ impl<'t> Cursor<'t> {
     }
 
     /// At the `'` after a part that was run.
-    fn end_part(&mut self, to: usize) -> Next
+    fn pass_part_end(&mut self, to: usize) -> Coming
         requires { to ≤ length self.old.text.now }
         ensures text { self.new.text ≡ self.old.text }
-        ensures comes { (found : Found) → coming_of self.new found result ≡ machine.part_ends (drop to self.old.text.now) (cursor self.old).blocks }
-        ensures told { (found : Found) → Tells self.old self.new found result }
+        ensures comes { (found : Found) → coming_of self.new found result ≡ machine.pass_part_end (drop to self.old.text.now) (cursor self.old).blocks }
+        ensures told { (found : Found) → TellsComing self.old self.new found result }
     {
         match self.blocks.pop() {
-            None => Next::Fault(Code::Ill),
+            None => Coming::Fault(Code::Ill),
             Some(block) => match block.body.kind() {
-                Kind::Iter => Next::Fault(Code::Ill),
+                Kind::Iter => Coming::Fault(Code::Ill),
                 Kind::Then | Kind::Else => {
                     self.args.clear();
                     self.at = to;
-                    Next::Passed
+                    Coming::Passed
                 }
             },
         }
     }
 
     /// Takes a step that opens a block or ends a turn, and whose token ends at a place.
-    pub fn block_step(&mut self, opening: Opening, to: usize) -> Result<(), Code>
+    pub fn block_step(&mut self, block: BlockStep, to: usize) -> Result<(), Code>
         requires within { to ≤ length self.old.text.now }
-        requires opens { MayOpen opening self.old.blocks }
+        requires opens { MayOpen block self.old.blocks }
         ensures text { self.new.text ≡ self.old.text }
-        ensures moves { moved_of self.new result ≡ machine.block_step (opening_of opening) (drop to self.old.text.now) (cursor self.old) }
-        ensures finished { Finishes result }
+        ensures moves { cursor_or_error self.new result ≡ machine.after_block_step (block_step_of block) (drop to self.old.text.now) (cursor self.old) }
+        ensures finished { ResultFinishes result }
     {
-        match opening {
-            Opening::Iterate => self.iterate(to),
-            Opening::EndTurn => {
+        match block {
+            BlockStep::Iterate => self.iterate(to),
+            BlockStep::EndTurn => {
                 self.end_turn(to);
                 Ok(())
             }
-            Opening::Decide(test) => self.decide(test, to),
+            BlockStep::Decide(test) => self.decide(test, to),
         }
     }
 
@@ -191,8 +191,8 @@ impl<'t> Cursor<'t> {
         requires within { to ≤ length self.old.text.now }
         requires few { length self.old.blocks < BLOCK_LIMIT }
         ensures text { self.new.text ≡ self.old.text }
-        ensures moves { moved_of self.new result ≡ machine.block_step machine.iterates (drop to self.old.text.now) (cursor self.old) }
-        ensures finished { Finishes result }
+        ensures moves { cursor_or_error self.new result ≡ machine.after_block_step machine.iterates (drop to self.old.text.now) (cursor self.old) }
+        ensures finished { ResultFinishes result }
     {
         match self.args.take()? {
             Taken::Two(..) => Err(Code::Arg),
@@ -215,8 +215,8 @@ impl<'t> Cursor<'t> {
         requires within { to ≤ length self.old.text.now }
         requires few { length self.old.blocks < BLOCK_LIMIT }
         ensures text { self.new.text ≡ self.old.text }
-        ensures moves { moved_of self.new result ≡ machine.block_step (machine.decides test) (drop to self.old.text.now) (cursor self.old) }
-        ensures finished { Finishes result }
+        ensures moves { cursor_or_error self.new result ≡ machine.after_block_step (machine.decides test) (drop to self.old.text.now) (cursor self.old) }
+        ensures finished { ResultFinishes result }
     {
         match self.args.take()? {
             Taken::Two(..) => Err(Code::Arg),
@@ -236,7 +236,7 @@ impl<'t> Cursor<'t> {
         requires within { to ≤ length self.old.text.now }
         requires ends { EndsTurn self.old.blocks }
         ensures text { self.new.text ≡ self.old.text }
-        ensures moves { Ok (cursor self.new) ≡ machine.block_step machine.ends_turn (drop to self.old.text.now) (cursor self.old) }
+        ensures moves { Ok (cursor self.new) ≡ machine.after_block_step machine.ends_turn (drop to self.old.text.now) (cursor self.old) }
     {
         self.args.clear();
         match self.blocks.next_turn() {
@@ -253,7 +253,7 @@ impl<'t> Cursor<'t> {
         requires within { start ≤ length self.old.text.now }
         requires few { length self.old.blocks < BLOCK_LIMIT }
         ensures text { self.new.text ≡ self.old.text }
-        ensures enters { cursor self.new ≡ machine.entered (kind_of body) (turns_left body) (drop start self.old.text.now) (cursor self.old) }
+        ensures enters { cursor self.new ≡ machine.inside_block (kind_of body) (turns_left body) (drop start self.old.text.now) (cursor self.old) }
     {
         self.blocks.push(Block { start, body });
         self.at = start;
@@ -264,8 +264,8 @@ impl<'t> Cursor<'t> {
         requires within { start ≤ length self.old.text.now }
         requires few { length self.old.blocks < BLOCK_LIMIT }
         ensures text { self.new.text ≡ self.old.text }
-        ensures moves { moved_of self.new result ≡ machine.counted 0 (drop start self.old.text.now) (cursor self.old) }
-        ensures finished { Finishes result }
+        ensures moves { cursor_or_error self.new result ≡ machine.after_counted_start 0 (drop start self.old.text.now) (cursor self.old) }
+        ensures finished { ResultFinishes result }
     {
         self.at = skip_whole_block(self.text, start, Kind::Iter, self.blocks.len() + 1)?;
         Ok(())
@@ -276,8 +276,8 @@ impl<'t> Cursor<'t> {
         requires within { start ≤ length self.old.text.now }
         requires few { length self.old.blocks < BLOCK_LIMIT }
         ensures text { self.new.text ≡ self.old.text }
-        ensures moves { moved_of self.new result ≡ machine.second_of (drop start self.old.text.now) (cursor self.old) }
-        ensures finished { Finishes result }
+        ensures moves { cursor_or_error self.new result ≡ machine.after_first_part (drop start self.old.text.now) (cursor self.old) }
+        ensures finished { ResultFinishes result }
     {
         let stop = skip_block(self.text, start, Kind::Then, self.blocks.len() + 1)?;
         if stop.divided {

@@ -4,8 +4,8 @@ ghost use Rattle.teco_core.specs.ArgumentsView.{arguments};
 ghost use Rattle.teco_core.specs.declared.code.Code.TheVariants.{Mem};
 ghost use Rattle.teco_scan.specs.Lists.{nodes};
 ghost use Rattle.teco_step.specs.Terminal.{Shows};
-ghost use Rattle.teco_exec.specs.Running.{LeadsAt, at_beginning, at_call, exits, goes_back, host};
-ghost use Rattle.teco_exec.specs.Tokens.{Counts};
+ghost use Rattle.teco_exec.specs.Running.{RunLeadsAt, at_beginning, at_call, reached_by_exit, reached_after_call, host};
+ghost use Rattle.teco_exec.specs.Tokens.{CountsSteps};
 ghost use Rattle.teco_exec.specs.View.{cursor as cursor_of};
 ghost use Rattle.teco_exec.specs.Quiet.{takes_no_memory};
 ghost use Rattle.teco_exec.specs.Runs.{Runs, is_tty, trail_of};
@@ -60,10 +60,10 @@ fn run_text<D: Desk, T: Terminal>(
     term: &mut T,
 ) -> Exit
     requires { depth ≤ CALL_LIMIT }
-    ensures counts { Counts steps.old steps.new }
-    ensures leads { LeadsAt depth steps.old.limit (host (D.state desk.old) (D.follows desk.old) (T.screen term.old) steps.old.done)
+    ensures counts { CountsSteps steps.old steps.new }
+    ensures leads { RunLeadsAt depth steps.old.limit (host (D.state desk.old) (D.follows desk.old) (T.screen term.old) steps.old.done)
         (host (D.state desk.new) (D.follows desk.new) (T.screen term.new) steps.new.done)
-        (at_beginning (arguments args.old) text.now) (λ callers. exits (arguments args.new) callers result) }
+        (at_beginning (arguments args.old) text.now) (λ callers. reached_by_exit (arguments args.new) callers result) }
     ensures no_memory { takes_no_memory (nodes text.now) ≡ true → result ≡ exit.Over (Some Mem) → ⊥ }
 {
     let mut room = [Block {
@@ -102,10 +102,10 @@ fn run_called<D: Desk, T: Terminal>(
     requires { depth ≤ CALL_LIMIT }
     ensures text { cursor.new.text ≡ cursor.old.text }
     ensures left { (cursor_of cursor.new).left ≡ (cursor_of cursor.old).left }
-    ensures counts { Counts steps.old steps.new }
-    ensures leads { LeadsAt depth steps.old.limit (host (D.state desk.old) (D.follows desk.old) (T.screen term.old) steps.old.done)
+    ensures counts { CountsSteps steps.old steps.new }
+    ensures leads { RunLeadsAt depth steps.old.limit (host (D.state desk.old) (D.follows desk.old) (T.screen term.old) steps.old.done)
         (host (D.state desk.new) (D.follows desk.new) (T.screen term.new) steps.new.done)
-        (at_call cursor.old called.now) (λ callers. goes_back cursor.new callers result) }
+        (at_call cursor.old called.now) (λ callers. reached_after_call cursor.new callers result) }
 {
     if depth == CALL_LIMIT {
         return Exit::Over(Some(Code::Pdo));

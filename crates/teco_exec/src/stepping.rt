@@ -4,19 +4,19 @@ ghost use Rattle.teco_scan.specs.Scan.{scan};
 ghost use Rattle.teco_step.specs.Stepping.{IsStepIn, end_of, is_unfinished, is_unfinished_code, name_in, takes_nothing_in};
 ghost use Rattle.teco_step.specs.Terminal.{Screen};
 ghost use Rattle.teco_step.specs.declared.next.Next.TheVariants.{Error};
-ghost use Rattle.teco_exec.specs.Machine.{Caller, Now, inside, leave_found, resumed, run_within};
-ghost use Rattle.teco_exec.specs.Running.{GoesOn, GoesQuietly, Leads, at_cursor, at_opening, at_token, config, flows, host, reached_run};
-ghost use Rattle.teco_exec.specs.Tokens.{Continues, Counts, ProgressFinishes, ProgressesQuietly, looks_around, progresses};
+ghost use Rattle.teco_exec.specs.Machine.{Caller, Now, inside_iteration, leave_is_next, after_step_end, run_within};
+ghost use Rattle.teco_exec.specs.Running.{GoesOn, GoesQuietly, RunLeads, at_cursor, at_block_step, at_token, config, reached_by_flow, host, reached_run};
+ghost use Rattle.teco_exec.specs.Tokens.{Continues, CountsSteps, ProgressFinishes, ProgressesQuietly, looks_around, reached_by_progress};
 ghost use Rattle.teco_exec.specs.Quiet.{IsQuiet, is_plain};
-ghost use Rattle.teco_exec.specs.View.{MayOpen, cursor as cursor_of, item_at};
+ghost use Rattle.teco_exec.specs.View.{MayOpen, cursor as cursor_of, item_of_kind};
 ghost use Rattle.teco_exec.specs.declared.flow.Flow.TheVariants as flow;
 
 use crate::cursor::Cursor;
 use crate::flow::{Flow, Progress, Steps};
-use crate::moves::{Next, Opening};
+use crate::moves::{BlockStep, Coming};
 use teco_core::Code;
 use teco_scan::{Bare, Command, Found, Item, TextCommand, Token, TokenKind, block_laws, token_at};
-use teco_step::{Next as After, Terminal, Work, effect_laws, step_token};
+use teco_step::{Next, Terminal, Work, effect_laws, step_token};
 use teco_store::Desk;
 
 /// Passes what comes at the cursor, where it uses no step, or else does its steps. What uses no step is passed one token at a time.
@@ -31,24 +31,24 @@ pub(crate) fn step<D: Desk, T: Terminal>(
     term: &mut T,
 ) -> Flow
     ensures text { cursor.new.text ≡ cursor.old.text }
-    ensures counts { Counts steps.old steps.new }
+    ensures counts { CountsSteps steps.old steps.new }
     ensures advances { GoesOn result → (steps.old.done < steps.new.done) ⊎ (length (cursor_of cursor.new).left < length (cursor_of cursor.old).left) }
-    ensures leads { Leads steps.old.limit (host (D.state desk.old) (D.follows desk.old) (T.screen term.old) steps.old.done)
+    ensures leads { RunLeads steps.old.limit (host (D.state desk.old) (D.follows desk.old) (T.screen term.old) steps.old.done)
         (host (D.state desk.new) (D.follows desk.new) (T.screen term.new) steps.new.done)
-        (at_cursor cursor.old) (λ callers. flows cursor.new callers result) }
+        (at_cursor cursor.old) (λ callers. reached_by_flow cursor.new callers result) }
     ensures quiet { IsQuiet (cursor_of cursor.old) → GoesQuietly cursor.new result }
 {
     block_laws();
     let found = token_at(cursor.text, cursor.at);
     match cursor.pass(&found) {
-        Next::Passed => Flow::On,
-        Next::Step => match &found {
+        Coming::Passed => Flow::On,
+        Coming::Step => match &found {
             Found::Token(token) => token_steps(desk, cursor, token, steps, term),
             Found::End | Found::Fault(_) => unreachable!(),
         },
-        Next::Block(opening, to) => block_step(desk, cursor, opening, to, steps),
-        Next::Over => Flow::Return,
-        Next::Fault(code) => over(code),
+        Coming::Block(block, to) => block_step(desk, cursor, block, to, steps),
+        Coming::End => Flow::Return,
+        Coming::Fault(code) => over(code),
     }
 }
 
@@ -63,11 +63,11 @@ fn token_steps<D: Desk, T: Terminal>(
 ) -> Flow
     requires { IsStepIn cursor.old.text.now token.now }
     ensures text { cursor.new.text ≡ cursor.old.text }
-    ensures counts { Counts steps.old steps.new }
+    ensures counts { CountsSteps steps.old steps.new }
     ensures more { GoesOn result → steps.old.done < steps.new.done }
-    ensures leads { Leads steps.old.limit (host (D.state desk.old) (D.follows desk.old) (T.screen term.old) steps.old.done)
+    ensures leads { RunLeads steps.old.limit (host (D.state desk.old) (D.follows desk.old) (T.screen term.old) steps.old.done)
         (host (D.state desk.new) (D.follows desk.new) (T.screen term.new) steps.new.done)
-        (at_token cursor.old token.now None) (λ callers. flows cursor.new callers result) }
+        (at_token cursor.old token.now None) (λ callers. reached_by_flow cursor.new callers result) }
     ensures quiet { IsQuiet (cursor_of cursor.old) → takes_nothing_in cursor.old.text.now token.now ≡ true → GoesQuietly cursor.new result }
 {
     let mut work = None;
@@ -94,11 +94,11 @@ fn token_step<D: Desk, T: Terminal>(
 ) -> Progress
     requires { IsStepIn cursor.old.text.now token.now }
     ensures text { cursor.new.text ≡ cursor.old.text }
-    ensures counts { Counts steps.old steps.new }
+    ensures counts { CountsSteps steps.old steps.new }
     ensures more { Continues result → steps.old.done < steps.new.done }
-    ensures leads { Leads steps.old.limit (host (D.state desk.old) (D.follows desk.old) (T.screen term.old) steps.old.done)
+    ensures leads { RunLeads steps.old.limit (host (D.state desk.old) (D.follows desk.old) (T.screen term.old) steps.old.done)
         (host (D.state desk.new) (D.follows desk.new) (T.screen term.new) steps.new.done)
-        (at_token cursor.old token.now work) (λ callers. progresses cursor.new token.now callers result) }
+        (at_token cursor.old token.now work) (λ callers. reached_by_progress cursor.new token.now callers result) }
     ensures quiet { IsQuiet (cursor_of cursor.old) → takes_nothing_in cursor.old.text.now token.now ≡ true → ProgressesQuietly cursor.new result }
 {
     effect_laws();
@@ -130,23 +130,23 @@ fn token_step<D: Desk, T: Terminal>(
 fn block_step<D: Desk>(
     desk: &mut D,
     cursor: &mut Cursor,
-    opening: Opening,
+    block: BlockStep,
     to: usize,
     steps: &mut Steps,
 ) -> Flow
     requires within { to ≤ length cursor.old.text.now }
-    requires opens { MayOpen opening cursor.old.blocks }
+    requires opens { MayOpen block cursor.old.blocks }
     ensures text { cursor.new.text ≡ cursor.old.text }
-    ensures counts { Counts steps.old steps.new }
+    ensures counts { CountsSteps steps.old steps.new }
     ensures more { GoesOn result → steps.old.done < steps.new.done }
-    ensures leads { (screen : Screen) → Leads steps.old.limit (host (D.state desk.old) (D.follows desk.old) screen steps.old.done)
+    ensures leads { (screen : Screen) → RunLeads steps.old.limit (host (D.state desk.old) (D.follows desk.old) screen steps.old.done)
         (host (D.state desk.new) (D.follows desk.new) screen steps.new.done)
-        (at_opening cursor.old opening to) (λ callers. flows cursor.new callers result) }
+        (at_block_step cursor.old block to) (λ callers. reached_by_flow cursor.new callers result) }
 {
     if steps.done == steps.limit {
         return over(Code::Lim);
     }
-    let moved = cursor.block_step(opening, to);
+    let moved = cursor.block_step(block, to);
     steps.count();
     desk.step_done(steps.done);
     on_unless(moved)
@@ -154,41 +154,41 @@ fn block_step<D: Desk>(
 
 /// Goes on where a step of the token before the cursor has ended so.
 #[inline]
-fn resume(cursor: &mut Cursor, token: &Token, next: After) -> Progress
+fn resume(cursor: &mut Cursor, token: &Token, next: Next) -> Progress
     requires token { IsStepIn cursor.old.text.now token.now }
     requires finished { is_unfinished next ≡ false }
     ensures text { cursor.new.text ≡ cursor.old.text }
     ensures finished { ProgressFinishes result }
     ensures resumes { (callers : List Caller) (now : Now) (fuel : ℕ)
-        → run_within fuel (resumed token.now.modifiers (item_at cursor.old.text.now token.now.kind) (end_of (name_in cursor.old.text.now token.now) next)
+        → run_within fuel (after_step_end token.now.modifiers (item_of_kind cursor.old.text.now token.now.kind) (end_of (name_in cursor.old.text.now token.now) next)
         (config cursor.old.text.now (cursor_of cursor.old) None callers now))
-        ≡ reached_run fuel now (progresses cursor.new token.now callers result) }
+        ≡ reached_run fuel now (reached_by_progress cursor.new token.now callers result) }
     ensures quiet { IsQuiet (cursor_of cursor.old) → is_plain (end_of (name_in cursor.old.text.now token.now) next) ≡ true → ProgressesQuietly cursor.new result }
 {
     match next {
-        After::Again(work) => Progress::Further(work),
-        After::On => Progress::Done(Flow::On),
-        After::Leave => Progress::Done(on_unless(cursor.leave())),
-        After::Go => {
+        Next::Again(work) => Progress::Further(work),
+        Next::On => Progress::Done(Flow::On),
+        Next::Leave => Progress::Done(on_unless(cursor.leave())),
+        Next::Go => {
             let name = name_of(cursor.text, token);
             Progress::Done(on_unless(cursor.jump(name)))
         }
-        After::Call(called) => Progress::Done(Flow::Call(called)),
-        After::Out => Progress::Done(Flow::Over(None)),
-        After::Error(code) => Progress::Done(over(code)),
+        Next::Call(called) => Progress::Done(Flow::Call(called)),
+        Next::Out => Progress::Done(Flow::Over(None)),
+        Next::Error(code) => Progress::Done(over(code)),
     }
 }
 
 /// Whether an iteration is open, where the token looks around.
 fn iteration_is_seen(cursor: &Cursor, token: &Token) -> bool
-    ensures { looks_around token.now.kind ≡ true → result ≡ inside (cursor_of cursor.now).blocks }
+    ensures { looks_around token.now.kind ≡ true → result ≡ inside_iteration (cursor_of cursor.now).blocks }
 {
     looks_around(token) && cursor.has_iteration()
 }
 
 /// Whether a plain `;` comes next, where the token looks around.
 fn leave_is_seen(cursor: &Cursor, token: &Token) -> bool
-    ensures { looks_around token.now.kind ≡ true → result ≡ leave_found (scan (cursor_of cursor.now).left) }
+    ensures { looks_around token.now.kind ≡ true → result ≡ leave_is_next (scan (cursor_of cursor.now).left) }
 {
     looks_around(token) && cursor.leave_is_next()
 }
@@ -208,12 +208,12 @@ fn looks_around(token: &Token) -> bool
 }
 
 /// The code by which a step was begun and not done.
-fn unfinished(next: &After) -> Option<Code>
+fn unfinished(next: &Next) -> Option<Code>
     ensures { MatchOption result (is_unfinished next.now ≡ false) (λ code. (next.now ≡ Error code) × (is_unfinished_code code ≡ true)) }
 {
     match next {
-        After::Error(Code::Mem) => Some(Code::Mem),
-        After::Error(Code::Tty) => Some(Code::Tty),
+        Next::Error(Code::Mem) => Some(Code::Mem),
+        Next::Error(Code::Tty) => Some(Code::Tty),
         _ => None,
     }
 }

@@ -3,7 +3,7 @@ ghost use Rattle.std.specs.Prelude.{◌≡◌, ◌+◌, ◌^◌, ◌<◌, ◌≤
 ghost use Rattle.teco_gap.specs.Gap.{around};
 
 use super::NoMemory;
-use super::moves::{fill, move_gap};
+use super::moves::{cut, fill, move_gap};
 use super::region::Region;
 use std::alloc::Global;
 
@@ -90,7 +90,7 @@ impl Block {
         (block, tail)
     }
 
-    // Moves the gap from `gap..tail` to `at`, puts `ins` in place of the `del` bytes there, and returns the gap after it.
+    // Puts `ins` in place of the `del` bytes at `at`, and returns the gap after it, which was `gap..tail`.
     #[tactic(auto, using(crate::proofs::Around::after_splice))]
     pub(crate) fn splice(
         &mut self,
@@ -109,7 +109,7 @@ impl Block {
         ensures cap { self.new.cap ≡ self.old.cap }
     {
         let bytes = self.region.bytes_mut();
-        let end = move_gap(bytes, gap, tail, at) + del;
+        let end = cut(bytes, gap, tail, at, del);
         fill(bytes, at, ins);
         (at + ins.len(), end)
     }

@@ -1,12 +1,26 @@
 //! Bytes of a buffer are exchanged for others, in memory that was found before.
-ghost use Rattle.std.specs.Prelude.{◌≡◌, ◌+◌, ◌≤◌, [], length, take, drop};
+ghost use Rattle.std.specs.Prelude.{◌≡◌, ◌+◌, ◌≤◌, ◌++◌, [], length, take, drop};
 ghost use Rattle.std.specs.Vec.{vec_capacity};
 ghost use Rattle.teco_gap.specs.Gap.{text};
 ghost use Rattle.teco_store.specs.State.{replaced};
 
-use crate::pages::append_within;
+use crate::pages::{append_within, part};
 use crate::short_text::{SHORT_LIMIT, ShortText};
 use teco_gap::GapBuffer;
+
+// Puts the `there` bytes at `at` after those that are held, which have room for them. The buffer's gap stays where it is.
+fn hold(buffer: &GapBuffer, at: usize, there: usize, held: &mut Vec<u8>)
+    requires within { at + there ≤ length (text buffer.now) }
+    requires room { length held.old.items + there ≤ vec_capacity held.old }
+    ensures items { held.new.items ≡ held.old.items ++ take there (drop at (text buffer.now)) }
+    ensures room { vec_capacity held.old ≤ vec_capacity held.new }
+{
+    let _cap = buffer.cap();
+    let (before, after) = buffer.halves();
+    let (before, after) = part(before, after, at, at + there);
+    append_within(held, before);
+    append_within(held, after);
+}
 
 // Puts `ins` for the `there` bytes at `at`, and gives those that stood there in `held`, which is empty.
 pub(crate) fn exchange(
@@ -26,9 +40,7 @@ pub(crate) fn exchange(
     ensures room { length ins.now + there ≤ vec_capacity result }
 {
     let _cap = buffer.cap();
-    buffer.splice(at, 0, &[]);
-    let (_, after) = buffer.halves();
-    append_within(&mut held, &after[..there]);
+    hold(buffer, at, there, &mut held);
     buffer.splice(at, there, ins);
     held
 }
@@ -69,9 +81,7 @@ pub(crate) fn swap_bytes(
 {
     let _cap = buffer.cap();
     let count = held.len();
-    buffer.splice(at, 0, &[]);
-    let (_, after) = buffer.halves();
-    append_within(&mut held, &after[..there]);
+    hold(buffer, at, there, &mut held);
     buffer.splice(at, there, &held[..count]);
     held.rotate_left(count);
     held.truncate(there);

@@ -1,24 +1,24 @@
 use Rattle.std.proofs.Common.{◌∙◌, ap, refl, subst}
 use Rattle.teco_session.specs.Kept.{history_of}
 use Rattle.teco.specs.Run.{IsInput, LacksInput, ServesInput}
-use Rattle.teco.specs.Source.{Gives, HasEnded}
-use Rattle.teco_step.specs.Terminal.{Shows}
+use Rattle.teco.specs.Seen.{commands_seen, disk_seen, source_view, terminal_seen}
 use Rattle.std.specs.String.{string_bytes}
 use Rattle.teco.proofs.Runs.{finishes_after, finishes_ends, lacks_ends}
 use Rattle.teco.proofs.program.edit.Goals as goal
 
 pub returns-in-Err : goal.returns-in-Err
 returns-in-Err g c =
-    let lacks = subst (λ name. LacksInput g.D.Input.Source.coming g.D.Input.Source.bound g.D.Input.Source.failures (g.D.Disk.files c.args.disk.now) name (g.D.Disk.gave c.input_of.new.disk) c.in-Err.fate)
+    let seen = disk_seen g.D.Disk.files g.D.Disk.left g.D.Disk.gave
+    (source_view g.D.Input.Source.coming g.D.Input.Source.bound g.D.Input.Source.failures g.D.Input.Source.ended) in
+    let lacks = subst (λ name. LacksInput (seen c.args.disk.now) (seen c.input_of.new.disk) name c.in-Err.fate)
     c.as_str.ensures.value c.in-Err.ensures.fault in
     lacks_ends lacks (refl, refl) c.in-Err.ensures.keeps
 
 pub returns : goal.returns
 returns g c =
     let serves : ServesInput c.args.line.now (IsInput (g.D.Disk.files c.args.disk.now) (string_bytes c.args.line.now.input))
-    (Gives g.S.Source.coming g.S.Source.bound g.S.Source.failures c.args.commands.now c.serve_over.new.commands)
-    (HasEnded (g.S.Source.coming c.serve_over.new.commands) (g.S.Source.ended c.serve_over.new.commands))
-    (Shows (g.T.Terminal.screen c.args.term.now) (g.T.Terminal.screen c.serve_over.new.term))
+    (commands_seen (source_view g.S.Source.coming g.S.Source.bound g.S.Source.failures g.S.Source.ended) c.args.commands.now c.serve_over.new.commands)
+    (terminal_seen g.T.Terminal.screen c.args.term.now c.serve_over.new.term)
     c.in-Ok-serve_over.served c.output.result.now = record {
       input = c.in-Ok.input.items;
       input_is = subst (λ n. IsInput (g.D.Disk.files c.args.disk.now) n c.in-Ok.input.items) c.as_str.ensures.value c.in-Ok.ensures.input;

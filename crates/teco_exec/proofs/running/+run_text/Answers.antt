@@ -2,7 +2,7 @@ use Rattle.std.proofs.Common.{◌≡◌, ◌<◌, ◌≤◌, ◌⊎◌, inl, inr
 use Rattle.std.proofs.lemmas.List.{length-drop}
 use Rattle.teco_core.specs.ArgumentsView.{arguments}
 use Rattle.teco_exec.specs.View.{cursor}
-use Rattle.teco_exec.specs.Running.{Going, at_call, at_cursor, at_return, goes, host, over}
+use Rattle.teco_exec.specs.Running.{RunGoesOn, at_call, at_cursor, at_return, goes, host, over}
 use Rattle.teco_exec.proofs.Continuations.{begins, caller, comes_home, enters, less_left, too_deep}
 use Rattle.teco_exec.proofs.Going.{since}
 use Rattle.teco_exec.proofs.NoMemory.{begins_quietly}
@@ -73,7 +73,7 @@ run_text-running-preserved g t c = record {
       let there = c.running.invariant.going o callers limit deep e in
       let here = c.in-Call.ensures.leads o callers (limit ∙ sym c.running.invariant.counts.limit) there.going in
       let h = host (g.D.Desk.state c.step.new.desk) (g.D.Desk.follows c.step.new.desk) (g.T.Terminal.screen c.step.new.term) c.step.new.steps.done in
-      let called : Going o h (at_call c.step.new.cursor c.deref.result.now callers) = subst (λ x. Going o h (at_call c.step.new.cursor x callers)) (sym c.deref.ensures.value) here.going in
+      let called : RunGoesOn o h (at_call c.step.new.cursor c.deref.result.now callers) = subst (λ x. RunGoesOn o h (at_call c.step.new.cursor x callers)) (sym c.deref.ensures.value) here.going in
       let back = c.in-Return-run_called.ensures.leads o callers (limit ∙ sym c.running.invariant.counts.limit ∙ sym c.in-Call.ensures.counts.limit) deep called in
       record { going = back.going; follows = λ floor p. back.follows floor (here.follows floor (there.follows floor p)) };
 }
@@ -83,7 +83,7 @@ run_text-returns-in-Over-run_called-clause-leads g t c o callers limit deep e =
     let there = c.running.invariant.going o callers limit deep e in
     let here = c.in-Call.ensures.leads o callers (limit ∙ sym c.running.invariant.counts.limit) there.going in
     let h = host (g.D.Desk.state c.step.new.desk) (g.D.Desk.follows c.step.new.desk) (g.T.Terminal.screen c.step.new.term) c.step.new.steps.done in
-    let called : Going o h (at_call c.step.new.cursor c.deref.result.now callers) = subst (λ x. Going o h (at_call c.step.new.cursor x callers)) (sym c.deref.ensures.value) here.going in
+    let called : RunGoesOn o h (at_call c.step.new.cursor c.deref.result.now callers) = subst (λ x. RunGoesOn o h (at_call c.step.new.cursor x callers)) (sym c.deref.ensures.value) here.going in
     let r = c.in-Over-run_called.ensures.leads o callers (limit ∙ sym c.running.invariant.counts.limit ∙ sym c.in-Call.ensures.counts.limit) deep called in
     since o _ h _ (over c.in-Over-run_called.code) (λ floor p. here.follows floor (there.follows floor p)) r
 

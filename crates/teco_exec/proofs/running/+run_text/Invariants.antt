@@ -4,8 +4,8 @@ use Rattle.teco_exec.specs.Machine.{Caller}
 use Rattle.teco_scan.specs.Lists.{nodes}
 use Rattle.teco_exec.specs.Quiet.{IsQuiet, takes_no_memory}
 use Rattle.teco_exec.specs.View.{cursor}
-use Rattle.teco_exec.specs.Running.{Comes, Going, Origin, at_beginning, at_cursor, host}
-use Rattle.teco_exec.specs.Tokens.{Counts}
+use Rattle.teco_exec.specs.Running.{ReachesContinuation, RunGoesOn, Origin, at_beginning, at_cursor, host}
+use Rattle.teco_exec.specs.Tokens.{CountsSteps}
 use Rattle.teco_exec.proofs.running.+run_text.Given as goal
 
 abbrev pub decreases-run_text : goal.decreases-run_text
@@ -17,11 +17,11 @@ decreases-run_called g l = 2 * (32 - l.depth)
 abbrev pub invariant-run_text-running : goal.invariant-run_text-running
 invariant-run_text-running g l = record {
   text : l.cursor.text.now ≡ l.text;
-  counts : Counts l.fn.steps l.steps;
+  counts : CountsSteps l.fn.steps l.steps;
   quiet : takes_no_memory (nodes l.text) ≡ true → IsQuiet (cursor l.cursor);
   going : (o : Origin) (callers : List Caller) → o.limit ≡ l.fn.steps.limit → length callers ≡ l.depth
-      → Going o (host (g.D.Desk.state l.fn.desk) (g.D.Desk.follows l.fn.desk) (g.T.Terminal.screen l.fn.term) l.fn.steps.done) (at_beginning (arguments l.fn.args) l.text callers)
-      → Comes o (host (g.D.Desk.state l.fn.desk) (g.D.Desk.follows l.fn.desk) (g.T.Terminal.screen l.fn.term) l.fn.steps.done)
+      → RunGoesOn o (host (g.D.Desk.state l.fn.desk) (g.D.Desk.follows l.fn.desk) (g.T.Terminal.screen l.fn.term) l.fn.steps.done) (at_beginning (arguments l.fn.args) l.text callers)
+      → ReachesContinuation o (host (g.D.Desk.state l.fn.desk) (g.D.Desk.follows l.fn.desk) (g.T.Terminal.screen l.fn.term) l.fn.steps.done)
       (host (g.D.Desk.state l.desk) (g.D.Desk.follows l.desk) (g.T.Terminal.screen l.term) l.steps.done) (at_cursor l.cursor callers);
 }
 

@@ -1,7 +1,7 @@
 use Rattle.std.proofs.Common.{Some, refl, subst, sym, ◌∙◌, arith}
 use Rattle.teco_step.specs.Stepping.{name_in}
-use Rattle.teco_exec.specs.Running.{Reaches, flows, host}
-use Rattle.teco_exec.specs.Tokens.{progresses}
+use Rattle.teco_exec.specs.Running.{Reaches, reached_by_flow, host}
+use Rattle.teco_exec.specs.Tokens.{reached_by_progress}
 use Rattle.teco_exec.proofs.Going.{limit_ends}
 use Rattle.teco_exec.proofs.Stepped.{ends_over, token_fails, token_goes, progress_finishes}
 use Rattle.teco_exec.proofs.stepping.token_step.Goals as goal
@@ -9,7 +9,7 @@ use Rattle.teco_exec.proofs.stepping.token_step.Goals as goal
 pub returns-then-steps-clause-leads : goal.returns-then-steps-clause-leads
 returns-then-steps-clause-leads g c o callers limit at =
     let h = host (g.D.Desk.state c.args.desk.now) (g.D.Desk.follows c.args.desk.now) (g.T.Terminal.screen c.args.term.now) c.args.steps.now.done in
-    subst (λ f. Reaches o h h (flows c.args.cursor.now callers f)) (sym c.over.ensures)
+    subst (λ f. Reaches o h h (reached_by_flow c.args.cursor.now callers f)) (sym c.over.ensures)
     (limit_ends o h _ at (c.if-steps.true ∙ sym limit) (λ now. refl))
 
 pub returns-in-Some-clause-leads : goal.returns-in-Some-clause-leads
@@ -29,5 +29,5 @@ returns-clause-leads g c o callers limit at =
     token_goes from c.args.token.now c.args.work callers c.iteration_is_seen-inside.result c.leave_is_seen-before.result c.requires c.iteration_is_seen-inside.ensures c.leave_is_seen-before.ensures
     o _ at (omega (arith, limit, c.if-steps.false)) (name_in from.text.now c.args.token.now) (g.D.Desk.state step.new.desk) step.new.args (g.T.Terminal.screen step.new.term) step.result (g.D.Desk.follows step.new.desk) step.ensures.follows
     c.in_default.ensures step.ensures.steps c.count.new.self.done c.count.ensures.done (g.D.Desk.state c.step_done.new.self) c.step_done.ensures.state (g.D.Desk.follows c.step_done.new.self) c.step_done.ensures.follows
-    (progresses to c.args.token.now callers c.resume.result) (progress_finishes to c.args.token.now callers c.resume.result c.resume.ensures.finished)
+    (reached_by_progress to c.args.token.now callers c.resume.result) (progress_finishes to c.args.token.now callers c.resume.result c.resume.ensures.finished)
     (λ now fuel. c.resume.ensures.resumes callers now fuel)

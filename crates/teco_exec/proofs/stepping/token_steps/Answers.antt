@@ -1,6 +1,6 @@
 use Rattle.std.proofs.Common.{◌≡◌, Some, true, subst, sym, ◌∙◌, arith}
 use Rattle.teco_step.specs.Stepping.{takes_nothing_in}
-use Rattle.teco_exec.specs.Running.{at_token, flows, goes}
+use Rattle.teco_exec.specs.Running.{at_token, reached_by_flow, goes}
 use Rattle.teco_exec.proofs.Going.{since}
 use Rattle.teco_exec.proofs.stepping.token_steps.Goals as goal
 
@@ -17,4 +17,4 @@ stepping-preserved g c = record {
 pub returns-in-Done-clause-leads : goal.returns-in-Done-clause-leads
 returns-in-Done-clause-leads g c o callers limit at =
     let there = c.stepping.invariant.going o callers limit at in
-    since o _ _ _ (flows c.token_step.new.cursor callers c.in-Done.flow) there.follows (c.in-Done.ensures.leads o callers (limit ∙ sym c.stepping.invariant.counts.limit) there.going)
+    since o _ _ _ (reached_by_flow c.token_step.new.cursor callers c.in-Done.flow) there.follows (c.in-Done.ensures.leads o callers (limit ∙ sym c.stepping.invariant.counts.limit) there.going)

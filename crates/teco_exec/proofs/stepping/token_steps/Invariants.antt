@@ -2,19 +2,19 @@ use Rattle.std.proofs.Common.{◌≡◌, ◌-◌, None, true, List}
 use Rattle.teco_step.specs.Stepping.{takes_nothing_in}
 use Rattle.teco_exec.specs.Machine.{Caller}
 use Rattle.teco_exec.specs.Quiet.{IsQuiet}
-use Rattle.teco_exec.specs.Running.{Comes, Going, Origin, at_token, host}
-use Rattle.teco_exec.specs.Tokens.{Counts}
+use Rattle.teco_exec.specs.Running.{ReachesContinuation, RunGoesOn, Origin, at_token, host}
+use Rattle.teco_exec.specs.Tokens.{CountsSteps}
 use Rattle.teco_exec.specs.View.{cursor}
 use Rattle.teco_exec.proofs.stepping.token_steps.Given as goal
 
 abbrev pub invariant-stepping : goal.invariant-stepping
 invariant-stepping g l = record {
   text : l.cursor.text ≡ l.fn.cursor.text;
-  counts : Counts l.fn.steps l.steps;
+  counts : CountsSteps l.fn.steps l.steps;
   quiet : IsQuiet (cursor l.fn.cursor) → takes_nothing_in l.fn.cursor.text.now l.token ≡ true → IsQuiet (cursor l.cursor);
   going : (o : Origin) (callers : List Caller) → o.limit ≡ l.fn.steps.limit
-      → Going o (host (g.D.Desk.state l.fn.desk) (g.D.Desk.follows l.fn.desk) (g.T.Terminal.screen l.fn.term) l.fn.steps.done) (at_token l.fn.cursor l.token None callers)
-      → Comes o (host (g.D.Desk.state l.fn.desk) (g.D.Desk.follows l.fn.desk) (g.T.Terminal.screen l.fn.term) l.fn.steps.done)
+      → RunGoesOn o (host (g.D.Desk.state l.fn.desk) (g.D.Desk.follows l.fn.desk) (g.T.Terminal.screen l.fn.term) l.fn.steps.done) (at_token l.fn.cursor l.token None callers)
+      → ReachesContinuation o (host (g.D.Desk.state l.fn.desk) (g.D.Desk.follows l.fn.desk) (g.T.Terminal.screen l.fn.term) l.fn.steps.done)
       (host (g.D.Desk.state l.desk) (g.D.Desk.follows l.desk) (g.T.Terminal.screen l.term) l.steps.done) (at_token l.cursor l.token l.work callers);
 }
 

@@ -1,7 +1,7 @@
 use Rattle.std.proofs.Common.{drop, Ok, ap, sym, ◌∙◌}
 use Rattle.std.proofs.lemmas.Result.{err_from_is_err_and}
 use Rattle.teco_scan.specs.Lists.{closed, broken}
-use Rattle.teco_exec.specs.Machine.{second_part}
+use Rattle.teco_exec.specs.Machine.{inside_second_part}
 use Rattle.teco_exec.specs.View.{cursor}
 use Rattle.teco_exec.proofs.Frames.{second_is}
 use Rattle.teco_exec.proofs.cursor.Cursor.enter_second.Goals as goal
@@ -16,12 +16,12 @@ pub returns-then-stop-clause-moves : goal.returns-then-stop-clause-moves
 returns-then-stop-clause-moves c =
     let s = c.args.self.now in
     let stop = c.in_ok-stop.stop in
-    ap Ok c.enter.ensures.enters ∙ ap (λ b. second_part (closed b (drop stop.to s.text.now)) (cursor s)) (sym c.if-stop.true)
+    ap Ok c.enter.ensures.enters ∙ ap (λ b. inside_second_part (closed b (drop stop.to s.text.now)) (cursor s)) (sym c.if-stop.true)
     ∙ second_is s.text.now (drop c.args.start s.text.now) s.blocks (closed stop.divided (drop stop.to s.text.now)) (cursor s) c.len.ensures.value c.in_ok-stop.ensures.closes
 
 pub returns-else-stop-clause-moves : goal.returns-else-stop-clause-moves
 returns-else-stop-clause-moves c =
     let s = c.args.self.now in
     let stop = c.in_ok-stop.stop in
-    ap (λ b. second_part (closed b (drop stop.to s.text.now)) (cursor s)) (sym c.if-stop.false)
+    ap (λ b. inside_second_part (closed b (drop stop.to s.text.now)) (cursor s)) (sym c.if-stop.false)
     ∙ second_is s.text.now (drop c.args.start s.text.now) s.blocks (closed stop.divided (drop stop.to s.text.now)) (cursor s) c.len.ensures.value c.in_ok-stop.ensures.closes

@@ -7,7 +7,7 @@ use Rattle.teco_exec.proofs.cursor.Cursor.jump.Given as goal
 abbrev pub invariant-jumping : goal.invariant-jumping
 invariant-jumping l = record {
   text : l.self.text ≡ l.fn.self.text;
-  same : machine.jumping l.name l.self.text.now (cursor l.self).blocks (cursor l.self).args ≡ machine.jumping l.name l.fn.self.text.now (cursor l.fn.self).blocks (cursor l.fn.self).args;
+  same : machine.after_jump l.name l.self.text.now (cursor l.self).blocks (cursor l.self).args ≡ machine.after_jump l.name l.fn.self.text.now (cursor l.fn.self).blocks (cursor l.fn.self).args;
 }
 
 abbrev pub decreases-jumping : goal.decreases-jumping

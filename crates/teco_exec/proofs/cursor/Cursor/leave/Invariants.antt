@@ -7,7 +7,7 @@ use Rattle.teco_exec.proofs.cursor.Cursor.leave.Given as goal
 abbrev pub invariant-leaving : goal.invariant-leaving
 invariant-leaving l = record {
   text : l.self.text ≡ l.fn.self.text;
-  same : machine.leaving (cursor l.self).blocks (cursor l.self).args (cursor l.self).left ≡ machine.leaving (cursor l.fn.self).blocks (cursor l.fn.self).args (cursor l.fn.self).left;
+  same : machine.after_leaving_iteration (cursor l.self).blocks (cursor l.self).args (cursor l.self).left ≡ machine.after_leaving_iteration (cursor l.fn.self).blocks (cursor l.fn.self).args (cursor l.fn.self).left;
 }
 
 abbrev pub decreases-leaving : goal.decreases-leaving

@@ -24,7 +24,7 @@ returns-in-Fault-clause-told c =
     fault_is_finished c.in-Fault.code (c.block_laws.ensures.scan_faults (drop s.at s.text.now) c.in-Fault.code (sym c.requires.read ∙ ap (found_in s.text.now) c.in-Fault.is))
 
 pub returns-in-Test-clause-told : goal.returns-in-Test-clause-told
-returns-in-Test-clause-told c = c.opening.ensures.told c.args.found.now
+returns-in-Test-clause-told c = c.pass_opening.ensures.told c.args.found.now
 
 pub returns-in-Mark-clause-told : goal.returns-in-Mark-clause-told
 returns-in-Mark-clause-told c = c.pass_mark.ensures.told c.args.found.now

@@ -2,13 +2,13 @@ use Rattle.std.proofs.Common.{drop, refl, sym, ap, ◌∙◌}
 use Rattle.teco_scan.specs.Lists.{broken}
 use Rattle.teco_exec.specs.Machine as machine
 use Rattle.teco_exec.proofs.Frames.{divides_on, divides_then, frames_either, frames_nil, or_kind}
-use Rattle.teco_exec.proofs.cursor.Cursor.divide.Goals as goal
+use Rattle.teco_exec.proofs.cursor.Cursor.pass_divider.Goals as goal
 
 pub returns-in-None-clause-comes : goal.returns-in-None-clause-comes
-returns-in-None-clause-comes c found = sym (ap (machine.divides (drop c.args.to c.args.self.now.text.now)) (frames_nil c.args.self.now.text.now c.in-None.ensures.0))
+returns-in-None-clause-comes c found = sym (ap (machine.pass_divider (drop c.args.to c.args.self.now.text.now)) (frames_nil c.args.self.now.text.now c.in-None.ensures.0))
 
 pub returns-in-Iter-clause-comes : goal.returns-in-Iter-clause-comes
-returns-in-Iter-clause-comes c found = sym (frames_either c.args.self.now.text.now (machine.divides (drop c.args.to c.args.self.now.text.now)) c.in-Some.ensures (or_kind c.kind.ensures c.in-Iter.is) refl refl)
+returns-in-Iter-clause-comes c found = sym (frames_either c.args.self.now.text.now (machine.pass_divider (drop c.args.to c.args.self.now.text.now)) c.in-Some.ensures (or_kind c.kind.ensures c.in-Iter.is) refl refl)
 
 pub returns-in-Err-clause-comes : goal.returns-in-Err-clause-comes
 returns-in-Err-clause-comes c found =
