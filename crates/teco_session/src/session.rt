@@ -65,7 +65,9 @@ fn record_run<T: Terminal>(
     record_laws();
     let mut recorder = Recorder::new(mem::replace(editor, Editor::new(Vec::new(alloc))));
     let outcome = run(&mut recorder, text, limit, term);
-    let (after, changes) = recorder.into_parts();
+    let (after, mut changes) = recorder.into_parts();
+    // A short string has a few changes, and room for more of them was found at each step.
+    changes.shrink_to_fit();
     *editor = after;
     (changes, outcome)
 }

@@ -96,12 +96,26 @@ impl Change {
     }
 
     /// Swaps what it holds with what stands in its place. Takes no memory.
+    ///
+    /// A string that counts or moves has millions of numbers and places: these are put with their kind known, and nothing goes through memory.
     pub(crate) fn turn(&mut self, editor: &mut Editor)
         requires { FitsFull self.old.turn editor.old }
         ensures editor { editor.new ≡ full_after self.old.turn editor.old }
         ensures change { self.new ≡ note_after self.old editor.old.body }
     {
-        let kind = mem::replace(&mut self.kind, Kind::TakeOff);
-        self.kind = editor.put(kind);
+        match &self.kind {
+            Kind::Number(q, number) => {
+                let kind = Kind::Number(*q, *number);
+                self.kind = editor.put(kind);
+            }
+            Kind::Point(pointer) => {
+                let kind = Kind::Point(*pointer);
+                self.kind = editor.put(kind);
+            }
+            _ => {
+                let held = mem::replace(&mut self.kind, Kind::TakeOff);
+                self.kind = editor.put(held);
+            }
+        }
     }
 }
