@@ -29,12 +29,12 @@ static void run(struct teco *t, const char *string)
 int main(void)
 {
     struct teco t = {0};
-    if (teco_open(&t, (const uint8_t *)"a cat sat\n", 10, 0) != 0)
+    if (teco_open(&t, (const uint8_t *)"a cat sat", 9, 0) != 0)
         return 1;
     run(&t, "Y");
     run(&t, "FScat$dog$");
-    run(&t, "ZJ-D I here$ Z=");
-    run(&t, "J 5D FSfrog$toad$");
+    run(&t, "ZJI here$Z=");
+    run(&t, "J5DFSfrog$toad$");
     show(&t, "undo", teco_undo(&t));
     show(&t, "undo", teco_undo(&t));
     show(&t, "redo", teco_redo(&t));
