@@ -1,0 +1,4 @@
+mod AsBox
+mod Opens
+mod Filling
+mod Dropping

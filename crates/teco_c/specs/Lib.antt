@@ -1,0 +1,5 @@
+pub mod Handle
+pub mod Numbers
+pub mod Rooms
+pub mod Calls
+pub mod Looks

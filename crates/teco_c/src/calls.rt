@@ -1,0 +1,170 @@
+//! The calls that make, change and end a session.
+ghost use Rattle.std.specs.Prelude.{◌≡◌, ◌≢◌, ◌⊎◌, ◌↔◌, ◌<◌, ◌≤◌, ℕ, length, take, true, IfOk, None, Some};
+ghost use Rattle.teco_core.specs.Code.{number_of};
+ghost use Rattle.teco_core.specs.declared.code.Code.TheVariants.{Mem};
+ghost use Rattle.teco_session.specs.Kept.{history_of, new_session};
+ghost use Rattle.teco_session.specs.Step.{RunStep};
+ghost use Rattle.teco_session.specs.declared.request.Answer.{Answer as RunAnswer};
+ghost use Rattle.teco_c.specs.Calls.{StaysClosed, Undoes, Redoes, Rewinds, RunsTo, depth_asked};
+ghost use Rattle.teco_c.specs.Handle.{Goes};
+ghost use Rattle.teco_c.specs.Numbers.{answer_number, steps_of};
+
+use crate::answers::{CLOSED, DEEP, LARGE, number_of_answer, steps_of_answer};
+use crate::handle::Teco;
+use crate::room::Room;
+use std::alloc::Global;
+use teco_core::{Code, DEPTH_LIMIT, FILE_LIMIT, NoMemory};
+use teco_session::{Answer, Session};
+
+/// A session over a copy of the input, that keeps the last `depth` strings, or all of them where that is 0.
+fn session_over(alloc: Global, input: &[u8], depth: usize) -> Result<Box<Session>, NoMemory>
+    requires input { length input.now ≤ FILE_LIMIT }
+    requires depth { depth ≤ DEPTH_LIMIT }
+    ensures { IfOk result (λ session. session.value ≡ new_session (depth_asked depth) input.now) }
+{
+    let input = Vec::from_slice(alloc, input)?;
+    let session = if depth == 0 {
+        Session::new(input)
+    } else {
+        Session::with_depth(input, depth)?
+    };
+    Ok(Box::new(alloc, session)?)
+}
+
+/// Opens a handle: a session over a copy of the input, that keeps the last `depth` strings, or all of them where that is 0. What was
+/// open in it is freed then.
+///
+/// 0, or the number of MEM where memory is refused, or one that says what is out of its bounds: then nothing changes.
+#[unsafe(no_mangle)]
+pub extern "C" fn teco_open(alloc: Global, t: &mut Teco, input: &[u8], depth: usize) -> u8
+    ensures opened { result ≡ 0 → t.new.value ≡ Some (new_session (depth_asked depth) input.now) }
+    ensures refused { result ≢ 0 → t.new.value ≡ t.old.value }
+    ensures large { (result ≡ LARGE) ↔ (FILE_LIMIT < length input.now) }
+    ensures deep { (result ≡ DEEP) ↔ ((length input.now ≤ FILE_LIMIT) × (DEPTH_LIMIT < depth)) }
+    ensures else_memory { (result ≡ 0) ⊎ (result ≡ LARGE) ⊎ (result ≡ DEEP) ⊎ (result ≡ number_of Mem) }
+{
+    if input.len() > FILE_LIMIT {
+        return LARGE;
+    }
+    if depth > DEPTH_LIMIT {
+        return DEEP;
+    }
+    match session_over(alloc, input, depth) {
+        Err(_) => Code::Mem.number(),
+        Ok(session) => {
+            t.put(session);
+            0
+        }
+    }
+}
+
+/// Closes a handle, and frees what it held. A closed one is let be.
+#[unsafe(no_mangle)]
+pub extern "C" fn teco_close(alloc: Global, t: &mut Teco)
+    ensures { t.new.value ≡ None }
+{
+    drop(t.take(alloc));
+}
+
+/// Goes back by a string: 0, or the number of NTU where there is none. Takes no memory.
+#[unsafe(no_mangle)]
+pub extern "C" fn teco_undo(alloc: Global, t: &mut Teco) -> u8
+    ensures open { Goes t.old.value t.new.value (λ old new. Undoes old result new) }
+    ensures closed { StaysClosed t.old.value result t.new.value }
+{
+    let Some(mut session) = t.take(alloc) else {
+        return CLOSED;
+    };
+    let code = match session.undo() {
+        Ok(()) => 0,
+        Err(_) => Code::Ntu.number(),
+    };
+    t.put(session);
+    code
+}
+
+/// Goes on by a string: 0, or the number of NTR where there is none. Takes no memory.
+#[unsafe(no_mangle)]
+pub extern "C" fn teco_redo(alloc: Global, t: &mut Teco) -> u8
+    ensures open { Goes t.old.value t.new.value (λ old new. Redoes old result new) }
+    ensures closed { StaysClosed t.old.value result t.new.value }
+{
+    let Some(mut session) = t.take(alloc) else {
+        return CLOSED;
+    };
+    let code = match session.redo() {
+        Ok(()) => 0,
+        Err(_) => Code::Ntr.number(),
+    };
+    t.put(session);
+    code
+}
+
+/// Goes back to the state after the first `n` steps of the last string: 0, or the number of NTU where there is none. Takes no memory.
+#[unsafe(no_mangle)]
+pub extern "C" fn teco_rewind(alloc: Global, t: &mut Teco, n: u64) -> u8
+    ensures open { Goes t.old.value t.new.value (λ old new. Rewinds n old result new) }
+    ensures closed { StaysClosed t.old.value result t.new.value }
+{
+    let Some(mut session) = t.take(alloc) else {
+        return CLOSED;
+    };
+    let code = match session.rewind(n) {
+        Ok(()) => 0,
+        Err(_) => Code::Ntu.number(),
+    };
+    t.put(session);
+    code
+}
+
+/// Runs a string on an empty room, which keeps the room that it writes to.
+fn run_on(session: &mut Session, text: &[u8], limit: u64, term: &mut Room) -> Answer
+    requires { term.old.count ≡ 0 }
+    ensures same_reference { term.new.room.ghost_name ≡ term.old.room.ghost_name }
+    ensures length { length term.new.room.now ≡ length term.old.room.now }
+    ensures run { RunsTo limit session.old text.now result (take term.new.count term.new.room.now) session.new }
+{
+    session.run(text, limit, term)
+}
+
+/// Runs a string over a room, and tells how many bytes were typed.
+fn run_in(session: &mut Session, text: &[u8], limit: u64, room: &mut [u8]) -> (Answer, usize)
+    ensures run { RunsTo limit session.old text.now result.0 (take result.1 room.new) session.new }
+    ensures within { result.1 ≤ length room.new }
+{
+    let mut term = Room::new(room);
+    let answer = run_on(session, text, limit, &mut term);
+    (answer, term.count)
+}
+
+/// Runs a command string under a limit of steps. Typed bytes go to the room, and where too little of it is left for a put the terminal
+/// fails, so that the string ends by TTY after whole steps.
+///
+/// The number of its code, or 0; `made` bytes were typed, and the string took `steps` steps.
+#[unsafe(no_mangle)]
+pub extern "C" fn teco_run(
+    alloc: Global,
+    t: &mut Teco,
+    text: &[u8],
+    limit: u64,
+    room: &mut [u8],
+    made: &mut usize,
+    steps: &mut u64,
+) -> u8
+    ensures open { Goes t.old.value t.new.value (λ old new. (answer : RunAnswer) × (result ≡ answer_number answer)
+        × (steps.new ≡ steps_of answer) × RunsTo limit old text.now answer (take made.new room.new) new) }
+    ensures within { made.new ≤ length room.new }
+    ensures closed { StaysClosed t.old.value result t.new.value }
+    ensures nothing { t.old.value ≡ None → (made.new ≡ 0) × (steps.new ≡ 0) × (room.new ≡ room.old) }
+{
+    let Some(mut session) = t.take(alloc) else {
+        *made = 0;
+        *steps = 0;
+        return CLOSED;
+    };
+    let (answer, count) = run_in(&mut session, text, limit, room);
+    t.put(session);
+    *made = count;
+    *steps = steps_of_answer(answer);
+    number_of_answer(answer)
+}

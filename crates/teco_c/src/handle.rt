@@ -1,0 +1,84 @@
+//! The handle that C keeps.
+ghost use Rattle.std.specs.Prelude.{◌≡◌, MatchOption, None, Some, Option};
+ghost use Rattle.teco_c.specs.Handle.{holds, coded_held, Kept};
+
+use crate::parts::Parts;
+use std::alloc::Global;
+use std::marker::Model;
+use std::mem::replace;
+use std::ptr::null_mut;
+use teco_session::Session;
+
+/// What a handle leads to is never seen by C.
+#[repr(C)]
+pub struct Inside {
+    byte: u8,
+}
+
+/// The place of a session, or null where it is closed. It is no `Drop`: no function here can let one go, so no session is lost.
+#[repr(C)]
+pub struct Teco {
+    at: *mut Inside,
+    alloc: Global,
+    pub ghost value: { Option Kept } by { coded_held },
+}
+
+impl Model for Teco {
+    ghost also_owns = { λ t. holds t.alloc t.at t.value };
+}
+
+impl Teco {
+    fn closed(alloc: Global) -> Teco
+        ensures { result.value ≡ None }
+    {
+        Teco {
+            at: null_mut(),
+            alloc,
+        }
+    }
+
+    fn of_parts(parts: Parts<Session, Global>) -> Teco
+        ensures { result.value ≡ Some parts.value }
+    {
+        let Parts { ptr, alloc } = parts;
+        Teco {
+            at: ptr as *mut Inside,
+            alloc,
+        }
+    }
+
+    fn into_parts(self) -> Option<Parts<Session, Global>>
+        ensures { MatchOption result (self.value ≡ None) (λ parts. self.value ≡ Some parts.value) }
+    {
+        let Teco { at, alloc } = self;
+        if at.is_null() {
+            None
+        } else {
+            Some(Parts {
+                ptr: at as *mut Session,
+                alloc,
+            })
+        }
+    }
+
+    /// Takes the session out, and leaves the handle closed. Takes no memory.
+    pub fn take(&mut self, alloc: Global) -> Option<Box<Session>>
+        ensures closed { self.new.value ≡ None }
+        ensures value { MatchOption result (self.old.value ≡ None) (λ session. self.old.value ≡ Some session.value) }
+    {
+        match replace(self, Teco::closed(alloc)).into_parts() {
+            None => None,
+            Some(parts) => Some(parts.into_box()),
+        }
+    }
+
+    /// Puts a session in; what was there is freed. Takes no memory.
+    pub fn put(&mut self, session: Box<Session>)
+        ensures { self.new.value ≡ Some session.value }
+    {
+        match replace(self, Teco::of_parts(Parts::of(session))).into_parts() {
+            None => {}
+            Some(parts) => drop(parts.into_box()),
+        }
+    }
+}

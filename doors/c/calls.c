@@ -1,0 +1,173 @@
+/*
+ * Each call once on its way to success, each of its refusals, and each on a closed handle. Expected values are taken from teco.h and the
+ * manual. Prints the lines that fail, and ends with status 1 where there are any.
+ */
+#include "teco.h"
+#include <stdio.h>
+#include <string.h>
+
+static int failed;
+
+#define HOLDS(fact) \
+    do { \
+        if (!(fact)) { \
+            printf("calls.c:%d: %s\n", __LINE__, #fact); \
+            failed = 1; \
+        } \
+    } while (0)
+
+static uint8_t room[64];
+static size_t n;
+static uint64_t steps;
+
+static const uint8_t *bytes(const char *text)
+{
+    return (const uint8_t *)text;
+}
+
+static uint8_t run(struct teco *t, const char *text, size_t size)
+{
+    return teco_run(t, bytes(text), strlen(text), 1000, room, size, &n, &steps);
+}
+
+/* Whether the first bytes of the room, as many as were told, are these. */
+static int has(const char *text)
+{
+    return n == strlen(text) && memcmp(room, text, n) == 0;
+}
+
+static void opens(void)
+{
+    struct teco t = {0};
+    HOLDS(teco_open(&t, bytes(""), 0, TECO_DEPTH_LIMIT + 1) == TECO_DEEP && t.at == NULL);
+    HOLDS(teco_open(&t, bytes(""), (size_t)TECO_INPUT_LIMIT + 1, 0) == TECO_LARGE && t.at == NULL);
+    HOLDS(teco_open(&t, bytes("old"), 3, 2) == 0 && t.at != NULL);
+    HOLDS(run(&t, "Y", 0) == 0);
+    HOLDS(teco_open(&t, bytes(""), 0, TECO_DEPTH_LIMIT + 1) == TECO_DEEP);
+    HOLDS(teco_text(&t, 0, room, 64, &n) == 0 && has("old"));
+    HOLDS(teco_open(&t, bytes("new"), 3, 0) == 0);
+    HOLDS(teco_length(&t, &n) == 0 && n == 0);
+    HOLDS(run(&t, "Y", 0) == 0 && teco_text(&t, 0, room, 64, &n) == 0 && has("new"));
+    teco_close(&t);
+    HOLDS(t.at == NULL);
+    teco_close(&t);
+    HOLDS(t.at == NULL);
+}
+
+static void runs(void)
+{
+    struct teco t = {0};
+    teco_open(&t, bytes(""), 0, 0);
+    HOLDS(run(&t, "Iab\0332+3=", 64) == 0 && has("5\r\n") && steps == 5);
+    memset(room, '.', sizeof room);
+    HOLDS(run(&t, "2=12=", 4) == TECO_TTY && has("2\r\n") && room[3] == '.' && steps == 3);
+    HOLDS(run(&t, "", 0) == 0 && n == 0 && steps == 0);
+    HOLDS(run(&t, "9J", 0) == 20 && steps == 2);
+    HOLDS(teco_run(&t, bytes("<>"), 2, 10, room, 0, &n, &steps) == 27 && steps == 10);
+    HOLDS(run(&t, "EX", 0) == 0 && teco_done(&t) == 1);
+    HOLDS(run(&t, "J", 0) == TECO_END && steps == 0);
+    HOLDS(teco_strings(&t, &n) == 0 && n == 6);
+    HOLDS(teco_undo(&t) == 0 && teco_done(&t) == 0);
+    teco_close(&t);
+}
+
+static void turns(void)
+{
+    struct teco t = {0};
+    teco_open(&t, bytes(""), 0, 2);
+    HOLDS(teco_undo(&t) == TECO_NTU && teco_redo(&t) == TECO_NTR && teco_rewind(&t, 1) == TECO_NTU);
+    run(&t, "Ia\033", 0);
+    run(&t, "Ib\033", 0);
+    run(&t, "Ic\033Id\033", 0);
+    HOLDS(teco_strings(&t, &n) == 0 && n == 2 && teco_cursor(&t, &n) == 0 && n == 2);
+    HOLDS(teco_rewind(&t, 1) == 0 && teco_text(&t, 0, room, 64, &n) == 0 && has("abc"));
+    HOLDS(teco_steps(&t, 1, &steps) == 0 && steps == 1);
+    HOLDS(teco_undo(&t) == 0 && teco_undo(&t) == 0 && teco_undo(&t) == TECO_NTU);
+    HOLDS(teco_text(&t, 0, room, 64, &n) == 0 && has("a"));
+    HOLDS(teco_strings(&t, &n) == 0 && n == 2 && teco_cursor(&t, &n) == 0 && n == 0);
+    HOLDS(teco_redo(&t) == 0 && teco_redo(&t) == 0 && teco_redo(&t) == TECO_NTR);
+    HOLDS(teco_text(&t, 0, room, 64, &n) == 0 && has("abc"));
+    HOLDS(teco_string(&t, 0, room, 64, &n) == 0 && has("Ib\033"));
+    HOLDS(teco_string(&t, 2, room, 64, &n) == TECO_OUTSIDE && n == 0);
+    HOLDS(teco_steps(&t, 2, &steps) == TECO_OUTSIDE && steps == 0);
+    teco_close(&t);
+}
+
+static void looks(void)
+{
+    struct teco t = {0};
+    int32_t number;
+    teco_open(&t, bytes("one\ftwo"), 7, 0);
+    HOLDS(teco_search(&t, room, 64, &n) == TECO_OUTSIDE && n == 0);
+    HOLDS(run(&t, "Y-7UQ@^UA/text/[A2C", 64) == 0);
+    HOLDS(teco_length(&t, &n) == 0 && n == 3 && teco_pointer(&t, &n) == 0 && n == 2);
+    HOLDS(teco_place(&t, &n) == 0 && n == 4 && teco_form_feed(&t) == 1);
+    HOLDS(teco_text(&t, 1, room, 64, &n) == 0 && has("ne"));
+    HOLDS(teco_text(&t, 3, room, 64, &n) == 0 && has("") && teco_text(&t, 99, room, 64, &n) == 0 && has(""));
+    memset(room, '.', sizeof room);
+    HOLDS(teco_text(&t, 0, room, 2, &n) == 0 && n == 3 && memcmp(room, "on.", 3) == 0);
+    HOLDS(teco_number(&t, 'q', &number) == 0 && number == -7);
+    HOLDS(teco_number(&t, '!', &number) == TECO_OUTSIDE && number == 0);
+    HOLDS(teco_register(&t, 'a', room, 64, &n) == 0 && has("text"));
+    HOLDS(teco_register(&t, '9', room, 64, &n) == 0 && has(""));
+    HOLDS(teco_register(&t, '!', room, 64, &n) == TECO_OUTSIDE && n == 0);
+    HOLDS(teco_pushed(&t, &n) == 0 && n == 1);
+    HOLDS(run(&t, "JSn\033", 0) == 0 && teco_found(&t) == 1);
+    HOLDS(teco_search(&t, room, 64, &n) == 0 && has("n"));
+    HOLDS(run(&t, "Sz\033", 0) == 22 && teco_found(&t) == 0);
+    HOLDS(run(&t, "P", 0) == 0 && teco_output(&t, 0, room, 64, &n) == 0 && has("one\f"));
+    HOLDS(teco_output(&t, 3, room, 64, &n) == 0 && has("\f") && teco_output(&t, 9, room, 64, &n) == 0 && has(""));
+    HOLDS(teco_form_feed(&t) == 0 && teco_either_case(&t) == 0 && teco_done(&t) == 0);
+    teco_close(&t);
+}
+
+static void closed(void)
+{
+    struct teco t = {0};
+    int32_t number = 1;
+    uint64_t k = 1;
+    size_t one = 1;
+    memset(room, '.', sizeof room);
+    n = steps = 1;
+    HOLDS(run(&t, "2=", 64) == TECO_CLOSED && n == 0 && steps == 0);
+    HOLDS(teco_undo(&t) == TECO_CLOSED && teco_redo(&t) == TECO_CLOSED && teco_rewind(&t, 0) == TECO_CLOSED);
+    HOLDS(teco_strings(&t, &one) == TECO_CLOSED && one == 0);
+    HOLDS((one = 1, teco_cursor(&t, &one)) == TECO_CLOSED && one == 0);
+    HOLDS(teco_steps(&t, 0, &k) == TECO_CLOSED && k == 0);
+    HOLDS((one = 1, teco_string(&t, 0, room, 64, &one)) == TECO_CLOSED && one == 0);
+    HOLDS((one = 1, teco_length(&t, &one)) == TECO_CLOSED && one == 0);
+    HOLDS((one = 1, teco_pointer(&t, &one)) == TECO_CLOSED && one == 0);
+    HOLDS((one = 1, teco_text(&t, 0, room, 64, &one)) == TECO_CLOSED && one == 0);
+    HOLDS((one = 1, teco_output(&t, 0, room, 64, &one)) == TECO_CLOSED && one == 0);
+    HOLDS(teco_number(&t, 'A', &number) == TECO_CLOSED && number == 0);
+    HOLDS((one = 1, teco_register(&t, 'A', room, 64, &one)) == TECO_CLOSED && one == 0);
+    HOLDS((one = 1, teco_search(&t, room, 64, &one)) == TECO_CLOSED && one == 0);
+    HOLDS((one = 1, teco_pushed(&t, &one)) == TECO_CLOSED && one == 0);
+    HOLDS((one = 1, teco_place(&t, &one)) == TECO_CLOSED && one == 0);
+    HOLDS(teco_done(&t) == TECO_CLOSED && teco_found(&t) == TECO_CLOSED);
+    HOLDS(teco_form_feed(&t) == TECO_CLOSED && teco_either_case(&t) == TECO_CLOSED);
+    HOLDS(room[0] == '.' && memcmp(room, room + 1, sizeof room - 1) == 0 && t.at == NULL);
+}
+
+static void many(void)
+{
+    for (int i = 0; i < 10000; i++) {
+        struct teco t = {0};
+        HOLDS(teco_open(&t, bytes("in"), 2, (size_t)i % 3) == 0);
+        HOLDS(run(&t, "YIab\033UA[A", 0) != TECO_MEM);
+        if (i % 2)
+            teco_undo(&t);
+        teco_close(&t);
+    }
+}
+
+int main(void)
+{
+    opens();
+    runs();
+    turns();
+    looks();
+    closed();
+    many();
+    return failed;
+}

@@ -1,0 +1,125 @@
+/*
+ * Refuses each growth of a session in turn, and compares what is left with a session in ample memory that runs as many steps. Each undo,
+ * redo and rewind, and each call that looks, is made where every growth is refused, and asks for none. It wants allocator.c before the C
+ * library's allocator. Prints what differs, and ends with status 1 where something does.
+ */
+#include "teco.h"
+#include <dlfcn.h>
+#include <limits.h>
+#include <stdio.h>
+#include <string.h>
+
+static void (*begin)(long from, long to);
+static long (*end)(void);
+static int failed;
+
+static const char *const strings[] = {
+    "Y", "Iaaaa\0330J<Saa\033;%A\033>", "@^UA/^UAy\033Ix\033/MA", "[A[Q]B]C", "3UQ10<QQ=QQ+1UQ>", "JFSa\033a long text that takes a place of its own\033",
+    "PHT", "<I0123456789abcdef0123456789abcdef\033>", "9J",
+};
+
+enum { STRINGS = sizeof strings / sizeof strings[0], NEVER = 100000 };
+
+static void wrong(const char *what, long nth, int i)
+{
+    printf("growths: %s, where growth %ld is refused, at string %d\n", what, nth, i);
+    failed = 1;
+}
+
+static uint8_t run(struct teco *t, int i, uint64_t limit, uint64_t *steps)
+{
+    uint8_t room[4096];
+    size_t made;
+    return teco_run(t, (const uint8_t *)strings[i], strlen(strings[i]), limit, room, sizeof room, &made, steps);
+}
+
+/* Whether two sessions show the same. */
+static int same(struct teco *a, struct teco *b)
+{
+    static uint8_t in_a[65536], in_b[65536];
+    size_t n[8];
+    int32_t number[2];
+    int is_same = 1;
+    teco_text(a, 0, in_a, sizeof in_a, &n[0]);
+    teco_text(b, 0, in_b, sizeof in_b, &n[1]);
+    is_same &= n[0] == n[1] && memcmp(in_a, in_b, n[0]) == 0;
+    teco_output(a, 0, in_a, sizeof in_a, &n[0]);
+    teco_output(b, 0, in_b, sizeof in_b, &n[1]);
+    is_same &= n[0] == n[1] && memcmp(in_a, in_b, n[0]) == 0;
+    teco_register(a, 'A', in_a, sizeof in_a, &n[0]);
+    teco_register(b, 'A', in_b, sizeof in_b, &n[1]);
+    is_same &= n[0] == n[1] && memcmp(in_a, in_b, n[0]) == 0;
+    teco_number(a, 'Q', &number[0]);
+    teco_number(b, 'Q', &number[1]);
+    teco_pointer(a, &n[2]);
+    teco_pointer(b, &n[3]);
+    teco_place(a, &n[4]);
+    teco_place(b, &n[5]);
+    teco_pushed(a, &n[6]);
+    teco_pushed(b, &n[7]);
+    return is_same && number[0] == number[1] && n[2] == n[3] && n[4] == n[5] && n[6] == n[7];
+}
+
+/* Calls that may ask for nothing, where all is refused. They come back to where they began. */
+static void turn(struct teco *t, long nth, int i)
+{
+    uint8_t room[64];
+    size_t n;
+    begin(1, LONG_MAX);
+    int undone = teco_undo(t), redone = undone == 0 ? teco_redo(t) : 0;
+    teco_text(t, 0, room, sizeof room, &n);
+    teco_string(t, 0, room, sizeof room, &n);
+    teco_output(t, 0, room, sizeof room, &n);
+    if (end() != 0 || redone != 0 || (undone != 0 && undone != TECO_NTU))
+        wrong("an undo, a redo or a look asks for memory", nth, i);
+}
+
+/* One session whose growth of this number is refused, beside its twin. Tells how many growths there were. */
+static long try(long nth)
+{
+    struct teco t = {0}, twin = {0};
+    long counted = 0;
+    teco_open(&twin, (const uint8_t *)"one\ftwo", 7, 5);
+    begin(nth, nth);
+    int opened = teco_open(&t, (const uint8_t *)"one\ftwo", 7, 5);
+    counted += end();
+    if (opened != 0 && (opened != TECO_MEM || t.at != NULL))
+        wrong("a refused open is told or left otherwise", nth, -1);
+    for (int i = 0; opened == 0 && i < STRINGS; i++) {
+        uint64_t steps, as_many;
+        begin(nth - counted, nth - counted);
+        int code = run(&t, i, 40, &steps);
+        counted += end();
+        if (code == TECO_NOT_BEGUN && steps != 0)
+            wrong("a string that was not begun took steps", nth, i);
+        if (code != TECO_NOT_BEGUN)
+            run(&twin, i, steps, &as_many);
+        if (!same(&t, &twin))
+            wrong("the state is not that of as many steps", nth, i);
+        turn(&t, nth, i);
+        if (!same(&t, &twin))
+            wrong("an undo and a redo lead elsewhere", nth, i);
+    }
+    begin(1, LONG_MAX);
+    int rewound = teco_rewind(&t, 0);
+    if (end() != 0 || (opened == 0 ? rewound != 0 && rewound != TECO_NTU : rewound != TECO_CLOSED))
+        wrong("a rewind asks for memory", nth, STRINGS);
+    teco_close(&t);
+    teco_close(&twin);
+    return counted;
+}
+
+int main(void)
+{
+    *(void **)&begin = dlsym(RTLD_DEFAULT, "growths_begin");
+    *(void **)&end = dlsym(RTLD_DEFAULT, "growths_end");
+    if (!begin || !end) {
+        puts("growths: allocator.c is not before the C library's allocator");
+        return 2;
+    }
+    long nth = 1;
+    while (nth < NEVER && try(nth) >= nth)
+        nth++;
+    printf("growths: %ld refused in turn: %s\n", nth - 1, failed ? "differs" : "ok");
+    return failed || nth < 20;
+}

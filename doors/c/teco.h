@@ -1,0 +1,152 @@
+/*
+ * teco.h - command strings with total undo and redo, as a library
+ *
+ * A session is an editor that runs command strings. Each one is kept, however it ended, and can be undone and redone; an undo and a
+ * redo ask for no memory. Link with libteco_c.a and liblibc_c.a; docs/LIBRARY.md says where they are made.
+ *
+ * THE HANDLE
+ *   A `struct teco` is closed while it is all zero, so `struct teco t = {0};` is a closed one. teco_open opens it and teco_close closes
+ *   it. Every call may be made on a closed one: it answers TECO_CLOSED, tells 0 and leaves the handle closed. teco_close lets it be.
+ *
+ * WHO OWNS WHAT
+ *   The library owns all that a handle leads to, and copies what it is given: the input and a command string may be freed after the
+ *   call. What a call tells goes into memory of the caller. The caller owns the handle itself. He doesn't write into it, doesn't copy an
+ *   open one, and closes it before it goes away: else its memory is lost.
+ *
+ * POINTERS
+ *   t           to a handle that is all zero, or as a call left it
+ *   a text      to so many bytes that may be read, and not null, also where the number is 0
+ *   a room      to so many bytes that may be written, and not null, also where the number is 0; the bytes may be anything
+ *   other ones  to one value that may be written; it may be anything
+ *   No two of a call's pointers lead to the same memory, and while a call runs nobody else reads or writes what they lead to.
+ *   Nothing checks this: it is what the proofs of the library begin from.
+ *
+ * UNITS
+ *   Texts are bytes; places, lengths and rooms count bytes from 0; strings are counted from 0, the oldest one that is kept first; steps
+ *   are what a limit counts. Nothing ends with a zero byte.
+ *
+ * ANSWERS
+ *   0 is success. 1 to 32 are the numbers of the codes by which a command string, or a call, ends; TECO_MEM, TECO_TTY, TECO_NTU,
+ *   TECO_NTR and TECO_END are those that a call itself can lead to. Others are below. The four calls at the end answer 1 and 0 for yes
+ *   and no. Each other call that answers something else than 0, and isn't teco_run, has changed nothing, told 0 and copied nothing.
+ *
+ * THREADS AND SIGNALS
+ *   A handle stays on the thread that opened it. Different handles share nothing, and may be in calls at the same time on different
+ *   threads. A call isn't made from a signal handler. docs/LIBRARY.md says how much stack a call needs.
+ */
+#ifndef TECO_H
+#define TECO_H
+
+#include <stddef.h>
+#include <stdint.h>
+
+#ifdef __cplusplus
+extern "C" {
+#endif
+
+struct teco {
+    void *at;
+};
+
+/* The limits of the input, of the depth, and of a text: of the buffer, of a register and of a search. */
+#define TECO_INPUT_LIMIT 1073741824
+#define TECO_DEPTH_LIMIT 100000
+#define TECO_TEXT_LIMIT 16777216
+
+enum {
+    TECO_MEM = 28,        /* memory was refused */
+    TECO_TTY = 29,        /* the room was too small for what was typed */
+    TECO_NTU = 30,        /* there is nothing to undo */
+    TECO_NTR = 31,        /* there is nothing to redo */
+    TECO_END = 32,        /* an exit has ended the session */
+    TECO_OUTSIDE = 251,   /* there is no such string, register or search text */
+    TECO_NOT_BEGUN = 252, /* the history found no memory for the string: it wasn't begun, and nothing changed */
+    TECO_DEEP = 253,      /* the depth is above TECO_DEPTH_LIMIT */
+    TECO_LARGE = 254,     /* the input is above TECO_INPUT_LIMIT */
+    TECO_CLOSED = 255     /* the handle is closed */
+};
+
+/*
+ * Opens a session over a copy of n bytes of input, that keeps the last `depth` strings, or all of them where depth is 0.
+ * 0, TECO_LARGE, TECO_DEEP or TECO_MEM. Where it isn't 0 the handle is as it was: a closed one stays closed, and an open one keeps its
+ * session. Where it is 0, a session that was open in the handle is freed.
+ */
+uint8_t teco_open(struct teco *t, const uint8_t *input, size_t n, size_t depth);
+
+/* Gives back all memory of the session, and leaves the handle closed and all zero. */
+void teco_close(struct teco *t);
+
+/*
+ * Runs a command string of n bytes, for at most `limit` steps. ESC is byte 27; the string needs no two of them at its end.
+ * What it types goes into the room, from its front on. A step that finds too little room left isn't done, and the string ends by
+ * TECO_TTY; a beginning of what that step types may be in the room. `made` bytes were typed, no more than the room has, and what lies
+ * behind them is not told. `steps` are the steps that were taken.
+ *
+ * 0 where the string ended well, or else the number of its code. It is noted, and can be undone, also where it ended by a code.
+ * TECO_MEM: it ended for want of memory, after whole steps. TECO_END: an exit has ended the session, so it wasn't begun, and nothing
+ * changed. TECO_NOT_BEGUN: no memory was found to note it, and nothing changed.
+ * A string that is begun drops those that are undone, and with a depth the oldest one where there is one too many.
+ */
+uint8_t teco_run(struct teco *t, const uint8_t *text, size_t n, uint64_t limit, uint8_t *room, size_t size, size_t *made, uint64_t *steps);
+
+/* Goes back to the state before the last string that isn't undone: 0 or TECO_NTU. Asks for no memory; may be made after an exit. */
+uint8_t teco_undo(struct teco *t);
+
+/* Goes on to the state after the first undone string: 0 or TECO_NTR. Asks for no memory. */
+uint8_t teco_redo(struct teco *t);
+
+/*
+ * Goes back to the state after the first n steps of the last string that isn't undone, and drops the undone ones: 0 or TECO_NTU. The
+ * string has taken n steps then, or as many as before where those are fewer. Asks for no memory; may be made after an exit.
+ */
+uint8_t teco_rewind(struct teco *t, uint64_t n);
+
+/* All that follows looks: it asks for no memory and changes nothing. */
+
+/* How many strings are kept, and how many of them are not undone. */
+uint8_t teco_strings(struct teco *t, size_t *count);
+uint8_t teco_cursor(struct teco *t, size_t *count);
+
+/* How many steps string i took: 0 or TECO_OUTSIDE. */
+uint8_t teco_steps(struct teco *t, size_t i, uint64_t *steps);
+
+/*
+ * The calls with a room copy as many bytes as it has room for, and tell the length of all of them: where that is more than the room,
+ * the copy is cut off. What lies behind what was copied stays as it was.
+ */
+
+/* The text of string i: 0 or TECO_OUTSIDE. */
+uint8_t teco_string(struct teco *t, size_t i, uint8_t *room, size_t size, size_t *length);
+
+/* The length of the buffer's text, and the place of the pointer in it. */
+uint8_t teco_length(struct teco *t, size_t *length);
+uint8_t teco_pointer(struct teco *t, size_t *pointer);
+
+/* The text of the buffer from a place on, and the output so far from a place on. Past the end there is nothing, of length 0. */
+uint8_t teco_text(struct teco *t, size_t from, uint8_t *room, size_t size, size_t *length);
+uint8_t teco_output(struct teco *t, size_t from, uint8_t *room, size_t size, size_t *length);
+
+/* The number and the text of the register of this name, A to Z in either case or 0 to 9: 0 or TECO_OUTSIDE. */
+uint8_t teco_number(struct teco *t, uint8_t name, int32_t *number);
+uint8_t teco_register(struct teco *t, uint8_t name, uint8_t *room, size_t size, size_t *length);
+
+/* The last search text: 0, or TECO_OUTSIDE where there was none. */
+uint8_t teco_search(struct teco *t, uint8_t *room, size_t size, size_t *length);
+
+/* How many values are on the push-down list, and how many bytes of the input have been read. */
+uint8_t teco_pushed(struct teco *t, size_t *count);
+uint8_t teco_place(struct teco *t, size_t *place);
+
+/*
+ * 1 where it is so, 0 where it isn't: an exit has ended the session; the last search found; a form feed ended the page; searches find
+ * a letter in either case.
+ */
+uint8_t teco_done(struct teco *t);
+uint8_t teco_found(struct teco *t);
+uint8_t teco_form_feed(struct teco *t);
+uint8_t teco_either_case(struct teco *t);
+
+#ifdef __cplusplus
+}
+#endif
+#endif

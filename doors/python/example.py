@@ -1,0 +1,41 @@
+"""Opens a session, runs strings, undoes, and shows what differs between two states."""
+
+import difflib
+
+from teco import NTU, Refused, Session
+
+
+def lines(session):
+    return session.text.decode().splitlines()
+
+
+def show(before, after):
+    for line in difflib.unified_diff(before, after, "before", "after", lineterm="", n=0):
+        print("   ", line)
+
+
+with Session(b"apples 3\npears 5\nplums 8\n") as session:
+    session.run(b"Y")
+    states = [lines(session)]
+    for string in (b"<FS \x1b: \x1b; >", b"JFSpears\x1bquinces\x1b", b"ZJIfigs: 2\n\x1b"):
+        code, typed, steps = session.run(string)
+        states.append(lines(session))
+        print(f"{string!r} ends by {code} after {steps} steps")
+        show(states[-2], states[-1])
+
+    session.undo()
+    session.undo()
+    print("two undone:", lines(session) == states[1])
+    session.redo()
+    print("one redone:", lines(session) == states[2])
+
+    print("from the first state to this one:")
+    show(states[0], lines(session))
+    print("strings:", len(session.strings), "of them not undone:", session.cursor)
+
+    for _ in range(3):
+        session.undo()
+    try:
+        session.undo()
+    except Refused as refused:
+        print("nothing is left to undo:", refused.answer == NTU)

@@ -1,0 +1,131 @@
+"""Command strings with total undo and redo, by ctypes over a shared object made of libteco_c.a.
+
+TECO_SHARED names the shared object. A Session closes itself; used in a `with` it is closed at the end.
+"""
+
+import ctypes
+import os
+from ctypes import POINTER, byref, c_int32, c_size_t, c_uint8, c_uint64, c_void_p
+
+TTY, NTU, NTR, END = 29, 30, 31, 32
+OUTSIDE, NOT_BEGUN, DEEP, LARGE, CLOSED = 251, 252, 253, 254, 255
+
+
+class Handle(ctypes.Structure):
+    _fields_ = [("at", c_void_p)]
+
+
+def _library():
+    library = ctypes.CDLL(os.environ["TECO_SHARED"])
+    handle, size, word = POINTER(Handle), POINTER(c_size_t), POINTER(c_uint64)
+    room = [c_void_p, c_size_t]
+    calls = {
+        "open": [c_void_p, c_size_t, c_size_t],
+        "run": [c_void_p, c_size_t, c_uint64, *room, size, word],
+        "undo": [], "redo": [], "rewind": [c_uint64],
+        "strings": [size], "cursor": [size], "steps": [c_size_t, word],
+        "string": [c_size_t, *room, size],
+        "length": [size], "pointer": [size],
+        "text": [c_size_t, *room, size], "output": [c_size_t, *room, size],
+        "number": [c_uint8, POINTER(c_int32)], "register": [c_uint8, *room, size],
+        "done": [],
+    }
+    for name, arguments in calls.items():
+        call = getattr(library, "teco_" + name)
+        call.argtypes, call.restype = [handle, *arguments], c_uint8
+    library.teco_close.argtypes, library.teco_close.restype = [handle], None
+    return library
+
+
+class Refused(Exception):
+    """A call was refused, and nothing changed. Its number is in `answer`."""
+
+    def __init__(self, answer):
+        super().__init__(f"refused by {answer}")
+        self.answer = answer
+
+
+class Session:
+    """An open session over a copy of the input, that keeps the last `depth` strings, or all of them where that is 0."""
+
+    _teco = None
+
+    def __init__(self, text=b"", depth=0):
+        if Session._teco is None:
+            Session._teco = _library()
+        self._handle = Handle()
+        self._call("open", text, len(text), depth)
+
+    def _call(self, name, *arguments):
+        answer = getattr(self._teco, "teco_" + name)(byref(self._handle), *arguments)
+        if answer:
+            raise Refused(answer)
+
+    def _told(self, kind, name, *arguments):
+        value = kind()
+        self._call(name, *arguments, byref(value))
+        return value.value
+
+    def _copied(self, name, *arguments):
+        room = ctypes.create_string_buffer(1)
+        length = self._told(c_size_t, name, *arguments, room, 0)
+        room = ctypes.create_string_buffer(length + 1)
+        self._told(c_size_t, name, *arguments, room, length)
+        return room.raw[:length]
+
+    def run(self, text, limit=1000000, room=65536):
+        """Runs a command string, and gives the number of its code, what it typed and its steps."""
+        typed, made, steps = ctypes.create_string_buffer(room + 1), c_size_t(), c_uint64()
+        answer = self._teco.teco_run(
+            byref(self._handle), text, len(text), limit, typed, room, byref(made), byref(steps))
+        if answer in (NOT_BEGUN, END, CLOSED):
+            raise Refused(answer)
+        return answer, typed.raw[:made.value], steps.value
+
+    def undo(self):
+        self._call("undo")
+
+    def redo(self):
+        self._call("redo")
+
+    def rewind(self, n):
+        self._call("rewind", n)
+
+    def close(self):
+        self._teco.teco_close(byref(self._handle))
+
+    @property
+    def text(self):
+        return self._copied("text", 0)
+
+    @property
+    def pointer(self):
+        return self._told(c_size_t, "pointer")
+
+    @property
+    def output(self):
+        return self._copied("output", 0)
+
+    @property
+    def strings(self):
+        return [self._copied("string", i) for i in range(self._told(c_size_t, "strings"))]
+
+    @property
+    def cursor(self):
+        return self._told(c_size_t, "cursor")
+
+    def number(self, name):
+        return self._told(c_int32, "number", ord(name))
+
+    def register(self, name):
+        return self._copied("register", ord(name))
+
+    def __enter__(self):
+        return self
+
+    def __exit__(self, *_):
+        self.close()
+
+    def __del__(self):
+        if self._teco is not None:
+            self.close()

@@ -1,0 +1,221 @@
+//! Command strings with total undo and redo, over the static library of this repository.
+//!
+//! A [`Session`] owns its memory and gives it back when it is dropped. An undo and a redo ask for none. A session stays on its thread:
+//! it is neither `Send` nor `Sync`.
+
+mod raw;
+
+use std::cell::UnsafeCell;
+use std::fmt;
+use std::ptr;
+
+/// An open session. Its handle is open from [`Session::open`] to its drop.
+pub struct Session {
+    handle: UnsafeCell<raw::Handle>,
+}
+
+/// Why a session was not opened.
+#[derive(Clone, Copy, Debug, PartialEq, Eq)]
+pub enum OpenError {
+    NoMemory,
+    TooDeep,
+    TooLarge,
+}
+
+/// Why a command string ended before its end, or was not begun.
+#[derive(Clone, Copy, Debug, PartialEq, Eq)]
+pub enum Stop {
+    /// The string ended by this code, from 1 to 31, and is noted.
+    Code(u8),
+    /// An exit has ended the session, and nothing changed.
+    AfterExit,
+    /// The history found no memory, and nothing changed.
+    NotBegun,
+}
+
+/// No string is left to undo, or to redo.
+#[derive(Clone, Copy, Debug, PartialEq, Eq)]
+pub struct Nothing;
+
+/// What a command string typed, in how many steps, and why it stopped, if it didn't end well.
+#[derive(Clone, Debug, PartialEq, Eq)]
+pub struct Outcome {
+    pub typed: Vec<u8>,
+    pub steps: u64,
+    pub stop: Option<Stop>,
+}
+
+const MEM: u8 = 28;
+const END: u8 = 32;
+const NOT_BEGUN: u8 = 252;
+const DEEP: u8 = 253;
+const LARGE: u8 = 254;
+
+impl Session {
+    /// A session over a copy of the input, that keeps the last `depth` strings, or all of them where that is 0.
+    pub fn open(input: &[u8], depth: usize) -> Result<Session, OpenError> {
+        let mut handle = raw::Handle { at: ptr::null_mut() };
+        match unsafe { raw::teco_open(&mut handle, input.as_ptr(), input.len(), depth) } {
+            0 => Ok(Session { handle: UnsafeCell::new(handle) }),
+            LARGE => Err(OpenError::TooLarge),
+            DEEP => Err(OpenError::TooDeep),
+            _ => Err(OpenError::NoMemory),
+        }
+    }
+
+    /// Runs a command string for at most `limit` steps. It can type `room` bytes; one that would type more ends by code 29, TTY.
+    pub fn run(&mut self, text: &[u8], limit: u64, room: usize) -> Outcome {
+        let mut typed = vec![0; room];
+        let (mut made, mut steps) = (0, 0);
+        let code = unsafe {
+            raw::teco_run(self.at(), text.as_ptr(), text.len(), limit, typed.as_mut_ptr(), room, &mut made, &mut steps)
+        };
+        typed.truncate(made);
+        let stop = match code {
+            0 => None,
+            END => Some(Stop::AfterExit),
+            NOT_BEGUN => Some(Stop::NotBegun),
+            code => Some(Stop::Code(code)),
+        };
+        Outcome { typed, steps, stop }
+    }
+
+    /// Goes back by a string. Asks for no memory.
+    pub fn undo(&mut self) -> Result<(), Nothing> {
+        turned(unsafe { raw::teco_undo(self.at()) })
+    }
+
+    /// Goes on by a string. Asks for no memory.
+    pub fn redo(&mut self) -> Result<(), Nothing> {
+        turned(unsafe { raw::teco_redo(self.at()) })
+    }
+
+    /// Goes back to the state after the first `n` steps of the last string. Asks for no memory.
+    pub fn rewind(&mut self, n: u64) -> Result<(), Nothing> {
+        turned(unsafe { raw::teco_rewind(self.at(), n) })
+    }
+
+    /// How many strings are kept, undone ones too.
+    pub fn strings(&self) -> usize {
+        let mut count = 0;
+        unsafe { raw::teco_strings(self.at(), &mut count) };
+        count
+    }
+
+    /// How many strings are not undone.
+    pub fn cursor(&self) -> usize {
+        let mut count = 0;
+        unsafe { raw::teco_cursor(self.at(), &mut count) };
+        count
+    }
+
+    /// The text of a string, if there is one at this place.
+    pub fn string(&self, i: usize) -> Option<Vec<u8>> {
+        self.copied(|at, room, size, length| unsafe { raw::teco_string(at, i, room, size, length) })
+    }
+
+    /// How many steps a string took, if there is one at this place.
+    pub fn steps(&self, i: usize) -> Option<u64> {
+        let mut steps = 0;
+        let answer = unsafe { raw::teco_steps(self.at(), i, &mut steps) };
+        (answer == 0).then_some(steps)
+    }
+
+    /// The text of the buffer.
+    pub fn text(&self) -> Vec<u8> {
+        self.copied(|at, room, size, length| unsafe { raw::teco_text(at, 0, room, size, length) })
+            .unwrap_or_default()
+    }
+
+    /// The place of the pointer in the text.
+    pub fn pointer(&self) -> usize {
+        let mut pointer = 0;
+        unsafe { raw::teco_pointer(self.at(), &mut pointer) };
+        pointer
+    }
+
+    /// The output so far.
+    pub fn output(&self) -> Vec<u8> {
+        self.copied(|at, room, size, length| unsafe { raw::teco_output(at, 0, room, size, length) })
+            .unwrap_or_default()
+    }
+
+    /// The number of a register, if the byte names one.
+    pub fn number(&self, name: u8) -> Option<i32> {
+        let mut number = 0;
+        let answer = unsafe { raw::teco_number(self.at(), name, &mut number) };
+        (answer == 0).then_some(number)
+    }
+
+    /// The text of a register, if the byte names one.
+    pub fn register(&self, name: u8) -> Option<Vec<u8>> {
+        self.copied(|at, room, size, length| unsafe { raw::teco_register(at, name, room, size, length) })
+    }
+
+    /// Whether an exit has ended the session.
+    pub fn is_done(&self) -> bool {
+        unsafe { raw::teco_done(self.at()) == 1 }
+    }
+
+    // A call writes the handle and leaves it as it was; no two calls overlap, since a session is not `Sync` and no call calls back.
+    fn at(&self) -> *mut raw::Handle {
+        self.handle.get()
+    }
+
+    /// Asks for the length first, and then for the bytes.
+    fn copied(&self, call: impl Fn(*mut raw::Handle, *mut u8, usize, *mut usize) -> u8) -> Option<Vec<u8>> {
+        let mut length = 0;
+        let mut bytes = Vec::new();
+        if call(self.at(), bytes.as_mut_ptr(), 0, &mut length) != 0 {
+            return None;
+        }
+        bytes.resize(length, 0);
+        call(self.at(), bytes.as_mut_ptr(), length, &mut length);
+        Some(bytes)
+    }
+}
+
+fn turned(answer: u8) -> Result<(), Nothing> {
+    if answer == 0 {
+        Ok(())
+    } else {
+        Err(Nothing)
+    }
+}
+
+impl Drop for Session {
+    fn drop(&mut self) {
+        unsafe { raw::teco_close(self.at()) }
+    }
+}
+
+impl fmt::Display for OpenError {
+    fn fmt(&self, f: &mut fmt::Formatter<'_>) -> fmt::Result {
+        f.write_str(match self {
+            OpenError::NoMemory => "memory was refused",
+            OpenError::TooDeep => "the depth is above 100000",
+            OpenError::TooLarge => "the input is above 2^30 bytes",
+        })
+    }
+}
+
+impl fmt::Display for Stop {
+    fn fmt(&self, f: &mut fmt::Formatter<'_>) -> fmt::Result {
+        match self {
+            Stop::Code(MEM) => f.write_str("memory was refused"),
+            Stop::Code(code) => write!(f, "ended by code {code}"),
+            Stop::AfterExit => f.write_str("the session is done"),
+            Stop::NotBegun => f.write_str("no memory for the history"),
+        }
+    }
+}
+
+impl fmt::Display for Nothing {
+    fn fmt(&self, f: &mut fmt::Formatter<'_>) -> fmt::Result {
+        f.write_str("no string is left")
+    }
+}
+
+impl std::error::Error for OpenError {}
+impl std::error::Error for Stop {}
+impl std::error::Error for Nothing {}

@@ -1,0 +1,36 @@
+//! The calls of `teco.h`, as they are.
+
+use std::os::raw::c_void;
+
+#[repr(C)]
+pub struct Handle {
+    pub at: *mut c_void,
+}
+
+extern "C" {
+    pub fn teco_open(t: *mut Handle, input: *const u8, n: usize, depth: usize) -> u8;
+    pub fn teco_close(t: *mut Handle);
+    pub fn teco_run(
+        t: *mut Handle,
+        text: *const u8,
+        n: usize,
+        limit: u64,
+        room: *mut u8,
+        size: usize,
+        made: *mut usize,
+        steps: *mut u64,
+    ) -> u8;
+    pub fn teco_undo(t: *mut Handle) -> u8;
+    pub fn teco_redo(t: *mut Handle) -> u8;
+    pub fn teco_rewind(t: *mut Handle, n: u64) -> u8;
+    pub fn teco_strings(t: *mut Handle, count: *mut usize) -> u8;
+    pub fn teco_cursor(t: *mut Handle, count: *mut usize) -> u8;
+    pub fn teco_steps(t: *mut Handle, i: usize, steps: *mut u64) -> u8;
+    pub fn teco_string(t: *mut Handle, i: usize, room: *mut u8, size: usize, length: *mut usize) -> u8;
+    pub fn teco_pointer(t: *mut Handle, pointer: *mut usize) -> u8;
+    pub fn teco_text(t: *mut Handle, from: usize, room: *mut u8, size: usize, length: *mut usize) -> u8;
+    pub fn teco_output(t: *mut Handle, from: usize, room: *mut u8, size: usize, length: *mut usize) -> u8;
+    pub fn teco_number(t: *mut Handle, name: u8, number: *mut i32) -> u8;
+    pub fn teco_register(t: *mut Handle, name: u8, room: *mut u8, size: usize, length: *mut usize) -> u8;
+    pub fn teco_done(t: *mut Handle) -> u8;
+}

@@ -1,0 +1,62 @@
+use teco::{Nothing, OpenError, Session, Stop};
+
+const LIMIT: u64 = 1_000_000;
+
+#[test]
+fn a_string_is_run_undone_and_redone() {
+    let mut session = Session::open(b"one\n", 0).unwrap();
+    let outcome = session.run(b"YFSone\x1btwo\x1bHT", LIMIT, 80);
+    assert_eq!(outcome.stop, None);
+    assert_eq!(outcome.typed, b"two\n");
+    assert_eq!((session.text(), session.pointer()), (b"two\n".to_vec(), 3));
+    assert_eq!(session.undo(), Ok(()));
+    assert_eq!(session.text(), b"");
+    assert_eq!((session.strings(), session.cursor()), (1, 0));
+    assert_eq!(session.undo(), Err(Nothing));
+    assert_eq!(session.redo(), Ok(()));
+    assert_eq!(session.redo(), Err(Nothing));
+    assert_eq!(session.text(), b"two\n");
+}
+
+#[test]
+fn a_string_that_fails_is_noted_and_undone() {
+    let mut session = Session::open(b"", 3).unwrap();
+    assert_eq!(session.run(b"Iab\x1b99J", LIMIT, 0).stop, Some(Stop::Code(20)));
+    assert_eq!(session.text(), b"ab");
+    assert_eq!(session.rewind(0), Ok(()));
+    assert_eq!(session.text(), b"");
+    assert_eq!((session.strings(), session.steps(0)), (1, Some(0)));
+}
+
+#[test]
+fn a_full_room_ends_the_string() {
+    let mut session = Session::open(b"", 0).unwrap();
+    let outcome = session.run(b"2=12=", LIMIT, 3);
+    assert_eq!((outcome.stop, outcome.typed.as_slice()), (Some(Stop::Code(29)), b"2\r\n".as_slice()));
+}
+
+#[test]
+fn registers_and_strings_are_told() {
+    let mut session = Session::open(b"", 0).unwrap();
+    session.run(b"42UQ@^UA/text/", LIMIT, 0);
+    assert_eq!((session.number(b'q'), session.number(b'!')), (Some(42), None));
+    assert_eq!((session.register(b'A'), session.register(b'!')), (Some(b"text".to_vec()), None));
+    assert_eq!((session.string(0), session.string(1)), (Some(b"42UQ@^UA/text/".to_vec()), None));
+    assert_eq!((session.steps(0), session.steps(1)), (Some(3), None));
+}
+
+#[test]
+fn an_exit_writes_the_output() {
+    let mut session = Session::open(b"a\x0cb", 0).unwrap();
+    assert_eq!(session.run(b"YIx\x1bEX", LIMIT, 0).stop, None);
+    assert!(session.is_done());
+    assert_eq!(session.output(), b"xa\x0cb");
+    assert_eq!(session.run(b"J", LIMIT, 0).stop, Some(Stop::AfterExit));
+    assert_eq!(session.undo(), Ok(()));
+    assert!(!session.is_done());
+}
+
+#[test]
+fn a_depth_above_the_limit_is_refused() {
+    assert_eq!(Session::open(b"", 100_001).err(), Some(OpenError::TooDeep));
+}
