@@ -1,5 +1,5 @@
 -- What the calls do to the session of a handle.
-use Rattle.std.specs.Prelude.{◌≡◌, ◌⊎◌, ℕ, ◌<◌, List, length, Bool, true, Option, Some, None, if◌then◌else◌, ◌==◌}
+use Rattle.std.specs.Prelude.{◌≡◌, ◌⊎◌, ℕ, ◌<◌, List, length, true, Option, Some, None, if◌then◌else◌, ◌==◌}
 use Rattle.teco_core.specs.Code.{number_of}
 use Rattle.teco_core.specs.declared.code.Code.TheVariants.{Ntu, Ntr}
 use Rattle.teco_session.specs.Answers.{is_unbegun}

@@ -1,9 +1,8 @@
 //! The calls that make, change and end a session.
-ghost use Rattle.std.specs.Prelude.{◌≡◌, ◌≢◌, ◌⊎◌, ◌↔◌, ◌<◌, ◌≤◌, ℕ, length, take, true, IfOk, None, Some};
+ghost use Rattle.std.specs.Prelude.{◌≡◌, ◌≢◌, ◌⊎◌, ◌↔◌, ◌<◌, ◌≤◌, length, take, IfOk, None, Some};
 ghost use Rattle.teco_core.specs.Code.{number_of};
 ghost use Rattle.teco_core.specs.declared.code.Code.TheVariants.{Mem};
-ghost use Rattle.teco_session.specs.Kept.{history_of, new_session};
-ghost use Rattle.teco_session.specs.Step.{RunStep};
+ghost use Rattle.teco_session.specs.Kept.{new_session};
 ghost use Rattle.teco_session.specs.declared.request.Answer.{Answer as RunAnswer};
 ghost use Rattle.teco_c.specs.Calls.{StaysClosed, Undoes, Redoes, Rewinds, RunsTo, depth_asked};
 ghost use Rattle.teco_c.specs.Handle.{Goes};

@@ -1,5 +1,5 @@
 //! The calls that tell of the strings of a session.
-ghost use Rattle.std.specs.Prelude.{◌≡◌, length, option_map};
+ghost use Rattle.std.specs.Prelude.{length, option_map};
 ghost use Rattle.teco_c.specs.Looks.{Tells, TellsIf, CopiesIf, string_of};
 
 use crate::answers::{CLOSED, OUTSIDE};

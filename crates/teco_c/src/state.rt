@@ -1,5 +1,5 @@
 //! The calls that tell of the editing state.
-ghost use Rattle.std.specs.Prelude.{◌≡◌, length, drop, option_map, pos, ◌==◌};
+ghost use Rattle.std.specs.Prelude.{length, drop, option_map, pos};
 ghost use Rattle.teco_c.specs.Looks.{Tells, TellsIf, Says, Copies, CopiesIf, register_named_by, state_now, is_either};
 
 use crate::answers::{CLOSED, OUTSIDE};

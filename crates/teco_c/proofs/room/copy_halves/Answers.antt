@@ -1,5 +1,3 @@
-use Rattle.std.proofs.Common.{◌≡◌, refl, ap, ◌∙◌, ◌++◌, take, drop, min, length}
-use Rattle.teco_c.specs.Rooms.{filled}
 use Rattle.teco_c.proofs.Filling.{filled_halves}
 use Rattle.teco_c.proofs.room.copy_halves.Goals as goal
 
