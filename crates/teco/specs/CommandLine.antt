@@ -1,10 +1,13 @@
--- What the command line says: teco [--limit N] [--output FILE] [--prompt] [--undo N] [--execute STRINGS | --file FILE] INPUT.
-use Rattle.std.specs.Prelude.{◌≡◌, ◌≤◌, ◌==◌, ℕ, List, [], ◌∷◌, Option, Some, None, IsTrue, ◌↔◌, codes, true, false, option_map, is_some, ⊤, ◌⊎◌, Result, Ok, Err, if◌then◌else◌}
+-- What the command line says:
+-- teco [--limit N] [--output FILE] [--prompt] [--undo N] [--execute STRINGS | --file FILE] INPUT.
+use Rattle.std.specs.Prelude.{◌≡◌, ◌≤◌, ◌==◌, ℕ, List, [], ◌∷◌, Option, Some, None, IsTrue, ◌↔◌, codes, true}
+use Rattle.std.specs.Prelude.{false, option_map, is_some, ⊤, ◌⊎◌, Result, Ok, Err, if◌then◌else◌}
 use Rattle.std.specs.Borrow.{Bor}
 use Rattle.std.specs.String.{string_bytes}
 use Rattle.std.specs.Str.Parse.{digits_value, without_leading_plus}
 use Rattle.clap.specs.Simple.{on_top}
-use Rattle.clap.specs.Words.{App, IsAmong, Rule, Text, fault_of, first_of, kind_of, matches_of, new_app, new_rule, one_of, takes, with_rule}
+use Rattle.clap.specs.Words.{App, IsAmong, Rule, Text, fault_of, first_of, kind_of, matches_of, new_app}
+use Rattle.clap.specs.Words.{new_rule, one_of, takes, with_rule}
 use Rattle.clap.specs.declared.builder.action.ArgAction.TheVariants.{Set, SetTrue}
 use Rattle.clap.specs.declared.builder.value_parser.ValueParser.TheVariants as parser
 use Rattle.clap.specs.declared.error.Error.{Error}
@@ -85,9 +88,12 @@ input_rule = record (new_rule (codes "input")) {
 abbrev pub with_version : App → App
 with_version app = on_top (λ shape. record shape { has_version = true }) app
 
--- The command that the words are read by: the parser's rules for a command with these arguments and no others of its own.
+-- The command that the words are read by: the parser's rules for a command with these arguments and no others
+-- of its own.
 abbrev pub teco_app : App
-teco_app = with_rule (with_rule (with_rule (with_rule (with_rule (with_rule (with_rule (with_version (new_app (codes "teco"))) limit_rule) output_rule) prompt_rule) undo_rule) execute_rule)
+teco_app = with_rule (with_rule (with_rule (with_rule (with_rule (with_rule (with_rule
+    (with_version (new_app (codes "teco")))
+    limit_rule) output_rule) prompt_rule) undo_rule) execute_rule)
     file_rule) input_rule
 
 -- the number that a text spells in decimal digits, after a plus sign or none
@@ -102,7 +108,8 @@ typed byte = if byte == 36 then ESC else byte
 abbrev pub text_behind : Option (Bor Text) → Option Text
 text_behind = option_map (λ text. text.now)
 
--- Where the commands come from, by the texts of --execute and of --file: from the one that is given, from standard input where none is.
+-- Where the commands come from, by the texts of --execute and of --file: from the one that is given, from
+-- standard input where none is.
 abbrev pub IsCommands : Option Text → Option Text → Commands → Type 0
 IsCommands word file StandardInput = (word ≡ None) × (file ≡ None)
 IsCommands word file (Word text) = (word ≡ Some (string_bytes text)) × (file ≡ None)
@@ -110,14 +117,16 @@ IsCommands word file (File name) = (word ≡ None) × (file ≡ Some (string_byt
 
 -- A line that gives both is faulty, as one that gives an argument twice.
 abbrev pub IsConflict : Option Text → Option Text → Error → Type 0
-IsConflict word file error = ((is_some word ≡ true) × (is_some file ≡ true)) × (kind_of error ≡ kind.ArgumentConflict)
+IsConflict word file error = ((is_some word ≡ true) × (is_some file ≡ true))
+    × (kind_of error ≡ kind.ArgumentConflict)
 
 -- Why a line gives no commands: memory was refused, or it gives both.
 abbrev pub IsCommandsFault : Option Text → Option Text → LineFault → Type 0
 IsCommandsFault word file NoMemory = ⊤
 IsCommandsFault word file (Refused error) = IsConflict word file error
 
--- The line has what the parse of these words gives for each argument. `first_of` is an argument's value as text; `one_of` is its text where it is read as a number or as a flag.
+-- The line has what the parse of these words gives for each argument. `first_of` is an argument's value as
+-- text; `one_of` is its text where it is read as a number or as a flag.
 pub record IsLine (words : List Text) (line : Line) : Type 0 where
   -- the parser takes the words
   pub taken : fault_of teco_app words ≡ []
@@ -126,25 +135,32 @@ pub record IsLine (words : List Text) (line : Line) : Type 0 where
   -- the output, if there is one
   pub output : first_of (codes "output") (matches_of teco_app words) ≡ option_map string_bytes line.output
   -- where the commands come from, so that they are not both in a word and in a file
-  pub commands : IsCommands (first_of (codes "execute") (matches_of teco_app words)) (first_of (codes "file") (matches_of teco_app words)) line.commands
+  pub commands : IsCommands (first_of (codes "execute") (matches_of teco_app words))
+      (first_of (codes "file") (matches_of teco_app words)) line.commands
   -- the limit, which is there: by its default where it is not given
   pub limit : option_map number_of (one_of (codes "limit") (matches_of teco_app words)) ≡ Some line.limit
   -- the flag
-  pub prompt : IsTrue line.prompt ↔ (one_of (codes "prompt") (matches_of teco_app words) ≡ Some (codes "true"))
+  pub prompt : IsTrue line.prompt
+      ↔ (one_of (codes "prompt") (matches_of teco_app words) ≡ Some (codes "true"))
   -- the depth of the history, if one is given
   pub undo : option_map number_of (one_of (codes "undo") (matches_of teco_app words)) ≡ line.undo
 
--- Why a line is refused: the parser wants memory; or it has an error of a kind that these words have, and does not take them; or it takes them, but they give commands both in a word and in a file.
+-- Why a line is refused: the parser wants memory; or it has an error of a kind that these words have, and
+-- does not take them; or it takes them, but they give commands both in a word and in a file.
 abbrev pub IsRefusal : List Text → Error → Type 0
-IsRefusal words error = (kind_of error ≡ kind.OutOfMemory) ⊎ (((takes teco_app words ≡ false) × IsAmong (kind_of error) (fault_of teco_app words))
-    ⊎ ((fault_of teco_app words ≡ []) × IsConflict (first_of (codes "execute") (matches_of teco_app words)) (first_of (codes "file") (matches_of teco_app words)) error))
+IsRefusal words error = (kind_of error ≡ kind.OutOfMemory)
+    ⊎ (((takes teco_app words ≡ false) × IsAmong (kind_of error) (fault_of teco_app words))
+    ⊎ ((fault_of teco_app words ≡ [])
+    × IsConflict (first_of (codes "execute") (matches_of teco_app words))
+    (first_of (codes "file") (matches_of teco_app words)) error))
 
 -- Why the words gave no line: memory was refused, or the line is.
 abbrev pub IsLineFault : List Text → LineFault → Type 0
 IsLineFault words NoMemory = ⊤
 IsLineFault words (Refused error) = IsRefusal words error
 
--- The same once the command is made: memory is refused to the program itself only where the parser takes the words, so a faulty line is never told as that.
+-- The same once the command is made: memory is refused to the program itself only where the parser takes the
+-- words, so a faulty line is never told as that.
 abbrev pub IsFaultOnceMade : List Text → LineFault → Type 0
 IsFaultOnceMade words NoMemory = fault_of teco_app words ≡ []
 IsFaultOnceMade words (Refused error) = IsRefusal words error

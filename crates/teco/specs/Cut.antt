@@ -12,10 +12,12 @@ value_of (asked.Undo n) = Undo n
 value_of (asked.Redo n) = Redo n
 value_of (asked.Rewind n) = Rewind n
 
--- From the held bytes the text up to the leftmost pair is cut, and the pair is gone; or none, and then no pair is held.
+-- From the held bytes the text up to the leftmost pair is cut, and the pair is gone; or none, and then no
+-- pair is held.
 abbrev pub Cuts : List ℕ → Option Asked → List ℕ → Type 0
 Cuts old None new = (texts_of old ≡ []) × (new ≡ old)
-Cuts old (Some asked) new = (text : List ℕ) × IsText text × (old ≡ text ++ ESC ∷ new) × (value_of asked ≡ asks_of text)
+Cuts old (Some asked) new = (text : List ℕ) × IsText text × (old ≡ text ++ ESC ∷ new)
+    × (value_of asked ≡ asks_of text)
 
 abbrev pub asked_first : Option Asked → List Asks
 asked_first None = []

@@ -55,11 +55,14 @@ pub record IsWhole (file draft bytes : List ℕ) (before now : Files) : Type 0 w
 
 -- Where the files were told before, they are told after, and have changed so.
 abbrev pub Changes : Option Files → Option Files → (Files → Files → Type 0) → Type 0
-Changes old new change = (before : Files) → old ≡ Some before → (after : Files) × (new ≡ Some after) × change before after
+Changes old new change = (before : Files) → old ≡ Some before
+    → (after : Files) × (new ≡ Some after) × change before after
 
--- A crash might have left what it might have left before the call; or, at a moment of the call, what that moment is said to be.
+-- A crash might have left what it might have left before the call; or, at a moment of the call, what that
+-- moment is said to be.
 abbrev pub Passes : Option Files → (Files → Type 0) → (Files → Type 0) → (Files → Files → Type 0) → Type 0
-Passes old left_old left_new moment = (before : Files) → old ≡ Some before → (files : Files) → left_new files → left_old files ⊎ moment before files
+Passes old left_old left_new moment = (before : Files) → old ≡ Some before
+    → (files : Files) → left_new files → left_old files ⊎ moment before files
 
 -- A count of failures rises by one if and only if the call failed.
 abbrev pub Counts : {A E : Type 0} → Result A E → ℕ → ℕ → Type 0
@@ -68,7 +71,8 @@ Counts (Err fault) old new = new ≡ count_after true old
 
 -- What is still to come of a file that was opened is all that the file has, where the files are told.
 abbrev pub Opens : Option Files → List ℕ → Option (List ℕ) → Type 0
-Opens files name coming = (before : Files) → files ≡ Some before → (bytes : List ℕ) × (before name ≡ Some bytes) × (coming ≡ Some bytes)
+Opens files name coming = (before : Files) → files ≡ Some before
+    → (bytes : List ℕ) × (before name ≡ Some bytes) × (coming ≡ Some bytes)
 
 -- The place is the file of this name.
 abbrev pub IsPlaceOf : List ℕ → Place → Type 0

@@ -6,12 +6,14 @@ use Rattle.teco.specs.declared.input.InputFault.TheVariants as input
 use Rattle.teco.specs.declared.line.Commands.TheVariants.{StandardInput, Word, File}
 use Rattle.teco.specs.declared.line.Line.{Line}
 use Rattle.teco.specs.declared.ending.Fate.{Fate}
-use Rattle.teco.specs.declared.ending.Fate.TheVariants.{NoCommands, NoInput, LargeInput, NoMemory, NoOutput, Ended}
+use Rattle.teco.specs.declared.ending.Fate.TheVariants.{NoCommands, NoInput, LargeInput, NoMemory, NoOutput}
+use Rattle.teco.specs.declared.ending.Fate.TheVariants.{Ended}
 use Rattle.teco.specs.declared.served.Served.TheVariants as served
 
 -- the name of the output file: the one given, or the input's followed by .out
 abbrev pub output_of : Line → List ℕ
-output_of line = elim line.output [ Some name ↦ string_bytes name | None ↦ string_bytes line.input ++ codes ".out" ]
+output_of line =
+    elim line.output [ Some name ↦ string_bytes name | None ↦ string_bytes line.input ++ codes ".out" ]
 
 -- how the program ends where the input is not read
 abbrev pub fate_without_input : InputFault → Fate
@@ -21,7 +23,8 @@ fate_without_input input.Memory = NoMemory
 
 -- the name of the file that the commands come from; nothing where they come from elsewhere
 abbrev pub commands_name : Line → List ℕ
-commands_name line = elim line.commands [ File name ↦ string_bytes name | Word text ↦ [] | StandardInput ↦ [] ]
+commands_name line =
+    elim line.commands [ File name ↦ string_bytes name | Word text ↦ [] | StandardInput ↦ [] ]
 
 abbrev pub status_of : Fate → ℕ
 status_of NoCommands = 1

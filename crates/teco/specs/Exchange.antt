@@ -1,5 +1,6 @@
 -- One exchange: what is done for one text of the stream, and what is shown of it.
-use Rattle.std.specs.Prelude.{◌≡◌, ◌≢◌, ℕ, zero, suc, List, [], ◌∷◌, ◌++◌, Bool, true, false, ◌&&◌, not, if◌then◌else◌}
+use Rattle.std.specs.Prelude.{◌≡◌, ◌≢◌, ℕ, zero, suc, List, [], ◌∷◌, ◌++◌, Bool, true, false, ◌&&◌, not}
+use Rattle.std.specs.Prelude.{if◌then◌else◌}
 use Rattle.std.specs.Bool.{MatchBool}
 use Rattle.teco_step.specs.Terminal.{IsFrontOf}
 use Rattle.teco_session.specs.Answers.{is_refused}
@@ -23,11 +24,13 @@ abbrev pub Repeats : ℕ → Request → ℕ → History → List Reply → Hist
 Repeats limit request zero old replies new = (replies ≡ []) × (new ≡ old)
 Repeats limit request (suc n) old [] new = ⊥
 Repeats limit request (suc n) old (reply ∷ replies) new = (mid : History) × Step limit old request reply mid
-    × MatchBool (is_refused reply.answer) ((replies ≡ []) × (new ≡ mid)) (Repeats limit request n mid replies new)
+    × MatchBool (is_refused reply.answer) ((replies ≡ []) × (new ≡ mid))
+    (Repeats limit request n mid replies new)
 
 -- From the old history, what is asked may have these replies and leave the new history.
 abbrev pub Does : ℕ → Asks → History → List Reply → History → Type 0
-Does limit (Run text) old replies new = (reply : Reply) × (replies ≡ reply ∷ []) × RunStep limit old text reply.answer reply.typed new
+Does limit (Run text) old replies new = (reply : Reply) × (replies ≡ reply ∷ [])
+    × RunStep limit old text reply.answer reply.typed new
 Does limit (Undo n) old replies new = Repeats limit request.Undo n old replies new
 Does limit (Redo n) old replies new = Repeats limit request.Redo n old replies new
 Does limit (Rewind n) old replies new = Repeats limit (request.Rewind n) 1 old replies new
@@ -54,9 +57,11 @@ exits exchange = is_exit exchange.asked exchange.before exchange.after
 
 -- what is shown of an exchange: its replies, and a star unless it ends the serving
 abbrev pub exchange_shown : Bool → Exchange → List ℕ
-exchange_shown prompt exchange = replies_shown exchange.replies ++ (if exits exchange then [] else star prompt)
+exchange_shown prompt exchange =
+    replies_shown exchange.replies ++ (if exits exchange then [] else star prompt)
 
--- A put failed while the last bytes were shown, of which there are some: all bytes before them are shown, a beginning of them, and no more.
+-- A put failed while the last bytes were shown, of which there are some: all bytes before them are shown, a
+-- beginning of them, and no more.
 -- `showed` says which bytes the terminal showed, and whether it failed.
 pub record BreaksOff (showed : List ℕ → Bool → Type 0) (before last : List ℕ) : Type 0 where
   pub some : last ≢ []

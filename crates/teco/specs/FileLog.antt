@@ -3,16 +3,19 @@ use Rattle.std.specs.Prelude.{◌≡◌, ◌⊎◌, List, [], ◌∷◌, ℕ, Op
 use Rattle.std.specs.Str.{bytes_eq}
 use Rattle.teco.specs.Disk.{Files}
 
--- What a call made of the files: under the one name there is none any more, and then under the other there are these bytes, or none.
+-- What a call made of the files: under the one name there is none any more, and then under the other there
+-- are these bytes, or none.
 pub record FileNote : Type 0 where
   pub gone : List ℕ
   pub name : List ℕ
   pub bytes : Option (List ℕ)
 
--- What is under a name is told by the first note that speaks of it. The note of the last call is the first of the log.
+-- What is under a name is told by the first note that speaks of it. The note of the last call is the first of
+-- the log.
 unfoldable pub files_of : List FileNote → Files
 files_of [] name = None
-files_of (note ∷ notes) name = if bytes_eq name note.name then note.bytes else (if bytes_eq name note.gone then None else files_of notes name)
+files_of (note ∷ notes) name = if bytes_eq name note.name then note.bytes
+    else (if bytes_eq name note.gone then None else files_of notes name)
 
 -- The files were so after one of the calls, or before the first.
 abbrev pub WereOnce : List FileNote → Files → Type 0

@@ -26,8 +26,10 @@ ExchangeEnds showed prompt exchange ended = elim ended [
 -- what the exchanges showed, and if they ended the serving
 abbrev pub HeldEnds : (List ℕ → Bool → Type 0) → Bool → List Exchange → Option Served → Type 0
 HeldEnds showed prompt exchanges ended = elim ended [
-  | Some Exit ↦ (before : List Exchange) × (last : Exchange) × EndsBy exchanges before last × (exits last ≡ true) × showed (exchanges_shown prompt exchanges) false
-  | Some ShowFault ↦ (before : List Exchange) × (last : Exchange) × EndsBy exchanges before last × (exits last ≡ false)
+  | Some Exit ↦ (before : List Exchange) × (last : Exchange) × EndsBy exchanges before last
+      × (exits last ≡ true) × showed (exchanges_shown prompt exchanges) false
+  | Some ShowFault ↦ (before : List Exchange) × (last : Exchange) × EndsBy exchanges before last
+      × (exits last ≡ false)
       × BreaksOff showed (exchanges_shown prompt before) (exchange_shown prompt last)
   | Some EndOfCommands ↦ ⊥
   | Some ReadFault ↦ ⊥

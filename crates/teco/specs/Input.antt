@@ -3,7 +3,8 @@ use Rattle.std.specs.Prelude.{ℕ, ◌≤◌, ◌<◌, List, length, Bool, true,
 use Rattle.teco.specs.declared.input.InputFault.{InputFault}
 use Rattle.teco.specs.declared.input.InputFault.TheVariants.{Read, TooLarge, Memory}
 
--- The fault is that of a reading of at most so many bytes. `gave` says which bytes the source gave, and whether a read failed.
+-- The fault is that of a reading of at most so many bytes. `gave` says which bytes the source gave, and
+-- whether a read failed.
 abbrev pub IsFaultOf : ℕ → (List ℕ → Bool → Type 0) → InputFault → Type 0
 -- after at most so many bytes a read failed
 IsFaultOf max gave Read = (bytes : List ℕ) × (length bytes ≤ max) × gave bytes true

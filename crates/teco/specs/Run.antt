@@ -1,5 +1,6 @@
 -- A run of the program over its line: what it reads, serves and writes, and how it ends.
-use Rattle.std.specs.Prelude.{◌≡◌, ◌≢◌, ◌≤◌, ◌⊎◌, ℕ, List, length, map, codes, Option, Some, Bool, true, false, Result, Ok, Err}
+use Rattle.std.specs.Prelude.{◌≡◌, ◌≢◌, ◌≤◌, ◌⊎◌, ℕ, List, length, map, codes, Option, Some, true, false}
+use Rattle.std.specs.Prelude.{Result, Ok, Err}
 use Rattle.std.specs.Process.{exit_status}
 use Rattle.std.specs.String.{string_bytes}
 use Rattle.std.specs.declared.process.ExitCode.{ExitCode}
@@ -25,7 +26,8 @@ use Rattle.teco.specs.Seen.{CommandsSeen, DiskSeen, SourceView, TerminalSeen, co
 use Rattle.teco.specs.Source.{Gives}
 use Rattle.teco.specs.Writing.{AddsDrafts, IsWriteError, IsWriting, Writes}
 use Rattle.teco.specs.declared.ending.Fate.{Fate}
-use Rattle.teco.specs.declared.ending.Fate.TheVariants.{NoCommands, NoInput, LargeInput, NoMemory, NoOutput, Ended}
+use Rattle.teco.specs.declared.ending.Fate.TheVariants.{NoCommands, NoInput, LargeInput, NoMemory, NoOutput}
+use Rattle.teco.specs.declared.ending.Fate.TheVariants.{Ended}
 use Rattle.teco.specs.declared.input.InputFault.{InputFault}
 use Rattle.teco.specs.declared.line.Commands.{Commands}
 use Rattle.teco.specs.declared.line.Commands.TheVariants.{StandardInput, Word, File}
@@ -38,13 +40,15 @@ pub record IsFateOf (error : Error) (other fate : Fate) : Type 0 where
   pub memory : error_kind error ≡ OutOfMemory → fate ≡ NoMemory
   pub other_is : error_kind error ≢ OutOfMemory → fate ≡ other
 
--- The bytes are the input of this name: all that the file has, where the files are told, and no more than a file may have.
+-- The bytes are the input of this name: all that the file has, where the files are told, and no more than a
+-- file may have.
 pub record IsInput (files : Option Files) (name bytes : List ℕ) : Type 0 where
   pub small : length bytes ≤ FILE_LIMIT
   pub whole : (before : Files) → files ≡ Some before → before name ≡ Some bytes
 
 -- What the disk opened under the name was read, and that ended by a fault.
-pub record FailsToRead {I : Type 0} (input : SourceView I) (files : Option Files) (name : List ℕ) (fate : Fate) : Type 0 where
+pub record FailsToRead {I : Type 0} (input : SourceView I) (files : Option Files) (name : List ℕ)
+    (fate : Fate) : Type 0 where
   pub first : I
   pub last : I
   pub fault : InputFault
@@ -72,7 +76,8 @@ pub record WritesOutput {I : Type 0} (old new : DiskSeen I) (name bytes : List �
   pub files : Changes old.files new.files (Writes name bytes)
   pub moments : Passes old.files old.left new.left (IsWriting name bytes)
 
--- The output file is as it was; and at each moment it was so, or had these bytes. The fate is that of the error.
+-- The output file is as it was; and at each moment it was so, or had these bytes. The fate is that of the
+-- error.
 pub record FailsToWrite {I : Type 0} (old new : DiskSeen I) (name bytes : List ℕ) (fate : Fate) : Type 0 where
   pub files : Changes old.files new.files (AddsDrafts name)
   pub moments : Passes old.files old.left new.left (IsWriting name bytes)
@@ -80,15 +85,19 @@ pub record FailsToWrite {I : Type 0} (old new : DiskSeen I) (name bytes : List �
   pub given : IsWriteError new.gave error
   pub fate_is : IsFateOf error NoOutput fate
 
--- The commands were served over an input, from its first state, by the line's limit, prompt and depth. This ended so, with this output.
-pub record ServesInput (line : Line) (is_input : List ℕ → Type 0) (commands : CommandsSeen) (term : TerminalSeen) (served : Served) (output : List ℕ) : Type 0 where
+-- The commands were served over an input, from its first state, by the line's limit, prompt and depth. This
+-- ended so, with this output.
+pub record ServesInput (line : Line) (is_input : List ℕ → Type 0) (commands : CommandsSeen)
+    (term : TerminalSeen) (served : Served) (output : List ℕ) : Type 0 where
   pub input : List ℕ
   pub input_is : is_input input
   pub history : History
-  pub serves : Serves line.limit line.prompt commands.gave commands.ended term.showed (new_history line.undo input) history served
+  pub serves : Serves line.limit line.prompt commands.gave commands.ended term.showed
+      (new_history line.undo input) history served
   pub output_is : output ≡ (present history).output
 
--- How a run ends after its serving: after an exit the output is written, or that fails; and otherwise no file has changed.
+-- How a run ends after its serving: after an exit the output is written, or that fails; and otherwise no file
+-- has changed.
 abbrev pub FinishesBy : Type 0 → Type 0 → (Fate → Type 0) → Served → Fate → Type 0
 FinishesBy keeps writes fails served.Exit fate = elim fate [
   | Ended served.Exit ↦ writes
@@ -101,8 +110,10 @@ FinishesBy keeps writes fails served.ReadFault fate = (fate ≡ Ended served.Rea
 FinishesBy keeps writes fails served.ShowFault fate = (fate ≡ Ended served.ShowFault) × keeps
 FinishesBy keeps writes fails served.NoMemory fate = (fate ≡ Ended served.NoMemory) × keeps
 
-pub record Finishes {I : Type 0} (old new : DiskSeen I) (name output : List ℕ) (served : Served) (fate : Fate) : Type 0 where
-  pub ends : FinishesBy (KeepsDisk old new) (WritesOutput old new name output) (FailsToWrite old new name output) served fate
+pub record Finishes {I : Type 0} (old new : DiskSeen I) (name output : List ℕ) (served : Served)
+    (fate : Fate) : Type 0 where
+  pub ends : FinishesBy (KeepsDisk old new) (WritesOutput old new name output)
+      (FailsToWrite old new name output) served fate
 
 -- What a run may have done. How it ends says which of these it did.
 pub record Doings : Type 1 where
@@ -126,12 +137,14 @@ EndsBy run NoCommands = ⊥
 EndsBy run NoInput = run.lacks NoInput × run.idle × run.keeps
 EndsBy run LargeInput = run.lacks LargeInput × run.idle × run.keeps
 -- memory was refused before the serving, or to the writing
-EndsBy run NoMemory = (run.idle × run.keeps) ⊎ ((output : List ℕ) × run.serves served.Exit output × run.fails output NoMemory)
+EndsBy run NoMemory = (run.idle × run.keeps)
+    ⊎ ((output : List ℕ) × run.serves served.Exit output × run.fails output NoMemory)
 EndsBy run NoOutput = (output : List ℕ) × run.serves served.Exit output × run.fails output NoOutput
 -- after an exit the output is written
 EndsBy run (Ended served.Exit) = (output : List ℕ) × run.serves served.Exit output × run.writes output
 -- and otherwise no file has changed
-EndsBy run (Ended served.EndOfCommands) = (output : List ℕ) × run.serves served.EndOfCommands output × run.keeps
+EndsBy run (Ended served.EndOfCommands) = (output : List ℕ) × run.serves served.EndOfCommands output
+    × run.keeps
 EndsBy run (Ended served.ReadFault) = (output : List ℕ) × run.serves served.ReadFault output × run.keeps
 EndsBy run (Ended served.ShowFault) = (output : List ℕ) × run.serves served.ShowFault output × run.keeps
 EndsBy run (Ended served.NoMemory) = (output : List ℕ) × run.serves served.NoMemory output × run.keeps
@@ -148,11 +161,13 @@ doings line old new commands term = record {
 }
 
 -- A run of the program over its line ends so.
-pub record Edits {I : Type 0} (line : Line) (old new : DiskSeen I) (commands : CommandsSeen) (term : TerminalSeen) (fate : Fate) : Type 0 where
+pub record Edits {I : Type 0} (line : Line) (old new : DiskSeen I) (commands : CommandsSeen)
+    (term : TerminalSeen) (fate : Fate) : Type 0 where
   pub ends : EndsBy (doings line old new commands term) fate
 
 -- A run was given the commands of a source: `edits` says what it did, by what was seen of them.
-pub record RunsOn {S : Type 0} (source : SourceView S) (begins : Option (List ℕ) → Type 0) (edits : CommandsSeen → Type 0) : Type 0 where
+pub record RunsOn {S : Type 0} (source : SourceView S) (begins : Option (List ℕ) → Type 0)
+    (edits : CommandsSeen → Type 0) : Type 0 where
   pub first : S
   pub last : S
   pub begins_so : begins (source.coming first)
@@ -164,14 +179,16 @@ pub record LacksCommands (gave : Error → Type 0) (fate : Fate) : Type 0 where
   pub given : gave error
   pub fate_is : IsFateOf error NoCommands fate
 
--- By commands of the line's own: nothing is done where memory is refused for the word or the file is not opened; else the run is over the bytes of the word, or over the file's.
+-- By commands of the line's own: nothing is done where memory is refused for the word or the file is not
+-- opened; else the run is over the bytes of the word, or over the file's.
 abbrev pub EditsByWord : Type 0 → (List ℕ → Type 0) → Fate → List ℕ → Type 0
 EditsByWord idle word fate text = ((fate ≡ NoMemory) × idle) ⊎ word (map typed text)
 
 abbrev pub EditsByFile : (Error → Type 0) → Type 0 → (List ℕ → Type 0) → Fate → List ℕ → Type 0
 EditsByFile gave idle file fate name = (LacksCommands gave fate × idle) ⊎ file name
 
--- The commands come from where the line says. Those on standard input stay as they are where they come from elsewhere.
+-- The commands come from where the line says. Those on standard input stay as they are where they come from
+-- elsewhere.
 abbrev pub EditsByCommands : Type 0 → Type 0 → (List ℕ → Type 0) → (List ℕ → Type 0) → Commands → Type 0
 EditsByCommands still standard word file StandardInput = standard
 EditsByCommands still standard word file (Word text) = still × word (string_bytes text)
@@ -182,12 +199,15 @@ pub record EditsByLine (line : Line) (still standard : Type 0) (word file : List
 
 -- All of the text is shown, or a beginning of it and then the terminal fails.
 abbrev pub Tells : Screen → Screen → List ℕ → Type 0
-Tells old new text = Shows old new text false ⊎ ((front : List ℕ) × IsFrontOf front text × Shows old new front true)
+Tells old new text = Shows old new text false
+    ⊎ ((front : List ℕ) × IsFrontOf front text × Shows old new front true)
 
--- The status is that of the fate, and its line is told on standard error; or that there is no memory for the line, where there is one.
+-- The status is that of the fate, and its line is told on standard error; or that there is no memory for the
+-- line, where there is one.
 pub record Concludes (line : Line) (fate : Fate) (old new : Screen) (exit : ExitCode) : Type 0 where
   pub status : exit_status exit ≡ status_of fate
-  pub told : Tells old new (text_of line fate) ⊎ ((status_of fate ≡ 1) × Tells old new (said (codes "no memory")))
+  pub told : Tells old new (text_of line fate)
+      ⊎ ((status_of fate ≡ 1) × Tells old new (said (codes "no memory")))
 
 -- The words, where they were given, say this line.
 abbrev pub IsLineIn : Result (Vec (String Global) Global) LineFault → Line → Type 0
@@ -207,14 +227,16 @@ IsRefusedBy (line_fault.Refused error) exit = (kind_of error ≡ kind.DisplayHel
     × (kind_of error ≢ kind.DisplayHelp → kind_of error ≢ kind.DisplayVersion → exit_status exit ≡ 3)
 
 -- The words say no line, and nothing is done but that that is told.
-pub record Refuses (words : Result (Vec (String Global) Global) LineFault) (still : Type 0) (exit : ExitCode) : Type 0 where
+pub record Refuses (words : Result (Vec (String Global) Global) LineFault) (still : Type 0)
+    (exit : ExitCode) : Type 0 where
   pub fault : LineFault
   pub fault_is : IsFaultIn words fault
   pub status : IsRefusedBy fault exit
   pub kept : still
 
 -- The words say a line, and it is run over, and that is told.
-pub record RunsOver (words : Result (Vec (String Global) Global) LineFault) (edits : Line → Fate → Type 0) (concludes : Line → Fate → Type 0) : Type 0 where
+pub record RunsOver (words : Result (Vec (String Global) Global) LineFault) (edits : Line → Fate → Type 0)
+    (concludes : Line → Fate → Type 0) : Type 0 where
   pub line : Line
   pub line_is : IsLineIn words line
   pub fate : Fate

@@ -17,7 +17,8 @@ pub record SourceView (S : Type 0) : Type 0 where
   pub ended : S → Bool
 
 abbrev pub source_view : {S : Type 0} → (S → Option (List ℕ)) → (S → ℕ) → (S → ℕ) → (S → Bool) → SourceView S
-source_view coming bound failures ended = record { coming = coming; bound = bound; failures = failures; ended = ended }
+source_view coming bound failures ended =
+    record { coming = coming; bound = bound; failures = failures; ended = ended }
 
 -- what is seen of a disk at a moment; `I` is what its files are read from
 pub record DiskSeen (I : Type 0) : Type 1 where
@@ -30,8 +31,10 @@ pub record DiskSeen (I : Type 0) : Type 1 where
   -- how a file that it has opened is seen
   pub input : SourceView I
 
-abbrev pub disk_seen : {D I : Type 0} → (D → Option Files) → (D → Files → Type 0) → (D → Error → Type 0) → SourceView I → D → DiskSeen I
-disk_seen files left gave input disk = record { files = files disk; left = left disk; gave = gave disk; input = input }
+abbrev pub disk_seen : {D I : Type 0} → (D → Option Files) → (D → Files → Type 0) → (D → Error → Type 0)
+    → SourceView I → D → DiskSeen I
+disk_seen files left gave input disk =
+    record { files = files disk; left = left disk; gave = gave disk; input = input }
 
 -- what is seen of the commands of a run
 pub record CommandsSeen : Type 1 where

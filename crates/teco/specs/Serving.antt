@@ -11,7 +11,8 @@ use Rattle.teco.specs.declared.served.Served.TheVariants.{Exit, EndOfCommands, R
 -- The exchanges lead, one after another, from the old history to the new one, and each did what it was asked.
 abbrev pub Exchanges : ℕ → History → List Exchange → History → Type 0
 Exchanges limit old [] new = new ≡ old
-Exchanges limit old (x ∷ xs) new = (x.before ≡ old) × Does limit x.asked x.before x.replies x.after × Exchanges limit x.after xs new
+Exchanges limit old (x ∷ xs) new = (x.before ≡ old) × Does limit x.asked x.before x.replies x.after
+    × Exchanges limit x.after xs new
 
 -- none of the exchanges ends the serving
 abbrev pub GoOn : List Exchange → Type 0
@@ -52,22 +53,27 @@ is_read_out Exit = false
 is_read_out ShowFault = false
 is_read_out NoMemory = false
 
--- It ended by an exit where the last exchange is one, and no other way: no exchange before is one, and without an exit none is.
+-- It ended by an exit where the last exchange is one, and no other way: no exchange before is one, and
+-- without an exit none is.
 abbrev pub Exits : Served → List Exchange → Type 0
-Exits Exit exchanges = (before : List Exchange) × (last : Exchange) × EndsBy exchanges before last × (exits last ≡ true)
+Exits Exit exchanges = (before : List Exchange) × (last : Exchange) × EndsBy exchanges before last
+    × (exits last ≡ true)
 Exits EndOfCommands exchanges = GoOn exchanges
 Exits ReadFault exchanges = GoOn exchanges
 Exits ShowFault exchanges = GoOn exchanges
 Exits NoMemory exchanges = GoOn exchanges
 
--- These bytes are the last to be shown, and those all before them: where nothing was done yet, the first star; else what the last exchange shows.
+-- These bytes are the last to be shown, and those all before them: where nothing was done yet, the first
+-- star; else what the last exchange shows.
 abbrev pub AreLast : Bool → List Exchange → List ℕ → List ℕ → Type 0
 AreLast prompt exchanges before last =
     ((exchanges ≡ []) × (before ≡ []) × (last ≡ star prompt))
-    ⊎ ((xs : List Exchange) × (x : Exchange) × (exchanges ≡ xs ++ x ∷ []) × (before ≡ all_shown prompt xs) × (last ≡ exchange_shown prompt x))
+    ⊎ ((xs : List Exchange) × (x : Exchange) × (exchanges ≡ xs ++ x ∷ []) × (before ≡ all_shown prompt xs)
+    × (last ≡ exchange_shown prompt x))
 
 -- The last to be shown was not: nothing is done after the put that failed.
-pub record FailsToShow (showed : List ℕ → Bool → Type 0) (prompt : Bool) (exchanges : List Exchange) : Type 0 where
+pub record FailsToShow (showed : List ℕ → Bool → Type 0) (prompt : Bool)
+    (exchanges : List Exchange) : Type 0 where
   pub before : List ℕ
   pub last : List ℕ
   pub parts : AreLast prompt exchanges before last
@@ -82,8 +88,10 @@ Shown showed prompt exchanges ReadFault = showed (all_shown prompt exchanges) fa
 Shown showed prompt exchanges NoMemory = showed (all_shown prompt exchanges) false
 
 -- What serving a stream does, under a limit for each string, with a prompt or without.
--- `gave` says which bytes the source gave, and whether a read failed; `at_end` that it has ended; `showed` which bytes the terminal showed, and whether it failed.
-pub record Serves (limit : ℕ) (prompt : Bool) (gave : List ℕ → Bool → Type 0) (at_end : Type 0) (showed : List ℕ → Bool → Type 0) (old new : History) (served : Served) : Type 0 where
+-- `gave` says which bytes the source gave, and whether a read failed; `at_end` that it has ended; `showed`
+-- which bytes the terminal showed, and whether it failed.
+pub record Serves (limit : ℕ) (prompt : Bool) (gave : List ℕ → Bool → Type 0) (at_end : Type 0)
+    (showed : List ℕ → Bool → Type 0) (old new : History) (served : Served) : Type 0 where
   -- what was read; a read failed only where the serving ended by that
   pub bytes : List ℕ
   pub read : gave bytes (is_read_fault served)

@@ -3,8 +3,10 @@ use Rattle.std.specs.Prelude.{◌≡◌, ℕ, ◌+◌, List, length, Option, Boo
 use Rattle.std.specs.Io.KnownBytes.{Consumes, IsAtEnd}
 use Rattle.teco_step.specs.Terminal.{count_after}
 
--- These bytes were given, off the front of what was still to come, where the source tells it, and off the bound; and the count rose if and only if the read failed.
-pub record Gives {S : Type 0} (coming : S → Option (List ℕ)) (bound : S → ℕ) (failures : S → ℕ) (old new : S) (bytes : List ℕ) (failed : Bool) : Type 0 where
+-- These bytes were given, off the front of what was still to come, where the source tells it, and off the
+-- bound; and the count rose if and only if the read failed.
+pub record Gives {S : Type 0} (coming : S → Option (List ℕ)) (bound : S → ℕ) (failures : S → ℕ) (old new : S)
+    (bytes : List ℕ) (failed : Bool) : Type 0 where
   pub given : Consumes (coming old) (coming new) bytes
   pub less : bound new + length bytes ≡ bound old
   pub count : failures new ≡ count_after failed (failures old)

@@ -22,11 +22,13 @@ pub record Writes (file bytes : List ℕ) (before after : Files) : Type 0 where
   pub files : (other : List ℕ) → other ≢ file → before other ≢ None → after other ≡ before other
   pub others : (other : List ℕ) → other ≢ file → (IsDraftOf file other → ⊥) → after other ≡ before other
 
--- At a moment of the writing the file is as it was, or has all of these bytes. Under the names of drafts there may be anything.
+-- At a moment of the writing the file is as it was, or has all of these bytes. Under the names of drafts
+-- there may be anything.
 pub record IsWriting (file bytes : List ℕ) (before now : Files) : Type 0 where
   pub file_is : (now file ≡ before file) ⊎ (now file ≡ Some bytes)
   pub others : (other : List ℕ) → other ≢ file → (IsDraftOf file other → ⊥) → now other ≡ before other
 
--- The disk gave the error; or memory was refused for the name of a draft; or each name that was tried is another's.
+-- The disk gave the error; or memory was refused for the name of a draft; or each name that was tried is
+-- another's.
 abbrev pub IsWriteError : (Error → Type 0) → Error → Type 0
 IsWriteError gave error = gave error ⊎ ((error_kind error ≡ OutOfMemory) ⊎ (error_kind error ≡ AlreadyExists))

@@ -96,7 +96,8 @@ fn text(alloc: Global, line: &Line, fate: Fate) -> Result<String, NoMemory>
 
 /// The status of the program, and what it prints on standard error, which may be nothing.
 pub fn ending(alloc: Global, line: &Line, fate: Fate) -> Result<(u8, String), NoMemory>
-    ensures ok { IfOk result (λ ending. (ending.0 ≡ status_of fate) × (string_bytes ending.1 ≡ text_of line.now fate)) }
+    ensures ok { IfOk result
+        (λ ending. (ending.0 ≡ status_of fate) × (string_bytes ending.1 ≡ text_of line.now fate)) }
     ensures err { OnErr result (status_of fate ≡ 1) }
 {
     Ok((status(fate), text(alloc, line, fate)?))

@@ -53,7 +53,8 @@ fn repeat<T: Terminal>(
     term: &mut T,
 ) -> Result<(), TerminalFault>
     requires { MovesInHistory request.now }
-    ensures { (replies : List Reply) × Repeats limit request.now n (history_of session.old) replies (history_of session.new)
+    ensures { (replies : List Reply)
+        × Repeats limit request.now n (history_of session.old) replies (history_of session.new)
         × Puts (T.screen term.old) (T.screen term.new) (replies_shown replies) result
         × OnErr result (replies_shown replies ≢ []) }
 {
@@ -73,10 +74,12 @@ fn run_text<T: Terminal>(
     limit: u64,
     term: &mut T,
 ) -> Result<(), TerminalFault>
-    ensures done { (replies : List Reply) × Does limit (Run text.now) (history_of session.old) replies (history_of session.new)
+    ensures done { (replies : List Reply)
+        × Does limit (Run text.now) (history_of session.old) replies (history_of session.new)
         × Puts (T.screen term.old) (T.screen term.new) (replies_shown replies) result
         × OnErr result (replies_shown replies ≢ []) }
-    ensures err { OnErr result (is_exit (Run text.now) (history_of session.old) (history_of session.new) ≡ false) }
+    ensures err { OnErr result
+        (is_exit (Run text.now) (history_of session.old) (history_of session.new) ≡ false) }
 {
     let answer = session.run(text, limit, term);
     if answer.is_terminal_failure() {
@@ -93,10 +96,12 @@ fn do_asked<T: Terminal>(
     limit: u64,
     term: &mut T,
 ) -> Result<(), TerminalFault>
-    ensures done { (replies : List Reply) × Does limit (value_of asked.now) (history_of session.old) replies (history_of session.new)
+    ensures done { (replies : List Reply)
+        × Does limit (value_of asked.now) (history_of session.old) replies (history_of session.new)
         × Puts (T.screen term.old) (T.screen term.new) (replies_shown replies) result
         × OnErr result (replies_shown replies ≢ []) }
-    ensures err { OnErr result (is_exit (value_of asked.now) (history_of session.old) (history_of session.new) ≡ false) }
+    ensures err { OnErr result
+        (is_exit (value_of asked.now) (history_of session.old) (history_of session.new) ≡ false) }
 {
     match asked {
         Asked::Run(text) => run_text(text.as_slice(), session, limit, term),
@@ -122,7 +127,8 @@ pub fn do_exchange<T: Terminal>(
     prompt: bool,
     term: &mut T,
 ) -> Option<Served>
-    ensures { (exchange : Exchange) × IsExchange limit (value_of asked.now) (history_of session.old) (history_of session.new) exchange
+    ensures { (exchange : Exchange)
+        × IsExchange limit (value_of asked.now) (history_of session.old) (history_of session.new) exchange
         × ExchangeEnds (Shows (T.screen term.old) (T.screen term.new)) prompt exchange result }
 {
     let was_done = session.editor().done();

@@ -53,7 +53,8 @@ pub fn read_input<S: Source>(
     source: &mut S,
     max: usize,
 ) -> Result<Vec<u8>, InputFault>
-    ensures all { IfOk result (λ input. Gives S.coming S.bound S.failures source.old source.new input.items false) }
+    ensures all { IfOk result
+        (λ input. Gives S.coming S.bound S.failures source.old source.new input.items false) }
     ensures ended { IfOk result (λ _. HasEnded (S.coming source.new) (S.ended source.new)) }
     ensures most { IfOk result (λ input. vec_len input ≤ max) }
     ensures fault { IfErr result (IsFaultOf max (Gives S.coming S.bound S.failures source.old source.new)) }

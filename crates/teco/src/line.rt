@@ -268,7 +268,8 @@ pub fn fault_of_words(error: io::Error, not_text: Result<clap::Error, NoMemory>)
 pub fn refused_status(error: &clap::Error) -> u8
     ensures help { kind_of error.now ≡ ErrorKind.DisplayHelp → result ≡ 0 }
     ensures version { kind_of error.now ≡ ErrorKind.DisplayVersion → result ≡ 0 }
-    ensures fault { kind_of error.now ≢ ErrorKind.DisplayHelp → kind_of error.now ≢ ErrorKind.DisplayVersion → result ≡ 3 }
+    ensures fault { kind_of error.now ≢ ErrorKind.DisplayHelp → kind_of error.now ≢ ErrorKind.DisplayVersion
+        → result ≡ 3 }
 {
     if error.use_stderr() { 3 } else { 0 }
 }

@@ -60,7 +60,8 @@ impl MemorySource {
 /// The place of the first cut, from `next` on, that is past `at`; the number of cuts where there is none.
 fn cut_past(cuts: &[usize], next: usize, at: usize) -> usize
     ensures past { result < length cuts.now → at < slice_index cuts.now result }
-    ensures same { (bs : List ℕ) → pieces_at at bs (drop result cuts.now) ≡ pieces_at at bs (drop next cuts.now) }
+    ensures same { (bs : List ℕ)
+        → pieces_at at bs (drop result cuts.now) ≡ pieces_at at bs (drop next cuts.now) }
 {
     let mut place = next;
     while place < cuts.len() && cuts[place] <= at {
@@ -88,9 +89,12 @@ impl MemorySource {
         ensures fits { IfOk result (λ n. n ≤ length room.new) }
         ensures gives { IfOk result (λ n. take n room.new ≡ given_by (length room.old) self.old.pieces) }
         ensures leaves { self.new.pieces ≡ left_by (length room.old) self.old.pieces }
-        ensures ends { IfOk result (λ n. n ≡ 0 → 0 < length room.new → (self.new.ended ≡ true) × (self.new.pieces ≡ [])) }
-        ensures goes_on { IfOk result (λ n. (0 < n) ⊎ (length room.new ≡ 0) → self.new.ended ≡ self.old.ended) }
-        ensures fails { IsErr result ↔ ((0 < length room.old) × (self.old.pieces ≡ []) × (self.old.fails ≡ true)) }
+        ensures ends { IfOk result
+            (λ n. n ≡ 0 → 0 < length room.new → (self.new.ended ≡ true) × (self.new.pieces ≡ [])) }
+        ensures goes_on { IfOk result
+            (λ n. (0 < n) ⊎ (length room.new ≡ 0) → self.new.ended ≡ self.old.ended) }
+        ensures fails { IsErr result ↔
+            ((0 < length room.old) × (self.old.pieces ≡ []) × (self.old.fails ≡ true)) }
         ensures err { OnErr result (self.new.ended ≡ self.old.ended) }
         ensures count { self.new.failures ≡ count_after (is_err result) self.old.failures }
         ensures keeps { self.new.fails ≡ self.old.fails }

@@ -36,7 +36,8 @@ fn create<D: Disk>(disk: &mut D, name: &str, bytes: &[u8]) -> io::Result<()>
     ensures ok { OnOk result (Changes (D.files disk.old) (D.files disk.new) (Creates name.now bytes.now)) }
     ensures kept { OnOk result (D.kept disk.new name.now) }
     ensures err { OnErr result (Changes (D.files disk.old) (D.files disk.new) (LeavesFiles name.now)) }
-    ensures removed { OnErr result (Changes (D.files disk.old) (D.files disk.new) Same ⊎ D.unremoved disk.new name.now) }
+    ensures removed { OnErr result
+        (Changes (D.files disk.old) (D.files disk.new) Same ⊎ D.unremoved disk.new name.now) }
     ensures moments { Passes (D.files disk.old) (D.left disk.old) (D.left disk.new) (SameBut name.now) }
     ensures count { Counts result (D.failures disk.old) (D.failures disk.new) }
     ensures error { IfErr result (D.gave disk.new) }
@@ -57,8 +58,10 @@ pub fn replace<D: Disk>(disk: &mut D, file: &str, draft: &str, bytes: &[u8]) -> 
     requires { draft.now ≢ file.now }
     ensures ok { OnOk result (Changes (D.files disk.old) (D.files disk.new) (Replaces file.now bytes.now)) }
     ensures err { OnErr result (Changes (D.files disk.old) (D.files disk.new) (LeavesFiles draft.now)) }
-    ensures removed { OnErr result (Changes (D.files disk.old) (D.files disk.new) Same ⊎ D.unremoved disk.new draft.now) }
-    ensures moments { Passes (D.files disk.old) (D.left disk.old) (D.left disk.new) (IsWhole file.now draft.now bytes.now) }
+    ensures removed { OnErr result
+        (Changes (D.files disk.old) (D.files disk.new) Same ⊎ D.unremoved disk.new draft.now) }
+    ensures moments { Passes (D.files disk.old) (D.left disk.old) (D.left disk.new)
+        (IsWhole file.now draft.now bytes.now) }
     ensures count { Counts result (D.failures disk.old) (D.failures disk.new) }
     ensures error { IfErr result (D.gave disk.new) }
 {
@@ -95,7 +98,8 @@ fn replace_file<D: Disk>(
 ) -> io::Result<()>
     ensures ok { OnOk result (Changes (D.files disk.old) (D.files disk.new) (Writes file.now bytes.now)) }
     ensures err { OnErr result (Changes (D.files disk.old) (D.files disk.new) (AddsDrafts file.now)) }
-    ensures moments { Passes (D.files disk.old) (D.left disk.old) (D.left disk.new) (IsWriting file.now bytes.now) }
+    ensures moments { Passes (D.files disk.old) (D.left disk.old) (D.left disk.new)
+        (IsWriting file.now bytes.now) }
     ensures error { IfErr result (IsWriteError (D.gave disk.new)) }
 {
     'drafts: for draft_number in number..number.saturating_add(DRAFTS) {
@@ -119,7 +123,8 @@ pub fn write_output<D: Disk>(
 ) -> io::Result<()>
     ensures ok { OnOk result (Changes (D.files disk.old) (D.files disk.new) (Writes name.now output.now)) }
     ensures err { OnErr result (Changes (D.files disk.old) (D.files disk.new) (AddsDrafts name.now)) }
-    ensures moments { Passes (D.files disk.old) (D.left disk.old) (D.left disk.new) (IsWriting name.now output.now) }
+    ensures moments { Passes (D.files disk.old) (D.left disk.old) (D.left disk.new)
+        (IsWriting name.now output.now) }
     ensures error { IfErr result (IsWriteError (D.gave disk.new)) }
 {
     match disk.place_of(name)? {

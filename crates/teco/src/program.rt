@@ -1,7 +1,6 @@
 //! What the program does, on any disk, terminal and commands.
-ghost use Rattle.std.specs.Prelude.{◌≡◌, ◌≤◌, ◌⊎◌, ℕ, Bool, List, Some, codes, IfErr, IfOk, IfSome, OnErr, vec_len};
+ghost use Rattle.std.specs.Prelude.{◌≡◌, ◌≤◌, ◌⊎◌, Some, codes, IfErr, IfOk, IfSome, OnErr, vec_len};
 ghost use Rattle.std.specs.Process.{exit_status};
-ghost use Rattle.std.specs.String.{string_bytes};
 ghost use Rattle.teco.specs.CommandLine.{IsDepth};
 ghost use Rattle.teco.specs.Disk.{Opens};
 ghost use Rattle.teco.specs.Ending.{said};

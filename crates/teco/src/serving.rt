@@ -26,8 +26,11 @@ fn serve_held<T: Terminal>(
     prompt: bool,
     term: &mut T,
 ) -> Option<Served>
-    ensures { (exchanges : List Exchange) × Exchanges limit (history_of session.old) exchanges (history_of session.new) × CutsOff splitter.old exchanges splitter.new
-        × Emptied result splitter.new × HeldEnds (Shows (T.screen term.old) (T.screen term.new)) prompt exchanges result }
+    ensures { (exchanges : List Exchange)
+        × Exchanges limit (history_of session.old) exchanges (history_of session.new)
+        × CutsOff splitter.old exchanges splitter.new
+        × Emptied result splitter.new
+        × HeldEnds (Shows (T.screen term.old) (T.screen term.new)) prompt exchanges result }
 {
     'held: loop {
         match splitter.next() {

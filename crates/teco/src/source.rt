@@ -27,8 +27,12 @@ pub trait Source {
     /// A read that fails gives no byte, and the count of failures rises by one.
     fn read(&mut self, piece: &mut [u8]) -> Result<usize, SourceFault>
         ensures fits { IfOk result (λ n. n ≤ length piece.new) }
-        ensures ok { IfOk result (λ n. Gives coming bound failures self.old self.new (take n piece.new) false) }
-        ensures ends { IfOk result (λ n. n ≡ 0 → 0 < length piece.new → HasEnded (coming self.new) (ended self.new)) }
-        ensures goes_on { IfOk result (λ n. (0 < n) ⊎ (length piece.new ≡ 0) → ended self.new ≡ ended self.old) }
-        ensures err { OnErr result (Gives coming bound failures self.old self.new [] true × (ended self.new ≡ ended self.old)) };
+        ensures ok { IfOk result
+            (λ n. Gives coming bound failures self.old self.new (take n piece.new) false) }
+        ensures ends { IfOk result
+            (λ n. n ≡ 0 → 0 < length piece.new → HasEnded (coming self.new) (ended self.new)) }
+        ensures goes_on { IfOk result
+            (λ n. (0 < n) ⊎ (length piece.new ≡ 0) → ended self.new ≡ ended self.old) }
+        ensures err { OnErr result
+            (Gives coming bound failures self.old self.new [] true × (ended self.new ≡ ended self.old)) };
 }

@@ -92,7 +92,11 @@ impl Log {
     /// Notes what a call made of the files.
     fn note(&mut self, gone: &str, name: &str, bytes: Option<Vec<u8>>) -> Result<(), NoMemory>
         ensures ok { OnOk result (self.new
-            ≡ record { gone = gone.now; name = name.now; bytes = option_map (λ bytes. bytes.items) bytes } ∷ self.old) }
+            ≡ record {
+              gone = gone.now;
+              name = name.now;
+              bytes = option_map (λ bytes. bytes.items) bytes;
+            } ∷ self.old) }
         ensures err { OnErr result (self.new ≡ self.old) }
     {
         let note = Note {
