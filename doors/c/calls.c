@@ -5,6 +5,7 @@
 #include "teco.h"
 #include <stdio.h>
 #include <string.h>
+#include <sys/mman.h>
 
 static int failed;
 
@@ -40,7 +41,10 @@ static void opens(void)
 {
     struct teco t = {0};
     HOLDS(teco_open(&t, bytes(""), 0, TECO_DEPTH_LIMIT + 1) == TECO_DEEP && t.at == NULL);
-    HOLDS(teco_open(&t, bytes(""), (size_t)TECO_INPUT_LIMIT + 1, 0) == TECO_LARGE && t.at == NULL);
+    size_t too_many = (size_t)TECO_INPUT_LIMIT + 1;
+    void *large = mmap(NULL, too_many, PROT_READ, MAP_PRIVATE | MAP_ANONYMOUS | MAP_NORESERVE, -1, 0);
+    HOLDS(large != MAP_FAILED && teco_open(&t, large, too_many, 0) == TECO_LARGE && t.at == NULL);
+    munmap(large, too_many);
     HOLDS(teco_open(&t, bytes("old"), 3, 2) == 0 && t.at != NULL);
     HOLDS(run(&t, "Y", 0) == 0);
     HOLDS(teco_open(&t, bytes(""), 0, TECO_DEPTH_LIMIT + 1) == TECO_DEEP);

@@ -18,8 +18,8 @@
  *   a text      to so many bytes that may be read, and not null, also where the number is 0
  *   a room      to so many bytes that may be written, and not null, also where the number is 0; the bytes may be anything
  *   other ones  to one value that may be written; it may be anything
- *   No two of a call's pointers lead to the same memory, and while a call runs nobody else reads or writes what they lead to.
- *   Nothing checks this: it is what the proofs of the library begin from.
+ *   A text and a room have at most PTRDIFF_MAX bytes. No two of a call's pointers lead to the same memory, and while a call runs nobody
+ *   else reads or writes what they lead to. Nothing checks this: it is what the proofs of the library begin from.
  *
  * UNITS
  *   Texts are bytes; places, lengths and rooms count bytes from 0; strings are counted from 0, the oldest one that is kept first; steps
