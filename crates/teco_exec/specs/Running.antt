@@ -4,6 +4,8 @@ use Rattle.teco_core.specs.Arguments.{Arguments}
 use Rattle.teco_core.specs.ArgumentsView.{arguments}
 use Rattle.teco_core.specs.declared.code.Code.{Code}
 use Rattle.teco_core.specs.declared.code.Code.TheVariants.{Mem}
+use Rattle.teco_scan.specs.Scan as items
+use Rattle.teco_scan.specs.declared.command.RegisterCommand.TheVariants as register_command
 use Rattle.teco_scan.specs.declared.token.Token.{Token}
 use Rattle.teco_store.specs.State.{State}
 use Rattle.teco_store.specs.Trail.{Trail}
@@ -124,6 +126,11 @@ at_token c token work callers now = step token.modifiers (item_of_kind c.text.no
 abbrev pub at_block_step : Cursor → BlockStep → ℕ → List Caller → Continuation
 at_block_step c o to callers now = block (block_step_of o) (drop to c.text.now) (config c.text.now (cursor c) None callers now)
 
+-- It goes on with a step that calls the text of this register. Modifiers mean nothing to it.
+abbrev pub at_register_call : Cursor → ℕ → List Caller → Continuation
+at_register_call c q callers now =
+    step (record { at = false; colons = 0 }) (items.register register_command.Macro q) None (config c.text.now (cursor c) None callers now)
+
 -- It goes on with a call of this text.
 abbrev pub at_call : Cursor → List ℕ → List Caller → Continuation
 at_call c text callers now = ready_of (in_called_text text (config c.text.now (cursor c) None callers now))
@@ -143,7 +150,7 @@ cursor_after_call a c = record { args = a; left = c.left; blocks = c.blocks }
 -- where a flow leads
 abbrev pub reached_by_flow : Cursor → List Caller → Flow → Reached
 reached_by_flow c callers flow.On = goes (at_cursor c callers)
-reached_by_flow c callers (flow.Call text) = goes (at_call c text.items callers)
+reached_by_flow c callers (flow.Call q) = goes (at_register_call c q callers)
 reached_by_flow c callers flow.Return = goes (at_return (arguments c.args) callers)
 reached_by_flow c callers (flow.Over code) = over code
 
@@ -162,17 +169,17 @@ abbrev pub code_left : Exit → Option Code
 code_left exit.Return = None
 code_left (exit.Over code) = code
 
--- the text goes on, at its cursor or in a text that it calls
+-- the text goes on at its cursor
 abbrev pub GoesOn : Flow → Type 0
 GoesOn flow.On = Unit {0}
-GoesOn (flow.Call text) = Unit {0}
+GoesOn (flow.Call q) = ⊥
 GoesOn flow.Return = ⊥
 GoesOn (flow.Over code) = ⊥
 
 -- A text of values and arithmetic alone goes on at such a text, or is over, but not for want of memory.
 abbrev pub GoesQuietly : Cursor → Flow → Type 0
 GoesQuietly c flow.On = IsQuiet (cursor c)
-GoesQuietly c (flow.Call text) = ⊥
+GoesQuietly c (flow.Call q) = ⊥
 GoesQuietly c flow.Return = Unit {0}
 GoesQuietly c (flow.Over code) = code ≢ Some Mem
 
