@@ -38,7 +38,8 @@ pub fn run<D: Desk, T: Terminal>(desk: &mut D, text: &[u8], limit: u64, term: &m
     ensures follows { (floor : ℕ) → D.follows desk.old (trail_of (D.state desk.old) text.now floor 0)
         → D.follows desk.new (trail_of (D.state desk.old) text.now floor result.steps) }
     ensures no_memory { takes_no_memory (nodes text.now) ≡ true → result.code ≡ Some Mem → ⊥ }
-    ensures exit { (D.state desk.old).is_done ≡ false → (D.state desk.new).is_done ≡ true → result.code ≡ None }
+    ensures exit { (D.state desk.old).is_done ≡ false → (D.state desk.new).is_done ≡ true
+        → result.code ≡ None }
 {
     machine_laws();
     meaning_laws();
@@ -63,9 +64,11 @@ fn run_text<D: Desk, T: Terminal>(
 ) -> Exit
     requires { depth ≤ CALL_LIMIT }
     ensures counts { CountsSteps steps.old steps.new }
-    ensures leads { RunLeadsAt depth steps.old.limit (host (D.state desk.old) (D.follows desk.old) (T.screen term.old) steps.old.done)
+    ensures leads { RunLeadsAt depth steps.old.limit
+        (host (D.state desk.old) (D.follows desk.old) (T.screen term.old) steps.old.done)
         (host (D.state desk.new) (D.follows desk.new) (T.screen term.new) steps.new.done)
-        (at_beginning (arguments args.old) text.now) (λ callers. reached_by_exit (arguments args.new) callers result) }
+        (at_beginning (arguments args.old) text.now)
+        (λ callers. reached_by_exit (arguments args.new) callers result) }
     ensures no_memory { takes_no_memory (nodes text.now) ≡ true → result ≡ exit.Over (Some Mem) → ⊥ }
 {
     let mut room = [Block {
@@ -109,7 +112,8 @@ fn run_called<D: Desk, T: Terminal>(
     ensures left { (cursor_of cursor.new).left ≡ (cursor_of cursor.old).left }
     ensures counts { CountsSteps steps.old steps.new }
     ensures more { result ≡ exit.Return → steps.old.done < steps.new.done }
-    ensures leads { RunLeadsAt depth steps.old.limit (host (D.state desk.old) (D.follows desk.old) (T.screen term.old) steps.old.done)
+    ensures leads { RunLeadsAt depth steps.old.limit
+        (host (D.state desk.old) (D.follows desk.old) (T.screen term.old) steps.old.done)
         (host (D.state desk.new) (D.follows desk.new) (T.screen term.new) steps.new.done)
         (at_register_call cursor.old q) (λ callers. reached_after_call cursor.new callers result) }
 {
@@ -146,7 +150,8 @@ fn run_copy<D: Desk, T: Terminal>(
     ensures counts { CountsSteps steps.old steps.new }
     ensures more { steps.old.done < steps.new.done }
     ensures leads { (q : ℕ) → called.now ≡ (content (D.state desk.old).registers q).text
-        → RunLeadsAt depth steps.old.limit (host (D.state desk.old) (D.follows desk.old) (T.screen term.old) steps.old.done)
+        → RunLeadsAt depth steps.old.limit
+        (host (D.state desk.old) (D.follows desk.old) (T.screen term.old) steps.old.done)
         (host (D.state desk.new) (D.follows desk.new) (T.screen term.new) steps.new.done)
         (at_register_call cursor.old q) (λ callers. reached_after_call cursor.new callers result) }
 {

@@ -36,8 +36,11 @@ pub(crate) fn step<D: Desk, T: Terminal>(
 ) -> Flow
     ensures text { cursor.new.text ≡ cursor.old.text }
     ensures counts { CountsSteps steps.old steps.new }
-    ensures advances { GoesOn result → (steps.old.done < steps.new.done) ⊎ (length (cursor_of cursor.new).left < length (cursor_of cursor.old).left) }
-    ensures leads { RunLeads steps.old.limit (host (D.state desk.old) (D.follows desk.old) (T.screen term.old) steps.old.done)
+    ensures advances { GoesOn result
+        → (steps.old.done < steps.new.done)
+        ⊎ (length (cursor_of cursor.new).left < length (cursor_of cursor.old).left) }
+    ensures leads { RunLeads steps.old.limit
+        (host (D.state desk.old) (D.follows desk.old) (T.screen term.old) steps.old.done)
         (host (D.state desk.new) (D.follows desk.new) (T.screen term.new) steps.new.done)
         (at_cursor cursor.old) (λ callers. reached_by_flow cursor.new callers result) }
     ensures quiet { IsQuiet (cursor_of cursor.old) → GoesQuietly cursor.new result }
@@ -48,6 +51,7 @@ pub(crate) fn step<D: Desk, T: Terminal>(
         Coming::Passed => Flow::On,
         Coming::Step => match &found {
             Found::Token(token) => token_steps(desk, cursor, token, steps, term),
+            // `pass` tells of a step only where a token was found.
             Found::End | Found::Fault(_) => unreachable!(),
         },
         Coming::Block(block, to) => block_step(desk, cursor, block, to, steps),
@@ -69,10 +73,12 @@ fn token_steps<D: Desk, T: Terminal>(
     ensures text { cursor.new.text ≡ cursor.old.text }
     ensures counts { CountsSteps steps.old steps.new }
     ensures more { GoesOn result → steps.old.done < steps.new.done }
-    ensures leads { RunLeads steps.old.limit (host (D.state desk.old) (D.follows desk.old) (T.screen term.old) steps.old.done)
+    ensures leads { RunLeads steps.old.limit
+        (host (D.state desk.old) (D.follows desk.old) (T.screen term.old) steps.old.done)
         (host (D.state desk.new) (D.follows desk.new) (T.screen term.new) steps.new.done)
         (at_token cursor.old token.now None) (λ callers. reached_by_flow cursor.new callers result) }
-    ensures quiet { IsQuiet (cursor_of cursor.old) → takes_nothing_in cursor.old.text.now token.now ≡ true → GoesQuietly cursor.new result }
+    ensures quiet { IsQuiet (cursor_of cursor.old) → takes_nothing_in cursor.old.text.now token.now ≡ true
+        → GoesQuietly cursor.new result }
 {
     let mut work = None;
     'stepping: loop {
@@ -100,10 +106,13 @@ fn token_step<D: Desk, T: Terminal>(
     ensures text { cursor.new.text ≡ cursor.old.text }
     ensures counts { CountsSteps steps.old steps.new }
     ensures more { Continues result → steps.old.done < steps.new.done }
-    ensures leads { RunLeads steps.old.limit (host (D.state desk.old) (D.follows desk.old) (T.screen term.old) steps.old.done)
+    ensures leads { RunLeads steps.old.limit
+        (host (D.state desk.old) (D.follows desk.old) (T.screen term.old) steps.old.done)
         (host (D.state desk.new) (D.follows desk.new) (T.screen term.new) steps.new.done)
-        (at_token cursor.old token.now work) (λ callers. reached_by_progress cursor.new token.now callers result) }
-    ensures quiet { IsQuiet (cursor_of cursor.old) → takes_nothing_in cursor.old.text.now token.now ≡ true → ProgressesQuietly cursor.new result }
+        (at_token cursor.old token.now work)
+        (λ callers. reached_by_progress cursor.new token.now callers result) }
+    ensures quiet { IsQuiet (cursor_of cursor.old) → takes_nothing_in cursor.old.text.now token.now ≡ true
+        → ProgressesQuietly cursor.new result }
 {
     effect_laws();
     if let Some(q) = called_by(token) {
@@ -146,7 +155,8 @@ fn block_step<D: Desk>(
     ensures text { cursor.new.text ≡ cursor.old.text }
     ensures counts { CountsSteps steps.old steps.new }
     ensures more { GoesOn result → steps.old.done < steps.new.done }
-    ensures leads { (screen : Screen) → RunLeads steps.old.limit (host (D.state desk.old) (D.follows desk.old) screen steps.old.done)
+    ensures leads { (screen : Screen)
+        → RunLeads steps.old.limit (host (D.state desk.old) (D.follows desk.old) screen steps.old.done)
         (host (D.state desk.new) (D.follows desk.new) screen steps.new.done)
         (at_block_step cursor.old block to) (λ callers. reached_by_flow cursor.new callers result) }
 {
@@ -168,10 +178,14 @@ fn resume(cursor: &mut Cursor, token: &Token, next: Next) -> Progress
     ensures text { cursor.new.text ≡ cursor.old.text }
     ensures finished { ProgressFinishes result }
     ensures resumes { (s : State) (callers : List Caller) (now : Now) (fuel : ℕ)
-        → run_within fuel (after_step_end token.now.modifiers (item_of_kind cursor.old.text.now token.now.kind) (end_of s (name_in cursor.old.text.now token.now) next)
+        → run_within fuel (after_step_end token.now.modifiers
+        (item_of_kind cursor.old.text.now token.now.kind)
+        (end_of s (name_in cursor.old.text.now token.now) next)
         (config cursor.old.text.now (cursor_of cursor.old) None callers now))
         ≡ reached_run fuel now (reached_by_progress cursor.new token.now callers result) }
-    ensures quiet { (s : State) → IsQuiet (cursor_of cursor.old) → is_plain (end_of s (name_in cursor.old.text.now token.now) next) ≡ true → ProgressesQuietly cursor.new result }
+    ensures quiet { (s : State) → IsQuiet (cursor_of cursor.old)
+        → is_plain (end_of s (name_in cursor.old.text.now token.now) next) ≡ true
+        → ProgressesQuietly cursor.new result }
 {
     match next {
         Next::Again(work) => Progress::Further(work),
@@ -228,7 +242,8 @@ fn looks_around(token: &Token) -> bool
 
 /// The code by which a step was begun and not done.
 fn unfinished(next: &Next) -> Option<Code>
-    ensures { MatchOption result (is_unfinished next.now ≡ false) (λ code. (next.now ≡ Error code) × (is_unfinished_code code ≡ true)) }
+    ensures { MatchOption result (is_unfinished next.now ≡ false)
+        (λ code. (next.now ≡ Error code) × (is_unfinished_code code ≡ true)) }
 {
     match next {
         Next::Error(Code::Mem) => Some(Code::Mem),
