@@ -12,24 +12,29 @@ use Rattle.teco_store.specs.State.{State}
 use Rattle.teco_step.specs.declared.next.Work.{Work}
 use Rattle.teco_step.specs.Effect.{effect, item_effect}
 use Rattle.teco_step.specs.declared.next.Setting.{Setting}
-use Rattle.teco_step.specs.Step.{done_by, settled, Step, End, at}
-use Rattle.teco_step.specs.Stepping.{IsStepIn, IsStepKind, kind_effect, token_effect, end_of, is_unfinished, is_unfinished_code, Steps, IsDone, trail_after, name_in}
-use Rattle.teco_exec.specs.Machine.{inside_iteration, leave_is_next, setting_of, Caller, Config, CursorOrError, Now, runs, runs_or_halts, after_step_end, run_within, ready_of, after_block_step, ready_within}
-use Rattle.teco_exec.specs.Tokens.{looks_around, CountsSteps, ProgressFinishes, reached_by_progress}
+use Rattle.teco_step.specs.Step.{done_by, settled, Step, End, Moment, at, call}
+use Rattle.teco_step.specs.Stepping.{IsStepIn, IsStepKind, is_call, kind_effect, token_effect, end_of, is_unfinished, is_unfinished_code, Steps, IsDone, trail_after, name_in}
+use Rattle.teco_exec.specs.Machine.{step, in_called_text, inside_iteration, leave_is_next, setting_of, Caller, Config, CursorOrError, Now, runs, runs_or_halts, after_step_end, run_within, ready_of, after_block_step, ready_within}
+use Rattle.teco_exec.specs.Tokens.{call_of, calls_text, looks_around, CountsSteps, ProgressFinishes, reached_by_progress}
 use Rattle.teco_exec.specs.View.{cursor, item_of_kind, ResultFinishes as MovesWell, cursor_or_error, block_step_of}
 use Rattle.teco_exec.specs.declared.cursor.Cursor.{Cursor}
 use Rattle.teco_core.specs.declared.arguments.Args.{Args}
 use Rattle.teco_core.specs.declared.code.Code.{Code}
-use Rattle.teco_core.specs.declared.code.Code.TheVariants.{Mem, Tty}
+use Rattle.teco_core.specs.declared.code.Code.TheVariants.{Lim, Mem, Tty}
+use Rattle.teco_core.specs.Register.{content}
+use Rattle.teco_scan.specs.Scan as items
+use Rattle.teco_scan.specs.declared.command.Modifiers.{Modifiers}
+use Rattle.teco_scan.specs.declared.command.RegisterCommand.TheVariants as register_command
 use Rattle.teco_store.specs.Trail.{Trail, moved, stepped}
 use Rattle.teco_step.specs.declared.next.Next.{Next}
 use Rattle.teco_step.specs.declared.next.Next.TheVariants as next
+use Rattle.teco_step.specs.Laws.{CallsByCalls}
 use Rattle.teco_step.specs.Terminal.{Screen}
-use Rattle.teco_exec.specs.Running.{Origin, Host, host, Continuation, RunGoesOn, ReachesContinuation, ReachesEnd, Reached, Reaches, reached_run, ready_run, config, at_cursor, at_token, at_block_step, reached_by_flow, FlowFinishes}
+use Rattle.teco_exec.specs.Running.{Origin, Host, host, Continuation, RunGoesOn, ReachesContinuation, ReachesEnd, Reached, Reaches, reached_run, ready_run, config, at_call, at_cursor, at_register_call, at_token, at_block_step, reached_by_flow, FlowFinishes}
 use Rattle.teco_exec.specs.declared.flow.Flow.{Flow}
 use Rattle.teco_exec.specs.declared.flow.Flow.TheVariants.{On, Call, Return, Over}
 use Rattle.teco_exec.specs.declared.moves.BlockStep.{BlockStep}
-use Rattle.teco_exec.proofs.Going.{EndsByItself, Pays, advanced, since, settles, step_done, no_memory, no_terminal, shows_nothing}
+use Rattle.teco_exec.proofs.Going.{limit_ends, EndsByItself, Pays, advanced, since, settles, step_done, no_memory, no_terminal, shows_nothing}
 use Rattle.teco_exec.proofs.MachineMeans.{going_now, resumed_now, Stays, arrives_stays, halted, run_ready}
 use Rattle.teco_exec.specs.declared.flow.Progress.{Progress}
 use Rattle.teco_exec.specs.declared.flow.Progress.TheVariants.{Further, Done}
@@ -64,10 +69,10 @@ effect_here c token work opens before s =
 
 -- how the text goes on after a step
 module _ (callers : List Caller) (now : Now) (fuel : ℕ) where
-  pub ends_so : (c : Cursor) (token : Token) (n k : Next) → n ≡ k
-      → run_within fuel (after_step_end token.modifiers (item_of_kind c.text.now token.kind) (end_of (name_in c.text.now token) n) (config c.text.now (cursor c) None callers now))
-      ≡ run_within fuel (after_step_end token.modifiers (item_of_kind c.text.now token.kind) (end_of (name_in c.text.now token) k) (config c.text.now (cursor c) None callers now))
-  ends_so c token n k e = ap (λ x. run_within fuel (after_step_end token.modifiers (item_of_kind c.text.now token.kind) (end_of (name_in c.text.now token) x) (config c.text.now (cursor c) None callers now))) e
+  pub ends_so : (s : State) (c : Cursor) (token : Token) (n k : Next) → n ≡ k
+      → run_within fuel (after_step_end token.modifiers (item_of_kind c.text.now token.kind) (end_of s (name_in c.text.now token) n) (config c.text.now (cursor c) None callers now))
+      ≡ run_within fuel (after_step_end token.modifiers (item_of_kind c.text.now token.kind) (end_of s (name_in c.text.now token) k) (config c.text.now (cursor c) None callers now))
+  ends_so s c token n k e = ap (λ x. run_within fuel (after_step_end token.modifiers (item_of_kind c.text.now token.kind) (end_of s (name_in c.text.now token) x) (config c.text.now (cursor c) None callers now))) e
 
   pub goes_on : (c : Cursor) → run_within fuel (runs (config c.text.now (cursor c) None callers now)) ≡ ready_run fuel (at_cursor c callers now)
   goes_on c = run_ready fuel (runs (config c.text.now (cursor c) None callers now))
@@ -84,7 +89,7 @@ module _ (callers : List Caller) (now : Now) (fuel : ℕ) where
 
 pub finishes : (c : Cursor) (callers : List Caller) (f : Flow) → FlowFinishes f → EndsByItself (reached_by_flow c callers f)
 finishes c callers On h = tt
-finishes c callers (Call text) h = tt
+finishes c callers (Call q) h = tt
 finishes c callers Return h = tt
 finishes c callers (Over code) h = h
 
@@ -145,7 +150,7 @@ module _ (c : Cursor) (token : Token) (work : Option Work) (callers : List Calle
           → (steps : ℕ) → steps ≡ h.steps + 1 → (same : State) → same ≡ new → (H : Trail → Type 0)
           → ((u : Trail) → G u → u.changes ≤ 6 → steps ≡ u.steps + 1 → u.states steps ≡ new → u.load ≤ u.loads steps → H (stepped u))
           → (d : Reached) → EndsByItself d
-          → ((now : Now) (fuel : ℕ) → run_within fuel (after_step_end token.modifiers (item_of_kind c.text.now token.kind) (end_of name n) (config c.text.now (record (cursor c) { args = arguments args }) None callers now)) ≡ reached_run fuel now d)
+          → ((now : Now) (fuel : ℕ) → run_within fuel (after_step_end token.modifiers (item_of_kind c.text.now token.kind) (end_of new name n) (config c.text.now (record (cursor c) { args = arguments args }) None callers now)) ≡ reached_run fuel now d)
           → Reaches o h (host same H w steps) d
       token_goes f did steps count same is_same H marks d fin leads =
           let e = effect_in h.state in
@@ -154,9 +159,9 @@ module _ (c : Cursor) (token : Token) (work : Option Work) (callers : List Calle
           let to : ReachesContinuation o h later (after_token e.arguments e.end) =
           step_done o h (at_token c token work callers) g (after_token e.arguments e.end) e.state e.typed e.load (token_pays h.state) (after_stays e.arguments e.end) later count (is_same ∙ done.state) done.shows
           (λ u p none at state within. marks (moved u e.load) (took_so false f u p) (omega arith) (omega arith) (ap u.states count ∙ state ∙ sym done.state) (subst (λ k. u.load + e.load ≤ u.loads k) (sym count) within)) in
-          let there : ReachesContinuation o h later (after_token (arguments args) (end_of name n)) =
+          let there : ReachesContinuation o h later (after_token (arguments args) (end_of new name n)) =
           subst (λ x. ReachesContinuation o h later (after_token (arguments args) x)) (sym done.end) (subst (λ x. ReachesContinuation o h later (after_token x e.end)) (sym done.arguments) to) in
-          since o h later later d there.follows (settles o later (after_token (arguments args) (end_of name n)) there.going d fin (omega arith) (λ now fuel. sym (run_ready fuel _) ∙ leads now fuel))
+          since o h later later d there.follows (settles o later (after_token (arguments args) (end_of new name n)) there.going d fin (omega arith) (λ now fuel. sym (run_ready fuel _) ∙ leads now fuel))
 
 -- a step of a block
 module _ (c : Cursor) (b : BlockStep) (to : ℕ) (callers : List Caller) where
@@ -206,3 +211,66 @@ goes_further callers now (suc fuel) c token work = refl
 pub progress_finishes : (c : Cursor) (token : Token) (callers : List Caller) (p : Progress) → ProgressFinishes p → EndsByItself (reached_by_progress c token callers p)
 progress_finishes c token callers (Further work) h = tt
 progress_finishes c token callers (Done flow) h = finishes c callers flow h
+
+-- A token that calls no text never leads to a call.
+call_seen : (text : List ℕ) (t : Item) → is_call (item_in text t) ≡ calls_text (kind.Item t)
+call_seen text t = grind arith
+
+kind_never : CallsByCalls → (text : List ℕ) (k : TokenKind) (w : Setting) (s : State) (a : Arguments) (called : List ℕ) → IsStepKind (length text) k → calls_text k ≡ false
+    → (kind_effect text k w s a).end ≡ call called → ⊥
+kind_never laws text (kind.Item t) w s a called is none e = let x : true ≡ false = sym (laws (item_in text t) w s a called e) ∙ call_seen text t ∙ none in cc
+kind_never laws text k w s a called is none e = absurd is
+
+pub never_calls : CallsByCalls → (text : List ℕ) (token : Token) (work : Option Work) (opens before : Bool) (s : State) (a : Arguments) (name : List ℕ) (old new : Moment) (n : Next)
+    → IsStepIn text token → calls_text token.kind ≡ false → Steps (token_effect text token work opens before s a) name old new n → (q : ℕ) → n ≡ next.Call q → ⊥
+never_calls laws text token work opens before s a name old new n is none (inl done) q e =
+    kind_never laws text token.kind (record { modifiers = token.modifiers; work = work; inside = opens; before = before }) s a (content new.state.registers q).text is none (sym done.end ∙ ap (end_of new.state name) e)
+never_calls laws text token work opens before s a name old new n is none (inr (inl lacks)) q e = let x : next.Error Mem ≡ next.Call q = sym lacks.code ∙ e in cc
+never_calls laws text token work opens before s a name old new n is none (inr (inr lacks)) q e = let x : next.Error Tty ≡ next.Call q = sym lacks.code ∙ e in cc
+
+-- A step of a token that calls is the step of the call of its register.
+plain_call : (c : Cursor) (token : Token) (work : Option Work) (q : ℕ) (callers : List Caller) (now : Now) (fuel : ℕ)
+    → ready_run fuel (step token.modifiers (items.register register_command.Macro q) work (config c.text.now (cursor c) None callers now)) ≡ ready_run fuel (at_register_call c q callers now)
+unfolding effect
+plain_call c token work q callers now zero = refl
+plain_call c token work q callers now (suc fuel) = refl
+
+pub calls_same : (c : Cursor) (token : Token) (work : Option Work) (q : ℕ) (callers : List Caller) (now : Now) (fuel : ℕ) → token.kind ≡ call_of q
+    → ready_run fuel (at_token c token work callers now) ≡ ready_run fuel (at_register_call c q callers now)
+calls_same c token work q callers now fuel is =
+    ap (λ k. ready_run fuel (step token.modifiers (item_of_kind c.text.now k) work (config c.text.now (cursor c) None callers now))) is
+    ∙ plain_call c token work q callers now fuel
+
+-- a step that calls the text of a register
+module _ (c : Cursor) (q : ℕ) (callers : List Caller) where
+  abbrev pub text_in : State → List ℕ
+  text_in s = (content s.registers q).text
+
+  call_pays : (s : State) → Pays (at_register_call c q callers) (at_call c (text_in s) callers) s s [] 0
+  unfolding effect
+  call_pays s now same fuel = run_ready fuel _ ∙ ap (λ x. ready_run fuel (at_call c (text_in x) callers (advanced x [] 0 now))) same
+
+  call_stays : (text : List ℕ) (now : Now) → Stays (at_call c text callers) now
+  call_stays text now =
+      let here : Config = config c.text.now (cursor c) None callers now in
+      let m : Modifiers = record { at = false; colons = 0 } in
+      arrives_stays (in_called_text text here) ∙ resumed_now m (items.register register_command.Macro q) (call text) here
+
+  pub call_leads : (o : Origin) (h : Host) → RunGoesOn o h (at_register_call c q callers)
+      → (steps : ℕ) → steps ≡ h.steps + 1 → (same : State) → same ≡ h.state → (G : Trail → Type 0) → ((u : Trail) → h.follows u → h.follows (moved u 0))
+      → ((u : Trail) → h.follows u → u.changes ≤ 6 → steps ≡ u.steps + 1 → u.states steps ≡ h.state → u.load ≤ u.loads steps → G (stepped u))
+      → (text : List ℕ) → text ≡ text_in h.state → ReachesContinuation o h (host same G h.screen steps) (at_call c text callers)
+  call_leads o h g steps count same is_same G eases marks text is =
+      let later : Host = host same G h.screen steps in
+      subst (λ x. ReachesContinuation o h later (at_call c x callers)) (sym is)
+      (step_done o h (at_register_call c q callers) g (at_call c (text_in h.state) callers) h.state [] 0 (call_pays h.state) (call_stays (text_in h.state)) later count is_same (shows_nothing h.screen)
+      (λ u p none at state within. marks (moved u 0) (eases u p) (omega arith) (omega arith) (ap u.states count ∙ state) (subst (λ k. u.load + 0 ≤ u.loads k) (sym count) within)))
+
+  -- its copy found no memory
+  pub call_fails : (o : Origin) (h : Host) → RunGoesOn o h (at_register_call c q callers) → h.steps < o.limit → ReachesEnd o h h (Some Mem)
+  call_fails o h g lt =
+      no_memory o h (at_register_call c q callers) g (at_call c (text_in h.state) callers) h.state [] 0 (call_pays h.state) (call_stays (text_in h.state)) lt h.state refl h.follows (λ u f. f) h.screen (shows_nothing h.screen)
+
+  -- no step is left for it
+  pub call_unpaid : (o : Origin) (h : Host) → RunGoesOn o h (at_register_call c q callers) → h.steps ≡ o.limit → ReachesEnd o h h (Some Lim)
+  call_unpaid o h g same = limit_ends o h (at_register_call c q callers) g same (λ now. refl)

@@ -38,7 +38,8 @@ EndsTurn (b ∷ bs) = kind_of b.body ≡ kind.Iter
 -- an iteration is open
 unfoldable pub has_iteration : List Block → Bool
 has_iteration [] = false
-has_iteration (b ∷ bs) = elim (kind_of b.body) [ kind.Iter ↦ true | kind.Then ↦ has_iteration bs | kind.Else ↦ has_iteration bs ]
+has_iteration (b ∷ bs) =
+    elim (kind_of b.body) [ kind.Iter ↦ true | kind.Then ↦ has_iteration bs | kind.Else ↦ has_iteration bs ]
 
 -- the body in the next turn, if there is one
 abbrev pub next_body : Body → Option Body

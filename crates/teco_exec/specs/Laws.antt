@@ -25,31 +25,42 @@ with_fuel w n = record w { fuel = n }
 
 -- The meaning is made of itself: by these equations it unrolls.
 pub record MeaningUnrolls : Type 0 where
-  pub list : (whole rest : Nodes) (w : World) (depth : ℕ) (inside : Bool) → meaning.list whole rest w depth inside ≡ list_by meaning whole rest w depth inside
-  pub turns : (left : Option ℕ) (body : Nodes) (w : World) (depth : ℕ) → meaning.turns left body w depth ≡ turns_by meaning left body w depth
-  pub further : (i : Item) (setting : Setting) (w : World) (depth : ℕ) → meaning.further i setting w depth ≡ further_by meaning i setting w depth
+  pub list : (whole rest : Nodes) (w : World) (depth : ℕ) (inside : Bool)
+      → meaning.list whole rest w depth inside ≡ list_by meaning whole rest w depth inside
+  pub turns : (left : Option ℕ) (body : Nodes) (w : World) (depth : ℕ)
+      → meaning.turns left body w depth ≡ turns_by meaning left body w depth
+  pub further : (i : Item) (setting : Setting) (w : World) (depth : ℕ)
+      → meaning.further i setting w depth ≡ further_by meaning i setting w depth
 
 -- The empty list does nothing, and ends well.
 abbrev pub EmptyListEnds : Type 0
-EmptyListEnds = (whole : Nodes) (w : World) (depth : ℕ) (inside : Bool) → meaning.list whole done w depth inside ≡ (w, on)
+EmptyListEnds = (whole : Nodes) (w : World) (depth : ℕ) (inside : Bool)
+    → meaning.list whole done w depth inside ≡ (w, on)
 
 -- A fault that is reached ends the list by its code, and uses no step.
 abbrev pub FaultStops : Type 0
-FaultStops = (whole : Nodes) (c : Code) (w : World) (depth : ℕ) (inside : Bool) → meaning.list whole (faulty c) w depth inside ≡ (w, stop c)
+FaultStops = (whole : Nodes) (c : Code) (w : World) (depth : ℕ) (inside : Bool)
+    → meaning.list whole (faulty c) w depth inside ≡ (w, stop c)
 
 -- A tag does nothing.
 abbrev pub TagIsPassed : Type 0
-TagIsPassed = (whole rest : Nodes) (name : List ℕ) (w : World) (depth : ℕ) (inside : Bool) → meaning.list whole (tag name rest) w depth inside ≡ meaning.list whole rest w depth inside
+TagIsPassed = (whole rest : Nodes) (name : List ℕ) (w : World) (depth : ℕ) (inside : Bool)
+    → meaning.list whole (tag name rest) w depth inside ≡ meaning.list whole rest w depth inside
 
 -- ESC drops the arguments, and uses no step.
 abbrev pub EscapeDrops : Type 0
-EscapeDrops = (whole rest : Nodes) (w : World) (depth : ℕ) (inside : Bool) → meaning.list whole (escape rest) w depth inside ≡ meaning.list whole rest (without_arguments w) depth inside
+EscapeDrops = (whole rest : Nodes) (w : World) (depth : ℕ) (inside : Bool)
+    → meaning.list whole (escape rest) w depth inside
+    ≡ meaning.list whole rest (without_arguments w) depth inside
 
 -- Without fuel a step, an iteration and a conditional aren't begun: LIM.
 pub record NothingWithoutFuel : Type 0 where
-  pub step : (whole rest : Nodes) (m : Modifiers) (i : Item) (w : World) (depth : ℕ) (inside : Bool) → w.fuel ≡ 0 → meaning.list whole (item m i rest) w depth inside ≡ (w, stop code.Lim)
-  pub iteration : (whole body rest : Nodes) (w : World) (depth : ℕ) (inside : Bool) → w.fuel ≡ 0 → meaning.list whole (iter body rest) w depth inside ≡ (w, stop code.Lim)
-  pub conditional : (whole first second rest : Nodes) (t : Test) (w : World) (depth : ℕ) (inside : Bool) → w.fuel ≡ 0 → meaning.list whole (cond t first second rest) w depth inside ≡ (w, stop code.Lim)
+  pub step : (whole rest : Nodes) (m : Modifiers) (i : Item) (w : World) (depth : ℕ) (inside : Bool)
+      → w.fuel ≡ 0 → meaning.list whole (item m i rest) w depth inside ≡ (w, stop code.Lim)
+  pub iteration : (whole body rest : Nodes) (w : World) (depth : ℕ) (inside : Bool) → w.fuel ≡ 0
+      → meaning.list whole (iter body rest) w depth inside ≡ (w, stop code.Lim)
+  pub conditional : (whole first second rest : Nodes) (t : Test) (w : World) (depth : ℕ) (inside : Bool)
+      → w.fuel ≡ 0 → meaning.list whole (cond t first second rest) w depth inside ≡ (w, stop code.Lim)
 
 -- A step of a token uses one of the fuel and does its effect.
 abbrev pub first_effect : Modifiers → Item → Nodes → World → Bool → Step
@@ -58,89 +69,131 @@ first_effect m i rest w inside = effect i (first_setting m inside (leave_comes r
 abbrev pub stepped_world : Modifiers → Item → Nodes → World → Bool → ℕ → World
 stepped_world m i rest w inside n = world_after (with_fuel w n) (first_effect m i rest w inside)
 
--- What a list comes to where a step of an item has ended so. The string goes on with the rest of the list. Leaving, an exit and an
--- error end the list. A jump goes to its tag in the list, or leaves it. A call runs the text, one deeper and inside no iteration,
--- and the rest follows where that ends well; inside CALL_LIMIT others it is PDO. A further step is taken, and then the rest follows.
+-- What a list comes to where a step of an item has ended so. The string goes on with the rest of the list.
+-- Leaving, an exit and an error end the list. A jump goes to its tag in the list, or leaves it. A call runs
+-- the text, one deeper and inside no iteration, and the rest follows where that ends well; inside CALL_LIMIT
+-- others it is PDO. A further step is taken, and then the rest follows.
 abbrev pub comes_to : Nodes → Nodes → Item → Setting → ℕ → World → End → WorldAndEnd
 comes_to whole rest i setting depth w on = meaning.list whole rest w depth setting.inside
 comes_to whole rest i setting depth w leave = (w, leave)
-comes_to whole rest i setting depth w (go name) = run_after_tag meaning whole w depth setting.inside name (after_tag name whole)
-comes_to whole rest i setting depth w (call text) = if depth == CALL_LIMIT then (w, stop code.Pdo) else (let r : WorldAndEnd = meaning.list (nodes text) (nodes text) w (depth + 1) false in
+comes_to whole rest i setting depth w (go name) =
+    run_after_tag meaning whole w depth setting.inside name (after_tag name whole)
+comes_to whole rest i setting depth w (call text) =
+    if depth == CALL_LIMIT
+    then (w, stop code.Pdo)
+    else (let r : WorldAndEnd = meaning.list (nodes text) (nodes text) w (depth + 1) false in
     let q : WorldAndEnd = after_call r.0 r.1 in then_rest meaning whole rest depth setting.inside q.0 q.1)
 comes_to whole rest i setting depth w out = (w, out)
-comes_to whole rest i setting depth w (again work) = let r : WorldAndEnd = meaning.further i (record setting { work = Some work }) w depth in then_rest meaning whole rest depth setting.inside r.0 r.1
+comes_to whole rest i setting depth w (again work) =
+    let r : WorldAndEnd = meaning.further i (record setting { work = Some work }) w depth in
+    then_rest meaning whole rest depth setting.inside r.0 r.1
 comes_to whole rest i setting depth w (stop c) = (w, stop c)
 
 -- So a step of an item, whatever its end: the list comes to what follows the effect.
 abbrev pub StepEnds : Type 0
-StepEnds = (whole rest : Nodes) (m : Modifiers) (i : Item) (w : World) (depth n : ℕ) (inside : Bool) → w.fuel ≡ suc n → (let d : Step = first_effect m i rest w inside in
-    meaning.list whole (item m i rest) w depth inside ≡ comes_to whole rest i (first_setting m inside (leave_comes rest)) depth (stepped_world m i rest w inside n) d.end)
+StepEnds = (whole rest : Nodes) (m : Modifiers) (i : Item) (w : World) (depth n : ℕ) (inside : Bool)
+    → w.fuel ≡ suc n → (let d : Step = first_effect m i rest w inside in
+    meaning.list whole (item m i rest) w depth inside
+    ≡ comes_to whole rest i (first_setting m inside (leave_comes rest)) depth
+    (stepped_world m i rest w inside n) d.end)
 
 -- Where the effect lets the string go on, the rest of the list follows.
 abbrev pub StepGoesOn : Type 0
-StepGoesOn = (whole rest : Nodes) (m : Modifiers) (i : Item) (w : World) (depth n : ℕ) (inside : Bool) → w.fuel ≡ suc n → (first_effect m i rest w inside).end ≡ on
-    → meaning.list whole (item m i rest) w depth inside ≡ meaning.list whole rest (stepped_world m i rest w inside n) depth inside
+StepGoesOn = (whole rest : Nodes) (m : Modifiers) (i : Item) (w : World) (depth n : ℕ) (inside : Bool)
+    → w.fuel ≡ suc n → (first_effect m i rest w inside).end ≡ on
+    → meaning.list whole (item m i rest) w depth inside
+    ≡ meaning.list whole rest (stepped_world m i rest w inside n) depth inside
 
 -- Where it is an error, the list ends by its code, after the step.
 abbrev pub StepStops : Type 0
-StepStops = (whole rest : Nodes) (m : Modifiers) (i : Item) (c : Code) (w : World) (depth n : ℕ) (inside : Bool) → w.fuel ≡ suc n → (first_effect m i rest w inside).end ≡ stop c
+StepStops = (whole rest : Nodes) (m : Modifiers) (i : Item) (c : Code) (w : World) (depth n : ℕ)
+    (inside : Bool) → w.fuel ≡ suc n → (first_effect m i rest w inside).end ≡ stop c
     → meaning.list whole (item m i rest) w depth inside ≡ (stepped_world m i rest w inside n, stop c)
 
 -- A jump goes on after the first such tag directly in the list;
 abbrev pub JumpLands : Type 0
-JumpLands = (whole rest later : Nodes) (m : Modifiers) (i : Item) (name : List ℕ) (w : World) (depth n : ℕ) (inside : Bool) → w.fuel ≡ suc n → (first_effect m i rest w inside).end ≡ go name → after_tag name whole ≡ Some later
-    → meaning.list whole (item m i rest) w depth inside ≡ meaning.list whole later (stepped_world m i rest w inside n) depth inside
+JumpLands = (whole rest later : Nodes) (m : Modifiers) (i : Item) (name : List ℕ) (w : World) (depth n : ℕ)
+    (inside : Bool) → w.fuel ≡ suc n → (first_effect m i rest w inside).end ≡ go name
+    → after_tag name whole ≡ Some later
+    → meaning.list whole (item m i rest) w depth inside
+    ≡ meaning.list whole later (stepped_world m i rest w inside n) depth inside
 
 -- where there is none, the jump leaves the list.
 abbrev pub JumpLeaves : Type 0
-JumpLeaves = (whole rest : Nodes) (m : Modifiers) (i : Item) (name : List ℕ) (w : World) (depth n : ℕ) (inside : Bool) → w.fuel ≡ suc n → (first_effect m i rest w inside).end ≡ go name → after_tag name whole ≡ None
+JumpLeaves = (whole rest : Nodes) (m : Modifiers) (i : Item) (name : List ℕ) (w : World) (depth n : ℕ)
+    (inside : Bool) → w.fuel ≡ suc n → (first_effect m i rest w inside).end ≡ go name
+    → after_tag name whole ≡ None
     → meaning.list whole (item m i rest) w depth inside ≡ (stepped_world m i rest w inside n, go name)
 
--- A call runs the text with the same arguments, one deeper and inside no iteration; where it ends well, the calling list goes on with what it left.
+-- A call runs the text with the same arguments, one deeper and inside no iteration; where it ends well, the
+-- calling list goes on with what it left.
 abbrev pub CallReturns : Type 0
-CallReturns = (whole rest : Nodes) (m : Modifiers) (i : Item) (text : List ℕ) (w v : World) (depth n : ℕ) (inside : Bool) → w.fuel ≡ suc n → (first_effect m i rest w inside).end ≡ call text → depth ≢ CALL_LIMIT
+CallReturns = (whole rest : Nodes) (m : Modifiers) (i : Item) (text : List ℕ) (w v : World) (depth n : ℕ)
+    (inside : Bool) → w.fuel ≡ suc n → (first_effect m i rest w inside).end ≡ call text → depth ≢ CALL_LIMIT
     → meaning.list (nodes text) (nodes text) (stepped_world m i rest w inside n) (depth + 1) false ≡ (v, on)
     → meaning.list whole (item m i rest) w depth inside ≡ meaning.list whole rest v depth inside
 
 -- A call inside CALL_LIMIT others is PDO.
 abbrev pub CallTooDeep : Type 0
-CallTooDeep = (whole rest : Nodes) (m : Modifiers) (i : Item) (text : List ℕ) (w : World) (depth n : ℕ) (inside : Bool) → w.fuel ≡ suc n → (first_effect m i rest w inside).end ≡ call text → depth ≡ CALL_LIMIT
+CallTooDeep = (whole rest : Nodes) (m : Modifiers) (i : Item) (text : List ℕ) (w : World) (depth n : ℕ)
+    (inside : Bool) → w.fuel ≡ suc n → (first_effect m i rest w inside).end ≡ call text → depth ≡ CALL_LIMIT
     → meaning.list whole (item m i rest) w depth inside ≡ (stepped_world m i rest w inside n, stop code.Pdo)
 
 -- A further step of a token has fuel of its own, and this work left.
 abbrev pub FurtherStep : Type 0
-FurtherStep = (i : Item) (setting : Setting) (w : World) (depth n : ℕ) → w.fuel ≡ suc n → (effect i setting w.state w.arguments).end ≡ on
-    → meaning.further i setting w depth ≡ (world_after (with_fuel w n) (effect i setting w.state w.arguments), on)
+FurtherStep = (i : Item) (setting : Setting) (w : World) (depth n : ℕ) → w.fuel ≡ suc n
+    → (effect i setting w.state w.arguments).end ≡ on
+    → meaning.further i setting w depth
+    ≡ (world_after (with_fuel w n) (effect i setting w.state w.arguments), on)
 
--- An iteration uses one of the fuel and takes n. It runs its body n times and goes on with the arguments that are left;
+-- An iteration uses one of the fuel and takes n. It runs its body n times and goes on with the arguments that
+-- are left;
 abbrev pub IterationCounts : Type 0
-IterationCounts = (whole body rest : Nodes) (k : ℤ) (w v : World) (depth n : ℕ) (inside : Bool) → w.fuel ≡ suc n → taken_from w.arguments ≡ Ok (taken.One k)
+IterationCounts = (whole body rest : Nodes) (k : ℤ) (w v : World) (depth n : ℕ) (inside : Bool)
+    → w.fuel ≡ suc n → taken_from w.arguments ≡ Ok (taken.One k)
     → meaning.turns (Some (turns_of k)) body (without_arguments (with_fuel w n)) depth ≡ (v, on)
     → meaning.list whole (iter body rest) w depth inside ≡ meaning.list whole rest v depth inside
 
 -- without n it runs it until it is left.
 abbrev pub IterationGoesOn : Type 0
-IterationGoesOn = (whole body rest : Nodes) (w v : World) (depth n : ℕ) (inside : Bool) → w.fuel ≡ suc n → taken_from w.arguments ≡ Ok taken.None
+IterationGoesOn = (whole body rest : Nodes) (w v : World) (depth n : ℕ) (inside : Bool) → w.fuel ≡ suc n
+    → taken_from w.arguments ≡ Ok taken.None
     → meaning.turns None body (without_arguments (with_fuel w n)) depth ≡ (v, on)
     → meaning.list whole (iter body rest) w depth inside ≡ meaning.list whole rest v depth inside
 
--- The end of a turn uses one of the fuel and drops the arguments. After the last turn nothing more is done; the body runs inside an iteration.
+-- The end of a turn uses one of the fuel and drops the arguments. After the last turn nothing more is done;
+-- the body runs inside an iteration.
 pub record TurnEnds : Type 0 where
   pub last : (body : Nodes) (w : World) (depth : ℕ) → meaning.turns (Some 0) body w depth ≡ (w, on)
-  pub counted : (body : Nodes) (w v : World) (depth left n : ℕ) → meaning.list body body w depth true ≡ (v, on) → v.fuel ≡ suc n → meaning.turns (Some (suc left)) body w depth ≡ meaning.turns (Some left) body (without_arguments (with_fuel v n)) depth
-  pub endless : (body : Nodes) (w v : World) (depth n : ℕ) → meaning.list body body w depth true ≡ (v, on) → v.fuel ≡ suc n → meaning.turns None body w depth ≡ meaning.turns None body (without_arguments (with_fuel v n)) depth
-  pub without_fuel : (body : Nodes) (w v : World) (depth left : ℕ) → meaning.list body body w depth true ≡ (v, on) → v.fuel ≡ 0 → meaning.turns (Some (suc left)) body w depth ≡ (v, stop code.Lim)
+  pub counted : (body : Nodes) (w v : World) (depth left n : ℕ)
+      → meaning.list body body w depth true ≡ (v, on) → v.fuel ≡ suc n
+      → meaning.turns (Some (suc left)) body w depth
+      ≡ meaning.turns (Some left) body (without_arguments (with_fuel v n)) depth
+  pub endless : (body : Nodes) (w v : World) (depth n : ℕ) → meaning.list body body w depth true ≡ (v, on)
+      → v.fuel ≡ suc n → meaning.turns None body w depth
+      ≡ meaning.turns None body (without_arguments (with_fuel v n)) depth
+  pub without_fuel : (body : Nodes) (w v : World) (depth left : ℕ)
+      → meaning.list body body w depth true ≡ (v, on) → v.fuel ≡ 0
+      → meaning.turns (Some (suc left)) body w depth ≡ (v, stop code.Lim)
 
 -- Leaving ends the iteration well.
 pub record LeavingEnds : Type 0 where
-  pub counted : (body : Nodes) (w v : World) (depth left : ℕ) → meaning.list body body w depth true ≡ (v, leave) → meaning.turns (Some (suc left)) body w depth ≡ (v, on)
-  pub endless : (body : Nodes) (w v : World) (depth : ℕ) → meaning.list body body w depth true ≡ (v, leave) → meaning.turns None body w depth ≡ (v, on)
+  pub counted : (body : Nodes) (w v : World) (depth left : ℕ)
+      → meaning.list body body w depth true ≡ (v, leave)
+      → meaning.turns (Some (suc left)) body w depth ≡ (v, on)
+  pub endless : (body : Nodes) (w v : World) (depth : ℕ) → meaning.list body body w depth true ≡ (v, leave)
+      → meaning.turns None body w depth ≡ (v, on)
 
--- A conditional uses one of the fuel, takes a number, runs the part that its test chooses, and drops the arguments.
+-- A conditional uses one of the fuel, takes a number, runs the part that its test chooses, and drops the
+-- arguments.
 abbrev pub ConditionalChooses : Type 0
-ConditionalChooses = (whole first second rest : Nodes) (t : Test) (k : ℤ) (w v : World) (depth n : ℕ) (inside : Bool) → w.fuel ≡ suc n → takes_one code.Naq w.arguments ≡ Ok k
-    → (let part : Nodes = if holds t k then first else second in meaning.list part part (without_arguments (with_fuel w n)) depth inside ≡ (v, on))
-    → meaning.list whole (cond t first second rest) w depth inside ≡ meaning.list whole rest (without_arguments v) depth inside
+ConditionalChooses =
+    (whole first second rest : Nodes) (t : Test) (k : ℤ) (w v : World) (depth n : ℕ) (inside : Bool)
+    → w.fuel ≡ suc n → takes_one code.Naq w.arguments ≡ Ok k
+    → (let part : Nodes = if holds t k then first else second in
+    meaning.list part part (without_arguments (with_fuel w n)) depth inside ≡ (v, on))
+    → meaning.list whole (cond t first second rest) w depth inside
+    ≡ meaning.list whole rest (without_arguments v) depth inside
 
 -- No string takes more steps than its limit.
 abbrev pub StepsWithinLimit : Type 0
@@ -148,11 +201,14 @@ StepsWithinLimit = (s : State) (text : List ℕ) (limit : ℕ) → (string_meani
 
 -- More limit changes nothing once the string has ended.
 abbrev pub MoreLimitChangesNothing : Type 0
-MoreLimitChangesNothing = (s : State) (text : List ℕ) (limit more : ℕ) → (string_meaning s text limit).code ≢ Some code.Lim → string_meaning s text (limit + more) ≡ string_meaning s text limit
+MoreLimitChangesNothing = (s : State) (text : List ℕ) (limit more : ℕ)
+    → (string_meaning s text limit).code ≢ Some code.Lim
+    → string_meaning s text (limit + more) ≡ string_meaning s text limit
 
 -- With as many steps as it took, a string does the same.
 abbrev pub EnoughIsEnough : Type 0
-EnoughIsEnough = (s : State) (text : List ℕ) (limit : ℕ) → string_meaning s text (string_meaning s text limit).steps ≡ string_meaning s text limit
+EnoughIsEnough = (s : State) (text : List ℕ) (limit : ℕ)
+    → string_meaning s text (string_meaning s text limit).steps ≡ string_meaning s text limit
 
 -- Under limit 0 nothing changes: no step is taken, no byte typed, and the state is the one before.
 pub record ChangesNothing (s : State) (m : StringMeaning) : Type 0 where
@@ -166,4 +222,5 @@ ZeroLimitChangesNothing = (s : State) (text : List ℕ) → ChangesNothing s (st
 
 -- A string that makes the session done ends with no code.
 abbrev pub ExitEndsWell : Type 0
-ExitEndsWell = (s : State) (text : List ℕ) (limit : ℕ) → s.is_done ≡ false → (string_meaning s text limit).state.is_done ≡ true → (string_meaning s text limit).code ≡ None
+ExitEndsWell = (s : State) (text : List ℕ) (limit : ℕ) → s.is_done ≡ false
+    → (string_meaning s text limit).state.is_done ≡ true → (string_meaning s text limit).code ≡ None

@@ -23,7 +23,8 @@ use Rattle.teco_exec.specs.Test.{holds}
 use Rattle.teco_exec.specs.Meaning.{is_plain_leave, turns_of}
 use Rattle.teco_scan.specs.Lists.{Close, closed, broken, Past, past, behind_block, list_at, tag_at}
 
--- An open block: its kind, the bytes from its beginning on, and the turns left after the present one (none: without end).
+-- An open block: its kind, the bytes from its beginning on, and the turns left after the present one (none:
+-- without end).
 pub record Frame : Type 0 where
   pub kind : Kind
   pub start : List ℕ
@@ -43,7 +44,8 @@ innermost_kind (b ∷ bs) = Some b.kind
 -- an iteration is open
 unfoldable pub inside_iteration : List Frame → Bool
 inside_iteration [] = false
-inside_iteration (b ∷ bs) = elim b.kind [ Iter ↦ true | Then ↦ inside_iteration bs | Else ↦ inside_iteration bs ]
+inside_iteration (b ∷ bs) =
+    elim b.kind [ Iter ↦ true | Then ↦ inside_iteration bs | Else ↦ inside_iteration bs ]
 
 -- What a move gives: the cursor from which the text goes on, or the error by which the run is over.
 abbrev pub CursorOrError : Type 0
@@ -51,7 +53,10 @@ CursorOrError = Result Cursor Code
 
 -- inside a block that opens here
 abbrev pub inside_block : Kind → Option ℕ → List ℕ → Cursor → Cursor
-inside_block k turns bs c = record c { left = bs; blocks = record { kind = k; start = bs; left = turns } ∷ c.blocks }
+inside_block k turns bs c = record c {
+  left = bs;
+  blocks = record { kind = k; start = bs; left = turns } ∷ c.blocks;
+}
 
 -- after what is passed over
 abbrev pub after_skip : Past → Cursor → CursorOrError
@@ -98,12 +103,18 @@ pass_turn_end bs (b ∷ outer) = elim b.kind [ Iter ↦ block_comes ends_turn bs
 -- At the `|` after a first part that was run: the second part is passed over.
 abbrev pub pass_divider : List ℕ → List Frame → Coming
 pass_divider bs [] = fault_comes code.Ill
-pass_divider bs (b ∷ outer) = elim b.kind [ Then ↦ passed_or_fault (after_skip (past (list_at (Some Else) (suc (length outer)) bs).1) (after_block_end bs outer)) | _ ↦ fault_comes code.Ill ]
+pass_divider bs (b ∷ outer) =
+    elim b.kind [
+      | Then ↦ passed_or_fault
+          (after_skip (past (list_at (Some Else) (suc (length outer)) bs).1) (after_block_end bs outer))
+      | _ ↦ fault_comes code.Ill
+    ]
 
 -- At the `'` after a part that was run.
 abbrev pub pass_part_end : List ℕ → List Frame → Coming
 pass_part_end bs [] = fault_comes code.Ill
-pass_part_end bs (b ∷ outer) = elim b.kind [ Iter ↦ fault_comes code.Ill | _ ↦ passed_to (after_block_end bs outer) ]
+pass_part_end bs (b ∷ outer) =
+    elim b.kind [ Iter ↦ fault_comes code.Ill | _ ↦ passed_to (after_block_end bs outer) ]
 
 -- a mark, an instruction, and what was read: each is passed, or tells what comes
 abbrev pub pass_mark : BlockMark → List ℕ → Cursor → Coming
@@ -136,7 +147,8 @@ after_counted_start (suc n) bs c = Ok (inside_block Iter (Some n) bs c)
 -- An iteration starts: without end where it takes nothing, and not at all where its number is at most 0.
 abbrev pub after_iteration_start : Result Taken Code → List ℕ → Cursor → CursorOrError
 after_iteration_start (Ok taken.None) bs c = Ok (inside_block Iter None bs (record c { args = no_arguments }))
-after_iteration_start (Ok (taken.One n)) bs c = after_counted_start (turns_of n) bs (record c { args = no_arguments })
+after_iteration_start (Ok (taken.One n)) bs c =
+    after_counted_start (turns_of n) bs (record c { args = no_arguments })
 after_iteration_start (Ok (taken.Two m n)) bs c = Err code.Arg
 after_iteration_start (Err e) bs c = Err e
 
@@ -144,11 +156,20 @@ after_iteration_start (Err e) bs c = Err e
 abbrev pub next_turn_or_end : Option ℕ → Frame → List Frame → List ℕ → Cursor
 next_turn_or_end None b outer bs = record { args = no_arguments; left = b.start; blocks = b ∷ outer }
 next_turn_or_end (Some zero) b outer bs = after_block_end bs outer
-next_turn_or_end (Some (suc n)) b outer bs = record { args = no_arguments; left = b.start; blocks = record b { left = Some n } ∷ outer }
+next_turn_or_end (Some (suc n)) b outer bs = record {
+  args = no_arguments;
+  left = b.start;
+  blocks = record b { left = Some n } ∷ outer;
+}
 
 -- A turn ends: the next one begins, or the iteration is over.
 abbrev pub after_turn_end : List ℕ → Cursor → CursorOrError
-after_turn_end bs c = elim c.blocks [ [] ↦ Err code.Bni | b ∷ outer ↦ elim b.kind [ Iter ↦ Ok (next_turn_or_end b.left b outer bs) | _ ↦ Err code.Bni ] ]
+after_turn_end bs c =
+    elim c.blocks [
+      | [] ↦ Err code.Bni
+      | b ∷ outer ↦ elim b.kind
+          [ Iter ↦ Ok (next_turn_or_end b.left b outer bs) | _ ↦ Err code.Bni ]
+    ]
 
 -- inside the second part of a conditional, or after the conditional where it has none
 abbrev pub inside_second_part : Close → Cursor → CursorOrError
@@ -173,7 +194,8 @@ after_block_step ends_turn bs c = after_turn_end bs c
 after_block_step (decides t) bs c = inside_chosen_part t (takes_one code.Naq c.args) bs c
 
 -- One block is left: an iteration is the last one, and what is around a conditional is left too.
-abbrev pub after_leaving_block : (Cursor → CursorOrError) → Kind → Arguments → List Frame → Past → CursorOrError
+abbrev pub after_leaving_block : (Cursor → CursorOrError) → Kind → Arguments → List Frame
+    → Past → CursorOrError
 after_leaving_block on_ Iter a outer (Ok bs) = Ok (record { args = a; left = bs; blocks = outer })
 after_leaving_block on_ k a outer (Ok bs) = on_ (record { args = a; left = bs; blocks = outer })
 after_leaving_block on_ k a outer (Err e) = Err e
@@ -181,7 +203,8 @@ after_leaving_block on_ k a outer (Err e) = Err e
 -- The innermost iteration is left; SNI where none is open.
 unfoldable pub after_leaving_iteration : List Frame → Arguments → List ℕ → CursorOrError
 after_leaving_iteration [] a bs = Err code.Sni
-after_leaving_iteration (b ∷ outer) a bs = after_leaving_block (λ c. after_leaving_iteration outer c.args c.left) b.kind a outer
+after_leaving_iteration (b ∷ outer) a bs =
+    after_leaving_block (λ c. after_leaving_iteration outer c.args c.left) b.kind a outer
     (behind_block list_at b.kind (suc (length outer)) (list_at (Some b.kind) (suc (length outer)) bs).1)
 
 -- after a tag that was found, or else this
@@ -192,7 +215,8 @@ after_tag_or None a blocks on_ = on_
 -- A jump goes on after the first such tag directly in the innermost list that has one; TAG where none has.
 unfoldable pub after_jump : List ℕ → List ℕ → List Frame → Arguments → CursorOrError
 after_jump name text [] a = after_tag_or (tag_at name 0 text) a [] (Err code.Tag)
-after_jump name text (b ∷ outer) a = after_tag_or (tag_at name (suc (length outer)) b.start) a (b ∷ outer) (after_jump name text outer a)
+after_jump name text (b ∷ outer) a =
+    after_tag_or (tag_at name (suc (length outer)) b.start) a (b ∷ outer) (after_jump name text outer a)
 
 -- A text that has called another: its bytes, those that are left, and its open blocks.
 pub record Caller : Type 0 where
@@ -206,7 +230,8 @@ pub record Further : Type 0 where
   pub item : Item
   pub work : Work
 
--- the state, the bytes typed and the load so far; the text that runs, where it is, and what called it, the latest first; and a further step
+-- the state, the bytes typed and the load so far; the text that runs, where it is, and what called it, the
+-- latest first; and a further step
 pub record Config : Type 0 where
   pub state : State
   pub typed : List ℕ
@@ -233,7 +258,12 @@ leave_is_next s = false
 
 -- what a step of a token looks at around it
 abbrev pub setting_of : Modifiers → Option Work → Cursor → Setting
-setting_of m work c = record { modifiers = m; work = work; inside = inside_iteration c.blocks; before = leave_is_next (scan c.left) }
+setting_of m work c = record {
+  modifiers = m;
+  work = work;
+  inside = inside_iteration c.blocks;
+  before = leave_is_next (scan c.left);
+}
 
 -- at the beginning of a text that is called, with the same arguments; PDO inside CALL_LIMIT others
 abbrev pub in_called_text : List ℕ → Config → Machine
@@ -251,19 +281,31 @@ after_step_end m i leave c = runs_or_halts c (after_leaving_iteration c.at.block
 after_step_end m i (go name) c = runs_or_halts c (after_jump name c.text c.at.blocks c.at.args)
 after_step_end m i (call text) c = in_called_text text c
 after_step_end m i out c = halts c None
-after_step_end m i (again work) c = runs (record c { further = Some (record { modifiers = m; item = i; work = work }) })
+after_step_end m i (again work) c =
+    runs (record c { further = Some (record { modifiers = m; item = i; work = work }) })
 after_step_end m i (stop e) c = halts c (Some e)
 
 -- after a step of a token, its first or a further one
 abbrev pub after_token_step : Modifiers → Item → Option Work → Config → Machine
 after_token_step m i work c =
     let d : Step = effect i (setting_of m work c.at) c.state c.at.args in
-    after_step_end m i d.end (record c { state = d.state; typed = c.typed ++ d.typed; load = c.load + d.load; at = record c.at { args = d.arguments }; further = None })
+    after_step_end m i d.end (record c {
+      state = d.state;
+      typed = c.typed ++ d.typed;
+      load = c.load + d.load;
+      at = record c.at { args = d.arguments };
+      further = None;
+    })
 
 -- Where a text is over, its caller goes on with the arguments that are left.
 abbrev pub after_text_end : Config → List Caller → Machine
 after_text_end c [] = halts c None
-after_text_end c (b ∷ bs) = runs (record c { text = b.text; at = record { args = c.at.args; left = b.left; blocks = b.blocks }; callers = bs })
+after_text_end c (b ∷ bs) =
+    runs (record c {
+      text = b.text;
+      at = record { args = c.at.args; left = b.left; blocks = b.blocks };
+      callers = bs;
+    })
 
 -- What comes next, once all is passed that uses no step: a step, or the end of the run.
 pub data Ready : Type 0 where

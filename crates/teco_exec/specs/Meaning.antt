@@ -19,7 +19,8 @@ use Rattle.teco_scan.specs.Lists.{nodes}
 use Rattle.teco_exec.specs.Test.{holds}
 use Rattle.teco_exec.specs.World.{World, WorldAndEnd, without_arguments, world_after, pay}
 
--- the meaning of a list from a place in it; of the turns of an iteration that are left (none: without end); and of a further step
+-- the meaning of a list from a place in it; of the turns of an iteration that are left (none: without end);
+-- and of a further step
 pub record Meaning : Type 0 where
   pub list : Nodes → Nodes → World → ℕ → Bool → WorldAndEnd
   pub turns : Option ℕ → Nodes → World → ℕ → WorldAndEnd
@@ -35,17 +36,22 @@ run_after_tag m whole w depth inside name None = (w, go name)
 -- what a list does after a node of it
 abbrev pub then_rest : Meaning → Nodes → Nodes → ℕ → Bool → World → End → WorldAndEnd
 then_rest m whole rest depth inside w on = m.list whole rest w depth inside
-then_rest m whole rest depth inside w (go name) = run_after_tag m whole w depth inside name (after_tag name whole)
+then_rest m whole rest depth inside w (go name) =
+    run_after_tag m whole w depth inside name (after_tag name whole)
 then_rest m whole rest depth inside w e = (w, e)
 
--- A macro's text is run with the same arguments, inside no iteration; at most CALL_LIMIT calls are open; its jump to nowhere is TAG.
+-- A macro's text is run with the same arguments, inside no iteration; at most CALL_LIMIT calls are open; its
+-- jump to nowhere is TAG.
 abbrev pub after_call : World → End → WorldAndEnd
 after_call w (go name) = (w, stop code.Tag)
 after_call w e = (w, e)
 
 abbrev pub run_call : Meaning → List ℕ → World → ℕ → WorldAndEnd
 run_call m text w depth =
-    if depth == CALL_LIMIT then (w, stop code.Pdo) else (let r : WorldAndEnd = m.list (nodes text) (nodes text) w (depth + 1) false in after_call r.0 r.1)
+    if depth == CALL_LIMIT
+    then (w, stop code.Pdo)
+    else (let r : WorldAndEnd = m.list (nodes text) (nodes text) w (depth + 1) false in
+    after_call r.0 r.1)
 
 -- what a token does after a step of it: a call runs its text, and a further step has fuel of its own
 abbrev pub run_after_step : Meaning → Item → Setting → ℕ → World → End → WorldAndEnd
@@ -54,9 +60,12 @@ run_after_step m i setting depth w (again work) = m.further i (record setting { 
 run_after_step m i setting depth w e = (w, e)
 
 abbrev pub run_step : Meaning → Item → Setting → World → ℕ → WorldAndEnd
-run_step m i setting w depth = let d : Step = effect i setting w.state w.arguments in run_after_step m i setting depth (world_after w d) d.end
+run_step m i setting w depth =
+    let d : Step = effect i setting w.state w.arguments in
+    run_after_step m i setting depth (world_after w d) d.end
 
--- the arguments that an iteration takes: n turns, not at all where n is at most 0, without end where n is missing
+-- the arguments that an iteration takes: n turns, not at all where n is at most 0, without end where n is
+-- missing
 abbrev pub turns_of : ℤ → ℕ
 turns_of (pos n) = n
 turns_of (negsuc n) = 0
@@ -73,10 +82,13 @@ after_part w on = (without_arguments w, on)
 after_part w e = (w, e)
 
 abbrev pub run_part : Meaning → Nodes → World → ℕ → Bool → WorldAndEnd
-run_part m nodes w depth inside = let r : WorldAndEnd = m.list nodes nodes w depth inside in after_part r.0 r.1
+run_part m nodes w depth inside =
+    let r : WorldAndEnd = m.list nodes nodes w depth inside in
+    after_part r.0 r.1
 
 abbrev pub run_conditional : Meaning → Test → Nodes → Nodes → World → ℕ → Bool → Result ℤ Code → WorldAndEnd
-run_conditional m t first second w depth inside (Ok n) = run_part m (if holds t n then first else second) (without_arguments w) depth inside
+run_conditional m t first second w depth inside (Ok n) =
+    run_part m (if holds t n then first else second) (without_arguments w) depth inside
 run_conditional m t first second w depth inside (Err c) = (w, stop c)
 
 -- whether the next node is `;` without modifiers
@@ -98,11 +110,15 @@ list_by m whole (faulty c) w depth inside = (w, stop c)
 list_by m whole (tag name rest) w depth inside = list_by m whole rest w depth inside
 list_by m whole (escape rest) w depth inside = list_by m whole rest (without_arguments w) depth inside
 list_by m whole (item marks i rest) w depth inside =
-    pay w (λ v. let r : WorldAndEnd = run_step m i (first_setting marks inside (leave_comes rest)) v depth in then_rest m whole rest depth inside r.0 r.1)
+    pay w (λ v. let r : WorldAndEnd = run_step m i (first_setting marks inside (leave_comes rest)) v depth in
+    then_rest m whole rest depth inside r.0 r.1)
 list_by m whole (iter body rest) w depth inside =
-    pay w (λ v. let r : WorldAndEnd = run_iteration m body v depth (taken_from v.arguments) in then_rest m whole rest depth inside r.0 r.1)
+    pay w (λ v. let r : WorldAndEnd = run_iteration m body v depth (taken_from v.arguments) in
+    then_rest m whole rest depth inside r.0 r.1)
 list_by m whole (cond t first second rest) w depth inside =
-    pay w (λ v. let r : WorldAndEnd = run_conditional m t first second v depth inside (takes_one code.Naq v.arguments) in then_rest m whole rest depth inside r.0 r.1)
+    pay w (λ v. let r : WorldAndEnd =
+    run_conditional m t first second v depth inside (takes_one code.Naq v.arguments) in
+    then_rest m whole rest depth inside r.0 r.1)
 
 -- The end of each turn uses a step and drops the arguments; leaving ends the iteration.
 abbrev pub after_turn : Meaning → Option ℕ → Nodes → ℕ → World → End → WorldAndEnd
@@ -111,7 +127,9 @@ after_turn m left body depth w leave = (w, on)
 after_turn m left body depth w e = (w, e)
 
 abbrev pub run_turn : Meaning → Option ℕ → Nodes → World → ℕ → WorldAndEnd
-run_turn m left body w depth = let r : WorldAndEnd = list_by m body body w depth true in after_turn m left body depth r.0 r.1
+run_turn m left body w depth =
+    let r : WorldAndEnd = list_by m body body w depth true in
+    after_turn m left body depth r.0 r.1
 
 unfoldable pub turns_by : Meaning → Option ℕ → Nodes → World → ℕ → WorldAndEnd
 turns_by m None body w depth = run_turn m None body w depth

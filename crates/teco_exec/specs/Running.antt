@@ -4,6 +4,8 @@ use Rattle.teco_core.specs.Arguments.{Arguments}
 use Rattle.teco_core.specs.ArgumentsView.{arguments}
 use Rattle.teco_core.specs.declared.code.Code.{Code}
 use Rattle.teco_core.specs.declared.code.Code.TheVariants.{Mem}
+use Rattle.teco_scan.specs.Scan as items
+use Rattle.teco_scan.specs.declared.command.RegisterCommand.TheVariants as register_command
 use Rattle.teco_scan.specs.declared.token.Token.{Token}
 use Rattle.teco_store.specs.State.{State}
 use Rattle.teco_store.specs.Trail.{Trail}
@@ -32,7 +34,8 @@ pub record Origin : Type 0 where
   pub screen : Screen
   pub limit : ℕ
 
--- What is seen of a run at a moment: the state of the desk and what the desk follows, the screen, and the steps that are done.
+-- What is seen of a run at a moment: the state of the desk and what the desk follows, the screen, and the
+-- steps that are done.
 pub record Host : Type 1 where
   pub state : State
   pub follows : Trail → Type 0
@@ -57,18 +60,25 @@ whole_run o = runs (start_config o.state o.text)
 
 -- what the whole text means under a limit of so many steps
 abbrev pub now_at : Origin → ℕ → Now
-now_at o k = record { state = (string_meaning o.state o.text k).state; typed = (string_meaning o.state o.text k).typed; load = (string_meaning o.state o.text k).load }
+now_at o k = record {
+  state = (string_meaning o.state o.text k).state;
+  typed = (string_meaning o.state o.text k).typed;
+  load = (string_meaning o.state o.text k).load;
+}
 
--- By this moment the desk and the screen are as the whole text means, and its run, which the machine is, goes on so under each limit.
+-- By this moment the desk and the screen are as the whole text means, and its run, which the machine is, goes
+-- on so under each limit.
 pub record RunGoesOn (o : Origin) (h : Host) (next : Continuation) : Type 0 where
   pub means : MachineMeans
   pub state : h.state ≡ (now_at o h.steps).state
   pub shows : Shows o.screen h.screen (now_at o h.steps).typed false
-  pub leads : (fuel : ℕ) → run_within (h.steps + fuel) (whole_run o) ≡ ready_run fuel (next (now_at o h.steps))
+  pub leads : (fuel : ℕ)
+      → run_within (h.steps + fuel) (whole_run o) ≡ ready_run fuel (next (now_at o h.steps))
 
 -- If the desk followed the run up to one moment, it follows it up to another.
 abbrev pub StillFollows : Origin → Host → Host → Type 0
-StillFollows o before after = (floor : ℕ) → before.follows (trail_of o.state o.text floor before.steps) → after.follows (trail_of o.state o.text floor after.steps)
+StillFollows o before after = (floor : ℕ) → before.follows (trail_of o.state o.text floor before.steps)
+    → after.follows (trail_of o.state o.text floor after.steps)
 
 pub record ReachesContinuation (o : Origin) (before after : Host) (next : Continuation) : Type 0 where
   pub going : RunGoesOn o after next
@@ -94,23 +104,40 @@ abbrev pub Reaches : Origin → Host → Host → Reached → Type 0
 Reaches o before after (goes next) = ReachesContinuation o before after next
 Reaches o before after (over code) = ReachesEnd o before after code
 
--- From one moment to a later one a run under this limit is led from a continuation to where it then has got, whatever has called the text.
+-- From one moment to a later one a run under this limit is led from a continuation to where it then has got,
+-- whatever has called the text.
 abbrev pub RunLeads : ℕ → Host → Host → (List Caller → Continuation) → (List Caller → Reached) → Type 0
-RunLeads limit before after from to = (o : Origin) (callers : List Caller) → o.limit ≡ limit → RunGoesOn o before (from callers) → Reaches o before after (to callers)
+RunLeads limit before after from to = (o : Origin) (callers : List Caller) → o.limit ≡ limit
+    → RunGoesOn o before (from callers) → Reaches o before after (to callers)
 
 -- The same, for a text at this depth of calls.
 abbrev pub RunLeadsAt : ℕ → ℕ → Host → Host → (List Caller → Continuation) → (List Caller → Reached) → Type 0
 RunLeadsAt depth limit before after from to =
-    (o : Origin) (callers : List Caller) → o.limit ≡ limit → length callers ≡ depth → RunGoesOn o before (from callers) → Reaches o before after (to callers)
+    (o : Origin) (callers : List Caller) → o.limit ≡ limit → length callers ≡ depth
+    → RunGoesOn o before (from callers) → Reaches o before after (to callers)
 
 -- what a run comes to from there
 abbrev pub reached_run : ℕ → Now → Reached → Final
 reached_run fuel now (goes next) = ready_run fuel (next now)
-reached_run fuel now (over code) = record { state = now.state; typed = now.typed; load = now.load; fuel = fuel; code = code }
+reached_run fuel now (over code) = record {
+  state = now.state;
+  typed = now.typed;
+  load = now.load;
+  fuel = fuel;
+  code = code;
+}
 
 abbrev pub config : List ℕ → machine.Cursor → Option Further → List Caller → Now → Config
 config text c further callers now =
-    record { state = now.state; typed = now.typed; load = now.load; text = text; at = c; callers = callers; further = further }
+    record {
+      state = now.state;
+      typed = now.typed;
+      load = now.load;
+      text = text;
+      at = c;
+      callers = callers;
+      further = further;
+    }
 
 -- A text goes on at a cursor.
 abbrev pub at_cursor : Cursor → List Caller → Continuation
@@ -118,11 +145,20 @@ at_cursor c callers now = ready_of (runs (config c.text.now (cursor c) None call
 
 -- It goes on with a step of this token, the first or a further one.
 abbrev pub at_token : Cursor → Token → Option Work → List Caller → Continuation
-at_token c token work callers now = step token.modifiers (item_of_kind c.text.now token.kind) work (config c.text.now (cursor c) None callers now)
+at_token c token work callers now =
+    step token.modifiers (item_of_kind c.text.now token.kind) work
+    (config c.text.now (cursor c) None callers now)
 
 -- It goes on with a step of a block, whose token ends at a place.
 abbrev pub at_block_step : Cursor → BlockStep → ℕ → List Caller → Continuation
-at_block_step c o to callers now = block (block_step_of o) (drop to c.text.now) (config c.text.now (cursor c) None callers now)
+at_block_step c o to callers now =
+    block (block_step_of o) (drop to c.text.now) (config c.text.now (cursor c) None callers now)
+
+-- It goes on with a step that calls the text of this register. Modifiers mean nothing to it.
+abbrev pub at_register_call : Cursor → ℕ → List Caller → Continuation
+at_register_call c q callers now =
+    step (record { at = false; colons = 0 }) (items.register register_command.Macro q) None
+    (config c.text.now (cursor c) None callers now)
 
 -- It goes on with a call of this text.
 abbrev pub at_call : Cursor → List ℕ → List Caller → Continuation
@@ -143,7 +179,7 @@ cursor_after_call a c = record { args = a; left = c.left; blocks = c.blocks }
 -- where a flow leads
 abbrev pub reached_by_flow : Cursor → List Caller → Flow → Reached
 reached_by_flow c callers flow.On = goes (at_cursor c callers)
-reached_by_flow c callers (flow.Call text) = goes (at_call c text.items callers)
+reached_by_flow c callers (flow.Call q) = goes (at_register_call c q callers)
 reached_by_flow c callers flow.Return = goes (at_return (arguments c.args) callers)
 reached_by_flow c callers (flow.Over code) = over code
 
@@ -162,17 +198,17 @@ abbrev pub code_left : Exit → Option Code
 code_left exit.Return = None
 code_left (exit.Over code) = code
 
--- the text goes on, at its cursor or in a text that it calls
+-- the text goes on at its cursor
 abbrev pub GoesOn : Flow → Type 0
 GoesOn flow.On = Unit {0}
-GoesOn (flow.Call text) = Unit {0}
+GoesOn (flow.Call q) = ⊥
 GoesOn flow.Return = ⊥
 GoesOn (flow.Over code) = ⊥
 
 -- A text of values and arithmetic alone goes on at such a text, or is over, but not for want of memory.
 abbrev pub GoesQuietly : Cursor → Flow → Type 0
 GoesQuietly c flow.On = IsQuiet (cursor c)
-GoesQuietly c (flow.Call text) = ⊥
+GoesQuietly c (flow.Call q) = ⊥
 GoesQuietly c flow.Return = Unit {0}
 GoesQuietly c (flow.Over code) = code ≢ Some Mem
 

@@ -8,20 +8,23 @@ use Rattle.teco_exec.specs.StringMeaning.{string_meaning}
 use Rattle.teco_exec.specs.declared.outcome.Outcome.{Outcome}
 
 -- the string ended by itself
-pub record EndsWell (s : State) (text : List ℕ) (limit : ℕ) (outcome : Outcome) (typed : List ℕ) (new : State) : Type 0 where
+pub record EndsWell (s : State) (text : List ℕ) (limit : ℕ) (outcome : Outcome) (typed : List ℕ)
+    (new : State) : Type 0 where
   pub code : outcome.code ≡ (string_meaning s text limit).code
   pub steps : outcome.steps ≡ (string_meaning s text limit).steps
   pub state : new ≡ (string_meaning s text limit).state
   pub bytes : typed ≡ (string_meaning s text limit).typed
 
 -- the string ended by want of memory after k whole steps
-pub record EndsByMemory (s : State) (text : List ℕ) (limit k : ℕ) (typed : List ℕ) (new : State) : Type 0 where
+pub record EndsByMemory (s : State) (text : List ℕ) (limit k : ℕ) (typed : List ℕ)
+    (new : State) : Type 0 where
   pub before : k < (string_meaning s text limit).steps
   pub state : new ≡ (string_meaning s text k).state
   pub bytes : typed ≡ (string_meaning s text k).typed
 
 -- the terminal failed in the step after k whole steps, which types
-pub record EndsByTerminal (s : State) (text : List ℕ) (limit k : ℕ) (typed : List ℕ) (new : State) : Type 0 where
+pub record EndsByTerminal (s : State) (text : List ℕ) (limit k : ℕ) (typed : List ℕ)
+    (new : State) : Type 0 where
   pub before : k < (string_meaning s text limit).steps
   pub state : new ≡ (string_meaning s text k).state
   pub types : (string_meaning s text k).typed ≢ (string_meaning s text (k + 1)).typed

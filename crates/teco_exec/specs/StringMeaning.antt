@@ -31,7 +31,13 @@ unfoldable pub string_run : State → List ℕ → ℕ → WorldAndEnd
 string_run s text limit = meaning.list (nodes text) (nodes text) (first_world s limit) 0 false
 
 abbrev pub meaning_within : ℕ → WorldAndEnd → StringMeaning
-meaning_within limit r = record { state = r.0.state; typed = r.0.typed; code = code_of r.1; steps = limit - r.0.fuel; load = r.0.load }
+meaning_within limit r = record {
+  state = r.0.state;
+  typed = r.0.typed;
+  code = code_of r.1;
+  steps = limit - r.0.fuel;
+  load = r.0.load;
+}
 
 -- the meaning of a text in a state, under a limit of steps
 abbrev pub string_meaning : State → List ℕ → ℕ → StringMeaning

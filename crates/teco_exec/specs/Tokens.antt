@@ -1,9 +1,10 @@
 -- Steps of tokens: what they count, what they look at around them, and where they lead.
-use Rattle.std.specs.Prelude.{◌≡◌, ◌≤◌, Bool, true, false, List, Some}
+use Rattle.std.specs.Prelude.{◌≡◌, ◌≤◌, ℕ, Bool, true, false, List, Some}
 use Rattle.teco_scan.specs.declared.command.Bare.TheVariants.{Command}
 use Rattle.teco_scan.specs.declared.command.Command.TheVariants.{Leave}
+use Rattle.teco_scan.specs.declared.command.RegisterCommand.TheVariants.{Macro}
 use Rattle.teco_scan.specs.declared.command.TextCommand.TheVariants.{Search, SearchPages, SearchPagesQuietly}
-use Rattle.teco_scan.specs.declared.token.Item.TheVariants.{Bare, Replace, Text}
+use Rattle.teco_scan.specs.declared.token.Item.TheVariants.{Bare, Register, Replace, Text}
 use Rattle.teco_scan.specs.declared.token.Token.{Token}
 use Rattle.teco_scan.specs.declared.token.TokenKind.{TokenKind}
 use Rattle.teco_scan.specs.declared.token.TokenKind.TheVariants.{Item}
@@ -27,6 +28,14 @@ looks_around (Item (Text SearchPages span)) = true
 looks_around (Item (Text SearchPagesQuietly span)) = true
 looks_around (Item (Replace old new)) = true
 looks_around k = false
+
+-- Tokens that call the text of a register, and such a token.
+abbrev pub calls_text : TokenKind → Bool
+calls_text (Item (Register Macro q)) = true
+calls_text k = false
+
+abbrev pub call_of : ℕ → TokenKind
+call_of q = Item (Register Macro q)
 
 -- where a step of a token leads
 abbrev pub reached_by_progress : Cursor → Token → List Caller → Progress → Reached

@@ -22,7 +22,11 @@ use Rattle.teco_exec.specs.declared.moves.Coming.{Coming}
 use Rattle.teco_exec.specs.declared.moves.Coming.TheVariants as coming
 
 abbrev pub cursor : Cursor → machine.Cursor
-cursor c = record { args = arguments c.args; left = drop c.at c.text.now; blocks = frames c.text.now c.blocks }
+cursor c = record {
+  args = arguments c.args;
+  left = drop c.at c.text.now;
+  blocks = frames c.text.now c.blocks;
+}
 
 -- the beginning of a text
 abbrev pub cursor_at_start : Arguments → List ℕ → machine.Cursor
@@ -71,7 +75,8 @@ abbrev pub MayOpen : BlockStep → List Block → Type 0
 MayOpen block.EndTurn bs = EndsTurn bs
 MayOpen o bs = length bs < BLOCK_LIMIT
 
--- what else is told of what comes next: what is no move leaves the cursor as it was, but at a step it is after the token
+-- what else is told of what comes next: what is no move leaves the cursor as it was, but at a step it is
+-- after the token
 abbrev pub TellsComing : Cursor → Cursor → Found → Coming → Type 0
 TellsComing old new f coming.Passed = Unit {0}
 TellsComing old new f coming.Step = IsStepFound new.text.now f

@@ -113,7 +113,8 @@ impl<'r> Blocks<'r> {
     /// turn: then nothing changes.
     pub fn next_turn(&mut self) -> Option<usize>
         requires { EndsTurn self.old }
-        ensures { MatchOption result ((next_turn self.old ≡ None) × (self.new ≡ self.old)) (λ start. (next_turn self.old ≡ Some self.new) × (list_start self.new ≡ start)) }
+        ensures { MatchOption result ((next_turn self.old ≡ None) × (self.new ≡ self.old))
+            (λ start. (next_turn self.old ≡ Some self.new) × (list_start self.new ≡ start)) }
     {
         if self.depth == 0 {
             return None;

@@ -1,16 +1,16 @@
 //! What a step of a text leads to, and what is counted.
 ghost use Rattle.std.specs.Prelude.{◌≡◌, ◌≤◌};
 
-use teco_core::Code;
+use teco_core::{Code, Reg};
 use teco_step::Work;
 
 /// What one step of a text leads to.
-#[derive(Drop)]
+#[derive(Clone, Copy)]
 pub(crate) enum Flow {
     /// The text goes on at the cursor.
     On,
-    /// This text is run, and then its caller goes on at its cursor.
-    Call(Vec<u8>),
+    /// A step comes that calls the text of this register, and then the text goes on at the cursor.
+    Call(Reg),
     /// The text is over, and its caller goes on.
     Return,
     /// The whole run is over.
@@ -18,7 +18,7 @@ pub(crate) enum Flow {
 }
 
 /// What one step of a token leads to.
-#[derive(Drop)]
+#[derive(Clone, Copy)]
 pub(crate) enum Progress {
     /// A further step of the same token, with this work left.
     Further(Work),

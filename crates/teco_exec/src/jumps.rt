@@ -11,7 +11,9 @@ impl<'t> Cursor<'t> {
     /// Leaves the innermost iteration.
     pub fn leave(&mut self) -> Result<(), Code>
         ensures text { self.new.text ≡ self.old.text }
-        ensures moves { cursor_or_error self.new result ≡ machine.after_leaving_iteration (cursor self.old).blocks (cursor self.old).args (cursor self.old).left }
+        ensures moves { cursor_or_error self.new result
+            ≡ machine.after_leaving_iteration (cursor self.old).blocks (cursor self.old).args
+            (cursor self.old).left }
         ensures finished { ResultFinishes result }
     {
         'leaving: loop {
@@ -31,7 +33,8 @@ impl<'t> Cursor<'t> {
     /// Jumps past the first tag of this name that is directly in the innermost list of commands that has one.
     pub fn jump(&mut self, name: &[u8]) -> Result<(), Code>
         ensures text { self.new.text ≡ self.old.text }
-        ensures moves { cursor_or_error self.new result ≡ machine.after_jump name.now self.old.text.now (cursor self.old).blocks (cursor self.old).args }
+        ensures moves { cursor_or_error self.new result
+            ≡ machine.after_jump name.now self.old.text.now (cursor self.old).blocks (cursor self.old).args }
         ensures finished { ResultFinishes result }
     {
         'jumping: loop {

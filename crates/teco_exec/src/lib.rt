@@ -2,6 +2,7 @@
 #![tactic(auto)]
 
 mod blocks;
+mod called;
 mod conditions;
 mod cursor;
 mod flow;

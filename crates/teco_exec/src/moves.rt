@@ -84,7 +84,9 @@ impl<'t> Cursor<'t> {
     fn pass_mark(&mut self, mark: BlockMark, to: usize) -> Coming
         requires { to ≤ length self.old.text.now }
         ensures text { self.new.text ≡ self.old.text }
-        ensures comes { (found : Found) → coming_of self.new found result ≡ machine.pass_mark mark (drop to self.old.text.now) (cursor self.old) }
+        ensures comes { (found : Found)
+            → coming_of self.new found result
+            ≡ machine.pass_mark mark (drop to self.old.text.now) (cursor self.old) }
         ensures told { (found : Found) → TellsComing self.old self.new found result }
     {
         match mark {
@@ -99,7 +101,9 @@ impl<'t> Cursor<'t> {
     fn pass_opening(&self, block: BlockStep, to: usize) -> Coming
         requires within { to ≤ length self.now.text.now }
         requires opens { block_step_of block ≢ machine.ends_turn }
-        ensures comes { (found : Found) → coming_of self.now found result ≡ machine.pass_opening (block_step_of block) (drop to self.now.text.now) (cursor self.now) }
+        ensures comes { (found : Found)
+            → coming_of self.now found result
+            ≡ machine.pass_opening (block_step_of block) (drop to self.now.text.now) (cursor self.now) }
         ensures told { (found : Found) → TellsComing self.now self.now found result }
     {
         if self.blocks.len() == BLOCK_LIMIT {
@@ -112,7 +116,9 @@ impl<'t> Cursor<'t> {
     /// At `>`: a turn ends here, if the innermost block is an iteration.
     fn pass_turn_end(&self, to: usize) -> Coming
         requires { to ≤ length self.now.text.now }
-        ensures comes { (found : Found) → coming_of self.now found result ≡ machine.pass_turn_end (drop to self.now.text.now) (cursor self.now).blocks }
+        ensures comes { (found : Found)
+            → coming_of self.now found result
+            ≡ machine.pass_turn_end (drop to self.now.text.now) (cursor self.now).blocks }
         ensures told { (found : Found) → TellsComing self.now self.now found result }
     {
         match self.blocks.top() {
@@ -128,7 +134,9 @@ impl<'t> Cursor<'t> {
     fn pass_divider(&mut self, to: usize) -> Coming
         requires { to ≤ length self.old.text.now }
         ensures text { self.new.text ≡ self.old.text }
-        ensures comes { (found : Found) → coming_of self.new found result ≡ machine.pass_divider (drop to self.old.text.now) (cursor self.old).blocks }
+        ensures comes { (found : Found)
+            → coming_of self.new found result
+            ≡ machine.pass_divider (drop to self.old.text.now) (cursor self.old).blocks }
         ensures told { (found : Found) → TellsComing self.old self.new found result }
     {
         let depth = self.blocks.len();
@@ -152,7 +160,9 @@ impl<'t> Cursor<'t> {
     fn pass_part_end(&mut self, to: usize) -> Coming
         requires { to ≤ length self.old.text.now }
         ensures text { self.new.text ≡ self.old.text }
-        ensures comes { (found : Found) → coming_of self.new found result ≡ machine.pass_part_end (drop to self.old.text.now) (cursor self.old).blocks }
+        ensures comes { (found : Found)
+            → coming_of self.new found result
+            ≡ machine.pass_part_end (drop to self.old.text.now) (cursor self.old).blocks }
         ensures told { (found : Found) → TellsComing self.old self.new found result }
     {
         match self.blocks.pop() {
@@ -173,7 +183,8 @@ impl<'t> Cursor<'t> {
         requires within { to ≤ length self.old.text.now }
         requires opens { MayOpen block self.old.blocks }
         ensures text { self.new.text ≡ self.old.text }
-        ensures moves { cursor_or_error self.new result ≡ machine.after_block_step (block_step_of block) (drop to self.old.text.now) (cursor self.old) }
+        ensures moves { cursor_or_error self.new result
+            ≡ machine.after_block_step (block_step_of block) (drop to self.old.text.now) (cursor self.old) }
         ensures finished { ResultFinishes result }
     {
         match block {
@@ -191,7 +202,8 @@ impl<'t> Cursor<'t> {
         requires within { to ≤ length self.old.text.now }
         requires few { length self.old.blocks < BLOCK_LIMIT }
         ensures text { self.new.text ≡ self.old.text }
-        ensures moves { cursor_or_error self.new result ≡ machine.after_block_step machine.iterates (drop to self.old.text.now) (cursor self.old) }
+        ensures moves { cursor_or_error self.new result
+            ≡ machine.after_block_step machine.iterates (drop to self.old.text.now) (cursor self.old) }
         ensures finished { ResultFinishes result }
     {
         match self.args.take()? {
@@ -215,7 +227,8 @@ impl<'t> Cursor<'t> {
         requires within { to ≤ length self.old.text.now }
         requires few { length self.old.blocks < BLOCK_LIMIT }
         ensures text { self.new.text ≡ self.old.text }
-        ensures moves { cursor_or_error self.new result ≡ machine.after_block_step (machine.decides test) (drop to self.old.text.now) (cursor self.old) }
+        ensures moves { cursor_or_error self.new result
+            ≡ machine.after_block_step (machine.decides test) (drop to self.old.text.now) (cursor self.old) }
         ensures finished { ResultFinishes result }
     {
         match self.args.take()? {
@@ -236,7 +249,8 @@ impl<'t> Cursor<'t> {
         requires within { to ≤ length self.old.text.now }
         requires ends { EndsTurn self.old.blocks }
         ensures text { self.new.text ≡ self.old.text }
-        ensures moves { Ok (cursor self.new) ≡ machine.after_block_step machine.ends_turn (drop to self.old.text.now) (cursor self.old) }
+        ensures moves { Ok (cursor self.new)
+            ≡ machine.after_block_step machine.ends_turn (drop to self.old.text.now) (cursor self.old) }
     {
         self.args.clear();
         match self.blocks.next_turn() {
@@ -253,7 +267,9 @@ impl<'t> Cursor<'t> {
         requires within { start ≤ length self.old.text.now }
         requires few { length self.old.blocks < BLOCK_LIMIT }
         ensures text { self.new.text ≡ self.old.text }
-        ensures enters { cursor self.new ≡ machine.inside_block (kind_of body) (turns_left body) (drop start self.old.text.now) (cursor self.old) }
+        ensures enters { cursor self.new
+            ≡ machine.inside_block (kind_of body) (turns_left body) (drop start self.old.text.now)
+            (cursor self.old) }
     {
         self.blocks.push(Block { start, body });
         self.at = start;
@@ -264,7 +280,8 @@ impl<'t> Cursor<'t> {
         requires within { start ≤ length self.old.text.now }
         requires few { length self.old.blocks < BLOCK_LIMIT }
         ensures text { self.new.text ≡ self.old.text }
-        ensures moves { cursor_or_error self.new result ≡ machine.after_counted_start 0 (drop start self.old.text.now) (cursor self.old) }
+        ensures moves { cursor_or_error self.new result
+            ≡ machine.after_counted_start 0 (drop start self.old.text.now) (cursor self.old) }
         ensures finished { ResultFinishes result }
     {
         self.at = skip_whole_block(self.text, start, Kind::Iter, self.blocks.len() + 1)?;
@@ -276,7 +293,8 @@ impl<'t> Cursor<'t> {
         requires within { start ≤ length self.old.text.now }
         requires few { length self.old.blocks < BLOCK_LIMIT }
         ensures text { self.new.text ≡ self.old.text }
-        ensures moves { cursor_or_error self.new result ≡ machine.after_first_part (drop start self.old.text.now) (cursor self.old) }
+        ensures moves { cursor_or_error self.new result
+            ≡ machine.after_first_part (drop start self.old.text.now) (cursor self.old) }
         ensures finished { ResultFinishes result }
     {
         let stop = skip_block(self.text, start, Kind::Then, self.blocks.len() + 1)?;

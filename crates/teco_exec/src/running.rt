@@ -1,10 +1,11 @@
 //! The run of a command string.
-ghost use Rattle.std.specs.Prelude.{◌≡◌, ◌≤◌, ℕ, List, Some, length, true, false, None};
+ghost use Rattle.std.specs.Prelude.{◌≡◌, ◌≤◌, ◌<◌, ℕ, List, Some, length, true, false, None};
 ghost use Rattle.teco_core.specs.ArgumentsView.{arguments};
+ghost use Rattle.teco_core.specs.Register.{content};
 ghost use Rattle.teco_core.specs.declared.code.Code.TheVariants.{Mem};
 ghost use Rattle.teco_scan.specs.Lists.{nodes};
 ghost use Rattle.teco_step.specs.Terminal.{Shows};
-ghost use Rattle.teco_exec.specs.Running.{RunLeadsAt, at_beginning, at_call, reached_by_exit, reached_after_call, host};
+ghost use Rattle.teco_exec.specs.Running.{RunLeadsAt, at_beginning, at_register_call, reached_by_exit, reached_after_call, host};
 ghost use Rattle.teco_exec.specs.Tokens.{CountsSteps};
 ghost use Rattle.teco_exec.specs.View.{cursor as cursor_of};
 ghost use Rattle.teco_exec.specs.Quiet.{takes_no_memory};
@@ -13,12 +14,13 @@ ghost use Rattle.teco_exec.specs.StringMeaning.{string_meaning};
 ghost use Rattle.teco_exec.specs.declared.flow.Exit.TheVariants as exit;
 
 use crate::blocks::{Block, Body};
+use crate::called::{SHORT_LIMIT, short_copy};
 use crate::cursor::Cursor;
 use crate::flow::{Exit, Flow, Steps};
 use crate::laws::{machine_laws, meaning_laws};
 use crate::outcome::Outcome;
 use crate::stepping::step;
-use teco_core::{Args, BLOCK_LIMIT, CALL_LIMIT, Code};
+use teco_core::{Args, BLOCK_LIMIT, CALL_LIMIT, Code, Reg};
 use teco_step::Terminal;
 use teco_store::Desk;
 
@@ -28,7 +30,7 @@ use teco_store::Desk;
 /// or [`Code::Tty`] after some whole steps, with the state and the typed bytes of just these. By [`Code::Tty`] it ends only where a
 /// put failed, and then the terminal may show a beginning of what the next step types. A step that is reached when `limit` steps are
 /// taken isn't begun, and the string ends by [`Code::Lim`]. After each step that counts, a failing one too, the desk is told so.
-/// It takes no memory itself, though its steps may: a string of values and arithmetic alone never ends by [`Code::Mem`].
+/// It takes memory for the copy of a text that is called and is not short, and its other steps may take some: a string of values and arithmetic alone never ends by [`Code::Mem`].
 pub fn run<D: Desk, T: Terminal>(desk: &mut D, text: &[u8], limit: u64, term: &mut T) -> Outcome
     ensures run { (typed : List ℕ) × Runs (D.state desk.old) text.now limit result typed (D.state desk.new)
         × Shows (T.screen term.old) (T.screen term.new) typed (is_tty result) }
@@ -36,7 +38,8 @@ pub fn run<D: Desk, T: Terminal>(desk: &mut D, text: &[u8], limit: u64, term: &m
     ensures follows { (floor : ℕ) → D.follows desk.old (trail_of (D.state desk.old) text.now floor 0)
         → D.follows desk.new (trail_of (D.state desk.old) text.now floor result.steps) }
     ensures no_memory { takes_no_memory (nodes text.now) ≡ true → result.code ≡ Some Mem → ⊥ }
-    ensures exit { (D.state desk.old).is_done ≡ false → (D.state desk.new).is_done ≡ true → result.code ≡ None }
+    ensures exit { (D.state desk.old).is_done ≡ false → (D.state desk.new).is_done ≡ true
+        → result.code ≡ None }
 {
     machine_laws();
     meaning_laws();
@@ -61,9 +64,11 @@ fn run_text<D: Desk, T: Terminal>(
 ) -> Exit
     requires { depth ≤ CALL_LIMIT }
     ensures counts { CountsSteps steps.old steps.new }
-    ensures leads { RunLeadsAt depth steps.old.limit (host (D.state desk.old) (D.follows desk.old) (T.screen term.old) steps.old.done)
+    ensures leads { RunLeadsAt depth steps.old.limit
+        (host (D.state desk.old) (D.follows desk.old) (T.screen term.old) steps.old.done)
         (host (D.state desk.new) (D.follows desk.new) (T.screen term.new) steps.new.done)
-        (at_beginning (arguments args.old) text.now) (λ callers. reached_by_exit (arguments args.new) callers result) }
+        (at_beginning (arguments args.old) text.now)
+        (λ callers. reached_by_exit (arguments args.new) callers result) }
     ensures no_memory { takes_no_memory (nodes text.now) ≡ true → result ≡ exit.Over (Some Mem) → ⊥ }
 {
     let mut room = [Block {
@@ -74,8 +79,8 @@ fn run_text<D: Desk, T: Terminal>(
     'running: loop {
         match step(desk, &mut cursor, steps, term) {
             Flow::On => continue 'running,
-            Flow::Call(called) => {
-                match run_called(desk, &called, depth, &mut cursor, steps, term) {
+            Flow::Call(q) => {
+                match run_called(desk, q, depth, &mut cursor, steps, term) {
                     Exit::Return => continue 'running,
                     Exit::Over(code) => return Exit::Over(code),
                 }
@@ -89,11 +94,14 @@ fn run_text<D: Desk, T: Terminal>(
     }
 }
 
-/// Runs the text that is called at the cursor of a text at this depth of calls. Where it returns, the cursor goes on.
+/// Does the step that calls the text of this register, at the cursor of a text at this depth of calls. Where the text returns, the
+/// cursor goes on.
+///
+/// A copy of it is run. A short one lies in the frame of this call, and the memory of a longer one is found before the step counts.
 #[cycle(run_text)]
 fn run_called<D: Desk, T: Terminal>(
     desk: &mut D,
-    called: &[u8],
+    q: Reg,
     depth: usize,
     cursor: &mut Cursor,
     steps: &mut Steps,
@@ -103,10 +111,52 @@ fn run_called<D: Desk, T: Terminal>(
     ensures text { cursor.new.text ≡ cursor.old.text }
     ensures left { (cursor_of cursor.new).left ≡ (cursor_of cursor.old).left }
     ensures counts { CountsSteps steps.old steps.new }
-    ensures leads { RunLeadsAt depth steps.old.limit (host (D.state desk.old) (D.follows desk.old) (T.screen term.old) steps.old.done)
+    ensures more { result ≡ exit.Return → steps.old.done < steps.new.done }
+    ensures leads { RunLeadsAt depth steps.old.limit
+        (host (D.state desk.old) (D.follows desk.old) (T.screen term.old) steps.old.done)
         (host (D.state desk.new) (D.follows desk.new) (T.screen term.new) steps.new.done)
-        (at_call cursor.old called.now) (λ callers. reached_after_call cursor.new callers result) }
+        (at_register_call cursor.old q) (λ callers. reached_after_call cursor.new callers result) }
 {
+    if steps.done == steps.limit {
+        return Exit::Over(Some(Code::Lim));
+    }
+    let text = desk.registers().text(q);
+    let len = text.len();
+    if len <= SHORT_LIMIT {
+        let copy = short_copy(text);
+        return run_copy(desk, &copy[..len], depth, cursor, steps, term);
+    }
+    let alloc = *desk.registers().value(q).text.allocator();
+    match Vec::from_slice(alloc, text) {
+        Ok(copy) => run_copy(desk, &copy, depth, cursor, steps, term),
+        Err(_) => Exit::Over(Some(Code::Mem)),
+    }
+}
+
+/// Counts the step that calls a text of which this is a copy, and runs it.
+#[cycle(run_text)]
+fn run_copy<D: Desk, T: Terminal>(
+    desk: &mut D,
+    called: &[u8],
+    depth: usize,
+    cursor: &mut Cursor,
+    steps: &mut Steps,
+    term: &mut T,
+) -> Exit
+    requires deep { depth ≤ CALL_LIMIT }
+    requires fuel { steps.old.done < steps.old.limit }
+    ensures text { cursor.new.text ≡ cursor.old.text }
+    ensures left { (cursor_of cursor.new).left ≡ (cursor_of cursor.old).left }
+    ensures counts { CountsSteps steps.old steps.new }
+    ensures more { steps.old.done < steps.new.done }
+    ensures leads { (q : ℕ) → called.now ≡ (content (D.state desk.old).registers q).text
+        → RunLeadsAt depth steps.old.limit
+        (host (D.state desk.old) (D.follows desk.old) (T.screen term.old) steps.old.done)
+        (host (D.state desk.new) (D.follows desk.new) (T.screen term.new) steps.new.done)
+        (at_register_call cursor.old q) (λ callers. reached_after_call cursor.new callers result) }
+{
+    steps.count();
+    desk.step_done(steps.done);
     if depth == CALL_LIMIT {
         return Exit::Over(Some(Code::Pdo));
     }

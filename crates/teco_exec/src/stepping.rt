@@ -1,12 +1,13 @@
 //! One step of a text.
 ghost use Rattle.std.specs.Prelude.{◌≡◌, ◌<◌, ◌≤◌, ◌⊎◌, ℕ, List, None, Some, MatchOption, MatchResult, drop, false, length, true};
 ghost use Rattle.teco_scan.specs.Scan.{scan};
+ghost use Rattle.teco_store.specs.State.{State};
 ghost use Rattle.teco_step.specs.Stepping.{IsStepIn, end_of, is_unfinished, is_unfinished_code, name_in, takes_nothing_in};
 ghost use Rattle.teco_step.specs.Terminal.{Screen};
-ghost use Rattle.teco_step.specs.declared.next.Next.TheVariants.{Error};
+ghost use Rattle.teco_step.specs.declared.next.Next.TheVariants.{Call, Error};
 ghost use Rattle.teco_exec.specs.Machine.{Caller, Now, inside_iteration, leave_is_next, after_step_end, run_within};
 ghost use Rattle.teco_exec.specs.Running.{GoesOn, GoesQuietly, RunLeads, at_cursor, at_block_step, at_token, config, reached_by_flow, host, reached_run};
-ghost use Rattle.teco_exec.specs.Tokens.{Continues, CountsSteps, ProgressFinishes, ProgressesQuietly, looks_around, reached_by_progress};
+ghost use Rattle.teco_exec.specs.Tokens.{Continues, CountsSteps, ProgressFinishes, ProgressesQuietly, call_of, calls_text, looks_around, reached_by_progress};
 ghost use Rattle.teco_exec.specs.Quiet.{IsQuiet, is_plain};
 ghost use Rattle.teco_exec.specs.View.{MayOpen, cursor as cursor_of, item_of_kind};
 ghost use Rattle.teco_exec.specs.declared.flow.Flow.TheVariants as flow;
@@ -14,8 +15,11 @@ ghost use Rattle.teco_exec.specs.declared.flow.Flow.TheVariants as flow;
 use crate::cursor::Cursor;
 use crate::flow::{Flow, Progress, Steps};
 use crate::moves::{BlockStep, Coming};
-use teco_core::Code;
-use teco_scan::{Bare, Command, Found, Item, TextCommand, Token, TokenKind, block_laws, token_at};
+use teco_core::{Code, Reg};
+use teco_scan::{
+    Bare, Command, Found, Item, RegisterCommand, TextCommand, Token, TokenKind, block_laws,
+    token_at,
+};
 use teco_step::{Next, Terminal, Work, effect_laws, step_token};
 use teco_store::Desk;
 
@@ -32,8 +36,11 @@ pub(crate) fn step<D: Desk, T: Terminal>(
 ) -> Flow
     ensures text { cursor.new.text ≡ cursor.old.text }
     ensures counts { CountsSteps steps.old steps.new }
-    ensures advances { GoesOn result → (steps.old.done < steps.new.done) ⊎ (length (cursor_of cursor.new).left < length (cursor_of cursor.old).left) }
-    ensures leads { RunLeads steps.old.limit (host (D.state desk.old) (D.follows desk.old) (T.screen term.old) steps.old.done)
+    ensures advances { GoesOn result
+        → (steps.old.done < steps.new.done)
+        ⊎ (length (cursor_of cursor.new).left < length (cursor_of cursor.old).left) }
+    ensures leads { RunLeads steps.old.limit
+        (host (D.state desk.old) (D.follows desk.old) (T.screen term.old) steps.old.done)
         (host (D.state desk.new) (D.follows desk.new) (T.screen term.new) steps.new.done)
         (at_cursor cursor.old) (λ callers. reached_by_flow cursor.new callers result) }
     ensures quiet { IsQuiet (cursor_of cursor.old) → GoesQuietly cursor.new result }
@@ -44,6 +51,7 @@ pub(crate) fn step<D: Desk, T: Terminal>(
         Coming::Passed => Flow::On,
         Coming::Step => match &found {
             Found::Token(token) => token_steps(desk, cursor, token, steps, term),
+            // `pass` tells of a step only where a token was found.
             Found::End | Found::Fault(_) => unreachable!(),
         },
         Coming::Block(block, to) => block_step(desk, cursor, block, to, steps),
@@ -65,10 +73,12 @@ fn token_steps<D: Desk, T: Terminal>(
     ensures text { cursor.new.text ≡ cursor.old.text }
     ensures counts { CountsSteps steps.old steps.new }
     ensures more { GoesOn result → steps.old.done < steps.new.done }
-    ensures leads { RunLeads steps.old.limit (host (D.state desk.old) (D.follows desk.old) (T.screen term.old) steps.old.done)
+    ensures leads { RunLeads steps.old.limit
+        (host (D.state desk.old) (D.follows desk.old) (T.screen term.old) steps.old.done)
         (host (D.state desk.new) (D.follows desk.new) (T.screen term.new) steps.new.done)
         (at_token cursor.old token.now None) (λ callers. reached_by_flow cursor.new callers result) }
-    ensures quiet { IsQuiet (cursor_of cursor.old) → takes_nothing_in cursor.old.text.now token.now ≡ true → GoesQuietly cursor.new result }
+    ensures quiet { IsQuiet (cursor_of cursor.old) → takes_nothing_in cursor.old.text.now token.now ≡ true
+        → GoesQuietly cursor.new result }
 {
     let mut work = None;
     'stepping: loop {
@@ -82,7 +92,7 @@ fn token_steps<D: Desk, T: Terminal>(
     }
 }
 
-/// Does a step of a token, its first or a further one with this work left.
+/// Does a step of a token, its first or a further one with this work left. A step that calls a text is told, and not done.
 #[inline(always)]
 fn token_step<D: Desk, T: Terminal>(
     desk: &mut D,
@@ -96,12 +106,18 @@ fn token_step<D: Desk, T: Terminal>(
     ensures text { cursor.new.text ≡ cursor.old.text }
     ensures counts { CountsSteps steps.old steps.new }
     ensures more { Continues result → steps.old.done < steps.new.done }
-    ensures leads { RunLeads steps.old.limit (host (D.state desk.old) (D.follows desk.old) (T.screen term.old) steps.old.done)
+    ensures leads { RunLeads steps.old.limit
+        (host (D.state desk.old) (D.follows desk.old) (T.screen term.old) steps.old.done)
         (host (D.state desk.new) (D.follows desk.new) (T.screen term.new) steps.new.done)
-        (at_token cursor.old token.now work) (λ callers. reached_by_progress cursor.new token.now callers result) }
-    ensures quiet { IsQuiet (cursor_of cursor.old) → takes_nothing_in cursor.old.text.now token.now ≡ true → ProgressesQuietly cursor.new result }
+        (at_token cursor.old token.now work)
+        (λ callers. reached_by_progress cursor.new token.now callers result) }
+    ensures quiet { IsQuiet (cursor_of cursor.old) → takes_nothing_in cursor.old.text.now token.now ≡ true
+        → ProgressesQuietly cursor.new result }
 {
     effect_laws();
+    if let Some(q) = called_by(token) {
+        return Progress::Done(Flow::Call(q));
+    }
     if steps.done == steps.limit {
         return Progress::Done(over(Code::Lim));
     }
@@ -139,7 +155,8 @@ fn block_step<D: Desk>(
     ensures text { cursor.new.text ≡ cursor.old.text }
     ensures counts { CountsSteps steps.old steps.new }
     ensures more { GoesOn result → steps.old.done < steps.new.done }
-    ensures leads { (screen : Screen) → RunLeads steps.old.limit (host (D.state desk.old) (D.follows desk.old) screen steps.old.done)
+    ensures leads { (screen : Screen)
+        → RunLeads steps.old.limit (host (D.state desk.old) (D.follows desk.old) screen steps.old.done)
         (host (D.state desk.new) (D.follows desk.new) screen steps.new.done)
         (at_block_step cursor.old block to) (λ callers. reached_by_flow cursor.new callers result) }
 {
@@ -157,13 +174,18 @@ fn block_step<D: Desk>(
 fn resume(cursor: &mut Cursor, token: &Token, next: Next) -> Progress
     requires token { IsStepIn cursor.old.text.now token.now }
     requires finished { is_unfinished next ≡ false }
+    requires no_call { (q : ℕ) → next ≡ Call q → ⊥ }
     ensures text { cursor.new.text ≡ cursor.old.text }
     ensures finished { ProgressFinishes result }
-    ensures resumes { (callers : List Caller) (now : Now) (fuel : ℕ)
-        → run_within fuel (after_step_end token.now.modifiers (item_of_kind cursor.old.text.now token.now.kind) (end_of (name_in cursor.old.text.now token.now) next)
+    ensures resumes { (s : State) (callers : List Caller) (now : Now) (fuel : ℕ)
+        → run_within fuel (after_step_end token.now.modifiers
+        (item_of_kind cursor.old.text.now token.now.kind)
+        (end_of s (name_in cursor.old.text.now token.now) next)
         (config cursor.old.text.now (cursor_of cursor.old) None callers now))
         ≡ reached_run fuel now (reached_by_progress cursor.new token.now callers result) }
-    ensures quiet { IsQuiet (cursor_of cursor.old) → is_plain (end_of (name_in cursor.old.text.now token.now) next) ≡ true → ProgressesQuietly cursor.new result }
+    ensures quiet { (s : State) → IsQuiet (cursor_of cursor.old)
+        → is_plain (end_of s (name_in cursor.old.text.now token.now) next) ≡ true
+        → ProgressesQuietly cursor.new result }
 {
     match next {
         Next::Again(work) => Progress::Further(work),
@@ -173,9 +195,20 @@ fn resume(cursor: &mut Cursor, token: &Token, next: Next) -> Progress
             let name = name_of(cursor.text, token);
             Progress::Done(on_unless(cursor.jump(name)))
         }
-        Next::Call(called) => Progress::Done(Flow::Call(called)),
+        // A token that calls is no step of its own: `run_called` does it.
+        Next::Call(_) => unreachable!(),
         Next::Out => Progress::Done(Flow::Over(None)),
         Next::Error(code) => Progress::Done(over(code)),
+    }
+}
+
+/// The register whose text the token calls.
+fn called_by(token: &Token) -> Option<Reg>
+    ensures { MatchOption result (calls_text token.now.kind ≡ false) (λ q. token.now.kind ≡ call_of q) }
+{
+    match token.kind {
+        TokenKind::Item(Item::Register(RegisterCommand::Macro, q)) => Some(q),
+        _ => None,
     }
 }
 
@@ -209,7 +242,8 @@ fn looks_around(token: &Token) -> bool
 
 /// The code by which a step was begun and not done.
 fn unfinished(next: &Next) -> Option<Code>
-    ensures { MatchOption result (is_unfinished next.now ≡ false) (λ code. (next.now ≡ Error code) × (is_unfinished_code code ≡ true)) }
+    ensures { MatchOption result (is_unfinished next.now ≡ false)
+        (λ code. (next.now ≡ Error code) × (is_unfinished_code code ≡ true)) }
 {
     match next {
         Next::Error(Code::Mem) => Some(Code::Mem),

@@ -26,4 +26,9 @@ HasPlace (All all) = vec_len all < vec_capacity all
 HasPlace (Last ring) = Unit {0}
 
 abbrev pub kept_session : Inside → KeptSession
-kept_session s = record { editor = s.editor; strings = strings_of s.entries; cursor = s.cursor; depth = depth_of s.entries }
+kept_session s = record {
+  editor = s.editor;
+  strings = strings_of s.entries;
+  cursor = s.cursor;
+  depth = depth_of s.entries;
+}

@@ -1,4 +1,5 @@
--- A session as it is kept: one editor, and of each string the changes that lead from one side of it to the other.
+-- A session as it is kept: one editor, and of each string the changes that lead from one side of it to the
+-- other.
 use Rattle.std.specs.Prelude.{ℕ, ◌+◌, ◌-◌, ◌*◌, ◌≤◌, List, [], ◌∷◌, ◌++◌, length, take, drop, min, reverse, slice_index_or, Option}
 use Rattle.std.proofs.Common.{set}
 use Rattle.teco_store.specs.State.{State, Body, Full, IsSound, state_at, new_full, with_body}
@@ -9,8 +10,8 @@ use Rattle.teco_exec.specs.Runs.{trail_of}
 use Rattle.teco_exec.specs.StringMeaning.{string_meaning}
 use Rattle.teco_session.specs.History.{History, NotedString, IsHistory, beyond}
 
--- A string that has begun: its text, the steps that it took, and its changes. They are to be turned back where the string is done,
--- and forth where it is undone.
+-- A string that has begun: its text, the steps that it took, and its changes. They are to be turned back
+-- where the string is done, and forth where it is undone.
 pub record KeptString : Type 0 where
   pub text : List ℕ
   pub steps : ℕ
@@ -53,26 +54,31 @@ first_body (x ∷ xs) b = first_body xs (body_back x.changes b)
 -- what the history has of strings that are done, the last first, and then these notes
 abbrev pub done_notes : List ℕ → List KeptString → Body → List NotedString → List NotedString
 done_notes stored [] b notes = notes
-done_notes stored (x ∷ xs) b notes = done_notes stored xs (body_back x.changes b) (noted_as x (state_at stored b) ∷ notes)
+done_notes stored (x ∷ xs) b notes =
+    done_notes stored xs (body_back x.changes b) (noted_as x (state_at stored b) ∷ notes)
 
 -- and of those that are undone, the first first
 abbrev pub undone_notes : List ℕ → List KeptString → Body → List NotedString
 undone_notes stored [] b = []
-undone_notes stored (x ∷ xs) b = noted_as x (state_at stored (body_forth x.changes b)) ∷ undone_notes stored xs (body_forth x.changes b)
+undone_notes stored (x ∷ xs) b =
+    noted_as x (state_at stored (body_forth x.changes b)) ∷ undone_notes stored xs (body_forth x.changes b)
 
 -- The history has every whole state. Each is what the editor comes to where changes are turned.
 abbrev pub history_of : KeptSession → History
 history_of s = record {
   first = state_at s.editor.stored (first_body (done_strings s) s.editor.body);
-  notes = done_notes s.editor.stored (done_strings s) s.editor.body (undone_notes s.editor.stored (undone_strings s) s.editor.body);
+  notes = done_notes s.editor.stored (done_strings s) s.editor.body
+      (undone_notes s.editor.stored (undone_strings s) s.editor.body);
   cursor = s.cursor;
   depth = s.depth;
 }
 
--- A string that is done at an editor has come there by the steps of its meaning, from the state before it: its changes fit, and lead
--- back to the state after each step; each step made at most six, and what they hold is within the load.
+-- A string that is done at an editor has come there by the steps of its meaning, from the state before it:
+-- its changes fit, and lead back to the state after each step; each step made at most six, and what they hold
+-- is within the load.
 abbrev pub HasRun : Full → KeptString → Type 0
-HasRun f x = HasCome f x.changes x.steps (trail_of (state_at f.stored (body_back x.changes f.body)) x.text 0 x.steps)
+HasRun f x = HasCome f x.changes x.steps
+    (trail_of (state_at f.stored (body_back x.changes f.body)) x.text 0 x.steps)
 
 -- an editor of this body
 abbrev pub editor_at : ℕ → List ℕ → Body → Full
@@ -81,13 +87,15 @@ editor_at room stored b = record { body = b; stored = stored; room = room }
 -- Each string that is done has run to where it would be turned back.
 abbrev pub LeadBack : ℕ → List ℕ → List KeptString → Body → Type 0
 LeadBack room stored [] b = Unit {0}
-LeadBack room stored (x ∷ xs) b = HasRun (editor_at room stored b) x × LeadBack room stored xs (body_back x.changes b)
+LeadBack room stored (x ∷ xs) b = HasRun (editor_at room stored b) x
+    × LeadBack room stored xs (body_back x.changes b)
 
 -- Each that is undone fits where it would be turned forth, and has run there once that is done.
 abbrev pub LeadForth : ℕ → List ℕ → List KeptString → Body → Type 0
 LeadForth room stored [] b = Unit {0}
 LeadForth room stored (x ∷ xs) b =
-    (FitsForth room (length stored) x.changes b × HasRun (editor_at room stored (body_forth x.changes b)) (string_forth x b))
+    (FitsForth room (length stored) x.changes b
+    × HasRun (editor_at room stored (body_forth x.changes b)) (string_forth x b))
     × LeadForth room stored xs (body_forth x.changes b)
 
 -- The strings on both sides of the cursor lead from the editor through every state of a history.
@@ -109,7 +117,8 @@ string_at s i = entry_at s.strings i
 abbrev pub newest : Option ℕ → List KeptString → List KeptString
 newest depth strings = drop (beyond depth (length strings)) strings
 
--- An undo turns the last string that is done back, and keeps what would do it again. A redo turns the first undone one forth.
+-- An undo turns the last string that is done back, and keeps what would do it again. A redo turns the first
+-- undone one forth.
 abbrev pub turned_back : KeptSession → KeptString → ℕ → KeptSession
 turned_back s x i = record {
   editor = with_body s.editor (body_back x.changes s.editor.body);
@@ -136,7 +145,8 @@ applied s = turned_forth s (string_at s s.cursor) s.cursor
 abbrev pub string_cut : ℕ → KeptString → KeptString
 string_cut n x = record { text = x.text; steps = n; changes = before n x.changes }
 
--- A rewind turns the changes after the first steps of the last string that is done back, and drops them and the undone strings.
+-- A rewind turns the changes after the first steps of the last string that is done back, and drops them and
+-- the undone strings.
 abbrev pub cut_back : KeptSession → KeptString → ℕ → ℕ → KeptSession
 cut_back s x i n = record {
   editor = with_body s.editor (body_back (since n x.changes) s.editor.body);
@@ -150,7 +160,8 @@ cut_to n s =
     let x : KeptString = string_at s (s.cursor - 1) in
     cut_back s x (s.cursor - 1) (min n x.steps)
 
--- An entry has at most six changes for each step of its string, and they hold no more bytes than the string moves from this state.
+-- An entry has at most six changes for each step of its string, and they hold no more bytes than the string
+-- moves from this state.
 pub record IsSmall (x : KeptString) (s : State) : Type 0 where
   pub changes : length x.changes ≤ 6 * x.steps
   pub held : held_in x.changes ≤ (string_meaning s x.text x.steps).load

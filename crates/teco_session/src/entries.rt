@@ -59,6 +59,7 @@ impl Entries {
             Entries::All(all) => &all[i],
             Entries::Last(ring) => match ring.get(i) {
                 Some(entry) => entry,
+                // The ring has this place, by what the call requires.
                 None => unreachable!(),
             },
         }
@@ -68,14 +69,17 @@ impl Entries {
     pub fn revert(&mut self, i: usize, editor: &mut Editor)
         requires within { i < length (strings_of self.old) }
         requires fits { FitsBack editor.old.room (entry_at (strings_of self.old) i).changes editor.old.body }
-        ensures editor { editor.new ≡ with_body editor.old (body_back (entry_at (strings_of self.old) i).changes editor.old.body) }
-        ensures strings { strings_of self.new ≡ set (strings_of self.old) i (string_back (entry_at (strings_of self.old) i) editor.old.body) }
+        ensures editor { editor.new
+            ≡ with_body editor.old (body_back (entry_at (strings_of self.old) i).changes editor.old.body) }
+        ensures strings { strings_of self.new
+            ≡ set (strings_of self.old) i (string_back (entry_at (strings_of self.old) i) editor.old.body) }
         ensures depth { depth_of self.new ≡ depth_of self.old }
     {
         match self {
             Entries::All(all) => all[i].revert(editor),
             Entries::Last(ring) => match ring.get_mut(i) {
                 Some(entry) => entry.revert(editor),
+                // The ring has this place, by what the call requires.
                 None => unreachable!(),
             },
         }
@@ -84,15 +88,19 @@ impl Entries {
     /// Does again what the string at a place did. Takes no memory.
     pub fn apply(&mut self, i: usize, editor: &mut Editor)
         requires within { i < length (strings_of self.old) }
-        requires fits { FitsForth editor.old.room (length editor.old.stored) (entry_at (strings_of self.old) i).changes editor.old.body }
-        ensures editor { editor.new ≡ with_body editor.old (body_forth (entry_at (strings_of self.old) i).changes editor.old.body) }
-        ensures strings { strings_of self.new ≡ set (strings_of self.old) i (string_forth (entry_at (strings_of self.old) i) editor.old.body) }
+        requires fits { FitsForth editor.old.room (length editor.old.stored)
+            (entry_at (strings_of self.old) i).changes editor.old.body }
+        ensures editor { editor.new
+            ≡ with_body editor.old (body_forth (entry_at (strings_of self.old) i).changes editor.old.body) }
+        ensures strings { strings_of self.new
+            ≡ set (strings_of self.old) i (string_forth (entry_at (strings_of self.old) i) editor.old.body) }
         ensures depth { depth_of self.new ≡ depth_of self.old }
     {
         match self {
             Entries::All(all) => all[i].apply(editor),
             Entries::Last(ring) => match ring.get_mut(i) {
                 Some(entry) => entry.apply(editor),
+                // The ring has this place, by what the call requires.
                 None => unreachable!(),
             },
         }
@@ -103,14 +111,18 @@ impl Entries {
         requires within { i < length (strings_of self.old) }
         requires fits { FitsBack editor.old.room (entry_at (strings_of self.old) i).changes editor.old.body }
         requires order { IsInOrder (entry_at (strings_of self.old) i).changes }
-        ensures editor { editor.new ≡ with_body editor.old (body_back (since n (entry_at (strings_of self.old) i).changes) editor.old.body) }
-        ensures strings { strings_of self.new ≡ set (strings_of self.old) i (string_cut n (entry_at (strings_of self.old) i)) }
+        ensures editor { editor.new
+            ≡ with_body editor.old
+            (body_back (since n (entry_at (strings_of self.old) i).changes) editor.old.body) }
+        ensures strings { strings_of self.new
+            ≡ set (strings_of self.old) i (string_cut n (entry_at (strings_of self.old) i)) }
         ensures depth { depth_of self.new ≡ depth_of self.old }
     {
         match self {
             Entries::All(all) => all[i].rewind(editor, n),
             Entries::Last(ring) => match ring.get_mut(i) {
                 Some(entry) => entry.rewind(editor, n),
+                // The ring has this place, by what the call requires.
                 None => unreachable!(),
             },
         }
@@ -144,7 +156,8 @@ impl Entries {
     /// memory.
     pub fn note(&mut self, entry: Entry)
         requires { HasPlace self.old }
-        ensures strings { strings_of self.new ≡ newest (depth_of self.old) (strings_of self.old ++ kept_string entry ∷ []) }
+        ensures strings { strings_of self.new
+            ≡ newest (depth_of self.old) (strings_of self.old ++ kept_string entry ∷ []) }
         ensures depth { depth_of self.new ≡ depth_of self.old }
     {
         match self {

@@ -21,7 +21,8 @@ impl Entry {
     /// Takes back what the string did, and keeps what does it again. Takes no memory.
     pub fn revert(&mut self, editor: &mut Editor)
         requires { FitsBack editor.old.room self.old.changes.items editor.old.body }
-        ensures editor { editor.new ≡ with_body editor.old (body_back self.old.changes.items editor.old.body) }
+        ensures editor { editor.new
+            ≡ with_body editor.old (body_back self.old.changes.items editor.old.body) }
         ensures entry { kept_string self.new ≡ string_back (kept_string self.old) editor.old.body }
     {
         revert_all(editor, &mut self.changes);
@@ -29,8 +30,10 @@ impl Entry {
 
     /// Does again what the string did, and keeps what takes it back. Takes no memory.
     pub fn apply(&mut self, editor: &mut Editor)
-        requires { FitsForth editor.old.room (length editor.old.stored) self.old.changes.items editor.old.body }
-        ensures editor { editor.new ≡ with_body editor.old (body_forth self.old.changes.items editor.old.body) }
+        requires { FitsForth editor.old.room (length editor.old.stored) self.old.changes.items
+            editor.old.body }
+        ensures editor { editor.new
+            ≡ with_body editor.old (body_forth self.old.changes.items editor.old.body) }
         ensures entry { kept_string self.new ≡ string_forth (kept_string self.old) editor.old.body }
     {
         apply_all(editor, &mut self.changes);
@@ -40,7 +43,8 @@ impl Entry {
     pub fn rewind(&mut self, editor: &mut Editor, n: u64)
         requires fits { FitsBack editor.old.room self.old.changes.items editor.old.body }
         requires order { IsInOrder self.old.changes.items }
-        ensures editor { editor.new ≡ with_body editor.old (body_back (since n self.old.changes.items) editor.old.body) }
+        ensures editor { editor.new
+            ≡ with_body editor.old (body_back (since n self.old.changes.items) editor.old.body) }
         ensures entry { kept_string self.new ≡ string_cut n (kept_string self.old) }
     {
         rewind(editor, &mut self.changes, n);

@@ -54,12 +54,19 @@ fn record_run<T: Terminal>(
     term: &mut T,
 ) -> (Vec<Change>, Outcome)
     requires { IsSound editor.old.room (length editor.old.stored) editor.old.body }
-    ensures run { (typed : List ℕ) × Runs (state_of editor.old) text.now limit result.1 typed (state_of editor.new)
+    ensures run { (typed : List ℕ)
+        × Runs (state_of editor.old) text.now limit result.1 typed (state_of editor.new)
         × Shows (T.screen term.old) (T.screen term.new) typed (is_tty result.1) }
-    ensures again { state_of editor.new ≡ (string_meaning (state_of editor.old) text.now result.1.steps).state }
-    ensures exit { (state_of editor.old).is_done ≡ false → (state_of editor.new).is_done ≡ true → result.1.code ≡ None }
+    ensures again { state_of editor.new
+        ≡ (string_meaning (state_of editor.old) text.now result.1.steps).state }
+    ensures exit { (state_of editor.old).is_done ≡ false → (state_of editor.new).is_done ≡ true
+        → result.1.code ≡ None }
     ensures leads { Leads editor.old editor.new result.0.items }
-    ensures ran { HasRun editor.new (record { text = text.now; steps = result.1.steps; changes = result.0.items }) }
+    ensures ran { HasRun editor.new (record {
+      text = text.now;
+      steps = result.1.steps;
+      changes = result.0.items;
+    }) }
 {
     meaning_laws();
     record_laws();
@@ -151,7 +158,8 @@ impl Session {
     pub fn entry(&self, i: usize) -> &[Change]
         requires { i < length self.now.strings }
         ensures value { result.now ≡ (string_at self.now i).changes }
-        ensures small { IsSmall (string_at self.now i) (state_after (history_of self.now).first (history_of self.now).notes i) }
+        ensures small { IsSmall (string_at self.now i)
+            (state_after (history_of self.now).first (history_of self.now).notes i) }
     {
         record_laws();
         &self.entries.get(i).changes
@@ -180,7 +188,8 @@ impl Session {
         ensures offers { IsOk result ↔ (self.old.cursor < length (history_of self.old).notes) }
         ensures ok { OnOk result (self.new ≡ applied self.old) }
         ensures history { OnOk result (history_of self.new ≡ redone (history_of self.old)) }
-        ensures err { OnErr result ((self.new ≡ self.old) × (self.old.cursor ≡ length (history_of self.old).notes)) }
+        ensures err { OnErr result ((self.new ≡ self.old)
+            × (self.old.cursor ≡ length (history_of self.old).notes)) }
     {
         let i = self.cursor;
         if i == self.entries.len() {
@@ -218,9 +227,11 @@ impl Session {
     /// Where memory is refused for the history the answer is [`Answer::NotBegun`], and after an exit [`Answer::AfterExit`]: then
     /// nothing has changed, and the undone strings are kept. A string that makes the session done ends with no code.
     pub fn run<T: Terminal>(&mut self, text: &[u8], limit: u64, term: &mut T) -> Answer
-        ensures step { (typed : List ℕ) × RunStep limit (history_of self.old) text.now result typed (history_of self.new)
+        ensures step { (typed : List ℕ)
+            × RunStep limit (history_of self.old) text.now result typed (history_of self.new)
             × Shows (T.screen term.old) (T.screen term.new) typed (is_terminal_failure result) }
-        ensures exit { (present (history_of self.old)).is_done ≡ false → (present (history_of self.new)).is_done ≡ true → answer_code result ≡ None }
+        ensures exit { (present (history_of self.old)).is_done ≡ false
+            → (present (history_of self.new)).is_done ≡ true → answer_code result ≡ None }
         ensures same { is_unbegun result ≡ true → self.new ≡ self.old }
     {
         if self.editor().done() {
@@ -247,7 +258,9 @@ impl Session {
 
     /// Answers one request, whichever it is.
     pub fn answer<T: Terminal>(&mut self, request: &Request, limit: u64, term: &mut T) -> Answer
-        ensures { (typed : List ℕ) × Step limit (history_of self.old) request.now (record { answer = result; typed = typed }) (history_of self.new)
+        ensures { (typed : List ℕ)
+            × Step limit (history_of self.old) request.now (record { answer = result; typed = typed })
+            (history_of self.new)
             × Shows (T.screen term.old) (T.screen term.new) typed (is_terminal_failure result) }
     {
         match request {

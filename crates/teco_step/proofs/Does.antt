@@ -1,6 +1,7 @@
 -- From what a function for a token did to what a step may do.
 use Rattle.std.proofs.Common.{◌≡◌, ◌∙◌, sym, ap, subst, refl, ℕ, [], true, false, Bool, Result, Ok, Err, inl, inr}
 use Rattle.teco_scan.specs.Scan.{Item}
+use Rattle.teco_store.specs.State.{State}
 use Rattle.teco_store.specs.Trail.{Trail, moved}
 use Rattle.teco_step.specs.declared.failure.Failure.{Failure}
 use Rattle.teco_step.specs.declared.next.Next.{Next}
@@ -13,14 +14,14 @@ use Rattle.teco_step.proofs.Ends.{MayEnd}
 use Rattle.teco_step.proofs.Shown.{Shows-nil}
 
 -- an end that a token may have is told by what it leads to
-end_is : (inside : Bool) (i : Item) (n : Next) (e : End) → end_of (tag_of e) n ≡ e → MayEnd inside i e → end_of (name_of i) n ≡ e
-end_is inside i next.On e l m = l
-end_is inside i next.Leave e l m = l
-end_is inside i next.Go e l m = ap go (sym (subst (λ (e : End). MayEnd inside i e) (sym l) m)) ∙ l
-end_is inside i (next.Call text) e l m = l
-end_is inside i next.Out e l m = l
-end_is inside i (next.Again work) e l m = l
-end_is inside i (next.Error c) e l m = l
+end_is : (s : State) (inside : Bool) (i : Item) (n : Next) (e : End) → end_of s (tag_of e) n ≡ e → MayEnd inside i e → end_of s (name_of i) n ≡ e
+end_is s inside i next.On e l m = l
+end_is s inside i next.Leave e l m = l
+end_is s inside i next.Go e l m = ap go (sym (subst (λ (e : End). MayEnd inside i e) (sym l) m)) ∙ l
+end_is s inside i (next.Call q) e l m = l
+end_is s inside i next.Out e l m = l
+end_is s inside i (next.Again work) e l m = l
+end_is s inside i (next.Error c) e l m = l
 
 still_shows : (old new : Screen) → new ≡ old → Shows old new [] false
 still_shows old new same = subst (λ (w : Screen). Shows old w [] false) (sym same) (Shows-nil old)
@@ -42,7 +43,7 @@ module _ (inside : Bool) (i : Item) (old new : Moment) where
       (inl (record {
         state = refl;
         arguments = refl;
-        end = end_is inside i n m.end m.leads may_here;
+        end = end_is new.state inside i n m.end m.leads may_here;
         finished = m.finished;
         shows = still_shows old.screen new.screen same;
       }))

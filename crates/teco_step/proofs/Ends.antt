@@ -1,5 +1,5 @@
--- How the step of a token may end: by leaving an iteration only inside one, by a jump only to the name that the token has, and by a
--- further step only where the token may have one.
+-- How the step of a token may end: by leaving an iteration only inside one, by a jump only to the name that the token has, by a call
+-- only where it calls, and by a further step only where it may have one.
 use Rattle.std.proofs.Common.{◌≡◌, sym, subst, refl, ℕ, List, Result, Ok, Err, ℤ, pos, Bool, true, false, cond, ◌⊎◌, inl, inr}
 use Rattle.std.specs.Prelude.{int_le, ◌-ℤ◌}
 use Rattle.teco_core.specs.declared.code.Code.{Code}
@@ -20,19 +20,20 @@ use Rattle.teco_scan.specs.declared.command.TextCommand.TheVariants as text_comm
 use Rattle.teco_scan.specs.Scan.{Item}
 use Rattle.teco_scan.specs.Scan as token
 use Rattle.teco_step.specs.Effect.{effect, command_effect, bare_effect, register_effect, text_effect, item_effect}
-use Rattle.teco_step.specs.Step.{Setting, Attempt, Made, Action, goes, steers, goes_on, done_by, End, on, leave, go, again, stop, settled, ends, takes_none, takes_one_or}
+use Rattle.teco_step.specs.Step.{Setting, Attempt, Made, Action, goes, steers, goes_on, done_by, End, on, leave, go, call, again, stop, settled, ends, takes_none, takes_one_or}
 use Rattle.teco_step.specs.Searching.{search_or_compare, search_and_replace}
 use Rattle.teco_step.specs.PageSearching.{search_pages}
 use Rattle.teco_step.proofs.Searches.{Searches, searches, replacement_searches}
 use Rattle.teco_step.proofs.PageSearches.{turned_searches, read_searches}
 use Rattle.teco_step.specs.Pages.{after_page, pages_left, with_output_in_limit, with_page_read, with_page_turned}
 use Rattle.teco_step.specs.declared.next.Work.{Work}
-use Rattle.teco_step.specs.Stepping.{may_go_further, name_of, takes_nothing}
+use Rattle.teco_step.specs.Stepping.{is_call, may_go_further, name_of, takes_nothing}
 
 -- An end that a token may have, inside an iteration or not.
 abbrev pub MayEnd : Bool → Item → End → Type 0
 MayEnd inside i leave = inside ≡ true
 MayEnd inside i (go tag) = tag ≡ name_of i
+MayEnd inside i (call text) = is_call i ≡ true
 MayEnd inside i (again work) = may_go_further i ≡ true
 MayEnd inside i e = Unit {0}
 
@@ -92,7 +93,7 @@ bare_ends (bare.Command c) w = command_ends c w
 bare_ends _ w = tt
 
 register_ends : (c : RegisterCommand) (q : ℕ) (w : Setting) → ActionMayEnd w.inside (token.register c q) (register_effect c q w)
-register_ends register_command.Macro q w = λ s a. tt
+register_ends register_command.Macro q w = λ s a. refl
 register_ends _ q w = tt
 
 text_ends : (c : TextCommand) (text : List ℕ) (w : Setting) → ActionMayEnd w.inside (token.text c text) (text_effect c text w)
@@ -124,6 +125,10 @@ leave_is_inside i w s a is = subst (λ (e : End). MayEnd w.inside i e) is (effec
 -- A jump goes to the name that the token has.
 pub go_names : (i : Item) (w : Setting) (s : State) (a : Arguments) (name : List ℕ) → (effect i w s a).end ≡ go name → name_of i ≡ name
 go_names i w s a name is = sym (subst (λ (e : End). MayEnd w.inside i e) is (effect_ends i w s a))
+
+-- A text is called only by a token that calls.
+pub calls_by_calls : (i : Item) (w : Setting) (s : State) (a : Arguments) (text : List ℕ) → (effect i w s a).end ≡ call text → is_call i ≡ true
+calls_by_calls i w s a text is = subst (λ (e : End). MayEnd w.inside i e) is (effect_ends i w s a)
 
 -- A further step is of a token that may have some.
 pub goes_further_if_it_may : (i : Item) (w : Setting) (s : State) (a : Arguments) (work : Work) → (effect i w s a).end ≡ again work → may_go_further i ≡ true

@@ -62,7 +62,7 @@ pub record IsActed (attempt : Attempt) (new : State) (left : Arguments) (before 
   pub load : ℕ
   pub end : End
   pub step : attempt ≡ Ok (record { state = new; arguments = left; typed = []; load = load; end = end })
-  pub leads : end_of (tag_of end) n ≡ end
+  pub leads : end_of new (tag_of end) n ≡ end
   pub finished : is_unfinished n ≡ false
   pub carries : Carries before after load
 

@@ -10,8 +10,8 @@ use Rattle.std.specs.Fmt.{signed_decimal}
 use Rattle.teco_step.specs.Decimal.{numeral_at}
 use Rattle.teco_step.specs.Effect.{effect}
 use Rattle.teco_step.specs.Load.{Moves}
-use Rattle.teco_step.specs.Step.{Setting, on, leave, go, again, out, stop}
-use Rattle.teco_step.specs.Stepping.{may_go_further, name_of, takes_nothing}
+use Rattle.teco_step.specs.Step.{Setting, on, leave, go, call, again, out, stop}
+use Rattle.teco_step.specs.Stepping.{is_call, may_go_further, name_of, takes_nothing}
 use Rattle.teco_step.specs.Terminal.{Screen, Shows}
 use Rattle.teco_step.specs.declared.next.Work.{Work}
 
@@ -24,6 +24,10 @@ LeavesInside = (i : Item) (w : Setting) (s : State) (a : Arguments) → (effect 
 abbrev pub JumpsToItsName : Type 0
 JumpsToItsName = (i : Item) (w : Setting) (s : State) (a : Arguments) (name : List ℕ)
     → (effect i w s a).end ≡ go name → name_of i ≡ name
+
+-- A text is called only by a token that calls.
+abbrev pub CallsByCalls : Type 0
+CallsByCalls = (i : Item) (w : Setting) (s : State) (a : Arguments) (text : List ℕ) → (effect i w s a).end ≡ call text → is_call i ≡ true
 
 -- A further step is of a token that may have some.
 abbrev pub GoesFurtherIfItMay : Type 0

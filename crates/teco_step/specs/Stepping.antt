@@ -3,6 +3,7 @@ use Rattle.std.specs.Prelude.{◌≡◌, ◌≢◌, ℕ, List, [], Option, lengt
 use Rattle.teco_core.specs.declared.code.Code.{Code}
 use Rattle.teco_core.specs.declared.code.Code.TheVariants.{Mem, Tty}
 use Rattle.teco_core.specs.Arguments.{Arguments}
+use Rattle.teco_core.specs.Register.{content}
 use Rattle.teco_scan.specs.Scan.{Item}
 use Rattle.teco_scan.specs.Scan as token
 use Rattle.teco_scan.specs.declared.command.Bare.TheVariants as bare
@@ -22,15 +23,15 @@ use Rattle.teco_step.specs.Step.{Step, Moment, Setting, settled, unbuilt, End, o
 use Rattle.teco_step.specs.declared.next.Next.{Next}
 use Rattle.teco_step.specs.declared.next.Next.TheVariants as next
 
--- how a step ends, as what it leads to says; a jump's name is the token's
-abbrev pub end_of : List ℕ → Next → End
-end_of name next.On = on
-end_of name next.Leave = leave
-end_of name next.Go = go name
-end_of name (next.Call text) = call text.items
-end_of name next.Out = out
-end_of name (next.Again work) = again work
-end_of name (next.Error c) = stop c
+-- how a step that left this state ends, as what it leads to says; a jump's name is the token's, and a call's text the register's
+abbrev pub end_of : State → List ℕ → Next → End
+end_of s name next.On = on
+end_of s name next.Leave = leave
+end_of s name next.Go = go name
+end_of s name (next.Call q) = call (content s.registers q).text
+end_of s name next.Out = out
+end_of s name (next.Again work) = again work
+end_of s name (next.Error c) = stop c
 
 -- the code says that a step was begun and not done
 abbrev pub is_unfinished_code : Code → Bool
@@ -46,7 +47,7 @@ is_unfinished n = false
 pub record IsDone (e : Step) (name : List ℕ) (old new : Moment) (n : Next) : Type 0 where
   pub state : new.state ≡ e.state
   pub arguments : new.arguments ≡ e.arguments
-  pub end : end_of name n ≡ e.end
+  pub end : end_of new.state name n ≡ e.end
   pub finished : is_unfinished n ≡ false
   pub shows : Shows old.screen new.screen e.typed false
 
@@ -89,6 +90,11 @@ may_go_further (token.bare (bare.Command command.TurnPages)) = true
 may_go_further (token.text text_command.SearchPages text) = true
 may_go_further (token.text text_command.SearchPagesQuietly text) = true
 may_go_further i = false
+
+-- The tokens that call the text of a register.
+abbrev pub is_call : Item → Bool
+is_call (token.register register_command.Macro q) = true
+is_call i = false
 
 -- a token that is one step, and whose texts lie in the text
 abbrev pub IsStepKind : ℕ → TokenKind → Type 0

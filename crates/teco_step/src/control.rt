@@ -1,5 +1,5 @@
-//! Commands that leave an iteration, jump, or run a text. They change no state, and one that is not done keeps the arguments. Only a
-//! text that is run takes memory.
+//! Commands that leave an iteration, jump, or run a text. They change no state and take no memory, and one that is not
+//! done keeps the arguments.
 ghost use Rattle.std.specs.Prelude.{◌≡◌, Err};
 ghost use Rattle.teco_core.specs.ArgumentsView.{arguments};
 ghost use Rattle.teco_step.specs.Control as control;
@@ -9,7 +9,6 @@ ghost use Rattle.teco_step.specs.declared.failure.Failure.TheVariants.{Memory};
 
 use crate::failure::Failure;
 use crate::next::Next;
-use crate::registers::copy;
 use crate::taking::{takes_none, takes_one_or, truth};
 use teco_core::{Args, Code, Reg};
 use teco_store::Desk;
@@ -49,11 +48,11 @@ pub(crate) fn jump_to<D: Desk>(desk: &D, name: &[u8], args: &mut Args) -> Result
     Ok(Next::Go)
 }
 
-/// `Mq` runs a copy of the text of q. The arguments stay.
+/// `Mq` runs the text of q. The arguments stay.
 pub(crate) fn run_register<D: Desk>(desk: &D, q: Reg, args: &Args) -> Result<Next, Failure>
-    ensures { let s = D.state desk.now in let a = arguments args.now in
+    ensures does { let s = D.state desk.now in let a = arguments args.now in
         Acts (steers (control.run_register q)) s s a a (D.follows desk.now) (D.follows desk.now) result }
+    ensures no_memory { result ≡ Err Memory → ⊥ }
 {
-    let text = copy(desk, q, desk.registers().text(q))?;
-    Ok(Next::Call(text))
+    Ok(Next::Call(q))
 }

@@ -1,5 +1,5 @@
 //! What the effect of a token and what a terminal shows always say.
-ghost use Rattle.teco_step.specs.Laws.{ChangesOrTypes, ErrorsChangeNothing, GoesFurtherIfItMay, JumpsToItsName, LeavesInside, LoadIsWhatMoves, OnlyExits, ReadsWhatItInserts, ShowsMore, StillShows, ValueGoesOn};
+ghost use Rattle.teco_step.specs.Laws.{CallsByCalls, ChangesOrTypes, ErrorsChangeNothing, GoesFurtherIfItMay, JumpsToItsName, LeavesInside, LoadIsWhatMoves, OnlyExits, ReadsWhatItInserts, ShowsMore, StillShows, ValueGoesOn};
 
 use teco_search::{occurrences, search_texts};
 
@@ -7,6 +7,7 @@ use teco_search::{occurrences, search_texts};
 pub fn effect_laws()
     ensures leave { LeavesInside }
     ensures jump { JumpsToItsName }
+    ensures call { CallsByCalls }
     ensures further { GoesFurtherIfItMay }
     ensures value { ValueGoesOn }
     ensures done { OnlyExits }

@@ -1,5 +1,5 @@
 //! What a step leads to.
-use teco_core::Code;
+use teco_core::{Code, Reg};
 use teco_scan::Modifiers;
 
 /// What is left of a token that takes several steps: so many pages or occurrences, and whether a search is next.
@@ -20,7 +20,7 @@ pub struct Setting {
 }
 
 /// What a step leads to.
-#[derive(Debug, Drop)]
+#[derive(Clone, Copy, Debug)]
 pub enum Next {
     /// The string goes on.
     On,
@@ -28,8 +28,8 @@ pub enum Next {
     Leave,
     /// A jump to the tag that the token names.
     Go,
-    /// This text, a register's, is run.
-    Call(Vec<u8>),
+    /// The text of this register is run.
+    Call(Reg),
     /// The session is done.
     Out,
     /// The same token has a further step.

@@ -56,9 +56,9 @@ fn pages_left(work: Option<Work>, args: &Args) -> Result<i32, Failure>
     }
 }
 
-/// What comes after one of so many pages.
-fn after_page(n: i32) -> Next
-    ensures leads { end_of [] result ≡ pages.after_page n }
+/// What comes after one of so many pages on this desk.
+fn after_page<D: Desk>(desk: &D, n: i32) -> Next
+    ensures leads { end_of (D.state desk.now) [] result ≡ pages.after_page n }
     ensures finished { is_unfinished result ≡ false }
 {
     if n <= 1 {
@@ -83,7 +83,7 @@ pub(crate) fn turn_pages<D: Desk>(
     let n = pages_left(work, args)?;
     desk.turn_page()?;
     args.clear();
-    Ok(after_page(n))
+    Ok(after_page(desk, n))
 }
 
 /// Writes a range of the buffer, and a form feed where one is asked for. The command is then done, and its arguments gone.

@@ -2,11 +2,12 @@ use Rattle.std.proofs.Common.{◌≡◌, ◌<◌, ◌≤◌, ◌⊎◌, inl, inr
 use Rattle.std.proofs.lemmas.List.{length-drop}
 use Rattle.teco_core.specs.ArgumentsView.{arguments}
 use Rattle.teco_exec.specs.View.{cursor}
-use Rattle.teco_exec.specs.Running.{RunGoesOn, at_call, at_cursor, at_return, goes, host, over}
+use Rattle.teco_exec.specs.Running.{at_cursor, at_return, goes, host, over, reached_after_call}
 use Rattle.teco_exec.proofs.Continuations.{begins, caller, comes_home, enters, less_left, too_deep}
 use Rattle.teco_exec.proofs.Going.{since}
 use Rattle.teco_exec.proofs.NoMemory.{begins_quietly}
-use Rattle.teco_exec.proofs.Stepped.{counts_on}
+use Rattle.teco_exec.proofs.Stepped.{call_fails, call_leads, call_unpaid, counts_on}
+use Rattle.teco_core.specs.declared.code.Code.TheVariants.{Pdo}
 use Rattle.teco_exec.proofs.running.+run_text.Goals as goal
 
 pub run_text-running-init : goal.run_text-running-init
@@ -59,9 +60,7 @@ run_text-running-smaller g t c =
     let short : length (cursor back).left ≤ length c.args.text.now =
     let same : length to.text.now ≡ length c.args.text.now = ap length (ap (λ x. x.now) c.in-Call.ensures.text ∙ c.running.invariant.text) in
     omega (arith, same, left, length-drop to.at to.text.now) in
-    let later : (c.running.steps.done < steps.done) ⊎ (length (cursor back).left < length (cursor c.running.cursor).left) =
-    elim (c.in-Call.ensures.advances tt) [ inl lt ↦ inl (omega (arith, lt, c.in-Return-run_called.ensures.counts.after)) | inr lt ↦ inr (omega (arith, lt, left)) ] in
-    let less = less_left steps.limit c.running.steps.done steps.done (length c.args.text.now) (length (cursor c.running.cursor).left) (length (cursor back).left) (omega (arith, c.in-Call.ensures.counts.after, c.in-Return-run_called.ensures.counts.after)) steps.within short later in
+    let less = less_left steps.limit c.running.steps.done steps.done (length c.args.text.now) (length (cursor c.running.cursor).left) (length (cursor back).left) (omega (arith, c.in-Call.ensures.counts.after, c.in-Return-run_called.ensures.counts.after)) steps.within short (inl (omega (arith, c.in-Call.ensures.counts.after, c.in-Return-run_called.ensures.more refl))) in
     subst (λ limit. (steps.limit - steps.done) * (length c.args.text.now + 1) + length (cursor back).left < (limit - c.running.steps.done) * (length c.args.text.now + 1) + length (cursor c.running.cursor).left) (c.in-Return-run_called.ensures.counts.limit ∙ c.in-Call.ensures.counts.limit) less
 
 pub run_text-running-preserved : goal.run_text-running-preserved
@@ -72,9 +71,7 @@ run_text-running-preserved g t c = record {
   going = λ o callers limit deep e.
       let there = c.running.invariant.going o callers limit deep e in
       let here = c.in-Call.ensures.leads o callers (limit ∙ sym c.running.invariant.counts.limit) there.going in
-      let h = host (g.D.Desk.state c.step.new.desk) (g.D.Desk.follows c.step.new.desk) (g.T.Terminal.screen c.step.new.term) c.step.new.steps.done in
-      let called : RunGoesOn o h (at_call c.step.new.cursor c.deref.result.now callers) = subst (λ x. RunGoesOn o h (at_call c.step.new.cursor x callers)) (sym c.deref.ensures.value) here.going in
-      let back = c.in-Return-run_called.ensures.leads o callers (limit ∙ sym c.running.invariant.counts.limit ∙ sym c.in-Call.ensures.counts.limit) deep called in
+      let back = c.in-Return-run_called.ensures.leads o callers (limit ∙ sym c.running.invariant.counts.limit ∙ sym c.in-Call.ensures.counts.limit) deep here.going in
       record { going = back.going; follows = λ floor p. back.follows floor (here.follows floor (there.follows floor p)) };
 }
 
@@ -83,25 +80,40 @@ run_text-returns-in-Over-run_called-clause-leads g t c o callers limit deep e =
     let there = c.running.invariant.going o callers limit deep e in
     let here = c.in-Call.ensures.leads o callers (limit ∙ sym c.running.invariant.counts.limit) there.going in
     let h = host (g.D.Desk.state c.step.new.desk) (g.D.Desk.follows c.step.new.desk) (g.T.Terminal.screen c.step.new.term) c.step.new.steps.done in
-    let called : RunGoesOn o h (at_call c.step.new.cursor c.deref.result.now callers) = subst (λ x. RunGoesOn o h (at_call c.step.new.cursor x callers)) (sym c.deref.ensures.value) here.going in
-    let r = c.in-Over-run_called.ensures.leads o callers (limit ∙ sym c.running.invariant.counts.limit ∙ sym c.in-Call.ensures.counts.limit) deep called in
+    let r = c.in-Over-run_called.ensures.leads o callers (limit ∙ sym c.running.invariant.counts.limit ∙ sym c.in-Call.ensures.counts.limit) deep here.going in
     since o _ h _ (over c.in-Over-run_called.code) (λ floor p. here.follows floor (there.follows floor p)) r
 
 pub run_text-returns-in-Over-run_called-clause-no_memory : goal.run_text-returns-in-Over-run_called-clause-no_memory
 run_text-returns-in-Over-run_called-clause-no_memory g t c h e = c.in-Call.ensures.quiet (c.running.invariant.quiet h)
 
-pub run_called-returns-then-depth-eq-CALL_LIMIT-clause-leads : goal.run_called-returns-then-depth-eq-CALL_LIMIT-clause-leads
-run_called-returns-then-depth-eq-CALL_LIMIT-clause-leads g t c o callers limit deep e =
-    too_deep o _ c.args.cursor.now c.args.called.now callers e (deep ∙ c.if-depth-eq-CALL_LIMIT.true) (omega (arith, limit, c.args.steps.now.within))
+pub run_called-returns-then-steps-clause-leads : goal.run_called-returns-then-steps-clause-leads
+run_called-returns-then-steps-clause-leads g t c o callers limit deep e =
+    call_unpaid c.args.cursor.now c.args.q callers o _ e (c.if-steps.true ∙ sym limit)
 
-pub run_called-returns-clause-leads : goal.run_called-returns-clause-leads
-run_called-returns-clause-leads g t c o callers limit deep e =
+pub run_called-returns-in-Err-clause-leads : goal.run_called-returns-in-Err-clause-leads
+run_called-returns-in-Err-clause-leads g t c o callers limit deep e =
+    call_fails c.args.cursor.now c.args.q callers o _ e (omega (arith, limit, c.args.steps.now.within, c.if-steps.false))
+
+pub run_copy-returns-then-depth-eq-CALL_LIMIT-clause-leads : goal.run_copy-returns-then-depth-eq-CALL_LIMIT-clause-leads
+run_copy-returns-then-depth-eq-CALL_LIMIT-clause-leads g t c q is o callers limit deep e =
+    let h = host (g.D.Desk.state c.step_done.new.self) (g.D.Desk.follows c.step_done.new.self) (g.T.Terminal.screen c.args.term.now) c.count.new.self.done in
+    let from = c.args.cursor.now in
+    let there = call_leads from q callers o _ e c.count.new.self.done c.count.ensures.done (g.D.Desk.state c.step_done.new.self) c.step_done.ensures.state (g.D.Desk.follows c.step_done.new.self)
+    (g.met.D.Desk.eases c.args.desk.now) c.step_done.ensures.follows c.args.called.now is in
+    since o _ h _ (over (Some Pdo)) there.follows
+    (too_deep o h from c.args.called.now callers there.going (deep ∙ c.if-depth-eq-CALL_LIMIT.true) (omega (arith, limit, c.count.new.self.within, c.count.ensures.limit)))
+
+pub run_copy-returns-clause-leads : goal.run_copy-returns-clause-leads
+run_copy-returns-clause-leads g t c q is o callers limit deep e =
     let from = c.args.cursor.now in
     let left = c.run_text.new.args in
-    let h = host (g.D.Desk.state c.args.desk.now) (g.D.Desk.follows c.args.desk.now) (g.T.Terminal.screen c.args.term.now) c.args.steps.now.done in
+    let h = host (g.D.Desk.state c.step_done.new.self) (g.D.Desk.follows c.step_done.new.self) (g.T.Terminal.screen c.args.term.now) c.count.new.self.done in
     let k = host (g.D.Desk.state c.run_text.new.desk) (g.D.Desk.follows c.run_text.new.desk) (g.T.Terminal.screen c.run_text.new.term) c.run_text.new.steps.done in
-    let fewer : length callers < 32 = omega (arith, deep, c.requires, c.if-depth-eq-CALL_LIMIT.false) in
-    let into = enters o h from c.args.called.now callers e fewer in
+    let there = call_leads from q callers o _ e c.count.new.self.done c.count.ensures.done (g.D.Desk.state c.step_done.new.self) c.step_done.ensures.state (g.D.Desk.follows c.step_done.new.self)
+    (g.met.D.Desk.eases c.args.desk.now) c.step_done.ensures.follows c.args.called.now is in
+    let fewer : length callers < 32 = omega (arith, deep, c.requires.deep, c.if-depth-eq-CALL_LIMIT.false) in
+    let into = enters o h from c.args.called.now callers there.going fewer in
     let deeper : length (caller from ∷ callers) ≡ c.args.depth + 1 = omega (arith, deep) in
-    comes_home o h k (arguments left) from (record from { args = left }) callers refl refl c.run_text.result
-    (c.run_text.ensures.leads o (caller from ∷ callers) limit deeper into.going)
+    since o _ h k (reached_after_call (record from { args = left }) callers c.run_text.result) there.follows
+    (comes_home o h k (arguments left) from (record from { args = left }) callers refl refl c.run_text.result
+    (c.run_text.ensures.leads o (caller from ∷ callers) (limit ∙ sym c.count.ensures.limit) deeper into.going))

@@ -9,10 +9,13 @@ use Rattle.teco_exec.specs.Tokens.{CountsSteps}
 use Rattle.teco_exec.proofs.running.+run_text.Given as goal
 
 abbrev pub decreases-run_text : goal.decreases-run_text
-decreases-run_text g l = 2 * (32 - l.depth) + 1
+decreases-run_text g l = 3 * (32 - l.depth) + 2
 
 abbrev pub decreases-run_called : goal.decreases-run_called
-decreases-run_called g l = 2 * (32 - l.depth)
+decreases-run_called g l = 3 * (32 - l.depth) + 1
+
+abbrev pub decreases-run_copy : goal.decreases-run_copy
+decreases-run_copy g l = 3 * (32 - l.depth)
 
 abbrev pub invariant-run_text-running : goal.invariant-run_text-running
 invariant-run_text-running g l = record {

@@ -1,4 +1,4 @@
-use Rattle.teco_step.proofs.Ends.{leave_is_inside, go_names, goes_further_if_it_may, value_goes_on}
+use Rattle.teco_step.proofs.Ends.{leave_is_inside, go_names, calls_by_calls, goes_further_if_it_may, value_goes_on}
 use Rattle.teco_step.proofs.Errors.{errors_leave}
 use Rattle.teco_step.proofs.Exits.{only_exits}
 use Rattle.teco_step.proofs.Loads.{changes_or_types, load_moves}
@@ -11,6 +11,7 @@ returns c =
     record {
       leave = leave_is_inside;
       jump = go_names;
+      call = calls_by_calls;
       further = goes_further_if_it_may;
       value = value_goes_on;
       done = only_exits;
