@@ -4,7 +4,7 @@ ghost use Rattle.teco_store.specs.Page.{finished, form_feed_if, is_ended, left_o
 ghost use Rattle.teco_store.specs.State.{Extends, IsEnd, IsSound, state_of, with_stored};
 
 use crate::editor::Editor;
-use crate::pages::{Page, append, end_after, make_room, next_page, part, put_after};
+use crate::pages::{Page, end_after, make_room, next_page, part};
 use std::alloc::Global;
 use teco_core::NoMemory;
 
@@ -48,7 +48,7 @@ impl Editor {
         ensures editor { self.new ≡ record self.old { stored = take self.old.body.output self.old.stored } }
         ensures extends { Extends self.old self.new }
     {
-        self.output.truncate(self.shown);
+        self.output.cut(self.shown);
     }
 
     // Makes room for a text of `len` bytes.
@@ -109,7 +109,11 @@ impl Editor {
     {
         let (before, after) = self.text.halves();
         let (before, after) = part(before, after, from, to);
-        append(&mut self.output, self.shown, before, after, form_feed, &[])
+        let more = before.len() + after.len() + usize::from(form_feed);
+        self.output.reserve(self.shown, more)?;
+        self.output
+            .put(&self.input, self.shown, before, after, form_feed);
+        Ok(())
     }
 
     // Stores the page after the output, and makes room for a text of `len` bytes.
@@ -119,17 +123,33 @@ impl Editor {
         ensures err { OnErr result (self.new ≡ self.old) }
         ensures extends { Extends self.old self.new }
     {
-        self.output.reserve(self.text.len() + 1)?;
+        let (before, after) = self.text.halves();
+        let read = &self.input[..self.place];
+        let at = self
+            .output
+            .place_after(self.shown, read, before, after, self.form_feed);
+        match at {
+            Some(at) => {
+                make_room(*self.input.allocator(), &mut self.text, len)?;
+                self.output.lengthen(self.shown, at, self.place);
+                Ok(())
+            }
+            None => self.copy_page(len),
+        }
+    }
+
+    // Copies the page after the output, and makes room for a text of `len` bytes.
+    fn copy_page(&mut self, len: usize) -> Result<(), NoMemory>
+        ensures ok { OnOk result (self.new ≡ with_stored self.old (written (state_of self.old)) self.new.room) }
+        ensures room { OnOk result (len ≤ self.new.room) }
+        ensures err { OnErr result (self.new ≡ self.old) }
+        ensures extends { Extends self.old self.new }
+    {
+        self.output.reserve(self.shown, self.text.len() + 1)?;
         make_room(*self.input.allocator(), &mut self.text, len)?;
         let (before, after) = self.text.halves();
-        put_after(
-            &mut self.output,
-            self.shown,
-            before,
-            after,
-            self.form_feed,
-            &[],
-        );
+        self.output
+            .put(&self.input, self.shown, before, after, self.form_feed);
         Ok(())
     }
 
@@ -140,14 +160,30 @@ impl Editor {
         ensures extends { Extends self.old self.new }
     {
         let (before, after) = self.text.halves();
-        let rest = &self.input[self.place..];
-        append(
-            &mut self.output,
-            self.shown,
-            before,
-            after,
-            self.form_feed,
-            rest,
-        )
+        let read = &self.input[..self.place];
+        let at = self
+            .output
+            .place_after(self.shown, read, before, after, self.form_feed);
+        match at {
+            Some(at) => {
+                self.output.lengthen(self.shown, at, self.input.len());
+                Ok(())
+            }
+            None => self.copy_page_before_rest(),
+        }
+    }
+
+    // Copies the page after the output. The rest of the input, which follows it, is not copied.
+    fn copy_page_before_rest(&mut self) -> Result<(), NoMemory>
+        ensures ok { OnOk result (self.new ≡ with_stored self.old (written (state_of self.old) ++ left_of (state_of self.old)) self.old.room) }
+        ensures err { OnErr result (self.new ≡ self.old) }
+        ensures extends { Extends self.old self.new }
+    {
+        self.output.reserve(self.shown, self.text.len() + 1)?;
+        let (before, after) = self.text.halves();
+        self.output
+            .put(&self.input, self.shown, before, after, self.form_feed);
+        self.output.follow(self.place, self.input.len());
+        Ok(())
     }
 }
