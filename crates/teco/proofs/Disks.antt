@@ -1,5 +1,5 @@
 -- The calls of a replacement, one after another, and its moments.
-use Rattle.std.proofs.Common.{◌≡◌, ◌≢◌, ◌⊎◌, inl, inr, ℕ, List, [], Option, Bool, true, false, Result, Ok, Err, refl, ap, sym, ◌∙◌}
+use Rattle.std.proofs.Common.{◌≡◌, ◌≢◌, ◌⊎◌, inl, inr, ℕ, List, [], ◌++◌, append_assoc, Option, Some, Bool, true, false, Result, Ok, Err, refl, ap, sym, ◌∙◌}
 use Rattle.std.specs.Prelude.{OnOk, OnErr, bytes_eq}
 use Rattle.std.proofs.lemmas.Slice.Eq.{bytes_eq-Decides}
 use Rattle.teco.specs.Disk.{Appends, Changes, Creates, Files, IsWhole, LeavesFiles, Passes, Removes, Renames, Same, SameBut}
@@ -78,6 +78,27 @@ module _ {name : List ℕ} where
           others = λ other apart. new_is.2.others other apart ∙ mid_is.2.others other apart;
         },
       )
+
+  pub others_appended : {bytes : List ℕ} {old new : Option Files} → Changes old new (Appends name bytes) → Changes old new (SameBut name)
+  others_appended appends before told = let new_is = appends before told in (new_is.0, new_is.1, new_is.2.others)
+
+  -- written to, and then written to once more
+  appends_then : {xs ys : List ℕ} {old mid new : Option Files} → Changes old mid (Appends name xs) → Changes mid new (Appends name ys) → Changes old new (Appends name (xs ++ ys))
+  appends_then {xs} {ys} first then before told =
+      let mid_is = first before told in
+      let new_is = then mid_is.0 mid_is.1 in (
+        new_is.0,
+        new_is.1,
+        record {
+          whole = λ had is. new_is.2.whole (had ++ xs) (mid_is.2.whole had is) ∙ ap (λ (l : List ℕ). Some l) (append_assoc had xs ys);
+          others = λ other apart. new_is.2.others other apart ∙ mid_is.2.others other apart;
+        },
+      )
+
+  pub appends_if : {A E : Type 0} {xs : List ℕ} {old mid : Option Files} (ys : List ℕ) (new : Option Files) (result : Result A E) → Changes old mid (Appends name xs) → OnOk result (Changes mid new (Appends name ys))
+      → OnOk result (Changes old new (Appends name (xs ++ ys)))
+  appends_if ys new (Ok done) first then = appends_then first then
+  appends_if ys new (Err fault) first then = tt
 
   -- moments of one call, and then of another
   pub passes_then : {old mid : Option Files} {a b c : Files → Type 0} → Passes old a b (SameBut name) → Changes old mid (SameBut name) → Passes mid b c (SameBut name) → Passes old a c (SameBut name)

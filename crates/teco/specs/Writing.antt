@@ -1,10 +1,15 @@
 -- Writing the output: what it leaves of the files, and what it may fail by.
-use Rattle.std.specs.Prelude.{◌≡◌, ◌≢◌, ◌⊎◌, ℕ, List, Some, None}
+use Rattle.std.specs.Prelude.{◌≡◌, ◌≢◌, ◌⊎◌, ◌++◌, ℕ, List, Some, None}
+use Rattle.std.specs.Borrow.{Bor}
 use Rattle.std.specs.IoError.{error_kind}
 use Rattle.std.specs.declared.io.Error.{Error}
 use Rattle.std.specs.declared.io.ErrorKind.TheVariants.{AlreadyExists, OutOfMemory}
 use Rattle.teco.specs.Disk.{Files}
 use Rattle.teco.specs.Draft.{draft_beside}
+
+-- the bytes of two parts, one after the other
+abbrev pub both : Bor (List ℕ) × Bor (List ℕ) → List ℕ
+both parts = parts.0.now ++ parts.1.now
 
 -- The name is that of a draft of the file.
 abbrev pub IsDraftOf : List ℕ → List ℕ → Type 0

@@ -53,8 +53,8 @@ pub trait Disk {
         ensures count { Counts result (failures self.old) (failures self.new) }
         ensures error { IfErr result (gave self.new) };
 
-    /// Writes the bytes after what a device, a pipe or an open file has.
-    fn append(&mut self, name: &str, bytes: &[u8]) -> io::Result<()>
+    /// Writes both parts after what a device, a pipe or an open file has.
+    fn append(&mut self, name: &str, bytes: (&[u8], &[u8])) -> io::Result<()>
         ensures count { Counts result (failures self.old) (failures self.new) }
         ensures error { IfErr result (gave self.new) };
 

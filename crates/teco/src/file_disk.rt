@@ -102,7 +102,7 @@ impl<'a, R: Files + AllocGlobal> Disk for FileDisk<'a, R> {
         }
     }
 
-    fn append(&mut self, name: &str, bytes: &[u8]) -> io::Result<()> {
+    fn append(&mut self, name: &str, bytes: (&[u8], &[u8])) -> io::Result<()> {
         let appended = append(self.rt, name, bytes);
         self.counted(appended)
     }

@@ -128,7 +128,7 @@ impl Disk for MemoryDisk {
         place
     }
 
-    fn append(&mut self, _name: &str, _bytes: &[u8]) -> io::Result<()> {
+    fn append(&mut self, _name: &str, _bytes: (&[u8], &[u8])) -> io::Result<()> {
         let appended = Err(io::Error::from(ErrorKind::Unsupported));
         self.failures.count(&appended);
         appended

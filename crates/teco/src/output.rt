@@ -3,7 +3,7 @@ ghost use Rattle.std.specs.Prelude.{◌≡◌, ◌≢◌, ◌⊎◌, IfErr, IfOk
 ghost use Rattle.std.specs.String.{string_bytes};
 ghost use Rattle.teco.specs.Draft.{draft_beside};
 ghost use Rattle.teco.specs.Disk.{Appends, Changes, Counts, Creates, IsWhole, LeavesFiles, Passes, Replaces, Same, SameBut};
-ghost use Rattle.teco.specs.Writing.{AddsDrafts, IsWriteError, IsWriting, Writes};
+ghost use Rattle.teco.specs.Writing.{AddsDrafts, IsWriteError, IsWriting, Writes, both};
 
 use crate::disk::Disk;
 use crate::place::Place;
@@ -16,28 +16,55 @@ use teco_core::NoMemory;
 /// How many names are tried for a draft.
 const DRAFTS: u32 = 100;
 
-/// Writes the bytes to a draft, and waits until they outlast a crash.
-fn fill<D: Disk>(disk: &mut D, draft: &mut D::Draft, name: &str, bytes: &[u8]) -> io::Result<()>
+/// Writes both parts to a draft, or some of their bytes where it fails.
+fn write_both<D: Disk>(
+    disk: &mut D,
+    draft: &mut D::Draft,
+    name: &str,
+    bytes: (&[u8], &[u8]),
+) -> io::Result<()>
     requires { D.is_of draft.old name.now }
-    ensures ok { OnOk result (Changes (D.files disk.old) (D.files disk.new) (Appends name.now bytes.now)) }
+    ensures ok { OnOk result (Changes (D.files disk.old) (D.files disk.new)
+        (Appends name.now (both bytes.entry))) }
+    ensures draft { D.is_of draft.new name.now }
+    ensures err { OnErr result (Changes (D.files disk.old) (D.files disk.new) (SameBut name.now)) }
+    ensures moments { Passes (D.files disk.old) (D.left disk.old) (D.left disk.new) (SameBut name.now) }
+    ensures count { Counts result (D.failures disk.old) (D.failures disk.new) }
+    ensures error { IfErr result (D.gave disk.new) }
+{
+    disk.write(draft, name, bytes.0)?;
+    disk.write(draft, name, bytes.1)
+}
+
+/// Writes the bytes to a draft, and waits until they outlast a crash.
+fn fill<D: Disk>(
+    disk: &mut D,
+    draft: &mut D::Draft,
+    name: &str,
+    bytes: (&[u8], &[u8]),
+) -> io::Result<()>
+    requires { D.is_of draft.old name.now }
+    ensures ok { OnOk result (Changes (D.files disk.old) (D.files disk.new)
+        (Appends name.now (both bytes.entry))) }
     ensures kept { OnOk result (D.kept disk.new name.now) }
     ensures err { OnErr result (Changes (D.files disk.old) (D.files disk.new) (SameBut name.now)) }
     ensures moments { Passes (D.files disk.old) (D.left disk.old) (D.left disk.new) (SameBut name.now) }
     ensures count { Counts result (D.failures disk.old) (D.failures disk.new) }
     ensures error { IfErr result (D.gave disk.new) }
 {
-    disk.write(draft, name, bytes)?;
+    write_both(disk, draft, name, bytes)?;
     disk.make_like(draft, name);
     disk.sync(draft, name)
 }
 
 /// Makes a draft with these bytes, which outlast a crash. Where they can't be written, it is removed again.
-fn create<D: Disk>(disk: &mut D, name: &str, bytes: &[u8]) -> io::Result<()>
-    ensures ok { OnOk result (Changes (D.files disk.old) (D.files disk.new) (Creates name.now bytes.now)) }
+fn create<D: Disk>(disk: &mut D, name: &str, bytes: (&[u8], &[u8])) -> io::Result<()>
+    ensures ok { OnOk result (Changes (D.files disk.old) (D.files disk.new)
+        (Creates name.now (both bytes.entry))) }
     ensures kept { OnOk result (D.kept disk.new name.now) }
     ensures err { OnErr result (Changes (D.files disk.old) (D.files disk.new) (LeavesFiles name.now)) }
-    ensures removed { OnErr result
-        (Changes (D.files disk.old) (D.files disk.new) Same ⊎ D.unremoved disk.new name.now) }
+    ensures removed { OnErr result (Changes (D.files disk.old) (D.files disk.new) Same
+        ⊎ D.unremoved disk.new name.now) }
     ensures moments { Passes (D.files disk.old) (D.left disk.old) (D.left disk.new) (SameBut name.now) }
     ensures count { Counts result (D.failures disk.old) (D.failures disk.new) }
     ensures error { IfErr result (D.gave disk.new) }
@@ -54,14 +81,20 @@ fn create<D: Disk>(disk: &mut D, name: &str, bytes: &[u8]) -> io::Result<()>
 ///
 /// So at no moment has the file a part of them. Where a call fails, each file stays as it was, and no draft is left, or it could
 /// not be removed.
-pub fn replace<D: Disk>(disk: &mut D, file: &str, draft: &str, bytes: &[u8]) -> io::Result<()>
+pub fn replace<D: Disk>(
+    disk: &mut D,
+    file: &str,
+    draft: &str,
+    bytes: (&[u8], &[u8]),
+) -> io::Result<()>
     requires { draft.now ≢ file.now }
-    ensures ok { OnOk result (Changes (D.files disk.old) (D.files disk.new) (Replaces file.now bytes.now)) }
+    ensures ok { OnOk result (Changes (D.files disk.old) (D.files disk.new)
+        (Replaces file.now (both bytes.entry))) }
     ensures err { OnErr result (Changes (D.files disk.old) (D.files disk.new) (LeavesFiles draft.now)) }
-    ensures removed { OnErr result
-        (Changes (D.files disk.old) (D.files disk.new) Same ⊎ D.unremoved disk.new draft.now) }
+    ensures removed { OnErr result (Changes (D.files disk.old) (D.files disk.new) Same
+        ⊎ D.unremoved disk.new draft.now) }
     ensures moments { Passes (D.files disk.old) (D.left disk.old) (D.left disk.new)
-        (IsWhole file.now draft.now bytes.now) }
+        (IsWhole file.now draft.now (both bytes.entry)) }
     ensures count { Counts result (D.failures disk.old) (D.failures disk.new) }
     ensures error { IfErr result (D.gave disk.new) }
 {
@@ -94,12 +127,13 @@ fn replace_file<D: Disk>(
     disk: &mut D,
     file: &str,
     number: u32,
-    bytes: &[u8],
+    bytes: (&[u8], &[u8]),
 ) -> io::Result<()>
-    ensures ok { OnOk result (Changes (D.files disk.old) (D.files disk.new) (Writes file.now bytes.now)) }
+    ensures ok { OnOk result (Changes (D.files disk.old) (D.files disk.new)
+        (Writes file.now (both bytes.entry))) }
     ensures err { OnErr result (Changes (D.files disk.old) (D.files disk.new) (AddsDrafts file.now)) }
     ensures moments { Passes (D.files disk.old) (D.left disk.old) (D.left disk.new)
-        (IsWriting file.now bytes.now) }
+        (IsWriting file.now (both bytes.entry)) }
     ensures error { IfErr result (IsWriteError (D.gave disk.new)) }
 {
     'drafts: for draft_number in number..number.saturating_add(DRAFTS) {
@@ -112,19 +146,20 @@ fn replace_file<D: Disk>(
     Err(io::Error::from(ErrorKind::AlreadyExists))
 }
 
-/// Writes the output. A file that is new or is replaced has it whole or stays as it was; a device, a pipe and an open file get it
-/// after what they have. The number is for the name of a draft.
+/// Writes the output, which is in two parts. A file that is new or is replaced has it whole or stays as it was; a device, a pipe
+/// and an open file get it after what they have. The number is for the name of a draft.
 pub fn write_output<D: Disk>(
     alloc: Global,
     disk: &mut D,
     name: &str,
     number: u32,
-    output: &[u8],
+    output: (&[u8], &[u8]),
 ) -> io::Result<()>
-    ensures ok { OnOk result (Changes (D.files disk.old) (D.files disk.new) (Writes name.now output.now)) }
+    ensures ok { OnOk result (Changes (D.files disk.old) (D.files disk.new)
+        (Writes name.now (both output.entry))) }
     ensures err { OnErr result (Changes (D.files disk.old) (D.files disk.new) (AddsDrafts name.now)) }
     ensures moments { Passes (D.files disk.old) (D.left disk.old) (D.left disk.new)
-        (IsWriting name.now output.now) }
+        (IsWriting name.now (both output.entry)) }
     ensures error { IfErr result (IsWriteError (D.gave disk.new)) }
 {
     match disk.place_of(name)? {

@@ -64,8 +64,9 @@ pub fn place_of<R: Files + AllocGlobal>(rt: &R, name: &str) -> io::Result<Found>
     }
 }
 
-/// Writes the bytes after what a device, a pipe or an open file has.
-pub fn append<R: Files>(rt: &R, name: &str, bytes: &[u8]) -> io::Result<()> {
+/// Writes both parts after what a device, a pipe or an open file has.
+pub fn append<R: Files>(rt: &R, name: &str, bytes: (&[u8], &[u8])) -> io::Result<()> {
     let mut stream = OpenOptions::new().append(true).create(true).open(rt, name)?;
-    stream.write_all(bytes)
+    stream.write_all(bytes.0)?;
+    stream.write_all(bytes.1)
 }

@@ -8,6 +8,7 @@ ghost use Rattle.teco.specs.Run.{Concludes, Edits, EditsByFile, EditsByLine, Edi
 ghost use Rattle.teco.specs.Seen.{CommandsSeen, commands_seen, disk_seen, source_view, terminal_seen};
 ghost use Rattle.teco.specs.Serving.{Serves};
 ghost use Rattle.teco.specs.Source.{Gives, HasEnded};
+ghost use Rattle.teco.specs.Writing.{both};
 ghost use Rattle.teco_core.specs.declared.limits.TheConstants.{FILE_LIMIT};
 ghost use Rattle.teco_session.specs.History.{new_history};
 ghost use Rattle.teco_session.specs.Kept.{history_of};
@@ -103,12 +104,12 @@ fn finish<D: Disk>(
     name: &str,
     number: u32,
     served: Served,
-    output: &[u8],
+    output: (&[u8], &[u8]),
     disk: &mut D,
 ) -> Fate
     ensures { let seen = disk_seen D.files D.left D.gave
         (source_view D.Input.coming D.Input.bound D.Input.failures D.Input.ended) in
-        Finishes (seen disk.old) (seen disk.new) name.now output.now served result }
+        Finishes (seen disk.old) (seen disk.new) name.now (both output.entry) served result }
 {
     match served {
         Served::Exit => match write_output(alloc, disk, name, number, output) {

@@ -28,7 +28,8 @@ Undoes old code new =
 -- It goes on by a string, or there is none and it is the same.
 abbrev pub Redoes : Kept → ℕ → Kept → Type 0
 Redoes old code new =
-    ((code ≡ 0) × (old.cursor < length (history_of old).notes) × (new ≡ applied old) × (history_of new ≡ redone (history_of old)))
+    ((code ≡ 0) × (old.cursor < length (history_of old).notes) × (new ≡ applied old)
+    × (history_of new ≡ redone (history_of old)))
     ⊎ ((code ≡ number_of Ntr) × (old.cursor ≡ length (history_of old).notes) × (new ≡ old))
 
 -- It goes back to the state after the first n steps of the last string, or there is none and it is the same.

@@ -121,7 +121,8 @@ fn run_on(session: &mut Session, text: &[u8], limit: u64, term: &mut Room) -> An
     requires { term.old.count ≡ 0 }
     ensures same_reference { term.new.room.ghost_name ≡ term.old.room.ghost_name }
     ensures length { length term.new.room.now ≡ length term.old.room.now }
-    ensures run { RunsTo limit session.old text.now result (take term.new.count term.new.room.now) session.new }
+    ensures run { RunsTo limit session.old text.now result
+        (take term.new.count term.new.room.now) session.new }
 {
     session.run(text, limit, term)
 }
@@ -150,7 +151,8 @@ pub extern "C" fn teco_run(
     made: &mut usize,
     steps: &mut u64,
 ) -> u8
-    ensures open { Goes t.old.value t.new.value (λ old new. (answer : RunAnswer) × (result ≡ answer_number answer)
+    ensures open { Goes t.old.value t.new.value
+        (λ old new. (answer : RunAnswer) × (result ≡ answer_number answer)
         × (steps.new ≡ steps_of answer) × RunsTo limit old text.now answer (take made.new room.new) new) }
     ensures within { made.new ≤ length room.new }
     ensures closed { StaysClosed t.old.value result t.new.value }

@@ -64,7 +64,8 @@ impl Teco {
     /// Takes the session out, and leaves the handle closed. Takes no memory.
     pub fn take(&mut self, alloc: Global) -> Option<Box<Session>>
         ensures closed { self.new.value ≡ None }
-        ensures value { MatchOption result (self.old.value ≡ None) (λ session. self.old.value ≡ Some session.value) }
+        ensures value { MatchOption result (self.old.value ≡ None)
+            (λ session. self.old.value ≡ Some session.value) }
     {
         match replace(self, Teco::closed(alloc)).into_parts() {
             None => None,

@@ -38,7 +38,8 @@ pub extern "C" fn teco_cursor(alloc: Global, t: &mut Teco, count: &mut usize) ->
 /// Writes how many steps string `i` took, counted from the oldest one that is kept. Takes no memory.
 #[unsafe(no_mangle)]
 pub extern "C" fn teco_steps(alloc: Global, t: &mut Teco, i: usize, steps: &mut u64) -> u8
-    ensures { TellsIf 0 t.old.value result steps.new t.new.value (λ kept. option_map (λ note. note.steps) (string_of i kept)) }
+    ensures { TellsIf 0 t.old.value result steps.new t.new.value
+        (λ kept. option_map (λ note. note.steps) (string_of i kept)) }
 {
     let Some(session) = t.take(alloc) else {
         *steps = 0;
@@ -59,8 +60,10 @@ pub extern "C" fn teco_string(
     room: &mut [u8],
     len: &mut usize,
 ) -> u8
-    ensures length { TellsIf 0 t.old.value result len.new t.new.value (λ kept. option_map (λ note. length note.text) (string_of i kept)) }
-    ensures text { CopiesIf t.old.value room.old room.new (λ kept. option_map (λ note. note.text) (string_of i kept)) }
+    ensures length { TellsIf 0 t.old.value result len.new t.new.value
+        (λ kept. option_map (λ note. length note.text) (string_of i kept)) }
+    ensures text { CopiesIf t.old.value room.old room.new
+        (λ kept. option_map (λ note. note.text) (string_of i kept)) }
 {
     let Some(session) = t.take(alloc) else {
         *len = 0;

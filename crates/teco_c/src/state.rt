@@ -47,7 +47,8 @@ pub extern "C" fn teco_text(
     room: &mut [u8],
     len: &mut usize,
 ) -> u8
-    ensures length { Tells t.old.value result len.new t.new.value (λ kept. length (drop from (state_now kept).text)) }
+    ensures length { Tells t.old.value result len.new t.new.value
+        (λ kept. length (drop from (state_now kept).text)) }
     ensures text { Copies t.old.value room.old room.new (λ kept. drop from (state_now kept).text) }
 {
     let Some(session) = t.take(alloc) else {
@@ -72,7 +73,8 @@ pub extern "C" fn teco_output(
     room: &mut [u8],
     len: &mut usize,
 ) -> u8
-    ensures length { Tells t.old.value result len.new t.new.value (λ kept. length (drop from (state_now kept).output)) }
+    ensures length { Tells t.old.value result len.new t.new.value
+        (λ kept. length (drop from (state_now kept).output)) }
     ensures output { Copies t.old.value room.old room.new (λ kept. drop from (state_now kept).output) }
 {
     let Some(session) = t.take(alloc) else {
@@ -89,7 +91,8 @@ pub extern "C" fn teco_output(
 /// Writes the number of the register that a byte names. Takes no memory.
 #[unsafe(no_mangle)]
 pub extern "C" fn teco_number(alloc: Global, t: &mut Teco, name: u8, number: &mut i32) -> u8
-    ensures { TellsIf (pos 0) t.old.value result number.new t.new.value (λ kept. option_map (λ held. held.number) (register_named_by name kept)) }
+    ensures { TellsIf (pos 0) t.old.value result number.new t.new.value
+        (λ kept. option_map (λ held. held.number) (register_named_by name kept)) }
 {
     *number = 0;
     let Some(session) = t.take(alloc) else {
@@ -116,8 +119,10 @@ pub extern "C" fn teco_register(
     room: &mut [u8],
     len: &mut usize,
 ) -> u8
-    ensures length { TellsIf 0 t.old.value result len.new t.new.value (λ kept. option_map (λ held. length held.text) (register_named_by name kept)) }
-    ensures text { CopiesIf t.old.value room.old room.new (λ kept. option_map (λ held. held.text) (register_named_by name kept)) }
+    ensures length { TellsIf 0 t.old.value result len.new t.new.value
+        (λ kept. option_map (λ held. length held.text) (register_named_by name kept)) }
+    ensures text { CopiesIf t.old.value room.old room.new
+        (λ kept. option_map (λ held. held.text) (register_named_by name kept)) }
 {
     *len = 0;
     let Some(session) = t.take(alloc) else {
@@ -139,7 +144,8 @@ pub extern "C" fn teco_register(
 /// Copies the last search text into the room, as much as there is room for, and writes how long it is. Takes no memory.
 #[unsafe(no_mangle)]
 pub extern "C" fn teco_search(alloc: Global, t: &mut Teco, room: &mut [u8], len: &mut usize) -> u8
-    ensures length { TellsIf 0 t.old.value result len.new t.new.value (λ kept. option_map length (state_now kept).last_search) }
+    ensures length { TellsIf 0 t.old.value result len.new t.new.value
+        (λ kept. option_map length (state_now kept).last_search) }
     ensures text { CopiesIf t.old.value room.old room.new (λ kept. (state_now kept).last_search) }
 {
     *len = 0;

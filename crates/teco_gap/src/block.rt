@@ -104,8 +104,10 @@ impl Block {
         requires inside { at + del ≤ length (around self.old.region.bytes gap tail) }
         requires fits { gap + length ins.now ≤ tail + del }
         ensures gap { (result.0 ≤ result.1) × (result.1 ≤ length self.new.region.bytes) }
-        ensures before { take result.0 self.new.region.bytes ≡ take at (around self.old.region.bytes gap tail) ++ ins.now }
-        ensures after { drop result.1 self.new.region.bytes ≡ drop (at + del) (around self.old.region.bytes gap tail) }
+        ensures before { take result.0 self.new.region.bytes
+            ≡ take at (around self.old.region.bytes gap tail) ++ ins.now }
+        ensures after { drop result.1 self.new.region.bytes
+            ≡ drop (at + del) (around self.old.region.bytes gap tail) }
         ensures cap { self.new.cap ≡ self.old.cap }
     {
         let bytes = self.region.bytes_mut();

@@ -27,7 +27,8 @@ JumpsToItsName = (i : Item) (w : Setting) (s : State) (a : Arguments) (name : Li
 
 -- A text is called only by a token that calls.
 abbrev pub CallsByCalls : Type 0
-CallsByCalls = (i : Item) (w : Setting) (s : State) (a : Arguments) (text : List ℕ) → (effect i w s a).end ≡ call text → is_call i ≡ true
+CallsByCalls = (i : Item) (w : Setting) (s : State) (a : Arguments) (text : List ℕ)
+    → (effect i w s a).end ≡ call text → is_call i ≡ true
 
 -- A further step is of a token that may have some.
 abbrev pub GoesFurtherIfItMay : Type 0

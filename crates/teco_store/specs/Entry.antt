@@ -26,13 +26,15 @@ notes_forth (c ∷ cs) b = note_after c b ∷ notes_forth cs (body_after c.turn 
 -- each change fits the body at which it is turned; backward the output's end never rises
 abbrev pub FitsBack : ℕ → List Note → Body → Type 0
 FitsBack capacity [] b = Unit {0}
-FitsBack capacity (c ∷ cs) b = FitsBack capacity cs b × Fits capacity (body_back cs b).output c.turn (body_back cs b)
+FitsBack capacity (c ∷ cs) b = FitsBack capacity cs b
+    × Fits capacity (body_back cs b).output c.turn (body_back cs b)
 
 -- and forward it never falls, up to `top`
 abbrev pub FitsForth : ℕ → ℕ → List Note → Body → Type 0
 FitsForth capacity top [] b = Unit {0}
 FitsForth capacity top (c ∷ cs) b =
-    (Fits capacity top c.turn b × (b.output ≤ (body_after c.turn b).output)) × FitsForth capacity top cs (body_after c.turn b)
+    (Fits capacity top c.turn b × (b.output ≤ (body_after c.turn b).output))
+    × FitsForth capacity top cs (body_after c.turn b)
 
 -- the changes made after the first `i` steps, and those made before
 abbrev pub since : ℕ → List Note → List Note

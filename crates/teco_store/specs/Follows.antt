@@ -32,7 +32,8 @@ pub record HasCome (full : Full) (notes : List Note) (steps : ℕ) (t : Trail) :
   pub marked : AreMarked 0 t.steps notes
   pub states : (i : ℕ) → i ≤ t.steps → state_at full.stored (body_back (since i notes) full.body) ≡ t.states i
   -- the bytes of both sides of the changes of the first steps, and of all of them
-  pub loads : (i : ℕ) → i ≤ t.steps → load_back (before i notes) (body_back (since i notes) full.body) ≤ t.loads i
+  pub loads : (i : ℕ) → i ≤ t.steps
+      → load_back (before i notes) (body_back (since i notes) full.body) ≤ t.loads i
   pub load : load_back notes full.body ≤ t.load
   -- the changes of each step, of the present one, and of all together
   pub each : (i : ℕ) → i < t.steps → length (of_step i notes) ≤ 6
@@ -44,7 +45,14 @@ Follows r t = HasCome r.full r.notes r.done t
 
 -- after so many changes of this load
 abbrev pub noting : Trail → ℕ → ℕ → Trail
-noting t load count = record { states = t.states; loads = t.loads; steps = t.steps; load = t.load + load; changes = t.changes + count; floor = t.floor }
+noting t load count = record {
+  states = t.states;
+  loads = t.loads;
+  steps = t.steps;
+  load = t.load + load;
+  changes = t.changes + count;
+  floor = t.floor;
+}
 
 -- What is followed before is followed after so many changes of this load.
 abbrev pub Goes : ℕ → ℕ → Recording → Recording → Type 0
@@ -76,7 +84,8 @@ follows_eases r t f = record {
   load = le_trans f.load (le-add_right t.load 0);
   each = f.each;
   present = le_trans f.present (le-add_right t.changes 6);
-  count = subst (λ (n : ℕ). length r.notes ≤ n) (add_assoc (6 * t.steps) t.changes 6) (le_trans f.count (le-add_right (6 * t.steps + t.changes) 6));
+  count = subst (λ (n : ℕ). length r.notes ≤ n) (add_assoc (6 * t.steps) t.changes 6)
+      (le_trans f.count (le-add_right (6 * t.steps + t.changes) 6));
 }
 
 -- What a recorder leaves: changes that lead back to the body before, the output that was visible stored as before, and no less

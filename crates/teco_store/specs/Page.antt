@@ -55,12 +55,14 @@ turned s = with_output (with_page s) (written s)
 
 -- The bytes between two places are written, with a form feed where one is asked for.
 abbrev pub with_range_written : State → ℕ → ℕ → Bool → State
-with_range_written s low high form_feed = with_output s (drop low (take high s.text) ++ form_feed_if form_feed)
+with_range_written s low high form_feed = with_output s
+    (drop low (take high s.text) ++ form_feed_if form_feed)
 
 -- The page in the buffer is written, then the rest of the input as it is, and the session is done.
 abbrev pub finished : State → State
 finished s =
-    record (with_output s (written s ++ left_of s)) { text = []; pointer = 0; place = length s.input; form_feed = false; is_done = true }
+    record (with_output s (written s
+    ++ left_of s)) { text = []; pointer = 0; place = length s.input; form_feed = false; is_done = true }
 
 -- the load of a page that replaces the buffer
 abbrev pub page_load : State → ℕ
@@ -68,4 +70,5 @@ page_load s = length s.text + length (page s)
 
 -- The next page comes for the `there` bytes at `at`; the pointer is put at a place, and the output ends at `end`.
 abbrev pub brought : Body → ℕ → ℕ → ℕ → ℕ → Body
-brought b at there pointer end = record (past_page b) { text = replaced b.text at (at + there) (page b); pointer = pointer; output = end }
+brought b at there pointer end = record
+    (past_page b) { text = replaced b.text at (at + there) (page b); pointer = pointer; output = end }

@@ -5,7 +5,8 @@ use Rattle.teco_store.specs.Page.{page_of, page_span, is_ended, form_feed_if, le
 
 -- A page, the form feed that ends it, and what comes after it are what was left.
 abbrev pub PagesJoin : Type 0
-PagesJoin = (left : List ℕ) → page_of left ++ (form_feed_if (is_ended left) ++ drop (page_span left) left) ≡ left
+PagesJoin = (left : List ℕ) → page_of left ++ (form_feed_if (is_ended left) ++ drop (page_span left) left)
+    ≡ left
 
 -- the output, the page in the buffer, and the rest of the input
 abbrev pub to_write : State → List ℕ

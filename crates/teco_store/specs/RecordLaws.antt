@@ -23,14 +23,17 @@ pub record ComesBackAgain (capacity top : ℕ) (cs : List Note) (b : Body) : Typ
   pub output : b.output ≤ (body_forth cs b).output
 
 abbrev pub BackThenForth : Type 0
-BackThenForth = (capacity top : ℕ) (cs : List Note) (b : Body) → FitsBack capacity cs b → IsSound capacity top b → ComesForthAgain capacity top cs b
+BackThenForth = (capacity top : ℕ) (cs : List Note) (b : Body) → FitsBack capacity cs b
+    → IsSound capacity top b → ComesForthAgain capacity top cs b
 
 abbrev pub ForthThenBack : Type 0
-ForthThenBack = (capacity top : ℕ) (cs : List Note) (b : Body) → FitsForth capacity top cs b → IsSound capacity top b → ComesBackAgain capacity top cs b
+ForthThenBack = (capacity top : ℕ) (cs : List Note) (b : Body) → FitsForth capacity top cs b
+    → IsSound capacity top b → ComesBackAgain capacity top cs b
 
 -- What fits back still fits where there is more capacity.
 abbrev pub FitsWithMoreCapacity : Type 0
-FitsWithMoreCapacity = (capacity more : ℕ) (cs : List Note) (b : Body) → capacity ≤ more → FitsBack capacity cs b → FitsBack more cs b
+FitsWithMoreCapacity = (capacity more : ℕ) (cs : List Note) (b : Body) → capacity ≤ more
+    → FitsBack capacity cs b → FitsBack more cs b
 
 -- An entry holds no more bytes than stand on both sides of its changes, as it is and once it is turned back.
 pub record HoldsItsLoad (cs : List Note) (b : Body) : Type 0 where
@@ -42,12 +45,14 @@ HoldsAtMostItsLoad = (cs : List Note) (b : Body) → HoldsItsLoad cs b
 
 -- What a recorder has noted leads back to the editor with which it began.
 abbrev pub LeadsToItsBeginning : Type 0
-LeadsToItsBeginning = (old : Full) (r : Recording) (t : Trail) → IsSound old.room (length old.stored) old.body → t.states 0 ≡ state_of old → t.floor ≡ old.room
+LeadsToItsBeginning = (old : Full) (r : Recording) (t : Trail) → IsSound old.room (length old.stored) old.body
+    → t.states 0 ≡ state_of old → t.floor ≡ old.room
     → Follows r t → Leads old r.full r.notes
 
 -- With more capacity, and other bytes beyond the output's end, it is still what a trail leads to.
 abbrev pub ComesSoExtended : Type 0
-ComesSoExtended = (e g : Full) (notes : List Note) (steps : ℕ) (t : Trail) → Extends e g → HasCome e notes steps t → HasCome g notes steps t
+ComesSoExtended = (e g : Full) (notes : List Note) (steps : ℕ) (t : Trail) → Extends e g
+    → HasCome e notes steps t → HasCome g notes steps t
 
 -- The changes of the first `n` steps have come through those steps, and lead back to where all of them led.
 pub record IsCutEntry (n : ℕ) (full : Full) (notes : List Note) (t : Trail) : Type 0 where
@@ -55,4 +60,5 @@ pub record IsCutEntry (n : ℕ) (full : Full) (notes : List Note) (t : Trail) : 
   pub first : body_back (before n notes) (body_back (since n notes) full.body) ≡ body_back notes full.body
 
 abbrev pub ComesSoFarCut : Type 0
-ComesSoFarCut = (n : ℕ) (full : Full) (notes : List Note) (steps : ℕ) (t : Trail) → n ≤ t.steps → HasCome full notes steps t → IsCutEntry n full notes t
+ComesSoFarCut = (n : ℕ) (full : Full) (notes : List Note) (steps : ℕ) (t : Trail) → n ≤ t.steps
+    → HasCome full notes steps t → IsCutEntry n full notes t

@@ -9,7 +9,11 @@ text_after last (Some text) = Some text
 
 -- A search leaves its text, its result, and the pointer.
 abbrev pub noted : State → Option (List ℕ) → Bool → ℕ → State
-noted s text found place = record s { last_search = text_after s.last_search text; last_found = found; pointer = place }
+noted s text found place = record s {
+  last_search = text_after s.last_search text;
+  last_found = found;
+  pointer = place;
+}
 
 -- A search that found leaves its text, and these bytes in place of so many that it found, with the pointer after them.
 abbrev pub replaced_noted : State → Option (List ℕ) → ℕ → ℕ → List ℕ → State

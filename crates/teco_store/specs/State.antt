@@ -142,7 +142,11 @@ pointer_after at put None = at + length put
 
 -- these bytes in place of so many at a place
 abbrev pub spliced : {O : Type 0} → StateOver O → ℕ → ℕ → List ℕ → Option ℕ → StateOver O
-spliced s at deleted put point = record s { text = replaced s.text at (at + deleted) put; pointer = pointer_after at put point }
+spliced s at deleted put point = record s {
+  text = replaced s.text at
+      (at + deleted) put;
+  pointer = pointer_after at put point;
+}
 
 abbrev pub pointed : {O : Type 0} → StateOver O → ℕ → StateOver O
 pointed s place = record s { pointer = place }
@@ -164,7 +168,11 @@ last_pushed s = slice_index_or s.pushed 0 blank
 
 -- What was pushed last goes off the list, and into the register q.
 abbrev pub popped_into : {O : Type 0} → StateOver O → ℕ → StateOver O
-popped_into s q = record s { registers = with_content s.registers q (last_pushed s); pushed = drop 1 s.pushed }
+popped_into s q = record s {
+  registers = with_content s.registers q
+      (last_pushed s);
+  pushed = drop 1 s.pushed;
+}
 
 abbrev pub with_case : {O : Type 0} → StateOver O → CaseMode → StateOver O
 with_case s mode = record s { case_mode = mode }

@@ -36,9 +36,20 @@ body_after (Number q number) b = with_register_number b q number
 body_after (Text q held) b = with_register_text b q held
 body_after (Push held) b = record b { pushed = held ∷ b.pushed }
 body_after TakeOff b = record b { pushed = drop 1 b.pushed }
-body_after (PopInto q) b = record b { registers = with_content b.registers q (top_of b.pushed); pushed = drop 1 b.pushed }
-body_after (PutBack q held) b = record b { registers = with_content b.registers q held; pushed = content b.registers q ∷ b.pushed }
-body_after (Pages place output form_feed) b = record b { place = place; output = output; form_feed = form_feed }
+body_after (PopInto q) b = record b {
+  registers = with_content b.registers q
+      (top_of b.pushed);
+  pushed = drop 1 b.pushed;
+}
+body_after (PutBack q held) b = record b {
+  registers = with_content b.registers q held;
+  pushed = content b.registers q ∷ b.pushed;
+}
+body_after (Pages place output form_feed) b = record b {
+  place = place;
+  output = output;
+  form_feed = form_feed;
+}
 body_after (Search held) b = record b { last_search = held }
 body_after (Found found) b = record b { last_found = found }
 body_after (Done done) b = record b { is_done = done }

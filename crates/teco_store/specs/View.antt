@@ -1,7 +1,8 @@
 -- What contracts see of an editor.
-use Rattle.std.specs.Prelude.{option_map}
+use Rattle.std.specs.Prelude.{length, option_map}
 use Rattle.teco_gap.specs.Gap.{text}
-use Rattle.teco_store.specs.State.{Body, Full}
+use Rattle.teco_store.specs.Output.{bytes_of, IsIn}
+use Rattle.teco_store.specs.State.{Body, Full, IsSound}
 use Rattle.teco_store.specs.declared.editor.Editor.TheInside.{Inside}
 
 abbrev pub body_in : Inside → Body
@@ -21,4 +22,9 @@ body_in e = record {
 }
 
 abbrev pub full_in : Inside → Full
-full_in e = record { body = body_in e; stored = e.output.items; room = e.text.cap }
+full_in e = record { body = body_in e; stored = bytes_of e.output e.input.items; room = e.text.cap }
+
+-- Its body is sound, and the part of the output that is not copied lies in the input.
+abbrev pub IsEditor : Inside → Type 0
+IsEditor e = IsSound e.text.cap (length (bytes_of e.output e.input.items)) (body_in e)
+    × IsIn e.output e.input.items

@@ -7,6 +7,7 @@ mod storing;
 
 use crate::desk::{Desk, Refused};
 use crate::noting::{is_long, note_text};
+use crate::output::Output;
 use crate::pages::{is_past, make_room, next_page, replace_text};
 use std::marker::Model;
 use teco_core::{CaseMode, FILE_LIMIT, NoMemory, PushList, Reg, Registers, TEXT_LIMIT};
@@ -25,7 +26,7 @@ pub struct Editor {
     pushed: PushList,
     input: Vec<u8>,
     place: usize,
-    output: Vec<u8>,
+    output: Output,
     shown: usize,
     form_feed: bool,
     last_search: Option<Vec<u8>>,
@@ -35,15 +36,14 @@ pub struct Editor {
 }
 
 impl Model for Editor {
-    ghost use Rattle.std.specs.Prelude.{length};
-    ghost use Rattle.teco_store.specs.State.{Full, IsSound};
-    ghost use Rattle.teco_store.specs.View.{body_in, full_in};
+    ghost use Rattle.teco_store.specs.State.{Full};
+    ghost use Rattle.teco_store.specs.View.{full_in, IsEditor};
 
     ghost Value = { Full };
 
     ghost view = { full_in };
 
-    ghost invariant = { λ e. IsSound e.text.cap (length e.output.items) (body_in e) };
+    ghost invariant = { IsEditor };
 }
 
 impl Editor {
@@ -60,7 +60,7 @@ impl Editor {
             pushed: PushList::new(alloc),
             input,
             place: 0,
-            output: Vec::new(alloc),
+            output: Output::new(alloc),
             shown: 0,
             form_feed: false,
             last_search: None,
@@ -104,8 +104,8 @@ impl Desk for Editor {
         self.place == self.input.len()
     }
 
-    fn output(&self) -> &[u8] {
-        &self.output[..self.shown]
+    fn output(&self) -> (&[u8], &[u8]) {
+        self.output.parts(&self.input, self.shown)
     }
 
     fn flag(&self) -> bool {

@@ -7,6 +7,7 @@ mod editor;
 mod exchange;
 mod laws;
 mod noting;
+mod output;
 mod pages;
 mod recorder;
 mod short_text;

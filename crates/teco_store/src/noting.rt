@@ -32,7 +32,8 @@ pub(crate) fn fresh_copy(
     last: Option<&[u8]>,
     text: Option<&[u8]>,
 ) -> Result<Option<Vec<u8>>, NoMemory>
-    ensures copy { IfOk result (λ f. option_map (λ v. v.items) f ≡ fresh (option_copied last.entry) (option_copied text.entry)) }
+    ensures copy { IfOk result (λ f. option_map (λ v. v.items) f
+        ≡ fresh (option_copied last.entry) (option_copied text.entry)) }
     ensures none { fresh (option_copied last.entry) (option_copied text.entry) ≡ None → IsOk result }
 {
     let Some(text) = text else {
@@ -54,9 +55,11 @@ pub(crate) fn note_text(
     last: &mut Option<Vec<u8>>,
     text: Option<&[u8]>,
 ) -> Result<(), NoMemory>
-    ensures ok { OnOk result (option_map (λ v. v.items) last.new ≡ text_after (option_map (λ v. v.items) last.old) (option_copied text.entry)) }
+    ensures ok { OnOk result (option_map (λ v. v.items) last.new
+        ≡ text_after (option_map (λ v. v.items) last.old) (option_copied text.entry)) }
     ensures err { OnErr result (option_map (λ v. v.items) last.new ≡ option_map (λ v. v.items) last.old) }
-    ensures none { fresh (option_map (λ v. v.items) last.old) (option_copied text.entry) ≡ None → IsOk result }
+    ensures none { fresh (option_map (λ v. v.items) last.old) (option_copied text.entry) ≡ None
+        → IsOk result }
 {
     let Some(text) = text else {
         return Ok(());

@@ -66,7 +66,7 @@ pub(crate) fn is_past(limit: usize, there: usize, more: usize) -> bool
 }
 
 // A form feed, where one is to be written.
-fn form_feed_bytes(form_feed: bool) -> &'static [u8]
+pub(crate) fn form_feed_bytes(form_feed: bool) -> &'static [u8]
     ensures { result.now ≡ form_feed_if form_feed }
 {
     if form_feed { b"\x0c" } else { b"" }
@@ -92,50 +92,6 @@ pub(crate) fn end_after(shown: usize, more: usize) -> Option<usize>
         return None;
     }
     Some(shown + more)
-}
-
-// Puts the two parts of a text, a form feed where one is asked for, and the rest after the first `shown` bytes, which have room for
-// them.
-pub(crate) fn put_after(
-    output: &mut Vec<u8>,
-    shown: usize,
-    before: &[u8],
-    after: &[u8],
-    form_feed: bool,
-    rest: &[u8],
-)
-    requires there { shown ≤ length output.old.items }
-    requires room { length output.old.items + (length before.now + length after.now + length (form_feed_if form_feed) + length rest.now) ≤ vec_capacity output.old }
-    ensures items { output.new.items ≡ take shown output.old.items ++ (((before.now ++ after.now) ++ form_feed_if form_feed) ++ rest.now) }
-    ensures kept { take shown output.new.items ≡ take shown output.old.items }
-    ensures top { shown ≤ length output.new.items }
-{
-    output.truncate(shown);
-    append_within(output, before);
-    append_within(output, after);
-    append_within(output, form_feed_bytes(form_feed));
-    append_within(output, rest);
-}
-
-// The same, in room that it makes; or nothing changes, where memory is refused.
-pub(crate) fn append(
-    output: &mut Vec<u8>,
-    shown: usize,
-    before: &[u8],
-    after: &[u8],
-    form_feed: bool,
-    rest: &[u8],
-) -> Result<(), NoMemory>
-    requires there { shown ≤ length output.old.items }
-    requires few { length before.now + length after.now + length rest.now + 1 < 2 ^ 64 }
-    ensures ok { OnOk result (output.new.items ≡ take shown output.old.items ++ (((before.now ++ after.now) ++ form_feed_if form_feed) ++ rest.now)) }
-    ensures err { OnErr result (output.new.items ≡ output.old.items) }
-    ensures kept { take shown output.new.items ≡ take shown output.old.items }
-    ensures top { shown ≤ length output.new.items }
-{
-    output.reserve(before.len() + after.len() + rest.len() + usize::from(form_feed))?;
-    put_after(output, shown, before, after, form_feed, rest);
-    Ok(())
 }
 
 /// The bytes between two places of a text in two parts, in two parts.

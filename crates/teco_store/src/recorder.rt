@@ -46,7 +46,8 @@ impl Recorder {
         ensures empty { (result.notes ≡ []) × (result.done ≡ 0) }
 
         // It follows whatever begins here.
-        ensures follows { (t : Trail) → t.steps ≡ 0 → t.states 0 ≡ state_of editor → t.floor ≤ editor.room → Follows result t }
+        ensures follows { (t : Trail) → t.steps ≡ 0 → t.states 0 ≡ state_of editor → t.floor ≤ editor.room
+            → Follows result t }
     {
         let _shown = editor.shown();
         editor.forget_beyond();

@@ -100,7 +100,10 @@ pub fn apply_all(editor: &mut Editor, entry: &mut Vec<Change>)
 fn revert_since(editor: &mut Editor, entry: &mut Vec<Change>, steps: u64) -> usize
     requires fits { FitsBack editor.old.room entry.old.items editor.old.body }
     requires order { IsInOrder entry.old.items }
-    ensures editor { editor.new ≡ record editor.old { body = body_back (since steps entry.old.items) editor.old.body } }
+    ensures editor { editor.new ≡ record editor.old {
+      body = body_back
+          (since steps entry.old.items) editor.old.body;
+    } }
     ensures entry { take result entry.new.items ≡ before steps entry.old.items }
 {
     let mut kept = entry.len();
@@ -118,7 +121,10 @@ fn revert_since(editor: &mut Editor, entry: &mut Vec<Change>, steps: u64) -> usi
 pub fn rewind(editor: &mut Editor, entry: &mut Vec<Change>, steps: u64)
     requires fits { FitsBack editor.old.room entry.old.items editor.old.body }
     requires order { IsInOrder entry.old.items }
-    ensures editor { editor.new ≡ record editor.old { body = body_back (since steps entry.old.items) editor.old.body } }
+    ensures editor { editor.new ≡ record editor.old {
+      body = body_back
+          (since steps entry.old.items) editor.old.body;
+    } }
     ensures entry { entry.new.items ≡ before steps entry.old.items }
 {
     let kept = revert_since(editor, entry, steps);

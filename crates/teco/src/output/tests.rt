@@ -12,7 +12,8 @@ const LINK: &str = "teco_output_test/link";
 const DRAFT: &str = "teco_output_test/.teco-7";
 
 fn writes(rt: &HostRuntime, name: &str, bytes: &[u8]) -> bool {
-    write_output(rt.alloc(), &mut FileDisk::new(rt), name, 7, bytes).is_ok()
+    let parts = bytes.split_at(bytes.len() / 2);
+    write_output(rt.alloc(), &mut FileDisk::new(rt), name, 7, parts).is_ok()
 }
 
 fn holds(rt: &HostRuntime, name: &str, bytes: &[u8]) -> bool {

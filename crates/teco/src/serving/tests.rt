@@ -1,6 +1,7 @@
 //! What is typed and written at streams of commands, and how serving them ends.
 use super::*;
 use crate::memory_source::MemorySource;
+use crate::tests::bytes::are_both;
 use std::process::Abort;
 use teco_core::{DEPTH_LIMIT, FILE_LIMIT, NoMemory};
 use teco_step::MemoryTerminal;
@@ -99,7 +100,7 @@ fn session_over(alloc: Global, input: &str, depth: Option<usize>) -> Option<Sess
 
 /// Whether a session has the row's output and notes so many strings, if that is said.
 fn is_left(session: &Session, how: &How, row: &Row) -> bool {
-    session.editor().output() == row.2.as_bytes()
+    are_both(session.editor().output(), row.2.as_bytes())
         && (how.strings.is_none() || how.strings == Some(session.strings()))
 }
 

@@ -16,6 +16,12 @@ pub(crate) fn joined(alloc: Global, parts: &[&[u8]]) -> Vec<u8> {
     bytes
 }
 
+/// Whether two parts are these bytes, one after the other.
+pub(crate) fn are_both(parts: (&[u8], &[u8]), bytes: &[u8]) -> bool {
+    let (front, rest) = bytes.split_at(parts.0.len().min(bytes.len()));
+    parts.0 == front && parts.1 == rest
+}
+
 /// A writer that takes so many bytes, and then fails.
 pub(crate) fn failing_after(alloc: Global, count: usize) -> FailAfter {
     let mut room = Vec::new(alloc);

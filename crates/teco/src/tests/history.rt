@@ -111,10 +111,9 @@ fn seen(editor: &Editor) -> ([usize; 4], i32) {
         None => (0, 0),
     };
     let text = before.len().saturating_add(after.len());
-    (
-        [editor.pointer(), text, editor.output().len(), length],
-        number,
-    )
+    let (front, rest) = editor.output();
+    let output = front.len().saturating_add(rest.len());
+    ([editor.pointer(), text, output, length], number)
 }
 
 const AT_THE_BEGINNING: ([usize; 4], i32) = ([0; 4], 0);

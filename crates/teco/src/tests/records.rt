@@ -1,4 +1,5 @@
 //! What strings leave for their undo: how much it is, and the pages that it turns back.
+use super::bytes::are_both;
 use std::alloc::Global;
 use std::process::Abort;
 use std::test::*;
@@ -120,7 +121,7 @@ fn many_strings_come_back(rt: HostRuntime) {
 
 fn has(session: &Session, text: &[u8], output: &[u8]) -> bool {
     let (before, after) = session.editor().halves();
-    before.iter().chain(after.iter()).eq(text.iter()) && session.editor().output() == output
+    before.iter().chain(after.iter()).eq(text.iter()) && are_both(session.editor().output(), output)
 }
 
 /// Whether a page that was turned is turned back with its output, and forth again.

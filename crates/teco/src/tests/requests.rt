@@ -1,5 +1,5 @@
 //! Requests of a session, one after another.
-use super::bytes::joined;
+use super::bytes::{are_both, joined};
 use std::alloc::Global;
 use teco_core::{Code, FILE_LIMIT};
 use teco_session::Session;
@@ -21,7 +21,7 @@ fn are_answered(session: &mut Session, rows: &[Asks], term: &mut MemoryTerminal)
     let mut held = true;
     for (request, code, output) in rows {
         held = code_of(session, request, term) == *code
-            && session.editor().output() == output.as_bytes()
+            && are_both(session.editor().output(), output.as_bytes())
             && held;
     }
     held

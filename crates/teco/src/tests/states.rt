@@ -1,5 +1,5 @@
 //! States as bytes, to be compared.
-use super::bytes::put;
+use super::bytes::{joined, put};
 use std::alloc::Global;
 use teco_core::{CaseMode, Reg};
 use teco_store::{Desk, Editor};
@@ -62,6 +62,7 @@ pub(crate) fn seen(alloc: Global, editor: &Editor) -> Vec<u8> {
     put_pushed(alloc, &mut bytes, editor);
     put_flags(&mut bytes, editor);
     put(&mut bytes, &editor.place().to_le_bytes());
-    put_text(&mut bytes, editor.output());
+    let (front, rest) = editor.output();
+    put_text(&mut bytes, joined(alloc, &[front, rest]).as_slice());
     bytes
 }

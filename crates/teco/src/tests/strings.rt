@@ -1,6 +1,6 @@
 //! Command strings, run on an editor: what a row asks, how it ends, and how it is tried.
 use super::assert_of;
-use super::bytes::joined;
+use super::bytes::{are_both, joined};
 use std::alloc::Global;
 use std::process::Abort;
 use teco_core::{Code, FILE_LIMIT};
@@ -47,7 +47,8 @@ fn editor_over(alloc: Global, input: &[u8]) -> Editor {
 
 fn has_written(editor: &Editor, written: Option<(&str, bool)>) -> bool {
     match written {
-        Some((output, done)) => editor.output() == output.as_bytes() && editor.done() == done,
+        Some((output, done)) => are_both(editor.output(), output.as_bytes())
+            && editor.done() == done,
         None => true,
     }
 }

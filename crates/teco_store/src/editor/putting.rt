@@ -149,7 +149,8 @@ impl Editor {
         requires room { there + length (page self.old.body) ≤ vec_capacity held }
         requires fits { FitsFull (turn.Splice at there pointer (page self.old.body)) self.old }
         ensures editor { self.new ≡ full_after (turn.Splice at there pointer (page self.old.body)) self.old }
-        ensures kind { turn_of result ≡ turn_after (turn.Splice at there pointer (page self.old.body)) self.old.body }
+        ensures kind { turn_of result ≡ turn_after
+            (turn.Splice at there pointer (page self.old.body)) self.old.body }
         ensures room { HasRoom result }
     {
         let page = next_page(&self.input[self.place..]);

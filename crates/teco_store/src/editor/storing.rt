@@ -4,7 +4,7 @@ ghost use Rattle.teco_store.specs.Page.{finished, form_feed_if, is_ended, left_o
 ghost use Rattle.teco_store.specs.State.{Extends, IsEnd, IsSound, state_of, with_stored};
 
 use crate::editor::Editor;
-use crate::pages::{Page, append, end_after, make_room, next_page, part, put_after};
+use crate::pages::{Page, end_after, make_room, next_page, part};
 use std::alloc::Global;
 use teco_core::NoMemory;
 
@@ -37,7 +37,8 @@ impl Editor {
     pub(crate) fn page(&self) -> Page<'_>
         ensures bytes { result.bytes.now ≡ page self.now.body }
         ensures form_feed { result.form_feed ≡ is_ended (left_of self.now.body) }
-        ensures within { self.now.body.place + page_span (left_of self.now.body) ≤ length self.now.body.input }
+        ensures within { self.now.body.place + page_span
+            (left_of self.now.body) ≤ length self.now.body.input }
         ensures sound { IsSound self.now.room (length self.now.stored) self.now.body }
     {
         next_page(&self.input[self.place..])
@@ -48,7 +49,7 @@ impl Editor {
         ensures editor { self.new ≡ record self.old { stored = take self.old.body.output self.old.stored } }
         ensures extends { Extends self.old self.new }
     {
-        self.output.truncate(self.shown);
+        self.output.cut(self.shown);
     }
 
     // Makes room for a text of `len` bytes.
@@ -103,51 +104,95 @@ impl Editor {
     ) -> Result<(), NoMemory>
         requires ordered { from ≤ to }
         requires there { to ≤ length self.old.body.text }
-        ensures ok { OnOk result (self.new ≡ with_stored self.old (drop from (take to self.old.body.text) ++ form_feed_if form_feed) self.old.room) }
+        ensures ok { OnOk result (self.new
+            ≡ with_stored self.old (drop from (take to self.old.body.text)
+            ++ form_feed_if form_feed) self.old.room) }
         ensures err { OnErr result (self.new ≡ self.old) }
         ensures extends { Extends self.old self.new }
     {
         let (before, after) = self.text.halves();
         let (before, after) = part(before, after, from, to);
-        append(&mut self.output, self.shown, before, after, form_feed, &[])
+        let more = before.len() + after.len() + usize::from(form_feed);
+        self.output.reserve(self.shown, more)?;
+        self.output
+            .put(&self.input, self.shown, before, after, form_feed);
+        Ok(())
     }
 
     // Stores the page after the output, and makes room for a text of `len` bytes.
     pub(crate) fn store_page(&mut self, len: usize) -> Result<(), NoMemory>
-        ensures ok { OnOk result (self.new ≡ with_stored self.old (written (state_of self.old)) self.new.room) }
+        ensures ok { OnOk result (self.new
+            ≡ with_stored self.old (written (state_of self.old)) self.new.room) }
         ensures room { OnOk result (len ≤ self.new.room) }
         ensures err { OnErr result (self.new ≡ self.old) }
         ensures extends { Extends self.old self.new }
     {
-        self.output.reserve(self.text.len() + 1)?;
+        let (before, after) = self.text.halves();
+        let read = &self.input[..self.place];
+        let at = self
+            .output
+            .place_after(self.shown, read, before, after, self.form_feed);
+        match at {
+            Some(at) => {
+                make_room(*self.input.allocator(), &mut self.text, len)?;
+                self.output.lengthen(self.shown, at, self.place);
+                Ok(())
+            }
+            None => self.copy_page(len),
+        }
+    }
+
+    // Copies the page after the output, and makes room for a text of `len` bytes.
+    fn copy_page(&mut self, len: usize) -> Result<(), NoMemory>
+        ensures ok { OnOk result (self.new
+            ≡ with_stored self.old (written (state_of self.old)) self.new.room) }
+        ensures room { OnOk result (len ≤ self.new.room) }
+        ensures err { OnErr result (self.new ≡ self.old) }
+        ensures extends { Extends self.old self.new }
+    {
+        self.output.reserve(self.shown, self.text.len() + 1)?;
         make_room(*self.input.allocator(), &mut self.text, len)?;
         let (before, after) = self.text.halves();
-        put_after(
-            &mut self.output,
-            self.shown,
-            before,
-            after,
-            self.form_feed,
-            &[],
-        );
+        self.output
+            .put(&self.input, self.shown, before, after, self.form_feed);
         Ok(())
     }
 
     // Stores the page and the rest of the input after the output.
     pub(crate) fn store_rest(&mut self) -> Result<(), NoMemory>
-        ensures ok { OnOk result (self.new ≡ with_stored self.old (written (state_of self.old) ++ left_of (state_of self.old)) self.old.room) }
+        ensures ok { OnOk result (self.new
+            ≡ with_stored self.old (written (state_of self.old)
+            ++ left_of (state_of self.old)) self.old.room) }
         ensures err { OnErr result (self.new ≡ self.old) }
         ensures extends { Extends self.old self.new }
     {
         let (before, after) = self.text.halves();
-        let rest = &self.input[self.place..];
-        append(
-            &mut self.output,
-            self.shown,
-            before,
-            after,
-            self.form_feed,
-            rest,
-        )
+        let read = &self.input[..self.place];
+        let at = self
+            .output
+            .place_after(self.shown, read, before, after, self.form_feed);
+        match at {
+            Some(at) => {
+                self.output.lengthen(self.shown, at, self.input.len());
+                Ok(())
+            }
+            None => self.copy_page_before_rest(),
+        }
+    }
+
+    // Copies the page after the output. The rest of the input, which follows it, is not copied.
+    fn copy_page_before_rest(&mut self) -> Result<(), NoMemory>
+        ensures ok { OnOk result (self.new
+            ≡ with_stored self.old (written (state_of self.old)
+            ++ left_of (state_of self.old)) self.old.room) }
+        ensures err { OnErr result (self.new ≡ self.old) }
+        ensures extends { Extends self.old self.new }
+    {
+        self.output.reserve(self.shown, self.text.len() + 1)?;
+        let (before, after) = self.text.halves();
+        self.output
+            .put(&self.input, self.shown, before, after, self.form_feed);
+        self.output.follow(self.place, self.input.len());
+        Ok(())
     }
 }

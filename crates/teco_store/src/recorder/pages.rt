@@ -16,7 +16,9 @@ impl Recorder {
     fn store_part(&mut self, from: usize, to: usize, form_feed: bool) -> Result<(), NoMemory>
         requires ordered { from ≤ to }
         requires there { to ≤ length self.old.full.body.text }
-        ensures ok { OnOk result (self.new.full ≡ with_stored self.old.full (drop from (take to self.old.full.body.text) ++ form_feed_if form_feed) self.old.full.room) }
+        ensures ok { OnOk result (self.new.full
+            ≡ with_stored self.old.full (drop from (take to self.old.full.body.text)
+            ++ form_feed_if form_feed) self.old.full.room) }
         ensures err { OnErr result (self.new.full ≡ self.old.full) }
         ensures spare { self.new.spare ≡ self.old.spare }
         ensures sound { IsSound self.new.full.room (length self.new.full.stored) self.new.full.body }
@@ -28,7 +30,8 @@ impl Recorder {
 
     // Stores the page after the output, and makes room for a text of `len` bytes.
     fn store_page(&mut self, len: usize) -> Result<(), NoMemory>
-        ensures ok { OnOk result (self.new.full ≡ with_stored self.old.full (written (state_of self.old.full)) self.new.full.room) }
+        ensures ok { OnOk result (self.new.full
+            ≡ with_stored self.old.full (written (state_of self.old.full)) self.new.full.room) }
         ensures room { OnOk result (len ≤ self.new.full.room) }
         ensures err { OnErr result (self.new.full ≡ self.old.full) }
         ensures spare { self.new.spare ≡ self.old.spare }
@@ -41,7 +44,9 @@ impl Recorder {
 
     // Stores the page and the rest of the input after the output.
     fn store_rest(&mut self) -> Result<(), NoMemory>
-        ensures ok { OnOk result (self.new.full ≡ with_stored self.old.full (written (state_of self.old.full) ++ left_of (state_of self.old.full)) self.old.full.room) }
+        ensures ok { OnOk result (self.new.full
+            ≡ with_stored self.old.full (written (state_of self.old.full)
+            ++ left_of (state_of self.old.full)) self.old.full.room) }
         ensures err { OnErr result (self.new.full ≡ self.old.full) }
         ensures spare { self.new.spare ≡ self.old.spare }
         ensures sound { IsSound self.new.full.room (length self.new.full.stored) self.new.full.body }
@@ -60,7 +65,9 @@ impl Recorder {
     ) -> Result<(), NoMemory>
         requires ordered { from ≤ to }
         requires there { to ≤ length self.old.full.body.text }
-        ensures ok { OnOk result (self.new.full ≡ with_stored self.old.full (drop from (take to self.old.full.body.text) ++ form_feed_if form_feed) self.old.full.room) }
+        ensures ok { OnOk result (self.new.full
+            ≡ with_stored self.old.full (drop from (take to self.old.full.body.text)
+            ++ form_feed_if form_feed) self.old.full.room) }
         ensures err { OnErr result (self.new.full ≡ self.old.full) }
         ensures spare { OnOk result (1 ≤ self.new.spare) }
         ensures sound { IsSound self.new.full.room (length self.new.full.stored) self.new.full.body }
@@ -73,7 +80,8 @@ impl Recorder {
     // Finds memory to write the page and to bring in one of `len` bytes, and stores it.
     pub(super) fn prepare_page(&mut self, there: usize, len: usize) -> Result<Vec<u8>, NoMemory>
         requires { there + len < 2 ^ 64 }
-        ensures ok { OnOk result (self.new.full ≡ with_stored self.old.full (written (state_of self.old.full)) self.new.full.room) }
+        ensures ok { OnOk result (self.new.full
+            ≡ with_stored self.old.full (written (state_of self.old.full)) self.new.full.room) }
         ensures err { OnErr result (self.new.full ≡ self.old.full) }
         ensures memory { IfOk result (λ v. (v.items ≡ []) × (vec_capacity v ≡ there + len)) }
         ensures spare { OnOk result (2 ≤ self.new.spare) }
@@ -89,7 +97,9 @@ impl Recorder {
 
     // Finds memory to write the page and the rest of the input, and stores them.
     pub(super) fn prepare_rest(&mut self, there: usize) -> Result<Vec<u8>, NoMemory>
-        ensures ok { OnOk result (self.new.full ≡ with_stored self.old.full (written (state_of self.old.full) ++ left_of (state_of self.old.full)) self.old.full.room) }
+        ensures ok { OnOk result (self.new.full
+            ≡ with_stored self.old.full (written (state_of self.old.full)
+            ++ left_of (state_of self.old.full)) self.old.full.room) }
         ensures err { OnErr result (self.new.full ≡ self.old.full) }
         ensures memory { IfOk result (λ v. (v.items ≡ []) × (vec_capacity v ≡ there)) }
         ensures spare { OnOk result (3 ≤ self.new.spare) }
@@ -109,9 +119,12 @@ impl Recorder {
         requires memory { there + length (page self.old.full.body) ≤ vec_capacity held }
         requires there { at + there ≤ length self.old.full.body.text }
         requires lands { pointer + there ≤ length self.old.full.body.text + length (page self.old.full.body) }
-        requires small { length self.old.full.body.text + length (page self.old.full.body) ≤ TEXT_LIMIT + there }
-        requires room { length self.old.full.body.text + length (page self.old.full.body) ≤ self.old.full.room + there }
-        ensures full { self.new.full ≡ full_after (Splice at there pointer (page self.old.full.body)) self.old.full }
+        requires small { length self.old.full.body.text + length
+            (page self.old.full.body) ≤ TEXT_LIMIT + there }
+        requires room { length self.old.full.body.text + length
+            (page self.old.full.body) ≤ self.old.full.room + there }
+        ensures full { self.new.full ≡ full_after
+            (Splice at there pointer (page self.old.full.body)) self.old.full }
         ensures sound { IsSound self.new.full.room (length self.new.full.stored) self.new.full.body }
         ensures spare { self.new.spare + 1 ≡ self.old.spare }
         ensures goes { Goes (there + length (page self.old.full.body)) 1 self.old self.new }
@@ -135,8 +148,10 @@ impl Recorder {
         requires memory { there + length (page self.old.full.body) ≤ vec_capacity held }
         requires there { at + there ≤ length self.old.full.body.text }
         requires lands { pointer + there ≤ length self.old.full.body.text + length (page self.old.full.body) }
-        requires small { length self.old.full.body.text + length (page self.old.full.body) ≤ TEXT_LIMIT + there }
-        requires room { length self.old.full.body.text + length (page self.old.full.body) ≤ self.old.full.room + there }
+        requires small { length self.old.full.body.text + length
+            (page self.old.full.body) ≤ TEXT_LIMIT + there }
+        requires room { length self.old.full.body.text + length
+            (page self.old.full.body) ≤ self.old.full.room + there }
         requires rises { self.old.full.body.output ≤ end }
         requires ends { (end ≤ length self.old.full.stored) × (end ≤ FILE_LIMIT) }
         ensures full { self.new.full ≡ record self.old.full { body = brought self.old.full.body at there pointer end } }

@@ -56,7 +56,7 @@ impl Desk for Recorder {
         self.editor.is_input_over()
     }
 
-    fn output(&self) -> &[u8] {
+    fn output(&self) -> (&[u8], &[u8]) {
         self.editor.output()
     }
 

@@ -14,7 +14,8 @@ use teco_core::{NoMemory, TEXT_LIMIT};
 impl Recorder {
     // A text to be noted; none where it is the last one again.
     pub(super) fn fresh_text(&self, text: Option<&[u8]>) -> Result<Option<Vec<u8>>, NoMemory>
-        ensures copy { IfOk result (λ f. option_map (λ v. v.items) f ≡ fresh self.now.full.body.last_search (option_copied text.entry)) }
+        ensures copy { IfOk result (λ f. option_map (λ v. v.items) f
+            ≡ fresh self.now.full.body.last_search (option_copied text.entry)) }
         ensures none { fresh self.now.full.body.last_search (option_copied text.entry) ≡ None → IsOk result }
     {
         fresh_copy(self.editor.allocator(), self.editor.last_search(), text)
@@ -25,11 +26,15 @@ impl Recorder {
         requires spare { 0 < self.old.spare }
         requires small { length_of (option_map (λ v. v.items) text) ≤ TEXT_LIMIT }
         ensures full { self.new.full ≡ record self.old.full {
-          body = record self.old.full.body { last_search = text_after self.old.full.body.last_search (option_map (λ v. v.items) text) };
+          body = record self.old.full.body {
+            last_search = text_after self.old.full.body.last_search
+                (option_map (λ v. v.items) text);
+          };
         } }
         ensures sound { IsSound self.new.full.room (length self.new.full.stored) self.new.full.body }
         ensures spare { self.old.spare ≤ self.new.spare + 1 }
-        ensures goes { Goes (fresh_load self.old.full.body.last_search (option_map (λ v. v.items) text)) 1 self.old self.new }
+        ensures goes { Goes (fresh_load self.old.full.body.last_search
+            (option_map (λ v. v.items) text)) 1 self.old self.new }
     {
         let _shown = self.editor.shown();
         if let Some(text) = text {

@@ -3,6 +3,7 @@ use super::{How, PLAIN, session_over, source_of};
 use crate::served::Served;
 use crate::serving::serve;
 use crate::tests::assert_of;
+use crate::tests::bytes::are_both;
 use std::alloc::Global;
 use std::process::Abort;
 use std::test::*;
@@ -51,7 +52,9 @@ fn are_told(alloc: Global, bytes: &[u8], text: &str, untold: &[u8]) -> bool {
 /// Whether the strings ended by an exit with this output, or without an exit.
 fn is_ended(served: Served, session: &Session, output: Option<&str>) -> bool {
     match output {
-        Some(output) => { served == Served::Exit && session.editor().output() == output.as_bytes() }
+        Some(output) => {
+            served == Served::Exit && are_both(session.editor().output(), output.as_bytes())
+        }
         None => served == Served::EndOfCommands,
     }
 }

@@ -11,19 +11,22 @@ blank_fits : IsNumber blank.number
 blank_fits = (omega (arith, ints), omega (arith, ints))
 
 pub invariant_of-result : goal.invariant_of-result
-invariant_of-result c = record {
-  pointer = search rules;
-  text = search rules;
-  room = search rules;
-  all = search rules;
-  registers = subst AreSmall (sym c.new-2.ensures) (All-replicate (λ (c : Content). length c.text ≤ TEXT_LIMIT) 36 blank (omega arith));
-  numbers = subst AreNumbers (sym c.new-2.ensures) (All-replicate (λ (c : Content). IsNumber c.number) 36 blank blank_fits);
-  few = search rules;
-  pushed = subst AreSmall (sym c.new-3.ensures) (All-replicate (λ (c : Content). length c.text ≤ TEXT_LIMIT) 0 blank (omega arith));
-  pushed_numbers = subst AreNumbers (sym c.new-3.ensures) (All-replicate (λ (c : Content). IsNumber c.number) 0 blank blank_fits);
-  place = search rules;
-  input = search rules;
-  stored = search rules;
-  output = search rules;
-  last_search = search rules;
-}
+invariant_of-result c = (
+  record {
+    pointer = search rules;
+    text = search rules;
+    room = search rules;
+    all = search rules;
+    registers = subst AreSmall (sym c.new-2.ensures) (All-replicate (λ (c : Content). length c.text ≤ TEXT_LIMIT) 36 blank (omega arith));
+    numbers = subst AreNumbers (sym c.new-2.ensures) (All-replicate (λ (c : Content). IsNumber c.number) 36 blank blank_fits);
+    few = search rules;
+    pushed = subst AreSmall (sym c.new-3.ensures) (All-replicate (λ (c : Content). length c.text ≤ TEXT_LIMIT) 0 blank (omega arith));
+    pushed_numbers = subst AreNumbers (sym c.new-3.ensures) (All-replicate (λ (c : Content). IsNumber c.number) 0 blank blank_fits);
+    place = search rules;
+    input = search rules;
+    stored = search rules;
+    output = search rules;
+    last_search = search rules;
+  },
+  (search rules, search rules),
+)

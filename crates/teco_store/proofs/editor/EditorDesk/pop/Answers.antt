@@ -18,23 +18,25 @@ invariant_of-self c =
     let top = content_of c.pop-value.result in
     let rest = c.pop-value.new.self in
     let old = c.self.inside.pushed in
-    let all = c.self.invariant.pushed in
-    let numbers = c.self.invariant.pushed_numbers in
-    record {
-      pointer = search rules;
-      text = search rules;
-      room = search rules;
-      all = search rules;
-      registers = subst AreSmall (sym c.set.ensures.put)
-          (All-set IsSmall c.self.inside.registers c.args.q top (All-head IsSmall top rest (subst AreSmall c.pop-value.ensures all)) c.self.invariant.registers);
-      numbers = subst AreNumbers (sym c.set.ensures.put)
-          (All-set HasNumber c.self.inside.registers c.args.q top (All-head HasNumber top rest (subst AreNumbers c.pop-value.ensures numbers)) c.self.invariant.numbers);
-      few = search rules;
-      pushed = All-rest IsSmall top rest old c.pop-value.ensures all;
-      pushed_numbers = All-rest HasNumber top rest old c.pop-value.ensures numbers;
-      place = search rules;
-      input = search rules;
-      stored = search rules;
-      output = search rules;
-      last_search = search rules;
-    }
+    let all = c.self.invariant.0.pushed in
+    let numbers = c.self.invariant.0.pushed_numbers in (
+      record {
+        pointer = search rules;
+        text = search rules;
+        room = search rules;
+        all = search rules;
+        registers = subst AreSmall (sym c.set.ensures.put)
+            (All-set IsSmall c.self.inside.registers c.args.q top (All-head IsSmall top rest (subst AreSmall c.pop-value.ensures all)) c.self.invariant.0.registers);
+        numbers = subst AreNumbers (sym c.set.ensures.put)
+            (All-set HasNumber c.self.inside.registers c.args.q top (All-head HasNumber top rest (subst AreNumbers c.pop-value.ensures numbers)) c.self.invariant.0.numbers);
+        few = search rules;
+        pushed = All-rest IsSmall top rest old c.pop-value.ensures all;
+        pushed_numbers = All-rest HasNumber top rest old c.pop-value.ensures numbers;
+        place = search rules;
+        input = search rules;
+        stored = search rules;
+        output = search rules;
+        last_search = search rules;
+      },
+      c.self.invariant.1,
+    )

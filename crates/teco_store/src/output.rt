@@ -1,0 +1,160 @@
+//! The output of an editor. What is written as it stands in the input is not copied.
+ghost use Rattle.std.specs.Prelude.{◌≡◌, ℕ, List, ◌+◌, ◌-◌, ◌<◌, ◌≤◌, ◌^◌, ◌++◌, [], length, take, drop, slice_range, IfSome, IsTrue, OnOk};
+ghost use Rattle.std.specs.Vec.{vec_capacity};
+ghost use Rattle.teco_store.specs.Output.{bytes_of, EndsAt, IsIn};
+ghost use Rattle.teco_store.specs.Page.{form_feed_if};
+
+use crate::pages::{append_within, form_feed_bytes};
+use std::alloc::Global;
+use teco_core::NoMemory;
+
+/// What is stored of an output: bytes of its own, and after them the part of the input from one place up to another.
+///
+/// Pages that are written as they were read lengthen the part. Before other bytes are written, the part is copied.
+#[derive(Drop)]
+pub(crate) struct Output {
+    own: Vec<u8>,
+    from: usize,
+    upto: usize,
+}
+
+// Where the page stands at the end of what was read, if it stands there.
+fn place_read(read: &[u8], before: &[u8], after: &[u8], form_feed: bool) -> Option<usize>
+    ensures { IfSome result (λ at. (at ≤ length read.now)
+        × (drop at read.now ≡ (before.now ++ after.now) ++ form_feed_if form_feed)) }
+{
+    let left = read.strip_suffix(form_feed_bytes(form_feed))?;
+    let left = left.strip_suffix(after)?;
+    let left = left.strip_suffix(before)?;
+    Some(left.len())
+}
+
+impl Output {
+    // Nothing.
+    pub(crate) fn new(alloc: Global) -> Output
+        ensures own { result.own.items ≡ [] }
+        ensures part { (result.from ≡ 0) × (result.upto ≡ 0) }
+    {
+        Output {
+            own: Vec::new(alloc),
+            from: 0,
+            upto: 0,
+        }
+    }
+
+    // The first `shown` bytes, in two parts.
+    pub(crate) fn parts<'a>(&'a self, input: &'a [u8], shown: usize) -> (&'a [u8], &'a [u8])
+        requires part { IsIn self.now input.now }
+        requires there { shown ≤ length (bytes_of self.now input.now) }
+        ensures { result.0.now ++ result.1.now ≡ take shown (bytes_of self.now input.now) }
+    {
+        let middle = self.own.len();
+        let end = self.from + shown.saturating_sub(middle);
+        (&self.own[..shown.min(middle)], &input[self.from..end])
+    }
+
+    // Drops all but the first `shown` bytes.
+    pub(crate) fn cut(&mut self, shown: usize)
+        requires { (self.old.from ≤ self.old.upto)
+            × (shown ≤ length self.old.own.items + (self.old.upto - self.old.from)) }
+        ensures bytes { (input : List ℕ) → IsIn self.old input
+            → bytes_of self.new input ≡ take shown (bytes_of self.old input) }
+        ensures part { (self.new.from ≤ self.new.upto) × (self.new.upto ≤ self.old.upto) }
+    {
+        self.upto = self.from + shown.saturating_sub(self.own.len());
+        self.own.truncate(shown);
+    }
+
+    // Whether what of the part is within the first `shown` bytes ends at a place of the input, or none of it is.
+    fn ends_at(&self, shown: usize, at: usize) -> bool
+        ensures { IsTrue result → EndsAt self.now shown at }
+    {
+        let own = self.own.len();
+        shown <= own || (self.from <= at && shown - own == at - self.from)
+    }
+
+    // Where the page stands at the end of what was read, if it stands there and the part can be lengthened by it.
+    pub(crate) fn place_after(
+        &self,
+        shown: usize,
+        read: &[u8],
+        before: &[u8],
+        after: &[u8],
+        form_feed: bool,
+    ) -> Option<usize>
+        ensures there { IfSome result (λ at. (at ≤ length read.now)
+            × (drop at read.now ≡ (before.now ++ after.now) ++ form_feed_if form_feed)) }
+        ensures ends { IfSome result (λ at. EndsAt self.now shown at) }
+    {
+        let at = place_read(read, before, after, form_feed)?;
+        if self.ends_at(shown, at) {
+            Some(at)
+        } else {
+            None
+        }
+    }
+
+    // Makes the input from one place up to another come after the first `shown` bytes.
+    pub(crate) fn lengthen(&mut self, shown: usize, at: usize, upto: usize)
+        requires part { (self.old.from ≤ self.old.upto) × (at ≤ upto) }
+        requires there { shown ≤ length self.old.own.items + (self.old.upto - self.old.from) }
+        requires ends { EndsAt self.old shown at }
+        ensures bytes { (input : List ℕ) → IsIn self.old input → upto ≤ length input
+            → bytes_of self.new input ≡ take shown (bytes_of self.old input) ++ slice_range input at upto }
+        ensures part { (self.new.from ≤ self.new.upto) × (self.new.upto ≡ upto) }
+    {
+        if shown <= self.own.len() {
+            self.own.truncate(shown);
+            self.from = at;
+        }
+        self.upto = upto;
+    }
+
+    // Finds room for so many bytes after the first `shown`.
+    pub(crate) fn reserve(&mut self, shown: usize, more: usize) -> Result<(), NoMemory>
+        requires { shown + more < 2 ^ 64 }
+        ensures own { self.new.own.items ≡ self.old.own.items }
+        ensures part { (self.new.from ≡ self.old.from) × (self.new.upto ≡ self.old.upto) }
+        ensures room { OnOk result (shown + more ≤ vec_capacity self.new.own) }
+    {
+        let end = shown + more;
+        self.own.reserve(end.saturating_sub(self.own.len()))
+    }
+
+    // Puts the two parts of a text, and a form feed where one is asked for, after the first `shown` bytes. There is room for them.
+    pub(crate) fn put(
+        &mut self,
+        input: &[u8],
+        shown: usize,
+        before: &[u8],
+        after: &[u8],
+        form_feed: bool,
+    )
+        requires part { IsIn self.old input.now }
+        requires there { shown ≤ length (bytes_of self.old input.now) }
+        requires room { shown + (length before.now + length after.now + length
+            (form_feed_if form_feed)) ≤ vec_capacity self.old.own }
+        ensures own { self.new.own.items
+            ≡ take shown (bytes_of self.old input.now)
+            ++ ((before.now ++ after.now) ++ form_feed_if form_feed) }
+        ensures part { (self.new.from ≡ 0) × (self.new.upto ≡ 0) }
+    {
+        let end = self.from + shown.saturating_sub(self.own.len());
+        self.own.truncate(shown);
+        append_within(&mut self.own, &input[self.from..end]);
+        append_within(&mut self.own, before);
+        append_within(&mut self.own, after);
+        append_within(&mut self.own, form_feed_bytes(form_feed));
+        self.from = 0;
+        self.upto = 0;
+    }
+
+    // Makes the input from one place up to another come after its own bytes.
+    pub(crate) fn follow(&mut self, from: usize, upto: usize)
+        ensures own { self.new.own.items ≡ self.old.own.items }
+        ensures part { (self.new.from ≡ from) × (self.new.upto ≡ upto) }
+    {
+        self.from = from;
+        self.upto = upto;
+    }
+}
