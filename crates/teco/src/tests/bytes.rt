@@ -3,7 +3,7 @@ use std::alloc::Global;
 use teco_step::FailAfter;
 
 /// Puts a part at the end.
-pub(super) fn put(bytes: &mut Vec<u8>, part: &[u8]) {
+pub(crate) fn put(bytes: &mut Vec<u8>, part: &[u8]) {
     let _ = bytes.extend_from_slice(part).is_ok() || bytes.extend_from_slice(part).is_ok();
 }
 

@@ -1,5 +1,5 @@
 //! Faults of spelling, the order in which errors are told, and the limits of what may be open.
-use super::strings::{Ends, all_end};
+use crate::tests::exec::strings::{Ends, all_end};
 use std::test::*;
 use teco_core::Code;
 

@@ -1,5 +1,5 @@
 //! What no command shows of search texts: how they are shown.
-use super::assert_of;
+use crate::tests::assert_of;
 use std::alloc::Global;
 use teco_core::CaseMode;
 use teco_search::Pattern;

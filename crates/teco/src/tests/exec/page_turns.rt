@@ -1,7 +1,7 @@
 //! Strings over an input of two pages under a limit of steps: each page that is turned, read or searched is a step, and an exit ends
 //! the run.
-use super::assert_of;
 use super::strings::{Row, holds};
+use crate::tests::assert_of;
 use std::alloc::Global;
 use std::process::Abort;
 use std::test::*;

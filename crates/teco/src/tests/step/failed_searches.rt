@@ -1,7 +1,7 @@
 //! Searches that are refused or fail, and what they leave.
 use super::all_type;
 use crate::tests::assert_of;
-use crate::tests::requests::all_answered;
+use crate::tests::session::requests::all_answered;
 use std::alloc::Global;
 use std::process::Abort;
 use std::test::*;

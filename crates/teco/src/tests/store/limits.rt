@@ -1,7 +1,7 @@
 //! Strings at the limits of the texts, and a byte past them.
-use super::assert_of;
-use super::bytes::joined;
-use super::strings::{Row, holds};
+use crate::tests::assert_of;
+use crate::tests::bytes::joined;
+use crate::tests::exec::strings::{Row, holds};
 use std::alloc::Global;
 use std::process::Abort;
 use std::test::*;

@@ -1,5 +1,5 @@
 //! The elements of search texts, and what they match. Each is compared at the beginning of the text, and then the pointer is typed.
-use super::{Types, all_type};
+use crate::tests::step::{Types, all_type};
 use std::test::*;
 use teco_core::Code;
 

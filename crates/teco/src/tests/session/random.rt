@@ -1,8 +1,8 @@
 //! Strings made at random, with undo and redo between them: each state that comes back is the one that was seen there before. So it is
 //! where the last strings alone are kept, and then no state before them comes back.
-use super::bytes::{joined, put};
 use super::requests::session_over;
-use super::states::seen;
+use crate::tests::bytes::{joined, put};
+use crate::tests::store::states::seen;
 use std::alloc::Global;
 use std::test::*;
 use teco_core::FILE_LIMIT;

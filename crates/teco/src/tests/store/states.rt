@@ -1,5 +1,5 @@
 //! States as bytes, to be compared.
-use super::bytes::{joined, put};
+use crate::tests::bytes::{joined, put};
 use std::alloc::Global;
 use teco_core::{CaseMode, Reg};
 use teco_store::{Desk, Editor};

@@ -1,6 +1,6 @@
 //! Command strings, run on an editor: what a row asks, how it ends, and how it is tried.
-use super::assert_of;
-use super::bytes::{are_both, joined};
+use crate::tests::assert_of;
+use crate::tests::bytes::{are_both, joined};
 use std::alloc::Global;
 use std::process::Abort;
 use teco_core::{Code, FILE_LIMIT};
@@ -10,21 +10,21 @@ use teco_store::{Desk, Editor};
 
 /// A command string over an input under a limit of steps, and how it ends.
 #[derive(Clone, Copy)]
-pub(super) struct Row<'a> {
-    pub(super) input: &'a [u8],
-    pub(super) text: &'a [u8],
-    pub(super) limit: u64,
-    pub(super) code: Option<Code>,
+pub(crate) struct Row<'a> {
+    pub(crate) input: &'a [u8],
+    pub(crate) text: &'a [u8],
+    pub(crate) limit: u64,
+    pub(crate) code: Option<Code>,
     /// None where it does not matter how many there are.
-    pub(super) steps: Option<u64>,
-    pub(super) typed: &'a str,
+    pub(crate) steps: Option<u64>,
+    pub(crate) typed: &'a str,
     /// The output, and whether the session is done; none where neither matters.
-    pub(super) written: Option<(&'a str, bool)>,
+    pub(crate) written: Option<(&'a str, bool)>,
 }
 
 impl<'a> Row<'a> {
     /// A text that types this and ends by this code, on a new editor.
-    pub(super) fn new(text: &'a [u8], typed: &'a str, code: Option<Code>) -> Row<'a> {
+    pub(crate) fn new(text: &'a [u8], typed: &'a str, code: Option<Code>) -> Row<'a> {
         Row {
             input: b"",
             text,
@@ -81,7 +81,7 @@ fn try_row(alloc: Global, row: &Row) -> Option<bool> {
 }
 
 /// Whether a row holds; where memory was refused, at the second time.
-pub(super) fn holds(alloc: Global, row: &Row) -> bool {
+pub(crate) fn holds(alloc: Global, row: &Row) -> bool {
     match try_row(alloc, row) {
         Some(held) => held,
         None => try_row(alloc, row) == Some(true),
@@ -89,7 +89,7 @@ pub(super) fn holds(alloc: Global, row: &Row) -> bool {
 }
 
 /// A text, the code by which it ends, its steps, and what it types.
-pub(super) type Ends<'a> = (&'a str, Option<Code>, u64, &'a str);
+pub(crate) type Ends<'a> = (&'a str, Option<Code>, u64, &'a str);
 
 fn row_of<'a>(ends: &Ends<'a>) -> Row<'a> {
     let (text, code, steps, typed) = *ends;
@@ -99,7 +99,7 @@ fn row_of<'a>(ends: &Ends<'a>) -> Row<'a> {
     }
 }
 
-pub(super) fn all_end(rt: &impl Abort, alloc: Global, rows: &[Ends]) {
+pub(crate) fn all_end(rt: &impl Abort, alloc: Global, rows: &[Ends]) {
     for row in rows {
         assert_of(rt, row.0, holds(alloc, &row_of(row)));
     }

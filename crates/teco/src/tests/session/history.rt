@@ -1,7 +1,7 @@
 //! Sessions: strings that are undone and redone, and requests that are refused only where memory is.
-use super::assert_of;
-use super::bytes::joined;
 use super::requests::session_over;
+use crate::tests::assert_of;
+use crate::tests::bytes::joined;
 use std::alloc::Global;
 use std::process::Abort;
 use teco_core::{NoMemory, Reg};

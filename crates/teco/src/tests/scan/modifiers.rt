@@ -1,7 +1,7 @@
 //! Modifiers before each command.
-use super::assert_of;
-use super::bytes::joined;
-use super::strings::{Ends, all_end};
+use crate::tests::assert_of;
+use crate::tests::bytes::joined;
+use crate::tests::exec::strings::{Ends, all_end};
 use std::alloc::Global;
 use std::process::Abort;
 use std::test::*;

@@ -1,7 +1,7 @@
 //! Strings on a terminal that fails after so many bytes, and undone then.
-use super::assert_of;
-use super::bytes::{failing_after, joined};
 use super::requests::session_over;
+use crate::tests::assert_of;
+use crate::tests::bytes::{failing_after, joined};
 use std::alloc::Global;
 use std::test::*;
 use teco_core::Code;

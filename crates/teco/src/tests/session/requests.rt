@@ -1,5 +1,5 @@
 //! Requests of a session, one after another.
-use super::bytes::{are_both, joined};
+use crate::tests::bytes::{are_both, joined};
 use std::alloc::Global;
 use teco_core::{Code, FILE_LIMIT};
 use teco_session::Session;
@@ -7,7 +7,7 @@ use teco_step::MemoryTerminal;
 use teco_store::Desk;
 
 /// A request, the code of its answer, and the output after it. `{` undoes a string, and `}` redoes one.
-pub(super) type Asks<'a> = (&'a str, Option<Code>, &'a str);
+pub(crate) type Asks<'a> = (&'a str, Option<Code>, &'a str);
 
 fn code_of(session: &mut Session, request: &str, term: &mut MemoryTerminal) -> Option<Code> {
     match request {
@@ -41,6 +41,6 @@ fn answers(alloc: Global, input: &[u8], rows: &[Asks], typed: &str) -> bool {
 }
 
 /// The same; where memory was refused, at the second time.
-pub(super) fn all_answered(alloc: Global, input: &[u8], rows: &[Asks], typed: &str) -> bool {
+pub(crate) fn all_answered(alloc: Global, input: &[u8], rows: &[Asks], typed: &str) -> bool {
     answers(alloc, input, rows, typed) || answers(alloc, input, rows, typed)
 }

@@ -1,6 +1,6 @@
 //! Each byte alone as a command string.
 use super::requests::session_over;
-use super::states::seen;
+use crate::tests::store::states::seen;
 use std::alloc::Global;
 use std::test::*;
 use teco_core::Code;

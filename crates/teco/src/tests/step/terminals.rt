@@ -1,5 +1,5 @@
 //! Terminals whose puts are refused or fail.
-use super::assert_of;
+use crate::tests::assert_of;
 use std::io::{self, Write};
 use teco_step::{MemorySink, MemoryTerminal, Terminal, WriterTerminal};
 

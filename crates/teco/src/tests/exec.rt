@@ -1,0 +1,8 @@
+//! Of teco_exec: command strings, run on an editor.
+mod block_forms;
+mod conditionals;
+mod iterations;
+mod jumps;
+mod laws;
+mod page_turns;
+pub(crate) mod strings;

@@ -1,0 +1,2 @@
+//! Of teco_gap: the gap buffer.
+mod gap_buffer;

@@ -1,0 +1,4 @@
+//! Of teco_scan: spelling and its faults.
+mod faults;
+mod laws;
+mod modifiers;

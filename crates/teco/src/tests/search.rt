@@ -1,0 +1,3 @@
+//! Of teco_search: search texts.
+mod elements;
+mod patterns;

@@ -1,0 +1,8 @@
+//! Of teco_session: requests, one after another, and what is undone.
+mod exits;
+mod failing_terminals;
+mod history;
+mod random;
+mod records;
+pub(crate) mod requests;
+mod single_bytes;
