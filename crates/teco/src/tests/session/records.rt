@@ -1,5 +1,5 @@
 //! What strings leave for their undo: how much it is, and the pages that it turns back.
-use super::bytes::are_both;
+use crate::tests::bytes::are_both;
 use std::alloc::Global;
 use std::process::Abort;
 use std::test::*;
