@@ -75,7 +75,7 @@ pub fn halves_from<'a>(before: &'a [u8], after: &'a [u8], from: usize) -> (&'a [
 }
 
 /// What is left of a text from a place on.
-pub fn bytes_from(bytes: &[u8], from: usize) -> &[u8]
+fn bytes_from(bytes: &[u8], from: usize) -> &[u8]
     ensures { result.now ≡ drop from bytes.now }
 {
     &bytes[from.min(bytes.len())..]

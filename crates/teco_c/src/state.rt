@@ -4,7 +4,7 @@ ghost use Rattle.teco_c.specs.Looks.{Tells, TellsIf, Says, Copies, CopiesIf, reg
 
 use crate::answers::{CLOSED, OUTSIDE};
 use crate::handle::Teco;
-use crate::room::{bytes_from, copy_front, copy_halves, halves_from};
+use crate::room::{copy_front, copy_halves, halves_from};
 use std::alloc::Global;
 use teco_core::{CaseMode, Reg};
 use teco_store::Desk;
@@ -81,9 +81,10 @@ pub extern "C" fn teco_output(
         *len = 0;
         return CLOSED;
     };
-    let output = bytes_from(session.editor().output(), from);
-    *len = output.len();
-    copy_front(room, output);
+    let (own, rest) = session.editor().output();
+    let (before, after) = halves_from(own, rest, from);
+    *len = before.len() + after.len();
+    copy_halves(room, before, after);
     t.put(session);
     0
 }
