@@ -5,7 +5,8 @@ use Rattle.teco_core.specs.declared.code.Code.{Code}
 use Rattle.teco_scan.specs.declared.token.Token.{Token as ScannedToken}
 use Rattle.teco_scan.specs.declared.token.Found.{Found}
 use Rattle.teco_scan.specs.declared.token.Found.TheVariants.{Token}
-use Rattle.teco_exec.specs.Machine.{Caller, Config, Cursor as MachineCursor, block, Now, runs, halts, ready_where_comes, ready_of, pass, after_text_end, step, run_within}
+use Rattle.teco_exec.specs.CursorMoves.{Cursor as MachineCursor, pass}
+use Rattle.teco_exec.specs.Machine.{Caller, Config, block, Now, runs, halts, ready_where_comes, ready_of, after_text_end, step, run_within}
 use Rattle.teco_exec.specs.View.{cursor_at_start, coming_of, cursor, item_of_kind, block_step_of}
 use Rattle.teco_exec.specs.Running.{goes, over, config, ready_run, at_cursor, at_token, at_block_step, at_return, Origin, Host, Continuation, RunGoesOn, ReachesContinuation, ReachesEnd, at_beginning, at_call, cursor_after_call, host, Reaches, code_left, reached_by_exit, reached_after_call, now_at, whole_run}
 use Rattle.teco_exec.specs.declared.cursor.Cursor.{Cursor}

@@ -10,8 +10,8 @@ use Rattle.teco_scan.specs.declared.blocks.Kind.TheVariants.{Iter, Then, Else}
 use Rattle.teco_exec.specs.Frames.{EndsTurn, frame, frames, has_iteration, in_turn, kind_of, list_start, next_body, next_turn}
 use Rattle.teco_scan.specs.Lists.{Close, Past, past, behind_block, list_at, tag_at}
 use Rattle.teco_scan.specs.Lists as lists
-use Rattle.teco_exec.specs.Machine.{Frame, pass_text_end, end_comes, Cursor, Coming, after_leaving_block, after_leaving_iteration, passed_or_fault, after_skip, inside_second_part, passed_to, block_comes, fault_comes, after_block_end, inside_iteration, after_jump, after_tag_or}
-use Rattle.teco_exec.specs.Machine as machine
+use Rattle.teco_exec.specs.CursorMoves.{Frame, pass_text_end, end_comes, Cursor, Coming, after_leaving_block, after_leaving_iteration, passed_or_fault, after_skip, inside_second_part, passed_to, block_comes, fault_comes, after_block_end, inside_iteration, after_jump, after_tag_or}
+use Rattle.teco_exec.specs.CursorMoves as machine
 use Rattle.teco_exec.specs.declared.blocks.Block.{Block}
 use Rattle.teco_exec.specs.declared.blocks.Body.{Body}
 use Rattle.teco_exec.specs.declared.blocks.Body.TheVariants as body

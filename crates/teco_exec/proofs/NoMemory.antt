@@ -9,7 +9,7 @@ use Rattle.teco_scan.specs.declared.token.Found.{Found}
 use Rattle.teco_scan.specs.declared.token.TokenKind.{TokenKind}
 use Rattle.teco_scan.specs.declared.token.TokenKind.TheVariants as kind
 use Rattle.teco_step.specs.Stepping.{IsStepKind, kind_takes_nothing, takes_nothing}
-use Rattle.teco_exec.specs.Machine.{Frame, Cursor as MachineCursor, Coming as MachineComing, pass}
+use Rattle.teco_exec.specs.CursorMoves.{Frame, Cursor as MachineCursor, Coming as MachineComing, pass}
 use Rattle.teco_exec.specs.Quiet.{IsQuiet, QuietComing, takes_no_memory}
 use Rattle.teco_exec.specs.Running.{code_left}
 use Rattle.teco_exec.specs.View.{cursor_at_start, coming_of, cursor, item_of_kind}

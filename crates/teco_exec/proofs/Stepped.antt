@@ -14,7 +14,8 @@ use Rattle.teco_step.specs.Effect.{effect, item_effect}
 use Rattle.teco_step.specs.declared.next.Setting.{Setting}
 use Rattle.teco_step.specs.Step.{done_by, settled, Step, End, Moment, at, call}
 use Rattle.teco_step.specs.Stepping.{IsStepIn, IsStepKind, is_call, kind_effect, token_effect, end_of, is_unfinished, is_unfinished_code, Steps, IsDone, trail_after, name_in}
-use Rattle.teco_exec.specs.Machine.{step, in_called_text, inside_iteration, leave_is_next, setting_of, Caller, Config, CursorOrError, Now, runs, runs_or_halts, after_step_end, run_within, ready_of, after_block_step, ready_within}
+use Rattle.teco_exec.specs.CursorMoves.{inside_iteration, leave_is_next, CursorOrError, after_block_step}
+use Rattle.teco_exec.specs.Machine.{step, in_called_text, setting_of, Caller, Config, Now, runs, runs_or_halts, after_step_end, run_within, ready_of, ready_within}
 use Rattle.teco_exec.specs.Tokens.{call_of, calls_text, looks_around, CountsSteps, ProgressFinishes, reached_by_progress}
 use Rattle.teco_exec.specs.View.{cursor, item_of_kind, ResultFinishes as MovesWell, cursor_or_error, block_step_of}
 use Rattle.teco_exec.specs.declared.cursor.Cursor.{Cursor}

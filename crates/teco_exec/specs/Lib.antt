@@ -4,6 +4,7 @@ pub mod StringMeaning
 pub mod Test
 pub mod Laws
 pub mod Quiet
+pub mod CursorMoves
 pub mod Machine
 pub mod MachineLaws
 pub mod Frames

@@ -12,8 +12,8 @@ use Rattle.teco_scan.specs.Scan.{Item, digits}
 use Rattle.teco_scan.specs.Seen.{item_in}
 use Rattle.teco_step.specs.Stepping.{IsStepIn, is_unfinished_code}
 use Rattle.teco_exec.specs.Frames.{EndsTurn, frames}
-use Rattle.teco_exec.specs.Machine.{CursorOrError, passed_to, step_comes, block_comes, end_comes, fault_comes}
-use Rattle.teco_exec.specs.Machine as machine
+use Rattle.teco_exec.specs.CursorMoves.{CursorOrError, passed_to, step_comes, block_comes, end_comes, fault_comes}
+use Rattle.teco_exec.specs.CursorMoves as machine
 use Rattle.teco_exec.specs.declared.blocks.Block.{Block}
 use Rattle.teco_exec.specs.declared.cursor.Cursor.{Cursor}
 use Rattle.teco_exec.specs.declared.moves.BlockStep.{BlockStep}

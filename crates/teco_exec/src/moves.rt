@@ -3,7 +3,7 @@ ghost use Rattle.std.specs.Prelude.{◌≡◌, ◌≢◌, ◌≤◌, ◌<◌, Ok
 ghost use Rattle.teco_scan.specs.Scan.{scan};
 ghost use Rattle.teco_scan.specs.Seen.{IsFoundAt, found_in};
 ghost use Rattle.teco_exec.specs.Frames.{EndsTurn, kind_of, turns_left};
-ghost use Rattle.teco_exec.specs.Machine as machine;
+ghost use Rattle.teco_exec.specs.CursorMoves as machine;
 ghost use Rattle.teco_exec.specs.View.{ResultFinishes, MayOpen, TellsComing, coming_of, cursor, cursor_or_error, block_step_of};
 
 use crate::blocks::{Block, Body};

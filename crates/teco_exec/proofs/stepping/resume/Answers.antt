@@ -1,5 +1,5 @@
 use Rattle.std.proofs.Common.{None, sym, ap, ◌∙◌}
-use Rattle.teco_exec.specs.Machine.{after_jump}
+use Rattle.teco_exec.specs.CursorMoves.{after_jump}
 use Rattle.teco_exec.specs.Running.{reached_by_flow, reached_run}
 use Rattle.teco_exec.specs.View.{cursor}
 use Rattle.teco_exec.proofs.MachineMeans.{halted, run_ready}

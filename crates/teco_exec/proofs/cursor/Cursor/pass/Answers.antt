@@ -1,6 +1,6 @@
 use Rattle.std.proofs.Common.{ap, sym, ◌∙◌, drop}
 use Rattle.teco_scan.specs.Seen.{found_in}
-use Rattle.teco_exec.specs.Machine.{pass_scanned}
+use Rattle.teco_exec.specs.CursorMoves.{pass_scanned}
 use Rattle.teco_exec.specs.View.{cursor}
 use Rattle.teco_exec.proofs.Frames.{no_block, some_block}
 use Rattle.teco_exec.proofs.Refused.{fault_is_finished}

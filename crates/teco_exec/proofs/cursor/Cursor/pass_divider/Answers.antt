@@ -1,6 +1,6 @@
 use Rattle.std.proofs.Common.{drop, refl, sym, ap, ◌∙◌}
 use Rattle.teco_scan.specs.Lists.{broken}
-use Rattle.teco_exec.specs.Machine as machine
+use Rattle.teco_exec.specs.CursorMoves as machine
 use Rattle.teco_exec.proofs.Frames.{divides_on, divides_then, frames_either, frames_nil, or_kind}
 use Rattle.teco_exec.proofs.cursor.Cursor.pass_divider.Goals as goal
 

@@ -1,5 +1,5 @@
 use Rattle.std.proofs.Common.{drop, refl, sym, ap, ◌∙◌}
-use Rattle.teco_exec.specs.Machine as machine
+use Rattle.teco_exec.specs.CursorMoves as machine
 use Rattle.teco_exec.specs.Frames.{frames}
 use Rattle.teco_exec.proofs.Frames.{begin_outer, frames_either, frames_kind, frames_nil, or_kind}
 use Rattle.teco_exec.proofs.cursor.Cursor.pass_part_end.Goals as goal
