@@ -90,6 +90,11 @@ begin_closed bs outer (Some b) e h = begin_outer e h
 pub closed_same : {mid old : List Block} (new : List Block) (closed : Option Block) → mid ≡ old → Closes mid new closed → Closes old new closed
 closed_same new closed e h = subst (λ (bs : List Block). Closes bs new closed) e h
 
+-- the innermost was seen before it was closed
+pub closes_top : {bs outer : List Block} (b : Block) (new : List Block) (closed : Option Block) → bs ≡ b ∷ outer → Closes bs new closed → bs ≡ b ∷ new
+closes_top {bs = bs} {outer = outer} b new None e h = absurd (let x : b ∷ outer ≡ [] = sym e ∙ h.0 in cc)
+closes_top {bs = bs} {outer = outer} b new (Some x) e h = let both : b ∷ outer ≡ x ∷ new = sym e ∙ h in let same : x ≡ b = cc in subst (λ (y : Block). bs ≡ y ∷ new) same h
+
 -- in the next turn
 turned_begin : {n : ℕ} (b : Block) (outer : List Block) (x : Option Body) (new : List Block) → in_turn b outer x ≡ Some new → Begin n (b ∷ outer) → Begin n new
 turned_begin b outer None new e h = absurd cc

@@ -7,6 +7,7 @@ pub mod Quiet
 pub mod CursorMoves
 pub mod Machine
 pub mod MachineLaws
+pub mod Places
 pub mod Frames
 pub mod Tokens
 pub mod View

@@ -82,4 +82,4 @@ TellsComing old new f coming.Passed = Unit {0}
 TellsComing old new f coming.Step = IsStepFound new.text.now f
 TellsComing old new f (coming.Block o to) = (to ≤ length new.text.now) × (MayOpen o new.blocks) × (new ≡ old)
 TellsComing old new f coming.End = new ≡ old
-TellsComing old new f (coming.Fault e) = is_unfinished_code e ≡ false
+TellsComing old new f (coming.Fault e) = (is_unfinished_code e ≡ false) × (new ≡ old)

@@ -140,13 +140,14 @@ impl<'t> Cursor<'t> {
         ensures told { (found : Found) → TellsComing self.old self.new found result }
     {
         let depth = self.blocks.len();
-        match self.blocks.pop() {
+        match self.blocks.top() {
             None => Coming::Fault(Code::Ill),
             Some(block) => match block.body.kind() {
                 Kind::Iter | Kind::Else => Coming::Fault(Code::Ill),
                 Kind::Then => match skip_block(self.text, to, Kind::Else, depth) {
                     Err(code) => Coming::Fault(code),
                     Ok(stop) => {
+                        self.blocks.pop();
                         self.args.clear();
                         self.at = stop.to;
                         Coming::Passed
@@ -165,11 +166,12 @@ impl<'t> Cursor<'t> {
             ≡ machine.pass_part_end (drop to self.old.text.now) (cursor self.old).blocks }
         ensures told { (found : Found) → TellsComing self.old self.new found result }
     {
-        match self.blocks.pop() {
+        match self.blocks.top() {
             None => Coming::Fault(Code::Ill),
             Some(block) => match block.body.kind() {
                 Kind::Iter => Coming::Fault(Code::Ill),
                 Kind::Then | Kind::Else => {
+                    self.blocks.pop();
                     self.args.clear();
                     self.at = to;
                     Coming::Passed
