@@ -12,4 +12,5 @@ pub mod Going
 pub mod Stepped
 pub mod Continuations
 pub mod NoMemory
+pub mod Standings
 pub mod Semicolons

@@ -2,7 +2,7 @@
 use Rattle.std.specs.Prelude.{◌≡◌, Bool, true, false, ℕ, zero, suc, List, [], ◌∷◌, drop, Option, Some, None}
 use Rattle.teco_scan.specs.declared.blocks.Kind.{Kind}
 use Rattle.teco_scan.specs.declared.blocks.Kind.TheVariants as kind
-use Rattle.teco_exec.specs.Machine.{Frame}
+use Rattle.teco_exec.specs.CursorMoves.{Frame}
 use Rattle.teco_exec.specs.declared.blocks.Body.{Body}
 use Rattle.teco_exec.specs.declared.blocks.Body.TheVariants.{Endless, Turns, Then, Else}
 use Rattle.teco_exec.specs.declared.blocks.Block.{Block}

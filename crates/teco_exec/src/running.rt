@@ -5,7 +5,7 @@ ghost use Rattle.teco_core.specs.Register.{content};
 ghost use Rattle.teco_core.specs.declared.code.Code.TheVariants.{Mem};
 ghost use Rattle.teco_scan.specs.Lists.{nodes};
 ghost use Rattle.teco_step.specs.Terminal.{Shows};
-ghost use Rattle.teco_exec.specs.Running.{RunLeadsAt, at_beginning, at_register_call, reached_by_exit, reached_after_call, host};
+ghost use Rattle.teco_exec.specs.Running.{RunLeadsAt, code_left, at_beginning, at_register_call, reached_by_exit, reached_after_call, host};
 ghost use Rattle.teco_exec.specs.Tokens.{CountsSteps};
 ghost use Rattle.teco_exec.specs.View.{cursor as cursor_of};
 ghost use Rattle.teco_exec.specs.Quiet.{takes_no_memory};
@@ -69,7 +69,7 @@ fn run_text<D: Desk, T: Terminal>(
         (host (D.state desk.new) (D.follows desk.new) (T.screen term.new) steps.new.done)
         (at_beginning (arguments args.old) text.now)
         (λ callers. reached_by_exit (arguments args.new) callers result) }
-    ensures no_memory { takes_no_memory (nodes text.now) ≡ true → result ≡ exit.Over (Some Mem) → ⊥ }
+    ensures no_memory { takes_no_memory (nodes text.now) ≡ true → code_left result ≡ Some Mem → ⊥ }
 {
     let mut room = [Block {
         start: 0,
@@ -83,6 +83,7 @@ fn run_text<D: Desk, T: Terminal>(
                 match run_called(desk, q, depth, &mut cursor, steps, term) {
                     Exit::Return => continue 'running,
                     Exit::Over(code) => return Exit::Over(code),
+                    Exit::Stop(code) => return Exit::Stop(code),
                 }
             }
             Flow::Return => {
@@ -90,6 +91,7 @@ fn run_text<D: Desk, T: Terminal>(
                 return Exit::Return;
             }
             Flow::Over(code) => return Exit::Over(code),
+            Flow::Stop(code) => return Exit::Stop(code),
         }
     }
 }
@@ -118,7 +120,7 @@ fn run_called<D: Desk, T: Terminal>(
         (at_register_call cursor.old q) (λ callers. reached_after_call cursor.new callers result) }
 {
     if steps.done == steps.limit {
-        return Exit::Over(Some(Code::Lim));
+        return Exit::Stop(Code::Lim);
     }
     let text = desk.registers().text(q);
     let len = text.len();
@@ -129,7 +131,7 @@ fn run_called<D: Desk, T: Terminal>(
     let alloc = *desk.registers().value(q).text.allocator();
     match Vec::from_slice(alloc, text) {
         Ok(copy) => run_copy(desk, &copy, depth, cursor, steps, term),
-        Err(_) => Exit::Over(Some(Code::Mem)),
+        Err(_) => Exit::Stop(Code::Mem),
     }
 }
 

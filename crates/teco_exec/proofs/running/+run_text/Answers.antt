@@ -49,7 +49,15 @@ run_text-returns-in-Over-clause-leads g t c o callers limit deep e =
     since o _ _ _ (over c.in-Over.code) there.follows (c.in-Over.ensures.leads o callers (limit ∙ sym c.running.invariant.counts.limit) there.going)
 
 pub run_text-returns-in-Over-clause-no_memory : goal.run_text-returns-in-Over-clause-no_memory
-run_text-returns-in-Over-clause-no_memory g t c h e = c.in-Over.ensures.quiet (c.running.invariant.quiet h) cc
+run_text-returns-in-Over-clause-no_memory g t c h e = c.in-Over.ensures.quiet (c.running.invariant.quiet h) e
+
+pub run_text-returns-in-Stop-clause-leads : goal.run_text-returns-in-Stop-clause-leads
+run_text-returns-in-Stop-clause-leads g t c o callers limit deep e =
+    let there = c.running.invariant.going o callers limit deep e in
+    since o _ _ _ (over (Some c.in-Stop.code)) there.follows (c.in-Stop.ensures.leads o callers (limit ∙ sym c.running.invariant.counts.limit) there.going)
+
+pub run_text-returns-in-Stop-clause-no_memory : goal.run_text-returns-in-Stop-clause-no_memory
+run_text-returns-in-Stop-clause-no_memory g t c h e = c.in-Stop.ensures.quiet (c.running.invariant.quiet h) e
 
 pub run_text-running-smaller : goal.run_text-running-smaller
 run_text-running-smaller g t c =
@@ -85,6 +93,17 @@ run_text-returns-in-Over-run_called-clause-leads g t c o callers limit deep e =
 
 pub run_text-returns-in-Over-run_called-clause-no_memory : goal.run_text-returns-in-Over-run_called-clause-no_memory
 run_text-returns-in-Over-run_called-clause-no_memory g t c h e = c.in-Call.ensures.quiet (c.running.invariant.quiet h)
+
+pub run_text-returns-in-Stop-run_called-clause-leads : goal.run_text-returns-in-Stop-run_called-clause-leads
+run_text-returns-in-Stop-run_called-clause-leads g t c o callers limit deep e =
+    let there = c.running.invariant.going o callers limit deep e in
+    let here = c.in-Call.ensures.leads o callers (limit ∙ sym c.running.invariant.counts.limit) there.going in
+    let h = host (g.D.Desk.state c.step.new.desk) (g.D.Desk.follows c.step.new.desk) (g.T.Terminal.screen c.step.new.term) c.step.new.steps.done in
+    let r = c.in-Stop-run_called.ensures.leads o callers (limit ∙ sym c.running.invariant.counts.limit ∙ sym c.in-Call.ensures.counts.limit) deep here.going in
+    since o _ h _ (over (Some c.in-Stop-run_called.code)) (λ floor p. here.follows floor (there.follows floor p)) r
+
+pub run_text-returns-in-Stop-run_called-clause-no_memory : goal.run_text-returns-in-Stop-run_called-clause-no_memory
+run_text-returns-in-Stop-run_called-clause-no_memory g t c h e = c.in-Call.ensures.quiet (c.running.invariant.quiet h)
 
 pub run_called-returns-then-steps-clause-leads : goal.run_called-returns-then-steps-clause-leads
 run_called-returns-then-steps-clause-leads g t c o callers limit deep e =
