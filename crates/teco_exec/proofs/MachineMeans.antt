@@ -15,7 +15,7 @@ use Rattle.teco_exec.specs.StringMeaning.{string_run}
 use Rattle.teco_scan.specs.Lists.{closed}
 use Rattle.teco_scan.specs.ListLaws.{BlockLaws}
 use Rattle.teco_exec.specs.CursorMoves.{Frame, Cursor, CursorOrError, Coming, passed_to, step_comes, block_comes, end_comes, fault_comes, BlockStep, innermost_kind, inside_iteration, after_leaving_iteration, after_jump, pass, after_block_step}
-use Rattle.teco_exec.specs.Machine.{Caller, Further, Config, Machine, runs, halts, Ready, step, block, finished, Final, final, setting_of, runs_or_halts, in_called_text, after_step_end, after_token_step, after_text_end, ready_where_comes, ready_at, ready_within, ready_of, bytes_of_callers, bytes_left, after_paid_step, final_without_fuel, final_with_fuel, run_within, after_steps, start_config, Now, now_of}
+use Rattle.teco_exec.specs.Machine.{Caller, Further, Config, Machine, runs, halts, Ready, step, block, finished, Final, final, setting_of, runs_or_halts, after_step_end, after_text_end, ready_where_comes, ready_at, ready_within, ready_of, bytes_of_callers, bytes_left, after_paid_step, final_without_fuel, final_with_fuel, run_within, after_steps, start_config, Now, now_of}
 use Rattle.teco_exec.specs.CursorMoves as machine
 use Rattle.teco_exec.specs.MachineLaws.{MachineMeans, MachineFollows}
 use Rattle.teco_step.specs.Laws.{LeavesInside}

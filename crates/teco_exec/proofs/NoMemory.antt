@@ -1,5 +1,5 @@
 -- A text of values and arithmetic alone never ends for want of memory.
-use Rattle.std.proofs.Common.{arith, ◌≡◌, ℕ, Bool, true, List, [], Option, Some, None, refl, sym, ap, subst, ◌∙◌, ◌&&◌}
+use Rattle.std.proofs.Common.{arith, ◌≡◌, ℕ, Bool, true, List, [], Option, Some, refl, sym, subst, ◌∙◌, ◌&&◌}
 use Rattle.teco_core.specs.declared.code.Code.{Code}
 use Rattle.teco_core.specs.declared.code.Code.TheVariants.{Mem}
 use Rattle.teco_core.specs.Arguments.{Arguments, no_arguments}
@@ -15,7 +15,6 @@ use Rattle.teco_exec.specs.Running.{code_left}
 use Rattle.teco_exec.specs.View.{cursor_at_start, coming_of, cursor, item_of_kind}
 use Rattle.teco_exec.specs.declared.cursor.Cursor.{Cursor}
 use Rattle.teco_exec.specs.declared.flow.Exit.{Exit}
-use Rattle.teco_exec.specs.declared.flow.Exit.TheVariants as exits
 use Rattle.teco_exec.specs.declared.moves.Coming.{Coming}
 use Rattle.teco_exec.proofs.Denoting.{here}
 use Rattle.teco_exec.proofs.Passing.{Passes, item_comes, tag_passes, escape_passes, iteration_opens, conditional_opens, turn_ends, part_ends, passes}

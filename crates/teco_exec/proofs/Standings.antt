@@ -12,13 +12,13 @@ use Rattle.teco_scan.specs.declared.token.Found.TheVariants.{Token}
 use Rattle.teco_scan.specs.declared.token.Token.{Token as ScannedToken}
 use Rattle.teco_scan.specs.declared.token.TokenKind.{TokenKind}
 use Rattle.teco_scan.specs.declared.token.TokenKind.TheVariants as kind
-use Rattle.teco_step.specs.Stepping.{IsStepIn, IsStepKind}
+use Rattle.teco_step.specs.Stepping.{IsStepKind}
 use Rattle.teco_step.specs.declared.next.Work.{Work}
-use Rattle.teco_exec.specs.CursorMoves.{Coming as MachineComing, Cursor as MachineCursor, Frame, pass, pass_instruction, pass_scanned, step_comes}
+use Rattle.teco_exec.specs.CursorMoves.{Coming as MachineComing, Cursor as MachineCursor, pass, pass_instruction, pass_scanned, step_comes}
 use Rattle.teco_exec.specs.Frames.{frames}
-use Rattle.teco_exec.specs.Machine.{Caller, Config, ready_of, after_steps}
+use Rattle.teco_exec.specs.Machine.{Caller, ready_of, after_steps}
 use Rattle.teco_exec.specs.Places.{IsReadAt, Standing, standing}
-use Rattle.teco_exec.specs.Running.{FlowFinishes, FlowStays, Host, IsStandingAt, OnCall, OnStop, Origin, RunGoesOn, StandsAt, StandsSomewhere, Stays, at_block_step, at_cursor, at_token, now_at, sight, token_standing, whole_run}
+use Rattle.teco_exec.specs.Running.{FlowFinishes, FlowStays, Host, IsStandingAt, OnCall, OnStop, Origin, RunGoesOn, StandsAt, StandsSomewhere, Stays, at_block_step, at_cursor, at_token, now_at, token_standing, whole_run}
 use Rattle.teco_exec.specs.Tokens.{OnDone, ProgressFinishes, ProgressStays, call_of}
 use Rattle.teco_exec.specs.View.{coming_of, cursor, item_of_kind}
 use Rattle.teco_exec.specs.declared.blocks.Block.{Block}

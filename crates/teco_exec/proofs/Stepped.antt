@@ -15,7 +15,7 @@ use Rattle.teco_step.specs.declared.next.Setting.{Setting}
 use Rattle.teco_step.specs.Step.{done_by, settled, Step, End, Moment, at, call}
 use Rattle.teco_step.specs.Stepping.{IsStepIn, IsStepKind, is_call, kind_effect, token_effect, end_of, is_unfinished, is_unfinished_code, Steps, IsDone, trail_after, name_in}
 use Rattle.teco_exec.specs.CursorMoves.{inside_iteration, leave_is_next, CursorOrError, after_block_step}
-use Rattle.teco_exec.specs.Machine.{step, in_called_text, setting_of, Caller, Config, Now, halts, runs, runs_or_halts, after_step_end, after_token_step, run_within, ready_of, ready_within}
+use Rattle.teco_exec.specs.Machine.{step, in_called_text, setting_of, Caller, Config, Now, halts, runs, runs_or_halts, after_step_end, after_token_step, ready_of, ready_within}
 use Rattle.teco_exec.specs.Tokens.{call_of, calls_text, looks_around, CountsSteps, ProgressFinishes, reached_by_progress}
 use Rattle.teco_exec.specs.View.{cursor, item_of_kind, ResultFinishes as MovesWell, cursor_or_error, block_step_of}
 use Rattle.teco_exec.specs.declared.cursor.Cursor.{Cursor}
@@ -31,7 +31,7 @@ use Rattle.teco_step.specs.declared.next.Next.{Next}
 use Rattle.teco_step.specs.declared.next.Next.TheVariants as next
 use Rattle.teco_step.specs.Laws.{CallsByCalls}
 use Rattle.teco_step.specs.Terminal.{Screen}
-use Rattle.teco_exec.specs.Running.{Origin, Host, host, Continuation, RunGoesOn, ReachesContinuation, ReachesEnd, Reached, Reaches, over, Alike, Comes, sight, ready_run, config, at_call, at_cursor, at_register_call, at_token, at_block_step, reached_by_flow, FlowFinishes}
+use Rattle.teco_exec.specs.Running.{Origin, Host, host, Continuation, RunGoesOn, ReachesContinuation, ReachesEnd, Reached, Reaches, over, Alike, Comes, sight, ready_run, config, at_call, at_register_call, at_token, at_block_step, reached_by_flow, FlowFinishes}
 use Rattle.teco_exec.specs.declared.flow.Flow.{Flow}
 use Rattle.teco_exec.specs.declared.flow.Flow.TheVariants.{On, Call, Return, Over, Stop}
 use Rattle.teco_exec.specs.declared.moves.BlockStep.{BlockStep}

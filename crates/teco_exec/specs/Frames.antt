@@ -25,6 +25,17 @@ unfoldable pub frames : List ℕ → List Block → List Frame
 frames text [] = []
 frames text (b ∷ bs) = frame text b ∷ frames text bs
 
+-- the turns left of each open iteration, the innermost first; none: without end
+unfoldable pub turns_open : List Block → List (Option ℕ)
+turns_open [] = []
+turns_open (b ∷ bs) =
+    elim b.body [
+      | Endless ↦ None ∷ turns_open bs
+      | Turns n ↦ Some n ∷ turns_open bs
+      | Then ↦ turns_open bs
+      | Else ↦ turns_open bs
+    ]
+
 -- where the innermost block's list begins, or the text
 abbrev pub list_start : List Block → ℕ
 list_start [] = 0

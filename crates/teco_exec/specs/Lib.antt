@@ -8,6 +8,8 @@ pub mod CursorMoves
 pub mod Machine
 pub mod MachineLaws
 pub mod Places
+pub mod Telling
+pub mod Watching
 pub mod Frames
 pub mod Tokens
 pub mod View

@@ -15,7 +15,7 @@ use Rattle.teco_step.specs.Terminal.{Screen, Shows}
 use Rattle.teco_exec.specs.Machine.{Caller, Config, Further, Machine, runs, in_called_text, after_text_end, Ready, step, block, Final, Now, ready_of, final_with_fuel, final_without_fuel, run_within, after_steps, start_config}
 use Rattle.teco_exec.specs.CursorMoves as machine
 use Rattle.teco_exec.specs.MachineLaws.{MachineMeans}
-use Rattle.teco_exec.specs.Places.{Standing, standing, after_coming, IsReadAt}
+use Rattle.teco_exec.specs.Places.{Standing, Told, IsToldOf, standing, after_coming, IsReadAt}
 use Rattle.teco_exec.specs.Quiet.{IsQuiet}
 use Rattle.teco_exec.specs.Runs.{Runs, is_tty, trail_of}
 use Rattle.teco_exec.specs.StringMeaning.{string_meaning}
@@ -292,3 +292,21 @@ pub record StandsSomewhere (o : Origin) (k : ℕ) (c : Cursor) (callers : List C
   pub there : Standing
   pub stands : StandsAt o k there
   pub is : IsStandingAt c callers there
+
+-- The run of a whole text stands after some steps where it is told, inside texts that have called.
+pub record StandsWhereTold (o : Origin) (k : ℕ) (callers : List Caller) (p : Told) : Type 0 where
+  pub there : Standing
+  pub stands : StandsAt o k there
+  pub told : IsToldOf callers p there
+
+-- A watch knows nothing, or where the run stopped.
+abbrev pub Tells : (Option Told → Type 0) → Exit → (Told → Type 0) → Type 0
+Tells knows exit.Return P = knows None
+Tells knows (exit.Over code) P = knows None
+Tells knows (exit.Stop code) P = (p : Told) × knows (Some p) × P p
+
+-- From a continuation of a text at this depth of calls a run has come to stand where it is told.
+abbrev pub StandsFrom : ℕ → ℕ → Host → ℕ → (List Caller → Continuation) → Told → Type 0
+StandsFrom depth limit before k from p =
+    (o : Origin) (callers : List Caller) → o.limit ≡ limit → length callers ≡ depth
+    → RunGoesOn o before (from callers) → StandsWhereTold o k callers p

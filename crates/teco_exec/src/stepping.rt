@@ -46,7 +46,7 @@ pub(crate) fn step<D: Desk, T: Terminal>(
         (host (D.state desk.new) (D.follows desk.new) (T.screen term.new) steps.new.done)
         (at_cursor cursor.old) (λ callers. reached_by_flow cursor.new callers result) }
     ensures quiet { IsQuiet (cursor_of cursor.old) → GoesQuietly cursor.new result }
-    ensures blocks { OnStop result ((cursor_of cursor.new).blocks ≡ (cursor_of cursor.old).blocks) }
+    ensures around { OnStop result ((cursor_of cursor.new).blocks ≡ (cursor_of cursor.old).blocks) }
     ensures stops { OnStop result ((o : Origin) (callers : List Caller) → o.limit ≡ steps.old.limit
         → RunGoesOn o (host (D.state desk.old) (D.follows desk.old) (T.screen term.old) steps.old.done)
         (at_cursor cursor.old callers) → StandsSomewhere o steps.new.done cursor.old callers) }

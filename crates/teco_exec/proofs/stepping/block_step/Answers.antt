@@ -1,5 +1,5 @@
-use Rattle.std.proofs.Common.{refl, subst, sym, ◌∙◌, arith}
-use Rattle.teco_exec.specs.Running.{Reaches, reached_by_flow, host}
+use Rattle.std.proofs.Common.{refl, sym, ◌∙◌, arith}
+use Rattle.teco_exec.specs.Running.{reached_by_flow}
 use Rattle.teco_exec.proofs.Going.{limit_ends}
 use Rattle.teco_exec.proofs.Stepped.{block_leads, finishes, moves_on, unless_finishes}
 use Rattle.teco_exec.proofs.Standings.{unless_no_call, unless_no_stop}

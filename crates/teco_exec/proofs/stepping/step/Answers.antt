@@ -53,15 +53,15 @@ returns-in-Token-clause-quiet g c q =
     let told = subst (λ f. IsStepFound to.text.now f) c.in-Token.is c.in-Step.ensures.told in
     c.token_steps.ensures.quiet here.1 (kind_quietly to.text.now (length to.text.now) c.in-Token.token.kind told here.0)
 
-pub returns-in-Fault-clause-blocks : goal.returns-in-Fault-clause-blocks
-returns-in-Fault-clause-blocks g c = ap (λ (x : Cursor). (cursor x).blocks) c.in-Fault.ensures.told.1
+pub returns-in-Fault-clause-around : goal.returns-in-Fault-clause-around
+returns-in-Fault-clause-around g c = ap (λ (x : Cursor). (cursor x).blocks) c.in-Fault.ensures.told.1
 
 pub returns-in-Fault-clause-stops : goal.returns-in-Fault-clause-stops
 returns-in-Fault-clause-stops g c o callers limit at =
     fault_stands c.block_laws.ensures o _ c.args.cursor.now c.pass.new.self c.token_at-found.result c.in-Fault.code callers c.in-Fault.ensures.comes at
 
-pub returns-in-Block-clause-blocks : goal.returns-in-Block-clause-blocks
-returns-in-Block-clause-blocks g c =
+pub returns-in-Block-clause-around : goal.returns-in-Block-clause-around
+returns-in-Block-clause-around g c =
     on_stop c.block_step.result (λ x. ap (λ (y : Cursor). (cursor y).blocks) (x.1 ∙ c.in-Block.ensures.told.2)) c.block_step.ensures.stops
 
 pub returns-in-Block-clause-calls : goal.returns-in-Block-clause-calls
@@ -74,8 +74,8 @@ returns-in-Block-clause-stops g c =
     (settles o _ _ at (goes (at_block_step c.pass.new.self c.in-Block.block c.in-Block.to callers)) tt (omega (arith, limit, c.args.steps.now.within))
     (comes_block c.block_laws.ensures c.args.cursor.now c.pass.new.self c.token_at-found.result callers c.in-Block.ensures.told.2 c.in-Block.block c.in-Block.to c.in-Block.ensures.comes)).going) c.block_step.ensures.stops
 
-pub returns-in-Token-clause-blocks : goal.returns-in-Token-clause-blocks
-returns-in-Token-clause-blocks g c =
+pub returns-in-Token-clause-around : goal.returns-in-Token-clause-around
+returns-in-Token-clause-around g c =
     let to = c.pass.new.self in
     let told = subst (λ f. IsStepFound to.text.now f) c.in-Token.is c.in-Step.ensures.told in
     flow_blocks c.args.cursor.now to c.token_at-found.result c.in-Token.token c.in-Token.is c.token_at-found.ensures.read c.in-Step.ensures.comes c.in-Step.ensures.text (length to.text.now, told)

@@ -1,7 +1,7 @@
-use Rattle.std.proofs.Common.{Some, refl, subst, sym, ◌∙◌, arith}
+use Rattle.std.proofs.Common.{refl, sym, ◌∙◌, arith}
 use Rattle.teco_core.specs.ArgumentsView.{arguments}
 use Rattle.teco_step.specs.Stepping.{name_in}
-use Rattle.teco_exec.specs.Running.{Reaches, at_register_call, goes, reached_by_flow, host}
+use Rattle.teco_exec.specs.Running.{at_register_call, goes}
 use Rattle.teco_exec.specs.Tokens.{reached_by_progress}
 use Rattle.teco_exec.proofs.Going.{limit_ends, settles}
 use Rattle.teco_exec.proofs.Stepped.{calls_same, never_calls, token_fails, token_goes, progress_finishes}

@@ -3,8 +3,9 @@ use Rattle.teco_core.specs.ArgumentsView.{arguments}
 use Rattle.teco_exec.specs.Running.{Origin}
 use Rattle.teco_exec.proofs.NoMemory.{ends_quietly}
 use Rattle.teco_exec.proofs.Continuations.{whole_begins, whole_ends}
+use Rattle.teco_exec.proofs.Placings.{tells_some, whole_place}
 use Rattle.teco_exec.proofs.StringLaws.{runs_exit}
-use Rattle.teco_exec.proofs.running.run.Goals as goal
+use Rattle.teco_exec.proofs.running.run_watched.Goals as goal
 
 pub returns : goal.returns
 returns g c =
@@ -21,4 +22,5 @@ returns g c =
       exit = λ going over.
           runs_exit laws.exit laws.more_limit o.state o.text o.limit going c.code.result c.run_text-exit.new.steps.done ends.typed _
           (laws.within_limit o.state o.text o.limit) (laws.within_limit o.state o.text c.run_text-exit.new.steps.done) ends.runs over;
+      told = λ knows. tells_some c.run_text-exit.result (λ p from. whole_place o c.run_text-exit.new.steps.done p (from o [] refl refl begins)) (c.run_text-exit.ensures.told knows);
     }
