@@ -262,7 +262,6 @@ pub(crate) static FORMS: &[Types] = &[
     ("(Xa", "", Some(Code::Mrp)),
     ("0+Xa", "", Some(Code::Arg)),
     ("0,Xa", "", Some(Code::Arg)),
-    ("^Uax\x1b:Ga", "x", None),
     ("1^Uax\x1b", "", Some(Code::Arg)),
     ("0,1^Uax\x1b", "", Some(Code::Arg)),
     ("-^Uax\x1b", "", Some(Code::Arg)),
