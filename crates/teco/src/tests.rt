@@ -3,6 +3,7 @@
 use std::process::Abort;
 
 pub(crate) mod bytes;
+pub(crate) mod commands;
 pub(crate) mod exec;
 mod gap;
 mod line_commands;

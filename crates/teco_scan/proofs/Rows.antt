@@ -1,5 +1,6 @@
 -- What is found in some texts, and the trees of some, by computing.
-use Rattle.std.specs.Prelude.{◌≡◌, ℕ, zero, suc, Bool, true, false, List, [], ◌∷◌, ◌++◌, map, filter, codes, ◌==◌, if◌then◌else◌}
+use Rattle.std.specs.Prelude.{◌≡◌, ℕ, zero, suc, ◌+◌, Bool, true, false, ◌&&◌, ◌||◌, List, [], ◌∷◌, ◌++◌, map, filter, codes, ◌==◌, if◌then◌else◌}
+use Rattle.std.specs.List.{list_any}
 use Rattle.std.proofs.Common.{refl}
 use Prim.Native.String.{String}
 use Rattle.teco_core.specs.declared.number.Op.TheVariants.{Plus, Over, And, Or}
@@ -13,6 +14,11 @@ use Rattle.teco_scan.specs.declared.command.TextCommand.TheVariants.{Insert, Ins
 use Rattle.teco_scan.specs.declared.command.LevelCommand.TheVariants.{Append, Decimal}
 use Rattle.teco_scan.specs.declared.command.BlockMark.TheVariants.{Iterate, EndIteration, Otherwise, EndTest}
 use Rattle.teco_scan.specs.declared.command.Test.TheVariants.{Zero, NotZero, Above, Below, Letter, Digit, LetterOrDigit, Lower, Upper}
+use Rattle.teco_core.specs.Ascii.{is_digit, upper}
+use Rattle.teco_scan.specs.declared.command.Name.{Name}
+use Rattle.teco_scan.specs.declared.command.Name.TheVariants.{One, Control}
+use Rattle.teco_scan.specs.declared.table.TheConstants.{ROWS}
+use Rattle.teco_scan.specs.Table.{is_alone}
 use Rattle.teco_scan.specs.Scan.{digits, bare, register, text, set_text, Instruction, step, mark, decide, tag, Scanned, found, ended, fault, no_modifiers, test_of, byte_at, register_at, test_at, delimiter_at, text_at, operand_at, modifiers_at, after_letter, after_name, ends_inside, row_at, is_cut, command_at, run_of, after_run, token_from, after_fillers, scan}
 use Rattle.teco_scan.specs.Scan as token
 use Rattle.teco_scan.specs.Tree.{done, item, escape, faulty}
@@ -318,9 +324,15 @@ is_token : Scanned → Bool
 is_token (found t bs) = true
 is_token _ = false
 
--- the bytes that are a token alone
-single_bytes : filter (λ b. is_token (scan (b ∷ []))) (up_to 256) ≡ 5 ∷ 14 ∷ 20 ∷ 24 ∷ 27 ∷ codes "#&'()*+,-./0123456789;<=>ABCDHJKLPRTVYZ\\abcdhjklprtvyz|"
-unfolding computing up_to is_token
+-- the byte is all of the name
+is_lone_name : ℕ → Name → Bool
+is_lone_name b (One l) = upper b == l
+is_lone_name b (Control l) = b + 64 == l
+is_lone_name b _ = false
+
+-- The bytes that are a token alone are the digits, and those names after which nothing follows.
+single_bytes : filter (λ b. is_token (scan (b ∷ []))) (up_to 256) ≡ filter (λ b. is_digit b || list_any (λ r. is_lone_name b r.name && is_alone r.form) ROWS) (up_to 256)
+unfolding computing up_to is_token is_lone_name
 single_bytes = refl
 
 -- the tree of a text: without blocks a list, to its end or to its first fault

@@ -20,12 +20,12 @@ use Rattle.teco_step.specs.Effect.{effect, command_effect, bare_effect, register
 use Rattle.teco_step.specs.Load.{Moves}
 use Rattle.teco_step.specs.Pages.{pages_left, with_output_in_limit, with_page_turned}
 use Rattle.teco_step.specs.Registers as registers
-use Rattle.teco_step.specs.Step.{Setting, Attempt, Made, Action, goes, steers, goes_on, done_by, on, leave, settled, as_byte, ends, takes_none, takes_one, takes_one_or, takes_reach}
+use Rattle.teco_step.specs.Step.{Setting, Attempt, Made, Action, goes, steers, goes_on, done_by, on, leave, settled, ends, takes_none, takes_one_or}
 use Rattle.teco_step.specs.Values.{built, value_of}
 use Rattle.teco_step.proofs.Moving.{exit_moves, nothing_moves, turn_moves}
 use Rattle.teco_step.proofs.Occurring.{Backward, Forward, Long, Spelled}
 use Rattle.teco_step.proofs.Seeking.{seeks, seeks_and_replaces, seeks_reading, seeks_turning}
-use Rattle.teco_step.proofs.Working.{AttemptWorks, MadeWorks, Works, attempt_then, back_works, case_works, delete_works, extract_works, forward_works, get_works, gives_works, increment_works, insert_tab_works, insert_works, jump_works, kill_works, level_works, line_works, made_then, next_page_works, output_is, pop_works, push_works, set_number_works, set_text_works, turned_is, within_limit, write_page_works}
+use Rattle.teco_step.proofs.Working.{AttemptWorks, MadeWorks, Works, attempt_then, case_works, delete_works, extract_works, get_works, gives_works, increment_works, insert_tab_works, insert_works, inserts_works, kill_works, level_works, made_then, moves_works, next_page_works, output_is, pop_works, push_works, set_number_works, set_text_works, turned_is, types_works, within_limit, write_page_works}
 
 abbrev ActionWorks : Action → Type 0
 ActionWorks (goes make) = (s : State) (a : Arguments) → MadeWorks s (make s a)
@@ -63,26 +63,13 @@ leave_works false left s = tt
 exit_works : (s t : State) → with_output_in_limit (finished s) ≡ Ok t → Works s t [] (length s.text)
 exit_works s t e = within_limit s (finished s) t (length s.text) (output_is (finished s) t e) (λ within. exit_moves s)
 
--- the actions, as the effect dispatches them
+-- The actions, as the effect dispatches them. What a command comes to after it has taken its arguments has one lemma here.
 command_works : (c : Command) (w : Setting) → ActionWorks (command_effect c w)
-command_works command.Jump w = jump_works
-command_works command.Forward w = forward_works
-command_works command.Back w = back_works
-command_works command.Line w = line_works
-command_works command.Delete w = delete_works
-command_works command.Kill w = kill_works
-command_works command.TypeOut w = λ s a. made_then s (takes_reach s a) _ (λ r e. inl (refl, refl))
-command_works command.View w = λ s a. made_then s (takes_none a) _ (λ none e. inl (refl, refl))
-command_works command.TypeByte w = λ s a. made_then s (takes_one code.Arg a) _ (λ n e. made_then s (as_byte n) _ (λ b h. inl (refl, refl)))
-command_works command.Print w = λ s a. made_then s (takes_one code.Nae a) _ (λ n e. inl (refl, refl))
-command_works command.PrintOctal w = λ s a. made_then s (takes_one code.Nae a) _ (λ n e. inl (refl, refl))
 command_works command.Leave w = λ s a. attempt_then s (takes_one_or (truth s.last_found) a) _ (λ n e. leave_works w.inside (int_le (pos 0) n) s)
-command_works command.NextPage w = next_page_works
 command_works command.TurnPages w = λ s a.
     attempt_then s (pages_left w.work a) _ (λ n e. attempt_then s (with_page_turned s) _ (λ t h. within_limit s (turned s) t (page_load s) (turned_is s t h) (λ within. turn_moves s)))
-command_works command.WritePage w = write_page_works
 command_works command.Exit w = λ s a. attempt_then s (takes_none a) _ (λ none e. attempt_then s (with_output_in_limit (finished s)) _ (λ t h. exit_works s t h))
-command_works command.CaseMode w = case_works
+command_works _ w = λ s a. search (made_then, moves_works, types_works, inserts_works, delete_works, kill_works, next_page_works, write_page_works, case_works)
 
 bare_works : (b : Bare) (w : Setting) → ActionWorks (bare_effect b w)
 bare_works (bare.Quantity q) w = λ s a. gives_works s a (value_of q s)

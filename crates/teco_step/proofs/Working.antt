@@ -1,6 +1,6 @@
 -- What a step does: it types and leaves the state, or its load is what it moves.
 use Rattle.std.proofs.Common.{◌≡◌, ◌∙◌, subst, refl, ◌⊎◌, inl, inr, ℕ, ◌+◌, ◌-◌, ◌≤◌, min, max, Bool, true, false, cond, List, [], ◌∷◌, length, drop, None, Result, Ok, Err, ℤ, pos, nat_le, arith}
-use Rattle.std.specs.Prelude.{◌==◌, ◌+ℤ◌, ◌-ℤ◌}
+use Rattle.std.specs.Prelude.{◌==◌, ◌+ℤ◌}
 use Rattle.std.specs.Fmt.{signed_decimal}
 use Rattle.teco_core.specs.declared.arguments.Level.{Level}
 use Rattle.teco_core.specs.declared.arguments.Level.TheVariants as level
@@ -20,12 +20,11 @@ use Rattle.teco_store.specs.Page.{page, page_load, turned, with_more, with_page,
 use Rattle.teco_store.specs.State.{State, last_pushed, popped_into, pushed_from, spliced, with_register_text}
 use Rattle.teco_step.specs.Case.{mode_of, set_case}
 use Rattle.teco_step.specs.Decimal.{Numeral, decimal_at_level, insert_number, numeral_at, reads}
-use Rattle.teco_step.specs.Editing.{back, delete, forward, insert, insert_tab, inserted, inserts, jump, kill, moves, puts, to_line, untaken, with_text_in_limit}
-use Rattle.teco_step.specs.Line.{line}
+use Rattle.teco_step.specs.Editing.{delete, insert, insert_tab, inserted, inserts, kill, moves, puts, untaken, with_text_in_limit}
 use Rattle.teco_step.specs.Load.{Moves}
 use Rattle.teco_step.specs.Pages.{append_page, next_page, with_output_in_limit, with_page_read, with_page_turned, write_page, writes, writes_taken}
 use Rattle.teco_step.specs.Registers.{adds, extract, get, increment, increments, insert_text, pop, push, set_number, set_text, sets_text, type_text}
-use Rattle.teco_step.specs.Step.{Attempt, Made, changes, edits, gives, place_or, reached, takes_none, takes_one, takes_one_or, takes_reach}
+use Rattle.teco_step.specs.Step.{Attempt, Made, changes, edits, gives, place_or, reached, takes_none, takes_one, takes_one_or, takes_reach, types}
 use Rattle.teco_step.specs.Values.{appends, at_level}
 use Rattle.teco_step.proofs.Moving.{case_moves, more_moves, number_moves, page_moves, pointer_moves, pop_moves, push_moves, register_moves, splice_moves, writing_moves}
 use Rattle.teco_step.proofs.Reaching.{between, place_within, reach_spans}
@@ -93,20 +92,12 @@ pub gives_works : (s : State) (a : Arguments) (v : ℤ) → MadeWorks s (gives s
 gives_works s a v = made_then s (give v a) _ (λ given e. inl (refl, refl))
 
 -- moves of the pointer
-moves_works : (s : State) (a : Arguments) (place : ℕ) → MadeWorks s (moves place s a)
+pub moves_works : (s : State) (a : Arguments) (place : ℕ) → MadeWorks s (moves place s a)
 moves_works s a place = inr (refl, λ within. pointer_moves s place)
 
-pub jump_works : (s : State) (a : Arguments) → MadeWorks s (jump s a)
-jump_works s a = made_then s (takes_one_or (pos 0) a) _ (λ n e. made_then s (place_or code.Pop s n) _ (λ place there. moves_works s a place))
-
-pub forward_works : (s : State) (a : Arguments) → MadeWorks s (forward s a)
-forward_works s a = made_then s (takes_one_or (pos 1) a) _ (λ n e. made_then s (place_or code.Pop s (pos s.pointer +ℤ n)) _ (λ place there. moves_works s a place))
-
-pub back_works : (s : State) (a : Arguments) → MadeWorks s (back s a)
-back_works s a = made_then s (takes_one_or (pos 1) a) _ (λ n e. made_then s (place_or code.Pop s (pos s.pointer -ℤ n)) _ (λ place there. moves_works s a place))
-
-pub line_works : (s : State) (a : Arguments) → MadeWorks s (to_line s a)
-line_works s a = made_then s (takes_one_or (pos 1) a) _ (λ n e. moves_works s a (line s.text s.pointer n))
+-- bytes that are typed
+pub types_works : (s : State) (bytes : List ℕ) → MadeWorks s (types s bytes)
+types_works s bytes = inl (refl, refl)
 
 -- edits
 puts_works : (at gone : ℕ) (bytes : List ℕ) (s : State) (a : Arguments) → (s.pointer ≤ length s.text → at + gone ≤ length s.text) → MadeWorks s (puts at gone bytes s a)
@@ -114,7 +105,7 @@ puts_works at gone bytes s a lies =
     let u : State = spliced s at gone bytes None in
     made_then s (with_text_in_limit u) _ (λ t e. within_limit s u t (gone + length bytes) (text_is u t e) (λ within. splice_moves s at gone bytes (lies within)))
 
-inserts_works : (bytes : List ℕ) (s : State) (a : Arguments) → MadeWorks s (inserts bytes s a)
+pub inserts_works : (bytes : List ℕ) (s : State) (a : Arguments) → MadeWorks s (inserts bytes s a)
 inserts_works bytes s a = puts_works s.pointer 0 bytes s a (λ within. omega arith)
 
 pub delete_works : (s : State) (a : Arguments) → MadeWorks s (delete s a)

@@ -1,14 +1,13 @@
 //! Modifiers before each command.
 use crate::tests::assert_of;
 use crate::tests::bytes::joined;
+use crate::tests::commands::{COMMANDS, MODIFIERS};
 use crate::tests::exec::strings::{Ends, all_end};
 use std::alloc::Global;
 use std::process::Abort;
 use std::test::*;
 use teco_core::Code;
 use teco_scan::{Found, token_at};
-
-const MODIFIERS: [&str; 4] = [":", "::", "@", ":@"];
 
 /// Whether a text begins with a token, or is ILL.
 fn begins(text: &[u8]) -> Option<bool> {
@@ -27,42 +26,20 @@ fn is_read(alloc: Global, modifiers: &str, command: &str, wanted: bool) -> bool 
 
 /// A command admits these modifiers, and no others of the four.
 fn admits(rt: &impl Abort, alloc: Global, admitted: &[&str], command: &str) {
-    for modifiers in &MODIFIERS {
+    for modifiers in MODIFIERS {
         let held = is_read(alloc, modifiers, command, admitted.contains(modifiers));
         assert_of(rt, command, held);
     }
 }
 
-/// Modifiers, and the commands that admit them.
-static ADMITTED: [(&[&str], &[&str]); 5] = [
-    (
-        &[],
-        &[
-            "5", "B", "Z", ".", "H", "+", "-", "*", "/", "&", "#", "(", ")", ",", "^E", "^N",
-            "^^a", "A", "\\", "J", "C", "R", "L", "D", "K", "V", "^T", "\ta\x1b", "T", "Y", "P",
-            "PW", "EX", "^X", "\x1b", "%a", "Ua", "Xa", "[a", "]a", "Ma", "<", ">", ";", "\"E",
-            "|", "'", "!a!", "===", "EQ", "?", "^B", " J",
-        ],
-    ),
-    (&[":"], &["Qa", "Ga", "=", "=="]),
-    (&["@"], &["^Ua/b\x1b/", "^A/b\x01/", "I/a\x1b/", "O/a\x1b/"]),
-    (
-        &[":", "@", ":@"],
-        &["FS/a\x1b/b\x1b/", "N/a\x1b/", "_/a\x1b/"],
-    ),
-    (&MODIFIERS, &["S/a\x1b/"]),
-];
-
 #[test]
 fn commands_admit_their_modifiers_alone(rt: HostRuntime) {
-    for (admitted, commands) in &ADMITTED {
-        for command in *commands {
-            admits(&rt, rt.alloc(), admitted, command);
-        }
+    for (command, admitted, _) in COMMANDS {
+        admits(&rt, rt.alloc(), admitted, command);
     }
 }
 
-static ROWS: [Ends<'static>; 19] = [
+static ROWS: &[Ends] = &[
     ("Iaa\x1bJ:@S/a/=@:S/a/=", None, 6, "-1\r\n-1\r\n"),
     (
         "Iaa\x1bJ@::S/a/=:@:S/a/=::@S/a/=",
@@ -91,5 +68,5 @@ static ROWS: [Ends<'static>; 19] = [
 
 #[test]
 fn modifiers_come_in_any_order(rt: HostRuntime) {
-    all_end(&rt, rt.alloc(), &ROWS);
+    all_end(&rt, rt.alloc(), ROWS);
 }

@@ -1,5 +1,6 @@
 //! Each byte alone as a command string.
 use super::requests::session_over;
+use crate::tests::commands::COMMANDS;
 use crate::tests::store::states::seen;
 use std::alloc::Global;
 use std::test::*;
@@ -8,24 +9,28 @@ use teco_exec::Outcome;
 use teco_session::Answer;
 use teco_step::MemoryTerminal;
 
-/// How each byte below 128 ends, by a letter.
-static KINDS: [&[u8; 16]; 8] = [
-    b".uiiiniiiu.ii.ni",
-    b"iiiiauiiaii.iiui",
-    b".uuaiuainaananna",
-    b"nnnnnnnnnnusoebi",
-    b"unnpduuununnnuuu",
-    b"nupununiunnunuuu",
-    b"innpduuununnnuuu",
-    b"nupununiunniiiii",
-];
-
-/// Above 127 each byte begins no command.
-fn kind_of(byte: u8) -> u8 {
-    if byte > 127 {
-        return b'i';
+/// Whether a command's name begins with a byte: a letter in either case, or for a caret and a letter the control byte.
+fn begins(command: &[u8], byte: u8) -> bool {
+    match command {
+        [b'^', letter, ..] => u16::from(byte) + 64 == u16::from(*letter),
+        [first, ..] => byte.to_ascii_uppercase() == *first,
+        [] => false,
     }
-    KINDS[usize::from(byte / 16)][usize::from(byte % 16)]
+}
+
+/// How a byte ends, by a letter.
+fn kind_of(byte: u8) -> u8 {
+    for (command, _, kind) in COMMANDS {
+        if begins(command.as_bytes(), byte) {
+            return *kind;
+        }
+    }
+    match byte {
+        0 | b'\n' | b'\r' => b'.',
+        b'0'..=b'9' => b'n',
+        b':' | b'@' | b'^' => b'u',
+        _ => b'i',
+    }
 }
 
 /// The code and the steps that a letter says.

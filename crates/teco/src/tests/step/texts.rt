@@ -3,7 +3,7 @@ use super::{Types, all_type};
 use std::test::*;
 use teco_core::Code;
 
-static ROWS: [Types<'static>; 26] = [
+static ROWS: &[Types] = &[
     // The pointer is moved.
     ("Ihello\x1b0J3C.=", "3\r\n", None),
     ("5J", "", Some(Code::Pop)),
@@ -20,7 +20,6 @@ static ROWS: [Types<'static>; 26] = [
     ),
     // Texts are put in and deleted.
     ("65I\x1b66I\x1b-2CT", "AB", None),
-    ("256I\x1b", "", Some(Code::Arg)),
     ("3Ix\x1b", "", Some(Code::Iia)),
     ("Ihello\x1b2J2DJT", "heo", None),
     ("Ihello\x1b-2D.=JTDT", "3\r\nhelel", None),
@@ -41,5 +40,5 @@ static ROWS: [Types<'static>; 26] = [
 
 #[test]
 fn texts_are_edited_and_typed(rt: HostRuntime) {
-    all_type(&rt, rt.alloc(), &ROWS);
+    all_type(&rt, rt.alloc(), ROWS);
 }
