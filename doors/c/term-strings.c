@@ -86,29 +86,32 @@ static bool is_filler(uint8_t byte)
     return byte == ' ' || byte == RETURN || byte == LINE_FEED || byte == 0;
 }
 
-static struct bytes without_fillers(const uint8_t *text, size_t n)
+/* What is left of n bytes without the fillers at either end; n is how many they are then. */
+static const uint8_t *without_fillers(const uint8_t *text, size_t *n)
 {
-    for (; n > 0 && is_filler(*text); n--)
+    for (; *n > 0 && is_filler(*text); (*n)--)
         text++;
-    while (n > 0 && is_filler(text[n - 1]))
-        n--;
-    return (struct bytes){.at = (uint8_t *)text, .count = n};
+    while (*n > 0 && is_filler(text[*n - 1]))
+        (*n)--;
+    return text;
 }
 
-/* Whether a string is no command string: at most 9 digits, and then a brace or a tilde. Tells which, the number, and if there is one. */
-static bool asks_history(const struct bytes *text, uint8_t *which, uint64_t *number, bool *is_given)
+/* What a string asks that is at most 9 digits, and then a brace or a tilde: that byte, or 0 where it is a command string. Tells the
+   number of the digits, and whether there are any. */
+static uint8_t asks_history(const uint8_t *text, size_t n, uint64_t *number, bool *is_given)
 {
+    text = without_fillers(text, &n);
     *number = 0;
-    *is_given = text->count > 1;
-    if (text->count == 0 || text->count > 10)
-        return false;
-    for (size_t i = 0; i + 1 < text->count; i++) {
-        if (text->at[i] < '0' || text->at[i] > '9')
-            return false;
-        *number = 10 * *number + (text->at[i] - '0');
+    *is_given = n > 1;
+    if (n == 0 || n > 10)
+        return 0;
+    for (size_t i = 0; i + 1 < n; i++) {
+        if (text[i] < '0' || text[i] > '9')
+            return 0;
+        *number = 10 * *number + (uint64_t)(text[i] - '0');
     }
-    *which = text->at[text->count - 1];
-    return *which == '{' || *which == '}' || *which == '~';
+    uint8_t last = text[n - 1];
+    return last == '{' || last == '}' || last == '~' ? last : 0;
 }
 
 /* Asks for so many undos or redos, and stops at the first that is refused. */
@@ -135,18 +138,17 @@ static enum fate run(struct editor *editor, const uint8_t *text, size_t n, uint8
 /* Does what a string asks, which has the first ESC of its pair. */
 enum fate serve(struct editor *editor, const uint8_t *text, size_t n)
 {
-    uint8_t which, code;
+    uint8_t code = 0;
     uint64_t number;
     bool is_given;
-    struct bytes asked = without_fillers(text, n - 1);
     enum fate fate = GOES_ON;
     editor->last_steps = 0;
-    if (!asks_history(&asked, &which, &number, &is_given))
-        fate = run(editor, text, n, &code);
-    else if (which == '~')
-        code = teco_rewind(&editor->session, number);
-    else
-        code = repeat(&editor->session, which == '{' ? teco_undo : teco_redo, is_given ? number : 1);
+    switch (asks_history(text, n - 1, &number, &is_given)) {
+    case '{': code = repeat(&editor->session, teco_undo, is_given ? number : 1); break;
+    case '}': code = repeat(&editor->session, teco_redo, is_given ? number : 1); break;
+    case '~': code = teco_rewind(&editor->session, number); break;
+    default: fate = run(editor, text, n, &code);
+    }
     if (fate == GOES_ON && code != 0)
         fate = say_code(editor, code);
     if (fate == GOES_ON && editor->options->steps)
