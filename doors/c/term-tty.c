@@ -40,11 +40,11 @@ static bool is_ours(void)
     return job == -1 || job == getpgrp();
 }
 
-/* In the background nothing is set: SIGCONT tells when the program comes to the front. */
+/* In the background the program stops, as SIGTTOU stops whoever sets a terminal there; it is set when SIGCONT comes to the front. */
 static bool set_own(void)
 {
     if (!is_ours())
-        return true;
+        return raise(SIGTTOU) == 0;
     is_own = 1;
     if (tcsetattr(STDIN_FILENO, TCSANOW, &own) != 0)
         return false;
@@ -100,7 +100,7 @@ static void on_stop(int signal)
 
 static bool handle(int signal, void (*handler)(int), int flags)
 {
-    struct sigaction action = {.sa_handler = handler, .sa_flags = SA_RESTART | flags};
+    struct sigaction action = {.sa_handler = handler, .sa_flags = flags};
     return sigfillset(&action.sa_mask) == 0 && sigaction(signal, &action, NULL) == 0;
 }
 

@@ -124,10 +124,8 @@ def shell(program, report, orders):
             break
         os.tcsetpgrp(0, os.getpgrp())
         os.write(report, b"stopped %d\n" % os.WSTOPSIG(status))
-        if os.read(orders, 1) == b"b":
-            os.kill(-child, signal.SIGCONT)
-            os.read(orders, 1)
-        os.tcsetpgrp(0, child)
+        if os.read(orders, 1) == b"f":
+            os.tcsetpgrp(0, child)
         os.kill(-child, signal.SIGCONT)
     how = b"signal %d\n" % os.WTERMSIG(status) if os.WIFSIGNALED(status) else b"status %d\n" % os.WEXITSTATUS(status)
     os.write(report, how)
@@ -241,7 +239,7 @@ class Terminal:
         return self
 
     def continues(self, order=b"f"):
-        """In front, or by the order b in the background."""
+        """By the order f in front, by b in the background."""
         os.write(self.orders, order)
         return self
 
