@@ -42,25 +42,85 @@ static ROWS: [Row<'static>; 27] = [
     ("3<1=>", 5, Some(Code::Lim), 5, Some((2, &[Some(1)], &[]))),
     ("3<1=>", 11, None, 11, None),
     ("<1=>", 3, Some(Code::Lim), 3, Some((3, &[None], &[]))),
-    ("2<3<1=>>", 4, Some(Code::Lim), 4, Some((4, &[Some(2), Some(1)], &[]))),
-    ("1\"G2<1=>'", 4, Some(Code::Lim), 4, Some((5, &[Some(1)], &[]))),
+    (
+        "2<3<1=>>",
+        4,
+        Some(Code::Lim),
+        4,
+        Some((4, &[Some(2), Some(1)], &[])),
+    ),
+    (
+        "1\"G2<1=>'",
+        4,
+        Some(Code::Lim),
+        4,
+        Some((5, &[Some(1)], &[])),
+    ),
     // Calls. A step that failed is told with one step less.
     (FAILS, 3, Some(Code::Lim), 3, Some((12, &[Some(1)], &[]))),
-    (FAILS, 4, Some(Code::Lim), 4, Some((0, &[], &[(b'A', 12, &[Some(1)])]))),
-    (FAILS, 7, Some(Code::Lim), 7, Some((3, &[], &[(b'A', 12, &[Some(1)])]))),
+    (
+        FAILS,
+        4,
+        Some(Code::Lim),
+        4,
+        Some((0, &[], &[(b'A', 12, &[Some(1)])])),
+    ),
+    (
+        FAILS,
+        7,
+        Some(Code::Lim),
+        7,
+        Some((3, &[], &[(b'A', 12, &[Some(1)])])),
+    ),
     (FAILS, 8, Some(Code::Pop), 8, None),
     (FAILS, 99, Some(Code::Pop), 8, None),
     // A fault uses no step.
-    (FAULT, 5, Some(Code::Ill), 5, Some((1, &[], &[(b'A', 12, &[Some(1)])]))),
-    (FAULT, 99, Some(Code::Ill), 5, Some((1, &[], &[(b'A', 12, &[Some(1)])]))),
+    (
+        FAULT,
+        5,
+        Some(Code::Ill),
+        5,
+        Some((1, &[], &[(b'A', 12, &[Some(1)])])),
+    ),
+    (
+        FAULT,
+        99,
+        Some(Code::Ill),
+        5,
+        Some((1, &[], &[(b'A', 12, &[Some(1)])])),
+    ),
     ("7=Iab", 99, Some(Code::Utc), 2, Some((2, &[], &[]))),
-    ("@^UA/;/<MA>", 3, Some(Code::Lim), 3, Some((0, &[], &[(b'A', 8, &[None])]))),
+    (
+        "@^UA/;/<MA>",
+        3,
+        Some(Code::Lim),
+        3,
+        Some((0, &[], &[(b'A', 8, &[None])])),
+    ),
     ("@^UA/;/<MA>", 99, Some(Code::Sni), 4, None),
-    ("2<1\"G'|>", 99, Some(Code::Ill), 4, Some((6, &[Some(1)], &[]))),
+    (
+        "2<1\"G'|>",
+        99,
+        Some(Code::Ill),
+        4,
+        Some((6, &[Some(1)], &[])),
+    ),
     // Calls of calls, the latest first.
     (NESTED, 2, Some(Code::Lim), 2, Some((19, &[], &[]))),
-    (NESTED, 5, Some(Code::Lim), 5, Some((2, &[Some(1)], &[(b'A', 19, &[])]))),
-    (NESTED, 7, Some(Code::Lim), 7, Some((1, &[], &[(b'B', 2, &[Some(1)]), (b'A', 19, &[])]))),
+    (
+        NESTED,
+        5,
+        Some(Code::Lim),
+        5,
+        Some((2, &[Some(1)], &[(b'A', 19, &[])])),
+    ),
+    (
+        NESTED,
+        7,
+        Some(Code::Lim),
+        7,
+        Some((1, &[], &[(b'B', 2, &[Some(1)]), (b'A', 19, &[])])),
+    ),
 ];
 
 fn is_caller(call: &Call, caller: &Caller) -> bool {
@@ -70,7 +130,10 @@ fn is_caller(call: &Call, caller: &Caller) -> bool {
 
 fn are_callers(calls: &[Call], callers: &[Caller]) -> bool {
     calls.len() == callers.len()
-        && calls.iter().zip(callers).all(|(call, caller)| is_caller(call, caller))
+        && calls
+            .iter()
+            .zip(callers)
+            .all(|(call, caller)| is_caller(call, caller))
 }
 
 fn is_there(place: &Place, there: &There) -> bool {
