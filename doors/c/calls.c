@@ -125,12 +125,55 @@ static void looks(void)
     teco_close(&t);
 }
 
+/* Whether change k of string i is of this kind, for this register, after so many steps. */
+static int is(struct teco *t, size_t i, size_t k, uint8_t kind, uint8_t name, uint64_t step)
+{
+    uint8_t told_kind, told_name;
+    uint64_t told_step;
+    return teco_change(t, i, k, &told_kind, &told_name, &told_step) == 0 && told_kind == kind && told_name == name && told_step == step;
+}
+
+/* Whether it takes so many bytes out at a place, and puts so many in. */
+static int splices(struct teco *t, size_t i, size_t k, size_t at, size_t gone, size_t came)
+{
+    size_t told_at, told_gone, told_came;
+    return teco_splice(t, i, k, &told_at, &told_gone, &told_came) == 0 && told_at == at && told_gone == gone && told_came == came;
+}
+
+static void changes(void)
+{
+    struct teco t = {0};
+    uint8_t kind = 1, name = 1;
+    size_t one = 1, two = 1;
+    teco_open(&t, bytes("one\ftwo"), 7, 0);
+    HOLDS(run(&t, "Iabc\0332D7UQ", 0) == 20);
+    HOLDS(run(&t, "-DIxy\033@^U9/text/[9]Z", 0) == 0);
+    HOLDS(teco_changes(&t, 0, &n) == 0 && n == 1);
+    HOLDS(is(&t, 0, 0, TECO_KIND_SPLICE, 0, 0) && splices(&t, 0, 0, 0, 3, 0));
+    HOLDS(teco_changes(&t, 1, &n) == 0 && n == 5);
+    HOLDS(is(&t, 1, 0, TECO_KIND_SPLICE, 0, 1) && splices(&t, 1, 0, 2, 0, 1));
+    HOLDS(is(&t, 1, 1, TECO_KIND_SPLICE, 0, 2) && splices(&t, 1, 1, 2, 2, 0));
+    HOLDS(is(&t, 1, 2, TECO_KIND_TEXT, '9', 3) && is(&t, 1, 3, TECO_KIND_PUSH, 0, 4) && is(&t, 1, 4, TECO_KIND_POP, 'Z', 5));
+    HOLDS(teco_undo(&t) == 0 && splices(&t, 1, 0, 2, 1, 0) && splices(&t, 1, 1, 2, 0, 2));
+    HOLDS(is(&t, 1, 3, TECO_KIND_PUSH, 0, 4) && is(&t, 1, 4, TECO_KIND_POP, 'Z', 5) && splices(&t, 0, 0, 0, 3, 0));
+    HOLDS(teco_redo(&t) == 0 && splices(&t, 1, 1, 2, 2, 0));
+    HOLDS(run(&t, "7UqJ0^XSy\033EX", 0) == 0);
+    HOLDS(is(&t, 2, 0, TECO_KIND_NUMBER, 'Q', 1) && is(&t, 2, 1, TECO_KIND_POINT, 0, 2) && is(&t, 2, 2, TECO_KIND_MODE, 0, 4));
+    HOLDS(is(&t, 2, 3, TECO_KIND_SEARCH, 0, 5) && is(&t, 2, 4, TECO_KIND_FOUND, 0, 5) && is(&t, 2, 5, TECO_KIND_POINT, 0, 5));
+    HOLDS(is(&t, 2, 6, TECO_KIND_SPLICE, 0, 6) && is(&t, 2, 7, TECO_KIND_PAGES, 0, 6) && is(&t, 2, 8, TECO_KIND_DONE, 0, 6));
+    HOLDS(teco_changes(&t, 3, &n) == TECO_OUTSIDE && n == 0);
+    HOLDS(teco_change(&t, 1, 5, &kind, &name, &steps) == TECO_OUTSIDE && kind == 0 && name == 0 && steps == 0);
+    HOLDS(teco_splice(&t, 1, 2, &n, &one, &two) == TECO_OUTSIDE && n == 0 && one == 0 && two == 0);
+    teco_close(&t);
+}
+
 static void closed(void)
 {
     struct teco t = {0};
     int32_t number = 1;
     uint64_t k = 1;
-    size_t one = 1;
+    uint8_t kind = 1, name = 1;
+    size_t one = 1, two = 1, three = 1;
     memset(room, '.', sizeof room);
     n = steps = 1;
     HOLDS(run(&t, "2=", 64) == TECO_CLOSED && n == 0 && steps == 0);
@@ -139,6 +182,9 @@ static void closed(void)
     HOLDS((one = 1, teco_cursor(&t, &one)) == TECO_CLOSED && one == 0);
     HOLDS(teco_steps(&t, 0, &k) == TECO_CLOSED && k == 0);
     HOLDS((one = 1, teco_string(&t, 0, room, 64, &one)) == TECO_CLOSED && one == 0);
+    HOLDS((one = 1, teco_changes(&t, 0, &one)) == TECO_CLOSED && one == 0);
+    HOLDS((k = 1, teco_change(&t, 0, 0, &kind, &name, &k)) == TECO_CLOSED && kind == 0 && name == 0 && k == 0);
+    HOLDS((one = 1, teco_splice(&t, 0, 0, &one, &two, &three)) == TECO_CLOSED && one == 0 && two == 0 && three == 0);
     HOLDS((one = 1, teco_length(&t, &one)) == TECO_CLOSED && one == 0);
     HOLDS((one = 1, teco_pointer(&t, &one)) == TECO_CLOSED && one == 0);
     HOLDS((one = 1, teco_text(&t, 0, room, 64, &one)) == TECO_CLOSED && one == 0);
@@ -171,6 +217,7 @@ int main(void)
     runs();
     turns();
     looks();
+    changes();
     closed();
     many();
     return failed;

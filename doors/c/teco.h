@@ -59,11 +59,26 @@ enum {
     TECO_NTU = 30,        /* there is nothing to undo */
     TECO_NTR = 31,        /* there is nothing to redo */
     TECO_END = 32,        /* an exit has ended the session */
-    TECO_OUTSIDE = 251,   /* there is no such string, register or search text */
+    TECO_OUTSIDE = 251,   /* there is no such string, change, splice, register or search text */
     TECO_NOT_BEGUN = 252, /* the history found no memory for the string: it wasn't begun, and nothing changed */
     TECO_DEEP = 253,      /* the depth is above TECO_DEPTH_LIMIT */
     TECO_LARGE = 254,     /* the input is above TECO_INPUT_LIMIT */
     TECO_CLOSED = 255     /* the handle is closed */
+};
+
+/* What a change of a string is for. */
+enum {
+    TECO_KIND_SPLICE = 1,  /* bytes of the buffer's text, and the pointer: teco_splice tells which bytes */
+    TECO_KIND_POINT = 2,   /* the pointer */
+    TECO_KIND_NUMBER = 3,  /* the number of a register */
+    TECO_KIND_TEXT = 4,    /* the text of a register */
+    TECO_KIND_PUSH = 5,    /* the push-down list */
+    TECO_KIND_POP = 6,     /* the push-down list, and the number and the text of a register */
+    TECO_KIND_PAGES = 7,   /* the place in the input, the end of the output, and whether a form feed ended the page */
+    TECO_KIND_SEARCH = 8,  /* the last search text */
+    TECO_KIND_FOUND = 9,   /* whether the last search found */
+    TECO_KIND_DONE = 10,   /* whether an exit has ended the session */
+    TECO_KIND_MODE = 11    /* whether searches find a letter in either case */
 };
 
 /*
@@ -117,6 +132,32 @@ uint8_t teco_steps(struct teco *t, size_t i, uint64_t *steps);
 
 /* The text of string i: 0 or TECO_OUTSIDE. */
 uint8_t teco_string(struct teco *t, size_t i, uint8_t *room, size_t size, size_t *length);
+
+/*
+ * THE CHANGES OF A STRING
+ *   What a string changed is kept as changes, in the order in which its steps made them, counted from 0. An editor that shows the text
+ *   reads them to draw no more than what differs. An undo turns those of its string, the last first; a redo turns them, the first first.
+ *   To turn a change is to put its value in and to keep what stood there, so that it can be turned again, the other way. The calls here
+ *   tell of the turn that comes next: of the undo where string i is not undone (i is less than what teco_cursor tells), and else of the
+ *   redo. So before an undo or a redo, they tell what it will do; and after an undo, a redo or a run they tell how that would be taken
+ *   back or done again: `gone` are the bytes that it put in, and `came` those that it took out.
+ */
+
+/* How many changes string i has: 0 or TECO_OUTSIDE. A step makes at most six; many make none. */
+uint8_t teco_changes(struct teco *t, size_t i, size_t *count);
+
+/*
+ * What change k of string i is for, by its number above; the name of the register, A to Z or 0 to 9, or 0 where it is for none; and how
+ * many steps of the string were done before it: 0 or TECO_OUTSIDE. Nothing else differs once it is turned.
+ */
+uint8_t teco_change(struct teco *t, size_t i, size_t k, uint8_t *kind, uint8_t *name, uint64_t *step);
+
+/*
+ * Of change k of string i, where it is for bytes of the text: at the place `at` the next turn takes `gone` bytes out, and puts `came`
+ * others in. 0, or TECO_OUTSIDE also where the change is for something else. The places are those of the text at the moment when the
+ * turn comes to this change, after those that it turns before it.
+ */
+uint8_t teco_splice(struct teco *t, size_t i, size_t k, size_t *at, size_t *gone, size_t *came);
 
 /* The length of the buffer's text, and the place of the pointer in it. */
 uint8_t teco_length(struct teco *t, size_t *length);

@@ -31,6 +31,8 @@ with Session(b"apples 3\npears 5\nplums 8\n") as session:
 
     print("from the first state to this one:")
     show(states[0], lines(session))
+    splice = next(change for change in session.changes(2) if change.kind == "splice")
+    print(f"an undo takes {splice.gone} bytes out at {splice.at} and puts {splice.came} in")
     print("strings:", len(session.strings), "of them not undone:", session.cursor)
 
     for _ in range(3):

@@ -5,10 +5,16 @@ TECO_SHARED names the shared object. A Session closes itself; used in a `with` i
 
 import ctypes
 import os
+from collections import namedtuple
 from ctypes import POINTER, byref, c_int32, c_size_t, c_uint8, c_uint64, c_void_p
 
 TTY, NTU, NTR, END = 29, 30, 31, 32
 OUTSIDE, NOT_BEGUN, DEEP, LARGE, CLOSED = 251, 252, 253, 254, 255
+KINDS = (None, "splice", "point", "number", "text", "push", "pop", "pages", "search", "found", "done", "mode")
+
+# A change: its kind, the steps that were done before it, and the name of the register, if it is for one. Of a splice, the place in the
+# text, and how many bytes the next turn takes out there and puts in: the undo of its string, or the redo where that is undone.
+Change = namedtuple("Change", "kind step name at gone came", defaults=(None, None, None, None))
 
 
 class Handle(ctypes.Structure):
@@ -24,7 +30,9 @@ def _library():
         "run": [c_void_p, c_size_t, c_uint64, *room, size, word],
         "undo": [], "redo": [], "rewind": [c_uint64],
         "strings": [size], "cursor": [size], "steps": [c_size_t, word],
-        "string": [c_size_t, *room, size],
+        "string": [c_size_t, *room, size], "changes": [c_size_t, size],
+        "change": [c_size_t, c_size_t, POINTER(c_uint8), POINTER(c_uint8), word],
+        "splice": [c_size_t, c_size_t, size, size, size],
         "length": [size], "pointer": [size],
         "text": [c_size_t, *room, size], "output": [c_size_t, *room, size],
         "number": [c_uint8, POINTER(c_int32)], "register": [c_uint8, *room, size],
@@ -113,6 +121,20 @@ class Session:
     @property
     def cursor(self):
         return self._told(c_size_t, "cursor")
+
+    def _change(self, i, k):
+        kind, name, step = c_uint8(), c_uint8(), c_uint64()
+        self._call("change", i, k, byref(kind), byref(name), byref(step))
+        change = Change(KINDS[kind.value], step.value, chr(name.value) if name.value else None)
+        if change.kind != "splice":
+            return change
+        at, gone, came = c_size_t(), c_size_t(), c_size_t()
+        self._call("splice", i, k, byref(at), byref(gone), byref(came))
+        return change._replace(at=at.value, gone=gone.value, came=came.value)
+
+    def changes(self, i):
+        """The changes of a string, in the order in which its steps made them."""
+        return [self._change(i, k) for k in range(self._told(c_size_t, "changes", i))]
 
     def number(self, name):
         return self._told(c_int32, "number", ord(name))

@@ -1,15 +1,18 @@
 -- How the parts of a run make its end.
-use Rattle.std.proofs.Common.{◌≡◌, ◌≢◌, ◌⊎◌, inl, inr, ℕ, List, Option, sym, ◌∙◌, subst}
+use Rattle.std.proofs.Common.{◌≡◌, ◌≢◌, ◌⊎◌, inl, inr, ℕ, List, Option, sym, ◌∙◌, subst, true}
 use Rattle.std.specs.String.{string_bytes}
+use Rattle.std.specs.declared.alloc.Global.{Global}
+use Rattle.std.specs.declared.string.String.{String}
 use Rattle.std.specs.declared.io.Error.{Error}
 use Rattle.teco.specs.Disk.{Files}
 use Rattle.teco.specs.Ending.{fate_without_input, output_of}
 use Rattle.teco.specs.Seen.{CommandsSeen, DiskSeen, TerminalSeen}
-use Rattle.teco.specs.Run.{Doings, Edits, EndsBy, FailsToOpen, FailsToRead, FailsToWrite, Finishes, FinishesBy, IsFateOf, IsInput, KeepsDisk, LacksInput, ServesInput, WritesOutput, doings}
+use Rattle.teco.specs.Run.{Doings, Edits, EditsByCommands, EditsByLine, EndsBy, FailsToOpen, FailsToRead, FailsToWrite, Finishes, FinishesBy, IsFateOf, IsInput, KeepsDisk, LacksInput, ServesInput, WritesOutput, doings}
 use Rattle.teco.specs.declared.ending.Fate.{Fate}
 use Rattle.teco.specs.declared.ending.Fate.TheVariants.{NoCommands, NoInput, LargeInput, NoMemory, NoOutput, Ended}
 use Rattle.teco.specs.declared.input.InputFault.{InputFault}
 use Rattle.teco.specs.declared.input.InputFault.TheVariants as input
+use Rattle.teco.specs.declared.line.Commands.TheVariants.{Word}
 use Rattle.teco.specs.declared.line.Line.{Line}
 use Rattle.teco.specs.declared.served.Served.{Served}
 use Rattle.teco.specs.declared.served.Served.TheVariants as served
@@ -155,3 +158,16 @@ finishes_ends {line} {old} {new} {commands} {term} {name} {output} {served} {fat
   ends = subst (λ n. EndsBy (over old new n (doings line old new commands term)) fate) named
       (finishes_by (over old new name (doings line old new commands term)) output served fate s f.ends);
 }
+
+-- Where no read of the commands can fail, no run ends by a failed read.
+pub reads_all : {I : Type 0} {line : Line} {old new : DiskSeen I} {commands : CommandsSeen} {term : TerminalSeen} {fate : Fate}
+    → ((bytes : List ℕ) → commands.gave bytes true → ⊥) → Edits line old new commands term fate → fate ≢ Ended served.ReadFault
+reads_all {line} {old} {new} {commands} {term} never e is_fault =
+    let ends = subst (EndsBy (doings line old new commands term)) is_fault e.ends in
+    never ends.1.serves.bytes ends.1.serves.read
+
+-- a run by the commands of a word of the line
+pub by_word : {line : Line} {still standard : Type 0} {word file : List ℕ → Type 0} {text : String Global} {bytes : List ℕ}
+    → line.commands ≡ Word text → bytes ≡ string_bytes text → still → word bytes → EditsByLine line still standard word file
+by_word {still} {standard} {word} {file} is named kept run =
+    record { edits = subst (EditsByCommands still standard word file) (sym is) (kept, subst word named run) }

@@ -180,9 +180,10 @@ pub record LacksCommands (gave : Error → Type 0) (fate : Fate) : Type 0 where
   pub fate_is : IsFateOf error NoCommands fate
 
 -- By commands of the line's own: nothing is done where memory is refused for the word or the file is not
--- opened; else the run is over the bytes of the word, or over the file's.
+-- opened; else the run is over the bytes of the word, of which no read fails, or over the file's.
 abbrev pub EditsByWord : Type 0 → (List ℕ → Type 0) → Fate → List ℕ → Type 0
-EditsByWord idle word fate text = ((fate ≡ NoMemory) × idle) ⊎ word (map typed text)
+EditsByWord idle word fate text = ((fate ≡ NoMemory) × idle)
+    ⊎ (word (map typed text) × (fate ≢ Ended served.ReadFault))
 
 abbrev pub EditsByFile : (Error → Type 0) → Type 0 → (List ℕ → Type 0) → Fate → List ℕ → Type 0
 EditsByFile gave idle file fate name = (LacksCommands gave fate × idle) ⊎ file name

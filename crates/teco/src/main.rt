@@ -9,6 +9,7 @@ mod input;
 mod line;
 #[cfg(test)]
 mod memory_disk;
+#[cfg(test)]
 mod memory_source;
 mod output;
 mod place;
@@ -20,6 +21,7 @@ mod source;
 mod splitter;
 #[cfg(test)]
 mod tests;
+mod word_source;
 
 use crate::file_disk::FileDisk;
 use crate::line::{LineFault, fault_of_words, not_text};

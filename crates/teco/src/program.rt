@@ -18,11 +18,11 @@ use crate::disk::Disk;
 use crate::ending::{Fate, ending};
 use crate::input::read_input;
 use crate::line::{Commands, Line, LineFault, commands_in, line_of, output_name, refused_status};
-use crate::memory_source::MemorySource;
 use crate::output::write_output;
 use crate::served::Served;
 use crate::serving::serve;
 use crate::source::Source;
+use crate::word_source::WordSource;
 use std::alloc::Global;
 use std::fmt::Write;
 use std::io::ErrorKind;
@@ -168,8 +168,8 @@ fn edit_by_word<T: Terminal, D: Disk>(
     requires depth { IfSome line.now.undo IsDepth }
     ensures { let seen = disk_seen D.files D.left D.gave
         (source_view D.Input.coming D.Input.bound D.Input.failures D.Input.ended) in
-        let word_view = source_view ⟦<MemorySource as Source>⟧.coming ⟦<MemorySource as Source>⟧.bound
-        ⟦<MemorySource as Source>⟧.failures ⟦<MemorySource as Source>⟧.ended in
+        let word_view = source_view ⟦<WordSource as Source>⟧.coming ⟦<WordSource as Source>⟧.bound
+        ⟦<WordSource as Source>⟧.failures ⟦<WordSource as Source>⟧.ended in
         EditsByWord ((term.new ≡ term.old) × KeepsDisk (seen disk.old) (seen disk.new))
         (λ bytes. RunsOn word_view (λ coming. coming ≡ Some bytes)
         (λ given. Edits line.now (seen disk.old) (seen disk.new) given
@@ -179,7 +179,7 @@ fn edit_by_word<T: Terminal, D: Disk>(
     let Ok(bytes) = commands_in(alloc, word) else {
         return Fate::NoMemory;
     };
-    let mut commands = MemorySource::new(bytes, Vec::new(alloc), false);
+    let mut commands = WordSource::new(bytes);
     edit(alloc, line, number, &mut commands, term, disk)
 }
 
@@ -220,8 +220,8 @@ fn edit_by_line<S: Source, T: Terminal, D: Disk>(
     requires depth { IfSome line.now.undo IsDepth }
     ensures { let seen = disk_seen D.files D.left D.gave
         (source_view D.Input.coming D.Input.bound D.Input.failures D.Input.ended) in
-        let word_view = source_view ⟦<MemorySource as Source>⟧.coming ⟦<MemorySource as Source>⟧.bound
-        ⟦<MemorySource as Source>⟧.failures ⟦<MemorySource as Source>⟧.ended in
+        let word_view = source_view ⟦<WordSource as Source>⟧.coming ⟦<WordSource as Source>⟧.bound
+        ⟦<WordSource as Source>⟧.failures ⟦<WordSource as Source>⟧.ended in
         let edits : CommandsSeen → Type 0 = λ given. Edits line.now (seen disk.old) (seen disk.new)
         given (terminal_seen T.screen term.old term.new) result in
         let idle : Type 0 = (term.new ≡ term.old) × KeepsDisk (seen disk.old) (seen disk.new) in
@@ -321,8 +321,8 @@ pub fn program<S: Source, T: Terminal, E: Terminal, D: Disk>(
         ⊎ RunsOver words
         (λ line fate. let seen = disk_seen D.files D.left D.gave
         (source_view D.Input.coming D.Input.bound D.Input.failures D.Input.ended) in
-        let word_view = source_view ⟦<MemorySource as Source>⟧.coming ⟦<MemorySource as Source>⟧.bound
-        ⟦<MemorySource as Source>⟧.failures ⟦<MemorySource as Source>⟧.ended in
+        let word_view = source_view ⟦<WordSource as Source>⟧.coming ⟦<WordSource as Source>⟧.bound
+        ⟦<WordSource as Source>⟧.failures ⟦<WordSource as Source>⟧.ended in
         let edits : CommandsSeen → Type 0 = λ given. Edits line (seen disk.old) (seen disk.new)
         given (terminal_seen T.screen term.old term.new) fate in
         let idle : Type 0 = (term.new ≡ term.old) × KeepsDisk (seen disk.old) (seen disk.new) in

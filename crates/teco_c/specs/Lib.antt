@@ -3,3 +3,4 @@ pub mod Numbers
 pub mod Rooms
 pub mod Calls
 pub mod Looks
+pub mod Changes

@@ -16,7 +16,7 @@ pub const DEEP: u8 = 253;
 /// The history found no memory for the string.
 pub const NOT_BEGUN: u8 = 252;
 
-/// There is no such string, or no such register.
+/// There is no such string, change or splice, no such register, or no search text.
 pub const OUTSIDE: u8 = 251;
 
 /// The number that tells an answer: of its code, 0 where it has none, and one of its own where the string was not begun.

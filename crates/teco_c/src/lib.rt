@@ -5,8 +5,10 @@
 
 mod answers;
 mod calls;
+mod changes;
 mod handle;
 mod history;
+mod kinds;
 mod parts;
 mod room;
 mod state;

@@ -5,15 +5,16 @@ use Rattle.teco_core.specs.declared.code.Code.{Code}
 use Rattle.teco_scan.specs.declared.token.Token.{Token as ScannedToken}
 use Rattle.teco_scan.specs.declared.token.Found.{Found}
 use Rattle.teco_scan.specs.declared.token.Found.TheVariants.{Token}
-use Rattle.teco_exec.specs.Machine.{Caller, Config, Cursor as MachineCursor, block, Now, runs, halts, ready_where_comes, ready_of, pass, after_text_end, step, run_within}
+use Rattle.teco_exec.specs.CursorMoves.{Cursor as MachineCursor, pass}
+use Rattle.teco_exec.specs.Machine.{Caller, Config, block, Now, runs, halts, ready_where_comes, ready_of, after_text_end, step, finished, run_within}
 use Rattle.teco_exec.specs.View.{cursor_at_start, coming_of, cursor, item_of_kind, block_step_of}
-use Rattle.teco_exec.specs.Running.{goes, over, config, ready_run, at_cursor, at_token, at_block_step, at_return, Origin, Host, Continuation, RunGoesOn, ReachesContinuation, ReachesEnd, at_beginning, at_call, cursor_after_call, host, Reaches, code_left, reached_by_exit, reached_after_call, now_at, whole_run}
+use Rattle.teco_exec.specs.Running.{goes, over, config, ready_run, at_cursor, at_token, at_block_step, at_return, Origin, Host, Continuation, RunGoesOn, Alike, sight, ReachesContinuation, ReachesEnd, at_beginning, at_call, cursor_after_call, host, Reaches, code_left, reached_by_exit, reached_after_call, now_at, whole_run}
 use Rattle.teco_exec.specs.declared.cursor.Cursor.{Cursor}
 use Rattle.teco_exec.specs.declared.moves.BlockStep.{BlockStep}
 use Rattle.teco_exec.specs.declared.moves.Coming.{Coming}
 use Rattle.teco_exec.specs.declared.moves.Coming.TheVariants.{Passed, Step, Block, End, Fault}
-use Rattle.teco_exec.proofs.MachineMeans.{arrives_step, halted, run_ready, arrives_stays}
-use Rattle.teco_exec.proofs.Going.{Settles, continues, settles, now_there, shows_nothing, since}
+use Rattle.teco_exec.proofs.MachineMeans.{arrives_step, halted, halts_ready, no_steps, run_ready, arrives_stays}
+use Rattle.teco_exec.proofs.Going.{Settles, alike, also, continues, settles, now_there, shows_nothing, since}
 use Rattle.teco_scan.specs.ListLaws.{BlockLaws}
 use Rattle.teco_exec.proofs.Passing.{Shorter, pass_short}
 use Rattle.std.proofs.lemmas.Bool.Decides.{nat_tests}
@@ -27,51 +28,59 @@ use Rattle.teco_exec.specs.declared.flow.Exit.{Exit}
 use Rattle.teco_exec.specs.declared.flow.Exit.TheVariants as ending
 
 -- A text is over: what it leaves is all that its caller sees.
-returns : (fuel : ℕ) (text : List ℕ) (c : MachineCursor) (callers : List Caller) (now : Now)
-    → ready_run fuel (ready_of (after_text_end (config text c None callers now) callers)) ≡ ready_run fuel (at_return c.args callers now)
-returns fuel text c [] now =
-    sym (run_ready fuel (halts (config text c None [] now) None)) ∙ halted fuel (config text c None [] now) None
-    ∙ sym (halted fuel (config [] (cursor_at_start c.args []) None [] now) None) ∙ run_ready fuel (halts (config [] (cursor_at_start c.args []) None [] now) None)
-returns fuel text c (b ∷ bs) now = refl
+returns : (text : List ℕ) (c : MachineCursor) (callers : List Caller) (now : Now)
+    → Alike (ready_of (after_text_end (config text c None callers now) callers)) (at_return c.args callers now)
+returns text c [] now =
+    let from : Config = config text c None [] now in
+    let to : Config = config [] (cursor_at_start c.args []) None [] now in
+    record {
+      runs = λ fuel. sym (run_ready fuel (halts from None)) ∙ halted fuel from None ∙ sym (halted fuel to None) ∙ run_ready fuel (halts to None);
+      stands = ap sight (halts_ready from None) ∙ sym (ap sight (halts_ready to None));
+    }
+returns text c (b ∷ bs) now = alike refl
 
 module _ (laws : BlockLaws) (old to : Cursor) (found : Found) (callers : List Caller) where
   abbrev here : Now → Config
   here now = config old.text.now (cursor old) None callers now
 
-  ready : (n : Coming) → coming_of to found n ≡ pass (cursor old) → (now : Now) (fuel : ℕ) → ready_run fuel (at_cursor old callers now) ≡ ready_run fuel (ready_where_comes ready_of (here now) (coming_of to found n))
-  ready n e now fuel = ap (ready_run fuel) (arrives_step laws (here now) ∙ ap (ready_where_comes ready_of (here now)) (sym e))
+  ready : (n : Coming) → coming_of to found n ≡ pass (cursor old) → (now : Now) → at_cursor old callers now ≡ ready_where_comes ready_of (here now) (coming_of to found n)
+  ready n e now = arrives_step laws (here now) ∙ ap (ready_where_comes ready_of (here now)) (sym e)
 
   pub passes_on : to.text ≡ old.text → coming_of to found Passed ≡ pass (cursor old) → Settles (at_cursor old callers) (goes (at_cursor to callers))
-  passes_on text e now fuel =
-      ready Passed e now fuel ∙ ap (λ t. ready_run fuel (ready_of (runs (config t.now (cursor to) None callers now)))) (sym text)
+  passes_on text e now =
+      alike (ready Passed e now ∙ ap (λ t. ready_of (runs (config t.now (cursor to) None callers now))) (sym text))
 
   pub passes_short : coming_of to found Passed ≡ pass (cursor old) → length (cursor to).left < length (cursor old).left
   passes_short e = subst (Shorter (length (cursor old).left)) (sym e) (pass_short laws (cursor old))
 
   pub comes_token : to.text ≡ old.text → (token : ScannedToken) → found ≡ Token token → coming_of to found Step ≡ pass (cursor old) → Settles (at_cursor old callers) (goes (at_token to token None callers))
-  comes_token text token is e now fuel =
-      ready Step e now fuel ∙ ap (λ f. ready_run fuel (ready_where_comes ready_of (here now) (coming_of to f Step))) is
-      ∙ ap (λ t. ready_run fuel (step token.modifiers (item_of_kind to.text.now token.kind) None (config t.now (cursor to) None callers now))) (sym text)
+  comes_token text token is e now =
+      alike (ready Step e now ∙ ap (λ f. ready_where_comes ready_of (here now) (coming_of to f Step)) is
+      ∙ ap (λ t. step token.modifiers (item_of_kind to.text.now token.kind) None (config t.now (cursor to) None callers now)) (sym text))
 
   pub comes_block : to ≡ old → (o : BlockStep) (after : ℕ) → coming_of to found (Block o after) ≡ pass (cursor old) → Settles (at_cursor old callers) (goes (at_block_step to o after callers))
-  comes_block same o after e now fuel =
-      ready (Block o after) e now fuel ∙ ap (λ (c : Cursor). ready_run fuel (block (block_step_of o) (drop after to.text.now) (config c.text.now (cursor c) None callers now))) (sym same)
+  comes_block same o after e now =
+      alike (ready (Block o after) e now ∙ ap (λ (c : Cursor). block (block_step_of o) (drop after to.text.now) (config c.text.now (cursor c) None callers now)) (sym same))
 
   pub comes_over : to ≡ old → coming_of to found End ≡ pass (cursor old) → Settles (at_cursor old callers) (goes (at_return (arguments to.args) callers))
-  comes_over same e now fuel =
-      ready End e now fuel ∙ returns fuel old.text.now (cursor old) callers now ∙ ap (λ (c : Cursor). ready_run fuel (at_return (arguments c.args) callers now)) (sym same)
+  comes_over same e now =
+      also (alike (ready End e now)) (also (returns old.text.now (cursor old) callers now) (alike (ap (λ (c : Cursor). at_return (arguments c.args) callers now) (sym same))))
 
   pub comes_fault : (code : Code) → coming_of to found (Fault code) ≡ pass (cursor old) → Settles (at_cursor old callers) (over (Some code))
-  comes_fault code e now zero = ready (Fault code) e now zero
-  comes_fault code e now (suc fuel) = ready (Fault code) e now (suc fuel)
+  comes_fault code e now zero = ap (ready_run zero) (ready (Fault code) e now)
+  comes_fault code e now (suc fuel) = ap (ready_run (suc fuel)) (ready (Fault code) e now)
+
+  -- what it is ready for at a fault
+  pub faults : (code : Code) → coming_of to found (Fault code) ≡ pass (cursor old) → (now : Now) → at_cursor old callers now ≡ finished (here now) (Some code)
+  faults code e now = ready (Fault code) e now
 
 -- A text is at its beginning.
 pub begins : (o : Origin) (h : Host) (a : Arguments) (text : List ℕ) (c : Cursor) (callers : List Caller) → c.text.now ≡ text → cursor c ≡ cursor_at_start a text
     → RunGoesOn o h (at_beginning a text callers) → ReachesContinuation o h h (at_cursor c callers)
 begins o h a text c callers same e g =
-    continues o h (at_beginning a text callers) g (at_cursor c callers) (λ now fuel.
-    ap (λ x. ready_run fuel (ready_of (runs (config x (cursor_at_start a text) None callers now)))) (sym same)
-    ∙ ap (λ x. ready_run fuel (ready_of (runs (config c.text.now x None callers now)))) (sym e))
+    continues o h (at_beginning a text callers) g (at_cursor c callers) (λ now.
+    alike (ap (λ x. ready_of (runs (config x (cursor_at_start a text) None callers now))) (sym same)
+    ∙ ap (λ x. ready_of (runs (config c.text.now x None callers now))) (sym e)))
 
 -- a text that has called another
 abbrev pub caller : Cursor → Caller
@@ -93,14 +102,14 @@ module _ (o : Origin) (h : Host) (c : Cursor) (text : List ℕ) (callers : List 
   pub enters : length callers < 32 → ReachesContinuation o h h (at_beginning (cursor c).args text (caller c ∷ callers))
   enters few =
       let so : (length callers == 32) ≡ false = grind (arith, nat_tests) in
-      continues o h (at_call c text callers) g (at_beginning (cursor c).args text (caller c ∷ callers)) (λ now fuel. ap (λ b. ready_run fuel (chosen b now)) so)
+      continues o h (at_call c text callers) g (at_beginning (cursor c).args text (caller c ∷ callers)) (λ now. alike (ap (λ b. chosen b now) so))
 
 -- and back from there, with the arguments that it left
 pub comes_back : (a : Arguments) (c d : Cursor) (callers : List Caller) → d.text ≡ c.text → cursor d ≡ cursor_after_call a (cursor c)
     → Settles (at_return a (caller c ∷ callers)) (goes (at_cursor d callers))
-comes_back a c d callers text e now fuel =
-    ap (λ x. ready_run fuel (ready_of (runs (config c.text.now x None callers now)))) (sym e)
-    ∙ ap (λ t. ready_run fuel (ready_of (runs (config t.now (cursor d) None callers now)))) (sym text)
+comes_back a c d callers text e now =
+    alike (ap (λ x. ready_of (runs (config c.text.now x None callers now))) (sym e)
+    ∙ ap (λ t. ready_of (runs (config t.now (cursor d) None callers now))) (sym text))
 
 -- A called text is over: its caller goes on, or the run is over.
 pub comes_home : (o : Origin) (h k : Host) (a : Arguments) (c d : Cursor) (callers : List Caller) → d.text ≡ c.text → cursor d ≡ cursor_after_call a (cursor c) → (x : Exit)
@@ -109,6 +118,7 @@ comes_home o h k a c d callers text e ending.Return r =
     let back = continues o k (at_return a (caller c ∷ callers)) r.going (at_cursor d callers) (comes_back a c d callers text e) in
     record { going = back.going; follows = r.follows }
 comes_home o h k a c d callers text e (ending.Over code) r = r
+comes_home o h k a c d callers text e (ending.Stop code) r = r
 
 -- After a step, or what uses none, less is left: steps of the limit, or bytes of the text.
 pub less_left : (limit k j n x y : ℕ) → k ≤ j → j ≤ limit → y ≤ n → (k < j) ⊎ (y < x) → (limit - j) * (n + 1) + y < (limit - k) * (n + 1) + x
@@ -133,6 +143,7 @@ whole_begins means o F a none =
       state = sym (ap (λ (x : Now). x.state) now);
       shows = subst (λ typed. Shows o.screen o.screen typed false) (sym (ap (λ (x : Now). x.typed) now)) (shows_nothing o.screen);
       leads = λ fuel. all fuel ∙ ap (λ x. ready_run fuel (at_beginning x o.text [] (first_now o))) (sym none) ∙ ap (λ x. ready_run fuel (at_beginning a o.text [] x)) (sym now);
+      stands = ap (λ m. sight (ready_of m)) (no_steps (whole_run o)) ∙ ap (λ x. sight (at_beginning x o.text [] (first_now o))) (sym none) ∙ ap (λ x. sight (at_beginning a o.text [] x)) (sym now);
     }
 
 pub whole_ends : (o : Origin) (before after : Host) (a : Arguments) (exit : Exit) (code : Option Code) → code ≡ code_left exit → after.steps ≤ o.limit → Reaches o before after (reached_by_exit a [] exit) → ReachesEnd o before after code
@@ -142,3 +153,4 @@ whole_ends o before after a ending.Return code is le r =
     let there : Config = config [] (cursor_at_start a []) None [] now in
     sym (run_ready fuel (halts there None)) ∙ halted fuel there None)))
 whole_ends o before after a (ending.Over left) code is le r = subst (ReachesEnd o before after) (sym is) r
+whole_ends o before after a (ending.Stop left) code is le r = subst (ReachesEnd o before after) (sym is) r

@@ -15,8 +15,9 @@ use Rattle.teco_exec.specs.World.{World, WorldAndEnd, pay, pay_from}
 use Rattle.teco_exec.specs.Meaning.{then_rest, run_step, run_iteration, run_conditional, first_setting, leave_comes, list_by, meaning, after_part, run_turn, turns_of, turns_by}
 use Rattle.teco_scan.specs.Lists.{Close, closed, broken, Past, past, Listed, wrong, behind_block, put, second, at_scan, list_at}
 use Rattle.teco_scan.specs.ListLaws.{BlockLaws}
-use Rattle.teco_exec.specs.Machine.{Frame, Cursor, CursorOrError, Coming, passed_to, step_comes, block_comes, end_comes, fault_comes, BlockStep, Caller, Final, innermost_kind, inside_iteration, setting_of, leave_is_next, after_skip, after_block_end, passed_or_fault, pass_opening, pass_mark, pass_instruction, pass_scanned, pass, inside_block, after_counted_start, after_iteration_start, next_turn_or_end, inside_second_part, inside_chosen_part, after_leaving_block, after_leaving_iteration}
-use Rattle.teco_exec.specs.Machine as machine
+use Rattle.teco_exec.specs.CursorMoves.{Frame, Cursor, CursorOrError, Coming, passed_to, step_comes, block_comes, end_comes, fault_comes, BlockStep, innermost_kind, inside_iteration, leave_is_next, after_skip, after_block_end, passed_or_fault, pass_opening, pass_mark, pass_instruction, pass_scanned, pass, inside_block, after_counted_start, after_iteration_start, next_turn_or_end, inside_second_part, inside_chosen_part, after_leaving_block, after_leaving_iteration}
+use Rattle.teco_exec.specs.Machine.{Caller, Final, setting_of}
+use Rattle.teco_exec.specs.CursorMoves as machine
 use Rattle.teco_exec.proofs.Sentences.{unrolls}
 use Rattle.teco_exec.proofs.Passing.{at, IsPart, Passes, text_ends, faults, item_comes, tag_passes, escape_passes, iteration_opens, conditional_opens, turn_ends, part_ends, part_faults, passes}
 use Rattle.teco_exec.proofs.Denoting.{after, here, whole, block_end, follows, around, goes_on, finals, under, after_iteration, after_conditional, Fits, FitsMoved}

@@ -9,7 +9,8 @@ use Rattle.teco_exec.specs.Meaning.{then_rest, after_turn, after_part, run_step,
 use Rattle.teco_exec.specs.Meaning as meant
 use Rattle.teco_exec.specs.StringMeaning.{code_of}
 use Rattle.teco_scan.specs.Lists.{Close, Past, past, Listed, behind, second, behind_block, list_at, nodes}
-use Rattle.teco_exec.specs.Machine.{Frame, Cursor, CursorOrError, Caller, Final, innermost_kind, inside_iteration}
+use Rattle.teco_exec.specs.CursorMoves.{Frame, Cursor, CursorOrError, innermost_kind, inside_iteration}
+use Rattle.teco_exec.specs.Machine.{Caller, Final}
 
 -- the list in these blocks from the bytes on
 abbrev pub here : List Frame → List ℕ → Listed

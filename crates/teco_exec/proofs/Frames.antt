@@ -10,8 +10,8 @@ use Rattle.teco_scan.specs.declared.blocks.Kind.TheVariants.{Iter, Then, Else}
 use Rattle.teco_exec.specs.Frames.{EndsTurn, frame, frames, has_iteration, in_turn, kind_of, list_start, next_body, next_turn}
 use Rattle.teco_scan.specs.Lists.{Close, Past, past, behind_block, list_at, tag_at}
 use Rattle.teco_scan.specs.Lists as lists
-use Rattle.teco_exec.specs.Machine.{Frame, pass_text_end, end_comes, Cursor, Coming, after_leaving_block, after_leaving_iteration, passed_or_fault, after_skip, inside_second_part, passed_to, block_comes, fault_comes, after_block_end, inside_iteration, after_jump, after_tag_or}
-use Rattle.teco_exec.specs.Machine as machine
+use Rattle.teco_exec.specs.CursorMoves.{Frame, pass_text_end, end_comes, Cursor, Coming, after_leaving_block, after_leaving_iteration, passed_or_fault, after_skip, inside_second_part, passed_to, block_comes, fault_comes, after_block_end, inside_iteration, after_jump, after_tag_or}
+use Rattle.teco_exec.specs.CursorMoves as machine
 use Rattle.teco_exec.specs.declared.blocks.Block.{Block}
 use Rattle.teco_exec.specs.declared.blocks.Body.{Body}
 use Rattle.teco_exec.specs.declared.blocks.Body.TheVariants as body
@@ -89,6 +89,11 @@ begin_closed bs outer (Some b) e h = begin_outer e h
 
 pub closed_same : {mid old : List Block} (new : List Block) (closed : Option Block) → mid ≡ old → Closes mid new closed → Closes old new closed
 closed_same new closed e h = subst (λ (bs : List Block). Closes bs new closed) e h
+
+-- the innermost was seen before it was closed
+pub closes_top : {bs outer : List Block} (b : Block) (new : List Block) (closed : Option Block) → bs ≡ b ∷ outer → Closes bs new closed → bs ≡ b ∷ new
+closes_top {bs = bs} {outer = outer} b new None e h = absurd (let x : b ∷ outer ≡ [] = sym e ∙ h.0 in cc)
+closes_top {bs = bs} {outer = outer} b new (Some x) e h = let both : b ∷ outer ≡ x ∷ new = sym e ∙ h in let same : x ≡ b = cc in subst (λ (y : Block). bs ≡ y ∷ new) same h
 
 -- in the next turn
 turned_begin : {n : ℕ} (b : Block) (outer : List Block) (x : Option Body) (new : List Block) → in_turn b outer x ≡ Some new → Begin n (b ∷ outer) → Begin n new

@@ -7,12 +7,13 @@ use Rattle.teco_core.specs.declared.code.Code.TheVariants.{Lim, Mem, Tty}
 use Rattle.teco_store.specs.State.{State}
 use Rattle.teco_store.specs.Trail.{Trail, moved, stepped}
 use Rattle.teco_step.specs.Terminal.{Screen, Shows, IsFrontOf, count_after}
-use Rattle.teco_exec.specs.Machine.{Final, Now, run_within}
+use Rattle.teco_exec.specs.Machine.{Final, Machine, Now, Ready, after_steps, ready_of, run_within}
+use Rattle.teco_exec.specs.Places.{after_coming}
 use Rattle.teco_exec.specs.StringMeaning.{StringMeaning, string_meaning}
 use Rattle.teco_exec.specs.Runs.{Runs, EndsWell, is_tty, trail_of}
-use Rattle.teco_exec.specs.Running.{Origin, Host, host, Continuation, RunGoesOn, StillFollows, ReachesContinuation, ReachesEnd, Reached, goes, over, Reaches, reached_run, ready_run, whole_run, now_at, ended_by, IsFinished}
+use Rattle.teco_exec.specs.Running.{Origin, Host, host, Continuation, RunGoesOn, StillFollows, ReachesContinuation, ReachesEnd, Reached, goes, over, Reaches, Alike, Comes, sight, reached_run, ready_run, whole_run, now_at, ended_by, IsFinished}
 use Rattle.teco_exec.specs.MachineLaws.{MachineMeans}
-use Rattle.teco_exec.proofs.MachineMeans.{final_now, Stays, ready_fuel}
+use Rattle.teco_exec.proofs.MachineMeans.{after_more, final_now, paid_run, paid_steps, run_ready, Stays, ready_fuel}
 
 -- One piece of what a terminal shows after another.
 pub shows_nothing : (w : Screen) → Shows w w [] false
@@ -47,7 +48,13 @@ since o first before after (over code) f r = record { typed = r.typed; runs = r.
 
 -- A continuation comes to what is reached.
 abbrev pub Settles : Continuation → Reached → Type 0
-Settles next d = (now : Now) (fuel : ℕ) → ready_run fuel (next now) ≡ reached_run fuel now d
+Settles next d = (now : Now) → Comes (next now) now d
+
+pub alike : {r q : Ready} → r ≡ q → Alike r q
+alike e = record { runs = λ fuel. ap (ready_run fuel) e; stands = ap sight e }
+
+pub also : {r q p : Ready} → Alike r q → Alike q p → Alike r p
+also a b = record { runs = λ fuel. a.runs fuel ∙ b.runs fuel; stands = a.stands ∙ b.stands }
 
 -- neither want of memory nor a failed terminal
 abbrev pub EndsByItself : Reached → Type 0
@@ -58,8 +65,13 @@ EndsByItself (over code) = IsFinished code
 abbrev pub advanced : State → List ℕ → ℕ → Now → Now
 advanced t bytes n now = record { state = t; typed = now.typed ++ bytes; load = now.load + n }
 
+pub record PaysFor (r q : Ready) : Type 0 where
+  pub machine : Machine
+  pub comes : after_coming r ≡ Some machine
+  pub leads : ready_of machine ≡ q
+
 abbrev pub Pays : Continuation → Continuation → State → State → List ℕ → ℕ → Type 0
-Pays next further s t bytes n = (now : Now) → now.state ≡ s → (fuel : ℕ) → ready_run (suc fuel) (next now) ≡ ready_run fuel (further (advanced t bytes n now))
+Pays next further s t bytes n = (now : Now) → now.state ≡ s → PaysFor (next now) (further (advanced t bytes n now))
 
 module _ (o : Origin) (h : Host) (next : Continuation) (g : RunGoesOn o h next) where
   pub ends_here : (code : Option Code) → IsFinished code → h.steps ≤ o.limit
@@ -93,7 +105,7 @@ module _ (o : Origin) (h : Host) (next : Continuation) (g : RunGoesOn o h next) 
   -- what uses no step
   pub continues : (further : Continuation) → Settles next (goes further) → ReachesContinuation o h h further
   continues further e = record {
-    going = record { means = g.means; state = g.state; shows = g.shows; leads = λ fuel. g.leads fuel ∙ e (now_at o h.steps) fuel };
+    going = record { means = g.means; state = g.state; shows = g.shows; leads = λ fuel. g.leads fuel ∙ (e (now_at o h.steps)).runs fuel; stands = g.stands ∙ (e (now_at o h.steps)).stands };
     follows = λ floor p. p;
   }
 
@@ -109,7 +121,17 @@ module _ (o : Origin) (h : Host) (next : Continuation) (g : RunGoesOn o h next) 
     leads_on : (fuel : ℕ) → run_within (h.steps + 1 + fuel) (whole_run o) ≡ ready_run fuel (further later_now)
     leads_on fuel =
         let paid : h.steps + 1 + fuel ≡ h.steps + suc fuel = omega arith in
-        ap (λ k. run_within k (whole_run o)) paid ∙ g.leads (suc fuel) ∙ pays (now_at o h.steps) (sym g.state) fuel
+        let p = pays (now_at o h.steps) (sym g.state) in
+        ap (λ k. run_within k (whole_run o)) paid ∙ g.leads (suc fuel) ∙ paid_run (next (now_at o h.steps)) p.machine p.comes fuel ∙ run_ready fuel p.machine ∙ ap (ready_run fuel) p.leads
+
+    -- what the machine is ready for then
+    stands_on : ready_of (after_steps (h.steps + 1) (whole_run o)) ≡ further later_now
+    stands_on =
+        let one : h.steps + 1 ≡ suc h.steps = omega arith in
+        let p = pays (now_at o h.steps) (sym g.state) in
+        let here = ready_of (after_steps h.steps (whole_run o)) in
+        let comes : after_coming here ≡ Some p.machine = ap (λ x. x.1) g.stands ∙ p.comes in
+        ap (λ k. ready_of (after_steps k (whole_run o))) one ∙ ap ready_of (after_more h.steps (whole_run o) ∙ paid_steps here p.machine comes) ∙ p.leads
 
     now_later : now_at o (h.steps + 1) ≡ later_now
     now_later = now_there g.means o (h.steps + 1) further later_now leads_on (stays later_now)
@@ -125,6 +147,7 @@ module _ (o : Origin) (h : Host) (next : Continuation) (g : RunGoesOn o h next) 
             state = state ∙ sym (ap (λ (x : Now). x.state) now_later);
             shows = subst (λ typed. Shows o.screen later.screen typed false) (sym (ap (λ (x : Now). x.typed) now_later)) (shows_on g.shows shows);
             leads = λ fuel. leads_on fuel ∙ ap (λ x. ready_run fuel (further x)) (sym now_later);
+            stands = ap sight (stands_on ∙ ap further (sym now_later));
           };
           follows = λ floor p.
               subst (λ load. later.follows (record (told floor (h.steps + 1)) { load = load })) (sym (ap (λ (x : Now). x.load) now_later))

@@ -12,4 +12,8 @@ pub mod Going
 pub mod Stepped
 pub mod Continuations
 pub mod NoMemory
+pub mod Standings
+pub mod Fronts
+pub mod Turns
+pub mod Placings
 pub mod Semicolons

@@ -14,8 +14,9 @@ use Rattle.teco_exec.specs.Meaning.{meaning}
 use Rattle.teco_exec.specs.StringMeaning.{string_run}
 use Rattle.teco_scan.specs.Lists.{closed}
 use Rattle.teco_scan.specs.ListLaws.{BlockLaws}
-use Rattle.teco_exec.specs.Machine.{Frame, Cursor, CursorOrError, Coming, passed_to, step_comes, block_comes, end_comes, fault_comes, BlockStep, Caller, Further, Config, Machine, runs, halts, Ready, step, block, finished, Final, final, innermost_kind, inside_iteration, after_leaving_iteration, after_jump, setting_of, runs_or_halts, in_called_text, after_step_end, after_token_step, after_text_end, ready_where_comes, ready_at, ready_within, ready_of, bytes_of_callers, bytes_left, after_paid_step, final_without_fuel, final_with_fuel, run_within, after_steps, start_config, pass, after_block_step, Now, now_of}
-use Rattle.teco_exec.specs.Machine as machine
+use Rattle.teco_exec.specs.CursorMoves.{Frame, Cursor, CursorOrError, Coming, passed_to, step_comes, block_comes, end_comes, fault_comes, BlockStep, innermost_kind, inside_iteration, after_leaving_iteration, after_jump, pass, after_block_step}
+use Rattle.teco_exec.specs.Machine.{Caller, Further, Config, Machine, runs, halts, Ready, step, block, finished, Final, final, setting_of, runs_or_halts, after_step_end, after_text_end, ready_where_comes, ready_at, ready_within, ready_of, bytes_of_callers, bytes_left, after_paid_step, final_without_fuel, final_with_fuel, run_within, after_steps, start_config, Now, now_of}
+use Rattle.teco_exec.specs.CursorMoves as machine
 use Rattle.teco_exec.specs.MachineLaws.{MachineMeans, MachineFollows}
 use Rattle.teco_step.specs.Laws.{LeavesInside}
 use Rattle.teco_exec.proofs.Denoting.{after_conditional, after_iteration, here, whole, block_end, around, finals, under, Fits, FitsAt, FitsUnder}
@@ -23,6 +24,7 @@ use Rattle.teco_exec.proofs.CursorMeans.{from, at_step, at_block_step, coming_me
 use Rattle.teco_exec.proofs.Passing.{TurnEnds, turn, FitsStep, FitsComing, Shorter, pass_keeps, pass_short}
 use Rattle.teco_exec.proofs.Resuming.{world_of, further_means, means, Good, going_leads, resumed_leads}
 use Rattle.teco_core.specs.declared.code.Code.{Code}
+use Rattle.teco_exec.specs.Places.{after_coming}
 use Rattle.teco_exec.specs.Running.{Continuation, ready_run}
 
 abbrev ready_means : Ready → ℕ → Final
@@ -231,6 +233,30 @@ run_ready n m = grind arith
 pub halted : (n : ℕ) (c : Config) (e : Option Code) → run_within n (halts c e) ≡ final n c e
 unfolding run_within ready_of ready_within
 halted n c e = grind arith
+
+pub halts_ready : (c : Config) (e : Option Code) → ready_of (halts c e) ≡ finished c e
+unfolding ready_of ready_within
+halts_ready c e = refl
+
+-- One step more is the step that comes.
+pub no_steps : (m : Machine) → after_steps 0 m ≡ m
+unfolding after_steps
+no_steps m = refl
+
+pub after_more : (k : ℕ) (m : Machine) → after_steps (suc k) m ≡ after_paid_step (ready_of (after_steps k m))
+unfolding after_steps
+after_more zero m = refl
+after_more (suc k) m = after_more k (after_paid_step (ready_of m))
+
+pub paid_steps : (r : Ready) (m : Machine) → after_coming r ≡ Some m → after_paid_step r ≡ m
+paid_steps (step mo i work c) m e = cc
+paid_steps (block b bs c) m e = cc
+paid_steps (finished c x) m e = absurd cc
+
+pub paid_run : (r : Ready) (m : Machine) → after_coming r ≡ Some m → (fuel : ℕ) → ready_run (suc fuel) r ≡ run_within fuel m
+paid_run (step mo i work c) m e fuel = ap (run_within fuel) (paid_steps (step mo i work c) m e)
+paid_run (block b bs c) m e fuel = ap (run_within fuel) (paid_steps (block b bs c) m e)
+paid_run (finished c x) m e fuel = absurd cc
 
 -- no run gains fuel
 paid_fuel : (n : ℕ) (r : Ready) → (run_within n (after_paid_step r)).fuel ≤ n → (final_with_fuel n (run_within n) r).fuel ≤ suc n

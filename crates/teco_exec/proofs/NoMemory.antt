@@ -1,5 +1,5 @@
 -- A text of values and arithmetic alone never ends for want of memory.
-use Rattle.std.proofs.Common.{arith, ◌≡◌, ℕ, Bool, true, List, [], Option, Some, None, refl, sym, ap, subst, ◌∙◌, ◌&&◌}
+use Rattle.std.proofs.Common.{arith, ◌≡◌, ℕ, Bool, true, List, [], Option, Some, refl, sym, subst, ◌∙◌, ◌&&◌}
 use Rattle.teco_core.specs.declared.code.Code.{Code}
 use Rattle.teco_core.specs.declared.code.Code.TheVariants.{Mem}
 use Rattle.teco_core.specs.Arguments.{Arguments, no_arguments}
@@ -9,13 +9,12 @@ use Rattle.teco_scan.specs.declared.token.Found.{Found}
 use Rattle.teco_scan.specs.declared.token.TokenKind.{TokenKind}
 use Rattle.teco_scan.specs.declared.token.TokenKind.TheVariants as kind
 use Rattle.teco_step.specs.Stepping.{IsStepKind, kind_takes_nothing, takes_nothing}
-use Rattle.teco_exec.specs.Machine.{Frame, Cursor as MachineCursor, Coming as MachineComing, pass}
+use Rattle.teco_exec.specs.CursorMoves.{Frame, Cursor as MachineCursor, Coming as MachineComing, pass}
 use Rattle.teco_exec.specs.Quiet.{IsQuiet, QuietComing, takes_no_memory}
 use Rattle.teco_exec.specs.Running.{code_left}
 use Rattle.teco_exec.specs.View.{cursor_at_start, coming_of, cursor, item_of_kind}
 use Rattle.teco_exec.specs.declared.cursor.Cursor.{Cursor}
 use Rattle.teco_exec.specs.declared.flow.Exit.{Exit}
-use Rattle.teco_exec.specs.declared.flow.Exit.TheVariants as exits
 use Rattle.teco_exec.specs.declared.moves.Coming.{Coming}
 use Rattle.teco_exec.proofs.Denoting.{here}
 use Rattle.teco_exec.proofs.Passing.{Passes, item_comes, tag_passes, escape_passes, iteration_opens, conditional_opens, turn_ends, part_ends, passes}
@@ -50,6 +49,5 @@ kind_quietly text n k is h = absurd is
 pub begins_quietly : (a : Arguments) (text : List ℕ) (c : MachineCursor) → c ≡ cursor_at_start a text → takes_no_memory (nodes text) ≡ true → IsQuiet c
 begins_quietly a text c e h = subst IsQuiet (sym e) (record { blocks = refl; left = h })
 
-pub ends_quietly : (exit : Exit) (code : Option Code) → code ≡ code_left exit → (exit ≡ exits.Over (Some Mem) → ⊥) → code ≡ Some Mem → ⊥
-ends_quietly exits.Return code is h e = let x : None ≡ Some Mem = sym is ∙ e in cc
-ends_quietly (exits.Over left) code is h e = h (ap exits.Over (sym is ∙ e))
+pub ends_quietly : (exit : Exit) (code : Option Code) → code ≡ code_left exit → (code_left exit ≡ Some Mem → ⊥) → code ≡ Some Mem → ⊥
+ends_quietly exit code is h e = h (sym is ∙ e)

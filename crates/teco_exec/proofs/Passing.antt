@@ -14,9 +14,9 @@ use Rattle.teco_scan.specs.Lists.{Close, closed, broken, past, Listed, wrong, pu
 use Rattle.teco_scan.specs.Scan.{Item, Instruction, TokenMeaning, Scanned, found, ended, fault, scan}
 use Rattle.teco_scan.specs.Scan as token
 use Rattle.teco_scan.specs.Tree.{is_fault, done, item, escape, tag}
-use Rattle.teco_exec.specs.Machine.{Frame, Cursor, BlockStep, iterates, ends_turn, decides, Coming, passed_to, step_comes, block_comes, end_comes, fault_comes, innermost_kind, after_skip, passed_or_fault, after_block_end, pass_mark, pass_instruction, pass_scanned, pass, CursorOrError, inside_iteration, pass_opening, after_counted_start, after_iteration_start, next_turn_or_end, inside_second_part, inside_chosen_part, after_leaving_block, after_leaving_iteration, after_tag_or, after_jump, after_block_step}
+use Rattle.teco_exec.specs.CursorMoves.{Frame, Cursor, BlockStep, iterates, ends_turn, decides, Coming, passed_to, step_comes, block_comes, end_comes, fault_comes, innermost_kind, after_skip, passed_or_fault, after_block_end, pass_mark, pass_instruction, pass_scanned, pass, CursorOrError, inside_iteration, pass_opening, after_counted_start, after_iteration_start, next_turn_or_end, inside_second_part, inside_chosen_part, after_leaving_block, after_leaving_iteration, after_tag_or, after_jump, after_block_step}
 use Rattle.teco_exec.proofs.Denoting.{here, after, after_iteration, after_conditional, Fits, FitsAt}
-use Rattle.teco_exec.specs.Machine as machine
+use Rattle.teco_exec.specs.CursorMoves as machine
 
 abbrev pub at : Arguments → List ℕ → List Frame → Cursor
 at a left blocks = record { args = a; left = left; blocks = blocks }

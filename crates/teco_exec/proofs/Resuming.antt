@@ -13,7 +13,8 @@ use Rattle.teco_exec.specs.Meaning.{then_rest, run_after_tag, run_after_step, ru
 use Rattle.teco_exec.specs.Meaning as meant
 use Rattle.teco_scan.specs.Lists.{Close, Listed, list_at, tag_at, nodes}
 use Rattle.teco_scan.specs.ListLaws.{BlockLaws, Finds}
-use Rattle.teco_exec.specs.Machine.{Frame, CursorOrError, Caller, Further, Config, Machine, runs, halts, Final, final, innermost_kind, inside_iteration, setting_of, runs_or_halts, after_tag_or, after_jump, after_leaving_iteration, in_called_text, after_step_end}
+use Rattle.teco_exec.specs.CursorMoves.{Frame, CursorOrError, innermost_kind, inside_iteration, after_tag_or, after_jump, after_leaving_iteration}
+use Rattle.teco_exec.specs.Machine.{Caller, Further, Config, Machine, runs, halts, Final, final, setting_of, runs_or_halts, in_called_text, after_step_end}
 use Rattle.teco_exec.proofs.Sentences.{unrolls}
 use Rattle.teco_exec.proofs.Denoting.{here, whole, block_end, follows, around, goes_on, finals, under, Fits, FitsAt, FitsUnder}
 use Rattle.teco_exec.proofs.CursorMeans.{around_stop, under_stop, given, from, at_cursor, at_step, stop_means, MeansMove, leaving_leads}

@@ -17,7 +17,7 @@ use Rattle.teco_scan.specs.declared.table.TheConstants.{ROWS}
 use Rattle.teco_core.specs.Ascii.{is_filler}
 use Rattle.teco_scan.specs.Scan.{Instruction, TokenMeaning, Reading, found, scanned, scan, scan_here, after_fillers, after_letter, after_name, row_at, command_at, operand_at, modifiers_at, token_from}
 use Rattle.teco_scan.specs.Spelling.{Marks, no_mark, at_mark, colon_mark, SpellsName, one_spelled, SpellsOperand, bare_spelled, Among, Spells, run_spelled, command_spelled, IsSpelled}
-use Rattle.teco_exec.specs.Machine.{leave_is_next}
+use Rattle.teco_exec.specs.CursorMoves.{leave_is_next}
 use Rattle.teco_exec.specs.Semicolon.{is_semicolon}
 
 abbrev is_leave_form : Form → Bool

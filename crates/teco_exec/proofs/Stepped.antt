@@ -14,7 +14,8 @@ use Rattle.teco_step.specs.Effect.{effect, item_effect}
 use Rattle.teco_step.specs.declared.next.Setting.{Setting}
 use Rattle.teco_step.specs.Step.{done_by, settled, Step, End, Moment, at, call}
 use Rattle.teco_step.specs.Stepping.{IsStepIn, IsStepKind, is_call, kind_effect, token_effect, end_of, is_unfinished, is_unfinished_code, Steps, IsDone, trail_after, name_in}
-use Rattle.teco_exec.specs.Machine.{step, in_called_text, inside_iteration, leave_is_next, setting_of, Caller, Config, CursorOrError, Now, runs, runs_or_halts, after_step_end, run_within, ready_of, after_block_step, ready_within}
+use Rattle.teco_exec.specs.CursorMoves.{inside_iteration, leave_is_next, CursorOrError, after_block_step}
+use Rattle.teco_exec.specs.Machine.{step, in_called_text, setting_of, Caller, Config, Now, halts, runs, runs_or_halts, after_step_end, after_token_step, ready_of, ready_within}
 use Rattle.teco_exec.specs.Tokens.{call_of, calls_text, looks_around, CountsSteps, ProgressFinishes, reached_by_progress}
 use Rattle.teco_exec.specs.View.{cursor, item_of_kind, ResultFinishes as MovesWell, cursor_or_error, block_step_of}
 use Rattle.teco_exec.specs.declared.cursor.Cursor.{Cursor}
@@ -30,11 +31,11 @@ use Rattle.teco_step.specs.declared.next.Next.{Next}
 use Rattle.teco_step.specs.declared.next.Next.TheVariants as next
 use Rattle.teco_step.specs.Laws.{CallsByCalls}
 use Rattle.teco_step.specs.Terminal.{Screen}
-use Rattle.teco_exec.specs.Running.{Origin, Host, host, Continuation, RunGoesOn, ReachesContinuation, ReachesEnd, Reached, Reaches, reached_run, ready_run, config, at_call, at_cursor, at_register_call, at_token, at_block_step, reached_by_flow, FlowFinishes}
+use Rattle.teco_exec.specs.Running.{Origin, Host, host, Continuation, RunGoesOn, ReachesContinuation, ReachesEnd, Reached, Reaches, over, Alike, Comes, sight, ready_run, config, at_call, at_register_call, at_token, at_block_step, reached_by_flow, FlowFinishes}
 use Rattle.teco_exec.specs.declared.flow.Flow.{Flow}
-use Rattle.teco_exec.specs.declared.flow.Flow.TheVariants.{On, Call, Return, Over}
+use Rattle.teco_exec.specs.declared.flow.Flow.TheVariants.{On, Call, Return, Over, Stop}
 use Rattle.teco_exec.specs.declared.moves.BlockStep.{BlockStep}
-use Rattle.teco_exec.proofs.Going.{limit_ends, EndsByItself, Pays, advanced, since, settles, step_done, no_memory, no_terminal, shows_nothing}
+use Rattle.teco_exec.proofs.Going.{alike, also, limit_ends, EndsByItself, Pays, advanced, since, settles, step_done, no_memory, no_terminal, shows_nothing}
 use Rattle.teco_exec.proofs.MachineMeans.{going_now, resumed_now, Stays, arrives_stays, halted, run_ready}
 use Rattle.teco_exec.specs.declared.flow.Progress.{Progress}
 use Rattle.teco_exec.specs.declared.flow.Progress.TheVariants.{Further, Done}
@@ -68,28 +69,32 @@ effect_here c token work opens before s =
     by_kind c.text.now (record { modifiers = token.modifiers; work = work; inside = opens; before = before }) (inside_iteration (cursor c).blocks) (leave_is_next (scan (cursor c).left)) s (arguments c.args) token.kind
 
 -- how the text goes on after a step
-module _ (callers : List Caller) (now : Now) (fuel : ℕ) where
-  pub ends_so : (s : State) (c : Cursor) (token : Token) (n k : Next) → n ≡ k
-      → run_within fuel (after_step_end token.modifiers (item_of_kind c.text.now token.kind) (end_of s (name_in c.text.now token) n) (config c.text.now (cursor c) None callers now))
-      ≡ run_within fuel (after_step_end token.modifiers (item_of_kind c.text.now token.kind) (end_of s (name_in c.text.now token) k) (config c.text.now (cursor c) None callers now))
-  ends_so s c token n k e = ap (λ x. run_within fuel (after_step_end token.modifiers (item_of_kind c.text.now token.kind) (end_of s (name_in c.text.now token) x) (config c.text.now (cursor c) None callers now))) e
+module _ (callers : List Caller) (now : Now) where
+  abbrev pub here_in : Cursor → Config
+  here_in c = config c.text.now (cursor c) None callers now
 
-  pub goes_on : (c : Cursor) → run_within fuel (runs (config c.text.now (cursor c) None callers now)) ≡ ready_run fuel (at_cursor c callers now)
-  goes_on c = run_ready fuel (runs (config c.text.now (cursor c) None callers now))
+  pub ends_so : (s : State) (c : Cursor) (token : Token) (n k : Next) (d : Reached) → n ≡ k
+      → Comes (ready_of (after_step_end token.modifiers (item_of_kind c.text.now token.kind) (end_of s (name_in c.text.now token) k) (here_in c))) now d
+      → Comes (ready_of (after_step_end token.modifiers (item_of_kind c.text.now token.kind) (end_of s (name_in c.text.now token) n) (here_in c))) now d
+  ends_so s c token n k d e h = subst (λ x. Comes (ready_of (after_step_end token.modifiers (item_of_kind c.text.now token.kind) (end_of s (name_in c.text.now token) x) (here_in c))) now d) (sym e) h
+
+  pub is_over : (c : Cursor) (code : Option Code) → Comes (ready_of (halts (here_in c) code)) now (over code)
+  is_over c code fuel = sym (run_ready fuel (halts (here_in c) code)) ∙ halted fuel (here_in c) code
 
   pub moves_on : (old to : Cursor) → to.text ≡ old.text → (r : Result (Unit {0}) Code) (f : Flow) → MatchResult r (λ _. f ≡ On) (λ code. f ≡ Over (Some code)) → (m : CursorOrError) → cursor_or_error to r ≡ m
-      → run_within fuel (runs_or_halts (config old.text.now (cursor old) None callers now) m) ≡ reached_run fuel now (reached_by_flow to callers f)
+      → Comes (ready_of (runs_or_halts (here_in old) m)) now (reached_by_flow to callers f)
   moves_on old to text (Ok done) f is m e =
-      ap (λ x. run_within fuel (runs_or_halts (config old.text.now (cursor old) None callers now) x)) (sym e)
-      ∙ ap (λ t. run_within fuel (runs (config t.now (cursor to) None callers now))) (sym text)
-      ∙ goes_on to ∙ ap (λ x. reached_run fuel now (reached_by_flow to callers x)) (sym is)
+      subst (λ x. Comes (ready_of (runs_or_halts (here_in old) m)) now (reached_by_flow to callers x)) (sym is)
+      (alike (ap (λ x. ready_of (runs_or_halts (here_in old) x)) (sym e)
+      ∙ ap (λ t. ready_of (runs (config t.now (cursor to) None callers now))) (sym text)))
   moves_on old to text (Err code) f is m e =
-      ap (λ x. run_within fuel (runs_or_halts (config old.text.now (cursor old) None callers now) x)) (sym e)
-      ∙ halted fuel (config old.text.now (cursor old) None callers now) (Some code) ∙ ap (λ x. reached_run fuel now (reached_by_flow to callers x)) (sym is)
+      subst (λ x. Comes (ready_of (runs_or_halts (here_in old) m)) now (reached_by_flow to callers x)) (sym is)
+      (subst (λ x. Comes (ready_of (runs_or_halts (here_in old) x)) now (over (Some code))) e (is_over old (Some code)))
 
 pub finishes : (c : Cursor) (callers : List Caller) (f : Flow) → FlowFinishes f → EndsByItself (reached_by_flow c callers f)
 finishes c callers On h = tt
-finishes c callers (Call q) h = tt
+finishes c callers (Call q) h = absurd h
+finishes c callers (Stop code) h = absurd h
 finishes c callers Return h = tt
 finishes c callers (Over code) h = h
 
@@ -116,10 +121,12 @@ module _ (c : Cursor) (token : Token) (work : Option Work) (callers : List Calle
     effect_in s = token_effect c.text.now token work opens before s (arguments c.args)
 
     token_pays : (s : State) → Pays (at_token c token work callers) (after_token (effect_in s).arguments (effect_in s).end) s (effect_in s).state (effect_in s).typed (effect_in s).load
-    token_pays s now same fuel =
-        run_ready fuel _
-        ∙ ap (λ x. (let d : Step = effect (item_of_kind c.text.now token.kind) (setting_of token.modifiers work (cursor c)) x (arguments c.args) in ready_run fuel (after_token d.arguments d.end (advanced d.state d.typed d.load now)))) same
-        ∙ ap (λ (d : Step). ready_run fuel (after_token d.arguments d.end (advanced d.state d.typed d.load now))) (sym (effect_here c token work opens before s is looks sees))
+    token_pays s now same = record {
+      machine = after_token_step token.modifiers (item_of_kind c.text.now token.kind) work (config c.text.now (cursor c) None callers now);
+      comes = refl;
+      leads = ap (λ x. (let d : Step = effect (item_of_kind c.text.now token.kind) (setting_of token.modifiers work (cursor c)) x (arguments c.args) in after_token d.arguments d.end (advanced d.state d.typed d.load now))) same
+          ∙ ap (λ (d : Step). after_token d.arguments d.end (advanced d.state d.typed d.load now)) (sym (effect_here c token work opens before s is looks sees));
+    }
 
     module _ (o : Origin) (h : Host) (g : RunGoesOn o h (at_token c token work callers)) (lt : h.steps < o.limit) (name : List ℕ) (new : State) (args : Args) (w : Screen) (n : Next) (G : Trail → Type 0)
         (took : (u : Trail) → h.follows u → G (trail_after n u (effect_in h.state).load)) where
@@ -150,7 +157,7 @@ module _ (c : Cursor) (token : Token) (work : Option Work) (callers : List Calle
           → (steps : ℕ) → steps ≡ h.steps + 1 → (same : State) → same ≡ new → (H : Trail → Type 0)
           → ((u : Trail) → G u → u.changes ≤ 6 → steps ≡ u.steps + 1 → u.states steps ≡ new → u.load ≤ u.loads steps → H (stepped u))
           → (d : Reached) → EndsByItself d
-          → ((now : Now) (fuel : ℕ) → run_within fuel (after_step_end token.modifiers (item_of_kind c.text.now token.kind) (end_of new name n) (config c.text.now (record (cursor c) { args = arguments args }) None callers now)) ≡ reached_run fuel now d)
+          → ((now : Now) → Comes (ready_of (after_step_end token.modifiers (item_of_kind c.text.now token.kind) (end_of new name n) (config c.text.now (record (cursor c) { args = arguments args }) None callers now))) now d)
           → Reaches o h (host same H w steps) d
       token_goes f did steps count same is_same H marks d fin leads =
           let e = effect_in h.state in
@@ -161,7 +168,7 @@ module _ (c : Cursor) (token : Token) (work : Option Work) (callers : List Calle
           (λ u p none at state within. marks (moved u e.load) (took_so false f u p) (omega arith) (omega arith) (ap u.states count ∙ state ∙ sym done.state) (subst (λ k. u.load + e.load ≤ u.loads k) (sym count) within)) in
           let there : ReachesContinuation o h later (after_token (arguments args) (end_of new name n)) =
           subst (λ x. ReachesContinuation o h later (after_token (arguments args) x)) (sym done.end) (subst (λ x. ReachesContinuation o h later (after_token x e.end)) (sym done.arguments) to) in
-          since o h later later d there.follows (settles o later (after_token (arguments args) (end_of new name n)) there.going d fin (omega arith) (λ now fuel. sym (run_ready fuel _) ∙ leads now fuel))
+          since o h later later d there.follows (settles o later (after_token (arguments args) (end_of new name n)) there.going d fin (omega arith) leads)
 
 -- a step of a block
 module _ (c : Cursor) (b : BlockStep) (to : ℕ) (callers : List Caller) where
@@ -181,32 +188,44 @@ module _ (c : Cursor) (b : BlockStep) (to : ℕ) (callers : List Caller) where
       rw (← same, append-nil now.typed, all)
 
   block_pays : (s : State) → Pays (at_block_step c b to callers) after_block s s [] 0
-  block_pays s now same fuel = run_ready fuel _ ∙ ap (λ x. ready_run fuel (after_block x)) (still s now same)
+  block_pays s now same = record {
+    machine = runs_or_halts (config c.text.now (cursor c) None callers now) (after_block_step (block_step_of b) (drop to c.text.now) (cursor c));
+    comes = refl;
+    leads = ap after_block (still s now same);
+  }
 
   pub block_leads : (o : Origin) (h : Host) → RunGoesOn o h (at_block_step c b to callers) → h.steps < o.limit
       → (steps : ℕ) → steps ≡ h.steps + 1 → (same : State) → same ≡ h.state → (G : Trail → Type 0) → ((u : Trail) → h.follows u → h.follows (moved u 0))
       → ((u : Trail) → h.follows u → u.changes ≤ 6 → steps ≡ u.steps + 1 → u.states steps ≡ h.state → u.load ≤ u.loads steps → G (stepped u))
       → (d : Reached) → EndsByItself d
-      → ((now : Now) (fuel : ℕ) → run_within fuel (runs_or_halts (config c.text.now (cursor c) None callers now) (after_block_step (block_step_of b) (drop to c.text.now) (cursor c))) ≡ reached_run fuel now d)
+      → ((now : Now) → Comes (ready_of (runs_or_halts (config c.text.now (cursor c) None callers now) (after_block_step (block_step_of b) (drop to c.text.now) (cursor c)))) now d)
       → Reaches o h (host same G h.screen steps) d
   block_leads o h g lt steps count same is_same G eases marks d fin leads =
       let later : Host = host same G h.screen steps in
       let there : ReachesContinuation o h later after_block =
       step_done o h (at_block_step c b to callers) g after_block h.state [] 0 (block_pays h.state) block_stays later count is_same (shows_nothing h.screen)
       (λ u p none at state within. marks (moved u 0) (eases u p) (omega arith) (omega arith) (ap u.states count ∙ state) (subst (λ k. u.load + 0 ≤ u.loads k) (sym count) within)) in
-      since o h later later d there.follows (settles o later after_block there.going d fin (omega arith) (λ now fuel. sym (run_ready fuel _) ∙ leads now fuel))
+      since o h later later d there.follows (settles o later after_block there.going d fin (omega arith) leads)
 
 -- Steps of tokens: what is counted, and a further step.
 pub counts_on : {a b c : StepCount} → CountsSteps a b → CountsSteps b c → CountsSteps a c
 counts_on p q = record { limit = q.limit ∙ p.limit; after = omega (arith, p.after, q.after) }
 
 -- A token has a further step.
-pub goes_further : (callers : List Caller) (now : Now) (fuel : ℕ) (c : Cursor) (token : Token) (work : Work)
-    → run_within fuel (runs (config c.text.now (cursor c) (Some (record { modifiers = token.modifiers; item = item_of_kind c.text.now token.kind; work = work })) callers now))
-    ≡ ready_run fuel (at_token c token (Some work) callers now)
-unfolding run_within ready_of ready_within
-goes_further callers now zero c token work = refl
-goes_further callers now (suc fuel) c token work = refl
+abbrev further_config : List Caller → Now → Cursor → Token → Work → Config
+further_config callers now c token work = config c.text.now (cursor c) (Some (record { modifiers = token.modifiers; item = item_of_kind c.text.now token.kind; work = work })) callers now
+
+further_runs : (callers : List Caller) (now : Now) (c : Cursor) (token : Token) (work : Work) (fuel : ℕ) → ready_run fuel (ready_of (runs (further_config callers now c token work))) ≡ ready_run fuel (at_token c token (Some work) callers now)
+unfolding ready_of ready_within
+further_runs callers now c token work zero = refl
+further_runs callers now c token work (suc fuel) = refl
+
+further_stands : (callers : List Caller) (now : Now) (c : Cursor) (token : Token) (work : Work) → sight (ready_of (runs (further_config callers now c token work))) ≡ sight (at_token c token (Some work) callers now)
+unfolding ready_of ready_within
+further_stands callers now c token work = refl
+
+pub goes_further : (callers : List Caller) (now : Now) (c : Cursor) (token : Token) (work : Work) → Alike (ready_of (runs (further_config callers now c token work))) (at_token c token (Some work) callers now)
+goes_further callers now c token work = record { runs = further_runs callers now c token work; stands = further_stands callers now c token work }
 
 pub progress_finishes : (c : Cursor) (token : Token) (callers : List Caller) (p : Progress) → ProgressFinishes p → EndsByItself (reached_by_progress c token callers p)
 progress_finishes c token callers (Further work) h = tt
@@ -235,11 +254,17 @@ unfolding effect
 plain_call c token work q callers now zero = refl
 plain_call c token work q callers now (suc fuel) = refl
 
-pub calls_same : (c : Cursor) (token : Token) (work : Option Work) (q : ℕ) (callers : List Caller) (now : Now) (fuel : ℕ) → token.kind ≡ call_of q
-    → ready_run fuel (at_token c token work callers now) ≡ ready_run fuel (at_register_call c q callers now)
-calls_same c token work q callers now fuel is =
-    ap (λ k. ready_run fuel (step token.modifiers (item_of_kind c.text.now k) work (config c.text.now (cursor c) None callers now))) is
-    ∙ plain_call c token work q callers now fuel
+-- and stands at the same place
+stands_same : (c : Cursor) (token : Token) (work : Option Work) (q : ℕ) (callers : List Caller) (now : Now)
+    → sight (step token.modifiers (items.register register_command.Macro q) work (config c.text.now (cursor c) None callers now)) ≡ sight (at_register_call c q callers now)
+unfolding effect
+stands_same c token work q callers now = refl
+
+pub calls_same : (c : Cursor) (token : Token) (work : Option Work) (q : ℕ) (callers : List Caller) (now : Now) → token.kind ≡ call_of q
+    → Alike (at_token c token work callers now) (at_register_call c q callers now)
+calls_same c token work q callers now is =
+    also (alike (ap (λ k. step token.modifiers (item_of_kind c.text.now k) work (config c.text.now (cursor c) None callers now)) is))
+    (record { runs = plain_call c token work q callers now; stands = stands_same c token work q callers now })
 
 -- a step that calls the text of a register
 module _ (c : Cursor) (q : ℕ) (callers : List Caller) where
@@ -248,7 +273,11 @@ module _ (c : Cursor) (q : ℕ) (callers : List Caller) where
 
   call_pays : (s : State) → Pays (at_register_call c q callers) (at_call c (text_in s) callers) s s [] 0
   unfolding effect
-  call_pays s now same fuel = run_ready fuel _ ∙ ap (λ x. ready_run fuel (at_call c (text_in x) callers (advanced x [] 0 now))) same
+  call_pays s now same = record {
+    machine = after_token_step (record { at = false; colons = 0 }) (items.register register_command.Macro q) None (config c.text.now (cursor c) None callers now);
+    comes = refl;
+    leads = ap (λ x. at_call c (text_in x) callers (advanced x [] 0 now)) same;
+  }
 
   call_stays : (text : List ℕ) (now : Now) → Stays (at_call c text callers) now
   call_stays text now =

@@ -4,7 +4,8 @@ use Rattle.teco_core.specs.declared.code.Code.{Code}
 use Rattle.teco_core.specs.declared.code.Code.TheVariants.{Lim}
 use Rattle.teco_store.specs.State.{State}
 use Rattle.teco_exec.specs.StringMeaning.{StringMeaning, string_meaning}
-use Rattle.teco_exec.specs.Machine.{Config, Machine, runs, Ready, step, block, finished, Final, final, ready_of, after_paid_step, final_without_fuel, final_with_fuel, run_within, after_steps, start_config, Now, now_of, halts, after_step_end, setting_of, ready_within, after_block_step}
+use Rattle.teco_exec.specs.CursorMoves.{after_block_step}
+use Rattle.teco_exec.specs.Machine.{Config, Machine, runs, Ready, step, block, finished, Final, final, ready_of, after_paid_step, final_without_fuel, final_with_fuel, run_within, after_steps, start_config, Now, now_of, halts, after_step_end, setting_of, ready_within}
 use Rattle.teco_exec.specs.Laws.{StepsWithinLimit, MoreLimitChangesNothing, EnoughIsEnough, ZeroLimitChangesNothing, ExitEndsWell}
 use Rattle.teco_exec.specs.MachineLaws.{MachineMeans, MachineFollows}
 use Rattle.teco_core.specs.declared.code.Code.TheVariants as code

@@ -2,7 +2,7 @@
 use Rattle.std.specs.Prelude.{◌≡◌, Bool, true, false, ℕ, zero, suc, List, [], ◌∷◌, drop, Option, Some, None}
 use Rattle.teco_scan.specs.declared.blocks.Kind.{Kind}
 use Rattle.teco_scan.specs.declared.blocks.Kind.TheVariants as kind
-use Rattle.teco_exec.specs.Machine.{Frame}
+use Rattle.teco_exec.specs.CursorMoves.{Frame}
 use Rattle.teco_exec.specs.declared.blocks.Body.{Body}
 use Rattle.teco_exec.specs.declared.blocks.Body.TheVariants.{Endless, Turns, Then, Else}
 use Rattle.teco_exec.specs.declared.blocks.Block.{Block}
@@ -24,6 +24,17 @@ frame text b = record { kind = kind_of b.body; start = drop b.start text; left =
 unfoldable pub frames : List ℕ → List Block → List Frame
 frames text [] = []
 frames text (b ∷ bs) = frame text b ∷ frames text bs
+
+-- the turns left of each open iteration, the innermost first; none: without end
+unfoldable pub turns_open : List Block → List (Option ℕ)
+turns_open [] = []
+turns_open (b ∷ bs) =
+    elim b.body [
+      | Endless ↦ None ∷ turns_open bs
+      | Turns n ↦ Some n ∷ turns_open bs
+      | Then ↦ turns_open bs
+      | Else ↦ turns_open bs
+    ]
 
 -- where the innermost block's list begins, or the text
 abbrev pub list_start : List Block → ℕ

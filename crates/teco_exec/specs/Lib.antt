@@ -4,8 +4,12 @@ pub mod StringMeaning
 pub mod Test
 pub mod Laws
 pub mod Quiet
+pub mod CursorMoves
 pub mod Machine
 pub mod MachineLaws
+pub mod Places
+pub mod Telling
+pub mod Watching
 pub mod Frames
 pub mod Tokens
 pub mod View

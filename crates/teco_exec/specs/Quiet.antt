@@ -4,7 +4,7 @@ use Rattle.teco_scan.specs.Lists.{nodes}
 use Rattle.teco_scan.specs.Tree.{Nodes, done, item, escape, iter, cond, tag, faulty}
 use Rattle.teco_step.specs.Step.{End, on, leave, go, call, out, again, stop}
 use Rattle.teco_step.specs.Stepping.{takes_nothing}
-use Rattle.teco_exec.specs.Machine.{Cursor, Coming, passed_to, step_comes, block_comes, end_comes, fault_comes}
+use Rattle.teco_exec.specs.CursorMoves.{Cursor, Coming, passed_to, step_comes, block_comes, end_comes, fault_comes}
 
 -- Values and arithmetic alone, with ESC between them, and perhaps a fault at the end.
 abbrev pub takes_no_memory : Nodes → Bool

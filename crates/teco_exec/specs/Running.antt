@@ -12,9 +12,10 @@ use Rattle.teco_store.specs.Trail.{Trail}
 use Rattle.teco_step.specs.declared.next.Work.{Work}
 use Rattle.teco_step.specs.Stepping.{is_unfinished_code}
 use Rattle.teco_step.specs.Terminal.{Screen, Shows}
-use Rattle.teco_exec.specs.Machine.{Caller, Config, Further, Machine, runs, in_called_text, after_text_end, Ready, step, block, Final, Now, ready_of, final_with_fuel, final_without_fuel, run_within, start_config}
-use Rattle.teco_exec.specs.Machine as machine
+use Rattle.teco_exec.specs.Machine.{Caller, Config, Further, Machine, runs, in_called_text, after_text_end, Ready, step, block, Final, Now, ready_of, final_with_fuel, final_without_fuel, run_within, after_steps, start_config}
+use Rattle.teco_exec.specs.CursorMoves as machine
 use Rattle.teco_exec.specs.MachineLaws.{MachineMeans}
+use Rattle.teco_exec.specs.Places.{Standing, Told, IsToldOf, standing, after_coming, IsReadAt}
 use Rattle.teco_exec.specs.Quiet.{IsQuiet}
 use Rattle.teco_exec.specs.Runs.{Runs, is_tty, trail_of}
 use Rattle.teco_exec.specs.StringMeaning.{string_meaning}
@@ -66,14 +67,19 @@ now_at o k = record {
   load = (string_meaning o.state o.text k).load;
 }
 
+-- what is seen of what a run is ready for: where it stands, and the machine after the step that comes
+abbrev pub sight : Ready → Option Standing × Option Machine
+sight r = (standing r, after_coming r)
+
 -- By this moment the desk and the screen are as the whole text means, and its run, which the machine is, goes
--- on so under each limit.
+-- on so under each limit, and stands there.
 pub record RunGoesOn (o : Origin) (h : Host) (next : Continuation) : Type 0 where
   pub means : MachineMeans
   pub state : h.state ≡ (now_at o h.steps).state
   pub shows : Shows o.screen h.screen (now_at o h.steps).typed false
   pub leads : (fuel : ℕ)
       → run_within (h.steps + fuel) (whole_run o) ≡ ready_run fuel (next (now_at o h.steps))
+  pub stands : sight (ready_of (after_steps h.steps (whole_run o))) ≡ sight (next (now_at o h.steps))
 
 -- If the desk followed the run up to one moment, it follows it up to another.
 abbrev pub StillFollows : Origin → Host → Host → Type 0
@@ -126,6 +132,16 @@ reached_run fuel now (over code) = record {
   fuel = fuel;
   code = code;
 }
+
+-- Two that are ready so go on in the same way, and stand at the same place.
+pub record Alike (r q : Ready) : Type 0 where
+  pub runs : (fuel : ℕ) → ready_run fuel r ≡ ready_run fuel q
+  pub stands : sight r ≡ sight q
+
+-- A run that is ready so comes to what is reached.
+abbrev pub Comes : Ready → Now → Reached → Type 0
+Comes r now (goes next) = Alike r (next now)
+Comes r now (over code) = (fuel : ℕ) → ready_run fuel r ≡ reached_run fuel now (over code)
 
 abbrev pub config : List ℕ → machine.Cursor → Option Further → List Caller → Now → Config
 config text c further callers now =
@@ -182,21 +198,25 @@ reached_by_flow c callers flow.On = goes (at_cursor c callers)
 reached_by_flow c callers (flow.Call q) = goes (at_register_call c q callers)
 reached_by_flow c callers flow.Return = goes (at_return (arguments c.args) callers)
 reached_by_flow c callers (flow.Over code) = over code
+reached_by_flow c callers (flow.Stop code) = over (Some code)
 
 -- where the end of a text leads
 abbrev pub reached_by_exit : Arguments → List Caller → Exit → Reached
 reached_by_exit a callers exit.Return = goes (at_return a callers)
 reached_by_exit a callers (exit.Over code) = over code
+reached_by_exit a callers (exit.Stop code) = over (Some code)
 
 -- where the end of a called text leads: its caller goes on at this cursor
 abbrev pub reached_after_call : Cursor → List Caller → Exit → Reached
 reached_after_call c callers exit.Return = goes (at_cursor c callers)
 reached_after_call c callers (exit.Over code) = over code
+reached_after_call c callers (exit.Stop code) = over (Some code)
 
 -- the code that a text's end leaves, where nothing has called it
 abbrev pub code_left : Exit → Option Code
 code_left exit.Return = None
 code_left (exit.Over code) = code
+code_left (exit.Stop code) = Some code
 
 -- the text goes on at its cursor
 abbrev pub GoesOn : Flow → Type 0
@@ -204,6 +224,7 @@ GoesOn flow.On = Unit {0}
 GoesOn (flow.Call q) = ⊥
 GoesOn flow.Return = ⊥
 GoesOn (flow.Over code) = ⊥
+GoesOn (flow.Stop code) = ⊥
 
 -- A text of values and arithmetic alone goes on at such a text, or is over, but not for want of memory.
 abbrev pub GoesQuietly : Cursor → Flow → Type 0
@@ -211,12 +232,81 @@ GoesQuietly c flow.On = IsQuiet (cursor c)
 GoesQuietly c (flow.Call q) = ⊥
 GoesQuietly c flow.Return = Unit {0}
 GoesQuietly c (flow.Over code) = code ≢ Some Mem
+GoesQuietly c (flow.Stop code) = Some code ≢ Some Mem
 
 -- neither want of memory nor a failed terminal
 abbrev pub IsFinished : Option Code → Type 0
 IsFinished None = Unit {0}
 IsFinished (Some c) = is_unfinished_code c ≡ false
 
+-- A step has been done: the text goes on or is over, or the whole run is.
 abbrev pub FlowFinishes : Flow → Type 0
+FlowFinishes flow.On = Unit {0}
+FlowFinishes (flow.Call q) = ⊥
+FlowFinishes flow.Return = Unit {0}
 FlowFinishes (flow.Over code) = IsFinished code
-FlowFinishes f = Unit {0}
+FlowFinishes (flow.Stop code) = ⊥
+
+-- what is said where the whole run stops, or where a text is called
+abbrev pub OnStop : Flow → Type 0 → Type 0
+OnStop (flow.Stop code) P = P
+OnStop f P = Unit {0}
+
+abbrev pub OnCall : Flow → (ℕ → Type 0) → Type 0
+OnCall (flow.Call q) P = P q
+OnCall f P = Unit {0}
+
+-- A cursor stays at its place, in its blocks.
+pub record Stays (old new : Cursor) : Type 0 where
+  pub place : new.at ≡ old.at
+  pub frames : new.blocks ≡ old.blocks
+
+-- It does where the whole run stops, or where a text is called.
+abbrev pub FlowStays : Cursor → Cursor → Flow → Type 0
+FlowStays old new (flow.Stop code) = Stays old new
+FlowStays old new (flow.Call q) = Stays old new
+FlowStays old new f = Unit {0}
+
+-- where the run of a whole text stands after some steps
+abbrev pub StandsAt : Origin → ℕ → Standing → Type 0
+StandsAt o k s = standing (ready_of (after_steps k (whole_run o))) ≡ Some s
+
+-- before a step of this token
+abbrev pub token_standing : Cursor → Token → List Caller → Standing
+token_standing c token callers = record {
+  text = c.text.now;
+  left = (cursor c).left;
+  blocks = (cursor c).blocks;
+  callers = callers;
+  item = Some (item_of_kind c.text.now token.kind);
+}
+
+-- A run stands at what is read where a cursor is.
+pub record IsStandingAt (c : Cursor) (others : List Caller) (s : Standing) : Type 0 where
+  pub text : s.text ≡ c.text.now
+  pub blocks : s.blocks ≡ (cursor c).blocks
+  pub callers : s.callers ≡ others
+  pub read : IsReadAt c.text.now c.at s.item s.left
+
+pub record StandsSomewhere (o : Origin) (k : ℕ) (c : Cursor) (callers : List Caller) : Type 0 where
+  pub there : Standing
+  pub stands : StandsAt o k there
+  pub is : IsStandingAt c callers there
+
+-- The run of a whole text stands after some steps where it is told, inside texts that have called.
+pub record StandsWhereTold (o : Origin) (k : ℕ) (callers : List Caller) (p : Told) : Type 0 where
+  pub there : Standing
+  pub stands : StandsAt o k there
+  pub told : IsToldOf callers p there
+
+-- A watch knows nothing, or where the run stopped.
+abbrev pub Tells : (Option Told → Type 0) → Exit → (Told → Type 0) → Type 0
+Tells knows exit.Return P = knows None
+Tells knows (exit.Over code) P = knows None
+Tells knows (exit.Stop code) P = (p : Told) × knows (Some p) × P p
+
+-- From a continuation of a text at this depth of calls a run has come to stand where it is told.
+abbrev pub StandsFrom : ℕ → ℕ → Host → ℕ → (List Caller → Continuation) → Told → Type 0
+StandsFrom depth limit before k from p =
+    (o : Origin) (callers : List Caller) → o.limit ≡ limit → length callers ≡ depth
+    → RunGoesOn o before (from callers) → StandsWhereTold o k callers p

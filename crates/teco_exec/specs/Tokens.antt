@@ -9,8 +9,9 @@ use Rattle.teco_scan.specs.declared.token.Token.{Token}
 use Rattle.teco_scan.specs.declared.token.TokenKind.{TokenKind}
 use Rattle.teco_scan.specs.declared.token.TokenKind.TheVariants.{Item}
 use Rattle.teco_exec.specs.Machine.{Caller}
-use Rattle.teco_exec.specs.Running.{FlowFinishes, GoesOn, GoesQuietly, Reached, at_token, reached_by_flow, goes}
+use Rattle.teco_exec.specs.Running.{FlowFinishes, FlowStays, GoesOn, Stays, GoesQuietly, Reached, at_token, reached_by_flow, goes}
 use Rattle.teco_exec.specs.declared.cursor.Cursor.{Cursor}
+use Rattle.teco_exec.specs.declared.flow.Flow.{Flow}
 use Rattle.teco_exec.specs.declared.flow.Progress.{Progress}
 use Rattle.teco_exec.specs.declared.flow.Progress.TheVariants.{Further, Done}
 use Rattle.teco_exec.specs.declared.flow.Steps.{Steps}
@@ -51,6 +52,16 @@ Continues (Done flow) = GoesOn flow
 abbrev pub ProgressFinishes : Progress → Type 0
 ProgressFinishes (Further work) = Unit {0}
 ProgressFinishes (Done flow) = FlowFinishes flow
+
+-- The cursor stays before a further step too.
+abbrev pub ProgressStays : Cursor → Cursor → Progress → Type 0
+ProgressStays old new (Further work) = Stays old new
+ProgressStays old new (Done flow) = FlowStays old new flow
+
+-- what is said where the token is done
+abbrev pub OnDone : Progress → (Flow → Type 0) → Type 0
+OnDone (Further work) P = Unit {0}
+OnDone (Done flow) P = P flow
 
 -- A token that takes nothing has one step.
 abbrev pub ProgressesQuietly : Cursor → Progress → Type 0

@@ -12,8 +12,8 @@ use Rattle.teco_scan.specs.Scan.{Item, digits}
 use Rattle.teco_scan.specs.Seen.{item_in}
 use Rattle.teco_step.specs.Stepping.{IsStepIn, is_unfinished_code}
 use Rattle.teco_exec.specs.Frames.{EndsTurn, frames}
-use Rattle.teco_exec.specs.Machine.{CursorOrError, passed_to, step_comes, block_comes, end_comes, fault_comes}
-use Rattle.teco_exec.specs.Machine as machine
+use Rattle.teco_exec.specs.CursorMoves.{CursorOrError, passed_to, step_comes, block_comes, end_comes, fault_comes}
+use Rattle.teco_exec.specs.CursorMoves as machine
 use Rattle.teco_exec.specs.declared.blocks.Block.{Block}
 use Rattle.teco_exec.specs.declared.cursor.Cursor.{Cursor}
 use Rattle.teco_exec.specs.declared.moves.BlockStep.{BlockStep}
@@ -82,4 +82,4 @@ TellsComing old new f coming.Passed = Unit {0}
 TellsComing old new f coming.Step = IsStepFound new.text.now f
 TellsComing old new f (coming.Block o to) = (to ≤ length new.text.now) × (MayOpen o new.blocks) × (new ≡ old)
 TellsComing old new f coming.End = new ≡ old
-TellsComing old new f (coming.Fault e) = is_unfinished_code e ≡ false
+TellsComing old new f (coming.Fault e) = (is_unfinished_code e ≡ false) × (new ≡ old)

@@ -1,9 +1,10 @@
 //! The open blocks of a text.
-ghost use Rattle.std.specs.Prelude.{◌≡◌, ◌<◌, ◌≤◌, [], ◌∷◌, None, Some, length, MatchOption, slice_get};
-ghost use Rattle.teco_exec.specs.Frames.{EndsTurn, has_iteration, kind_of, list_start, next_turn};
+ghost use Rattle.std.specs.Prelude.{◌≡◌, ◌<◌, ◌≤◌, [], ◌∷◌, IfOk, None, Some, length, MatchOption, slice_get};
+ghost use Rattle.teco_exec.specs.Frames.{EndsTurn, has_iteration, kind_of, list_start, next_turn, turns_open};
 
+use std::alloc::Global;
 use std::marker::Model;
-use teco_core::BLOCK_LIMIT;
+use teco_core::{BLOCK_LIMIT, NoMemory};
 use teco_scan::Kind;
 
 /// What an open block is.
@@ -141,6 +142,23 @@ impl<'r> Blocks<'r> {
             Some(block) => block.start,
             None => 0,
         }
+    }
+
+    /// The turns left of each open iteration after the present one, the innermost first; none: without end.
+    pub fn turns(&self, alloc: Global) -> Result<Vec<Option<u32>>, NoMemory>
+        ensures { IfOk result (λ turns. turns.items ≡ turns_open self.now) }
+    {
+        let mut turns = Vec::new(alloc);
+        let mut depth = self.depth;
+        'outward: while depth > 0 {
+            depth -= 1;
+            match self.open[depth].body {
+                Body::Endless => turns.push(None)?,
+                Body::Turns(left) => turns.push(Some(left))?,
+                Body::Then | Body::Else => {}
+            }
+        }
+        Ok(turns)
     }
 
     /// Whether an iteration is open.

@@ -2,7 +2,7 @@
 ghost use Rattle.std.specs.Prelude.{◌≡◌, ◌≤◌, ℕ, All, List, length};
 ghost use Rattle.teco_scan.specs.Scan.{after_fillers};
 ghost use Rattle.teco_exec.specs.Semicolon.{is_semicolon};
-ghost use Rattle.teco_exec.specs.Machine as machine;
+ghost use Rattle.teco_exec.specs.CursorMoves as machine;
 
 use crate::blocks::{Block, Blocks};
 use teco_core::{Args, BLOCK_LIMIT, is_filler};

@@ -13,8 +13,10 @@ pub(crate) enum Flow {
     Call(Reg),
     /// The text is over, and its caller goes on.
     Return,
-    /// The whole run is over.
+    /// The whole run is over, by a step.
     Over(Option<Code>),
+    /// The whole run stops, before a step or at a fault.
+    Stop(Code),
 }
 
 /// What one step of a token leads to.
@@ -31,8 +33,10 @@ pub(crate) enum Progress {
 pub(crate) enum Exit {
     /// Its caller goes on.
     Return,
-    /// The whole run is over.
+    /// The whole run is over, by a step.
     Over(Option<Code>),
+    /// The whole run stops, before a step or at a fault.
+    Stop(Code),
 }
 
 impl Exit {
@@ -45,6 +49,7 @@ impl Exit {
         match self {
             Exit::Return => None,
             Exit::Over(code) => code,
+            Exit::Stop(code) => Some(code),
         }
     }
 }

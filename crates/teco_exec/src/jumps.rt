@@ -1,6 +1,6 @@
 //! Iterations that are left, and jumps to tags.
 ghost use Rattle.std.specs.Prelude.{◌≡◌};
-ghost use Rattle.teco_exec.specs.Machine as machine;
+ghost use Rattle.teco_exec.specs.CursorMoves as machine;
 ghost use Rattle.teco_exec.specs.View.{ResultFinishes, cursor, cursor_or_error};
 
 use crate::cursor::Cursor;

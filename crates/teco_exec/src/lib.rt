@@ -10,9 +10,12 @@ mod jumps;
 mod laws;
 mod moves;
 mod outcome;
+mod place;
 mod running;
 mod stepping;
+mod watch;
 
 pub use laws::{machine_laws, meaning_laws};
-pub use outcome::Outcome;
-pub use running::run;
+pub use outcome::{Outcome, Stopped};
+pub use place::{Call, Place};
+pub use running::{place_after, run};

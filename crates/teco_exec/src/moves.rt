@@ -3,7 +3,7 @@ ghost use Rattle.std.specs.Prelude.{◌≡◌, ◌≢◌, ◌≤◌, ◌<◌, Ok
 ghost use Rattle.teco_scan.specs.Scan.{scan};
 ghost use Rattle.teco_scan.specs.Seen.{IsFoundAt, found_in};
 ghost use Rattle.teco_exec.specs.Frames.{EndsTurn, kind_of, turns_left};
-ghost use Rattle.teco_exec.specs.Machine as machine;
+ghost use Rattle.teco_exec.specs.CursorMoves as machine;
 ghost use Rattle.teco_exec.specs.View.{ResultFinishes, MayOpen, TellsComing, coming_of, cursor, cursor_or_error, block_step_of};
 
 use crate::blocks::{Block, Body};
@@ -140,13 +140,14 @@ impl<'t> Cursor<'t> {
         ensures told { (found : Found) → TellsComing self.old self.new found result }
     {
         let depth = self.blocks.len();
-        match self.blocks.pop() {
+        match self.blocks.top() {
             None => Coming::Fault(Code::Ill),
             Some(block) => match block.body.kind() {
                 Kind::Iter | Kind::Else => Coming::Fault(Code::Ill),
                 Kind::Then => match skip_block(self.text, to, Kind::Else, depth) {
                     Err(code) => Coming::Fault(code),
                     Ok(stop) => {
+                        self.blocks.pop();
                         self.args.clear();
                         self.at = stop.to;
                         Coming::Passed
@@ -165,11 +166,12 @@ impl<'t> Cursor<'t> {
             ≡ machine.pass_part_end (drop to self.old.text.now) (cursor self.old).blocks }
         ensures told { (found : Found) → TellsComing self.old self.new found result }
     {
-        match self.blocks.pop() {
+        match self.blocks.top() {
             None => Coming::Fault(Code::Ill),
             Some(block) => match block.body.kind() {
                 Kind::Iter => Coming::Fault(Code::Ill),
                 Kind::Then | Kind::Else => {
+                    self.blocks.pop();
                     self.args.clear();
                     self.at = to;
                     Coming::Passed

@@ -1,11 +1,15 @@
 //! The run of a command string.
-ghost use Rattle.std.specs.Prelude.{◌≡◌, ◌≤◌, ◌<◌, ℕ, List, Some, length, true, false, None};
+ghost use Rattle.std.specs.Prelude.{◌≡◌, ◌≤◌, ◌<◌, ℕ, List, IfOk, IfSome, Option, Some, length, true, false, None};
 ghost use Rattle.teco_core.specs.ArgumentsView.{arguments};
 ghost use Rattle.teco_core.specs.Register.{content};
 ghost use Rattle.teco_core.specs.declared.code.Code.TheVariants.{Mem};
 ghost use Rattle.teco_scan.specs.Lists.{nodes};
+ghost use Rattle.teco_scan.specs.Scan.{register};
+ghost use Rattle.teco_scan.specs.declared.command.RegisterCommand.TheVariants as register_command;
+ghost use Rattle.teco_exec.specs.Places.{IsPlaceAfter, IsReadAt, Told};
+ghost use Rattle.teco_exec.specs.Telling.{told_of};
 ghost use Rattle.teco_step.specs.Terminal.{Shows};
-ghost use Rattle.teco_exec.specs.Running.{RunLeadsAt, at_beginning, at_register_call, reached_by_exit, reached_after_call, host};
+ghost use Rattle.teco_exec.specs.Running.{RunLeadsAt, StandsFrom, Tells, code_left, at_beginning, at_register_call, reached_by_exit, reached_after_call, host};
 ghost use Rattle.teco_exec.specs.Tokens.{CountsSteps};
 ghost use Rattle.teco_exec.specs.View.{cursor as cursor_of};
 ghost use Rattle.teco_exec.specs.Quiet.{takes_no_memory};
@@ -18,9 +22,11 @@ use crate::called::{SHORT_LIMIT, short_copy};
 use crate::cursor::Cursor;
 use crate::flow::{Exit, Flow, Steps};
 use crate::laws::{machine_laws, meaning_laws};
-use crate::outcome::Outcome;
+use crate::outcome::{Outcome, Stopped};
 use crate::stepping::step;
-use teco_core::{Args, BLOCK_LIMIT, CALL_LIMIT, Code, Reg};
+use crate::watch::{Unwatched, Watch, Watched};
+use std::alloc::Global;
+use teco_core::{Args, BLOCK_LIMIT, CALL_LIMIT, Code, NoMemory, Reg};
 use teco_step::Terminal;
 use teco_store::Desk;
 
@@ -41,11 +47,81 @@ pub fn run<D: Desk, T: Terminal>(desk: &mut D, text: &[u8], limit: u64, term: &m
     ensures exit { (D.state desk.old).is_done ≡ false → (D.state desk.new).is_done ≡ true
         → result.code ≡ None }
 {
+    run_watched(desk, text, limit, term, &mut Unwatched)
+}
+
+/// Runs a command string on a desk and a terminal for at most `steps` steps, and tells where its run is then.
+///
+/// It runs as [`run`] does under this limit, and leaves desk and terminal so. Where the run stops before a step, for want of steps or
+/// memory or because the terminal failed, the place is that of the token whose step comes. Where it stops at a fault of a text, which
+/// uses no step, it is the place of the fault. Where the string is over by its end, or by a step that failed or left, there is none:
+/// the place of the token that failed after n steps is the one after n - 1 steps. So where a string ended by an error after n steps,
+/// ask with n steps, and if there is no place, from the same state with n - 1.
+///
+/// Places count the bytes before them, each in its own text. The answer takes some memory, 13 KB at most for the turns and 2 KB for
+/// the calls; where it lacks, the string was run all the same.
+pub fn place_after<D: Desk, T: Terminal>(
+    desk: &mut D,
+    text: &[u8],
+    steps: u64,
+    term: &mut T,
+    alloc: Global,
+) -> Result<Stopped, NoMemory>
+    ensures place { IfOk result (λ s. IfSome s.place
+        (λ p. IsPlaceAfter (D.state desk.old) text.now s.outcome.steps (told_of p))) }
+    ensures run { IfOk result (λ s. (typed : List ℕ)
+        × Runs (D.state desk.old) text.now steps s.outcome typed (D.state desk.new)
+        × Shows (T.screen term.old) (T.screen term.new) typed (is_tty s.outcome)) }
+    ensures again { IfOk result (λ s. D.state desk.new
+        ≡ (string_meaning (D.state desk.old) text.now s.outcome.steps).state) }
+{
+    let mut watch = Watched::new(alloc);
+    let outcome = run_watched(desk, text, steps, term, &mut watch);
+    let Watched {
+        place,
+        has_stopped,
+        lacks_memory,
+        ..
+    } = watch;
+    if lacks_memory {
+        return Err(NoMemory);
+    }
+    if has_stopped {
+        return Ok(Stopped {
+            outcome,
+            place: Some(place),
+        });
+    }
+    Ok(Stopped {
+        outcome,
+        place: None,
+    })
+}
+
+/// Runs a command string as `run` does, and tells a watch where it stops.
+fn run_watched<D: Desk, T: Terminal, W: Watch>(
+    desk: &mut D,
+    text: &[u8],
+    limit: u64,
+    term: &mut T,
+    watch: &mut W,
+) -> Outcome
+    ensures run { (typed : List ℕ) × Runs (D.state desk.old) text.now limit result typed (D.state desk.new)
+        × Shows (T.screen term.old) (T.screen term.new) typed (is_tty result) }
+    ensures again { D.state desk.new ≡ (string_meaning (D.state desk.old) text.now result.steps).state }
+    ensures follows { (floor : ℕ) → D.follows desk.old (trail_of (D.state desk.old) text.now floor 0)
+        → D.follows desk.new (trail_of (D.state desk.old) text.now floor result.steps) }
+    ensures no_memory { takes_no_memory (nodes text.now) ≡ true → result.code ≡ Some Mem → ⊥ }
+    ensures exit { (D.state desk.old).is_done ≡ false → (D.state desk.new).is_done ≡ true
+        → result.code ≡ None }
+    ensures told { W.knows watch.old None → (x : Option Told) × W.knows watch.new x
+        × IfSome x (λ p. IsPlaceAfter (D.state desk.old) text.now result.steps p) }
+{
     machine_laws();
     meaning_laws();
     let mut args = Args::new();
     let mut steps = Steps { done: 0, limit };
-    let exit = run_text(desk, text, 0, &mut args, &mut steps, term);
+    let exit = run_text(desk, text, 0, &mut args, &mut steps, term, watch);
     Outcome {
         code: exit.code(),
         steps: steps.done,
@@ -54,13 +130,14 @@ pub fn run<D: Desk, T: Terminal>(desk: &mut D, text: &[u8], limit: u64, term: &m
 
 /// Runs a text at this depth of calls, from its beginning, with these arguments. Where it returns, `args` are what it leaves.
 #[cycle(run_text)]
-fn run_text<D: Desk, T: Terminal>(
+fn run_text<D: Desk, T: Terminal, W: Watch>(
     desk: &mut D,
     text: &[u8],
     depth: usize,
     args: &mut Args,
     steps: &mut Steps,
     term: &mut T,
+    watch: &mut W,
 ) -> Exit
     requires { depth ≤ CALL_LIMIT }
     ensures counts { CountsSteps steps.old steps.new }
@@ -69,7 +146,10 @@ fn run_text<D: Desk, T: Terminal>(
         (host (D.state desk.new) (D.follows desk.new) (T.screen term.new) steps.new.done)
         (at_beginning (arguments args.old) text.now)
         (λ callers. reached_by_exit (arguments args.new) callers result) }
-    ensures no_memory { takes_no_memory (nodes text.now) ≡ true → result ≡ exit.Over (Some Mem) → ⊥ }
+    ensures no_memory { takes_no_memory (nodes text.now) ≡ true → code_left result ≡ Some Mem → ⊥ }
+    ensures told { W.knows watch.old None → Tells (W.knows watch.new) result (StandsFrom depth steps.old.limit
+        (host (D.state desk.old) (D.follows desk.old) (T.screen term.old) steps.old.done)
+        steps.new.done (at_beginning (arguments args.old) text.now)) }
 {
     let mut room = [Block {
         start: 0,
@@ -77,12 +157,14 @@ fn run_text<D: Desk, T: Terminal>(
     }; BLOCK_LIMIT];
     let mut cursor = Cursor::begin(text, *args, &mut room);
     'running: loop {
+        let at = cursor.at;
         match step(desk, &mut cursor, steps, term) {
             Flow::On => continue 'running,
             Flow::Call(q) => {
-                match run_called(desk, q, depth, &mut cursor, steps, term) {
+                match run_called(desk, q, depth, &mut cursor, at, steps, term, watch) {
                     Exit::Return => continue 'running,
                     Exit::Over(code) => return Exit::Over(code),
+                    Exit::Stop(code) => return Exit::Stop(code),
                 }
             }
             Flow::Return => {
@@ -90,6 +172,10 @@ fn run_text<D: Desk, T: Terminal>(
                 return Exit::Return;
             }
             Flow::Over(code) => return Exit::Over(code),
+            Flow::Stop(code) => {
+                watch.stopped(at, &cursor);
+                return Exit::Stop(code);
+            }
         }
     }
 }
@@ -99,15 +185,20 @@ fn run_text<D: Desk, T: Terminal>(
 ///
 /// A copy of it is run. A short one lies in the frame of this call, and the memory of a longer one is found before the step counts.
 #[cycle(run_text)]
-fn run_called<D: Desk, T: Terminal>(
+fn run_called<D: Desk, T: Terminal, W: Watch>(
     desk: &mut D,
     q: Reg,
     depth: usize,
     cursor: &mut Cursor,
+    at: usize,
     steps: &mut Steps,
     term: &mut T,
+    watch: &mut W,
 ) -> Exit
-    requires { depth ≤ CALL_LIMIT }
+    requires deep { depth ≤ CALL_LIMIT }
+    requires token { IsReadAt cursor.old.text.now at (Some (register register_command.Macro q))
+        (cursor_of cursor.old).left }
+    requires within { at ≤ length cursor.old.text.now }
     ensures text { cursor.new.text ≡ cursor.old.text }
     ensures left { (cursor_of cursor.new).left ≡ (cursor_of cursor.old).left }
     ensures counts { CountsSteps steps.old steps.new }
@@ -116,49 +207,73 @@ fn run_called<D: Desk, T: Terminal>(
         (host (D.state desk.old) (D.follows desk.old) (T.screen term.old) steps.old.done)
         (host (D.state desk.new) (D.follows desk.new) (T.screen term.new) steps.new.done)
         (at_register_call cursor.old q) (λ callers. reached_after_call cursor.new callers result) }
+    ensures told { W.knows watch.old None → Tells (W.knows watch.new) result (StandsFrom depth steps.old.limit
+        (host (D.state desk.old) (D.follows desk.old) (T.screen term.old) steps.old.done)
+        steps.new.done (at_register_call cursor.old q)) }
 {
     if steps.done == steps.limit {
-        return Exit::Over(Some(Code::Lim));
+        watch.stopped(at, cursor);
+        return Exit::Stop(Code::Lim);
     }
     let text = desk.registers().text(q);
     let len = text.len();
     if len <= SHORT_LIMIT {
         let copy = short_copy(text);
-        return run_copy(desk, &copy[..len], depth, cursor, steps, term);
+        return run_copy(desk, q, &copy[..len], depth, cursor, at, steps, term, watch);
     }
     let alloc = *desk.registers().value(q).text.allocator();
     match Vec::from_slice(alloc, text) {
-        Ok(copy) => run_copy(desk, &copy, depth, cursor, steps, term),
-        Err(_) => Exit::Over(Some(Code::Mem)),
+        Ok(copy) => run_copy(desk, q, &copy, depth, cursor, at, steps, term, watch),
+        Err(_) => {
+            watch.stopped(at, cursor);
+            Exit::Stop(Code::Mem)
+        }
     }
 }
 
 /// Counts the step that calls a text of which this is a copy, and runs it.
 #[cycle(run_text)]
-fn run_copy<D: Desk, T: Terminal>(
+fn run_copy<D: Desk, T: Terminal, W: Watch>(
     desk: &mut D,
+    q: Reg,
     called: &[u8],
     depth: usize,
     cursor: &mut Cursor,
+    at: usize,
     steps: &mut Steps,
     term: &mut T,
+    watch: &mut W,
 ) -> Exit
     requires deep { depth ≤ CALL_LIMIT }
+    requires token { IsReadAt cursor.old.text.now at (Some (register register_command.Macro q))
+        (cursor_of cursor.old).left }
+    requires within { at ≤ length cursor.old.text.now }
+    requires copy { called.now ≡ (content (D.state desk.old).registers q).text }
     requires fuel { steps.old.done < steps.old.limit }
     ensures text { cursor.new.text ≡ cursor.old.text }
     ensures left { (cursor_of cursor.new).left ≡ (cursor_of cursor.old).left }
     ensures counts { CountsSteps steps.old steps.new }
     ensures more { steps.old.done < steps.new.done }
-    ensures leads { (q : ℕ) → called.now ≡ (content (D.state desk.old).registers q).text
-        → RunLeadsAt depth steps.old.limit
+    ensures leads { RunLeadsAt depth steps.old.limit
         (host (D.state desk.old) (D.follows desk.old) (T.screen term.old) steps.old.done)
         (host (D.state desk.new) (D.follows desk.new) (T.screen term.new) steps.new.done)
         (at_register_call cursor.old q) (λ callers. reached_after_call cursor.new callers result) }
+    ensures told { W.knows watch.old None → Tells (W.knows watch.new) result (StandsFrom depth steps.old.limit
+        (host (D.state desk.old) (D.follows desk.old) (T.screen term.old) steps.old.done)
+        steps.new.done (at_register_call cursor.old q)) }
 {
     steps.count();
     desk.step_done(steps.done);
     if depth == CALL_LIMIT {
         return Exit::Over(Some(Code::Pdo));
     }
-    run_text(desk, called, depth + 1, &mut cursor.args, steps, term)
+    let args = &mut cursor.args;
+    match run_text(desk, called, depth + 1, args, steps, term, watch) {
+        Exit::Return => Exit::Return,
+        Exit::Over(code) => Exit::Over(code),
+        Exit::Stop(code) => {
+            watch.called(q, at, cursor);
+            Exit::Stop(code)
+        }
+    }
 }

@@ -1,13 +1,15 @@
 //! One step of a text.
 ghost use Rattle.std.specs.Prelude.{◌≡◌, ◌<◌, ◌≤◌, ◌⊎◌, ℕ, List, None, Some, MatchOption, MatchResult, drop, false, length, true};
-ghost use Rattle.teco_scan.specs.Scan.{scan};
+ghost use Rattle.teco_scan.specs.Scan.{scan, register};
 ghost use Rattle.teco_store.specs.State.{State};
 ghost use Rattle.teco_step.specs.Stepping.{IsStepIn, end_of, is_unfinished, is_unfinished_code, name_in, takes_nothing_in};
 ghost use Rattle.teco_step.specs.Terminal.{Screen};
 ghost use Rattle.teco_step.specs.declared.next.Next.TheVariants.{Call, Error};
-ghost use Rattle.teco_exec.specs.Machine.{Caller, Now, inside_iteration, leave_is_next, after_step_end, run_within};
-ghost use Rattle.teco_exec.specs.Running.{GoesOn, GoesQuietly, RunLeads, at_cursor, at_block_step, at_token, config, reached_by_flow, host, reached_run};
-ghost use Rattle.teco_exec.specs.Tokens.{Continues, CountsSteps, ProgressFinishes, ProgressesQuietly, call_of, calls_text, looks_around, reached_by_progress};
+ghost use Rattle.teco_exec.specs.CursorMoves.{inside_iteration, leave_is_next};
+ghost use Rattle.teco_exec.specs.Machine.{Caller, Now, after_step_end, ready_of};
+ghost use Rattle.teco_exec.specs.Running.{FlowStays, GoesOn, GoesQuietly, OnCall, OnStop, Origin, RunGoesOn, RunLeads, StandsAt, StandsSomewhere, token_standing, at_cursor, at_block_step, at_token, config, reached_by_flow, host, Comes};
+ghost use Rattle.teco_exec.specs.Tokens.{Continues, CountsSteps, OnDone, ProgressFinishes, ProgressStays, ProgressesQuietly, call_of, calls_text, looks_around, reached_by_progress};
+ghost use Rattle.teco_exec.specs.Places.{IsReadAt};
 ghost use Rattle.teco_exec.specs.Quiet.{IsQuiet, is_plain};
 ghost use Rattle.teco_exec.specs.View.{MayOpen, cursor as cursor_of, item_of_kind};
 ghost use Rattle.teco_exec.specs.declared.flow.Flow.TheVariants as flow;
@@ -44,6 +46,12 @@ pub(crate) fn step<D: Desk, T: Terminal>(
         (host (D.state desk.new) (D.follows desk.new) (T.screen term.new) steps.new.done)
         (at_cursor cursor.old) (λ callers. reached_by_flow cursor.new callers result) }
     ensures quiet { IsQuiet (cursor_of cursor.old) → GoesQuietly cursor.new result }
+    ensures around { OnStop result ((cursor_of cursor.new).blocks ≡ (cursor_of cursor.old).blocks) }
+    ensures stops { OnStop result ((o : Origin) (callers : List Caller) → o.limit ≡ steps.old.limit
+        → RunGoesOn o (host (D.state desk.old) (D.follows desk.old) (T.screen term.old) steps.old.done)
+        (at_cursor cursor.old callers) → StandsSomewhere o steps.new.done cursor.old callers) }
+    ensures calls { OnCall result (λ q. IsReadAt cursor.old.text.now cursor.old.at
+        (Some (register RegisterCommand.Macro q)) (cursor_of cursor.new).left) }
 {
     block_laws();
     let found = token_at(cursor.text, cursor.at);
@@ -56,7 +64,7 @@ pub(crate) fn step<D: Desk, T: Terminal>(
         },
         Coming::Block(block, to) => block_step(desk, cursor, block, to, steps),
         Coming::End => Flow::Return,
-        Coming::Fault(code) => over(code),
+        Coming::Fault(code) => Flow::Stop(code),
     }
 }
 
@@ -79,6 +87,12 @@ fn token_steps<D: Desk, T: Terminal>(
         (at_token cursor.old token.now None) (λ callers. reached_by_flow cursor.new callers result) }
     ensures quiet { IsQuiet (cursor_of cursor.old) → takes_nothing_in cursor.old.text.now token.now ≡ true
         → GoesQuietly cursor.new result }
+    ensures stays { FlowStays cursor.old cursor.new result }
+    ensures stops { OnStop result ((o : Origin) (callers : List Caller) → o.limit ≡ steps.old.limit
+        → RunGoesOn o (host (D.state desk.old) (D.follows desk.old) (T.screen term.old) steps.old.done)
+        (at_token cursor.old token.now None callers)
+        → StandsAt o steps.new.done (token_standing cursor.old token.now callers)) }
+    ensures calls { OnCall result (λ q. token.now.kind ≡ call_of q) }
 {
     let mut work = None;
     'stepping: loop {
@@ -113,13 +127,16 @@ fn token_step<D: Desk, T: Terminal>(
         (λ callers. reached_by_progress cursor.new token.now callers result) }
     ensures quiet { IsQuiet (cursor_of cursor.old) → takes_nothing_in cursor.old.text.now token.now ≡ true
         → ProgressesQuietly cursor.new result }
+    ensures stays { ProgressStays cursor.old cursor.new result }
+    ensures stops { OnDone result (λ f. OnStop f (steps.new.done ≡ steps.old.done)) }
+    ensures calls { OnDone result (λ f. OnCall f (λ q. token.now.kind ≡ call_of q)) }
 {
     effect_laws();
     if let Some(q) = called_by(token) {
         return Progress::Done(Flow::Call(q));
     }
     if steps.done == steps.limit {
-        return Progress::Done(over(Code::Lim));
+        return Progress::Done(Flow::Stop(Code::Lim));
     }
     let inside = iteration_is_seen(cursor, token);
     let before = leave_is_seen(cursor, token);
@@ -134,7 +151,7 @@ fn token_step<D: Desk, T: Terminal>(
         term,
     );
     if let Some(code) = unfinished(&next) {
-        return Progress::Done(over(code));
+        return Progress::Done(Flow::Stop(code));
     }
     steps.count();
     desk.step_done(steps.done);
@@ -159,9 +176,11 @@ fn block_step<D: Desk>(
         → RunLeads steps.old.limit (host (D.state desk.old) (D.follows desk.old) screen steps.old.done)
         (host (D.state desk.new) (D.follows desk.new) screen steps.new.done)
         (at_block_step cursor.old block to) (λ callers. reached_by_flow cursor.new callers result) }
+    ensures stops { OnStop result ((steps.new.done ≡ steps.old.done) × (cursor.new ≡ cursor.old)) }
+    ensures calls { OnCall result (λ q. ⊥) }
 {
     if steps.done == steps.limit {
-        return over(Code::Lim);
+        return Flow::Stop(Code::Lim);
     }
     let moved = cursor.block_step(block, to);
     steps.count();
@@ -177,12 +196,13 @@ fn resume(cursor: &mut Cursor, token: &Token, next: Next) -> Progress
     requires no_call { (q : ℕ) → next ≡ Call q → ⊥ }
     ensures text { cursor.new.text ≡ cursor.old.text }
     ensures finished { ProgressFinishes result }
-    ensures resumes { (s : State) (callers : List Caller) (now : Now) (fuel : ℕ)
-        → run_within fuel (after_step_end token.now.modifiers
+    ensures stays { ProgressStays cursor.old cursor.new result }
+    ensures resumes { (s : State) (callers : List Caller) (now : Now)
+        → Comes (ready_of (after_step_end token.now.modifiers
         (item_of_kind cursor.old.text.now token.now.kind)
         (end_of s (name_in cursor.old.text.now token.now) next)
-        (config cursor.old.text.now (cursor_of cursor.old) None callers now))
-        ≡ reached_run fuel now (reached_by_progress cursor.new token.now callers result) }
+        (config cursor.old.text.now (cursor_of cursor.old) None callers now)))
+        now (reached_by_progress cursor.new token.now callers result) }
     ensures quiet { (s : State) → IsQuiet (cursor_of cursor.old)
         → is_plain (end_of s (name_in cursor.old.text.now token.now) next) ≡ true
         → ProgressesQuietly cursor.new result }

@@ -4,6 +4,7 @@ ghost use Rattle.teco_step.specs.Terminal.{Puts};
 
 use crate::terminal::{Terminal, TerminalFault};
 use std::alloc::Global;
+use std::mem;
 
 /// A terminal that keeps all that is shown. A growth that is refused is a failure, and then nothing is added.
 #[derive(Drop)]
@@ -29,6 +30,17 @@ impl MemoryTerminal {
         ensures { (⟦<MemoryTerminal as Terminal>⟧.screen self.now).shown ≡ Some result.now }
     {
         self.bytes.as_slice()
+    }
+
+    /// Hands over all that it has shown, and begins anew. Takes no memory.
+    pub fn take(&mut self) -> Vec<u8>
+        ensures taken { (⟦<MemoryTerminal as Terminal>⟧.screen self.old).shown ≡ Some result.items }
+        ensures empty { (⟦<MemoryTerminal as Terminal>⟧.screen self.new).shown ≡ Some [] }
+        ensures failures { (⟦<MemoryTerminal as Terminal>⟧.screen self.new).failures
+            ≡ (⟦<MemoryTerminal as Terminal>⟧.screen self.old).failures }
+    {
+        let alloc = *self.bytes.allocator();
+        mem::replace(&mut self.bytes, Vec::new(alloc))
     }
 }
 

@@ -5,6 +5,7 @@ pub mod FormFeeds
 pub mod Halves
 pub mod Joining
 pub mod Leading
+pub mod Naming
 pub mod Outputs
 pub mod Recordings
 pub mod Rows

@@ -1,6 +1,7 @@
 pub mod ChangeView
 pub mod Entry
 pub mod Follows
+pub mod Kinds
 pub mod Output
 pub mod Page
 pub mod PageLaws

@@ -2,8 +2,11 @@
 ghost use Rattle.std.specs.Prelude.{◌≡◌, ◌≤◌};
 ghost use Rattle.teco_store.specs.ChangeView.{turn_of, HasRoom};
 ghost use Rattle.teco_store.specs.Entry.{held_by};
-ghost use Rattle.teco_store.specs.Turn.{note_after, full_after, FitsFull};
+ghost use Rattle.teco_store.specs.Kinds.{kind_of, way_back, ChangesOnly};
+ghost use Rattle.teco_store.specs.State.{Body};
+ghost use Rattle.teco_store.specs.Turn.{body_after, turn_after, note_after, full_after, Stands, FitsFull};
 
+use crate::change_kind::ChangeKind;
 use crate::editor::Editor;
 use crate::short_text::ShortText;
 use std::marker::Model;
@@ -16,6 +19,19 @@ pub(crate) struct Place {
     pub(crate) at: u32,
     pub(crate) there: u32,
     pub(crate) pointer: u32,
+}
+
+impl Place {
+    // The kind of a change that puts so many bytes there.
+    fn kind(&self, came: usize) -> ChangeKind
+        ensures { result ≡ ChangeKind.Splice self.now.at self.now.there came }
+    {
+        ChangeKind::Splice {
+            at: self.at as usize,
+            gone: self.there as usize,
+            came,
+        }
+    }
 }
 
 /// The part of the state that a change is for, with the value.
@@ -92,6 +108,33 @@ impl Change {
             | Kind::Found(_)
             | Kind::Done(_)
             | Kind::Mode(_) => 0,
+        }
+    }
+
+    /// What it is for, and of a splice how many bytes a turn takes out and puts in. Takes no memory.
+    #[tactic(auto, using(crate::proofs::Naming::changes_only, crate::proofs::Naming::kind_back))]
+    pub fn kind(&self) -> ChangeKind
+        ensures kind { result ≡ kind_of self.now.turn }
+
+        // A turn changes nothing else, and leaves a change that goes back.
+        ensures only { (b : Body) → ChangesOnly result b (body_after self.now.turn b) }
+        ensures back { (b : Body) → Stands self.now.turn b
+            → kind_of (turn_after self.now.turn b) ≡ way_back result }
+    {
+        match &self.kind {
+            Kind::Splice(place, held) => place.kind(held.len()),
+            Kind::Short(place, held) => place.kind(held.len()),
+            Kind::Point(_) => ChangeKind::Point,
+            Kind::Number(q, _) => ChangeKind::Number(*q),
+            Kind::Text(q, _) => ChangeKind::Text(*q),
+            Kind::Push(_) | Kind::TakeOff => ChangeKind::Push,
+            Kind::PopInto(q) => ChangeKind::Pop(*q),
+            Kind::PutBack(q, _) => ChangeKind::Pop(*q),
+            Kind::Pages(_, _, _) => ChangeKind::Pages,
+            Kind::Search(_) => ChangeKind::Search,
+            Kind::Found(_) => ChangeKind::Found,
+            Kind::Done(_) => ChangeKind::Done,
+            Kind::Mode(_) => ChangeKind::Mode,
         }
     }
 

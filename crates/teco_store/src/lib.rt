@@ -2,6 +2,7 @@
 #![tactic(auto)]
 
 mod change;
+mod change_kind;
 mod desk;
 mod editor;
 mod exchange;
@@ -14,6 +15,7 @@ mod short_text;
 mod turning;
 
 pub use change::Change;
+pub use change_kind::ChangeKind;
 pub use desk::{Desk, Refused};
 pub use editor::Editor;
 pub use laws::{page_laws, record_laws};

@@ -3,8 +3,10 @@
 //! A [`Session`] owns its memory and gives it back when it is dropped. An undo and a redo ask for none. A session stays on its thread:
 //! it is neither `Send` nor `Sync`.
 
+mod change;
 mod raw;
 
+pub use change::{Change, Kind};
 use std::cell::UnsafeCell;
 use std::fmt;
 use std::ptr;
@@ -45,6 +47,7 @@ pub struct Outcome {
     pub stop: Option<Stop>,
 }
 
+const SPLICE: u8 = 1;
 const MEM: u8 = 28;
 const END: u8 = 32;
 const NOT_BEGUN: u8 = 252;
@@ -119,6 +122,26 @@ impl Session {
         let mut steps = 0;
         let answer = unsafe { raw::teco_steps(self.at(), i, &mut steps) };
         (answer == 0).then_some(steps)
+    }
+
+    /// The changes of a string, in the order in which its steps made them, if there is one at this place.
+    pub fn changes(&self, i: usize) -> Option<Vec<Change>> {
+        let mut count = 0;
+        let answer = unsafe { raw::teco_changes(self.at(), i, &mut count) };
+        (answer == 0).then(|| (0..count).filter_map(|k| self.change(i, k)).collect())
+    }
+
+    fn change(&self, i: usize, k: usize) -> Option<Change> {
+        let (mut kind, mut name, mut step) = (0, 0, 0);
+        unsafe { raw::teco_change(self.at(), i, k, &mut kind, &mut name, &mut step) };
+        let kind = if kind == SPLICE { self.splice(i, k) } else { Kind::of(kind, name)? };
+        Some(Change { kind, step })
+    }
+
+    fn splice(&self, i: usize, k: usize) -> Kind {
+        let (mut at, mut gone, mut came) = (0, 0, 0);
+        unsafe { raw::teco_splice(self.at(), i, k, &mut at, &mut gone, &mut came) };
+        Kind::Splice { at, gone, came }
     }
 
     /// The text of the buffer.

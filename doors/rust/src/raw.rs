@@ -27,6 +27,9 @@ extern "C" {
     pub fn teco_cursor(t: *mut Handle, count: *mut usize) -> u8;
     pub fn teco_steps(t: *mut Handle, i: usize, steps: *mut u64) -> u8;
     pub fn teco_string(t: *mut Handle, i: usize, room: *mut u8, size: usize, length: *mut usize) -> u8;
+    pub fn teco_changes(t: *mut Handle, i: usize, count: *mut usize) -> u8;
+    pub fn teco_change(t: *mut Handle, i: usize, k: usize, kind: *mut u8, name: *mut u8, step: *mut u64) -> u8;
+    pub fn teco_splice(t: *mut Handle, i: usize, k: usize, at: *mut usize, gone: *mut usize, came: *mut usize) -> u8;
     pub fn teco_pointer(t: *mut Handle, pointer: *mut usize) -> u8;
     pub fn teco_text(t: *mut Handle, from: usize, room: *mut u8, size: usize, length: *mut usize) -> u8;
     pub fn teco_output(t: *mut Handle, from: usize, room: *mut u8, size: usize, length: *mut usize) -> u8;

@@ -1,4 +1,4 @@
-use teco::{Nothing, OpenError, Session, Stop};
+use teco::{Change, Kind, Nothing, OpenError, Session, Stop};
 
 const LIMIT: u64 = 1_000_000;
 
@@ -43,6 +43,18 @@ fn registers_and_strings_are_told() {
     assert_eq!((session.register(b'A'), session.register(b'!')), (Some(b"text".to_vec()), None));
     assert_eq!((session.string(0), session.string(1)), (Some(b"42UQ@^UA/text/".to_vec()), None));
     assert_eq!((session.steps(0), session.steps(1)), (Some(3), None));
+}
+
+#[test]
+fn changes_tell_what_is_drawn_anew() {
+    let mut session = Session::open(b"", 0).unwrap();
+    session.run(b"Iab\x1b7UQIcde\x1b", LIMIT, 0);
+    let splice = |at, gone, came, step| Change { kind: Kind::Splice { at, gone, came }, step };
+    let number = Change { kind: Kind::Number(b'Q'), step: 2 };
+    assert_eq!(session.changes(0), Some(vec![splice(0, 2, 0, 0), number, splice(2, 3, 0, 3)]));
+    assert_eq!(session.undo(), Ok(()));
+    assert_eq!(session.changes(0), Some(vec![splice(0, 0, 2, 0), number, splice(2, 0, 3, 3)]));
+    assert_eq!(session.changes(1), None);
 }
 
 #[test]

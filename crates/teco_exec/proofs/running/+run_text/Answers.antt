@@ -1,4 +1,4 @@
-use Rattle.std.proofs.Common.{◌≡◌, ◌<◌, ◌≤◌, ◌⊎◌, inl, inr, ◌+◌, ◌-◌, ◌*◌, ◌∷◌, length, drop, Some, refl, sym, subst, ap, ◌∙◌, arith}
+use Rattle.std.proofs.Common.{◌≡◌, ◌<◌, ◌≤◌, inl, ◌+◌, ◌-◌, ◌*◌, ◌∷◌, length, drop, Some, refl, sym, subst, ap, ◌∙◌, arith, rules}
 use Rattle.std.proofs.lemmas.List.{length-drop}
 use Rattle.teco_core.specs.ArgumentsView.{arguments}
 use Rattle.teco_exec.specs.View.{cursor}
@@ -6,6 +6,11 @@ use Rattle.teco_exec.specs.Running.{at_cursor, at_return, goes, host, over, reac
 use Rattle.teco_exec.proofs.Continuations.{begins, caller, comes_home, enters, less_left, too_deep}
 use Rattle.teco_exec.proofs.Going.{since}
 use Rattle.teco_exec.proofs.NoMemory.{begins_quietly}
+use Rattle.teco_scan.specs.Scan.{register}
+use Rattle.teco_scan.specs.declared.command.RegisterCommand.TheVariants.{Macro}
+use Rattle.teco_exec.specs.Places.{IsReadAt, told_here, with_call}
+use Rattle.teco_exec.specs.declared.flow.Exit.TheVariants as ending
+use Rattle.teco_exec.proofs.Placings.{call_told_here, called_told, stopped_told}
 use Rattle.teco_exec.proofs.Stepped.{call_fails, call_leads, call_unpaid, counts_on}
 use Rattle.teco_core.specs.declared.code.Code.TheVariants.{Pdo}
 use Rattle.teco_exec.proofs.running.+run_text.Goals as goal
@@ -14,6 +19,7 @@ pub run_text-running-init : goal.run_text-running-init
 run_text-running-init g t c = record {
   text = c.begin-cursor.ensures.text;
   counts = record { limit = refl; after = omega arith };
+  watch = λ knows. knows;
   quiet = begins_quietly (arguments c.args.args.now) c.args.text.now (cursor c.begin-cursor.result) c.begin-cursor.ensures.begins;
   going = λ o callers limit deep e. begins o _ (arguments c.args.args.now) c.args.text.now c.begin-cursor.result callers c.begin-cursor.ensures.text c.begin-cursor.ensures.begins e;
 }
@@ -32,6 +38,7 @@ pub run_text-running-preserved-in-On : goal.run_text-running-preserved-in-On
 run_text-running-preserved-in-On g t c = record {
   text = ap (λ x. x.now) c.in-On.ensures.text ∙ c.running.invariant.text;
   counts = counts_on c.running.invariant.counts c.in-On.ensures.counts;
+  watch = c.running.invariant.watch;
   quiet = λ h. c.in-On.ensures.quiet (c.running.invariant.quiet h);
   going = λ o callers limit deep e.
       let there = c.running.invariant.going o callers limit deep e in
@@ -49,7 +56,15 @@ run_text-returns-in-Over-clause-leads g t c o callers limit deep e =
     since o _ _ _ (over c.in-Over.code) there.follows (c.in-Over.ensures.leads o callers (limit ∙ sym c.running.invariant.counts.limit) there.going)
 
 pub run_text-returns-in-Over-clause-no_memory : goal.run_text-returns-in-Over-clause-no_memory
-run_text-returns-in-Over-clause-no_memory g t c h e = c.in-Over.ensures.quiet (c.running.invariant.quiet h) cc
+run_text-returns-in-Over-clause-no_memory g t c h e = c.in-Over.ensures.quiet (c.running.invariant.quiet h) e
+
+pub run_text-returns-in-Stop-clause-leads : goal.run_text-returns-in-Stop-clause-leads
+run_text-returns-in-Stop-clause-leads g t c o callers limit deep e =
+    let there = c.running.invariant.going o callers limit deep e in
+    since o _ _ _ (over (Some c.in-Stop.code)) there.follows (c.in-Stop.ensures.leads o callers (limit ∙ sym c.running.invariant.counts.limit) there.going)
+
+pub run_text-returns-in-Stop-clause-no_memory : goal.run_text-returns-in-Stop-clause-no_memory
+run_text-returns-in-Stop-clause-no_memory g t c h e = c.in-Stop.ensures.quiet (c.running.invariant.quiet h) e
 
 pub run_text-running-smaller : goal.run_text-running-smaller
 run_text-running-smaller g t c =
@@ -67,6 +82,7 @@ pub run_text-running-preserved : goal.run_text-running-preserved
 run_text-running-preserved g t c = record {
   text = ap (λ x. x.now) (c.in-Return-run_called.ensures.text ∙ c.in-Call.ensures.text) ∙ c.running.invariant.text;
   counts = counts_on c.running.invariant.counts (counts_on c.in-Call.ensures.counts c.in-Return-run_called.ensures.counts);
+  watch = λ knows. c.in-Return-run_called.ensures.told (c.running.invariant.watch knows);
   quiet = λ h. absurd (c.in-Call.ensures.quiet (c.running.invariant.quiet h));
   going = λ o callers limit deep e.
       let there = c.running.invariant.going o callers limit deep e in
@@ -86,6 +102,17 @@ run_text-returns-in-Over-run_called-clause-leads g t c o callers limit deep e =
 pub run_text-returns-in-Over-run_called-clause-no_memory : goal.run_text-returns-in-Over-run_called-clause-no_memory
 run_text-returns-in-Over-run_called-clause-no_memory g t c h e = c.in-Call.ensures.quiet (c.running.invariant.quiet h)
 
+pub run_text-returns-in-Stop-run_called-clause-leads : goal.run_text-returns-in-Stop-run_called-clause-leads
+run_text-returns-in-Stop-run_called-clause-leads g t c o callers limit deep e =
+    let there = c.running.invariant.going o callers limit deep e in
+    let here = c.in-Call.ensures.leads o callers (limit ∙ sym c.running.invariant.counts.limit) there.going in
+    let h = host (g.D.Desk.state c.step.new.desk) (g.D.Desk.follows c.step.new.desk) (g.T.Terminal.screen c.step.new.term) c.step.new.steps.done in
+    let r = c.in-Stop-run_called.ensures.leads o callers (limit ∙ sym c.running.invariant.counts.limit ∙ sym c.in-Call.ensures.counts.limit) deep here.going in
+    since o _ h _ (over (Some c.in-Stop-run_called.code)) (λ floor p. here.follows floor (there.follows floor p)) r
+
+pub run_text-returns-in-Stop-run_called-clause-no_memory : goal.run_text-returns-in-Stop-run_called-clause-no_memory
+run_text-returns-in-Stop-run_called-clause-no_memory g t c h e = c.in-Call.ensures.quiet (c.running.invariant.quiet h)
+
 pub run_called-returns-then-steps-clause-leads : goal.run_called-returns-then-steps-clause-leads
 run_called-returns-then-steps-clause-leads g t c o callers limit deep e =
     call_unpaid c.args.cursor.now c.args.q callers o _ e (c.if-steps.true ∙ sym limit)
@@ -94,26 +121,143 @@ pub run_called-returns-in-Err-clause-leads : goal.run_called-returns-in-Err-clau
 run_called-returns-in-Err-clause-leads g t c o callers limit deep e =
     call_fails c.args.cursor.now c.args.q callers o _ e (omega (arith, limit, c.args.steps.now.within, c.if-steps.false))
 
+pub run_text-returns-in-Return-clause-told : goal.run_text-returns-in-Return-clause-told
+run_text-returns-in-Return-clause-told g t c knows = c.running.invariant.watch knows
+
+pub run_text-returns-in-Over-clause-told : goal.run_text-returns-in-Over-clause-told
+run_text-returns-in-Over-clause-told g t c knows = c.running.invariant.watch knows
+
+pub run_text-returns-in-Over-run_called-clause-told : goal.run_text-returns-in-Over-run_called-clause-told
+run_text-returns-in-Over-run_called-clause-told g t c knows = c.in-Over-run_called.ensures.told (c.running.invariant.watch knows)
+
+pub run_text-returns-in-Stop-run_called-clause-told : goal.run_text-returns-in-Stop-run_called-clause-told
+run_text-returns-in-Stop-run_called-clause-told g t c knows =
+    let told = c.in-Stop-run_called.ensures.told (c.running.invariant.watch knows) in (
+      told.0,
+      told.1,
+      λ o callers limit deep e.
+          let there = c.running.invariant.going o callers limit deep e in
+          let here = c.in-Call.ensures.leads o callers (limit ∙ sym c.running.invariant.counts.limit) there.going in
+          told.2 o callers (limit ∙ sym c.running.invariant.counts.limit ∙ sym c.in-Call.ensures.counts.limit) deep here.going,
+    )
+
+pub run_text-returns-in-Stop-clause-told : goal.run_text-returns-in-Stop-clause-told
+run_text-returns-in-Stop-clause-told g t c knows =
+    let told = c.stopped.ensures (c.running.invariant.watch knows) in (
+      told_here told.0 (cursor c.step.new.cursor).blocks,
+      told.2,
+      λ o callers limit deep e.
+          let there = c.running.invariant.going o callers limit deep e in
+          stopped_told o c.step.new.steps.done c.running.cursor c.step.new.cursor callers told.0
+          (c.in-Stop.ensures.stops o callers (limit ∙ sym c.running.invariant.counts.limit) there.going) c.in-Stop.ensures.text c.in-Stop.ensures.around told.1,
+    )
+
+pub run_called-returns-then-steps-clause-told : goal.run_called-returns-then-steps-clause-told
+run_called-returns-then-steps-clause-told g t c knows =
+    let told = c.stopped.ensures knows in (
+      told_here told.0 (cursor c.args.cursor.now).blocks,
+      told.2,
+      λ o callers limit deep e.
+          call_told_here o _ c.args.cursor.now c.args.q c.args.at told.0 callers e c.requires.token told.1,
+    )
+
+pub run_called-returns-in-Err-clause-told : goal.run_called-returns-in-Err-clause-told
+run_called-returns-in-Err-clause-told g t c knows =
+    let told = c.stopped-in-Err.ensures knows in (
+      told_here told.0 (cursor c.args.cursor.now).blocks,
+      told.2,
+      λ o callers limit deep e.
+          call_told_here o _ c.args.cursor.now c.args.q c.args.at told.0 callers e c.requires.token told.1,
+    )
+
 pub run_copy-returns-then-depth-eq-CALL_LIMIT-clause-leads : goal.run_copy-returns-then-depth-eq-CALL_LIMIT-clause-leads
-run_copy-returns-then-depth-eq-CALL_LIMIT-clause-leads g t c q is o callers limit deep e =
+run_copy-returns-then-depth-eq-CALL_LIMIT-clause-leads g t c o callers limit deep e =
     let h = host (g.D.Desk.state c.step_done.new.self) (g.D.Desk.follows c.step_done.new.self) (g.T.Terminal.screen c.args.term.now) c.count.new.self.done in
     let from = c.args.cursor.now in
-    let there = call_leads from q callers o _ e c.count.new.self.done c.count.ensures.done (g.D.Desk.state c.step_done.new.self) c.step_done.ensures.state (g.D.Desk.follows c.step_done.new.self)
-    (g.met.D.Desk.eases c.args.desk.now) c.step_done.ensures.follows c.args.called.now is in
+    let there = call_leads from c.args.q callers o _ e c.count.new.self.done c.count.ensures.done (g.D.Desk.state c.step_done.new.self) c.step_done.ensures.state (g.D.Desk.follows c.step_done.new.self)
+    (g.met.D.Desk.eases c.args.desk.now) c.step_done.ensures.follows c.args.called.now c.requires.copy in
     since o _ h _ (over (Some Pdo)) there.follows
     (too_deep o h from c.args.called.now callers there.going (deep ∙ c.if-depth-eq-CALL_LIMIT.true) (omega (arith, limit, c.count.new.self.within, c.count.ensures.limit)))
 
-pub run_copy-returns-clause-leads : goal.run_copy-returns-clause-leads
-run_copy-returns-clause-leads g t c q is o callers limit deep e =
+pub run_copy-returns-then-depth-eq-CALL_LIMIT-clause-told : goal.run_copy-returns-then-depth-eq-CALL_LIMIT-clause-told
+run_copy-returns-then-depth-eq-CALL_LIMIT-clause-told g t c knows = knows
+
+pub run_copy-returns-in-Return-clause-leads : goal.run_copy-returns-in-Return-clause-leads
+run_copy-returns-in-Return-clause-leads g t c o callers limit deep e =
     let from = c.args.cursor.now in
     let left = c.run_text.new.args in
     let h = host (g.D.Desk.state c.step_done.new.self) (g.D.Desk.follows c.step_done.new.self) (g.T.Terminal.screen c.args.term.now) c.count.new.self.done in
     let k = host (g.D.Desk.state c.run_text.new.desk) (g.D.Desk.follows c.run_text.new.desk) (g.T.Terminal.screen c.run_text.new.term) c.run_text.new.steps.done in
-    let there = call_leads from q callers o _ e c.count.new.self.done c.count.ensures.done (g.D.Desk.state c.step_done.new.self) c.step_done.ensures.state (g.D.Desk.follows c.step_done.new.self)
-    (g.met.D.Desk.eases c.args.desk.now) c.step_done.ensures.follows c.args.called.now is in
+    let there = call_leads from c.args.q callers o _ e c.count.new.self.done c.count.ensures.done (g.D.Desk.state c.step_done.new.self) c.step_done.ensures.state (g.D.Desk.follows c.step_done.new.self)
+    (g.met.D.Desk.eases c.args.desk.now) c.step_done.ensures.follows c.args.called.now c.requires.copy in
     let fewer : length callers < 32 = omega (arith, deep, c.requires.deep, c.if-depth-eq-CALL_LIMIT.false) in
     let into = enters o h from c.args.called.now callers there.going fewer in
     let deeper : length (caller from ∷ callers) ≡ c.args.depth + 1 = omega (arith, deep) in
-    since o _ h k (reached_after_call (record from { args = left }) callers c.run_text.result) there.follows
-    (comes_home o h k (arguments left) from (record from { args = left }) callers refl refl c.run_text.result
-    (c.run_text.ensures.leads o (caller from ∷ callers) (limit ∙ sym c.count.ensures.limit) deeper into.going))
+    since o _ h k (reached_after_call (record from { args = left }) callers ending.Return) there.follows
+    (comes_home o h k (arguments left) from (record from { args = left }) callers refl refl ending.Return
+    (c.in-Return.ensures.leads o (caller from ∷ callers) (limit ∙ sym c.count.ensures.limit) deeper into.going))
+
+pub run_copy-returns-in-Over-clause-leads : goal.run_copy-returns-in-Over-clause-leads
+run_copy-returns-in-Over-clause-leads g t c o callers limit deep e =
+    let from = c.args.cursor.now in
+    let left = c.run_text.new.args in
+    let h = host (g.D.Desk.state c.step_done.new.self) (g.D.Desk.follows c.step_done.new.self) (g.T.Terminal.screen c.args.term.now) c.count.new.self.done in
+    let k = host (g.D.Desk.state c.run_text.new.desk) (g.D.Desk.follows c.run_text.new.desk) (g.T.Terminal.screen c.run_text.new.term) c.run_text.new.steps.done in
+    let there = call_leads from c.args.q callers o _ e c.count.new.self.done c.count.ensures.done (g.D.Desk.state c.step_done.new.self) c.step_done.ensures.state (g.D.Desk.follows c.step_done.new.self)
+    (g.met.D.Desk.eases c.args.desk.now) c.step_done.ensures.follows c.args.called.now c.requires.copy in
+    let fewer : length callers < 32 = omega (arith, deep, c.requires.deep, c.if-depth-eq-CALL_LIMIT.false) in
+    let into = enters o h from c.args.called.now callers there.going fewer in
+    let deeper : length (caller from ∷ callers) ≡ c.args.depth + 1 = omega (arith, deep) in
+    since o _ h k (reached_after_call (record from { args = left }) callers (ending.Over c.in-Over.code)) there.follows
+    (comes_home o h k (arguments left) from (record from { args = left }) callers refl refl (ending.Over c.in-Over.code)
+    (c.in-Over.ensures.leads o (caller from ∷ callers) (limit ∙ sym c.count.ensures.limit) deeper into.going))
+
+pub run_copy-returns-in-Stop-clause-leads : goal.run_copy-returns-in-Stop-clause-leads
+run_copy-returns-in-Stop-clause-leads g t c o callers limit deep e =
+    let from = c.args.cursor.now in
+    let left = c.run_text.new.args in
+    let h = host (g.D.Desk.state c.step_done.new.self) (g.D.Desk.follows c.step_done.new.self) (g.T.Terminal.screen c.args.term.now) c.count.new.self.done in
+    let k = host (g.D.Desk.state c.run_text.new.desk) (g.D.Desk.follows c.run_text.new.desk) (g.T.Terminal.screen c.run_text.new.term) c.run_text.new.steps.done in
+    let there = call_leads from c.args.q callers o _ e c.count.new.self.done c.count.ensures.done (g.D.Desk.state c.step_done.new.self) c.step_done.ensures.state (g.D.Desk.follows c.step_done.new.self)
+    (g.met.D.Desk.eases c.args.desk.now) c.step_done.ensures.follows c.args.called.now c.requires.copy in
+    let fewer : length callers < 32 = omega (arith, deep, c.requires.deep, c.if-depth-eq-CALL_LIMIT.false) in
+    let into = enters o h from c.args.called.now callers there.going fewer in
+    let deeper : length (caller from ∷ callers) ≡ c.args.depth + 1 = omega (arith, deep) in
+    since o _ h k (reached_after_call (record from { args = left }) callers (ending.Stop c.in-Stop.code)) there.follows
+    (comes_home o h k (arguments left) from (record from { args = left }) callers refl refl (ending.Stop c.in-Stop.code)
+    (c.in-Stop.ensures.leads o (caller from ∷ callers) (limit ∙ sym c.count.ensures.limit) deeper into.going))
+
+pub run_copy-returns-in-Return-clause-told : goal.run_copy-returns-in-Return-clause-told
+run_copy-returns-in-Return-clause-told g t c knows = c.in-Return.ensures.told knows
+
+pub run_copy-returns-in-Over-clause-told : goal.run_copy-returns-in-Over-clause-told
+run_copy-returns-in-Over-clause-told g t c knows = c.in-Over.ensures.told knows
+
+pub run_copy-returns-in-Stop-clause-told : goal.run_copy-returns-in-Stop-clause-told
+run_copy-returns-in-Stop-clause-told g t c knows =
+    let from = c.args.cursor.now in
+    let told = c.in-Stop.ensures.told knows in
+    let more = c.called.ensures told.0 told.1 in (
+      with_call told.0 c.args.q more.0 (cursor from).blocks,
+      more.2,
+      λ o callers limit deep e.
+          let h = host (g.D.Desk.state c.step_done.new.self) (g.D.Desk.follows c.step_done.new.self) (g.T.Terminal.screen c.args.term.now) c.count.new.self.done in
+          let there = call_leads from c.args.q callers o _ e c.count.new.self.done c.count.ensures.done (g.D.Desk.state c.step_done.new.self) c.step_done.ensures.state (g.D.Desk.follows c.step_done.new.self)
+          (g.met.D.Desk.eases c.args.desk.now) c.step_done.ensures.follows c.args.called.now c.requires.copy in
+          let fewer : length callers < 32 = omega (arith, deep, c.requires.deep, c.if-depth-eq-CALL_LIMIT.false) in
+          let into = enters o h from c.args.called.now callers there.going fewer in
+          let deeper : length (caller from ∷ callers) ≡ c.args.depth + 1 = omega (arith, deep) in
+          called_told o c.run_text.new.steps.done from c.args.q c.args.at more.0 callers told.0
+          (told.2 o (caller from ∷ callers) (limit ∙ sym c.count.ensures.limit) deeper into.going) c.requires.token more.1,
+    )
+
+pub run_text-run_called-requires : goal.run_text-run_called-requires
+run_text-run_called-requires g t c =
+    let to = c.step.new.cursor in
+    let token : IsReadAt to.text.now c.running.cursor.at (Some (register Macro c.in-Call.q)) (cursor to).left =
+    subst (λ x. IsReadAt x.now c.running.cursor.at (Some (register Macro c.in-Call.q)) (cursor to).left) (sym c.in-Call.ensures.text) c.in-Call.ensures.calls in
+    let within : c.running.cursor.at ≤ length to.text.now = subst (λ x. c.running.cursor.at ≤ length x.now) (sym c.in-Call.ensures.text) c.running.cursor.within in
+    search rules
+
+pub run_text-stopped-requires : goal.run_text-stopped-requires
+run_text-stopped-requires g t c = subst (λ x. c.running.cursor.at ≤ length x.now) (sym c.in-Stop.ensures.text) c.running.cursor.within

@@ -1,4 +1,4 @@
-use Rattle.std.proofs.Common.{◌≡◌, true, ◌-◌, ◌+◌, ◌*◌, List, length}
+use Rattle.std.proofs.Common.{◌≡◌, None, true, ◌-◌, ◌+◌, ◌*◌, List, length}
 use Rattle.teco_core.specs.ArgumentsView.{arguments}
 use Rattle.teco_exec.specs.Machine.{Caller}
 use Rattle.teco_scan.specs.Lists.{nodes}
@@ -21,6 +21,7 @@ abbrev pub invariant-run_text-running : goal.invariant-run_text-running
 invariant-run_text-running g l = record {
   text : l.cursor.text.now ≡ l.text;
   counts : CountsSteps l.fn.steps l.steps;
+  watch : g.W.Watch.knows l.fn.watch None → g.W.Watch.knows l.watch None;
   quiet : takes_no_memory (nodes l.text) ≡ true → IsQuiet (cursor l.cursor);
   going : (o : Origin) (callers : List Caller) → o.limit ≡ l.fn.steps.limit → length callers ≡ l.depth
       → RunGoesOn o (host (g.D.Desk.state l.fn.desk) (g.D.Desk.follows l.fn.desk) (g.T.Terminal.screen l.fn.term) l.fn.steps.done) (at_beginning (arguments l.fn.args) l.text callers)

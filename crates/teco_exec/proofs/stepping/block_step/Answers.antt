@@ -1,18 +1,22 @@
-use Rattle.std.proofs.Common.{refl, subst, sym, ◌∙◌, arith}
-use Rattle.teco_exec.specs.Running.{Reaches, reached_by_flow, host}
+use Rattle.std.proofs.Common.{refl, sym, ◌∙◌, arith}
+use Rattle.teco_exec.specs.Running.{reached_by_flow}
 use Rattle.teco_exec.proofs.Going.{limit_ends}
 use Rattle.teco_exec.proofs.Stepped.{block_leads, finishes, moves_on, unless_finishes}
+use Rattle.teco_exec.proofs.Standings.{unless_no_call, unless_no_stop}
 use Rattle.teco_exec.proofs.stepping.block_step.Goals as goal
 
 pub returns-then-steps-clause-leads : goal.returns-then-steps-clause-leads
-returns-then-steps-clause-leads g c screen o callers limit at =
-    let h = host (g.D.Desk.state c.args.desk.now) (g.D.Desk.follows c.args.desk.now) screen c.args.steps.now.done in
-    subst (λ f. Reaches o h h (reached_by_flow c.args.cursor.now callers f)) (sym c.over.ensures)
-    (limit_ends o h _ at (c.if-steps.true ∙ sym limit) (λ now. refl))
+returns-then-steps-clause-leads g c screen o callers limit at = limit_ends o _ _ at (c.if-steps.true ∙ sym limit) (λ now. refl)
 
 pub returns-clause-leads : goal.returns-clause-leads
 returns-clause-leads g c screen o callers limit at =
     block_leads c.args.cursor.now c.args.block c.args.to callers o _ at (omega (arith, limit, c.if-steps.false)) c.count.new.self.done c.count.ensures.done
     (g.D.Desk.state c.step_done.new.self) c.step_done.ensures.state (g.D.Desk.follows c.step_done.new.self) (λ u f. g.met.D.Desk.eases c.args.desk.now u f) c.step_done.ensures.follows
     (reached_by_flow c.block_step-moved.new.self callers c.on_unless.result) (finishes c.block_step-moved.new.self callers c.on_unless.result (unless_finishes c.block_step-moved.result c.on_unless.result c.on_unless.ensures c.block_step-moved.ensures.finished))
-    (λ now fuel. moves_on callers now fuel c.args.cursor.now c.block_step-moved.new.self c.block_step-moved.ensures.text c.block_step-moved.result c.on_unless.result c.on_unless.ensures _ c.block_step-moved.ensures.moves)
+    (λ now. moves_on callers now c.args.cursor.now c.block_step-moved.new.self c.block_step-moved.ensures.text c.block_step-moved.result c.on_unless.result c.on_unless.ensures _ c.block_step-moved.ensures.moves)
+
+pub returns-clause-stops : goal.returns-clause-stops
+returns-clause-stops g c = unless_no_stop _ c.block_step-moved.result c.on_unless.result c.on_unless.ensures
+
+pub returns-clause-calls : goal.returns-clause-calls
+returns-clause-calls g c = unless_no_call _ c.block_step-moved.result c.on_unless.result c.on_unless.ensures

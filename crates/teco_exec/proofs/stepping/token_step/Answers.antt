@@ -1,31 +1,28 @@
-use Rattle.std.proofs.Common.{Some, refl, subst, sym, ◌∙◌, arith}
+use Rattle.std.proofs.Common.{refl, sym, ◌∙◌, arith}
 use Rattle.teco_core.specs.ArgumentsView.{arguments}
 use Rattle.teco_step.specs.Stepping.{name_in}
-use Rattle.teco_exec.specs.Running.{Reaches, at_register_call, goes, reached_by_flow, host}
+use Rattle.teco_exec.specs.Running.{at_register_call, goes}
 use Rattle.teco_exec.specs.Tokens.{reached_by_progress}
 use Rattle.teco_exec.proofs.Going.{limit_ends, settles}
-use Rattle.teco_exec.proofs.Stepped.{calls_same, ends_over, never_calls, token_fails, token_goes, progress_finishes}
+use Rattle.teco_exec.proofs.Stepped.{calls_same, never_calls, token_fails, token_goes, progress_finishes}
+use Rattle.teco_exec.proofs.Standings.{no_call, no_stop, progress_stays_on}
 use Rattle.teco_exec.proofs.stepping.token_step.Goals as goal
 
 pub returns-in-Some-clause-leads : goal.returns-in-Some-clause-leads
 returns-in-Some-clause-leads g c o callers limit at =
     settles o _ _ at (goes (at_register_call c.args.cursor.now c.in-Some.q callers)) tt (omega (arith, limit, c.args.steps.now.within))
-    (λ now fuel. calls_same c.args.cursor.now c.args.token.now c.args.work c.in-Some.q callers now fuel c.in-Some.ensures)
+    (λ now. calls_same c.args.cursor.now c.args.token.now c.args.work c.in-Some.q callers now c.in-Some.ensures)
 
 pub returns-then-steps-clause-leads : goal.returns-then-steps-clause-leads
-returns-then-steps-clause-leads g c o callers limit at =
-    let h = host (g.D.Desk.state c.args.desk.now) (g.D.Desk.follows c.args.desk.now) (g.T.Terminal.screen c.args.term.now) c.args.steps.now.done in
-    subst (λ f. Reaches o h h (reached_by_flow c.args.cursor.now callers f)) (sym c.over.ensures)
-    (limit_ends o h _ at (c.if-steps.true ∙ sym limit) (λ now. refl))
+returns-then-steps-clause-leads g c o callers limit at = limit_ends o _ _ at (c.if-steps.true ∙ sym limit) (λ now. refl)
 
 pub returns-in-Some-unfinished-clause-leads : goal.returns-in-Some-unfinished-clause-leads
 returns-in-Some-unfinished-clause-leads g c o callers limit at =
     let from = c.args.cursor.now in
     let step = c.step_token-next in
-    ends_over o _ _ (record from { args = step.new.args }) callers c.over-in-Some-unfinished.result (Some c.in-Some-unfinished.code) c.over-in-Some-unfinished.ensures
-    (token_fails from c.args.token.now c.args.work callers c.iteration_is_seen-inside.result c.leave_is_seen-before.result c.requires c.iteration_is_seen-inside.ensures c.leave_is_seen-before.ensures
+    token_fails from c.args.token.now c.args.work callers c.iteration_is_seen-inside.result c.leave_is_seen-before.result c.requires c.iteration_is_seen-inside.ensures c.leave_is_seen-before.ensures
     o _ at (omega (arith, limit, c.if-steps.false)) (name_in from.text.now c.args.token.now) (g.D.Desk.state step.new.desk) step.new.args (g.T.Terminal.screen step.new.term) step.result (g.D.Desk.follows step.new.desk) step.ensures.follows
-    c.in-Some-unfinished.code c.in-Some-unfinished.ensures.0 c.in-Some-unfinished.ensures.1 step.ensures.steps)
+    c.in-Some-unfinished.code c.in-Some-unfinished.ensures.0 c.in-Some-unfinished.ensures.1 step.ensures.steps
 
 pub returns-clause-leads : goal.returns-clause-leads
 returns-clause-leads g c o callers limit at =
@@ -36,10 +33,19 @@ returns-clause-leads g c o callers limit at =
     o _ at (omega (arith, limit, c.if-steps.false)) (name_in from.text.now c.args.token.now) (g.D.Desk.state step.new.desk) step.new.args (g.T.Terminal.screen step.new.term) step.result (g.D.Desk.follows step.new.desk) step.ensures.follows
     c.in_default-unfinished.ensures step.ensures.steps c.count.new.self.done c.count.ensures.done (g.D.Desk.state c.step_done.new.self) c.step_done.ensures.state (g.D.Desk.follows c.step_done.new.self) c.step_done.ensures.follows
     (reached_by_progress to c.args.token.now callers c.resume.result) (progress_finishes to c.args.token.now callers c.resume.result c.resume.ensures.finished)
-    (λ now fuel. c.resume.ensures.resumes (g.D.Desk.state step.new.desk) callers now fuel)
+    (λ now. c.resume.ensures.resumes (g.D.Desk.state step.new.desk) callers now)
 
 pub resume-requires-clause-no_call : goal.resume-requires-clause-no_call
 resume-requires-clause-no_call g c q e =
     let from = c.args.cursor.now in
     never_calls c.effect_laws.ensures.call from.text.now c.args.token.now c.args.work c.iteration_is_seen-inside.result c.leave_is_seen-before.result (g.D.Desk.state c.args.desk.now) (arguments from.args)
     (name_in from.text.now c.args.token.now) _ _ c.step_token-next.result c.requires c.in_default.ensures c.step_token-next.ensures.steps q e
+
+pub returns-clause-stays : goal.returns-clause-stays
+returns-clause-stays g c = progress_stays_on c.args.cursor.now _ c.resume.new.cursor c.resume.result (record { place = refl; frames = refl }) c.resume.ensures.stays
+
+pub returns-clause-stops : goal.returns-clause-stops
+returns-clause-stops g c = no_stop _ c.resume.result c.resume.ensures.finished
+
+pub returns-clause-calls : goal.returns-clause-calls
+returns-clause-calls g c = no_call _ c.resume.result c.resume.ensures.finished

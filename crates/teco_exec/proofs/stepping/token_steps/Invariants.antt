@@ -2,7 +2,7 @@ use Rattle.std.proofs.Common.{◌≡◌, ◌-◌, None, true, List}
 use Rattle.teco_step.specs.Stepping.{takes_nothing_in}
 use Rattle.teco_exec.specs.Machine.{Caller}
 use Rattle.teco_exec.specs.Quiet.{IsQuiet}
-use Rattle.teco_exec.specs.Running.{ReachesContinuation, RunGoesOn, Origin, at_token, host}
+use Rattle.teco_exec.specs.Running.{ReachesContinuation, RunGoesOn, Origin, Stays, at_token, host}
 use Rattle.teco_exec.specs.Tokens.{CountsSteps}
 use Rattle.teco_exec.specs.View.{cursor}
 use Rattle.teco_exec.proofs.stepping.token_steps.Given as goal
@@ -10,6 +10,7 @@ use Rattle.teco_exec.proofs.stepping.token_steps.Given as goal
 abbrev pub invariant-stepping : goal.invariant-stepping
 invariant-stepping g l = record {
   text : l.cursor.text ≡ l.fn.cursor.text;
+  stays : Stays l.fn.cursor l.cursor;
   counts : CountsSteps l.fn.steps l.steps;
   quiet : IsQuiet (cursor l.fn.cursor) → takes_nothing_in l.fn.cursor.text.now l.token ≡ true → IsQuiet (cursor l.cursor);
   going : (o : Origin) (callers : List Caller) → o.limit ≡ l.fn.steps.limit

@@ -1,7 +1,7 @@
 use Rattle.std.proofs.Common.{drop, Ok, ap, sym, ◌∙◌}
 use Rattle.std.proofs.lemmas.Result.{err_from_is_err_and}
 use Rattle.teco_scan.specs.Lists.{closed, broken}
-use Rattle.teco_exec.specs.Machine.{inside_second_part}
+use Rattle.teco_exec.specs.CursorMoves.{inside_second_part}
 use Rattle.teco_exec.specs.View.{cursor}
 use Rattle.teco_exec.proofs.Frames.{second_is}
 use Rattle.teco_exec.proofs.cursor.Cursor.enter_second.Goals as goal

@@ -1,5 +1,5 @@
 use Rattle.std.proofs.Common.{◌≡◌, length}
-use Rattle.teco_exec.specs.Machine as machine
+use Rattle.teco_exec.specs.CursorMoves as machine
 use Rattle.teco_exec.specs.View.{cursor}
 use Rattle.teco_exec.proofs.cursor.Cursor.jump.Given as goal
 

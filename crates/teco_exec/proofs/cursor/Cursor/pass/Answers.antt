@@ -1,6 +1,6 @@
-use Rattle.std.proofs.Common.{ap, sym, ◌∙◌, drop}
+use Rattle.std.proofs.Common.{ap, refl, sym, ◌∙◌, drop}
 use Rattle.teco_scan.specs.Seen.{found_in}
-use Rattle.teco_exec.specs.Machine.{pass_scanned}
+use Rattle.teco_exec.specs.CursorMoves.{pass_scanned}
 use Rattle.teco_exec.specs.View.{cursor}
 use Rattle.teco_exec.proofs.Frames.{no_block, some_block}
 use Rattle.teco_exec.proofs.Refused.{fault_is_finished}
@@ -21,7 +21,7 @@ returns-else-len-eq0-clause-comes c =
 pub returns-in-Fault-clause-told : goal.returns-in-Fault-clause-told
 returns-in-Fault-clause-told c =
     let s = c.args.self.now in
-    fault_is_finished c.in-Fault.code (c.block_laws.ensures.scan_faults (drop s.at s.text.now) c.in-Fault.code (sym c.requires.read ∙ ap (found_in s.text.now) c.in-Fault.is))
+    (fault_is_finished c.in-Fault.code (c.block_laws.ensures.scan_faults (drop s.at s.text.now) c.in-Fault.code (sym c.requires.read ∙ ap (found_in s.text.now) c.in-Fault.is)), refl)
 
 pub returns-in-Test-clause-told : goal.returns-in-Test-clause-told
 returns-in-Test-clause-told c = c.pass_opening.ensures.told c.args.found.now

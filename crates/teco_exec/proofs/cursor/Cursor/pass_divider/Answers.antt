@@ -1,22 +1,25 @@
 use Rattle.std.proofs.Common.{drop, refl, sym, ap, ◌∙◌}
 use Rattle.teco_scan.specs.Lists.{broken}
-use Rattle.teco_exec.specs.Machine as machine
-use Rattle.teco_exec.proofs.Frames.{divides_on, divides_then, frames_either, frames_nil, or_kind}
+use Rattle.teco_exec.specs.CursorMoves as machine
+use Rattle.teco_exec.proofs.Frames.{begin_outer, closes_top, top_cons, divides_on, divides_then, frames_either, frames_nil, or_kind}
 use Rattle.teco_exec.proofs.cursor.Cursor.pass_divider.Goals as goal
 
 pub returns-in-None-clause-comes : goal.returns-in-None-clause-comes
-returns-in-None-clause-comes c found = sym (ap (machine.pass_divider (drop c.args.to c.args.self.now.text.now)) (frames_nil c.args.self.now.text.now c.in-None.ensures.0))
+returns-in-None-clause-comes c found = sym (ap (machine.pass_divider (drop c.args.to c.args.self.now.text.now)) (frames_nil c.args.self.now.text.now c.in-None.ensures))
 
 pub returns-in-Iter-clause-comes : goal.returns-in-Iter-clause-comes
-returns-in-Iter-clause-comes c found = sym (frames_either c.args.self.now.text.now (machine.pass_divider (drop c.args.to c.args.self.now.text.now)) c.in-Some.ensures (or_kind c.kind.ensures c.in-Iter.is) refl refl)
+returns-in-Iter-clause-comes c found = sym (frames_either c.args.self.now.text.now (machine.pass_divider (drop c.args.to c.args.self.now.text.now)) (top_cons c.args.self.now.blocks c.in-Some.ensures).1 (or_kind c.kind.ensures c.in-Iter.is) refl refl)
 
 pub returns-in-Err-clause-comes : goal.returns-in-Err-clause-comes
 returns-in-Err-clause-comes c found =
     let text = c.args.self.now.text.now in
-    divides_then text (drop c.args.to text) (broken c.in-Err.code) c.in-Some.ensures (sym c.kind.ensures ∙ c.in-Then.is) c.len-depth.ensures.value c.in-Err.ensures.closes
+    divides_then text (drop c.args.to text) (broken c.in-Err.code) (top_cons c.args.self.now.blocks c.in-Some.ensures).1 (sym c.kind.ensures ∙ c.in-Then.is) c.len-depth.ensures.value c.in-Err.ensures.closes
 
 pub returns-in-Ok-clause-comes : goal.returns-in-Ok-clause-comes
 returns-in-Ok-clause-comes c found =
     let text = c.args.self.now.text.now in
     let stop = c.in-Ok.stop in
-    divides_on text (drop c.args.to text) (drop stop.to text) stop.divided c.clear.ensures c.in-Some.ensures (sym c.kind.ensures ∙ c.in-Then.is) c.len-depth.ensures.value c.in-Ok.ensures.closes
+    divides_on text (drop c.args.to text) (drop stop.to text) stop.divided c.clear.ensures (closes_top c.in-Some.block c.pop.new.self c.pop.result (top_cons c.args.self.now.blocks c.in-Some.ensures).1 c.pop.ensures) (sym c.kind.ensures ∙ c.in-Then.is) c.len-depth.ensures.value c.in-Ok.ensures.closes
+
+pub invariant_of-self-clause-begin : goal.invariant_of-self-clause-begin
+invariant_of-self-clause-begin c = begin_outer (closes_top c.in-Some.block c.pop.new.self c.pop.result (top_cons c.args.self.now.blocks c.in-Some.ensures).1 c.pop.ensures) c.args.self.now.begin

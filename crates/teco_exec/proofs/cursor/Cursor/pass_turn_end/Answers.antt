@@ -1,5 +1,5 @@
 use Rattle.std.proofs.Common.{drop, refl, sym, ap, ◌∙◌}
-use Rattle.teco_exec.specs.Machine as machine
+use Rattle.teco_exec.specs.CursorMoves as machine
 use Rattle.teco_exec.proofs.Frames.{frames_either, frames_kind, frames_nil, or_kind, top_cons}
 use Rattle.teco_exec.proofs.cursor.Cursor.pass_turn_end.Goals as goal
 

@@ -1,0 +1,130 @@
+//! The calls that tell of the changes of a string.
+ghost use Rattle.std.specs.Prelude.{◌≡◌, length, option_map, option_copied};
+ghost use Rattle.teco_c.specs.Changes.{change_of, changes_of, kind_at, kind_number, name_in, splice_of};
+ghost use Rattle.teco_c.specs.Looks.{TellsIf};
+
+use crate::answers::{CLOSED, OUTSIDE};
+use crate::handle::Teco;
+use crate::kinds::{name_in_kind, number_of_kind};
+use std::alloc::Global;
+use teco_session::Session;
+use teco_store::{Change, ChangeKind};
+
+/// A change of a string, if it has so many.
+fn change_at(session: &Session, i: usize, k: usize) -> Option<&Change>
+    ensures { option_copied result ≡ change_of i k session.now }
+{
+    if i < session.strings() {
+        session.entry(i).get(k)
+    } else {
+        None
+    }
+}
+
+/// The kind of a change of a string, if it has so many.
+fn kind_of_change(session: &Session, i: usize, k: usize) -> Option<ChangeKind>
+    ensures { result ≡ kind_at i k session.now }
+{
+    match change_at(session, i, k) {
+        None => None,
+        Some(change) => Some(change.kind()),
+    }
+}
+
+/// Writes how many changes string `i` has. Takes no memory.
+#[unsafe(no_mangle)]
+pub extern "C" fn teco_changes(alloc: Global, t: &mut Teco, i: usize, count: &mut usize) -> u8
+    ensures { TellsIf 0 t.old.value result count.new t.new.value
+        (λ kept. option_map length (changes_of i kept)) }
+{
+    let Some(session) = t.take(alloc) else {
+        *count = 0;
+        return CLOSED;
+    };
+    let there = i < session.strings();
+    *count = if there { session.entry(i).len() } else { 0 };
+    t.put(session);
+    if there { 0 } else { OUTSIDE }
+}
+
+/// Writes what change `k` of string `i` is for: the number of its kind, the name of the register or 0, and how many steps of the string
+/// were done before it. Takes no memory.
+#[unsafe(no_mangle)]
+pub extern "C" fn teco_change(
+    alloc: Global,
+    t: &mut Teco,
+    i: usize,
+    k: usize,
+    kind: &mut u8,
+    name: &mut u8,
+    step: &mut u64,
+) -> u8
+    ensures kind { TellsIf 0 t.old.value result kind.new t.new.value
+        (λ kept. option_map kind_number (kind_at i k kept)) }
+    ensures name { TellsIf 0 t.old.value result name.new t.new.value
+        (λ kept. option_map name_in (kind_at i k kept)) }
+    ensures step { TellsIf 0 t.old.value result step.new t.new.value
+        (λ kept. option_map (λ change. change.step) (change_of i k kept)) }
+{
+    *kind = 0;
+    *name = 0;
+    *step = 0;
+    let Some(session) = t.take(alloc) else {
+        return CLOSED;
+    };
+    let code = match change_at(&session, i, k) {
+        None => OUTSIDE,
+        Some(change) => {
+            *kind = number_of_kind(change.kind());
+            *name = name_in_kind(change.kind());
+            *step = change.step();
+            0
+        }
+    };
+    t.put(session);
+    code
+}
+
+/// Writes of change `k` of string `i`, where it is a splice, its place in the text, how many bytes a turn takes out there, and how many
+/// it puts in: an undo, where the string is not undone, and else a redo. Takes no memory.
+#[unsafe(no_mangle)]
+pub extern "C" fn teco_splice(
+    alloc: Global,
+    t: &mut Teco,
+    i: usize,
+    k: usize,
+    at: &mut usize,
+    gone: &mut usize,
+    came: &mut usize,
+) -> u8
+    ensures at { TellsIf 0 t.old.value result at.new t.new.value
+        (λ kept. option_map (λ splice. splice.at) (splice_of i k kept)) }
+    ensures gone { TellsIf 0 t.old.value result gone.new t.new.value
+        (λ kept. option_map (λ splice. splice.gone) (splice_of i k kept)) }
+    ensures came { TellsIf 0 t.old.value result came.new t.new.value
+        (λ kept. option_map (λ splice. splice.came) (splice_of i k kept)) }
+{
+    *at = 0;
+    *gone = 0;
+    *came = 0;
+    let Some(session) = t.take(alloc) else {
+        return CLOSED;
+    };
+    let code = match kind_of_change(&session, i, k) {
+        Some(
+            ChangeKind::Splice {
+                at: place,
+                gone: out,
+                came: put,
+            },
+        ) => {
+            *at = place;
+            *gone = out;
+            *came = put;
+            0
+        }
+        _ => OUTSIDE,
+    };
+    t.put(session);
+    code
+}

@@ -1,0 +1,24 @@
+use Rattle.std.proofs.Common.{◌≡◌, ◌++◌, ◌∷◌, [], true, false, sym, ◌∙◌, rules}
+use Rattle.teco_exec.specs.View.{cursor}
+use Rattle.teco_exec.specs.declared.place.Call.{Call}
+use Rattle.teco_exec.proofs.Placings.{has_place, kept_call}
+use Rattle.teco_exec.proofs.Turns.{turns_same}
+use Rattle.teco_exec.proofs.watch.WatchedWatch.called.Goals as goal
+
+pub returns-else-is_err : goal.returns-else-is_err
+returns-else-is_err c p known =
+    let at = c.args.cursor.now in
+    let call : Call = record { register = c.args.register; at = c.token_place.result; turns = c.in-Ok.turns } in
+    let more : c.push.new.self.items ≡ c.args.self.now.place.calls.items ++ call ∷ [] = search rules in (
+      c.token_place.result,
+      c.token_place.ensures,
+      λ memory. (
+        (known memory).0,
+        kept_call c.args.self.now.place c.push.new.self.items call (cursor at).blocks p (known memory).1 more (c.in-Ok.ensures ∙ sym (turns_same at.text.now at.blocks)),
+      ),
+    )
+
+pub returns-in-Err : goal.returns-in-Err
+returns-in-Err c p known =
+    let h = has_place c.args.cursor.now.text.now c.args.at in
+    (h.0, h.1, λ memory. absurd (let no : true ≡ false = memory in cc))

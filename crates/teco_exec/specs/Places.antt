@@ -1,0 +1,96 @@
+-- Where a run stands, in its text, its open blocks and its calls.
+use Rattle.std.specs.Prelude.{◌≡◌, ℕ, List, [], ◌∷◌, ◌++◌, drop, Option, Some, None}
+use Rattle.teco_scan.specs.Scan.{Item, TokenMeaning, found, scan, after_fillers}
+use Rattle.teco_scan.specs.Scan as token
+use Rattle.teco_scan.specs.declared.blocks.Kind.TheVariants.{Iter, Then, Else}
+use Rattle.teco_scan.specs.declared.command.RegisterCommand.TheVariants.{Macro}
+use Rattle.teco_store.specs.State.{State}
+use Rattle.teco_exec.specs.CursorMoves.{Frame, after_block_step}
+use Rattle.teco_exec.specs.Machine.{Caller, Config, Machine, Ready, step, block, finished, runs, runs_or_halts, after_token_step, ready_of, after_steps, start_config}
+
+-- Where a run stands: its text and the bytes of it that are left, the open blocks, and the callers, the latest
+-- first. Where a step of a token comes, the token has been read, and this is its item.
+pub record Standing : Type 0 where
+  pub text : List ℕ
+  pub left : List ℕ
+  pub blocks : List Frame
+  pub callers : List Caller
+  pub item : Option Item
+
+abbrev pub standing_of : Option Item → Config → Standing
+standing_of item c =
+    record { text = c.text; left = c.at.left; blocks = c.at.blocks; callers = c.callers; item = item }
+
+-- where a run stands: before a step, or at a fault
+abbrev pub standing : Ready → Option Standing
+standing (step m i work c) = Some (standing_of (Some i) c)
+standing (block b bs c) = Some (standing_of None c)
+standing (finished c (Some e)) = Some (standing_of None c)
+standing (finished c None) = None
+
+-- the turns left of each open iteration, the innermost first; none: without end
+unfoldable pub open_turns : List Frame → List (Option ℕ)
+open_turns [] = []
+open_turns (b ∷ bs) =
+    elim b.kind
+    [ Iter ↦ b.left ∷ open_turns bs | Then ↦ open_turns bs | Else ↦ open_turns bs ]
+
+-- What is read at a place of a text: a token of this item, and then what is left; or, of no item, what is left,
+-- after fillers.
+abbrev pub IsReadAt : List ℕ → ℕ → Option Item → List ℕ → Type 0
+IsReadAt text at (Some i) left =
+    (t : TokenMeaning) × (scan (drop at text) ≡ found t left) × (t.instruction ≡ token.step i)
+IsReadAt text at None left = after_fillers (drop at text) ≡ after_fillers left
+
+-- the machine after the step that comes, if one does
+abbrev pub after_coming : Ready → Option Machine
+after_coming (step m i work c) = Some (after_token_step m i work c)
+after_coming (block b bs c) = Some (runs_or_halts c (after_block_step b bs c.at))
+after_coming (finished c e) = None
+
+-- A call that is open: the register whose text is called, the place of the call in the text that calls, and the
+-- turns left there.
+pub record CallToken : Type 0 where
+  pub register : ℕ
+  pub at : ℕ
+  pub turns : List (Option ℕ)
+
+-- Where a run stands, as it is told: the place in the innermost text, the turns left there, and the calls, the
+-- latest first.
+pub record Told : Type 0 where
+  pub at : ℕ
+  pub turns : List (Option ℕ)
+  pub calls : List CallToken
+
+-- The token begins at the first byte from a place on that is no filler.
+abbrev pub IsTokenPlace : List ℕ → ℕ → ℕ → Type 0
+IsTokenPlace text at to = drop to text ≡ after_fillers (drop at text)
+
+abbrev pub told_here : ℕ → List Frame → Told
+told_here at blocks = record { at = at; turns = open_turns blocks; calls = [] }
+
+abbrev pub with_call : Told → ℕ → ℕ → List Frame → Told
+with_call p q at blocks =
+    record p { calls = p.calls ++ record { register = q; at = at; turns = open_turns blocks } ∷ [] }
+
+pub record IsCallOf (b : Caller) (x : CallToken) : Type 0 where
+  pub read : IsReadAt b.text x.at (Some (token.register Macro x.register)) b.left
+  pub turns : x.turns ≡ open_turns b.blocks
+
+-- These texts have made these calls, and then come others.
+unfoldable pub HaveCalled : List CallToken → List Caller → List Caller → Type 0
+HaveCalled [] callers others = callers ≡ others
+HaveCalled (x ∷ xs) [] others = ⊥
+HaveCalled (x ∷ xs) (b ∷ callers) others = IsCallOf b x × HaveCalled xs callers others
+
+-- It is told of a run that stands so, in a text with these callers.
+pub record IsToldOf (callers : List Caller) (p : Told) (s : Standing) : Type 0 where
+  pub read : IsReadAt s.text p.at s.item s.left
+  pub turns : p.turns ≡ open_turns s.blocks
+  pub calls : HaveCalled p.calls s.callers callers
+
+-- After some steps the run of a whole string stands where it is told.
+pub record IsPlaceAfter (s : State) (text : List ℕ) (k : ℕ) (p : Told) : Type 0 where
+  pub there : Standing
+  pub stands : standing (ready_of (after_steps k (runs (start_config s text)))) ≡ Some there
+  pub told : IsToldOf [] p there
