@@ -58,8 +58,8 @@ pub fn run<D: Desk, T: Terminal>(desk: &mut D, text: &[u8], limit: u64, term: &m
 /// the place of the token that failed after n steps is the one after n - 1 steps. So where a string ended by an error after n steps,
 /// ask with n steps, and if there is no place, from the same state with n - 1.
 ///
-/// Places count the bytes before them, each in its own text. The answer takes some memory, 13 KB at most for the turns and 2 KB for
-/// the calls; where it lacks, the string was run all the same.
+/// Places count the bytes before them, each in its own text. The answer takes memory, for at most 33 texts with at most 64 iterations
+/// each; where it lacks, the string was run all the same.
 pub fn place_after<D: Desk, T: Terminal>(
     desk: &mut D,
     text: &[u8],

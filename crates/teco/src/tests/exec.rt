@@ -5,4 +5,5 @@ mod iterations;
 mod jumps;
 mod laws;
 mod page_turns;
+mod places;
 pub(crate) mod strings;

@@ -142,7 +142,7 @@ fn edits_lines(rt: HostRuntime) {
     all_hold(&rt, rt.alloc(), &LINES);
 }
 
-static COLUMN_SWAPS: [Group<'static>; 6] = [
+static COLUMN_SWAPS: [Group<'static>; 7] = [
     // Swaps columns.
     (
         How {
@@ -158,6 +158,13 @@ static COLUMN_SWAPS: [Group<'static>; 6] = [
             ..PROGRAM
         },
         &[(SWAP, "", ",")],
+    ),
+    (
+        How {
+            input: "a,b\nc,\x0cd\ne,f",
+            ..PROGRAM
+        },
+        &[(SWAP, "", "b,a\n,c\x0cd\nf,e")],
     ),
     // Reverses columns.
     (

@@ -3,14 +3,17 @@
 pub(super) const SORT: &str =
     r#"!sort.tec: sorts the lines of a file, by their bytes; lines that are alike keep their order.
   teco FILE --output OUT < examples/sort.tec
-Form feeds between pages go. A thousand lines take some 600000 steps, and more where they begin alike.!
+Form feeds between pages go. A thousand lines take some 500000 steps, and more where they begin alike.
+Each W lines are in order, and two such parts are merged: one is from P to M, the next from M to E. C tells
+whether there were two. The line at M is O bytes after the one at P; X and Y are the first bytes in which they
+differ, and the end of a line comes before any byte. The loops have no comments, since each turn passes them.!
 <A ZJ Z"N -A-10"N 10I$ ' ' -1-^N;>          !all pages, each with a line end!
-1UW <J 0UC                                  !each W lines are in order; C tells whether two such parts were merged!
-  <.-Z; .UP QWL .UM QM-Z; QWL .UE 1UC QPJ   !one is from P to M, the next from M to E!
-    <QP-QM; QM-QE;
-      0UI <QIAUX QM-.+QIAUY QX-QY"N 0;' QX-10"E 0;' %I>
-      QX-10"E -1UX' QY-10"E -1UY'           !the end of a line comes before any byte!
-      QY-QX"L QMJ XAK QPJ GA QM+:QAUM | L ' .UP>
+1UW <J 0UC
+  <.-Z; .UP QWL .UM QM-Z; QWL .UE 1UC QPJ
+    <QM-QPUO
+      <QOAUY QY-10"E -1UY 0;' 0A-QY"N 0;' C>
+      0AUX QX-10"E -1UX'
+      QY-QX"L QMJ XAK QPJ GA .UP QM+:QAUM QM-QE; | L .UP QP-QM;'>
     QEJ>
   -QC; 2*QWUW>
 EX$$
@@ -30,10 +33,10 @@ pub(super) const NUMBER: &str =
 and types how many lines there are.
   teco FILE --output OUT < examples/number.tec
 The pages are kept, and their lines are counted through.!
-0UN 9UT ^US     $                           !S is put before each number up to T!
+0UN 9UT 5<32I$> 9I$ HXS HK                          !S goes before each line, and each number up to T before its tab!
 Y <J
-  <.-Z; QT-QN"E QT*10+9UT :QS"N .UB GS -D QB,.XS QB,.K' '
-    QT-QN<.-Z; GS %N\ 9I$ L>>
+  <.-Z; QT-QN"E QT*10+9UT :QS-1"N .UB GS QB+1,.XS QB,.K' '
+    QT-QN<.-Z; GS R %N\ L>>
 -1-^N; P>
 QN= EX$$
 "#;
@@ -67,12 +70,13 @@ EX$$
 
 pub(super) const SWAP: &str =
     r#"!swap.tec: swaps the first two columns of a comma-separated file; a line without a comma stays.
-  teco FILE --output OUT < examples/swap.tec!
+  teco FILE --output OUT < examples/swap.tec
+A is the first column with its comma, and goes. The rest of the line is from B to E: A is put after its first
+comma, or by F at its end. The loop has no comments, since each turn would have to pass them.!
+@^UF/QEJ QE-QB"G -A-10"E R' ' I,$ GA -D/
 Y <J
-  <:S,$; .UC 0L .UB QB,QC-1XA QB,QCK        !A is the first column; it goes, and its comma too!
-    L .UE -A-10"E QE-1UE'                   !the second column ends where the line does, or at a comma!
-    QBJ :S,$"S .-1-QE"L .-1UE' '
-    QEJ I,$ GA L>
+  <:S,$; 0XA 0K .UB L .UE QBJ
+    :S,$"S QE-."L MF | GA' | MF' L>
 -1-^N; P>
 EX$$
 "#;

@@ -6,7 +6,7 @@ use std::test::*;
 use teco_core::NoMemory;
 use teco_session::{Answer, Session};
 use teco_step::MemoryTerminal;
-use teco_store::Desk;
+use teco_store::{ChangeKind, Desk};
 
 /// Strings, and the most bytes that the changes of the last one may hold.
 type Row<'a> = (&'a [&'a [u8]], usize);
@@ -71,6 +71,56 @@ fn entries_are_small(rt: HostRuntime) {
             (&[b"\x1b"], 0),
         ],
     );
+}
+
+/// Whether the changes of the first string are of these kinds.
+fn are(session: &Session, kinds: &[ChangeKind]) -> bool {
+    if session.strings() == 0 {
+        return false;
+    }
+    let changes = session.entry(0);
+    for (change, kind) in changes.iter().zip(kinds) {
+        if change.kind() != *kind {
+            return false;
+        }
+    }
+    changes.len() == kinds.len()
+}
+
+fn splice(at: usize, gone: usize, came: usize) -> ChangeKind {
+    ChangeKind::Splice { at, gone, came }
+}
+
+/// Whether a string shows the kinds of its changes, and the way back once it is undone.
+fn kinds_are_shown(alloc: Global) -> bool {
+    let mut session = Session::new(Vec::new(alloc));
+    let mut term = MemoryTerminal::new(alloc);
+    runs(&mut session, &[b"Iabc\x1b-DIxy\x1bJ\x1b"], &mut term)
+        && are(
+            &session,
+            &[
+                splice(0, 3, 0),
+                splice(2, 0, 1),
+                splice(2, 2, 0),
+                ChangeKind::Point,
+            ],
+        )
+        && session.undo().is_ok()
+        && are(
+            &session,
+            &[
+                splice(0, 0, 3),
+                splice(2, 1, 0),
+                splice(2, 0, 2),
+                ChangeKind::Point,
+            ],
+        )
+}
+
+#[test]
+fn changes_show_what_is_drawn_anew(rt: HostRuntime) {
+    let held = kinds_are_shown(rt.alloc()) || kinds_are_shown(rt.alloc());
+    assert!(rt; held, "the kinds of changes");
 }
 
 /// Whether the text is so many bytes `x`.

@@ -15,10 +15,17 @@ fn keeps(terminal: &mut MemoryTerminal) -> bool {
         && terminal.bytes() == b"1=23456789012345\r\n".as_slice()
 }
 
+/// Whether what was shown is handed over, and the terminal then begins anew.
+fn hands_over(terminal: &mut MemoryTerminal) -> bool {
+    let taken = terminal.take();
+    taken.as_slice() == b"1=23456789012345\r\n".as_slice() && puts_again(terminal, b"2", b"")
+}
+
 #[test]
 fn keeps_what_is_shown(rt: HostRuntime) {
     let mut terminal = MemoryTerminal::new(rt.alloc());
-    assert!(rt; keeps(&mut terminal));
+    assert!(rt; keeps(&mut terminal) && hands_over(&mut terminal));
+    assert!(rt; terminal.bytes() == b"2".as_slice());
 }
 
 /// How a writer fails.

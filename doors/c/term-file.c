@@ -1,0 +1,179 @@
+/* Reading INPUT, and writing the output as teco does: to a draft beside the file, which takes its name. */
+#include "term.h"
+#include <errno.h>
+#include <fcntl.h>
+#include <stdio.h>
+#include <stdlib.h>
+#include <string.h>
+#include <sys/stat.h>
+#include <unistd.h>
+
+enum { PIECE = 65536, DRAFTS = 100 };
+
+bool bytes_add(struct bytes *bytes, const void *from, size_t n)
+{
+    if (n > bytes->room - bytes->count) {
+        size_t room = bytes->count + n > 2 * bytes->room ? bytes->count + n : 2 * bytes->room;
+        uint8_t *at = realloc(bytes->at, room);
+        if (at == NULL)
+            return false;
+        bytes->at = at;
+        bytes->room = room;
+    }
+    if (n > 0)
+        memcpy(bytes->at + bytes->count, from, n);
+    bytes->count += n;
+    return true;
+}
+
+void bytes_free(struct bytes *bytes)
+{
+    free(bytes->at);
+    *bytes = (struct bytes){0};
+}
+
+static enum fate read_all(int file, struct bytes *to)
+{
+    static uint8_t piece[PIECE];
+    ssize_t n;
+    while ((n = read(file, piece, sizeof piece)) > 0) {
+        if ((size_t)n > TECO_INPUT_LIMIT - to->count)
+            return LARGE_INPUT;
+        if (!bytes_add(to, piece, (size_t)n))
+            return NO_MEMORY;
+    }
+    return n == 0 ? GOES_ON : NO_INPUT;
+}
+
+enum fate file_read(const char *name, struct bytes *to)
+{
+    int file = open(name, O_RDONLY | O_CLOEXEC);
+    if (file < 0)
+        return NO_INPUT;
+    enum fate fate = read_all(file, to);
+    if (close(file) != 0 && fate == GOES_ON)
+        fate = NO_INPUT;
+    return fate;
+}
+
+static bool write_all(int file, const uint8_t *bytes, size_t n)
+{
+    while (n > 0) {
+        ssize_t written = write(file, bytes, n);
+        if (written < 0)
+            return false;
+        bytes += written;
+        n -= (size_t)written;
+    }
+    return true;
+}
+
+static bool write_output(int file, struct teco *session)
+{
+    static uint8_t piece[PIECE];
+    size_t from = 0, left;
+    do {
+        if (teco_output(session, from, piece, sizeof piece, &left) != 0)
+            return false;
+        size_t n = left < sizeof piece ? left : sizeof piece;
+        if (!write_all(file, piece, n))
+            return false;
+        from += n;
+    } while (left > sizeof piece);
+    return true;
+}
+
+static bool append(const char *name, struct teco *session)
+{
+    int file = open(name, O_WRONLY | O_APPEND | O_CREAT | O_CLOEXEC, 0666);
+    if (file < 0)
+        return false;
+    bool written = write_output(file, session);
+    return close(file) == 0 && written;
+}
+
+/* The group, the owner and the permissions of the file whose place it takes, as far as the system lets us. */
+static void make_like(int file, const struct stat *old)
+{
+    bool group = fchown(file, (uid_t)-1, old->st_gid) == 0;
+    bool owner = fchown(file, old->st_uid, (gid_t)-1) == 0;
+    bool permissions = fchmod(file, old->st_mode & 07777) == 0;
+    (void)(group && owner && permissions);
+}
+
+/* Makes a new file in the folder of this one, whose name is then the draft's. -1 where it can't be made. */
+static int make_draft(const char *name, char *draft, size_t size, mode_t mode)
+{
+    const char *slash = strrchr(name, '/');
+    int folder = slash == NULL ? 0 : (int)(slash + 1 - name);
+    int file = -1;
+    errno = EEXIST;
+    for (long number = getpid(), end = number + DRAFTS; file < 0 && errno == EEXIST && number < end; number++) {
+        (void)snprintf(draft, size, "%.*s.teco-%ld", folder, name, number);
+        if (strcmp(draft, name) == 0)
+            strcat(draft, "-");
+        file = open(draft, O_WRONLY | O_CREAT | O_EXCL | O_CLOEXEC, mode);
+    }
+    return file;
+}
+
+/* Fills the draft, waits until it outlasts a crash, and gives it the file's name. Where that fails, it is removed. */
+static bool fill_draft(int file, const char *draft, const char *name, const struct stat *old, struct teco *session)
+{
+    bool written = write_output(file, session);
+    if (old != NULL)
+        make_like(file, old);
+    written = written && fsync(file) == 0;
+    written = close(file) == 0 && written;
+    if (written && rename(draft, name) == 0)
+        return true;
+    (void)unlink(draft);
+    return false;
+}
+
+/* Replaces the file that `old` tells of, or makes a new one where that is null. */
+static enum fate replace(const char *name, const struct stat *old, struct teco *session)
+{
+    size_t size = strlen(name) + sizeof ".teco--" + 20;
+    char *draft = malloc(size);
+    if (draft == NULL)
+        return NO_MEMORY;
+    int file = make_draft(name, draft, size, old == NULL ? 0666 : 0600);
+    bool written = file >= 0 && fill_draft(file, draft, name, old, session);
+    free(draft);
+    return written ? EXIT : NO_OUTPUT;
+}
+
+/* Writes to what is at the end of a path without links: a file that may be written is replaced, and all else gets the output. */
+static enum fate write_over(const char *path, struct teco *session)
+{
+    struct stat old;
+    if (stat(path, &old) != 0)
+        return NO_OUTPUT;
+    if (!S_ISREG(old.st_mode))
+        return append(path, session) ? EXIT : NO_OUTPUT;
+    int file = open(path, O_WRONLY | O_APPEND | O_CLOEXEC);
+    if (file < 0 || close(file) != 0)
+        return NO_OUTPUT;
+    return replace(path, &old, session);
+}
+
+/* A link under /dev or /proc leads to an open file, and one that leads nowhere yet makes a file there: the output goes through both. */
+enum fate file_write(const char *name, struct teco *session)
+{
+    struct stat about;
+    bool is_there = lstat(name, &about) == 0;
+    if (!is_there)
+        return errno == ENOENT ? replace(name, NULL, session) : NO_OUTPUT;
+    if (!S_ISLNK(about.st_mode))
+        return write_over(name, session);
+    bool is_open_file = strncmp(name, "/dev/", 5) == 0 || strncmp(name, "/proc/", 6) == 0;
+    char *path = is_open_file ? NULL : realpath(name, NULL);
+    enum fate fate = NO_OUTPUT;
+    if (path != NULL)
+        fate = write_over(path, session);
+    else if (is_open_file || errno == ENOENT)
+        fate = append(name, session) ? EXIT : NO_OUTPUT;
+    free(path);
+    return fate;
+}

@@ -1,0 +1,264 @@
+"""A terminal for a program: a pseudo terminal with a screen that is kept in memory, and a shell in small that starts, stops and continues
+the program in it. Nothing but Python's own library."""
+
+import fcntl
+import os
+import pty
+import re
+import select
+import signal
+import struct
+import termios
+import time
+
+PATIENCE = float(os.environ.get("PATIENCE", "20"))  # seconds to wait for what has to come
+QUIET = 0.05  # and for what must not
+
+
+class Screen:
+    """What a terminal shows of the bytes that it gets. A row that is full waits with the next one until a cell comes."""
+
+    KNOWN = re.compile(rb"\x1b\[(\?2004[hl]|\d*[AC]|J)")
+
+    def __init__(self, rows, columns):
+        self.rows, self.columns = rows, columns
+        self.cells = [[" "] * columns for _ in range(rows)]
+        self.row = self.column = self.bells = 0
+        self.marks_pastes = False
+        self.rest = b""
+
+    def resize(self, rows, columns):
+        """Cuts rows and columns off, or adds blank ones."""
+        self.cells = [(row + [" "] * columns)[:columns] for row in self.cells][:rows]
+        self.cells += [[" "] * columns for _ in range(rows - len(self.cells))]
+        self.rows, self.columns = rows, columns
+        self.row, self.column = min(self.row, rows - 1), min(self.column, columns - 1)
+
+    def feed(self, data):
+        data = self.rest + data
+        self.rest = b""
+        while data:
+            taken = self.sequence(data) if data[0] == 27 else self.character(data)
+            if taken == 0:
+                self.rest = data
+                return
+            data = data[taken:]
+
+    def sequence(self, data):
+        found = self.KNOWN.match(data)
+        if not found:
+            if len(data) < 8:
+                return 0
+            raise AssertionError(f"the terminal doesn't know {data[:12]!r}")
+        what = found.group(1)
+        many = int(what[:-1]) if what[:-1].isdigit() else 1
+        if what[:1] == b"?":
+            self.marks_pastes = what.endswith(b"h")
+        elif what == b"J":
+            self.cells[self.row][min(self.column, self.columns) :] = [" "] * (self.columns - min(self.column, self.columns))
+            self.cells[self.row + 1 :] = [[" "] * self.columns for _ in range(self.rows - self.row - 1)]
+        elif what.endswith(b"A"):
+            self.row = max(self.row - many, 0)
+        else:
+            self.column = min(self.column + many, self.columns - 1)
+        return found.end()
+
+    def character(self, data):
+        byte = data[0]
+        if byte == 13:
+            self.column = 0
+        elif byte == 10:
+            self.down()
+        elif byte == 7:
+            self.bells += 1
+        elif byte >= 32:
+            size = 1 if byte < 0xC0 else 2 if byte < 0xE0 else 3
+            if len(data) < size:
+                return 0
+            self.put(data[:size].decode(errors="replace"))
+            return size
+        else:
+            raise AssertionError(f"the terminal doesn't know byte {byte}")
+        return 1
+
+    def put(self, character):
+        wide = 2 if "\u3000" <= character <= "\uff60" else 1
+        if self.column + wide > self.columns:
+            self.column = 0
+            self.down()
+        self.cells[self.row][self.column] = character
+        if wide == 2:
+            self.cells[self.row][self.column + 1] = ""
+        self.column += wide
+
+    def down(self):
+        if self.row + 1 < self.rows:
+            self.row += 1
+        else:
+            self.cells = self.cells[1:] + [[" "] * self.columns]
+
+    def text(self):
+        """The rows down to the last that isn't blank, with `_` where the cursor is."""
+        rows = ["".join(row).rstrip() for row in self.cells]
+        before = "".join(self.cells[self.row][: self.column])
+        after = "".join(self.cells[self.row][self.column :]).rstrip()
+        rows[self.row] = before + "_" + after
+        while rows and not rows[-1]:
+            rows.pop()
+        return "\n".join(rows)
+
+
+def shell(program, report, orders):
+    """Runs the program as the foreground job of this terminal. Reports each stop and its end, and waits for an order after a stop."""
+    signal.signal(signal.SIGTTOU, signal.SIG_IGN)
+    child = os.fork()
+    if child == 0:
+        os.setpgid(0, 0)
+        os.tcsetpgrp(0, os.getpid())
+        signal.signal(signal.SIGTTOU, signal.SIG_DFL)
+        os.execve(program[0], program, dict(os.environ, LC_ALL="C.UTF-8"))
+    os.write(report, b"pid %d\n" % child)
+    while True:
+        _, status = os.waitpid(child, os.WUNTRACED)
+        if not os.WIFSTOPPED(status):
+            break
+        os.tcsetpgrp(0, os.getpgrp())
+        os.write(report, b"stopped %d\n" % os.WSTOPSIG(status))
+        if os.read(orders, 1) == b"f":
+            os.tcsetpgrp(0, child)
+        os.kill(-child, signal.SIGCONT)
+    how = b"signal %d\n" % os.WTERMSIG(status) if os.WIFSIGNALED(status) else b"status %d\n" % os.WEXITSTATUS(status)
+    os.write(report, how)
+    os.read(orders, 1)
+    os._exit(0)
+
+
+class Terminal:
+    def __init__(self, program, rows=24, columns=80, erase=b"\x7f"):
+        self.screen = Screen(rows, columns)
+        self.seen = b""
+        self.reports = b""
+        self.master, slave = pty.openpty()
+        self.resize(rows, columns)
+        settings = termios.tcgetattr(self.master)
+        settings[6][termios.VERASE] = erase
+        termios.tcsetattr(self.master, termios.TCSANOW, settings)
+        self.before = termios.tcgetattr(self.master)
+        self.report, report = os.pipe()
+        orders, self.orders = os.pipe()
+        self.leader = os.fork()
+        if self.leader == 0:
+            os.setsid()
+            fcntl.ioctl(slave, termios.TIOCSCTTY, 0)
+            for place in range(3):
+                os.dup2(slave, place)
+            os.close(self.master)
+            shell(program, report, orders)
+        for unused in slave, report, orders:
+            os.close(unused)
+        self.program = int(self.reported("pid"))
+
+    def close(self):
+        for process in self.program, self.leader:
+            try:
+                os.kill(process, signal.SIGKILL)
+            except ProcessLookupError:
+                pass
+        os.waitpid(self.leader, 0)
+        for place in self.master, self.report, self.orders:
+            os.close(place)
+
+    def resize(self, rows, columns):
+        self.screen.resize(rows, columns)
+        fcntl.ioctl(self.master, termios.TIOCSWINSZ, struct.pack("HHHH", rows, columns, 0, 0))
+
+    def read(self, seconds):
+        """Takes what the program shows within so long. False where nothing came."""
+        if not select.select([self.master], [], [], seconds)[0]:
+            return False
+        try:
+            data = os.read(self.master, 65536)
+        except OSError:
+            return False
+        self.seen += data
+        self.screen.feed(data)
+        return bool(data)
+
+    def types(self, keys):
+        """Presses keys that come together."""
+        os.write(self.master, keys)
+        return self
+
+    def state(self):
+        return self.screen.text()
+
+    def waits(self, state, wanted):
+        end = time.monotonic() + PATIENCE
+        while state() != wanted and time.monotonic() < end:
+            self.read(0.2)
+        while self.read(QUIET):
+            pass
+        assert state() == wanted, f"wanted:\n{wanted}\nseen:\n{state()}"
+        return self
+
+    def shows(self, wanted):
+        """Waits until the screen is so, and nothing more comes."""
+        return self.waits(self.state, wanted)
+
+    def rings(self, wanted):
+        """Waits until the bell has rung so often."""
+        return self.waits(lambda: self.screen.bells, wanted)
+
+    def passes(self, wanted):
+        """Reads until these bytes have come, and keeps no screen of what comes before."""
+        end = time.monotonic() + 10 * PATIENCE
+        last = b""
+        while wanted not in last and time.monotonic() < end:
+            last = last[-len(wanted) :] + os.read(self.master, 65536)
+        assert wanted in last, f"{wanted!r} doesn't come"
+
+    def reported(self, word):
+        """Waits for a report that begins with this word, and gives what it says."""
+        end = time.monotonic() + PATIENCE
+        while b"\n" not in self.reports and time.monotonic() < end:
+            ready = select.select([self.report, self.master], [], [], 0.2)[0]
+            if self.report in ready:
+                self.reports += os.read(self.report, 4096)
+            if self.master in ready:
+                self.read(0)
+        assert b"\n" in self.reports, f"no report: {word} is wanted; seen:\n{self.state()}"
+        first, self.reports = self.reports.split(b"\n", 1)
+        said, value = first.decode().split()
+        while self.read(QUIET):
+            pass
+        assert said == word, f"wanted: {word}; it is: {first.decode()}; seen:\n{self.state()}"
+        return value
+
+    def kills(self, number):
+        os.kill(self.program, number)
+        return self
+
+    def continues(self, order=b"f"):
+        """By the order f in front, by b in the background."""
+        os.write(self.orders, order)
+        return self
+
+    def is_given_back(self):
+        assert termios.tcgetattr(self.master) == self.before, "the terminal is not as it was"
+        assert not self.screen.marks_pastes, "pastes are still marked"
+        return self
+
+    def is_own(self):
+        local = termios.tcgetattr(self.master)[3]
+        assert not local & (termios.ICANON | termios.ECHO), "the terminal is not set for keys"
+        assert self.screen.marks_pastes, "pastes are not marked"
+        return self
+
+    def ends(self, status):
+        """Waits until the program has ended with this status, and the terminal is as it was."""
+        assert self.reported("status") == str(status), f"the status is not {status}; seen:\n{self.state()}"
+        return self.is_given_back()
+
+    def dies(self, number):
+        assert self.reported("signal") == str(int(number)), f"it is not ended by signal {number}"
+        return self.is_given_back()
