@@ -146,7 +146,7 @@ static void changes(void)
     uint8_t kind = 1, name = 1;
     size_t one = 1, two = 1;
     teco_open(&t, bytes("one\ftwo"), 7, 0);
-    HOLDS(run(&t, "Iabc\0332D7UQ", 0) == 20);
+    HOLDS(run(&t, "Iabc\0339J7UQ", 0) == 20);
     HOLDS(run(&t, "-DIxy\033@^U9/text/[9]Z", 0) == 0);
     HOLDS(teco_changes(&t, 0, &n) == 0 && n == 1);
     HOLDS(is(&t, 0, 0, TECO_KIND_SPLICE, 0, 0) && splices(&t, 0, 0, 0, 3, 0));
