@@ -214,7 +214,8 @@ class Terminal:
         end = time.monotonic() + 10 * PATIENCE
         last = b""
         while wanted not in last and time.monotonic() < end:
-            last = last[-len(wanted) :] + os.read(self.master, 65536)
+            if select.select([self.master], [], [], 0.2)[0]:
+                last = last[-len(wanted) :] + os.read(self.master, 65536)
         assert wanted in last, f"{wanted!r} doesn't come"
 
     def reported(self, word):
