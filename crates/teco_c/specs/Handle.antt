@@ -21,7 +21,7 @@ abbrev pub coded_held : Coded (Option Kept)
 coded_held = coded_option the_row.coded
 
 -- An open handle stays open, and its session goes so.
-abbrev pub Goes : Option Kept → Option Kept → (Kept → Kept → Type 0) → Type 0
-Goes None new way = Unit {0}
-Goes (Some old) None way = ⊥
-Goes (Some old) (Some new) way = way old new
+abbrev pub SessionGoes : Option Kept → Option Kept → (Kept → Kept → Type 0) → Type 0
+SessionGoes None new way = Unit {0}
+SessionGoes (Some old) None way = ⊥
+SessionGoes (Some old) (Some new) way = way old new

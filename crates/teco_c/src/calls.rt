@@ -5,7 +5,7 @@ ghost use Rattle.teco_core.specs.declared.code.Code.TheVariants.{Mem};
 ghost use Rattle.teco_session.specs.Kept.{new_session};
 ghost use Rattle.teco_session.specs.declared.request.Answer.{Answer as RunAnswer};
 ghost use Rattle.teco_c.specs.Calls.{StaysClosed, Undoes, Redoes, Rewinds, RunsTo, depth_asked};
-ghost use Rattle.teco_c.specs.Handle.{Goes};
+ghost use Rattle.teco_c.specs.Handle.{SessionGoes};
 ghost use Rattle.teco_c.specs.Numbers.{answer_number, steps_of};
 
 use crate::answers::{CLOSED, DEEP, LARGE, number_of_answer, steps_of_answer};
@@ -68,7 +68,7 @@ pub extern "C" fn teco_close(alloc: Global, t: &mut Teco)
 /// Goes back by a string: 0, or the number of NTU where there is none. Takes no memory.
 #[unsafe(no_mangle)]
 pub extern "C" fn teco_undo(alloc: Global, t: &mut Teco) -> u8
-    ensures open { Goes t.old.value t.new.value (λ old new. Undoes old result new) }
+    ensures open { SessionGoes t.old.value t.new.value (λ old new. Undoes old result new) }
     ensures closed { StaysClosed t.old.value result t.new.value }
 {
     let Some(mut session) = t.take(alloc) else {
@@ -85,7 +85,7 @@ pub extern "C" fn teco_undo(alloc: Global, t: &mut Teco) -> u8
 /// Goes on by a string: 0, or the number of NTR where there is none. Takes no memory.
 #[unsafe(no_mangle)]
 pub extern "C" fn teco_redo(alloc: Global, t: &mut Teco) -> u8
-    ensures open { Goes t.old.value t.new.value (λ old new. Redoes old result new) }
+    ensures open { SessionGoes t.old.value t.new.value (λ old new. Redoes old result new) }
     ensures closed { StaysClosed t.old.value result t.new.value }
 {
     let Some(mut session) = t.take(alloc) else {
@@ -102,7 +102,7 @@ pub extern "C" fn teco_redo(alloc: Global, t: &mut Teco) -> u8
 /// Goes back to the state after the first `n` steps of the last string: 0, or the number of NTU where there is none. Takes no memory.
 #[unsafe(no_mangle)]
 pub extern "C" fn teco_rewind(alloc: Global, t: &mut Teco, n: u64) -> u8
-    ensures open { Goes t.old.value t.new.value (λ old new. Rewinds n old result new) }
+    ensures open { SessionGoes t.old.value t.new.value (λ old new. Rewinds n old result new) }
     ensures closed { StaysClosed t.old.value result t.new.value }
 {
     let Some(mut session) = t.take(alloc) else {
@@ -151,7 +151,7 @@ pub extern "C" fn teco_run(
     made: &mut usize,
     steps: &mut u64,
 ) -> u8
-    ensures open { Goes t.old.value t.new.value
+    ensures open { SessionGoes t.old.value t.new.value
         (λ old new. (answer : RunAnswer) × (result ≡ answer_number answer)
         × (steps.new ≡ steps_of answer) × RunsTo limit old text.now answer (take made.new room.new) new) }
     ensures within { made.new ≤ length room.new }

@@ -4,7 +4,7 @@ use Rattle.teco_store.specs.State.{State, Full, IsSound, state_at, state_of}
 use Rattle.teco_store.specs.Trail.{Trail}
 use Rattle.teco_store.specs.Turn.{Note as Change}
 use Rattle.teco_store.specs.Entry.{body_back}
-use Rattle.teco_store.specs.Follows.{Recording, HasCome, Follows, Leads}
+use Rattle.teco_store.specs.Follows.{Recording, HasCome, Follows, LeadsBack}
 use Rattle.teco_store.specs.RecordLaws.{LeadsToItsBeginning}
 use Rattle.teco_exec.specs.Laws.{ZeroLimitChangesNothing}
 use Rattle.teco_exec.specs.Runs.{trail_of}
@@ -16,11 +16,11 @@ kept_run text steps changes = record { text = text; steps = steps; changes = cha
 
 -- what a run on a recorder has left
 pub record RunLeft (old new : Full) (text : List ℕ) (k : ℕ) (changes : List Change) : Type 0 where
-  pub leads : Leads old new changes
+  pub leads : LeadsBack old new changes
   pub run : HasRun new (kept_run text k changes)
 
 -- where the changes lead back to
-back_to : (old new : Full) (changes : List Change) → Leads old new changes → state_at new.stored (body_back changes new.body) ≡ state_of old
+back_to : (old new : Full) (changes : List Change) → LeadsBack old new changes → state_at new.stored (body_back changes new.body) ≡ state_of old
 back_to old new changes l =
     ap (state_at new.stored) l.body
     ∙ ap (λ (bytes : List ℕ). let s : State = record (state_of old) { output = bytes } in s) l.stored

@@ -4,7 +4,7 @@ use Rattle.std.proofs.lemmas.List.{take-set}
 use Rattle.teco_store.specs.State.{State, Full, state_at, state_of, with_body}
 use Rattle.teco_store.specs.Turn.{Note as Change}
 use Rattle.teco_store.specs.Entry.{body_back, before, since}
-use Rattle.teco_store.specs.Follows.{HasCome, Leads}
+use Rattle.teco_store.specs.Follows.{HasCome, LeadsBack}
 use Rattle.teco_store.specs.RecordLaws.{BackThenForth, ComesSoExtended, ComesSoFarCut}
 use Rattle.teco_exec.specs.Runs.{trail_of}
 use Rattle.teco_exec.specs.StringMeaning.{string_meaning}
@@ -26,7 +26,7 @@ nothing_left (x ∷ xs) h = absurd (omega arith)
 
 -- A string that is cut is the string that would have been noted, had it ended there.
 record IsCutRun (f : Full) (x : KeptString) (n : ℕ) : Type 0 where
-  pub leads : Leads (with_body f (body_back x.changes f.body)) (with_body f (body_back (since n x.changes) f.body)) (before n x.changes)
+  pub leads : LeadsBack (with_body f (body_back x.changes f.body)) (with_body f (body_back (since n x.changes) f.body)) (before n x.changes)
   pub run : HasRun (with_body f (body_back (since n x.changes) f.body)) (string_cut n x)
   pub again : state_of (with_body f (body_back (since n x.changes) f.body)) ≡ (string_meaning (state_of (with_body f (body_back x.changes f.body))) x.text n).state
 

@@ -3,7 +3,7 @@ use Rattle.std.proofs.Common.{◌≡◌, ℕ, ◌+◌, ◌≤◌, Option, List, 
 use Rattle.std.proofs.lemmas.List.{reverse-append, length-reverse, length-take-le, drop_all, take_all, take_at, take-take, take-append-drop}
 use Rattle.teco_store.specs.State.{State, Body, IsSound, Extends, state_at, state_of}
 use Rattle.teco_store.specs.Entry.{body_back}
-use Rattle.teco_store.specs.Follows.{HasCome, Leads}
+use Rattle.teco_store.specs.Follows.{HasCome, LeadsBack}
 use Rattle.teco_store.specs.RecordLaws.{BackThenForth, ComesSoExtended}
 use Rattle.teco_exec.specs.Runs.{trail_of}
 use Rattle.teco_exec.specs.StringMeaning.{string_meaning}
@@ -83,7 +83,7 @@ same_parts : (first first' : State) (notes notes' : List NotedString) (c c' : �
     → (let h : History = record { first = first; notes = notes; cursor = c; depth = depth } in h) ≡ record { first = first'; notes = notes'; cursor = c'; depth = depth' }
 same_parts first first' notes notes' c c' depth depth' a b d e = rw (a, b, d, e) refl
 
-pub session_appended : BackThenForth → ComesSoExtended → (s t : KeptSession) (x : KeptString) → IsSession s → Leads s.editor t.editor x.changes → HasRun t.editor x
+pub session_appended : BackThenForth → ComesSoExtended → (s t : KeptSession) (x : KeptString) → IsSession s → LeadsBack s.editor t.editor x.changes → HasRun t.editor x
     → state_of t.editor ≡ (string_meaning (state_of s.editor) x.text x.steps).state → t.strings ≡ take s.cursor s.strings ++ x ∷ [] → t.cursor ≡ s.cursor + 1 → t.depth ≡ s.depth → Appended s t x
 session_appended law more s t x ok r run again strings at depth =
     let c = s.cursor in

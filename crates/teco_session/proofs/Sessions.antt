@@ -4,7 +4,7 @@ use Rattle.std.proofs.Math.Nat.{min-le_right}
 use Rattle.std.proofs.lemmas.List.{get_or_default, take_more_set, length-take-le, length-drop}
 use Rattle.teco_store.specs.State.{Full, state_of, with_body}
 use Rattle.teco_store.specs.Entry.{body_back, body_forth, since}
-use Rattle.teco_store.specs.Follows.{Leads}
+use Rattle.teco_store.specs.Follows.{LeadsBack}
 use Rattle.teco_store.specs.RecordLaws.{BackThenForth, ForthThenBack, ComesSoExtended, ComesSoFarCut}
 use Rattle.teco_exec.specs.StringMeaning.{string_meaning}
 use Rattle.teco_session.specs.History.{History, note_at, present, beyond, without_first, appended, noted, undone, redone, with_steps, rewound}
@@ -64,7 +64,7 @@ beyond-le : (depth : Option ℕ) (n : ℕ) → beyond depth n ≤ n
 beyond-le None n = omega arith
 beyond-le (Some depth) n = omega arith
 
-pub session_noted : BackThenForth → ComesSoExtended → (s : KeptSession) (g : Full) (xs : List KeptString) (x : KeptString) (k : ℕ) (depth : Option ℕ) → IsSession s → Leads s.editor g x.changes
+pub session_noted : BackThenForth → ComesSoExtended → (s : KeptSession) (g : Full) (xs : List KeptString) (x : KeptString) (k : ℕ) (depth : Option ℕ) → IsSession s → LeadsBack s.editor g x.changes
     → HasRun g x → state_of g ≡ (string_meaning (state_of s.editor) x.text x.steps).state → xs ≡ newest s.depth (take s.cursor s.strings ++ x ∷ []) → k ≡ length xs → depth ≡ s.depth
     → Ran s (session_with g xs k depth) x
 session_noted law more s g xs x k depth ok leads run again strings at same =

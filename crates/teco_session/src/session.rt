@@ -2,7 +2,7 @@
 ghost use Rattle.std.specs.Prelude.{◌≡◌, ℕ, List, [], ◌<◌, ◌≤◌, length, vec_len, None, Some, IfOk, OnErr, OnOk, IsOk, ◌↔◌, true, false};
 ghost use Rattle.teco_exec.specs.Runs.{Runs, is_tty};
 ghost use Rattle.teco_exec.specs.StringMeaning.{string_meaning};
-ghost use Rattle.teco_store.specs.Follows.{Leads};
+ghost use Rattle.teco_store.specs.Follows.{LeadsBack};
 ghost use Rattle.teco_store.specs.State.{IsSound, state_of};
 ghost use Rattle.teco_step.specs.Terminal.{Shows};
 ghost use Rattle.teco_session.specs.Answers.{answer_code, is_unbegun};
@@ -61,7 +61,7 @@ fn record_run<T: Terminal>(
         ≡ (string_meaning (state_of editor.old) text.now result.1.steps).state }
     ensures exit { (state_of editor.old).is_done ≡ false → (state_of editor.new).is_done ≡ true
         → result.1.code ≡ None }
-    ensures leads { Leads editor.old editor.new result.0.items }
+    ensures leads { LeadsBack editor.old editor.new result.0.items }
     ensures ran { HasRun editor.new (record {
       text = text.now;
       steps = result.1.steps;

@@ -7,7 +7,7 @@ use Rattle.teco_core.specs.Refusal.{◌>>=◌}
 use Rattle.teco_core.specs.Number.{truth}
 use Rattle.teco_core.specs.Arguments.{Arguments, no_arguments}
 use Rattle.teco_core.specs.declared.limits.TheConstants.{FILE_LIMIT, TEXT_LIMIT}
-use Rattle.teco_store.specs.Page.{finished, page_load, turned}
+use Rattle.teco_store.specs.Page.{finished, page_load, with_next_page}
 use Rattle.teco_store.specs.State.{State}
 use Rattle.teco_scan.specs.declared.command.Bare.{Bare}
 use Rattle.teco_scan.specs.declared.command.Bare.TheVariants as bare
@@ -69,8 +69,8 @@ page_turned s n t = Ok (record { state = t; arguments = no_arguments; typed = []
 
 turned_keeps : (s : State) (n : ℤ) → Keeps s (with_page_turned s >>= page_turned s n)
 turned_keeps s n =
-    elim (nat_le (length (turned s).output) FILE_LIMIT) as (λ b. Keeps s ((cond b (Ok (turned s)) (Err code.Big) >>= with_text_in_limit) >>= page_turned s n)) [
-      | true ↦ keeps_within s (turned s) (nat_le (length (turned s).text) TEXT_LIMIT) (page_turned s n) (λ stays. refl)
+    elim (nat_le (length (with_next_page s).output) FILE_LIMIT) as (λ b. Keeps s ((cond b (Ok (with_next_page s)) (Err code.Big) >>= with_text_in_limit) >>= page_turned s n)) [
+      | true ↦ keeps_within s (with_next_page s) (nat_le (length (with_next_page s).text) TEXT_LIMIT) (page_turned s n) (λ stays. refl)
       | false ↦ tt
     ]
 

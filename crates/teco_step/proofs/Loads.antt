@@ -4,7 +4,7 @@ use Rattle.std.specs.Prelude.{int_le}
 use Rattle.teco_core.specs.declared.code.Code.TheVariants as code
 use Rattle.teco_core.specs.Number.{decimal_value, truth}
 use Rattle.teco_core.specs.Arguments.{Arguments, no_arguments}
-use Rattle.teco_store.specs.Page.{finished, page_load, turned}
+use Rattle.teco_store.specs.Page.{finished, page_load, with_next_page}
 use Rattle.teco_store.specs.State.{State}
 use Rattle.teco_scan.specs.declared.command.Bare.{Bare}
 use Rattle.teco_scan.specs.declared.command.Bare.TheVariants as bare
@@ -67,7 +67,7 @@ exit_works s t e = within_limit s (finished s) t (length s.text) (output_is (fin
 command_works : (c : Command) (w : Setting) → ActionWorks (command_effect c w)
 command_works command.Leave w = λ s a. attempt_then s (takes_one_or (truth s.last_found) a) _ (λ n e. leave_works w.inside (int_le (pos 0) n) s)
 command_works command.TurnPages w = λ s a.
-    attempt_then s (pages_left w.work a) _ (λ n e. attempt_then s (with_page_turned s) _ (λ t h. within_limit s (turned s) t (page_load s) (turned_is s t h) (λ within. turn_moves s)))
+    attempt_then s (pages_left w.work a) _ (λ n e. attempt_then s (with_page_turned s) _ (λ t h. within_limit s (with_next_page s) t (page_load s) (turned_is s t h) (λ within. turn_moves s)))
 command_works command.Exit w = λ s a. attempt_then s (takes_none a) _ (λ none e. attempt_then s (with_output_in_limit (finished s)) _ (λ t h. exit_works s t h))
 command_works _ w = λ s a. search (made_then, moves_works, types_works, inserts_works, delete_works, kill_works, next_page_works, write_page_works, case_works)
 

@@ -7,7 +7,7 @@ use Rattle.std.proofs.lemmas.Bool.Decides.{Decides-eqb}
 use Rattle.std.proofs.lemmas.Slice.Eq.{bytes_eq-Decides}
 use Rattle.teco_core.specs.declared.case_mode.CaseMode.{CaseMode}
 use Rattle.teco_core.specs.Register.{Content, content, texted}
-use Rattle.teco_store.specs.Page.{finished, form_feed_if, is_input_over, left_of, page, page_load, page_of, past_page, turned, with_more, with_page, with_range_written, written}
+use Rattle.teco_store.specs.Page.{finished, form_feed_if, is_input_over, left_of, page, page_load, page_of, past_page, with_next_page, with_more, with_page, with_range_written, written}
 use Rattle.teco_store.specs.Search.{is_last, length_of, note_load, noted, replaced_noted, text_after}
 use Rattle.teco_store.specs.State.{State, last_pushed, pointed, popped_into, pushed_from, replaced, spliced, with_case, with_register_number, with_register_text}
 use Rattle.teco_step.specs.Load.{Moves, MovesPushed, MovesRegisters, MovesSearch, MovesText, gains, holds, keeps, loses, notes, numbers, replaces, same, stay}
@@ -137,8 +137,8 @@ writes_more s t u bytes load m out text registers pushed search output = record 
   all = m.all;
 }
 
-pub turn_moves : (s : State) → Moves s (turned s) (page_load s)
-turn_moves s = writes_more s (with_page s) (turned s) (written s) (page_load s) (page_moves s) refl refl refl refl refl refl
+pub turn_moves : (s : State) → Moves s (with_next_page s) (page_load s)
+turn_moves s = writes_more s (with_page s) (with_next_page s) (written s) (page_load s) (page_moves s) refl refl refl refl refl refl
 
 pub writing_moves : (s : State) (low high : ℕ) (form_feed : Bool) → Moves s (with_range_written s low high form_feed) 0
 writing_moves s low high form_feed =

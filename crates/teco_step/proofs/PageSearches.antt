@@ -7,7 +7,7 @@ use Rattle.teco_core.specs.declared.limits.TheConstants.{FILE_LIMIT}
 use Rattle.teco_core.specs.Refusal.{◌>>=◌}
 use Rattle.teco_core.specs.Arguments.{Arguments, no_arguments}
 use Rattle.teco_search.specs.Occurrence.{Sought, Span, occurrence}
-use Rattle.teco_store.specs.Page.{is_input_over, turned, with_page}
+use Rattle.teco_store.specs.Page.{is_input_over, with_next_page, with_page}
 use Rattle.teco_store.specs.State.{State}
 use Rattle.teco_step.specs.Editing.{with_text_in_limit}
 use Rattle.teco_step.specs.Pages.{with_output_in_limit, with_page_read, with_page_turned}
@@ -49,7 +49,7 @@ turned_in_limit s (Ok t) h = text_keeps s t h
 turned_in_limit s (Err c) h = tt
 
 turning_keeps : (s : State) → KeepsDone s (with_page_turned s)
-turning_keeps s = turned_in_limit s (with_output_in_limit (turned s)) (if_keeps s (turned s) (nat_le (length (turned s).output) FILE_LIMIT) refl)
+turning_keeps s = turned_in_limit s (with_output_in_limit (with_next_page s)) (if_keeps s (with_next_page s) (nat_le (length (with_next_page s).output) FILE_LIMIT) refl)
 
 reading_keeps : (s : State) → KeepsDone s (with_page_read s)
 reading_keeps s = elim (length s.text == 0) as (λ b. KeepsDone s (cond b (with_text_in_limit (with_page s)) (Err Yca))) [ true ↦ text_keeps s (with_page s) refl | false ↦ tt ]

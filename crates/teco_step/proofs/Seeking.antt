@@ -6,7 +6,7 @@ use Rattle.teco_core.specs.declared.code.Code.TheVariants as code
 use Rattle.teco_core.specs.declared.limits.TheConstants.{TEXT_LIMIT}
 use Rattle.teco_core.specs.Arguments.{Arguments, no_arguments}
 use Rattle.teco_search.specs.Occurrence.{Sought, Span, occurrence}
-use Rattle.teco_store.specs.Page.{is_input_over, page_load, turned, with_page}
+use Rattle.teco_store.specs.Page.{is_input_over, page_load, with_next_page, with_page}
 use Rattle.teco_store.specs.Search.{length_of, note_load, noted, replaced_noted}
 use Rattle.teco_store.specs.State.{State}
 use Rattle.teco_step.specs.Editing.{with_text_in_limit}
@@ -91,7 +91,7 @@ module _ (with_next : State → Result State Code) (u : State → State) (is : (
   over_pages text w s a = step_works w.work text w s a
 
 pub seeks_turning : (text : List ℕ) (w : Setting) (s : State) (a : Arguments) → AttemptWorks s (search_pages with_page_turned text w s a)
-seeks_turning text w s a = over_pages with_page_turned turned turned_is turn_moves text w s a
+seeks_turning text w s a = over_pages with_page_turned with_next_page turned_is turn_moves text w s a
 
 pub seeks_reading : (text : List ℕ) (w : Setting) (s : State) (a : Arguments) → AttemptWorks s (search_pages with_page_read text w s a)
 seeks_reading text w s a = over_pages with_page_read with_page read_is page_moves text w s a

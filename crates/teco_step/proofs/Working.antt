@@ -16,7 +16,7 @@ use Rattle.teco_core.specs.Register.{content}
 use Rattle.teco_scan.specs.declared.command.Modifiers.{Modifiers}
 use Rattle.teco_scan.specs.declared.command.LevelCommand.{LevelCommand}
 use Rattle.teco_scan.specs.declared.command.LevelCommand.TheVariants as level_command
-use Rattle.teco_store.specs.Page.{page, page_load, turned, with_more, with_page, with_range_written}
+use Rattle.teco_store.specs.Page.{page, page_load, with_next_page, with_more, with_page, with_range_written}
 use Rattle.teco_store.specs.State.{State, last_pushed, popped_into, pushed_from, spliced, with_register_text}
 use Rattle.teco_step.specs.Case.{mode_of, set_case}
 use Rattle.teco_step.specs.Decimal.{Numeral, decimal_at_level, insert_number, numeral_at, reads}
@@ -73,8 +73,8 @@ output_then_text : (u t : State) (r : Result State Code) → ((v : State) → r 
 output_then_text u t (Ok v) h e = h v refl ∙ text_is v t e
 output_then_text u t (Err c) h e = absurd cc
 
-pub turned_is : (s t : State) → with_page_turned s ≡ Ok t → turned s ≡ t
-turned_is s t e = output_then_text (turned s) t (with_output_in_limit (turned s)) (output_is (turned s)) e
+pub turned_is : (s t : State) → with_page_turned s ≡ Ok t → with_next_page s ≡ t
+turned_is s t e = output_then_text (with_next_page s) t (with_output_in_limit (with_next_page s)) (output_is (with_next_page s)) e
 
 read_by : (s t : State) (b : Bool) → cond b (with_text_in_limit (with_page s)) (Err code.Yca) ≡ Ok t → with_page s ≡ t
 read_by s t true e = text_is (with_page s) t e

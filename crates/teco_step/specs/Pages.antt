@@ -7,7 +7,7 @@ use Rattle.teco_core.specs.declared.arguments.Taken.TheVariants as taken
 use Rattle.teco_core.specs.declared.limits.TheConstants.{FILE_LIMIT}
 use Rattle.teco_core.specs.Refusal.{◌>>=◌}
 use Rattle.teco_core.specs.Arguments.{Arguments, no_arguments, taken_from}
-use Rattle.teco_store.specs.Page.{page, page_load, with_page, with_more, turned, with_range_written, finished}
+use Rattle.teco_store.specs.Page.{page, page_load, with_page, with_more, with_next_page, with_range_written, finished}
 use Rattle.teco_store.specs.State.{State}
 use Rattle.teco_step.specs.declared.next.Work.{Work}
 use Rattle.teco_step.specs.Editing.{with_text_in_limit}
@@ -38,7 +38,7 @@ append_page s a = do
 -- The page in the buffer is written, and the next one replaces it.
 abbrev pub with_page_turned : State → Result State Code
 with_page_turned s = do
-  t ← with_output_in_limit (turned s)
+  t ← with_output_in_limit (with_next_page s)
   with_text_in_limit t
 
 -- a number above 0, or this code

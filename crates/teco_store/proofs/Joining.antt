@@ -5,7 +5,7 @@ use Rattle.std.proofs.lemmas.Bool.Decides.{eqb_tells}
 use Rattle.std.proofs.lemmas.List.{append_assoc}
 use Rattle.std.proofs.lemmas.List.Sums.{take_while-cons}
 use Rattle.teco_store.specs.State.{State}
-use Rattle.teco_store.specs.Page.{page_of, page_span, is_ended, form_feed_if, left_of, written, turned, finished}
+use Rattle.teco_store.specs.Page.{page_of, page_span, is_ended, form_feed_if, left_of, written, with_next_page, finished}
 use Rattle.teco_store.specs.PageLaws.{to_write}
 
 abbrev Joins : List ℕ → Type 0
@@ -52,13 +52,13 @@ joins (x ∷ xs) = elim (eqb_tells x 12) [
       joins_from (x ∷ page_of xs) (is_ended xs) (suc (page_span xs)) (x ∷ xs) tail end span (ap (λ ys. x ∷ ys) (joins xs))
 ]
 
-pub turning_keeps : (s : State) → to_write (turned s) ≡ to_write s
+pub turning_keeps : (s : State) → to_write (with_next_page s) ≡ to_write s
 turning_keeps s =
     let left = left_of s in
-    let rest : left_of (turned s) ≡ drop (page_span left) left = sym (drop-drop (page_span left) s.place s.input) in
-    let after : written (turned s) ++ left_of (turned s) ≡ left =
-    append_assoc (page_of left) (form_feed_if (is_ended left)) (left_of (turned s)) ∙ ap (λ ys. page_of left ++ (form_feed_if (is_ended left) ++ ys)) rest ∙ joins left in
-    append_assoc s.output (written s) (written (turned s) ++ left_of (turned s)) ∙ ap (λ ys. s.output ++ (written s ++ ys)) after
+    let rest : left_of (with_next_page s) ≡ drop (page_span left) left = sym (drop-drop (page_span left) s.place s.input) in
+    let after : written (with_next_page s) ++ left_of (with_next_page s) ≡ left =
+    append_assoc (page_of left) (form_feed_if (is_ended left)) (left_of (with_next_page s)) ∙ ap (λ ys. page_of left ++ (form_feed_if (is_ended left) ++ ys)) rest ∙ joins left in
+    append_assoc s.output (written s) (written (with_next_page s) ++ left_of (with_next_page s)) ∙ ap (λ ys. s.output ++ (written s ++ ys)) after
 
 pub finishing_writes : (s : State) → (finished s).output ≡ to_write s
 finishing_writes s = refl

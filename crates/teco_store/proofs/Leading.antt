@@ -5,7 +5,7 @@ use Rattle.teco_store.specs.State.{State, Body, Full, IsSound, state_at, state_o
 use Rattle.teco_store.specs.Trail.{Trail}
 use Rattle.teco_store.specs.Turn.{Note}
 use Rattle.teco_store.specs.Entry.{body_back, since}
-use Rattle.teco_store.specs.Follows.{Recording, Follows, Leads}
+use Rattle.teco_store.specs.Follows.{Recording, Follows, LeadsBack}
 use Rattle.teco_store.proofs.Entries.{shown_back_all}
 use Rattle.teco_store.proofs.Recordings.{since_high}
 
@@ -41,7 +41,7 @@ body_of_state st st' b c hb hc e =
     ap (with_end b.output) e ∙ ap (λ (n : ℕ). with_end n (state_at st' c)) same
 
 pub leads : (old : Full) (r : Recording) (t : Trail) → IsSound old.room (length old.stored) old.body → t.states 0 ≡ state_of old → t.floor ≡ old.room
-    → Follows r t → Leads old r.full r.notes
+    → Follows r t → LeadsBack old r.full r.notes
 leads old r t sound first floor f =
     let b0 : Body = body_back r.notes r.full.body in
     let low : b0.output ≤ r.full.body.output = shown_back_all r.full.room r.notes r.full.body f.fits in

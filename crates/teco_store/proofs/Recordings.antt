@@ -7,7 +7,7 @@ use Rattle.teco_store.specs.State.{State, Body, Full, Extends, state_at, state_o
 use Rattle.teco_store.specs.Trail.{Trail, moved, stepped}
 use Rattle.teco_store.specs.Turn.{Turn, Note, Splice, Point, Number, Text, Push, TakeOff, PopInto, PutBack, Pages, Search, Found, Done, Mode, top_of, Stands, body_after, turn_after, Fits, full_after, FitsFull}
 use Rattle.teco_store.specs.Entry.{body_back, FitsBack, since, before, of_step, weight, load_back}
-use Rattle.teco_store.specs.Follows.{Recording, AreMarked, HasCome, Follows, Goes, Keeps, noting, with_note}
+use Rattle.teco_store.specs.Follows.{Recording, AreMarked, HasCome, Follows, FollowsAfterChanges, StillFollows, noting, with_note}
 use Rattle.teco_store.proofs.Turns.{fits_after, body_again, content_put}
 use Rattle.teco_store.proofs.Entries.{fits_more, sound_more, sound_within, shown_back_all, shown_fits}
 
@@ -205,7 +205,7 @@ pub keeps_extended : (r : Recording) (e g : Full) (xs : List Note) (k spare : �
     → Extends e g → (t : Trail) → Follows r t → HasCome g xs k t
 keeps_extended r e g xs k spare view x = λ t f. come_extended e g xs k t x (subst (λ (y : Recording). Follows y t) (sym view) f)
 
-pub keeps_then : (r s u : Recording) → Keeps r s → Keeps s u → Keeps r u
+pub keeps_then : (r s u : Recording) → StillFollows r s → StillFollows s u → StillFollows r u
 keeps_then r s u h k = λ t f. k t (h t f)
 
 -- load and changes are bounds
@@ -225,16 +225,16 @@ come_within r t load changes l m f = record {
   count = let x = f.count in omega arith;
 }
 
-pub goes_more : (r s : Recording) (l m c d : ℕ) → l ≤ m → c ≤ d → Goes l c r s → Goes m d r s
+pub goes_more : (r s : Recording) (l m c d : ℕ) → l ≤ m → c ≤ d → FollowsAfterChanges l c r s → FollowsAfterChanges m d r s
 goes_more r s l m c d few less g = λ t f. come_within s (noting t l c) (t.load + m) (t.changes + d) (omega arith) (omega arith) (g t f)
 
 -- one after another
-pub goes_then : (r s u : Recording) (l m c d : ℕ) → Goes l c r s → Goes m d s u → Goes (l + m) (c + d) r u
+pub goes_then : (r s u : Recording) (l m c d : ℕ) → FollowsAfterChanges l c r s → FollowsAfterChanges m d s u → FollowsAfterChanges (l + m) (c + d) r u
 goes_then r s u l m c d g h = λ t f.
     come_within u (noting (noting t l c) m d) (t.load + (l + m)) (t.changes + (c + d)) (omega arith) (omega arith) (h (noting t l c) (g t f))
 
 -- A call finds memory, which keeps, and then makes at most 6 changes.
-pub goes_call : (r s u : Recording) (l c n : ℕ) → Keeps r s → Goes l c s u → l ≤ n → c ≤ 6 → (t : Trail) → Follows r t → Follows u (moved t n)
+pub goes_call : (r s u : Recording) (l c n : ℕ) → StillFollows r s → FollowsAfterChanges l c s u → l ≤ n → c ≤ 6 → (t : Trail) → Follows r t → Follows u (moved t n)
 goes_call r s u l c n k g less few = λ t f. come_within u (noting t l c) (t.load + n) (t.changes + 6) (omega arith) (omega arith) (g t (k t f))
 
 -- a step is done

@@ -4,7 +4,7 @@ use Rattle.std.specs.Prelude.{[], ◌∷◌, true, false, Some, None, map, codes
 use Prim.Native.String.{String}
 use Rattle.teco_core.specs.Register.{blank}
 use Rattle.teco_core.specs.declared.case_mode.CaseMode.TheVariants.{Either}
-use Rattle.teco_store.specs.Page.{page_of, page_load, is_input_over, with_page, with_more, turned, with_range_written, finished}
+use Rattle.teco_store.specs.Page.{page_of, page_load, is_input_over, with_page, with_more, with_next_page, with_range_written, finished}
 use Rattle.teco_store.specs.Search.{noted, replaced_noted, note_load}
 use Rattle.teco_store.specs.State.{State, beginning, with_register_number, with_register_text, pushed_from, popped_into, with_case}
 
@@ -24,12 +24,12 @@ at_last = record three { text = bytes "c"; place = 5; output = bytes "a~b~" }
 
 read_pages :
     (with_page three ≡ at_first)
-    × (turned at_first ≡ record three { text = bytes "b"; place = 4; output = bytes "a~"; form_feed = true })
-    × (turned (turned at_first) ≡ at_last)
+    × (with_next_page at_first ≡ record three { text = bytes "b"; place = 4; output = bytes "a~"; form_feed = true })
+    × (with_next_page (with_next_page at_first) ≡ at_last)
     × (is_input_over at_first ≡ false)
     × (is_input_over at_last ≡ true)
     -- With no input left the next page is empty, and its flag is off.
-    × (turned at_last ≡ record three { place = 5; output = bytes "a~b~c" })
+    × (with_next_page at_last ≡ record three { place = 5; output = bytes "a~b~c" })
     × (page_load at_first ≡ 2)
     -- A form feed at the end of the input leaves no page after it.
     × (with_page (beginning (bytes "a~")) ≡ record (beginning (bytes "a~")) { text = bytes "a"; place = 2; form_feed = true })
@@ -51,7 +51,7 @@ abbrev ended : List ℕ → State
 ended input = record (beginning input) { place = 9; output = input; is_done = true }
 
 written_out :
-    (finished (turned (with_page (beginning two_lines))) ≡ ended two_lines)
+    (finished (with_next_page (with_page (beginning two_lines))) ≡ ended two_lines)
     × (finished (with_page (beginning two_lines)) ≡ ended two_lines)
     × (finished (beginning two_lines) ≡ ended two_lines)
     × (with_range_written (record at_last { text = bytes "abc" }) 1 2 true ≡ record at_last { text = bytes "abc"; output = bytes "a~b~b~" })

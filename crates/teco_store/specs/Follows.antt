@@ -55,12 +55,12 @@ noting t load count = record {
 }
 
 -- What is followed before is followed after so many changes of this load.
-abbrev pub Goes : ℕ → ℕ → Recording → Recording → Type 0
-Goes load count r s = (t : Trail) → Follows r t → Follows s (noting t load count)
+abbrev pub FollowsAfterChanges : ℕ → ℕ → Recording → Recording → Type 0
+FollowsAfterChanges load count r s = (t : Trail) → Follows r t → Follows s (noting t load count)
 
 -- what was followed still is
-abbrev pub Keeps : Recording → Recording → Type 0
-Keeps r s = (t : Trail) → Follows r t → Follows s t
+abbrev pub StillFollows : Recording → Recording → Type 0
+StillFollows r s = (t : Trail) → Follows r t → Follows s t
 
 -- `d` is put in, and what stood there is noted
 abbrev pub with_note : Recording → Turn → Recording
@@ -90,7 +90,7 @@ follows_eases r t f = record {
 
 -- What a recorder leaves: changes that lead back to the body before, the output that was visible stored as before, and no less
 -- capacity.
-pub record Leads (old new : Full) (notes : List Note) : Type 0 where
+pub record LeadsBack (old new : Full) (notes : List Note) : Type 0 where
   pub room : old.room ≤ new.room
   pub sound : IsSound new.room (length new.stored) new.body
   pub fits : FitsBack new.room notes new.body

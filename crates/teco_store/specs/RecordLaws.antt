@@ -4,7 +4,7 @@ use Rattle.teco_store.specs.State.{Body, Full, IsSound, Extends, state_of, with_
 use Rattle.teco_store.specs.Trail.{Trail, cut_after}
 use Rattle.teco_store.specs.Turn.{Note}
 use Rattle.teco_store.specs.Entry.{body_back, notes_back, body_forth, notes_forth, FitsBack, FitsForth, before, since, load_back, held_in}
-use Rattle.teco_store.specs.Follows.{Recording, HasCome, Follows, Leads}
+use Rattle.teco_store.specs.Follows.{Recording, HasCome, Follows, LeadsBack}
 
 -- An entry that was turned back fits forward, and turned forward it gives back the body and itself. The output's end did not rise.
 pub record ComesForthAgain (capacity top : ℕ) (cs : List Note) (b : Body) : Type 0 where
@@ -47,7 +47,7 @@ HoldsAtMostItsLoad = (cs : List Note) (b : Body) → HoldsItsLoad cs b
 abbrev pub LeadsToItsBeginning : Type 0
 LeadsToItsBeginning = (old : Full) (r : Recording) (t : Trail) → IsSound old.room (length old.stored) old.body
     → t.states 0 ≡ state_of old → t.floor ≡ old.room
-    → Follows r t → Leads old r.full r.notes
+    → Follows r t → LeadsBack old r.full r.notes
 
 -- With more capacity, and other bytes beyond the output's end, it is still what a trail leads to.
 abbrev pub ComesSoExtended : Type 0

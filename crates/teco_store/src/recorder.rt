@@ -3,7 +3,7 @@ ghost use Rattle.std.specs.Prelude.{◌≡◌, ◌+◌, ◌<◌, ◌≤◌, leng
 ghost use Rattle.std.specs.Vec.{vec_capacity};
 ghost use Rattle.teco_store.specs.ChangeView.{turn_of, HasRoom};
 ghost use Rattle.teco_store.specs.Entry.{weight};
-ghost use Rattle.teco_store.specs.Follows.{Follows, Goes, Keeps, with_note};
+ghost use Rattle.teco_store.specs.Follows.{Follows, FollowsAfterChanges, StillFollows, with_note};
 ghost use Rattle.teco_store.specs.State.{IsSound, state_of};
 ghost use Rattle.teco_store.specs.Trail.{Trail};
 ghost use Rattle.teco_store.specs.Turn.{body_after, full_after, FitsFull, Splice};
@@ -79,7 +79,7 @@ impl Recorder {
         ensures sound { IsSound self.new.full.room (length self.new.full.stored) self.new.full.body }
         ensures spare { OnOk result (changes ≤ self.new.spare) }
         ensures with_room { changes ≤ self.old.spare → IsOk result }
-        ensures keeps { Keeps self.old self.new }
+        ensures keeps { StillFollows self.old self.new }
     {
         let _shown = self.editor.shown();
         self.entry.reserve(changes)
@@ -99,7 +99,7 @@ impl Recorder {
         ensures spare { self.new.spare ≡ self.old.spare }
         ensures room { OnOk result (len ≤ self.new.full.room) }
         ensures sound { IsSound self.new.full.room (length self.new.full.stored) self.new.full.body }
-        ensures keeps { Keeps self.old self.new }
+        ensures keeps { StillFollows self.old self.new }
     {
         let _shown = self.editor.shown();
         self.editor.reserve(len)
@@ -113,7 +113,7 @@ impl Recorder {
         ensures ok { IfOk result (λ v. (v.items ≡ []) × (vec_capacity v ≡ bytes)) }
         ensures spare { OnOk result (changes ≤ self.new.spare) }
         ensures room { OnOk result (len ≤ self.new.full.room) }
-        ensures keeps { Keeps self.old self.new }
+        ensures keeps { StillFollows self.old self.new }
     {
         self.reserve(changes)?;
         let held = self.memory(bytes)?;
@@ -128,7 +128,7 @@ impl Recorder {
         ensures sound { IsSound self.new.full.room (length self.new.full.stored) self.new.full.body }
         ensures spare { OnOk result (changes ≤ self.new.spare) }
         ensures room { OnOk result (len ≤ self.new.full.room) }
-        ensures keeps { Keeps self.old self.new }
+        ensures keeps { StillFollows self.old self.new }
     {
         self.reserve(changes)?;
         self.reserve_text(len)
@@ -144,7 +144,7 @@ impl Recorder {
         ensures full { self.new.full ≡ full_after (turn_of kind) self.old.full }
         ensures sound { IsSound self.new.full.room (length self.new.full.stored) self.new.full.body }
         ensures spare { self.new.spare + 1 ≡ self.old.spare }
-        ensures goes { Goes (weight (turn_of kind) self.old.full.body) 1 self.old self.new }
+        ensures goes { FollowsAfterChanges (weight (turn_of kind) self.old.full.body) 1 self.old self.new }
     {
         let held = self.editor.put(kind);
         self.entry.push_reserved(Change::new(self.done, held));
@@ -162,7 +162,7 @@ impl Recorder {
         ensures full { self.new.full ≡ full_after (Splice at there pointer ins.now) self.old.full }
         ensures sound { IsSound self.new.full.room (length self.new.full.stored) self.new.full.body }
         ensures spare { self.new.spare + 1 ≡ self.old.spare }
-        ensures goes { Goes (there + length ins.now) 1 self.old self.new }
+        ensures goes { FollowsAfterChanges (there + length ins.now) 1 self.old self.new }
     {
         let _shown = self.editor.shown();
         let held = self.editor.exchange(at, there, ins, pointer, held);
@@ -180,7 +180,7 @@ impl Recorder {
         ensures full { self.new.full ≡ full_after (Splice at there pointer ins.now) self.old.full }
         ensures sound { IsSound self.new.full.room (length self.new.full.stored) self.new.full.body }
         ensures spare { self.new.spare + 1 ≡ self.old.spare }
-        ensures goes { Goes (there + length ins.now) 1 self.old self.new }
+        ensures goes { FollowsAfterChanges (there + length ins.now) 1 self.old self.new }
     {
         let _shown = self.editor.shown();
         let held = self.editor.exchange_short(at, there, ins, pointer);

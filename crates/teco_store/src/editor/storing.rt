@@ -1,6 +1,6 @@
 //! How an editor gets room, and how its output is stored before it counts.
 ghost use Rattle.std.specs.Prelude.{◌≡◌, ◌+◌, ◌≤◌, ◌++◌, length, take, drop, OnOk, OnErr};
-ghost use Rattle.teco_store.specs.Page.{finished, form_feed_if, is_ended, left_of, page, page_span, turned, with_range_written, written};
+ghost use Rattle.teco_store.specs.Page.{finished, form_feed_if, is_ended, left_of, page, page_span, with_next_page, with_range_written, written};
 ghost use Rattle.teco_store.specs.State.{Extends, IsEnd, IsSound, state_of, with_stored};
 
 use crate::editor::Editor;
@@ -79,7 +79,7 @@ impl Editor {
 
     // Where it ends once the page is written.
     pub(crate) fn end_after_page(&self) -> Option<usize>
-        ensures { IsEnd result (length (turned (state_of self.now)).output) }
+        ensures { IsEnd result (length (with_next_page (state_of self.now)).output) }
     {
         end_after(self.shown, self.text.len() + usize::from(self.form_feed))
     }

@@ -1,7 +1,7 @@
 //! Pages come in and go out, and what stood there is noted.
 ghost use Rattle.std.specs.Prelude.{◌≡◌, ◌+◌, ◌<◌, ◌≤◌, ◌^◌, ◌++◌, [], length, take, drop, IfOk, OnOk, OnErr};
 ghost use Rattle.std.specs.Vec.{vec_capacity};
-ghost use Rattle.teco_store.specs.Follows.{Goes, Keeps};
+ghost use Rattle.teco_store.specs.Follows.{FollowsAfterChanges, StillFollows};
 ghost use Rattle.teco_store.specs.Page.{brought, form_feed_if, left_of, page, written};
 ghost use Rattle.teco_store.specs.State.{IsSound, state_of, with_stored};
 ghost use Rattle.teco_store.specs.Turn.{full_after, Splice};
@@ -22,7 +22,7 @@ impl Recorder {
         ensures err { OnErr result (self.new.full ≡ self.old.full) }
         ensures spare { self.new.spare ≡ self.old.spare }
         ensures sound { IsSound self.new.full.room (length self.new.full.stored) self.new.full.body }
-        ensures keeps { Keeps self.old self.new }
+        ensures keeps { StillFollows self.old self.new }
     {
         let _shown = self.editor.shown();
         self.editor.store_part(from, to, form_feed)
@@ -36,7 +36,7 @@ impl Recorder {
         ensures err { OnErr result (self.new.full ≡ self.old.full) }
         ensures spare { self.new.spare ≡ self.old.spare }
         ensures sound { IsSound self.new.full.room (length self.new.full.stored) self.new.full.body }
-        ensures keeps { Keeps self.old self.new }
+        ensures keeps { StillFollows self.old self.new }
     {
         let _shown = self.editor.shown();
         self.editor.store_page(len)
@@ -50,7 +50,7 @@ impl Recorder {
         ensures err { OnErr result (self.new.full ≡ self.old.full) }
         ensures spare { self.new.spare ≡ self.old.spare }
         ensures sound { IsSound self.new.full.room (length self.new.full.stored) self.new.full.body }
-        ensures keeps { Keeps self.old self.new }
+        ensures keeps { StillFollows self.old self.new }
     {
         let _shown = self.editor.shown();
         self.editor.store_rest()
@@ -71,7 +71,7 @@ impl Recorder {
         ensures err { OnErr result (self.new.full ≡ self.old.full) }
         ensures spare { OnOk result (1 ≤ self.new.spare) }
         ensures sound { IsSound self.new.full.room (length self.new.full.stored) self.new.full.body }
-        ensures keeps { Keeps self.old self.new }
+        ensures keeps { StillFollows self.old self.new }
     {
         self.reserve(1)?;
         self.store_part(from, to, form_feed)
@@ -87,7 +87,7 @@ impl Recorder {
         ensures spare { OnOk result (2 ≤ self.new.spare) }
         ensures room { OnOk result (len ≤ self.new.full.room) }
         ensures sound { IsSound self.new.full.room (length self.new.full.stored) self.new.full.body }
-        ensures keeps { Keeps self.old self.new }
+        ensures keeps { StillFollows self.old self.new }
     {
         self.reserve(2)?;
         let held = self.memory(there + len)?;
@@ -104,7 +104,7 @@ impl Recorder {
         ensures memory { IfOk result (λ v. (v.items ≡ []) × (vec_capacity v ≡ there)) }
         ensures spare { OnOk result (3 ≤ self.new.spare) }
         ensures sound { IsSound self.new.full.room (length self.new.full.stored) self.new.full.body }
-        ensures keeps { Keeps self.old self.new }
+        ensures keeps { StillFollows self.old self.new }
     {
         self.reserve(3)?;
         let held = self.memory(there)?;
@@ -127,7 +127,7 @@ impl Recorder {
             (Splice at there pointer (page self.old.full.body)) self.old.full }
         ensures sound { IsSound self.new.full.room (length self.new.full.stored) self.new.full.body }
         ensures spare { self.new.spare + 1 ≡ self.old.spare }
-        ensures goes { Goes (there + length (page self.old.full.body)) 1 self.old self.new }
+        ensures goes { FollowsAfterChanges (there + length (page self.old.full.body)) 1 self.old self.new }
     {
         let _shown = self.editor.shown();
         let held = self.editor.exchange_page(at, there, pointer, held);
@@ -155,7 +155,7 @@ impl Recorder {
         requires rises { self.old.full.body.output ≤ end }
         requires ends { (end ≤ length self.old.full.stored) × (end ≤ FILE_LIMIT) }
         ensures full { self.new.full ≡ record self.old.full { body = brought self.old.full.body at there pointer end } }
-        ensures goes { Goes (there + length (page self.old.full.body)) 2 self.old self.new }
+        ensures goes { FollowsAfterChanges (there + length (page self.old.full.body)) 2 self.old self.new }
     {
         let page = self.editor().page();
         let (len, form_feed) = (page.bytes.len(), page.form_feed);

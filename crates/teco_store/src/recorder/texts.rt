@@ -1,7 +1,7 @@
 //! The text of a search is noted, with the one that it takes the place of.
 ghost use Rattle.std.specs.Prelude.{◌≡◌, ◌+◌, ◌<◌, ◌≤◌, length, option_map, None, IfOk, IsOk};
 ghost use Rattle.std.specs.Option.{option_copied};
-ghost use Rattle.teco_store.specs.Follows.{Goes};
+ghost use Rattle.teco_store.specs.Follows.{FollowsAfterChanges};
 ghost use Rattle.teco_store.specs.Search.{fresh, fresh_load, length_of, text_after};
 ghost use Rattle.teco_store.specs.State.{IsSound};
 
@@ -33,7 +33,7 @@ impl Recorder {
         } }
         ensures sound { IsSound self.new.full.room (length self.new.full.stored) self.new.full.body }
         ensures spare { self.old.spare ≤ self.new.spare + 1 }
-        ensures goes { Goes (fresh_load self.old.full.body.last_search
+        ensures goes { FollowsAfterChanges (fresh_load self.old.full.body.last_search
             (option_map (λ v. v.items) text)) 1 self.old self.new }
     {
         let _shown = self.editor.shown();
