@@ -50,8 +50,8 @@ abbrev pub with_output : State → List ℕ → State
 with_output s bytes = record s { output = s.output ++ bytes }
 
 -- The page in the buffer is written, and the next one replaces it.
-abbrev pub turned : State → State
-turned s = with_output (with_page s) (written s)
+abbrev pub with_next_page : State → State
+with_next_page s = with_output (with_page s) (written s)
 
 -- The bytes between two places are written, with a form feed where one is asked for.
 abbrev pub with_range_written : State → ℕ → ℕ → Bool → State
