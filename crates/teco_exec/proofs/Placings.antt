@@ -2,11 +2,10 @@
 use Rattle.std.proofs.Common.{◌≡◌, ℕ, suc, ◌+◌, ◌++◌, Bool, true, false, List, [], ◌∷◌, drop, map, Option, Some, None, IfOk, IfSome, IsSomeAnd, MatchOption, Result, Ok, Err, ◌↔◌, arith, refl, sym, ap, subst, ◌∙◌, if◌then◌else◌}
 use Rattle.std.proofs.lemmas.List.{drop-drop}
 use Rattle.teco_core.specs.Ascii.{is_filler}
-use Rattle.teco_scan.specs.Scan.{Item, register, scan, scan_here, after_fillers}
-use Rattle.teco_scan.specs.declared.command.RegisterCommand.TheVariants.{Macro}
+use Rattle.teco_scan.specs.Scan.{TokenMeaning, scan, scan_here, after_fillers}
 use Rattle.teco_exec.specs.CursorMoves.{Frame}
 use Rattle.teco_exec.specs.Machine.{Caller}
-use Rattle.teco_exec.specs.Places.{CallToken, HaveCalled, IsCallOf, IsPlaceAfter, IsReadAt, IsTokenPlace, Told, open_turns, stands_after, told_here, with_call}
+use Rattle.teco_exec.specs.Places.{CallToken, HaveCalled, IsCallOf, IsPlaceAfter, IsReadAt, IsTokenPlace, Told, call_token, open_turns, stands_after, told_here, with_call}
 use Rattle.teco_core.specs.Arguments.{Arguments}
 use Rattle.teco_core.specs.declared.code.Code.{Code}
 use Rattle.std.specs.declared.alloc.AllocError.{AllocError}
@@ -51,8 +50,8 @@ pub has_place : (text : List ℕ) (at : ℕ) → (to : ℕ) × IsTokenPlace text
 has_place text at = let h = fillers_dropped (drop at text) in (at + h.0, sym (drop-drop h.0 at text) ∙ h.1)
 
 -- What is read at a place is read after the fillers there.
-read_on : (text : List ℕ) (at to : ℕ) (item : Option Item) (left : List ℕ) → IsTokenPlace text at to → IsReadAt text at item left → IsReadAt text to item left
-read_on text at to (Some i) left e h = (h.0, ap scan e ∙ scan_fillers (drop at text) ∙ h.1, h.2)
+read_on : (text : List ℕ) (at to : ℕ) (token : Option TokenMeaning) (left : List ℕ) → IsTokenPlace text at to → IsReadAt text at token left → IsReadAt text to token left
+read_on text at to (Some t) left e h = (h.0, h.1, ap scan e ∙ scan_fillers (drop at text) ∙ h.2, h.3)
 read_on text at to None left e h = ap after_fillers e ∙ fillers_twice (drop at text) ∙ h
 
 -- where the run last stood at a cursor
@@ -65,20 +64,20 @@ stood_told o k c new callers to w text blocks place =
       there = w.there;
       stands = w.stands;
       told = record {
-        read = subst (λ t. IsReadAt t to w.there.item w.there.left) (sym w.is.text) (read_on c.text.now c.at to w.there.item w.there.left here w.is.read);
+        read = subst (λ t. IsReadAt t to w.there.token w.there.left) (sym w.is.text) (read_on c.text.now c.at to w.there.token w.there.left here w.is.read);
         turns = ap open_turns (blocks ∙ sym w.is.blocks);
         calls = w.is.callers;
       };
     }
 
 -- before a step that calls
-pub call_told_here : (o : Origin) (h : Host) (c : Cursor) (q at to k : ℕ) (callers : List Caller) → k ≡ h.steps → RunGoesOn o h (at_register_call c q callers) → IsReadAt c.text.now at (Some (register Macro q)) (cursor c).left → IsTokenPlace c.text.now at to
+pub call_told_here : (o : Origin) (h : Host) (c : Cursor) (q at to k : ℕ) (callers : List Caller) → k ≡ h.steps → RunGoesOn o h (at_register_call c q callers) → IsReadAt c.text.now at (Some (call_token q)) (cursor c).left → IsTokenPlace c.text.now at to
     → StandsWhereTold o callers (told_here k to (cursor c).blocks)
 unfolding HaveCalled
 call_told_here o h c q at to k callers same g read place = record {
-  there = record { text = c.text.now; left = (cursor c).left; blocks = (cursor c).blocks; callers = callers; item = Some (register Macro q) };
+  there = record { text = c.text.now; left = (cursor c).left; blocks = (cursor c).blocks; callers = callers; token = Some (call_token q) };
   stands = ap (stands_after o.state o.text) same ∙ ap (λ x. x.0) g.stands;
-  told = record { read = read_on c.text.now at to (Some (register Macro q)) (cursor c).left place read; turns = refl; calls = refl };
+  told = record { read = read_on c.text.now at to (Some (call_token q)) (cursor c).left place read; turns = refl; calls = refl };
 }
 
 -- One call more, around the others.
@@ -88,7 +87,7 @@ called_on [] cs b others x h is = subst (λ (callers : List Caller). HaveCalled 
 called_on (y ∷ ys) [] b others x h is = absurd h
 called_on (y ∷ ys) (c ∷ cs) b others x h is = (h.0, called_on ys cs b others x h.1 is)
 
-pub called_told : (o : Origin) (c : Cursor) (q at to : ℕ) (callers : List Caller) (p : Told) → StandsWhereTold o (caller c ∷ callers) p → IsReadAt c.text.now at (Some (register Macro q)) (cursor c).left → IsTokenPlace c.text.now at to
+pub called_told : (o : Origin) (c : Cursor) (q at to : ℕ) (callers : List Caller) (p : Told) → StandsWhereTold o (caller c ∷ callers) p → IsReadAt c.text.now at (Some (call_token q)) (cursor c).left → IsTokenPlace c.text.now at to
     → StandsWhereTold o callers (with_call p q to (cursor c).blocks)
 called_told o c q at to callers p w read place = record {
   there = w.there;
@@ -97,7 +96,7 @@ called_told o c q at to callers p w read place = record {
     read = w.told.read;
     turns = w.told.turns;
     calls = called_on p.calls w.there.callers (caller c) callers (record { register = q; at = to; turns = open_turns (cursor c).blocks }) w.told.calls
-        (record { read = read_on c.text.now at to (Some (register Macro q)) (cursor c).left place read; turns = refl });
+        (record { read = read_on c.text.now at to (Some (call_token q)) (cursor c).left place read; turns = refl });
   };
 }
 

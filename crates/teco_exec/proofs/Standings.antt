@@ -1,12 +1,11 @@
 -- Where a run stops, and what it stands at.
 use Rattle.std.proofs.Common.{◌≡◌, ℕ, ◌+◌, ◌-◌, List, drop, Option, Some, None, OnErr, Result, Ok, Err, MatchResult, refl, sym, ap, subst, ◌∙◌, arith}
 use Rattle.teco_core.specs.declared.code.Code.{Code}
-use Rattle.teco_scan.specs.Scan.{Instruction, Item, register, scan, found, after_fillers}
+use Rattle.teco_scan.specs.Scan.{Instruction, Item, scan, found, after_fillers}
 use Rattle.teco_scan.specs.Scan as scanned
 use Rattle.teco_scan.specs.Seen.{found_in, meaning_in, instruction_in}
 use Rattle.teco_scan.specs.ListLaws.{BlockLaws}
 use Rattle.teco_scan.specs.declared.command.Modifiers.{Modifiers}
-use Rattle.teco_scan.specs.declared.command.RegisterCommand.TheVariants.{Macro}
 use Rattle.teco_scan.specs.declared.token.Found.{Found}
 use Rattle.teco_scan.specs.declared.token.Found.TheVariants.{Token}
 use Rattle.teco_scan.specs.declared.token.Token.{Token as ScannedToken}
@@ -17,7 +16,7 @@ use Rattle.teco_step.specs.declared.next.Work.{Work}
 use Rattle.teco_exec.specs.CursorMoves.{Coming as MachineComing, Cursor as MachineCursor, pass, pass_instruction, pass_scanned, step_comes}
 use Rattle.teco_exec.specs.Frames.{frames}
 use Rattle.teco_exec.specs.Machine.{Caller}
-use Rattle.teco_exec.specs.Places.{IsReadAt, Standing, standing, stands_after}
+use Rattle.teco_exec.specs.Places.{IsReadAt, Standing, call_token, standing, stands_after, step_token}
 use Rattle.teco_exec.specs.Running.{FlowFinishes, FlowStays, Host, IsStandingAt, OnCall, OnLast, Origin, RunGoesOn, StandsAt, StandsSomewhere, at_block_step, at_cursor, at_token, now_at, token_standing}
 use Rattle.teco_exec.specs.Tokens.{OnDone, ProgressFinishes, ProgressStays, call_of}
 use Rattle.teco_exec.specs.View.{Stays, coming_of, cursor, item_of_kind}
@@ -104,7 +103,7 @@ progress_stays_on a b c (Done f) p q = flow_stays_on a b c f p q
 -- before a step of a token
 module _ (token : ScannedToken) (callers : List Caller) where
   abbrev made : List ℕ → ℕ → List Block → Standing
-  made text n bs = record { text = text; left = drop n text; blocks = frames text bs; callers = callers; item = Some (item_of_kind text token.kind) }
+  made text n bs = record { text = text; left = drop n text; blocks = frames text bs; callers = callers; token = Some (step_token token.modifiers (item_of_kind text token.kind)) }
 
   same_standing : (c d : Cursor) → c.text ≡ d.text → Stays d c → token_standing c token callers ≡ token_standing d token callers
   same_standing c d text stays =
@@ -141,12 +140,15 @@ module _ (from to : Cursor) (f : Found) (token : ScannedToken) (is : f ≡ Token
       kind_left from.text.now after token.modifiers steps.0 token.kind (cursor from) (cursor to) steps.1
       (ap (λ t. step_comes token.modifiers (item_of_kind t.now token.kind) (cursor to)) (sym text) ∙ sym (ap (λ x. coming_of to x Step) is) ∙ comes ∙ ap (λ x. pass_scanned x (cursor from)) here_read)
 
-  pub token_read : IsReadAt from.text.now from.at (Some (item_of_kind to.text.now token.kind)) (cursor to).left
-  token_read = (
-    meaning_in from.text.now token,
-    here_read ∙ ap (found (meaning_in from.text.now token)) (sym (ap (λ (c : MachineCursor). c.left) cursor_after)),
-    kind_item from.text.now steps.0 token.kind steps.1 ∙ ap (λ t. scanned.step (item_of_kind t.now token.kind)) (sym text),
-  )
+  pub token_read : IsReadAt from.text.now from.at (Some (step_token token.modifiers (item_of_kind to.text.now token.kind))) (cursor to).left
+  token_read =
+      let instruction = kind_item from.text.now steps.0 token.kind steps.1 ∙ ap (λ t. scanned.step (item_of_kind t.now token.kind)) (sym text) in (
+        token.modifiers,
+        item_of_kind to.text.now token.kind,
+        here_read ∙ ap (λ i. found (record { modifiers = token.modifiers; instruction = i }) after) instruction
+            ∙ ap (found (record { modifiers = token.modifiers; instruction = scanned.step (item_of_kind to.text.now token.kind) })) (sym (ap (λ (c : MachineCursor). c.left) cursor_after)),
+        refl,
+      )
 
   pub token_blocks : (cursor to).blocks ≡ (cursor from).blocks
   token_blocks = ap (λ (c : MachineCursor). c.blocks) cursor_after
@@ -155,13 +157,13 @@ module _ (from to : Cursor) (f : Found) (token : ScannedToken) (is : f ≡ Token
   token_is callers = record { text = ap (λ t. t.now) text; blocks = token_blocks; callers = refl; read = token_read }
 
   -- a token that calls
-  call_read : (new : Cursor) (q : ℕ) → new.text ≡ to.text → Stays to new → token.kind ≡ call_of q → IsReadAt from.text.now from.at (Some (register Macro q)) (cursor new).left
+  call_read : (new : Cursor) (q : ℕ) → new.text ≡ to.text → Stays to new → token.kind ≡ call_of q → IsReadAt from.text.now from.at (Some (call_token q)) (cursor new).left
   call_read new q same stays calls =
       let left : (cursor to).left ≡ (cursor new).left = sym (ap (λ t. drop new.at t.now) same ∙ ap (λ n. drop n to.text.now) stays.place) in
-      subst (λ k. IsReadAt from.text.now from.at (Some (item_of_kind to.text.now k)) (cursor new).left) calls
-      (subst (λ x. IsReadAt from.text.now from.at (Some (item_of_kind to.text.now token.kind)) x) left token_read)
+      subst (λ k. IsReadAt from.text.now from.at (Some (step_token token.modifiers (item_of_kind to.text.now k))) (cursor new).left) calls
+      (subst (λ x. IsReadAt from.text.now from.at (Some (step_token token.modifiers (item_of_kind to.text.now token.kind))) x) left token_read)
 
-  pub flow_read : (new : Cursor) (g : Flow) → new.text ≡ to.text → FlowStays to new g → OnCall g (λ q. token.kind ≡ call_of q) → OnCall g (λ q. IsReadAt from.text.now from.at (Some (register Macro q)) (cursor new).left)
+  pub flow_read : (new : Cursor) (g : Flow) → new.text ≡ to.text → FlowStays to new g → OnCall g (λ q. token.kind ≡ call_of q) → OnCall g (λ q. IsReadAt from.text.now from.at (Some (call_token q)) (cursor new).left)
   flow_read new (Call q) same stays calls = call_read new q same stays calls
   flow_read new On same stays calls = tt
   flow_read new Return same stays calls = tt
@@ -184,15 +186,15 @@ last_blocks P from to new Return done same blocks p stays = tt
 -- before a step of a block, and at a fault
 pub block_stands : (o : Origin) (h : Host) (c to : Cursor) (b : BlockStep) (dest k : ℕ) (callers : List Caller) → k ≡ h.steps → to ≡ c → RunGoesOn o h (at_block_step to b dest callers) → StandsSomewhere o k c callers
 block_stands o h c to b dest k callers same is g = record {
-  there = record { text = c.text.now; left = (cursor c).left; blocks = (cursor c).blocks; callers = callers; item = None };
+  there = record { text = c.text.now; left = (cursor c).left; blocks = (cursor c).blocks; callers = callers; token = None };
   stands = ap (stands_after o.state o.text) same ∙ ap (λ x. x.0) g.stands
-      ∙ ap (λ (x : Cursor). Some (record { text = x.text.now; left = (cursor x).left; blocks = (cursor x).blocks; callers = callers; item = None })) is;
+      ∙ ap (λ (x : Cursor). Some (record { text = x.text.now; left = (cursor x).left; blocks = (cursor x).blocks; callers = callers; token = None })) is;
   is = record { text = refl; blocks = refl; callers = refl; read = refl };
 }
 
 pub fault_stands : BlockLaws → (o : Origin) (h : Host) (c to : Cursor) (f : Found) (code : Code) (callers : List Caller) → coming_of to f (Fault code) ≡ pass (cursor c) → RunGoesOn o h (at_cursor c callers) → StandsSomewhere o h.steps c callers
 fault_stands laws o h c to f code callers comes g = record {
-  there = record { text = c.text.now; left = (cursor c).left; blocks = (cursor c).blocks; callers = callers; item = None };
+  there = record { text = c.text.now; left = (cursor c).left; blocks = (cursor c).blocks; callers = callers; token = None };
   stands = ap (λ x. x.0) g.stands ∙ ap standing (faults laws c to f callers code comes (now_at o h.steps));
   is = record { text = refl; blocks = refl; callers = refl; read = refl };
 }

@@ -15,7 +15,7 @@ use Rattle.teco_step.specs.Terminal.{Screen, Shows}
 use Rattle.teco_exec.specs.Machine.{Caller, Config, Further, Machine, runs, in_called_text, after_text_end, Ready, step, block, Final, Now, ready_of, final_with_fuel, final_without_fuel, run_within, after_steps, start_config}
 use Rattle.teco_exec.specs.CursorMoves as machine
 use Rattle.teco_exec.specs.MachineLaws.{MachineMeans}
-use Rattle.teco_exec.specs.Places.{Standing, Told, IsToldOf, standing, stands_after, after_coming, IsReadAt}
+use Rattle.teco_exec.specs.Places.{Standing, Told, IsToldOf, standing, stands_after, after_coming, step_token, IsReadAt}
 use Rattle.teco_exec.specs.Quiet.{IsQuiet}
 use Rattle.teco_exec.specs.Runs.{Runs, is_tty, trail_of}
 use Rattle.teco_exec.specs.StringMeaning.{string_meaning}
@@ -297,7 +297,7 @@ token_standing c token callers = record {
   left = (cursor c).left;
   blocks = (cursor c).blocks;
   callers = callers;
-  item = Some (item_of_kind c.text.now token.kind);
+  token = Some (step_token token.modifiers (item_of_kind c.text.now token.kind));
 }
 
 -- A run stands at what is read where a cursor is.
@@ -305,7 +305,7 @@ pub record IsStandingAt (c : Cursor) (others : List Caller) (s : Standing) : Typ
   pub text : s.text ≡ c.text.now
   pub blocks : s.blocks ≡ (cursor c).blocks
   pub callers : s.callers ≡ others
-  pub read : IsReadAt c.text.now c.at s.item s.left
+  pub read : IsReadAt c.text.now c.at s.token s.left
 
 pub record StandsSomewhere (o : Origin) (k : ℕ) (c : Cursor) (callers : List Caller) : Type 0 where
   pub there : Standing

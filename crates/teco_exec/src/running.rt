@@ -4,9 +4,7 @@ ghost use Rattle.teco_core.specs.ArgumentsView.{arguments};
 ghost use Rattle.teco_core.specs.Register.{content};
 ghost use Rattle.teco_core.specs.declared.code.Code.TheVariants.{Mem};
 ghost use Rattle.teco_scan.specs.Lists.{nodes};
-ghost use Rattle.teco_scan.specs.Scan.{register};
-ghost use Rattle.teco_scan.specs.declared.command.RegisterCommand.TheVariants as register_command;
-ghost use Rattle.teco_exec.specs.Places.{IsPlaceAfter, IsReadAt, Told};
+ghost use Rattle.teco_exec.specs.Places.{IsPlaceAfter, IsReadAt, Told, call_token};
 ghost use Rattle.teco_exec.specs.Telling.{told_of};
 ghost use Rattle.teco_step.specs.Terminal.{Shows};
 ghost use Rattle.teco_exec.specs.Running.{RunLeadsAt, StandsFrom, Tells, code_left, at_beginning, at_register_call, reached_by_exit, reached_after_call, host};
@@ -191,7 +189,7 @@ fn run_called<D: Desk, T: Terminal, W: Watch>(
     watch: &mut W,
 ) -> Exit
     requires deep { depth ≤ CALL_LIMIT }
-    requires token { IsReadAt cursor.old.text.now at (Some (register register_command.Macro q))
+    requires token { IsReadAt cursor.old.text.now at (Some (call_token q))
         (cursor_of cursor.old).left }
     requires within { at ≤ length cursor.old.text.now }
     ensures text { cursor.new.text ≡ cursor.old.text }
@@ -241,7 +239,7 @@ fn run_copy<D: Desk, T: Terminal, W: Watch>(
     watch: &mut W,
 ) -> Exit
     requires deep { depth ≤ CALL_LIMIT }
-    requires token { IsReadAt cursor.old.text.now at (Some (register register_command.Macro q))
+    requires token { IsReadAt cursor.old.text.now at (Some (call_token q))
         (cursor_of cursor.old).left }
     requires within { at ≤ length cursor.old.text.now }
     requires copy { called.now ≡ (content (D.state desk.old).registers q).text }

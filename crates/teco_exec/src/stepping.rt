@@ -1,6 +1,6 @@
 //! One step of a text.
 ghost use Rattle.std.specs.Prelude.{◌≡◌, ◌<◌, ◌≤◌, ◌⊎◌, ℕ, List, None, Some, MatchOption, MatchResult, drop, false, length, true};
-ghost use Rattle.teco_scan.specs.Scan.{scan, register};
+ghost use Rattle.teco_scan.specs.Scan.{scan};
 ghost use Rattle.teco_store.specs.State.{State};
 ghost use Rattle.teco_step.specs.Stepping.{IsStepIn, end_of, is_unfinished, is_unfinished_code, name_in, takes_nothing_in};
 ghost use Rattle.teco_step.specs.Terminal.{Screen};
@@ -9,7 +9,7 @@ ghost use Rattle.teco_exec.specs.CursorMoves.{inside_iteration, leave_is_next};
 ghost use Rattle.teco_exec.specs.Machine.{Caller, Now, after_step_end, ready_of};
 ghost use Rattle.teco_exec.specs.Running.{FlowStays, GoesOn, GoesQuietly, OnCall, OnLast, Origin, RunGoesOn, RunLeads, StandsAt, StandsSomewhere, token_standing, at_cursor, at_block_step, at_token, config, reached_by_flow, host, Comes};
 ghost use Rattle.teco_exec.specs.Tokens.{Continues, CountsSteps, OnDone, ProgressFinishes, ProgressStays, ProgressesQuietly, call_of, calls_text, looks_around, reached_by_progress};
-ghost use Rattle.teco_exec.specs.Places.{IsReadAt};
+ghost use Rattle.teco_exec.specs.Places.{IsReadAt, call_token};
 ghost use Rattle.teco_exec.specs.Quiet.{IsQuiet, is_plain};
 ghost use Rattle.teco_exec.specs.View.{MayOpen, cursor as cursor_of, item_of_kind};
 ghost use Rattle.teco_exec.specs.declared.flow.Flow.TheVariants as flow;
@@ -52,8 +52,8 @@ pub(crate) fn step<D: Desk, T: Terminal>(
         (o : Origin) (callers : List Caller) → o.limit ≡ steps.old.limit
         → RunGoesOn o (host (D.state desk.old) (D.follows desk.old) (T.screen term.old) steps.old.done)
         (at_cursor cursor.old callers) → StandsSomewhere o k cursor.old callers) }
-    ensures calls { OnCall result (λ q. IsReadAt cursor.old.text.now cursor.old.at
-        (Some (register RegisterCommand.Macro q)) (cursor_of cursor.new).left) }
+    ensures calls { OnCall result (λ q. IsReadAt cursor.old.text.now cursor.old.at (Some (call_token q))
+        (cursor_of cursor.new).left) }
 {
     block_laws();
     let found = token_at(cursor.text, cursor.at);

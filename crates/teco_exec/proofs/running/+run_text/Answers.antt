@@ -6,9 +6,7 @@ use Rattle.teco_exec.specs.Running.{at_cursor, at_return, goes, host, over, reac
 use Rattle.teco_exec.proofs.Continuations.{begins, caller, comes_home, enters, less_left, too_deep}
 use Rattle.teco_exec.proofs.Going.{since}
 use Rattle.teco_exec.proofs.NoMemory.{begins_quietly}
-use Rattle.teco_scan.specs.Scan.{register}
-use Rattle.teco_scan.specs.declared.command.RegisterCommand.TheVariants.{Macro}
-use Rattle.teco_exec.specs.Places.{IsReadAt, told_here, with_call}
+use Rattle.teco_exec.specs.Places.{IsReadAt, call_token, told_here, with_call}
 use Rattle.teco_exec.specs.declared.flow.Exit.TheVariants as ending
 use Rattle.teco_exec.proofs.Placings.{call_told_here, called_told, stood_told}
 use Rattle.teco_exec.proofs.Stepped.{call_fails, call_leads, call_unpaid, counts_on}
@@ -340,8 +338,8 @@ run_copy-returns-in-Stop-clause-told g t c knows =
 pub run_text-run_called-requires : goal.run_text-run_called-requires
 run_text-run_called-requires g t c =
     let to = c.step.new.cursor in
-    let token : IsReadAt to.text.now c.running.cursor.at (Some (register Macro c.in-Call.q)) (cursor to).left =
-    subst (λ x. IsReadAt x.now c.running.cursor.at (Some (register Macro c.in-Call.q)) (cursor to).left) (sym c.in-Call.ensures.text) c.in-Call.ensures.calls in
+    let token : IsReadAt to.text.now c.running.cursor.at (Some (call_token c.in-Call.q)) (cursor to).left =
+    subst (λ x. IsReadAt x.now c.running.cursor.at (Some (call_token c.in-Call.q)) (cursor to).left) (sym c.in-Call.ensures.text) c.in-Call.ensures.calls in
     let within : c.running.cursor.at ≤ length to.text.now = subst (λ x. c.running.cursor.at ≤ length x.now) (sym c.in-Call.ensures.text) c.running.cursor.within in
     search rules
 
