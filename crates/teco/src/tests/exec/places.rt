@@ -3,7 +3,7 @@ use crate::tests::assert_of;
 use std::alloc::Global;
 use std::test::*;
 use teco_core::{Code, Reg};
-use teco_exec::{Call, Place, run_where};
+use teco_exec::{Call, Place, Stopped, run_where};
 use teco_step::MemoryTerminal;
 use teco_store::Editor;
 
@@ -329,11 +329,17 @@ fn try_row(alloc: Global, row: &Row) -> Option<bool> {
     let (text, limit, code, steps, there) = *row;
     let mut editor = Editor::new(Vec::new(alloc));
     let mut terminal = MemoryTerminal::new(alloc);
-    let stopped = run_where(&mut editor, text.as_bytes(), limit, &mut terminal, alloc);
-    let Ok(place) = stopped.place else {
+    let Stopped { outcome, place } = run_where(
+        &mut editor,
+        text.as_bytes(),
+        limit,
+        &mut terminal,
+        alloc,
+    );
+    let Ok(place) = place else {
         return None;
     };
-    if stopped.outcome.code == Some(Code::Mem) || stopped.outcome.code == Some(Code::Tty) {
+    if outcome.code == Some(Code::Mem) || outcome.code == Some(Code::Tty) {
         return None;
     }
     let placed = match (&place, &there) {
@@ -341,7 +347,7 @@ fn try_row(alloc: Global, row: &Row) -> Option<bool> {
         (None, None) => true,
         _ => false,
     };
-    Some(placed && stopped.outcome.code == code && stopped.outcome.steps == steps)
+    Some(placed && outcome.code == code && outcome.steps == steps)
 }
 
 /// Whether a row holds; where memory was refused, at the second time.
