@@ -11,9 +11,11 @@ ghost use Rattle.teco_session.specs.Kept.{IsSession, IsSmall, HasRun, applied, c
 ghost use Rattle.teco_session.specs.Step.{Step, RunStep, Reply, is_terminal_failure};
 ghost use Rattle.teco_session.specs.Play.{Play, ShowsAll, answers_of};
 
+use crate::changes::Changes;
 use crate::entries::Entries;
 use crate::entry::Entry;
 use crate::request::{Answer, NothingToRedo, NothingToUndo, Request};
+use crate::text::Text;
 use std::alloc::Global;
 use std::marker::Model;
 use std::mem;
@@ -72,9 +74,7 @@ fn record_run<T: Terminal>(
     record_laws();
     let mut recorder = Recorder::new(mem::replace(editor, Editor::new(Vec::new(alloc))));
     let outcome = run(&mut recorder, text, limit, term);
-    let (after, mut changes) = recorder.into_parts();
-    // A short string has a few changes, and room for more of them was found at each step.
-    changes.shrink_to_fit();
+    let (after, changes) = recorder.into_parts();
     *editor = after;
     (changes, outcome)
 }
@@ -142,7 +142,7 @@ impl Session {
         ensures value { result.now ≡ (string_at self.now i).text }
         ensures history { result.now ≡ (note_at (history_of self.now) i).text }
     {
-        &self.entries.get(i).text
+        self.entries.get(i).text.as_slice()
     }
 
     /// How many steps a string took. Takes no memory.
@@ -162,7 +162,7 @@ impl Session {
             (state_after (history_of self.now).first (history_of self.now).notes i) }
     {
         record_laws();
-        &self.entries.get(i).changes
+        self.entries.get(i).changes.as_slice()
     }
 
     /// Goes back to the state before the last string that is not undone, where there is one; otherwise nothing changes. Takes no
@@ -238,7 +238,7 @@ impl Session {
             return Answer::AfterExit;
         }
         let alloc = self.entries.alloc();
-        let Ok(kept) = Vec::from_slice(alloc, text) else {
+        let Ok(kept) = Text::copied(alloc, text) else {
             return Answer::NotBegun;
         };
         if self.entries.reserve().is_err() {
@@ -250,7 +250,7 @@ impl Session {
         self.entries.note(Entry {
             text: kept,
             steps: outcome.steps,
-            changes,
+            changes: Changes::of(changes),
         });
         self.cursor = self.entries.len();
         Answer::Ended(outcome)
