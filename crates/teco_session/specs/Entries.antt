@@ -8,7 +8,7 @@ use Rattle.teco_session.specs.declared.entry.Entry.{Entry}
 use Rattle.teco_session.specs.declared.session.Session.TheInside.{Inside}
 
 abbrev pub kept_string : Entry → KeptString
-kept_string entry = record { text = entry.text.items; steps = entry.steps; changes = entry.changes.items }
+kept_string entry = record { text = entry.text; steps = entry.steps; changes = entry.changes }
 
 -- the strings that are kept, the oldest first
 abbrev pub strings_of : Entries → List KeptString

@@ -12,10 +12,12 @@ ghost use Rattle.teco_session.specs.Kept.{IsSession, IsSmall, HasRun, applied, c
 ghost use Rattle.teco_session.specs.Step.{Step, RunStep, Reply, is_terminal_failure};
 ghost use Rattle.teco_session.specs.Play.{Play, ShowsAll, answers_of};
 
+use crate::changes::Changes;
 use crate::entries::Entries;
 use crate::entry::Entry;
 use crate::request::{Answer, Answered, NothingToRedo, NothingToUndo, Request};
 use crate::runner::{Placing, Plain, Runner};
+use crate::text::Text;
 use std::alloc::Global;
 use std::marker::Model;
 use std::mem;
@@ -76,9 +78,7 @@ fn record_run<T: Terminal, R: Runner>(
     record_laws();
     let mut recorder = Recorder::new(mem::replace(editor, Editor::new(Vec::new(alloc))));
     let outcome = runner.run_on(&mut recorder, text, limit, term);
-    let (after, mut changes) = recorder.into_parts();
-    // A short string has a few changes, and room for more of them was found at each step.
-    changes.shrink_to_fit();
+    let (after, changes) = recorder.into_parts();
     *editor = after;
     (changes, outcome)
 }
@@ -146,7 +146,7 @@ impl Session {
         ensures value { result.now ≡ (string_at self.now i).text }
         ensures history { result.now ≡ (note_at (history_of self.now) i).text }
     {
-        &self.entries.get(i).text
+        self.entries.get(i).text.as_slice()
     }
 
     /// How many steps a string took. Takes no memory.
@@ -166,7 +166,7 @@ impl Session {
             (state_after (history_of self.now).first (history_of self.now).notes i) }
     {
         record_laws();
-        &self.entries.get(i).changes
+        self.entries.get(i).changes.as_slice()
     }
 
     /// Goes back to the state before the last string that is not undone, where there is one; otherwise nothing changes. Takes no
@@ -288,7 +288,7 @@ impl Session {
             return Answer::AfterExit;
         }
         let alloc = self.entries.alloc();
-        let Ok(kept) = Vec::from_slice(alloc, text) else {
+        let Ok(kept) = Text::copied(alloc, text) else {
             return Answer::NotBegun;
         };
         if self.entries.reserve().is_err() {
@@ -300,7 +300,7 @@ impl Session {
         self.entries.note(Entry {
             text: kept,
             steps: outcome.steps,
-            changes,
+            changes: Changes::of(changes),
         });
         self.cursor = self.entries.len();
         Answer::Ended(outcome)

@@ -39,14 +39,14 @@ returns-clause-exit g c = λ going over.
 pub returns-clause-leads : goal.returns-clause-leads
 returns-clause-leads g c =
     (run_left c.record_laws.ensures.leads c.meaning_laws.ensures.limit_zero c.args.editor.now c.replace.result c.into_parts-after.result.0 c.new-recorder.result c.run_on-outcome.new.desk c.args.text.now
-    c.run_on-outcome.result.steps c.shrink_to_fit.new.self.items c.requires c.replace.ensures.value c.new-recorder.ensures.state c.new-recorder.ensures.follows c.run_on-outcome.ensures.follows
-    c.into_parts-after.ensures.editor (c.shrink_to_fit.ensures.items ∙ c.into_parts-after.ensures.entry)).leads
+    c.run_on-outcome.result.steps c.into_parts-after.result.1.items c.requires c.replace.ensures.value c.new-recorder.ensures.state c.new-recorder.ensures.follows c.run_on-outcome.ensures.follows
+    c.into_parts-after.ensures.editor c.into_parts-after.ensures.entry).leads
 
 pub returns-clause-ran : goal.returns-clause-ran
 returns-clause-ran g c =
     (run_left c.record_laws.ensures.leads c.meaning_laws.ensures.limit_zero c.args.editor.now c.replace.result c.into_parts-after.result.0 c.new-recorder.result c.run_on-outcome.new.desk c.args.text.now
-    c.run_on-outcome.result.steps c.shrink_to_fit.new.self.items c.requires c.replace.ensures.value c.new-recorder.ensures.state c.new-recorder.ensures.follows c.run_on-outcome.ensures.follows
-    c.into_parts-after.ensures.editor (c.shrink_to_fit.ensures.items ∙ c.into_parts-after.ensures.entry)).run
+    c.run_on-outcome.result.steps c.into_parts-after.result.1.items c.requires c.replace.ensures.value c.new-recorder.ensures.state c.new-recorder.ensures.follows c.run_on-outcome.ensures.follows
+    c.into_parts-after.ensures.editor c.into_parts-after.ensures.entry).run
 
 pub returns-clause-tells : goal.returns-clause-tells
 returns-clause-tells g c =

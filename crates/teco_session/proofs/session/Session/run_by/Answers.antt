@@ -2,12 +2,15 @@ use Rattle.std.proofs.Common.{◌≡◌, ℕ, Option, List, [], ◌++◌, ◌∷
 use Rattle.std.proofs.lemmas.Bool.{false≢true}
 use Rattle.teco_exec.specs.StringMeaning.{string_meaning}
 use Rattle.teco_exec.specs.Runs.{Runs}
+use Rattle.teco_store.specs.Follows.{LeadsBack}
 use Rattle.teco_store.specs.State.{State, Full, state_of}
+use Rattle.teco_store.specs.Turn.{Note as Change}
 use Rattle.teco_session.specs.History.{History, present, noted}
 use Rattle.teco_session.specs.Kept.{KeptSession, KeptString, HasRun, newest, history_of, noted_as}
 use Rattle.teco_session.specs.Entries.{kept_string, strings_of, depth_of, kept_session}
 use Rattle.teco_session.specs.declared.entry.Entry.{Entry}
 use Rattle.teco_session.proofs.Histories.{Shows-nil}
+use Rattle.teco_session.proofs.Records.{kept_run}
 use Rattle.teco_session.proofs.Turning.{present_is}
 use Rattle.teco_session.proofs.Sessions.{Ran, session_noted, session_with}
 use Rattle.teco_session.proofs.session.Session.run_by.Given as given
@@ -56,7 +59,7 @@ returns-then-is_err-clause-exit g c = λ going over.
 
 -- the entry that is added
 abbrev entry_now : (g : given.Over) (c : goal.After-self-1 g) → Entry
-entry_now g c = record { text = c.in-Ok.kept; steps = c.record_run-changes.result.1.steps; changes = c.record_run-changes.result.0 }
+entry_now g c = record { text = c.in-Ok.kept; steps = c.record_run-changes.result.1.steps; changes = c.of.result }
 
 -- the session with it
 abbrev session_now : (g : given.Over) (c : goal.After-self-1 g) → KeptSession
@@ -67,12 +70,13 @@ ran_now g c =
     let r = c.record_run-changes.ensures in
     let new = c.record_run-changes.new.editor in
     let k = c.record_run-changes.result.1.steps in
-    let kept = sym c.in-Ok.ensures.items in
+    let kept = sym c.in-Ok.ensures.value in
+    let changes = sym c.of.ensures in
     let depth : depth_of c.truncate.new.self ≡ depth_of c.self.inside.entries = c.truncate.ensures.depth ∙ c.reserve.ensures.depth in
     let front : strings_of c.truncate.new.self ≡ take c.self.inside.cursor (strings_of c.self.inside.entries) = c.truncate.ensures.strings ∙ ap (take c.self.inside.cursor) c.reserve.ensures.strings in
     session_noted c.record_laws.ensures.back c.record_laws.ensures.extended (kept_session c.self.inside) new (strings_of c.note.new.self) (kept_string (entry_now g c)) c.len-self-inside.result (depth_of c.note.new.self)
-    c.self.invariant r.leads
-    (subst (λ (t : List ℕ). HasRun new (let x : KeptString = record { text = t; steps = k; changes = c.record_run-changes.result.0.items } in x)) kept r.ran)
+    c.self.invariant (subst (λ (cs : List Change). LeadsBack c.self.inside.editor new cs) changes r.leads)
+    (subst (λ (t : List ℕ). HasRun new (kept_run t k c.of.result)) kept (subst (λ (cs : List Change). HasRun new (kept_run c.args.text.now k cs)) changes r.ran))
     (r.again ∙ ap (λ (t : List ℕ). (string_meaning (state_of c.self.inside.editor) t k).state) kept)
     (c.note.ensures.strings ∙ ap (λ (d : Option ℕ). newest d (strings_of c.truncate.new.self ++ kept_string (entry_now g c) ∷ [])) depth
     ∙ ap (λ (l : List KeptString). newest (depth_of c.self.inside.entries) (l ++ kept_string (entry_now g c) ∷ [])) front)
@@ -94,7 +98,7 @@ returns-clause-step g c =
     let here = state_now g c in
     let going : (present old).is_done ≡ false = ap (λ (s : State). s.is_done) (sym c.editor.ensures.present) ∙ sym c.done.ensures ∙ c.if-done.false in
     let run = subst (λ (s : State). Runs s c.args.text.now c.args.limit c.record_run-changes.result.1 ran.0 new) here ran.1 in
-    let text = ap (λ (t : List ℕ). noted old (record { text = t; steps = k; state = new })) c.in-Ok.ensures.items in
+    let text = ap (λ (t : List ℕ). noted old (record { text = t; steps = k; state = new })) c.in-Ok.ensures.value in
     (ran.0, (new, going, run, (ran_now g c).history ∙ ap (λ (s : KeptSession). noted (history_of s) (noted_as (kept_string (entry_now g c)) new)) c.self.view_is ∙ text), ran.2)
 
 pub returns-clause-exit : goal.returns-clause-exit

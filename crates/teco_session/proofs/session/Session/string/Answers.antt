@@ -6,9 +6,9 @@ use Rattle.teco_session.proofs.session.Session.string.Goals as goal
 pub get-requires : goal.get-requires
 get-requires c = subst (λ (s : KeptSession). c.args.i < length s.strings) (sym c.self.view_is) c.requires
 
-value_now : (c : goal.After-deref) → c.deref.result.now ≡ (string_at c.args.self.now c.args.i).text
+value_now : (c : goal.After-as_slice) → c.as_slice.result.now ≡ (string_at c.args.self.now c.args.i).text
 value_now c =
-    c.deref.ensures.value ∙ ap (λ (x : KeptString). x.text) c.get.ensures ∙ ap (λ (s : KeptSession). (string_at s c.args.i).text) c.self.view_is
+    c.as_slice.ensures ∙ ap (λ (x : KeptString). x.text) c.get.ensures ∙ ap (λ (s : KeptSession). (string_at s c.args.i).text) c.self.view_is
 
 pub returns-clause-value : goal.returns-clause-value
 returns-clause-value c = value_now c
