@@ -18,4 +18,5 @@ LendsSession t loan = LendsIf Handle.the_row Inner.the_row t loan (with_session 
 
 -- A handle whose session was lent to be looked at is the same once the look is over.
 abbrev pub StaysTheSame : MutBor Teco → Fml
-StaysTheSame t = follows_so Handle.the_row Handle.the_row t.ghost_name none (λ _ _. ⊤) (λ after. after ≡ t.now)
+StaysTheSame t =
+    follows_so Handle.the_row Handle.the_row t.ghost_name none (λ _ _. ⊤) (λ after. after ≡ t.now)
