@@ -1,6 +1,7 @@
 /*
- * Each call once on its way to success, each of its refusals, and each on a closed handle. Expected values are taken from teco.h and the
- * manual. Prints the lines that fail, and ends with status 1 where there are any.
+ * Each call once on its way to success, each of its refusals, and each on a closed handle. Each call but an open and a close is also
+ * made at a handle that can't be written. Expected values are taken from teco.h and the manual. Prints the lines that fail, and ends
+ * with status 1 where there are any.
  */
 #include "teco.h"
 #include <stdio.h>
@@ -126,7 +127,7 @@ static void looks(void)
 }
 
 /* Whether change k of string i is of this kind, for this register, after so many steps. */
-static int is(struct teco *t, size_t i, size_t k, uint8_t kind, uint8_t name, uint64_t step)
+static int is(const struct teco *t, size_t i, size_t k, uint8_t kind, uint8_t name, uint64_t step)
 {
     uint8_t told_kind, told_name;
     uint64_t told_step;
@@ -134,7 +135,7 @@ static int is(struct teco *t, size_t i, size_t k, uint8_t kind, uint8_t name, ui
 }
 
 /* Whether it takes so many bytes out at a place, and puts so many in. */
-static int splices(struct teco *t, size_t i, size_t k, size_t at, size_t gone, size_t came)
+static int splices(const struct teco *t, size_t i, size_t k, size_t at, size_t gone, size_t came)
 {
     size_t told_at, told_gone, told_came;
     return teco_splice(t, i, k, &told_at, &told_gone, &told_came) == 0 && told_at == at && told_gone == gone && told_came == came;
@@ -199,6 +200,36 @@ static void closed(void)
     HOLDS(room[0] == '.' && memcmp(room, room + 1, sizeof room - 1) == 0 && t.at == NULL);
 }
 
+/* Looks in every way at a handle. How many looks told something. */
+static int told(const struct teco *t)
+{
+    int32_t number;
+    uint64_t k;
+    uint8_t kind, name;
+    size_t one, two;
+    return (teco_strings(t, &n) == 0) + (teco_cursor(t, &n) == 0) + (teco_steps(t, 0, &k) == 0)
+        + (teco_string(t, 0, room, 64, &n) == 0) + (teco_changes(t, 0, &n) == 0) + (teco_change(t, 0, 0, &kind, &name, &k) == 0)
+        + (teco_splice(t, 0, 0, &n, &one, &two) == 0) + (teco_length(t, &n) == 0) + (teco_pointer(t, &n) == 0)
+        + (teco_text(t, 0, room, 64, &n) == 0) + (teco_output(t, 0, room, 64, &n) == 0) + (teco_number(t, 'A', &number) == 0)
+        + (teco_register(t, 'A', room, 64, &n) == 0) + (teco_search(t, room, 64, &n) == 0) + (teco_pushed(t, &n) == 0)
+        + (teco_place(t, &n) == 0) + (teco_done(t) <= 1) + (teco_found(t) <= 1) + (teco_form_feed(t) <= 1) + (teco_either_case(t) <= 1);
+}
+
+/* No call but an open and a close writes the handle: each other one at a handle in memory that can't be written, closed and open. */
+static void unwritten(void)
+{
+    struct teco *t = mmap(NULL, sizeof *t, PROT_READ, MAP_PRIVATE | MAP_ANONYMOUS, -1, 0);
+    HOLDS(t != MAP_FAILED && told(t) == 0 && run(t, "Y", 64) == TECO_CLOSED);
+    HOLDS(teco_undo(t) == TECO_CLOSED && teco_redo(t) == TECO_CLOSED && teco_rewind(t, 0) == TECO_CLOSED);
+    HOLDS(mprotect(t, sizeof *t, PROT_READ | PROT_WRITE) == 0 && teco_open(t, bytes("one"), 3, 0) == 0);
+    HOLDS(mprotect(t, sizeof *t, PROT_READ) == 0);
+    HOLDS(run(t, "YSe\033I.\033", 64) == 0 && told(t) == 20);
+    HOLDS(teco_undo(t) == 0 && teco_redo(t) == 0 && teco_rewind(t, 1) == 0 && teco_undo(t) == 0);
+    HOLDS(mprotect(t, sizeof *t, PROT_READ | PROT_WRITE) == 0);
+    teco_close(t);
+    munmap(t, sizeof *t);
+}
+
 static void many(void)
 {
     for (int i = 0; i < 10000; i++) {
@@ -219,6 +250,7 @@ int main(void)
     looks();
     changes();
     closed();
+    unwritten();
     many();
     return failed;
 }

@@ -3,7 +3,7 @@
 #include <stdio.h>
 #include <string.h>
 
-static void show(struct teco *t, const char *call, int answer)
+static void show(const struct teco *t, const char *call, int answer)
 {
     uint8_t room[80];
     size_t length = 0, pointer = 0;

@@ -116,14 +116,14 @@ uint8_t teco_redo(struct teco *t);
  */
 uint8_t teco_rewind(struct teco *t, uint64_t n);
 
-/* All that follows looks: it asks for no memory and changes nothing. */
+/* All that follows looks: it asks for no memory and changes nothing, neither the handle nor what it leads to. */
 
 /* How many strings are kept, and how many of them are not undone. */
-uint8_t teco_strings(struct teco *t, size_t *count);
-uint8_t teco_cursor(struct teco *t, size_t *count);
+uint8_t teco_strings(const struct teco *t, size_t *count);
+uint8_t teco_cursor(const struct teco *t, size_t *count);
 
 /* How many steps string i took: 0 or TECO_OUTSIDE. */
-uint8_t teco_steps(struct teco *t, size_t i, uint64_t *steps);
+uint8_t teco_steps(const struct teco *t, size_t i, uint64_t *steps);
 
 /*
  * The calls with a room copy as many bytes as it has room for, and tell the length of all of them: where that is more than the room,
@@ -131,7 +131,7 @@ uint8_t teco_steps(struct teco *t, size_t i, uint64_t *steps);
  */
 
 /* The text of string i: 0 or TECO_OUTSIDE. */
-uint8_t teco_string(struct teco *t, size_t i, uint8_t *room, size_t size, size_t *length);
+uint8_t teco_string(const struct teco *t, size_t i, uint8_t *room, size_t size, size_t *length);
 
 /*
  * THE CHANGES OF A STRING
@@ -144,48 +144,48 @@ uint8_t teco_string(struct teco *t, size_t i, uint8_t *room, size_t size, size_t
  */
 
 /* How many changes string i has: 0 or TECO_OUTSIDE. A step makes at most six; many make none. */
-uint8_t teco_changes(struct teco *t, size_t i, size_t *count);
+uint8_t teco_changes(const struct teco *t, size_t i, size_t *count);
 
 /*
  * What change k of string i is for, by its number above; the name of the register, A to Z or 0 to 9, or 0 where it is for none; and how
  * many steps of the string were done before it: 0 or TECO_OUTSIDE. Nothing else differs once it is turned.
  */
-uint8_t teco_change(struct teco *t, size_t i, size_t k, uint8_t *kind, uint8_t *name, uint64_t *step);
+uint8_t teco_change(const struct teco *t, size_t i, size_t k, uint8_t *kind, uint8_t *name, uint64_t *step);
 
 /*
  * Of change k of string i, where it is for bytes of the text: at the place `at` the next turn takes `gone` bytes out, and puts `came`
  * others in. 0, or TECO_OUTSIDE also where the change is for something else. The places are those of the text at the moment when the
  * turn comes to this change, after those that it turns before it.
  */
-uint8_t teco_splice(struct teco *t, size_t i, size_t k, size_t *at, size_t *gone, size_t *came);
+uint8_t teco_splice(const struct teco *t, size_t i, size_t k, size_t *at, size_t *gone, size_t *came);
 
 /* The length of the buffer's text, and the place of the pointer in it. */
-uint8_t teco_length(struct teco *t, size_t *length);
-uint8_t teco_pointer(struct teco *t, size_t *pointer);
+uint8_t teco_length(const struct teco *t, size_t *length);
+uint8_t teco_pointer(const struct teco *t, size_t *pointer);
 
 /* The text of the buffer from a place on, and the output so far from a place on. Past the end there is nothing, of length 0. */
-uint8_t teco_text(struct teco *t, size_t from, uint8_t *room, size_t size, size_t *length);
-uint8_t teco_output(struct teco *t, size_t from, uint8_t *room, size_t size, size_t *length);
+uint8_t teco_text(const struct teco *t, size_t from, uint8_t *room, size_t size, size_t *length);
+uint8_t teco_output(const struct teco *t, size_t from, uint8_t *room, size_t size, size_t *length);
 
 /* The number and the text of the register of this name, A to Z in either case or 0 to 9: 0 or TECO_OUTSIDE. */
-uint8_t teco_number(struct teco *t, uint8_t name, int32_t *number);
-uint8_t teco_register(struct teco *t, uint8_t name, uint8_t *room, size_t size, size_t *length);
+uint8_t teco_number(const struct teco *t, uint8_t name, int32_t *number);
+uint8_t teco_register(const struct teco *t, uint8_t name, uint8_t *room, size_t size, size_t *length);
 
 /* The last search text: 0, or TECO_OUTSIDE where there was none. */
-uint8_t teco_search(struct teco *t, uint8_t *room, size_t size, size_t *length);
+uint8_t teco_search(const struct teco *t, uint8_t *room, size_t size, size_t *length);
 
 /* How many values are on the push-down list, and how many bytes of the input have been read. */
-uint8_t teco_pushed(struct teco *t, size_t *count);
-uint8_t teco_place(struct teco *t, size_t *place);
+uint8_t teco_pushed(const struct teco *t, size_t *count);
+uint8_t teco_place(const struct teco *t, size_t *place);
 
 /*
  * 1 where it is so, 0 where it isn't: an exit has ended the session; the last search found; a form feed ended the page; searches find
  * a letter in either case.
  */
-uint8_t teco_done(struct teco *t);
-uint8_t teco_found(struct teco *t);
-uint8_t teco_form_feed(struct teco *t);
-uint8_t teco_either_case(struct teco *t);
+uint8_t teco_done(const struct teco *t);
+uint8_t teco_found(const struct teco *t);
+uint8_t teco_form_feed(const struct teco *t);
+uint8_t teco_either_case(const struct teco *t);
 
 #ifdef __cplusplus
 }

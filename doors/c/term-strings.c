@@ -156,7 +156,7 @@ enum fate serve(struct editor *editor, const uint8_t *text, size_t n)
     return fate == GOES_ON && teco_done(&editor->session) == 1 ? EXIT : fate;
 }
 
-typedef uint8_t look(struct teco *session, size_t from, uint8_t *room, size_t size, size_t *length);
+typedef uint8_t look(const struct teco *session, size_t from, uint8_t *room, size_t size, size_t *length);
 
 /* Whether the bytes that a look gives are those of INPUT from this place on, which goes behind them. */
 static bool is_of_input(struct editor *editor, look *call, size_t *at)

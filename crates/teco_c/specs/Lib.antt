@@ -1,4 +1,5 @@
 pub mod Handle
+pub mod Lending
 pub mod Numbers
 pub mod Rooms
 pub mod Calls

@@ -1,4 +1,4 @@
--- What the calls that look at a session tell of it. They leave it the same.
+-- What the calls that look at a session tell of it. Each also says that the handle is the same.
 use Rattle.std.specs.Prelude.{◌≡◌, ℕ, List, Bool, true, false, if◌then◌else◌, Option, Some, None, option_map, slice_get}
 use Rattle.teco_core.specs.Register.{Content, content, register_of}
 use Rattle.teco_core.specs.declared.case_mode.CaseMode.{CaseMode}
@@ -27,20 +27,20 @@ abbrev pub is_either : CaseMode → Bool
 is_either Exact = false
 is_either Either = true
 
--- A number of it is told. A closed handle tells 0, and stays closed.
-abbrev pub Tells : Option Kept → ℕ → ℕ → Option Kept → (Kept → ℕ) → Type 0
-Tells None code n new part = (code ≡ CLOSED) × (n ≡ 0) × (new ≡ None)
-Tells (Some old) code n new part = (code ≡ 0) × (n ≡ part old) × (new ≡ Some old)
+-- A number of it is told. A closed handle tells 0.
+abbrev pub Tells : Option Kept → ℕ → ℕ → (Kept → ℕ) → Type 0
+Tells None code n part = (code ≡ CLOSED) × (n ≡ 0)
+Tells (Some kept) code n part = (code ≡ 0) × (n ≡ part kept)
 
 -- Whether something is so is told by 1 and 0.
-abbrev pub Says : Option Kept → ℕ → Option Kept → (State → Bool) → Type 0
-Says None code new test = (code ≡ CLOSED) × (new ≡ None)
-Says (Some old) code new test = (code ≡ (if test (state_now old) then 1 else 0)) × (new ≡ Some old)
+abbrev pub Says : Option Kept → ℕ → (State → Bool) → Type 0
+Says None code test = code ≡ CLOSED
+Says (Some kept) code test = code ≡ (if test (state_now kept) then 1 else 0)
 
 -- A text of it is copied, as much as there is room for. A closed handle leaves the room as it was.
 abbrev pub Copies : Option Kept → List ℕ → List ℕ → (Kept → List ℕ) → Type 0
 Copies None before after part = after ≡ before
-Copies (Some old) before after part = after ≡ filled before (part old)
+Copies (Some kept) before after part = after ≡ filled before (part kept)
 
 -- What is there is told, and what is not by a number of its own, with nothing beside.
 abbrev pub IsTold : {A : Type 0} → A → Option A → ℕ → A → Type 0
@@ -48,9 +48,9 @@ IsTold nothing None code n = (code ≡ OUTSIDE) × (n ≡ nothing)
 IsTold nothing (Some v) code n = (code ≡ 0) × (n ≡ v)
 
 -- The same of a handle.
-abbrev pub TellsIf : {A : Type 0} → A → Option Kept → ℕ → A → Option Kept → (Kept → Option A) → Type 0
-TellsIf nothing None code n new part = (code ≡ CLOSED) × (n ≡ nothing) × (new ≡ None)
-TellsIf nothing (Some old) code n new part = IsTold nothing (part old) code n × (new ≡ Some old)
+abbrev pub TellsIf : {A : Type 0} → A → Option Kept → ℕ → A → (Kept → Option A) → Type 0
+TellsIf nothing None code n part = (code ≡ CLOSED) × (n ≡ nothing)
+TellsIf nothing (Some kept) code n part = IsTold nothing (part kept) code n
 
 -- A text that is there is copied, and where there is none the room is left as it was.
 abbrev pub IsCopied : Option (List ℕ) → List ℕ → List ℕ → Type 0
@@ -59,4 +59,4 @@ IsCopied (Some bytes) before after = after ≡ filled before bytes
 
 abbrev pub CopiesIf : Option Kept → List ℕ → List ℕ → (Kept → Option (List ℕ)) → Type 0
 CopiesIf None before after part = after ≡ before
-CopiesIf (Some old) before after part = IsCopied (part old) before after
+CopiesIf (Some kept) before after part = IsCopied (part kept) before after

@@ -67,53 +67,47 @@ pub extern "C" fn teco_close(alloc: Global, t: &mut Teco)
 
 /// Goes back by a string: 0, or the number of NTU where there is none. Takes no memory.
 #[unsafe(no_mangle)]
-pub extern "C" fn teco_undo(alloc: Global, t: &mut Teco) -> u8
+pub extern "C" fn teco_undo(t: &mut Teco) -> u8
     ensures open { SessionGoes t.old.value t.new.value (λ old new. Undoes old result new) }
     ensures closed { StaysClosed t.old.value result t.new.value }
 {
-    let Some(mut session) = t.take(alloc) else {
+    let Some(session) = t.session() else {
         return CLOSED;
     };
-    let code = match session.undo() {
+    match session.undo() {
         Ok(()) => 0,
         Err(_) => Code::Ntu.number(),
-    };
-    t.put(session);
-    code
+    }
 }
 
 /// Goes on by a string: 0, or the number of NTR where there is none. Takes no memory.
 #[unsafe(no_mangle)]
-pub extern "C" fn teco_redo(alloc: Global, t: &mut Teco) -> u8
+pub extern "C" fn teco_redo(t: &mut Teco) -> u8
     ensures open { SessionGoes t.old.value t.new.value (λ old new. Redoes old result new) }
     ensures closed { StaysClosed t.old.value result t.new.value }
 {
-    let Some(mut session) = t.take(alloc) else {
+    let Some(session) = t.session() else {
         return CLOSED;
     };
-    let code = match session.redo() {
+    match session.redo() {
         Ok(()) => 0,
         Err(_) => Code::Ntr.number(),
-    };
-    t.put(session);
-    code
+    }
 }
 
 /// Goes back to the state after the first `n` steps of the last string: 0, or the number of NTU where there is none. Takes no memory.
 #[unsafe(no_mangle)]
-pub extern "C" fn teco_rewind(alloc: Global, t: &mut Teco, n: u64) -> u8
+pub extern "C" fn teco_rewind(t: &mut Teco, n: u64) -> u8
     ensures open { SessionGoes t.old.value t.new.value (λ old new. Rewinds n old result new) }
     ensures closed { StaysClosed t.old.value result t.new.value }
 {
-    let Some(mut session) = t.take(alloc) else {
+    let Some(session) = t.session() else {
         return CLOSED;
     };
-    let code = match session.rewind(n) {
+    match session.rewind(n) {
         Ok(()) => 0,
         Err(_) => Code::Ntu.number(),
-    };
-    t.put(session);
-    code
+    }
 }
 
 /// Runs a string on an empty room, which keeps the room that it writes to.
@@ -143,7 +137,6 @@ fn run_in(session: &mut Session, text: &[u8], limit: u64, room: &mut [u8]) -> (A
 /// The number of its code, or 0; `made` bytes were typed, and the string took `steps` steps.
 #[unsafe(no_mangle)]
 pub extern "C" fn teco_run(
-    alloc: Global,
     t: &mut Teco,
     text: &[u8],
     limit: u64,
@@ -158,13 +151,12 @@ pub extern "C" fn teco_run(
     ensures closed { StaysClosed t.old.value result t.new.value }
     ensures nothing { t.old.value ≡ None → (made.new ≡ 0) × (steps.new ≡ 0) × (room.new ≡ room.old) }
 {
-    let Some(mut session) = t.take(alloc) else {
+    let Some(session) = t.session() else {
         *made = 0;
         *steps = 0;
         return CLOSED;
     };
-    let (answer, count) = run_in(&mut session, text, limit, room);
-    t.put(session);
+    let (answer, count) = run_in(session, text, limit, room);
     *made = count;
     *steps = steps_of_answer(answer);
     number_of_answer(answer)

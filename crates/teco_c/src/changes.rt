@@ -6,7 +6,6 @@ ghost use Rattle.teco_c.specs.Looks.{TellsIf};
 use crate::answers::{CLOSED, OUTSIDE};
 use crate::handle::Teco;
 use crate::kinds::{name_in_kind, number_of_kind};
-use std::alloc::Global;
 use teco_session::Session;
 use teco_store::{Change, ChangeKind};
 
@@ -33,17 +32,17 @@ fn kind_of_change(session: &Session, i: usize, k: usize) -> Option<ChangeKind>
 
 /// Writes how many changes string `i` has. Takes no memory.
 #[unsafe(no_mangle)]
-pub extern "C" fn teco_changes(alloc: Global, t: &mut Teco, i: usize, count: &mut usize) -> u8
-    ensures { TellsIf 0 t.old.value result count.new t.new.value
+pub extern "C" fn teco_changes(t: &mut Teco, i: usize, count: &mut usize) -> u8
+    ensures told { TellsIf 0 t.old.value result count.new
         (λ kept. option_map length (changes_of i kept)) }
+    ensures same { t.new ≡ t.old }
 {
-    let Some(session) = t.take(alloc) else {
+    let Some(session) = t.look() else {
         *count = 0;
         return CLOSED;
     };
     let there = i < session.strings();
     *count = if there { session.entry(i).len() } else { 0 };
-    t.put(session);
     if there { 0 } else { OUTSIDE }
 }
 
@@ -51,7 +50,6 @@ pub extern "C" fn teco_changes(alloc: Global, t: &mut Teco, i: usize, count: &mu
 /// were done before it. Takes no memory.
 #[unsafe(no_mangle)]
 pub extern "C" fn teco_change(
-    alloc: Global,
     t: &mut Teco,
     i: usize,
     k: usize,
@@ -59,20 +57,21 @@ pub extern "C" fn teco_change(
     name: &mut u8,
     step: &mut u64,
 ) -> u8
-    ensures kind { TellsIf 0 t.old.value result kind.new t.new.value
+    ensures kind { TellsIf 0 t.old.value result kind.new
         (λ kept. option_map kind_number (kind_at i k kept)) }
-    ensures name { TellsIf 0 t.old.value result name.new t.new.value
+    ensures name { TellsIf 0 t.old.value result name.new
         (λ kept. option_map name_in (kind_at i k kept)) }
-    ensures step { TellsIf 0 t.old.value result step.new t.new.value
+    ensures step { TellsIf 0 t.old.value result step.new
         (λ kept. option_map (λ change. change.step) (change_of i k kept)) }
+    ensures same { t.new ≡ t.old }
 {
     *kind = 0;
     *name = 0;
     *step = 0;
-    let Some(session) = t.take(alloc) else {
+    let Some(session) = t.look() else {
         return CLOSED;
     };
-    let code = match change_at(&session, i, k) {
+    match change_at(session, i, k) {
         None => OUTSIDE,
         Some(change) => {
             *kind = number_of_kind(change.kind());
@@ -80,16 +79,13 @@ pub extern "C" fn teco_change(
             *step = change.step();
             0
         }
-    };
-    t.put(session);
-    code
+    }
 }
 
 /// Writes of change `k` of string `i`, where it is a splice, its place in the text, how many bytes a turn takes out there, and how many
 /// it puts in: an undo, where the string is not undone, and else a redo. Takes no memory.
 #[unsafe(no_mangle)]
 pub extern "C" fn teco_splice(
-    alloc: Global,
     t: &mut Teco,
     i: usize,
     k: usize,
@@ -97,20 +93,21 @@ pub extern "C" fn teco_splice(
     gone: &mut usize,
     came: &mut usize,
 ) -> u8
-    ensures at { TellsIf 0 t.old.value result at.new t.new.value
+    ensures at { TellsIf 0 t.old.value result at.new
         (λ kept. option_map (λ splice. splice.at) (splice_of i k kept)) }
-    ensures gone { TellsIf 0 t.old.value result gone.new t.new.value
+    ensures gone { TellsIf 0 t.old.value result gone.new
         (λ kept. option_map (λ splice. splice.gone) (splice_of i k kept)) }
-    ensures came { TellsIf 0 t.old.value result came.new t.new.value
+    ensures came { TellsIf 0 t.old.value result came.new
         (λ kept. option_map (λ splice. splice.came) (splice_of i k kept)) }
+    ensures same { t.new ≡ t.old }
 {
     *at = 0;
     *gone = 0;
     *came = 0;
-    let Some(session) = t.take(alloc) else {
+    let Some(session) = t.look() else {
         return CLOSED;
     };
-    let code = match kind_of_change(&session, i, k) {
+    match kind_of_change(session, i, k) {
         Some(
             ChangeKind::Splice {
                 at: place,
@@ -124,7 +121,5 @@ pub extern "C" fn teco_splice(
             0
         }
         _ => OUTSIDE,
-    };
-    t.put(session);
-    code
+    }
 }

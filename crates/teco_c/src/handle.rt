@@ -1,5 +1,5 @@
 //! The handle that C keeps.
-ghost use Rattle.std.specs.Prelude.{◌≡◌, MatchOption, None, Some, Option};
+ghost use Rattle.std.specs.Prelude.{◌≡◌, MatchOption, IfSome, None, Some, Option};
 ghost use Rattle.teco_c.specs.Handle.{holds, coded_held, Kept};
 
 use crate::parts::Parts;
@@ -28,6 +28,9 @@ impl Model for Teco {
 }
 
 impl Teco {
+    ghost use Rattle.std.specs.Borrow.{sem};
+    ghost use Rattle.teco_c.specs.Lending.{LendsSession, StaysTheSame, with_session};
+
     fn closed(alloc: Global) -> Teco
         ensures { result.value ≡ None }
     {
@@ -58,6 +61,34 @@ impl Teco {
                 ptr: at as *mut Session,
                 alloc,
             })
+        }
+    }
+
+    /// The session, if the handle is open, to be changed where it is. A handle whose session is left as it was is the same handle.
+    /// Takes no memory.
+    pub fn session(&mut self) -> Option<&mut Session>
+        ensures* writes_back { sem 𝓛 (LendsSession self.entry result) }
+        ensures value { MatchOption result (self.old.value ≡ None)
+            (λ session. self.old.value ≡ Some session.now) }
+        ensures unchanged { IfSome result (λ session. with_session self.old session.now ≡ self.old) }
+    {
+        let at = self.at;
+        if at.is_null() {
+            None
+        } else {
+            Some(unsafe { &mut *(at as *mut Session) })
+        }
+    }
+
+    /// The session, if the handle is open, to be looked at where it is. The handle stays the same. Takes no memory.
+    pub fn look(&mut self) -> Option<&Session>
+        ensures* same { sem 𝓛 (StaysTheSame self.entry) }
+        ensures value { MatchOption result (self.old.value ≡ None)
+            (λ session. self.old.value ≡ Some session.now) }
+    {
+        match self.session() {
+            None => None,
+            Some(session) => Some(session),
         }
     }
 

@@ -1,71 +1,65 @@
 //! The calls that tell of the strings of a session.
-ghost use Rattle.std.specs.Prelude.{length, option_map};
+ghost use Rattle.std.specs.Prelude.{◌≡◌, length, option_map};
 ghost use Rattle.teco_c.specs.Looks.{Tells, TellsIf, CopiesIf, string_of};
 
 use crate::answers::{CLOSED, OUTSIDE};
 use crate::handle::Teco;
 use crate::room::copy_front;
-use std::alloc::Global;
 
 /// Writes how many strings the history has, undone ones too. Takes no memory.
 #[unsafe(no_mangle)]
-pub extern "C" fn teco_strings(alloc: Global, t: &mut Teco, count: &mut usize) -> u8
-    ensures { Tells t.old.value result count.new t.new.value (λ kept. length kept.strings) }
+pub extern "C" fn teco_strings(t: &mut Teco, count: &mut usize) -> u8
+    ensures told { Tells t.old.value result count.new (λ kept. length kept.strings) }
+    ensures same { t.new ≡ t.old }
 {
-    let Some(session) = t.take(alloc) else {
+    let Some(session) = t.look() else {
         *count = 0;
         return CLOSED;
     };
     *count = session.strings();
-    t.put(session);
     0
 }
 
 /// Writes how many strings are not undone. Takes no memory.
 #[unsafe(no_mangle)]
-pub extern "C" fn teco_cursor(alloc: Global, t: &mut Teco, count: &mut usize) -> u8
-    ensures { Tells t.old.value result count.new t.new.value (λ kept. kept.cursor) }
+pub extern "C" fn teco_cursor(t: &mut Teco, count: &mut usize) -> u8
+    ensures told { Tells t.old.value result count.new (λ kept. kept.cursor) }
+    ensures same { t.new ≡ t.old }
 {
-    let Some(session) = t.take(alloc) else {
+    let Some(session) = t.look() else {
         *count = 0;
         return CLOSED;
     };
     *count = session.cursor();
-    t.put(session);
     0
 }
 
 /// Writes how many steps string `i` took, counted from the oldest one that is kept. Takes no memory.
 #[unsafe(no_mangle)]
-pub extern "C" fn teco_steps(alloc: Global, t: &mut Teco, i: usize, steps: &mut u64) -> u8
-    ensures { TellsIf 0 t.old.value result steps.new t.new.value
+pub extern "C" fn teco_steps(t: &mut Teco, i: usize, steps: &mut u64) -> u8
+    ensures told { TellsIf 0 t.old.value result steps.new
         (λ kept. option_map (λ note. note.steps) (string_of i kept)) }
+    ensures same { t.new ≡ t.old }
 {
-    let Some(session) = t.take(alloc) else {
+    let Some(session) = t.look() else {
         *steps = 0;
         return CLOSED;
     };
     let there = i < session.strings();
     *steps = if there { session.steps(i) } else { 0 };
-    t.put(session);
     if there { 0 } else { OUTSIDE }
 }
 
 /// Copies the text of string `i` into the room, as much as there is room for, and writes how long it is. Takes no memory.
 #[unsafe(no_mangle)]
-pub extern "C" fn teco_string(
-    alloc: Global,
-    t: &mut Teco,
-    i: usize,
-    room: &mut [u8],
-    len: &mut usize,
-) -> u8
-    ensures length { TellsIf 0 t.old.value result len.new t.new.value
+pub extern "C" fn teco_string(t: &mut Teco, i: usize, room: &mut [u8], len: &mut usize) -> u8
+    ensures length { TellsIf 0 t.old.value result len.new
         (λ kept. option_map (λ note. length note.text) (string_of i kept)) }
     ensures text { CopiesIf t.old.value room.old room.new
         (λ kept. option_map (λ note. note.text) (string_of i kept)) }
+    ensures same { t.new ≡ t.old }
 {
-    let Some(session) = t.take(alloc) else {
+    let Some(session) = t.look() else {
         *len = 0;
         return CLOSED;
     };
@@ -76,6 +70,5 @@ pub extern "C" fn teco_string(
         *len = text.len();
         copy_front(room, text);
     }
-    t.put(session);
     if there { 0 } else { OUTSIDE }
 }

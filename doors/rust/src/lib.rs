@@ -7,13 +7,13 @@ mod change;
 mod raw;
 
 pub use change::{Change, Kind};
-use std::cell::UnsafeCell;
 use std::fmt;
 use std::ptr;
 
 /// An open session. Its handle is open from [`Session::open`] to its drop.
 pub struct Session {
-    handle: UnsafeCell<raw::Handle>,
+    // A look reads it and leaves it as it was. No two calls overlap, since a session is not `Sync` and no call calls back.
+    handle: raw::Handle,
 }
 
 /// Why a session was not opened.
@@ -59,7 +59,7 @@ impl Session {
     pub fn open(input: &[u8], depth: usize) -> Result<Session, OpenError> {
         let mut handle = raw::Handle { at: ptr::null_mut() };
         match unsafe { raw::teco_open(&mut handle, input.as_ptr(), input.len(), depth) } {
-            0 => Ok(Session { handle: UnsafeCell::new(handle) }),
+            0 => Ok(Session { handle }),
             LARGE => Err(OpenError::TooLarge),
             DEEP => Err(OpenError::TooDeep),
             _ => Err(OpenError::NoMemory),
@@ -71,7 +71,7 @@ impl Session {
         let mut typed = vec![0; room];
         let (mut made, mut steps) = (0, 0);
         let code = unsafe {
-            raw::teco_run(self.at(), text.as_ptr(), text.len(), limit, typed.as_mut_ptr(), room, &mut made, &mut steps)
+            raw::teco_run(&mut self.handle, text.as_ptr(), text.len(), limit, typed.as_mut_ptr(), room, &mut made, &mut steps)
         };
         typed.truncate(made);
         let stop = match code {
@@ -85,30 +85,30 @@ impl Session {
 
     /// Goes back by a string. Asks for no memory.
     pub fn undo(&mut self) -> Result<(), Nothing> {
-        turned(unsafe { raw::teco_undo(self.at()) })
+        turned(unsafe { raw::teco_undo(&mut self.handle) })
     }
 
     /// Goes on by a string. Asks for no memory.
     pub fn redo(&mut self) -> Result<(), Nothing> {
-        turned(unsafe { raw::teco_redo(self.at()) })
+        turned(unsafe { raw::teco_redo(&mut self.handle) })
     }
 
     /// Goes back to the state after the first `n` steps of the last string. Asks for no memory.
     pub fn rewind(&mut self, n: u64) -> Result<(), Nothing> {
-        turned(unsafe { raw::teco_rewind(self.at(), n) })
+        turned(unsafe { raw::teco_rewind(&mut self.handle, n) })
     }
 
     /// How many strings are kept, undone ones too.
     pub fn strings(&self) -> usize {
         let mut count = 0;
-        unsafe { raw::teco_strings(self.at(), &mut count) };
+        unsafe { raw::teco_strings(&self.handle, &mut count) };
         count
     }
 
     /// How many strings are not undone.
     pub fn cursor(&self) -> usize {
         let mut count = 0;
-        unsafe { raw::teco_cursor(self.at(), &mut count) };
+        unsafe { raw::teco_cursor(&self.handle, &mut count) };
         count
     }
 
@@ -120,27 +120,27 @@ impl Session {
     /// How many steps a string took, if there is one at this place.
     pub fn steps(&self, i: usize) -> Option<u64> {
         let mut steps = 0;
-        let answer = unsafe { raw::teco_steps(self.at(), i, &mut steps) };
+        let answer = unsafe { raw::teco_steps(&self.handle, i, &mut steps) };
         (answer == 0).then_some(steps)
     }
 
     /// The changes of a string, in the order in which its steps made them, if there is one at this place.
     pub fn changes(&self, i: usize) -> Option<Vec<Change>> {
         let mut count = 0;
-        let answer = unsafe { raw::teco_changes(self.at(), i, &mut count) };
+        let answer = unsafe { raw::teco_changes(&self.handle, i, &mut count) };
         (answer == 0).then(|| (0..count).filter_map(|k| self.change(i, k)).collect())
     }
 
     fn change(&self, i: usize, k: usize) -> Option<Change> {
         let (mut kind, mut name, mut step) = (0, 0, 0);
-        unsafe { raw::teco_change(self.at(), i, k, &mut kind, &mut name, &mut step) };
+        unsafe { raw::teco_change(&self.handle, i, k, &mut kind, &mut name, &mut step) };
         let kind = if kind == SPLICE { self.splice(i, k) } else { Kind::of(kind, name)? };
         Some(Change { kind, step })
     }
 
     fn splice(&self, i: usize, k: usize) -> Kind {
         let (mut at, mut gone, mut came) = (0, 0, 0);
-        unsafe { raw::teco_splice(self.at(), i, k, &mut at, &mut gone, &mut came) };
+        unsafe { raw::teco_splice(&self.handle, i, k, &mut at, &mut gone, &mut came) };
         Kind::Splice { at, gone, came }
     }
 
@@ -153,7 +153,7 @@ impl Session {
     /// The place of the pointer in the text.
     pub fn pointer(&self) -> usize {
         let mut pointer = 0;
-        unsafe { raw::teco_pointer(self.at(), &mut pointer) };
+        unsafe { raw::teco_pointer(&self.handle, &mut pointer) };
         pointer
     }
 
@@ -166,7 +166,7 @@ impl Session {
     /// The number of a register, if the byte names one.
     pub fn number(&self, name: u8) -> Option<i32> {
         let mut number = 0;
-        let answer = unsafe { raw::teco_number(self.at(), name, &mut number) };
+        let answer = unsafe { raw::teco_number(&self.handle, name, &mut number) };
         (answer == 0).then_some(number)
     }
 
@@ -177,23 +177,18 @@ impl Session {
 
     /// Whether an exit has ended the session.
     pub fn is_done(&self) -> bool {
-        unsafe { raw::teco_done(self.at()) == 1 }
-    }
-
-    // A call writes the handle and leaves it as it was; no two calls overlap, since a session is not `Sync` and no call calls back.
-    fn at(&self) -> *mut raw::Handle {
-        self.handle.get()
+        unsafe { raw::teco_done(&self.handle) == 1 }
     }
 
     /// Asks for the length first, and then for the bytes.
-    fn copied(&self, call: impl Fn(*mut raw::Handle, *mut u8, usize, *mut usize) -> u8) -> Option<Vec<u8>> {
+    fn copied(&self, call: impl Fn(*const raw::Handle, *mut u8, usize, *mut usize) -> u8) -> Option<Vec<u8>> {
         let mut length = 0;
         let mut bytes = Vec::new();
-        if call(self.at(), bytes.as_mut_ptr(), 0, &mut length) != 0 {
+        if call(&self.handle, bytes.as_mut_ptr(), 0, &mut length) != 0 {
             return None;
         }
         bytes.resize(length, 0);
-        call(self.at(), bytes.as_mut_ptr(), length, &mut length);
+        call(&self.handle, bytes.as_mut_ptr(), length, &mut length);
         Some(bytes)
     }
 }
@@ -208,7 +203,7 @@ fn turned(answer: u8) -> Result<(), Nothing> {
 
 impl Drop for Session {
     fn drop(&mut self) {
-        unsafe { raw::teco_close(self.at()) }
+        unsafe { raw::teco_close(&mut self.handle) }
     }
 }
 
