@@ -13,7 +13,7 @@ const PROGRAM: How = How {
     ..PLAIN
 };
 
-static ORDERED_LINES: [Group<'static>; 8] = [
+static ORDERED_LINES: [Group<'static>; 9] = [
     // Sorts lines.
     (
         How {
@@ -40,6 +40,18 @@ static ORDERED_LINES: [Group<'static>; 8] = [
             ..PROGRAM
         },
         &[(SORT, "", "\x0c")],
+    ),
+    // More lines than are merged: they go into heaps.
+    (
+        How {
+            input: "thu\nthes\nabc\nu\nv\nbeginning\nthen\nz\nbeginningb\nb\ns\nbeginningj\nm\n\n-1\nthin\nab\nbeginninge\nq\nw\nbeginningg\nbeginning of line 3\nbeginninga\nbeginni\np\nbegin\nthis\nbeginningf\nab\nthe\n\x0cthas\nb\nbeginningi\na\nbeginningk\n~\n\tm\ntha\ntho\nx\no\na b\n$\nthan\nbeginning of line 12\nn\nthon\nm\nt\nbeginningc\nbeginningh\nthos\nbeginning of line 1\n[]\nm\t\n\n^,\na\tb\nthun\ny\nbeginning of line 2\nthus\n#\nr\nbeginningd\nthi",
+            ..PROGRAM
+        },
+        &[(
+            SORT,
+            "",
+            "\n\n\tm\n#\n$\n-1\n[]\n^,\na\na\tb\na b\nab\nab\nabc\nb\nb\nbegin\nbeginni\nbeginning\nbeginning of line 1\nbeginning of line 12\nbeginning of line 2\nbeginning of line 3\nbeginninga\nbeginningb\nbeginningc\nbeginningd\nbeginninge\nbeginningf\nbeginningg\nbeginningh\nbeginningi\nbeginningj\nbeginningk\nm\nm\nm\t\nn\no\np\nq\nr\ns\nt\ntha\nthan\nthas\nthe\nthen\nthes\nthi\nthin\nthis\ntho\nthon\nthos\nthu\nthun\nthus\nu\nv\nw\nx\ny\nz\n~\n",
+        )],
     ),
     // Reverses lines.
     (
@@ -142,7 +154,7 @@ fn edits_lines(rt: HostRuntime) {
     all_hold(&rt, rt.alloc(), &LINES);
 }
 
-static COLUMN_SWAPS: [Group<'static>; 7] = [
+static COLUMN_SWAPS: [Group<'static>; 8] = [
     // Swaps columns.
     (
         How {
@@ -165,6 +177,13 @@ static COLUMN_SWAPS: [Group<'static>; 7] = [
             ..PROGRAM
         },
         &[(SWAP, "", "b,a\n,c\x0cd\nf,e")],
+    ),
+    (
+        How {
+            input: "a,bb,c\n,,\nddd,,e,f\n\x0cg,h,i",
+            ..PROGRAM
+        },
+        &[(SWAP, "", "bb,a,c\n,,\n,ddd,e,f\n\x0ch,g,i")],
     ),
     // Reverses columns.
     (

@@ -3,20 +3,44 @@
 pub(super) const SORT: &str =
     r#"!sort.tec: sorts the lines of a file, by their bytes; lines that are alike keep their order.
   teco FILE --output OUT < examples/sort.tec
-Form feeds between pages go. A thousand lines take some 500000 steps, and more where they begin alike.
-Each W lines are in order, and two such parts are merged: one is from P to M, the next from M to E. C tells
-whether there were two. The line at M is O bytes after the one at P; X and Y are the first bytes in which they
-differ, and the end of a line comes before any byte. The loops have no comments, since each turn passes them.!
-<A ZJ Z"N -A-10"N 10I$ ' ' -1-^N;>          !all pages, each with a line end!
-1UW <J 0UC
-  <.-Z; .UP QWL .UM QM-Z; QWL .UE 1UC QPJ
-    <QM-QPUO
-      <QOAUY QY-10"E -1UY 0;' 0A-QY"N 0;' C>
-      0AUX QX-10"E -1UX'
-      QY-QX"L QMJ XAK QPJ GA .UP QM+:QAUM QM-QE; | L .UP QP-QM;'>
+Form feeds between pages go. A thousand lines take some 120000 steps, and more where they begin alike.
+The lines go into heaps by their first byte, and the lines of a heap into heaps by their next one. A heap is at
+the end of the text: from N to U is what its lines begin with, and then comes, line by line, what they go on with.
+T calls H for each byte I with which lines go on, in order. H is L at first, which makes a heap of these lines and
+calls T for it, and then G. G writes a line that is alone, and lets R put more of them in order.
+R puts them from V on, each from B before the first whose byte D isn't below its own, which is X; where it is the
+same, D compares the bytes that follow. Many lines that are the same there make a heap of their own, up to the
+eighth byte. M merges what is left from V on, and a file of few lines: each W lines are in order there, and of two
+such parts one is from P to M, the next from M to E. F tells whether there were two, and O is how far apart two
+lines are that are compared. The end of a line comes before any byte.!
+@^UM#1UW <QVJ 0UF
+  <.-Z; .UP QWL .UM QM-Z; QWL .UE 1UF QPJ
+    <QM-QPUO QDC <QOAUY QY-12"L QY/2-5"E -1UY 0;'' 0A-QY"N 0;' C>
+      0AUX QX/2-5"E -1UX'
+      QY-QX"L QMJ XAK QPJ GA .UP QM+:QAUM QM-QE; | QPJ L .UP QP-QM;'>
     QEJ>
-  -QC; 2*QWUW>
-EX$$
+  -QF; 2*QWUW>#
+@^UL#UI QI-10"E <.-1,.PW R S$;> |
+  .UB QN,QUXA [N[U ZUN ZJ GA QII$ .UU 10I$ QBJ <XA.UBZJGAQBJS$;.-QN;>
+  [H[G]H MT ]H QN,ZK ]U]N'#
+@^UG#UI QI-10"E <QN,QUPW .-1,.PW R S$;> |
+  .UC R.UB :S$"U QN,QUPW QBJ L QB,.PW | MR''#
+@^UR#ZUV QVUW QU-QN+1UD QN,QUXC 0UK QCJ
+  <0AUX R.UBXA QX-10"E0UV' QWJ QK<QDA-QX"LL|0;'> QDA-QX"EMD' GCGA%K$ QBJS$;.-QV;>
+  QV"N QV,ZPW QW,ZK | QW,ZK QCJ QD-8"L QIML |
+    ZUV <R.UBXAZJGCGAQBJS$;.-QV;> MM QV,ZPW QV,ZK''#
+@^UD#QK-8"G 0UV | <.UP QB-QD-QP+1UO QDC <CQOAUY0A-QY"N0;'>
+  QY-10"E-1UY' 0AUE QE-10"E-1UE' QPJ QE-QY"G0;' L QDA-QX"N0;'>'#
+@^UA#@I/QUJ:@S/ 12I$ 10I$ 17I$ QCI$ 12I$ @I/"S^^/ QCI$ @I/MH'/#
+<A ZJ Z"N -A/2-5"N 10I$ ' ' -1-^N;>         !all pages, each with a line end, LF or VT!
+J 64L .-Z"E MM EX '                         !a file of few lines!
+J 10I$ ZUN QN+256UE ZJ 256<10I$>            !the table from N to E will have each byte of the text at its number!
+@I/:@S/ 12I$ 14I$ 5I$ I[$ 17I$ 10I$ I]$ 12I$ QE,ZX2 QE,ZK            !2 looks for a byte that it doesn't list yet!
+J <M2; -AUC .UB QN+QCJ D QCI$ ZJ G2 -2D I,$ 17I$ QCI$ I]$ 12I$ QE,ZX2 QE,ZK QBJ>
+QNJ 11A-10"N QN,ZK JD MM EX '               !with a VT, which ends a line too, M sorts all!
+ZJ 10UC MA 0UC QNJ 256<QCA-10"N ZJ MA QNJ ' %C$> QE,ZXT QN,ZK        !A writes T, where FF ends each text!
+0UN 0UU [L]H MT
+HK EX$$
 "#;
 
 pub(super) const REVERSE: &str =
@@ -71,12 +95,23 @@ EX$$
 pub(super) const SWAP: &str =
     r#"!swap.tec: swaps the first two columns of a comma-separated file; a line without a comma stays.
   teco FILE --output OUT < examples/swap.tec
-A is the first column with its comma, and goes. The rest of the line is from B to E: A is put after its first
-comma, or by F at its end. The loop has no comments, since each turn would have to pass them.!
-@^UF/QEJ QE-QB"G -A-10"E R' ' I,$ GA -D/
-Y <J
-  <:S,$; 0XA 0K .UB L .UE QBJ
-    :S,$"S QE-."L MF | GA' | MF' L>
+The next K lines, from B to E, are swapped as if each had two commas: the first column with its comma is taken
+out and put in after the next comma. Each turn passes one line then, so the last one ends at E. Where it doesn't, or
+the first line, up to D, has no two commas, the lines are put back from T and swapped one by one, with a look
+for the end of each. S is K lines of two commas, which no swap changes: it comes after the last line of the
+page, at Z, so that a search finds one, and after E, so that a wrong turn stays in it.!
+64UK QK<I,,
+$> HXS HK
+Y <
+  ZJ .UZ Z"N -A-10"N 10I$ ' ' GS J                                   !the last line gets an end!
+  <.-QZ;
+    .UB L .UD QBJ QKL .UE QB,.XT GS QBJ
+    2S,$ QD-."G QBJ QK<S,$0XA0KS,$GAL>'
+    .-QE"E :QSD |
+      QB,QE+:QSK GT QBJ
+      <S,$.-QE; 0XA 0K .UB L .UD QBJ S,$ QD-."L QDJ R I,$ GA -D | GA ' L>
+      QEJ'>
+  QZ,ZK
 -1-^N; P>
 EX$$
 "#;
