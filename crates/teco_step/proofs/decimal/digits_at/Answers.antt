@@ -1,3 +1,4 @@
+use Rattle.std.proofs.lemmas.Grind.{common_steps}
 use Rattle.std.proofs.Common.{◌≡◌, ◌∙◌, ◌+◌, ◌-◌, ◌*◌, ◌++◌, ap, arith, drop, get_or, length, min, sym, true, false}
 use Rattle.teco_core.specs.Number.{digits_value}
 use Rattle.teco_scan.specs.Scan.{begins_run, run_of}
@@ -38,3 +39,24 @@ returns-clause-end c =
     let ends : begins_run (drop c.loop-digit.end text) ≡ false = sym c.is_digit_at.ensures ∙ c.loop-digit-test.false in
     let none = ap length (run_ends (drop c.loop-digit.end text) ends) in
     omega (arith, none, c.loop-digit.invariant.end)
+
+pub loop-digit-init : goal.loop-digit-init
+loop-digit-init c = grind (arith, common_steps)
+
+pub byte_at-requires : goal.byte_at-requires
+byte_at-requires c = grind (arith, common_steps)
+
+pub overflow_sub-byte_at : goal.overflow_sub-byte_at
+overflow_sub-byte_at c = grind (arith, common_steps)
+
+pub overflow_mul-value : goal.overflow_mul-value
+overflow_mul-value c = grind (arith, common_steps)
+
+pub overflow_add-value : goal.overflow_add-value
+overflow_add-value c = grind (arith, common_steps)
+
+pub overflow_add-end : goal.overflow_add-end
+overflow_add-end c = grind (arith, common_steps)
+
+pub returns-clause-within : goal.returns-clause-within
+returns-clause-within c = grind (arith, common_steps)
