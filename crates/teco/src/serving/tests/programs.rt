@@ -10,7 +10,7 @@ T calls H for each byte I with which lines go on, in order. H is L at first, whi
 calls T for it, and then G. G writes a line that is alone, and lets R put more of them in order.
 R puts them from V on, each from B before the first whose byte D isn't below its own, which is X; where it is the
 same, D compares the bytes that follow. Many lines that are the same there make a heap of their own, up to the
-eighth byte. M merges what is left from V on, and a file of few lines: each W lines are in order there, and of two
+eighth byte. M merges what is left from V on, or all: each W lines are in order there, and of two
 such parts one is from P to M, the next from M to E. F tells whether there were two, and O is how far apart two
 lines are that are compared. The end of a line comes before any byte.!
 @^UM#1UW <QVJ 0UF
@@ -27,13 +27,13 @@ lines are that are compared. The end of a line comes before any byte.!
   .UC R.UB :S$"U QN,QUPW QBJ L QB,.PW | MR''#
 @^UR#ZUV QVUW QU-QN+1UD QN,QUXC 0UK QCJ
   <0AUX R.UBXA QX-10"E0UV' QWJ QK<QDA-QX"LL|0;'> QDA-QX"EMD' GCGA%K$ QBJS$;.-QV;>
-  QV"N QV,ZPW QW,ZK | QW,ZK QCJ QD-8"L QIML |
+  QV"N QV,ZPW QW,ZK | QW,ZK QCJ QD-8&(Z-8000000)"L QIML |
     ZUV <R.UBXAZJGCGAQBJS$;.-QV;> MM QV,ZPW QV,ZK''#
 @^UD#QK-8"G 0UV | <.UP QB-QD-QP+1UO QDC <CQOAUY0A-QY"N0;'>
   QY-10"E-1UY' 0AUE QE-10"E-1UE' QPJ QE-QY"G0;' L QDA-QX"N0;'>'#
 @^UA#@I/QUJ:@S/ 12I$ 10I$ 17I$ QCI$ 12I$ @I/"S^^/ QCI$ @I/MH'/#
 <A ZJ Z"N -A/2-5"N 10I$ ' ' -1-^N;>         !all pages, each with a line end, LF or VT!
-J 64L .-Z"E MM EX '                         !a file of few lines!
+J 64L .-Z&(Z-5000000)"L | MM EX '           !few lines, or too much text for heaps beside it!
 J 10I$ ZUN QN+256UE ZJ 256<10I$>            !the table from N to E will have each byte of the text at its number!
 @I/:@S/ 12I$ 14I$ 5I$ I[$ 17I$ 10I$ I]$ 12I$ QE,ZX2 QE,ZK            !2 looks for a byte that it doesn't list yet!
 J <M2; -AUC .UB QN+QCJ D QCI$ ZJ G2 -2D I,$ 17I$ QCI$ I]$ 12I$ QE,ZX2 QE,ZK QBJ>
