@@ -9,8 +9,8 @@ use Rattle.teco_store.specs.State.{State}
 use Rattle.teco_exec.specs.CursorMoves.{Frame, after_block_step}
 use Rattle.teco_exec.specs.Machine.{Caller, Config, Machine, Ready, step, block, faulty, finished, runs, runs_or_halts, after_token_step, ready_of, after_steps, start_config}
 
--- Where a run stands: its text and the bytes of it that are left, the open blocks, and the callers, the latest
--- first. Where a step of a token comes, the token has been read, and this is its meaning.
+-- Where a run stands: its text and the bytes of it that are left, the open blocks, and the callers, the
+-- latest first. Where a step of a token comes, the token has been read, and this is its meaning.
 pub record Standing : Type 0 where
   pub text : List ℕ
   pub left : List ℕ
@@ -45,8 +45,8 @@ open_turns (b ∷ bs) =
     elim b.kind
     [ Iter ↦ b.left ∷ open_turns bs | Then ↦ open_turns bs | Else ↦ open_turns bs ]
 
--- What is read at a place of a text: this token of a step, and then what is left; or, of no token, what is left,
--- after fillers.
+-- What is read at a place of a text: this token of a step, and then what is left; or, of no token, what is
+-- left, after fillers.
 abbrev pub IsReadAt : List ℕ → ℕ → Option TokenMeaning → List ℕ → Type 0
 IsReadAt text at (Some t) left = (m : Modifiers) × (i : Item)
     × (scan (drop at text) ≡ found (record { modifiers = m; instruction = token.step i }) left)
@@ -106,8 +106,8 @@ pub record IsToldOf (callers : List Caller) (p : Told) (s : Standing) : Type 0 w
 abbrev pub stands_after : State → List ℕ → ℕ → Option Standing
 stands_after s text k = standing (ready_of (after_steps k (runs (start_config s text))))
 
--- The last place at which the run of a whole string has stood after this many steps: the token that comes or the
--- fault that is there, or else the token whose step was the last one.
+-- The last place at which the run of a whole string has stood after this many steps: the token that comes or
+-- the fault that is there, or else the token whose step was the last one.
 pub record IsPlaceAfter (s : State) (text : List ℕ) (k : ℕ) (p : Told) : Type 0 where
   pub there : Standing
   pub stands : stands_after s text p.steps ≡ Some there

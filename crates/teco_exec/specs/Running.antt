@@ -267,8 +267,8 @@ FlowFinishes flow.Over = Unit {0}
 FlowFinishes (flow.Fail code) = is_unfinished_code code ≡ false
 FlowFinishes (flow.Stop code) = ⊥
 
--- what is said of the steps after which the run last stood, by those that are done: where it stops, and where a
--- step has failed, which then counts
+-- what is said of the steps after which the run last stood, by those that are done: where it stops, and where
+-- a step has failed, which then counts
 abbrev pub OnLast : Flow → ℕ → (ℕ → Type 0) → Type 0
 OnLast (flow.Stop code) done P = P done
 OnLast (flow.Fail code) done P = (0 < done) × P (done - 1)
@@ -318,8 +318,8 @@ pub record StandsWhereTold (o : Origin) (callers : List Caller) (p : Told) : Typ
   pub stands : StandsAt o p.steps there
   pub told : IsToldOf callers p there
 
--- A watch knows nothing, or where the run last stood: after all the steps that are done, or before one that has
--- failed.
+-- A watch knows nothing, or where the run last stood: after all the steps that are done, or before one that
+-- has failed.
 abbrev pub Tells : (Option Told → Type 0) → Exit → ℕ → (Told → Type 0) → Type 0
 Tells knows exit.Return done P = knows None
 Tells knows exit.Over done P = knows None

@@ -26,7 +26,8 @@ pub(crate) trait Runner {
         limit: u64,
         term: &mut T,
     ) -> Outcome
-        ensures run { (typed : List ℕ) × Runs (D.state desk.old) text.now limit result typed (D.state desk.new)
+        ensures run { (typed : List ℕ)
+            × Runs (D.state desk.old) text.now limit result typed (D.state desk.new)
             × Shows (T.screen term.old) (T.screen term.new) typed (is_tty result) }
         ensures again { D.state desk.new ≡ (string_meaning (D.state desk.old) text.now result.steps).state }
         ensures follows { (floor : ℕ) → D.follows desk.old (trail_of (D.state desk.old) text.now floor 0)
