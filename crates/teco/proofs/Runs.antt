@@ -1,5 +1,5 @@
 -- How the parts of a run make its end.
-use Rattle.std.proofs.Common.{◌≡◌, ◌≢◌, ◌⊎◌, inl, inr, ℕ, List, Option, sym, ◌∙◌, subst, true}
+use Rattle.std.proofs.Common.{◌≡◌, ◌≢◌, ◌⊎◌, inl, inr, ℕ, List, Option, refl, sym, ◌∙◌, subst, true}
 use Rattle.std.specs.String.{string_bytes}
 use Rattle.std.specs.declared.alloc.Global.{Global}
 use Rattle.std.specs.declared.string.String.{String}
@@ -171,3 +171,26 @@ pub by_word : {line : Line} {still standard : Type 0} {word file : List ℕ → 
     → line.commands ≡ Word text → bytes ≡ string_bytes text → still → word bytes → EditsByLine line still standard word file
 by_word {still} {standard} {word} {file} is named kept run =
     record { edits = subst (EditsByCommands still standard word file) (sym is) (kept, subst word named run) }
+
+-- A serving that ends by an exit is followed by the writing of the output, which is done or fails; after any other no file has changed.
+module _ {I : Type 0} {old new : DiskSeen I} {name output : List ℕ} where
+  pub finishes_written : {end : Served} → end ≡ served.Exit → WritesOutput old new name output → Finishes old new name output end (Ended served.Exit)
+  finishes_written is w = subst (λ s. Finishes old new name output s (Ended served.Exit)) (sym is) (record { ends = w })
+
+  failed : (fate : Fate) → FailsToWrite old new name output fate → FinishesBy (KeepsDisk old new) (WritesOutput old new name output) (FailsToWrite old new name output) served.Exit fate
+  failed NoOutput f = f
+  failed NoMemory f = f
+  failed NoCommands f = absurd (no_other f.fate_is (λ e. cc) (λ e. cc))
+  failed NoInput f = absurd (no_other f.fate_is (λ e. cc) (λ e. cc))
+  failed LargeInput f = absurd (no_other f.fate_is (λ e. cc) (λ e. cc))
+  failed (Ended end) f = absurd (no_other f.fate_is (λ e. cc) (λ e. cc))
+
+  pub finishes_failed : {end : Served} (fate : Fate) → end ≡ served.Exit → FailsToWrite old new name output fate → Finishes old new name output end fate
+  finishes_failed fate is f = subst (λ s. Finishes old new name output s fate) (sym is) (record { ends = failed fate f })
+
+pub finishes_other : {I : Type 0} {disk : DiskSeen I} {name output : List ℕ} (end : Served) → end ≢ served.Exit → Finishes disk disk name output end (Ended end)
+finishes_other served.Exit other = absurd (other refl)
+finishes_other served.EndOfCommands other = record { ends = (refl, record { files = refl; moments = λ files left. left }) }
+finishes_other served.ReadFault other = record { ends = (refl, record { files = refl; moments = λ files left. left }) }
+finishes_other served.ShowFault other = record { ends = (refl, record { files = refl; moments = λ files left. left }) }
+finishes_other served.NoMemory other = record { ends = (refl, record { files = refl; moments = λ files left. left }) }

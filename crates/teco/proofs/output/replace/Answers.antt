@@ -1,4 +1,4 @@
-use Rattle.teco.proofs.Disks.{passes_making, passes_renaming, passes_removing, removed_or, same_but}
+use Rattle.teco.proofs.Disks.{passes_making, passes_renaming, leaves_draft, passes_removing, removed_or, same_but}
 use Rattle.teco.proofs.output.replace.Goals as goal
 
 pub returns-in_err-create-clause-moments : goal.returns-in_err-create-clause-moments
@@ -14,3 +14,6 @@ returns-in-Err-clause-moments g c =
 
 pub returns-clause-moments : goal.returns-clause-moments
 returns-clause-moments g c = passes_renaming c.requires c.create.ensures.moments c.in_ok-create.ensures.ok (c.rename.ensures.moments c.in_ok-create.ensures.kept)
+
+pub returns-in-Err-clause-err : goal.returns-in-Err-clause-err
+returns-in-Err-clause-err g c = leaves_draft c.in_ok-create.ensures.ok (same_but c.in-Err.ensures.err) c.remove.ensures.others

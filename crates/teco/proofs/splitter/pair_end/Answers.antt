@@ -1,4 +1,4 @@
-use Rattle.std.proofs.Common.{◌≡◌, ◌+◌, [], ◌∷◌, ◌++◌, take, get_or, false, ◌&&◌, ◌==◌, arith, ◌∙◌}
+use Rattle.std.proofs.Common.{◌≡◌, ◌+◌, [], ◌∷◌, ◌++◌, take, get_or, false, ◌&&◌, ◌==◌, arith, sym, ◌∙◌}
 use Rattle.std.proofs.lemmas.List.{take_more}
 use Rattle.std.proofs.lemmas.Bool.{and_left, and_right, ne_eqb}
 use Rattle.teco_core.specs.declared.ascii.TheConstants.{ESC}
@@ -18,3 +18,6 @@ loop-at-preserved c =
       | else-is_escape-via-else-is_escape w ↦ and_left _ _ (ne_eqb b ESC w.if-is_escape.false)
     ] in
     record { none = rw one_more (texts_of-more (take i xs) b c.loop-at.invariant.none on); last = rw one_more (ends-more (take i xs) b) }
+
+pub loop-at-init : goal.loop-at-init
+loop-at-init c = record { none = c.requires.none; last = sym c.ends_in_escape-escape.ensures }
