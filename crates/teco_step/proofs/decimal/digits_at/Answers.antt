@@ -1,5 +1,5 @@
-use Rattle.std.proofs.lemmas.Grind.{common_steps}
 use Rattle.std.proofs.Common.{◌≡◌, ◌∙◌, ◌+◌, ◌-◌, ◌*◌, ◌++◌, ap, arith, drop, get_or, length, min, sym, true, false}
+use Rattle.std.proofs.lemmas.Grind.{common_steps}
 use Rattle.teco_core.specs.Number.{digits_value}
 use Rattle.teco_scan.specs.Scan.{begins_run, run_of}
 use Rattle.teco_step.specs.declared.decimal.TheConstants.{PAST_NUMBERS}

@@ -38,9 +38,6 @@ returns-in_err-reserve-clause-follows c = grind (arith, common_steps)
 pub returns-in_err-reserve-clause-keeps : goal.returns-in_err-reserve-clause-keeps
 returns-in_err-reserve-clause-keeps c = grind (arith, common_steps)
 
-pub invariant_of-self-in_err-note_text : goal.invariant_of-self-in_err-note_text
-invariant_of-self-in_err-note_text c = grind (arith, common_steps)
-
 pub returns-in_err-note_text-clause-ok : goal.returns-in_err-note_text-clause-ok
 returns-in_err-note_text-clause-ok c = grind (arith, common_steps)
 
