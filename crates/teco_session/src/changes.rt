@@ -97,7 +97,8 @@ impl Changes {
     pub fn rewind(&mut self, editor: &mut Editor, steps: u64)
         requires fits { FitsBack editor.old.room self.old editor.old.body }
         requires order { IsInOrder self.old }
-        ensures editor { editor.new ≡ with_body editor.old (body_back (since steps self.old) editor.old.body) }
+        ensures editor { editor.new
+            ≡ with_body editor.old (body_back (since steps self.old) editor.old.body) }
         ensures changes { self.new ≡ before steps self.old }
     {
         match &mut self.form {
