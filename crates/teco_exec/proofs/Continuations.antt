@@ -6,15 +6,15 @@ use Rattle.teco_scan.specs.declared.token.Token.{Token as ScannedToken}
 use Rattle.teco_scan.specs.declared.token.Found.{Found}
 use Rattle.teco_scan.specs.declared.token.Found.TheVariants.{Token}
 use Rattle.teco_exec.specs.CursorMoves.{Cursor as MachineCursor, pass}
-use Rattle.teco_exec.specs.Machine.{Caller, Config, block, Now, runs, halts, ready_where_comes, ready_of, after_text_end, step, finished, run_within}
+use Rattle.teco_exec.specs.Machine.{Caller, Config, block, Now, runs, halts, ready_where_comes, ready_of, after_text_end, step, faulty, run_within}
 use Rattle.teco_exec.specs.View.{cursor_at_start, coming_of, cursor, item_of_kind, block_step_of}
-use Rattle.teco_exec.specs.Running.{goes, over, config, ready_run, at_cursor, at_token, at_block_step, at_return, Origin, Host, Continuation, RunGoesOn, Alike, sight, ReachesContinuation, ReachesEnd, at_beginning, at_call, cursor_after_call, host, Reaches, code_left, reached_by_exit, reached_after_call, now_at, whole_run}
+use Rattle.teco_exec.specs.Running.{goes, over, stops, config, ready_run, at_cursor, at_token, at_block_step, at_return, Origin, Host, Continuation, RunGoesOn, Alike, sight, ReachesContinuation, ReachesEnd, at_beginning, at_call, cursor_after_call, host, Reaches, code_left, reached_by_exit, reached_after_call, now_at, whole_run}
 use Rattle.teco_exec.specs.declared.cursor.Cursor.{Cursor}
 use Rattle.teco_exec.specs.declared.moves.BlockStep.{BlockStep}
 use Rattle.teco_exec.specs.declared.moves.Coming.{Coming}
 use Rattle.teco_exec.specs.declared.moves.Coming.TheVariants.{Passed, Step, Block, End, Fault}
-use Rattle.teco_exec.proofs.MachineMeans.{arrives_step, halted, halts_ready, no_steps, run_ready, arrives_stays}
-use Rattle.teco_exec.proofs.Going.{Settles, alike, also, continues, settles, now_there, shows_nothing, since}
+use Rattle.teco_exec.proofs.MachineMeans.{arrives_step, halted, halts_nowhere, halts_ready, no_steps, run_ready, arrives_stays}
+use Rattle.teco_exec.proofs.Going.{Settles, alike, also, continues, end_since, settles, now_there, shows_nothing}
 use Rattle.teco_scan.specs.ListLaws.{BlockLaws}
 use Rattle.teco_exec.proofs.Passing.{Shorter, pass_short}
 use Rattle.std.proofs.lemmas.Bool.Decides.{nat_tests}
@@ -24,6 +24,7 @@ use Rattle.teco_core.specs.declared.code.Code.TheVariants.{Pdo}
 use Rattle.teco_store.specs.Trail.{Trail}
 use Rattle.teco_step.specs.Terminal.{Shows}
 use Rattle.teco_exec.specs.MachineLaws.{MachineMeans}
+use Rattle.teco_exec.specs.Places.{standing}
 use Rattle.teco_exec.specs.declared.flow.Exit.{Exit}
 use Rattle.teco_exec.specs.declared.flow.Exit.TheVariants as ending
 
@@ -66,12 +67,12 @@ module _ (laws : BlockLaws) (old to : Cursor) (found : Found) (callers : List Ca
   comes_over same e now =
       also (alike (ready End e now)) (also (returns old.text.now (cursor old) callers now) (alike (ap (λ (c : Cursor). at_return (arguments c.args) callers now) (sym same))))
 
-  pub comes_fault : (code : Code) → coming_of to found (Fault code) ≡ pass (cursor old) → Settles (at_cursor old callers) (over (Some code))
+  pub comes_fault : (code : Code) → coming_of to found (Fault code) ≡ pass (cursor old) → Settles (at_cursor old callers) (stops code)
   comes_fault code e now zero = ap (ready_run zero) (ready (Fault code) e now)
   comes_fault code e now (suc fuel) = ap (ready_run (suc fuel)) (ready (Fault code) e now)
 
   -- what it is ready for at a fault
-  pub faults : (code : Code) → coming_of to found (Fault code) ≡ pass (cursor old) → (now : Now) → at_cursor old callers now ≡ finished (here now) (Some code)
+  pub faults : (code : Code) → coming_of to found (Fault code) ≡ pass (cursor old) → (now : Now) → at_cursor old callers now ≡ faulty (here now) code
   faults code e now = ready (Fault code) e now
 
 -- A text is at its beginning.
@@ -92,12 +93,15 @@ module _ (o : Origin) (h : Host) (c : Cursor) (text : List ℕ) (callers : List 
       ready_of (if deep then halts here (Some Pdo) else runs (config text (cursor_at_start (cursor c).args text) None (caller c ∷ callers) now))
 
   -- the thirty-third call
-  pub too_deep : length callers ≡ 32 → h.steps ≤ o.limit → ReachesEnd o h h (Some Pdo)
+  pub too_deep : length callers ≡ 32 → h.steps ≤ o.limit → Reaches o h h (over (Some Pdo))
   too_deep deep le =
       let so : (length callers == 32) ≡ true = grind (arith, nat_tests) in
-      settles o h (at_call c text callers) g (over (Some Pdo)) refl le (λ now fuel.
+      settles o h (at_call c text callers) g (over (Some Pdo)) refl le (λ now.
       let here : Config = config c.text.now (cursor c) None callers now in
-      ap (λ b. ready_run fuel (chosen b now)) so ∙ sym (run_ready fuel (halts here (Some Pdo))) ∙ halted fuel here (Some Pdo))
+      record {
+        runs = λ fuel. ap (λ b. ready_run fuel (chosen b now)) so ∙ sym (run_ready fuel (halts here (Some Pdo))) ∙ halted fuel here (Some Pdo);
+        nowhere = ap (λ b. standing (chosen b now)) so ∙ halts_nowhere here (Some Pdo);
+      })
 
   pub enters : length callers < 32 → ReachesContinuation o h h (at_beginning (cursor c).args text (caller c ∷ callers))
   enters few =
@@ -117,7 +121,8 @@ pub comes_home : (o : Origin) (h k : Host) (a : Arguments) (c d : Cursor) (calle
 comes_home o h k a c d callers text e ending.Return r =
     let back = continues o k (at_return a (caller c ∷ callers)) r.going (at_cursor d callers) (comes_back a c d callers text e) in
     record { going = back.going; follows = r.follows }
-comes_home o h k a c d callers text e (ending.Over code) r = r
+comes_home o h k a c d callers text e ending.Over r = r
+comes_home o h k a c d callers text e (ending.Fail code) r = r
 comes_home o h k a c d callers text e (ending.Stop code) r = r
 
 -- After a step, or what uses none, less is left: steps of the limit, or bytes of the text.
@@ -149,8 +154,12 @@ whole_begins means o F a none =
 pub whole_ends : (o : Origin) (before after : Host) (a : Arguments) (exit : Exit) (code : Option Code) → code ≡ code_left exit → after.steps ≤ o.limit → Reaches o before after (reached_by_exit a [] exit) → ReachesEnd o before after code
 whole_ends o before after a ending.Return code is le r =
     subst (ReachesEnd o before after) (sym is)
-    (since o before after after (over None) r.follows (settles o after (at_return a []) r.going (over None) tt le (λ now fuel.
+    (end_since o before after after None r.follows (settles o after (at_return a []) r.going (over None) tt le (λ now.
     let there : Config = config [] (cursor_at_start a []) None [] now in
-    sym (run_ready fuel (halts there None)) ∙ halted fuel there None)))
-whole_ends o before after a (ending.Over left) code is le r = subst (ReachesEnd o before after) (sym is) r
+    record {
+      runs = λ fuel. sym (run_ready fuel (halts there None)) ∙ halted fuel there None;
+      nowhere = halts_nowhere there None;
+    })).ends)
+whole_ends o before after a ending.Over code is le r = subst (ReachesEnd o before after) (sym is) r.ends
+whole_ends o before after a (ending.Fail left) code is le r = subst (ReachesEnd o before after) (sym is) r.ends
 whole_ends o before after a (ending.Stop left) code is le r = subst (ReachesEnd o before after) (sym is) r

@@ -11,7 +11,7 @@ use Rattle.teco_exec.specs.Machine.{Final, Machine, Now, Ready, after_steps, rea
 use Rattle.teco_exec.specs.Places.{after_coming}
 use Rattle.teco_exec.specs.StringMeaning.{StringMeaning, string_meaning}
 use Rattle.teco_exec.specs.Runs.{Runs, EndsWell, is_tty, trail_of}
-use Rattle.teco_exec.specs.Running.{Origin, Host, host, Continuation, RunGoesOn, StillFollows, ReachesContinuation, ReachesEnd, Reached, goes, over, Reaches, Alike, Comes, sight, reached_run, ready_run, whole_run, now_at, ended_by, IsFinished}
+use Rattle.teco_exec.specs.Running.{Origin, Host, host, Continuation, RunGoesOn, StillFollows, ReachesContinuation, ReachesEnd, Reached, goes, over, stops, Reaches, Alike, Comes, sight, ended_at, ready_run, whole_run, now_at, ended_by, IsFinished}
 use Rattle.teco_exec.specs.MachineLaws.{MachineMeans}
 use Rattle.teco_exec.proofs.MachineMeans.{after_more, final_now, paid_run, paid_steps, run_ready, Stays, ready_fuel}
 
@@ -42,9 +42,13 @@ now_there means o k next now leads stays =
     sym (ap meant_now (means o.state o.text k)) ∙ ap (λ j. final_now (run_within j (whole_run o))) none ∙ ap final_now (leads 0) ∙ stays
 
 -- What is followed from one moment to the next is followed from the first.
+pub end_since : (o : Origin) (first before after : Host) (code : Option Code) → StillFollows o first before → ReachesEnd o before after code → ReachesEnd o first after code
+end_since o first before after code f r = record { typed = r.typed; runs = r.runs; shows = r.shows; again = r.again; follows = λ floor p. r.follows floor (f floor p) }
+
 pub since : (o : Origin) (first before after : Host) (d : Reached) → StillFollows o first before → Reaches o before after d → Reaches o first after d
 since o first before after (goes next) f r = record { going = r.going; follows = λ floor p. r.follows floor (f floor p) }
-since o first before after (over code) f r = record { typed = r.typed; runs = r.runs; shows = r.shows; again = r.again; follows = λ floor p. r.follows floor (f floor p) }
+since o first before after (over code) f r = record { ends = end_since o first before after code f r.ends; nowhere = r.nowhere }
+since o first before after (stops code) f r = end_since o first before after (Some code) f r
 
 -- A continuation comes to what is reached.
 abbrev pub Settles : Continuation → Reached → Type 0
@@ -60,6 +64,7 @@ also a b = record { runs = λ fuel. a.runs fuel ∙ b.runs fuel; stands = a.stan
 abbrev pub EndsByItself : Reached → Type 0
 EndsByItself (goes next) = Unit {0}
 EndsByItself (over code) = IsFinished code
+EndsByItself (stops code) = IsFinished (Some code)
 
 -- A step leads from one continuation to another; it changes the state, types these bytes and has this load.
 abbrev pub advanced : State → List ℕ → ℕ → Now → Now
@@ -75,12 +80,12 @@ Pays next further s t bytes n = (now : Now) → now.state ≡ s → PaysFor (nex
 
 module _ (o : Origin) (h : Host) (next : Continuation) (g : RunGoesOn o h next) where
   pub ends_here : (code : Option Code) → IsFinished code → h.steps ≤ o.limit
-      → (let left = o.limit - h.steps in ready_run left (next (now_at o h.steps)) ≡ reached_run left (now_at o h.steps) (over code)) → ReachesEnd o h h code
+      → (let left = o.limit - h.steps in ready_run left (next (now_at o h.steps)) ≡ ended_at left (now_at o h.steps) code) → ReachesEnd o h h code
   ends_here code f le e =
       let now = now_at o h.steps in
       let left = o.limit - h.steps in
       let all : h.steps + left ≡ o.limit = omega arith in
-      let r : run_within o.limit (whole_run o) ≡ reached_run left now (over code) = sym (ap (λ k. run_within k (whole_run o)) all) ∙ g.leads left ∙ e in
+      let r : run_within o.limit (whole_run o) ≡ ended_at left now code = sym (ap (λ k. run_within k (whole_run o)) all) ∙ g.leads left ∙ e in
       let m : string_meaning o.state o.text o.limit ≡ (let x : StringMeaning = record { state = now.state; typed = now.typed; code = code; steps = o.limit - left; load = now.load } in x) =
       sym (g.means o.state o.text o.limit) ∙ ap (λ (x : Final). let y : StringMeaning = record { state = x.state; typed = x.typed; code = x.code; steps = o.limit - x.fuel; load = x.load } in y) r in
       record {
@@ -97,10 +102,10 @@ module _ (o : Origin) (h : Host) (next : Continuation) (g : RunGoesOn o h next) 
       }
 
   -- no step is left
-  pub limit_ends : h.steps ≡ o.limit → ((now : Now) → ready_run 0 (next now) ≡ reached_run 0 now (over (Some Lim))) → ReachesEnd o h h (Some Lim)
+  pub limit_ends : h.steps ≡ o.limit → ((now : Now) → ready_run 0 (next now) ≡ ended_at 0 now (Some Lim)) → ReachesEnd o h h (Some Lim)
   limit_ends same e =
       let none : 0 ≡ o.limit - h.steps = omega arith in
-      ends_here (Some Lim) refl (omega arith) (subst (λ k. ready_run k (next (now_at o h.steps)) ≡ reached_run k (now_at o h.steps) (over (Some Lim))) none (e (now_at o h.steps)))
+      ends_here (Some Lim) refl (omega arith) (subst (λ k. ready_run k (next (now_at o h.steps)) ≡ ended_at k (now_at o h.steps) (Some Lim)) none (e (now_at o h.steps)))
 
   -- what uses no step
   pub continues : (further : Continuation) → Settles next (goes further) → ReachesContinuation o h h further
@@ -111,7 +116,10 @@ module _ (o : Origin) (h : Host) (next : Continuation) (g : RunGoesOn o h next) 
 
   pub settles : (d : Reached) → EndsByItself d → h.steps ≤ o.limit → Settles next d → Reaches o h h d
   settles (goes further) f le e = continues further e
-  settles (over code) f le e = ends_here code f le (e (now_at o h.steps) (o.limit - h.steps))
+  settles (over code) f le e =
+      let there = e (now_at o h.steps) in
+      record { ends = ends_here code f le (there.runs (o.limit - h.steps)); nowhere = ap (λ x. x.0) g.stands ∙ there.nowhere }
+  settles (stops code) f le e = ends_here (Some code) f le (e (now_at o h.steps) (o.limit - h.steps))
 
   -- a step
   module _ (further : Continuation) (t : State) (bytes : List ℕ) (n : ℕ) (pays : Pays next further h.state t bytes n) (stays : (now : Now) → Stays further now) where

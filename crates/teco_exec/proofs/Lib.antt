@@ -15,5 +15,6 @@ pub mod NoMemory
 pub mod Standings
 pub mod Fronts
 pub mod Turns
+pub mod Outermost
 pub mod Placings
 pub mod Semicolons

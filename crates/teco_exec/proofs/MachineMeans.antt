@@ -15,7 +15,7 @@ use Rattle.teco_exec.specs.StringMeaning.{string_run}
 use Rattle.teco_scan.specs.Lists.{closed}
 use Rattle.teco_scan.specs.ListLaws.{BlockLaws}
 use Rattle.teco_exec.specs.CursorMoves.{Frame, Cursor, CursorOrError, Coming, passed_to, step_comes, block_comes, end_comes, fault_comes, BlockStep, innermost_kind, inside_iteration, after_leaving_iteration, after_jump, pass, after_block_step}
-use Rattle.teco_exec.specs.Machine.{Caller, Further, Config, Machine, runs, halts, Ready, step, block, finished, Final, final, setting_of, runs_or_halts, after_step_end, after_text_end, ready_where_comes, ready_at, ready_within, ready_of, bytes_of_callers, bytes_left, after_paid_step, final_without_fuel, final_with_fuel, run_within, after_steps, start_config, Now, now_of}
+use Rattle.teco_exec.specs.Machine.{Caller, Further, Config, Machine, runs, halts, Ready, step, block, faulty, finished, Final, final, setting_of, runs_or_halts, after_step_end, after_text_end, ready_where_comes, ready_at, ready_within, ready_of, bytes_of_callers, bytes_left, after_paid_step, final_without_fuel, final_with_fuel, run_within, after_steps, start_config, Now, now_of}
 use Rattle.teco_exec.specs.CursorMoves as machine
 use Rattle.teco_exec.specs.MachineLaws.{MachineMeans, MachineFollows}
 use Rattle.teco_step.specs.Laws.{LeavesInside}
@@ -24,17 +24,19 @@ use Rattle.teco_exec.proofs.CursorMeans.{from, at_step, at_block_step, coming_me
 use Rattle.teco_exec.proofs.Passing.{TurnEnds, turn, FitsStep, FitsComing, Shorter, pass_keeps, pass_short}
 use Rattle.teco_exec.proofs.Resuming.{world_of, further_means, means, Good, going_leads, resumed_leads}
 use Rattle.teco_core.specs.declared.code.Code.{Code}
-use Rattle.teco_exec.specs.Places.{after_coming}
+use Rattle.teco_exec.specs.Places.{after_coming, standing}
 use Rattle.teco_exec.specs.Running.{Continuation, ready_run}
 
 abbrev ready_means : Ready → ℕ → Final
 ready_means (step m i work c) n = at_step c.text c.callers (world_of c n) m i work c.at
 ready_means (block b bs c) n = at_block_step c.text c.callers (world_of c n) b bs c.at
+ready_means (faulty c e) n = final n c (Some e)
 ready_means (finished c e) n = final n c e
 
 abbrev GoodReady : Ready → Type 0
 GoodReady (step m i work c) = FitsAt c.at × FitsUnder c.callers
 GoodReady (block b bs c) = (c.further ≡ None) × FitsStep b bs c.at.blocks × FitsUnder c.callers
+GoodReady (faulty c e) = Unit {0}
 GoodReady (finished c e) = Unit {0}
 
 abbrev Arrived : Machine → Ready → Type 0
@@ -92,6 +94,7 @@ ready_unpaid (step m i work c) g = stop_means c.text c.callers (world_of c 0) c.
 ready_unpaid (block machine.iterates bs c) g = stop_means c.text c.callers (world_of c 0) c.at.blocks (after_iteration c.at.blocks bs) (world_of c 0) Lim
 ready_unpaid (block (machine.decides t) bs c) g = stop_means c.text c.callers (world_of c 0) c.at.blocks (after_conditional c.at.blocks bs) (world_of c 0) Lim
 ready_unpaid (block machine.ends_turn bs c) g = unpaid_turn c.text c.callers (world_of c 0) bs refl g.1
+ready_unpaid (faulty c e) g = refl
 ready_unpaid (finished c e) g = refl
 
 -- A block step that pays means what it leads to.
@@ -115,9 +118,11 @@ ready_leads : (laws : BlockLaws) (inside_only : LeavesInside) (r : Ready) (n : �
 ready_leads laws inside_only (step m i work c) n g =
     resumed_leads laws m i work (acted m i work c) n refl g.0 g.1 (effect i (setting_of m work c.at) c.state c.at.args).end (inside_only i (setting_of m work c.at) c.state c.at.args)
 ready_leads laws inside_only (block b bs c) n g = going_leads c (after_block_step b bs c.at) n (at_block_step c.text c.callers (world_of c (suc n)) b bs c.at) g.0 g.2 (block_leads b bs c n g.1)
+ready_leads laws inside_only (faulty c e) n g = (refl, tt)
 ready_leads laws inside_only (finished c e) n g = (refl, tt)
 
 paid_same : (n : ℕ) (f h : Machine → Final) (r : Ready) → f (after_paid_step r) ≡ h (after_paid_step r) → final_with_fuel n f r ≡ final_with_fuel n h r
+paid_same n f h (faulty c x) e = refl
 paid_same n f h (finished c x) e = refl
 paid_same n f h r e = e
 
@@ -151,6 +156,7 @@ machine_means laws inside_only s text limit = ap (λ (f : Final). record { state
 abbrev pub ready_now : Ready → Now
 ready_now (step m i work c) = now_of (runs c)
 ready_now (block b bs c) = now_of (runs c)
+ready_now (faulty c e) = now_of (runs c)
 ready_now (finished c e) = now_of (runs c)
 
 arriving_now : (next : Machine → Ready) → ((m : Machine) → ready_now (next m) ≡ now_of m) → (c : Config) (f : Option Further) → ready_now (ready_at next c f) ≡ now_of (runs c)
@@ -185,6 +191,7 @@ unpaid_now : (r : Ready) → ready_now r ≡ final_now (final_without_fuel r)
 unpaid_now r = grind arith
 
 paid_now : (n : ℕ) (r : Ready) → now_of (after_steps n (after_paid_step r)) ≡ final_now (run_within n (after_paid_step r)) → now_of (after_steps n (after_paid_step r)) ≡ final_now (final_with_fuel n (run_within n) r)
+paid_now n (faulty c x) e = ap now_of (exec_halts n c (Some x))
 paid_now n (finished c x) e = ap now_of (exec_halts n c x)
 paid_now n r e = e
 
@@ -238,6 +245,10 @@ pub halts_ready : (c : Config) (e : Option Code) → ready_of (halts c e) ≡ fi
 unfolding ready_of ready_within
 halts_ready c e = refl
 
+-- A run that is over stands nowhere.
+pub halts_nowhere : (c : Config) (e : Option Code) → standing (ready_of (halts c e)) ≡ None
+halts_nowhere c e = ap standing (halts_ready c e)
+
 -- One step more is the step that comes.
 pub no_steps : (m : Machine) → after_steps 0 m ≡ m
 unfolding after_steps
@@ -251,11 +262,13 @@ after_more (suc k) m = after_more k (after_paid_step (ready_of m))
 pub paid_steps : (r : Ready) (m : Machine) → after_coming r ≡ Some m → after_paid_step r ≡ m
 paid_steps (step mo i work c) m e = cc
 paid_steps (block b bs c) m e = cc
+paid_steps (faulty c x) m e = absurd cc
 paid_steps (finished c x) m e = absurd cc
 
 pub paid_run : (r : Ready) (m : Machine) → after_coming r ≡ Some m → (fuel : ℕ) → ready_run (suc fuel) r ≡ run_within fuel m
 paid_run (step mo i work c) m e fuel = ap (run_within fuel) (paid_steps (step mo i work c) m e)
 paid_run (block b bs c) m e fuel = ap (run_within fuel) (paid_steps (block b bs c) m e)
+paid_run (faulty c x) m e fuel = absurd cc
 paid_run (finished c x) m e fuel = absurd cc
 
 -- no run gains fuel

@@ -1,13 +1,15 @@
 -- Places that are told: fillers before a token, turns of blocks, and calls.
-use Rattle.std.proofs.Common.{◌≡◌, ℕ, suc, ◌+◌, ◌++◌, Bool, true, false, List, [], ◌∷◌, drop, map, Option, Some, None, IfSome, refl, sym, ap, subst, ◌∙◌, if◌then◌else◌}
+use Rattle.std.proofs.Common.{◌≡◌, ℕ, suc, ◌+◌, ◌++◌, Bool, true, false, List, [], ◌∷◌, drop, map, Option, Some, None, IfOk, IfSome, IsSomeAnd, MatchOption, Result, Ok, Err, ◌↔◌, arith, refl, sym, ap, subst, ◌∙◌, if◌then◌else◌}
 use Rattle.std.proofs.lemmas.List.{drop-drop}
 use Rattle.teco_core.specs.Ascii.{is_filler}
-use Rattle.teco_scan.specs.Scan.{Item, register, scan, scan_here, after_fillers}
-use Rattle.teco_scan.specs.declared.command.RegisterCommand.TheVariants.{Macro}
+use Rattle.teco_scan.specs.Scan.{TokenMeaning, scan, scan_here, after_fillers}
 use Rattle.teco_exec.specs.CursorMoves.{Frame}
 use Rattle.teco_exec.specs.Machine.{Caller}
-use Rattle.teco_exec.specs.Places.{CallToken, HaveCalled, IsCallOf, IsPlaceAfter, IsReadAt, IsTokenPlace, Told, open_turns, told_here, with_call}
-use Rattle.teco_exec.specs.Running.{Host, Origin, RunGoesOn, StandsSomewhere, StandsWhereTold, Tells, at_register_call}
+use Rattle.teco_exec.specs.Places.{CallToken, HaveCalled, IsCallOf, IsPlaceAfter, IsReadAt, IsTokenPlace, Told, call_token, open_turns, stands_after, told_here, with_call}
+use Rattle.teco_core.specs.Arguments.{Arguments}
+use Rattle.teco_core.specs.declared.code.Code.{Code}
+use Rattle.std.specs.declared.alloc.AllocError.{AllocError}
+use Rattle.teco_exec.specs.Running.{Host, Origin, Reaches, RunGoesOn, StandsSomewhere, StandsWhereTold, Tells, at_register_call, code_left, reached_by_exit}
 use Rattle.teco_exec.specs.Telling.{call_told, told_of}
 use Rattle.teco_exec.specs.declared.place.Call.{Call}
 use Rattle.teco_exec.specs.declared.place.Place.{Place}
@@ -48,34 +50,34 @@ pub has_place : (text : List ℕ) (at : ℕ) → (to : ℕ) × IsTokenPlace text
 has_place text at = let h = fillers_dropped (drop at text) in (at + h.0, sym (drop-drop h.0 at text) ∙ h.1)
 
 -- What is read at a place is read after the fillers there.
-read_on : (text : List ℕ) (at to : ℕ) (item : Option Item) (left : List ℕ) → IsTokenPlace text at to → IsReadAt text at item left → IsReadAt text to item left
-read_on text at to (Some i) left e h = (h.0, ap scan e ∙ scan_fillers (drop at text) ∙ h.1, h.2)
+read_on : (text : List ℕ) (at to : ℕ) (token : Option TokenMeaning) (left : List ℕ) → IsTokenPlace text at to → IsReadAt text at token left → IsReadAt text to token left
+read_on text at to (Some t) left e h = (h.0, h.1, ap scan e ∙ scan_fillers (drop at text) ∙ h.2, h.3)
 read_on text at to None left e h = ap after_fillers e ∙ fillers_twice (drop at text) ∙ h
 
--- where the run stops at a cursor
-pub stopped_told : (o : Origin) (k : ℕ) (c new : Cursor) (callers : List Caller) (to : ℕ) → StandsSomewhere o k c callers → new.text ≡ c.text → (cursor new).blocks ≡ (cursor c).blocks → IsTokenPlace new.text.now c.at to
-    → StandsWhereTold o k callers (told_here to (cursor new).blocks)
+-- where the run last stood at a cursor
+pub stood_told : (o : Origin) (k : ℕ) (c new : Cursor) (callers : List Caller) (to : ℕ) → StandsSomewhere o k c callers → new.text ≡ c.text → (cursor new).blocks ≡ (cursor c).blocks → IsTokenPlace new.text.now c.at to
+    → StandsWhereTold o callers (told_here k to (cursor new).blocks)
 unfolding HaveCalled
-stopped_told o k c new callers to w text blocks place =
+stood_told o k c new callers to w text blocks place =
     let here : IsTokenPlace c.text.now c.at to = subst (λ t. IsTokenPlace t.now c.at to) text place in
     record {
       there = w.there;
       stands = w.stands;
       told = record {
-        read = subst (λ t. IsReadAt t to w.there.item w.there.left) (sym w.is.text) (read_on c.text.now c.at to w.there.item w.there.left here w.is.read);
+        read = subst (λ t. IsReadAt t to w.there.token w.there.left) (sym w.is.text) (read_on c.text.now c.at to w.there.token w.there.left here w.is.read);
         turns = ap open_turns (blocks ∙ sym w.is.blocks);
         calls = w.is.callers;
       };
     }
 
 -- before a step that calls
-pub call_told_here : (o : Origin) (h : Host) (c : Cursor) (q at to : ℕ) (callers : List Caller) → RunGoesOn o h (at_register_call c q callers) → IsReadAt c.text.now at (Some (register Macro q)) (cursor c).left → IsTokenPlace c.text.now at to
-    → StandsWhereTold o h.steps callers (told_here to (cursor c).blocks)
+pub call_told_here : (o : Origin) (h : Host) (c : Cursor) (q at to k : ℕ) (callers : List Caller) → k ≡ h.steps → RunGoesOn o h (at_register_call c q callers) → IsReadAt c.text.now at (Some (call_token q)) (cursor c).left → IsTokenPlace c.text.now at to
+    → StandsWhereTold o callers (told_here k to (cursor c).blocks)
 unfolding HaveCalled
-call_told_here o h c q at to callers g read place = record {
-  there = record { text = c.text.now; left = (cursor c).left; blocks = (cursor c).blocks; callers = callers; item = Some (register Macro q) };
-  stands = ap (λ x. x.0) g.stands;
-  told = record { read = read_on c.text.now at to (Some (register Macro q)) (cursor c).left place read; turns = refl; calls = refl };
+call_told_here o h c q at to k callers same g read place = record {
+  there = record { text = c.text.now; left = (cursor c).left; blocks = (cursor c).blocks; callers = callers; token = Some (call_token q) };
+  stands = ap (stands_after o.state o.text) same ∙ ap (λ x. x.0) g.stands;
+  told = record { read = read_on c.text.now at to (Some (call_token q)) (cursor c).left place read; turns = refl; calls = refl };
 }
 
 -- One call more, around the others.
@@ -85,46 +87,84 @@ called_on [] cs b others x h is = subst (λ (callers : List Caller). HaveCalled 
 called_on (y ∷ ys) [] b others x h is = absurd h
 called_on (y ∷ ys) (c ∷ cs) b others x h is = (h.0, called_on ys cs b others x h.1 is)
 
-pub called_told : (o : Origin) (k : ℕ) (c : Cursor) (q at to : ℕ) (callers : List Caller) (p : Told) → StandsWhereTold o k (caller c ∷ callers) p → IsReadAt c.text.now at (Some (register Macro q)) (cursor c).left → IsTokenPlace c.text.now at to
-    → StandsWhereTold o k callers (with_call p q to (cursor c).blocks)
-called_told o k c q at to callers p w read place = record {
+pub called_told : (o : Origin) (c : Cursor) (q at to : ℕ) (callers : List Caller) (p : Told) → StandsWhereTold o (caller c ∷ callers) p → IsReadAt c.text.now at (Some (call_token q)) (cursor c).left → IsTokenPlace c.text.now at to
+    → StandsWhereTold o callers (with_call p q to (cursor c).blocks)
+called_told o c q at to callers p w read place = record {
   there = w.there;
   stands = w.stands;
   told = record {
     read = w.told.read;
     turns = w.told.turns;
     calls = called_on p.calls w.there.callers (caller c) callers (record { register = q; at = to; turns = open_turns (cursor c).blocks }) w.told.calls
-        (record { read = read_on c.text.now at to (Some (register Macro q)) (cursor c).left place read; turns = refl });
+        (record { read = read_on c.text.now at to (Some (call_token q)) (cursor c).left place read; turns = refl });
   };
 }
 
--- what a watch knows at the end of a whole run
-pub tells_some : {knows : Option Told → Type 0} {P Q : Told → Type 0} (x : Exit) → ((p : Told) → P p → Q p) → Tells knows x P → (y : Option Told) × knows y × IfSome y Q
-tells_some ending.Return h t = (None, t, tt)
-tells_some (ending.Over code) h t = (None, t, tt)
-tells_some (ending.Stop code) h t = (Some t.0, t.1, h t.0 t.2)
+-- The last place of a whole run that stopped, and of one whose last step failed.
+stopped_place : (o : Origin) (done : ℕ) (p : Told) → StandsWhereTold o [] p → p.steps ≡ done → IsPlaceAfter o.state o.text done p
+stopped_place o done p w same = record { there = w.there; stands = w.stands; told = w.told; within = omega arith; last = λ j more le. absurd (omega arith) }
 
-pub whole_place : (o : Origin) (k : ℕ) (p : Told) → StandsWhereTold o k [] p → IsPlaceAfter o.state o.text k p
-whole_place o k p w = record { there = w.there; stands = w.stands; told = w.told }
+failed_place : (o : Origin) (done : ℕ) (p : Told) → StandsWhereTold o [] p → p.steps + 1 ≡ done → stands_after o.state o.text done ≡ None → IsPlaceAfter o.state o.text done p
+failed_place o done p w one nowhere = record {
+  there = w.there;
+  stands = w.stands;
+  told = w.told;
+  within = omega arith;
+  last = λ j more le. (let same : done ≡ j = omega arith in subst (λ i. stands_after o.state o.text i ≡ None) same nowhere);
+}
 
-pub kept_place : (w : Watched) (Q : Told → Type 0) (x : Option Told) → Knows w x → IfSome x Q → w.lacks_memory ≡ false → w.has_stopped ≡ true → Q (told_of w.place)
-kept_place w Q None k q memory stopped = let no : false ≡ true = sym (k memory).0 ∙ stopped in absurd cc
-kept_place w Q (Some p) k q memory stopped = subst Q (sym (k memory).1) q
+-- what a watch knows at the end of a whole run, by its code
+abbrev pub KnowsLast : (Option Told → Type 0) → Origin → ℕ → Option Code → Type 0
+KnowsLast knows o done code = MatchOption code (knows None) (λ _. (p : Told) × knows (Some p) × IsPlaceAfter o.state o.text done p)
+
+exit_tells : (knows : Option Told → Type 0) (P : Told → Type 0) (o : Origin) (before after : Host) (a : Arguments) (x : Exit) → Reaches o before after (reached_by_exit a [] x) → ((p : Told) → P p → StandsWhereTold o [] p) → Tells knows x after.steps P
+    → KnowsLast knows o after.steps (code_left x)
+exit_tells knows P o before after a ending.Return r at t = t
+exit_tells knows P o before after a ending.Over r at t = t
+exit_tells knows P o before after a (ending.Fail code) r at t = (t.0, t.1, failed_place o after.steps t.0 (at t.0 t.3) t.2 r.nowhere)
+exit_tells knows P o before after a (ending.Stop code) r at t = (t.0, t.1, stopped_place o after.steps t.0 (at t.0 t.3) t.2)
+
+pub tells_last : (knows : Option Told → Type 0) (P : Told → Type 0) (o : Origin) (before after : Host) (a : Arguments) (x : Exit) (code : Option Code) → code ≡ code_left x → Reaches o before after (reached_by_exit a [] x)
+    → ((p : Told) → P p → StandsWhereTold o [] p) → Tells knows x after.steps P → KnowsLast knows o after.steps code
+tells_last knows P o before after a x code is r at t = subst (KnowsLast knows o after.steps) (sym is) (exit_tells knows P o before after a x r at t)
+
+-- A place that was kept is the one that was told.
+abbrev pub KeepsPlace : Result (Option Place) AllocError → Told → Type 0
+KeepsPlace r p = IfOk r (λ told. IsSomeAnd told (λ place. told_of place ≡ p))
+
+kept_place : (r : Result (Option Place) AllocError) (p : Told) (Q : Told → Type 0) → KeepsPlace r p → Q p → IfOk r (λ told. IfSome told (λ place. Q (told_of place)))
+kept_place (Ok None) p Q keeps q = tt
+kept_place (Ok (Some place)) p Q keeps q = subst Q (sym keeps) q
+kept_place (Err e) p Q keeps q = tt
+
+kept_some : (r : Result (Option Place) AllocError) (p : Told) → KeepsPlace r p → r ≡ Ok None → ⊥
+kept_some (Ok None) p keeps e = keeps
+kept_some (Ok (Some place)) p keeps e = let same : Some place ≡ None = cc in cc
+kept_some (Err e) p keeps is = absurd cc
+
+module _ (w : Watched) (r : Result (Option Place) AllocError) (none : Knows w None → r ≡ Ok None) (some : (p : Told) → Knows w (Some p) → KeepsPlace r p) where
+  pub place_told : (o : Origin) (done : ℕ) (code : Option Code) → KnowsLast (Knows w) o done code → IfOk r (λ told. IfSome told (λ place. IsPlaceAfter o.state o.text done (told_of place)))
+  place_told o done None knows = subst (λ (x : Result (Option Place) AllocError). IfOk x (λ told. IfSome told (λ place. IsPlaceAfter o.state o.text done (told_of place)))) (sym (none knows)) tt
+  place_told o done (Some code) knows = kept_place r knows.0 (IsPlaceAfter o.state o.text done) (some knows.0 knows.1) knows.2
+
+  pub told_exactly : (o : Origin) (done : ℕ) (code : Option Code) → KnowsLast (Knows w) o done code → (r ≡ Ok None) ↔ (code ≡ None)
+  told_exactly o done None knows = (λ e. refl, λ e. none knows)
+  told_exactly o done (Some code) knows = (λ e. absurd (kept_some r knows.0 (some knows.0 knows.1) e), λ e. absurd cc)
 
 -- what the watch keeps
-pub kept_here : (to : ℕ) (turns : List (Option ℕ)) (blocks : List Frame) (calls : List Call) → turns ≡ open_turns blocks → calls ≡ [] → (let kept : Told = record { at = to; turns = turns; calls = map call_told calls } in kept ≡ told_here to blocks)
-kept_here to turns blocks calls e none =
-    ap (λ ts. (let kept : Told = record { at = to; turns = ts; calls = map call_told calls } in kept)) e
-    ∙ ap (λ cs. (let kept : Told = record { at = to; turns = open_turns blocks; calls = map call_told cs } in kept)) none
+pub kept_here : (steps to : ℕ) (turns : List (Option ℕ)) (blocks : List Frame) (calls : List Call) → turns ≡ open_turns blocks → calls ≡ [] → (let kept : Told = record { steps = steps; at = to; turns = turns; calls = map call_told calls } in kept ≡ told_here steps to blocks)
+kept_here steps to turns blocks calls e none =
+    ap (λ ts. (let kept : Told = record { steps = steps; at = to; turns = ts; calls = map call_told calls } in kept)) e
+    ∙ ap (λ cs. (let kept : Told = record { steps = steps; at = to; turns = open_turns blocks; calls = map call_told cs } in kept)) none
 
 more_calls : (xs : List Call) (x : Call) → map call_told (xs ++ x ∷ []) ≡ map call_told xs ++ call_told x ∷ []
 more_calls [] x = refl
 more_calls (y ∷ ys) x = ap (λ zs. call_told y ∷ zs) (more_calls ys x)
 
 pub kept_call : (old : Place) (ys : List Call) (x : Call) (blocks : List Frame) (p : Told) → told_of old ≡ p → ys ≡ old.calls.items ++ x ∷ [] → x.turns.items ≡ open_turns blocks
-    → (let kept : Told = record { at = old.at; turns = old.turns.items; calls = map call_told ys } in kept ≡ with_call p x.register x.at blocks)
+    → (let kept : Told = record { steps = old.steps; at = old.at; turns = old.turns.items; calls = map call_told ys } in kept ≡ with_call p x.register x.at blocks)
 kept_call old ys x blocks p is more turns =
-    ap (λ cs. (let kept : Told = record { at = old.at; turns = old.turns.items; calls = map call_told cs } in kept)) more
-    ∙ ap (λ cs. (let kept : Told = record { at = old.at; turns = old.turns.items; calls = cs } in kept)) (more_calls old.calls.items x)
-    ∙ ap (λ ts. (let kept : Told = record { at = old.at; turns = old.turns.items; calls = map call_told old.calls.items ++ record { register = x.register; at = x.at; turns = ts } ∷ [] } in kept)) turns
+    ap (λ cs. (let kept : Told = record { steps = old.steps; at = old.at; turns = old.turns.items; calls = map call_told cs } in kept)) more
+    ∙ ap (λ cs. (let kept : Told = record { steps = old.steps; at = old.at; turns = old.turns.items; calls = cs } in kept)) (more_calls old.calls.items x)
+    ∙ ap (λ ts. (let kept : Told = record { steps = old.steps; at = old.at; turns = old.turns.items; calls = map call_told old.calls.items ++ record { register = x.register; at = x.at; turns = ts } ∷ [] } in kept)) turns
     ∙ ap (λ q. with_call q x.register x.at blocks) is

@@ -33,10 +33,10 @@ use Rattle.teco_step.specs.Laws.{CallsByCalls}
 use Rattle.teco_step.specs.Terminal.{Screen}
 use Rattle.teco_exec.specs.Running.{Origin, Host, host, Continuation, RunGoesOn, ReachesContinuation, ReachesEnd, Reached, Reaches, over, Alike, Comes, sight, ready_run, config, at_call, at_register_call, at_token, at_block_step, reached_by_flow, FlowFinishes}
 use Rattle.teco_exec.specs.declared.flow.Flow.{Flow}
-use Rattle.teco_exec.specs.declared.flow.Flow.TheVariants.{On, Call, Return, Over, Stop}
+use Rattle.teco_exec.specs.declared.flow.Flow.TheVariants.{On, Call, Return, Over, Fail, Stop}
 use Rattle.teco_exec.specs.declared.moves.BlockStep.{BlockStep}
 use Rattle.teco_exec.proofs.Going.{alike, also, limit_ends, EndsByItself, Pays, advanced, since, settles, step_done, no_memory, no_terminal, shows_nothing}
-use Rattle.teco_exec.proofs.MachineMeans.{going_now, resumed_now, Stays, arrives_stays, halted, run_ready}
+use Rattle.teco_exec.proofs.MachineMeans.{going_now, resumed_now, Stays, arrives_stays, halted, halts_nowhere, run_ready}
 use Rattle.teco_exec.specs.declared.flow.Progress.{Progress}
 use Rattle.teco_exec.specs.declared.flow.Progress.TheVariants.{Further, Done}
 use Rattle.teco_exec.specs.declared.flow.Steps.{Steps as StepCount}
@@ -79,9 +79,9 @@ module _ (callers : List Caller) (now : Now) where
   ends_so s c token n k d e h = subst (λ x. Comes (ready_of (after_step_end token.modifiers (item_of_kind c.text.now token.kind) (end_of s (name_in c.text.now token) x) (here_in c))) now d) (sym e) h
 
   pub is_over : (c : Cursor) (code : Option Code) → Comes (ready_of (halts (here_in c) code)) now (over code)
-  is_over c code fuel = sym (run_ready fuel (halts (here_in c) code)) ∙ halted fuel (here_in c) code
+  is_over c code = record { runs = λ fuel. sym (run_ready fuel (halts (here_in c) code)) ∙ halted fuel (here_in c) code; nowhere = halts_nowhere (here_in c) code }
 
-  pub moves_on : (old to : Cursor) → to.text ≡ old.text → (r : Result (Unit {0}) Code) (f : Flow) → MatchResult r (λ _. f ≡ On) (λ code. f ≡ Over (Some code)) → (m : CursorOrError) → cursor_or_error to r ≡ m
+  pub moves_on : (old to : Cursor) → to.text ≡ old.text → (r : Result (Unit {0}) Code) (f : Flow) → MatchResult r (λ _. f ≡ On) (λ code. f ≡ Fail code) → (m : CursorOrError) → cursor_or_error to r ≡ m
       → Comes (ready_of (runs_or_halts (here_in old) m)) now (reached_by_flow to callers f)
   moves_on old to text (Ok done) f is m e =
       subst (λ x. Comes (ready_of (runs_or_halts (here_in old) m)) now (reached_by_flow to callers x)) (sym is)
@@ -96,12 +96,10 @@ finishes c callers On h = tt
 finishes c callers (Call q) h = absurd h
 finishes c callers (Stop code) h = absurd h
 finishes c callers Return h = tt
-finishes c callers (Over code) h = h
+finishes c callers Over h = tt
+finishes c callers (Fail code) h = h
 
-pub ends_over : (o : Origin) (before after : Host) (c : Cursor) (callers : List Caller) (f : Flow) (code : Option Code) → f ≡ Over code → ReachesEnd o before after code → Reaches o before after (reached_by_flow c callers f)
-ends_over o before after c callers f code is e = subst (λ x. Reaches o before after (reached_by_flow c callers x)) (sym is) e
-
-pub unless_finishes : (r : Result (Unit {0}) Code) (f : Flow) → MatchResult r (λ _. f ≡ On) (λ code. f ≡ Over (Some code)) → MovesWell r → FlowFinishes f
+pub unless_finishes : (r : Result (Unit {0}) Code) (f : Flow) → MatchResult r (λ _. f ≡ On) (λ code. f ≡ Fail code) → MovesWell r → FlowFinishes f
 unless_finishes (Ok done) f is h = subst FlowFinishes (sym is) tt
 unless_finishes (Err code) f is h = subst FlowFinishes (sym is) h
 

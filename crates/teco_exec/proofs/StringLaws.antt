@@ -5,7 +5,7 @@ use Rattle.teco_core.specs.declared.code.Code.TheVariants.{Lim}
 use Rattle.teco_store.specs.State.{State}
 use Rattle.teco_exec.specs.StringMeaning.{StringMeaning, string_meaning}
 use Rattle.teco_exec.specs.CursorMoves.{after_block_step}
-use Rattle.teco_exec.specs.Machine.{Config, Machine, runs, Ready, step, block, finished, Final, final, ready_of, after_paid_step, final_without_fuel, final_with_fuel, run_within, after_steps, start_config, Now, now_of, halts, after_step_end, setting_of, ready_within}
+use Rattle.teco_exec.specs.Machine.{Config, Machine, runs, Ready, step, block, faulty, finished, Final, final, ready_of, after_paid_step, final_without_fuel, final_with_fuel, run_within, after_steps, start_config, Now, now_of, halts, after_step_end, setting_of, ready_within}
 use Rattle.teco_exec.specs.Laws.{StepsWithinLimit, MoreLimitChangesNothing, EnoughIsEnough, ZeroLimitChangesNothing, ExitEndsWell}
 use Rattle.teco_exec.specs.MachineLaws.{MachineMeans, MachineFollows}
 use Rattle.teco_core.specs.declared.code.Code.TheVariants as code
@@ -29,10 +29,12 @@ with_fuel : (f : Final) (n m : ℕ) → n ≡ m → record f { fuel = n } ≡ re
 with_fuel f n m is = ap (λ k. let g : Final = record f { fuel = k } in g) is
 
 unpaid_raises : (j k : ℕ) (r : Ready) → suc k ≡ j → Raises j (final_without_fuel r) (final_with_fuel k (run_within k) r)
+unpaid_raises j k (faulty c x) e = same (with_fuel (final 0 c (Some x)) (suc k) (0 + j) (omega arith))
 unpaid_raises j k (finished c x) e = same (with_fuel (final 0 c x) (suc k) (0 + j) (omega arith))
 unpaid_raises j k r e = spent refl refl (omega (arith, fuel_within k (after_paid_step r)))
 
 paid_raises : (j n k : ℕ) (r : Ready) → suc k ≡ suc n + j → Raises j (run_within n (after_paid_step r)) (run_within k (after_paid_step r)) → Raises j (final_with_fuel n (run_within n) r) (final_with_fuel k (run_within k) r)
+paid_raises j n k (faulty c x) e h = same (with_fuel (final 0 c (Some x)) (suc k) (suc n + j) e)
 paid_raises j n k (finished c x) e h = same (with_fuel (final 0 c x) (suc k) (suc n + j) e)
 paid_raises j n k r e h = h
 
@@ -98,6 +100,7 @@ Stays k (runs c) = c.state.is_done ≡ k
 Stays k (halts c e) = Keeps k c.state e
 
 abbrev Waits : Bool → Ready → Type 0
+Waits k (faulty c e) = Keeps k c.state (Some e)
 Waits k (finished c e) = Keeps k c.state e
 Waits k r = (ready_now r).state.is_done ≡ k
 
@@ -111,6 +114,7 @@ module _ (k : Bool) where
   stays (halts c e) p = keeps c.state e p
 
   waits : (r : Ready) → (ready_now r).state.is_done ≡ k → Waits k r
+  waits (faulty c e) p = p
   waits (finished c e) p = keeps c.state e p
   waits r p = p
 
@@ -129,13 +133,16 @@ module _ (k : Bool) where
     pays_stays (step m i work c) p =
         resumed_stays m i (effect i (setting_of m work c.at) c.state c.at.args).end _ (λ going. only i (setting_of m work c.at) c.state c.at.args going ∙ p)
     pays_stays (block b bs c) p = stays (after_paid_step (block b bs c)) (ap (λ (x : Now). x.state.is_done) (going_now c (after_block_step b bs c.at)) ∙ p)
+    pays_stays (faulty c e) p = p
     pays_stays (finished c e) p = p
 
     unpaid_keeps : (r : Ready) → Waits k r → Keeps k (final_without_fuel r).state (final_without_fuel r).code
+    unpaid_keeps (faulty c e) p = p
     unpaid_keeps (finished c e) p = p
     unpaid_keeps r p = p
 
     paid_keeps : (n : ℕ) (next : Machine → Final) (r : Ready) → Waits k r → Keeps k (next (after_paid_step r)).state (next (after_paid_step r)).code → Keeps k (final_with_fuel n next r).state (final_with_fuel n next r).code
+    paid_keeps n next (faulty c e) p h = p
     paid_keeps n next (finished c e) p h = p
     paid_keeps n next r p h = h
 

@@ -1,5 +1,5 @@
 -- The open blocks that the code keeps, as the machine sees them.
-use Rattle.std.specs.Prelude.{◌≡◌, Bool, true, false, ℕ, zero, suc, List, [], ◌∷◌, drop, Option, Some, None}
+use Rattle.std.specs.Prelude.{◌≡◌, ◌-◌, Bool, true, false, ℕ, zero, suc, List, [], ◌∷◌, drop, length, Option, Some, None}
 use Rattle.teco_scan.specs.declared.blocks.Kind.{Kind}
 use Rattle.teco_scan.specs.declared.blocks.Kind.TheVariants as kind
 use Rattle.teco_exec.specs.CursorMoves.{Frame}
@@ -35,6 +35,10 @@ turns_open (b ∷ bs) =
       | Then ↦ turns_open bs
       | Else ↦ turns_open bs
     ]
+
+-- the outermost blocks, as many as a depth
+abbrev pub outermost : ℕ → List Block → List Block
+outermost depth bs = drop (length bs - depth) bs
 
 -- where the innermost block's list begins, or the text
 abbrev pub list_start : List Block → ℕ

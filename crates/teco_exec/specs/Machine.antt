@@ -97,10 +97,11 @@ after_text_end c (b ∷ bs) =
       callers = bs;
     })
 
--- What comes next, once all is passed that uses no step: a step, or the end of the run.
+-- What comes next, once all is passed that uses no step: a step, a fault of a text, or the end of the run.
 pub data Ready : Type 0 where
   step : Modifiers → Item → Option Work → Config → Ready
   block : BlockStep → List ℕ → Config → Ready
+  faulty : Config → Code → Ready
   finished : Config → Option Code → Ready
 
 -- what a run is ready for where this comes in its text
@@ -109,7 +110,7 @@ ready_where_comes next c (passed_to cur) = next (runs (record c { at = cur }))
 ready_where_comes next c (step_comes m i cur) = step m i None (record c { at = cur })
 ready_where_comes next c (block_comes b bs) = block b bs c
 ready_where_comes next c end_comes = next (after_text_end c c.callers)
-ready_where_comes next c (fault_comes e) = finished c (Some e)
+ready_where_comes next c (fault_comes e) = faulty c e
 
 -- what a run is ready for at this moment: a further step of the same token, or what comes
 abbrev pub ready_at : (Machine → Ready) → Config → Option Further → Ready
@@ -140,6 +141,7 @@ ready_of m = ready_within (suc (bytes_left m)) m
 abbrev pub after_paid_step : Ready → Machine
 after_paid_step (step m i work c) = after_token_step m i work c
 after_paid_step (block b bs c) = runs_or_halts c (after_block_step b bs c.at)
+after_paid_step (faulty c e) = halts c (Some e)
 after_paid_step (finished c e) = halts c e
 
 -- what a run comes to: its state, the bytes typed, the load, what is left of its limit, and its code
@@ -155,12 +157,14 @@ final n c e = record { state = c.state; typed = c.typed; load = c.load; fuel = n
 
 -- A step that is reached without fuel isn't begun.
 abbrev pub final_without_fuel : Ready → Final
+final_without_fuel (faulty c e) = final 0 c (Some e)
 final_without_fuel (finished c e) = final 0 c e
 final_without_fuel (step m i work c) = final 0 c (Some code.Lim)
 final_without_fuel (block b bs c) = final 0 c (Some code.Lim)
 
 -- With fuel it is taken, and the run goes on with one less.
 abbrev pub final_with_fuel : ℕ → (Machine → Final) → Ready → Final
+final_with_fuel n next (faulty c e) = final (suc n) c (Some e)
 final_with_fuel n next (finished c e) = final (suc n) c e
 final_with_fuel n next r = next (after_paid_step r)
 

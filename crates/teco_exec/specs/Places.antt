@@ -1,32 +1,42 @@
 -- Where a run stands, in its text, its open blocks and its calls.
-use Rattle.std.specs.Prelude.{◌≡◌, ℕ, List, [], ◌∷◌, ◌++◌, drop, Option, Some, None}
-use Rattle.teco_scan.specs.Scan.{Item, TokenMeaning, found, scan, after_fillers}
+use Rattle.std.specs.Prelude.{◌≡◌, ◌<◌, ◌≤◌, ℕ, List, [], ◌∷◌, ◌++◌, drop, Option, Some, None}
+use Rattle.teco_scan.specs.Scan.{Item, TokenMeaning, found, scan, after_fillers, no_modifiers}
 use Rattle.teco_scan.specs.Scan as token
 use Rattle.teco_scan.specs.declared.blocks.Kind.TheVariants.{Iter, Then, Else}
+use Rattle.teco_scan.specs.declared.command.Modifiers.{Modifiers}
 use Rattle.teco_scan.specs.declared.command.RegisterCommand.TheVariants.{Macro}
 use Rattle.teco_store.specs.State.{State}
 use Rattle.teco_exec.specs.CursorMoves.{Frame, after_block_step}
-use Rattle.teco_exec.specs.Machine.{Caller, Config, Machine, Ready, step, block, finished, runs, runs_or_halts, after_token_step, ready_of, after_steps, start_config}
+use Rattle.teco_exec.specs.Machine.{Caller, Config, Machine, Ready, step, block, faulty, finished, runs, runs_or_halts, after_token_step, ready_of, after_steps, start_config}
 
 -- Where a run stands: its text and the bytes of it that are left, the open blocks, and the callers, the latest
--- first. Where a step of a token comes, the token has been read, and this is its item.
+-- first. Where a step of a token comes, the token has been read, and this is its meaning.
 pub record Standing : Type 0 where
   pub text : List ℕ
   pub left : List ℕ
   pub blocks : List Frame
   pub callers : List Caller
-  pub item : Option Item
+  pub token : Option TokenMeaning
 
-abbrev pub standing_of : Option Item → Config → Standing
-standing_of item c =
-    record { text = c.text; left = c.at.left; blocks = c.at.blocks; callers = c.callers; item = item }
+abbrev pub standing_of : Option TokenMeaning → Config → Standing
+standing_of token c =
+    record { text = c.text; left = c.at.left; blocks = c.at.blocks; callers = c.callers; token = token }
 
--- where a run stands: before a step, or at a fault
+-- the token of a step, with its modifiers; to a call they mean nothing
+abbrev pub step_token : Modifiers → Item → TokenMeaning
+step_token m (token.register Macro q) =
+    record { modifiers = no_modifiers; instruction = token.step (token.register Macro q) }
+step_token m i = record { modifiers = m; instruction = token.step i }
+
+abbrev pub call_token : ℕ → TokenMeaning
+call_token q = step_token no_modifiers (token.register Macro q)
+
+-- where a run stands: before a step, or at a fault; nowhere once it is over
 abbrev pub standing : Ready → Option Standing
-standing (step m i work c) = Some (standing_of (Some i) c)
+standing (step m i work c) = Some (standing_of (Some (step_token m i)) c)
 standing (block b bs c) = Some (standing_of None c)
-standing (finished c (Some e)) = Some (standing_of None c)
-standing (finished c None) = None
+standing (faulty c e) = Some (standing_of None c)
+standing (finished c e) = None
 
 -- the turns left of each open iteration, the innermost first; none: without end
 unfoldable pub open_turns : List Frame → List (Option ℕ)
@@ -35,17 +45,19 @@ open_turns (b ∷ bs) =
     elim b.kind
     [ Iter ↦ b.left ∷ open_turns bs | Then ↦ open_turns bs | Else ↦ open_turns bs ]
 
--- What is read at a place of a text: a token of this item, and then what is left; or, of no item, what is left,
+-- What is read at a place of a text: this token of a step, and then what is left; or, of no token, what is left,
 -- after fillers.
-abbrev pub IsReadAt : List ℕ → ℕ → Option Item → List ℕ → Type 0
-IsReadAt text at (Some i) left =
-    (t : TokenMeaning) × (scan (drop at text) ≡ found t left) × (t.instruction ≡ token.step i)
+abbrev pub IsReadAt : List ℕ → ℕ → Option TokenMeaning → List ℕ → Type 0
+IsReadAt text at (Some t) left = (m : Modifiers) × (i : Item)
+    × (scan (drop at text) ≡ found (record { modifiers = m; instruction = token.step i }) left)
+    × (step_token m i ≡ t)
 IsReadAt text at None left = after_fillers (drop at text) ≡ after_fillers left
 
 -- the machine after the step that comes, if one does
 abbrev pub after_coming : Ready → Option Machine
 after_coming (step m i work c) = Some (after_token_step m i work c)
 after_coming (block b bs c) = Some (runs_or_halts c (after_block_step b bs c.at))
+after_coming (faulty c e) = None
 after_coming (finished c e) = None
 
 -- A call that is open: the register whose text is called, the place of the call in the text that calls, and the
@@ -55,9 +67,10 @@ pub record CallToken : Type 0 where
   pub at : ℕ
   pub turns : List (Option ℕ)
 
--- Where a run stands, as it is told: the place in the innermost text, the turns left there, and the calls, the
--- latest first.
+-- Where a run stands, as it is told: the steps that were done by then, the place in the innermost text, the
+-- turns left there, and the calls, the latest first.
 pub record Told : Type 0 where
+  pub steps : ℕ
   pub at : ℕ
   pub turns : List (Option ℕ)
   pub calls : List CallToken
@@ -66,15 +79,15 @@ pub record Told : Type 0 where
 abbrev pub IsTokenPlace : List ℕ → ℕ → ℕ → Type 0
 IsTokenPlace text at to = drop to text ≡ after_fillers (drop at text)
 
-abbrev pub told_here : ℕ → List Frame → Told
-told_here at blocks = record { at = at; turns = open_turns blocks; calls = [] }
+abbrev pub told_here : ℕ → ℕ → List Frame → Told
+told_here steps at blocks = record { steps = steps; at = at; turns = open_turns blocks; calls = [] }
 
 abbrev pub with_call : Told → ℕ → ℕ → List Frame → Told
 with_call p q at blocks =
     record p { calls = p.calls ++ record { register = q; at = at; turns = open_turns blocks } ∷ [] }
 
 pub record IsCallOf (b : Caller) (x : CallToken) : Type 0 where
-  pub read : IsReadAt b.text x.at (Some (token.register Macro x.register)) b.left
+  pub read : IsReadAt b.text x.at (Some (call_token x.register)) b.left
   pub turns : x.turns ≡ open_turns b.blocks
 
 -- These texts have made these calls, and then come others.
@@ -85,12 +98,19 @@ HaveCalled (x ∷ xs) (b ∷ callers) others = IsCallOf b x × HaveCalled xs cal
 
 -- It is told of a run that stands so, in a text with these callers.
 pub record IsToldOf (callers : List Caller) (p : Told) (s : Standing) : Type 0 where
-  pub read : IsReadAt s.text p.at s.item s.left
+  pub read : IsReadAt s.text p.at s.token s.left
   pub turns : p.turns ≡ open_turns s.blocks
   pub calls : HaveCalled p.calls s.callers callers
 
--- After some steps the run of a whole string stands where it is told.
+-- where the run of a whole string stands after some steps
+abbrev pub stands_after : State → List ℕ → ℕ → Option Standing
+stands_after s text k = standing (ready_of (after_steps k (runs (start_config s text))))
+
+-- The last place at which the run of a whole string has stood after this many steps: the token that comes or the
+-- fault that is there, or else the token whose step was the last one.
 pub record IsPlaceAfter (s : State) (text : List ℕ) (k : ℕ) (p : Told) : Type 0 where
   pub there : Standing
-  pub stands : standing (ready_of (after_steps k (runs (start_config s text)))) ≡ Some there
+  pub stands : stands_after s text p.steps ≡ Some there
   pub told : IsToldOf [] p there
+  pub within : p.steps ≤ k
+  pub last : (j : ℕ) → p.steps < j → j ≤ k → stands_after s text j ≡ None

@@ -1,5 +1,5 @@
 -- A run of a whole string, as it is seen at a moment, and where it goes on from there.
-use Rattle.std.specs.Prelude.{◌≡◌, ◌≢◌, ℕ, zero, suc, ◌+◌, List, [], false, Option, Some, None, drop, length}
+use Rattle.std.specs.Prelude.{◌≡◌, ◌≢◌, ◌<◌, ℕ, zero, suc, ◌+◌, ◌-◌, List, [], false, Option, Some, None, drop, length}
 use Rattle.teco_core.specs.Arguments.{Arguments}
 use Rattle.teco_core.specs.ArgumentsView.{arguments}
 use Rattle.teco_core.specs.declared.code.Code.{Code}
@@ -15,11 +15,11 @@ use Rattle.teco_step.specs.Terminal.{Screen, Shows}
 use Rattle.teco_exec.specs.Machine.{Caller, Config, Further, Machine, runs, in_called_text, after_text_end, Ready, step, block, Final, Now, ready_of, final_with_fuel, final_without_fuel, run_within, after_steps, start_config}
 use Rattle.teco_exec.specs.CursorMoves as machine
 use Rattle.teco_exec.specs.MachineLaws.{MachineMeans}
-use Rattle.teco_exec.specs.Places.{Standing, Told, IsToldOf, standing, after_coming, IsReadAt}
+use Rattle.teco_exec.specs.Places.{Standing, Told, IsToldOf, standing, stands_after, after_coming, step_token, IsReadAt}
 use Rattle.teco_exec.specs.Quiet.{IsQuiet}
 use Rattle.teco_exec.specs.Runs.{Runs, is_tty, trail_of}
 use Rattle.teco_exec.specs.StringMeaning.{string_meaning}
-use Rattle.teco_exec.specs.View.{cursor_at_start, cursor, item_of_kind, block_step_of}
+use Rattle.teco_exec.specs.View.{Stays, cursor_at_start, cursor, item_of_kind, block_step_of}
 use Rattle.teco_exec.specs.declared.cursor.Cursor.{Cursor}
 use Rattle.teco_exec.specs.declared.flow.Exit.{Exit}
 use Rattle.teco_exec.specs.declared.flow.Exit.TheVariants as exit
@@ -101,14 +101,22 @@ pub record ReachesEnd (o : Origin) (before after : Host) (code : Option Code) : 
   pub again : after.state ≡ (now_at o after.steps).state
   pub follows : StillFollows o before after
 
--- Where a run has got: it goes on, or is over.
+-- It is over by a step or at its end, and stands nowhere.
+pub record ReachesOver (o : Origin) (before after : Host) (code : Option Code) : Type 0 where
+  pub ends : ReachesEnd o before after code
+  pub nowhere : stands_after o.state o.text after.steps ≡ None
+
+-- Where a run has got: it goes on; it is over, by a step or at its end; or it stops, before a step or at a
+-- fault.
 pub data Reached : Type 0 where
   goes : (next : Continuation) → Reached
   over : (code : Option Code) → Reached
+  stops : (code : Code) → Reached
 
 abbrev pub Reaches : Origin → Host → Host → Reached → Type 0
 Reaches o before after (goes next) = ReachesContinuation o before after next
-Reaches o before after (over code) = ReachesEnd o before after code
+Reaches o before after (over code) = ReachesOver o before after code
+Reaches o before after (stops code) = ReachesEnd o before after (Some code)
 
 -- From one moment to a later one a run under this limit is led from a continuation to where it then has got,
 -- whatever has called the text.
@@ -122,10 +130,9 @@ RunLeadsAt depth limit before after from to =
     (o : Origin) (callers : List Caller) → o.limit ≡ limit → length callers ≡ depth
     → RunGoesOn o before (from callers) → Reaches o before after (to callers)
 
--- what a run comes to from there
-abbrev pub reached_run : ℕ → Now → Reached → Final
-reached_run fuel now (goes next) = ready_run fuel (next now)
-reached_run fuel now (over code) = record {
+-- what a run that is over comes to
+abbrev pub ended_at : ℕ → Now → Option Code → Final
+ended_at fuel now code = record {
   state = now.state;
   typed = now.typed;
   load = now.load;
@@ -138,10 +145,16 @@ pub record Alike (r q : Ready) : Type 0 where
   pub runs : (fuel : ℕ) → ready_run fuel r ≡ ready_run fuel q
   pub stands : sight r ≡ sight q
 
+-- One that is ready so is over, and stands nowhere.
+pub record ComesOver (r : Ready) (now : Now) (code : Option Code) : Type 0 where
+  pub runs : (fuel : ℕ) → ready_run fuel r ≡ ended_at fuel now code
+  pub nowhere : standing r ≡ None
+
 -- A run that is ready so comes to what is reached.
 abbrev pub Comes : Ready → Now → Reached → Type 0
 Comes r now (goes next) = Alike r (next now)
-Comes r now (over code) = (fuel : ℕ) → ready_run fuel r ≡ reached_run fuel now (over code)
+Comes r now (over code) = ComesOver r now code
+Comes r now (stops code) = (fuel : ℕ) → ready_run fuel r ≡ ended_at fuel now (Some code)
 
 abbrev pub config : List ℕ → machine.Cursor → Option Further → List Caller → Now → Config
 config text c further callers now =
@@ -197,25 +210,29 @@ abbrev pub reached_by_flow : Cursor → List Caller → Flow → Reached
 reached_by_flow c callers flow.On = goes (at_cursor c callers)
 reached_by_flow c callers (flow.Call q) = goes (at_register_call c q callers)
 reached_by_flow c callers flow.Return = goes (at_return (arguments c.args) callers)
-reached_by_flow c callers (flow.Over code) = over code
-reached_by_flow c callers (flow.Stop code) = over (Some code)
+reached_by_flow c callers flow.Over = over None
+reached_by_flow c callers (flow.Fail code) = over (Some code)
+reached_by_flow c callers (flow.Stop code) = stops code
 
 -- where the end of a text leads
 abbrev pub reached_by_exit : Arguments → List Caller → Exit → Reached
 reached_by_exit a callers exit.Return = goes (at_return a callers)
-reached_by_exit a callers (exit.Over code) = over code
-reached_by_exit a callers (exit.Stop code) = over (Some code)
+reached_by_exit a callers exit.Over = over None
+reached_by_exit a callers (exit.Fail code) = over (Some code)
+reached_by_exit a callers (exit.Stop code) = stops code
 
 -- where the end of a called text leads: its caller goes on at this cursor
 abbrev pub reached_after_call : Cursor → List Caller → Exit → Reached
 reached_after_call c callers exit.Return = goes (at_cursor c callers)
-reached_after_call c callers (exit.Over code) = over code
-reached_after_call c callers (exit.Stop code) = over (Some code)
+reached_after_call c callers exit.Over = over None
+reached_after_call c callers (exit.Fail code) = over (Some code)
+reached_after_call c callers (exit.Stop code) = stops code
 
 -- the code that a text's end leaves, where nothing has called it
 abbrev pub code_left : Exit → Option Code
 code_left exit.Return = None
-code_left (exit.Over code) = code
+code_left exit.Over = None
+code_left (exit.Fail code) = Some code
 code_left (exit.Stop code) = Some code
 
 -- the text goes on at its cursor
@@ -223,7 +240,8 @@ abbrev pub GoesOn : Flow → Type 0
 GoesOn flow.On = Unit {0}
 GoesOn (flow.Call q) = ⊥
 GoesOn flow.Return = ⊥
-GoesOn (flow.Over code) = ⊥
+GoesOn flow.Over = ⊥
+GoesOn (flow.Fail code) = ⊥
 GoesOn (flow.Stop code) = ⊥
 
 -- A text of values and arithmetic alone goes on at such a text, or is over, but not for want of memory.
@@ -231,7 +249,8 @@ abbrev pub GoesQuietly : Cursor → Flow → Type 0
 GoesQuietly c flow.On = IsQuiet (cursor c)
 GoesQuietly c (flow.Call q) = ⊥
 GoesQuietly c flow.Return = Unit {0}
-GoesQuietly c (flow.Over code) = code ≢ Some Mem
+GoesQuietly c flow.Over = Unit {0}
+GoesQuietly c (flow.Fail code) = Some code ≢ Some Mem
 GoesQuietly c (flow.Stop code) = Some code ≢ Some Mem
 
 -- neither want of memory nor a failed terminal
@@ -244,32 +263,32 @@ abbrev pub FlowFinishes : Flow → Type 0
 FlowFinishes flow.On = Unit {0}
 FlowFinishes (flow.Call q) = ⊥
 FlowFinishes flow.Return = Unit {0}
-FlowFinishes (flow.Over code) = IsFinished code
+FlowFinishes flow.Over = Unit {0}
+FlowFinishes (flow.Fail code) = is_unfinished_code code ≡ false
 FlowFinishes (flow.Stop code) = ⊥
 
--- what is said where the whole run stops, or where a text is called
-abbrev pub OnStop : Flow → Type 0 → Type 0
-OnStop (flow.Stop code) P = P
-OnStop f P = Unit {0}
+-- what is said of the steps after which the run last stood, by those that are done: where it stops, and where a
+-- step has failed, which then counts
+abbrev pub OnLast : Flow → ℕ → (ℕ → Type 0) → Type 0
+OnLast (flow.Stop code) done P = P done
+OnLast (flow.Fail code) done P = (0 < done) × P (done - 1)
+OnLast f done P = Unit {0}
 
+-- what is said where a text is called
 abbrev pub OnCall : Flow → (ℕ → Type 0) → Type 0
 OnCall (flow.Call q) P = P q
 OnCall f P = Unit {0}
 
--- A cursor stays at its place, in its blocks.
-pub record Stays (old new : Cursor) : Type 0 where
-  pub place : new.at ≡ old.at
-  pub frames : new.blocks ≡ old.blocks
-
--- It does where the whole run stops, or where a text is called.
+-- A cursor stays where the whole run stops, where a step has failed, or where a text is called.
 abbrev pub FlowStays : Cursor → Cursor → Flow → Type 0
 FlowStays old new (flow.Stop code) = Stays old new
+FlowStays old new (flow.Fail code) = Stays old new
 FlowStays old new (flow.Call q) = Stays old new
 FlowStays old new f = Unit {0}
 
 -- where the run of a whole text stands after some steps
 abbrev pub StandsAt : Origin → ℕ → Standing → Type 0
-StandsAt o k s = standing (ready_of (after_steps k (whole_run o))) ≡ Some s
+StandsAt o k s = stands_after o.state o.text k ≡ Some s
 
 -- before a step of this token
 abbrev pub token_standing : Cursor → Token → List Caller → Standing
@@ -278,7 +297,7 @@ token_standing c token callers = record {
   left = (cursor c).left;
   blocks = (cursor c).blocks;
   callers = callers;
-  item = Some (item_of_kind c.text.now token.kind);
+  token = Some (step_token token.modifiers (item_of_kind c.text.now token.kind));
 }
 
 -- A run stands at what is read where a cursor is.
@@ -286,27 +305,29 @@ pub record IsStandingAt (c : Cursor) (others : List Caller) (s : Standing) : Typ
   pub text : s.text ≡ c.text.now
   pub blocks : s.blocks ≡ (cursor c).blocks
   pub callers : s.callers ≡ others
-  pub read : IsReadAt c.text.now c.at s.item s.left
+  pub read : IsReadAt c.text.now c.at s.token s.left
 
 pub record StandsSomewhere (o : Origin) (k : ℕ) (c : Cursor) (callers : List Caller) : Type 0 where
   pub there : Standing
   pub stands : StandsAt o k there
   pub is : IsStandingAt c callers there
 
--- The run of a whole text stands after some steps where it is told, inside texts that have called.
-pub record StandsWhereTold (o : Origin) (k : ℕ) (callers : List Caller) (p : Told) : Type 0 where
+-- The run of a whole text stands where and when it is told, inside texts that have called.
+pub record StandsWhereTold (o : Origin) (callers : List Caller) (p : Told) : Type 0 where
   pub there : Standing
-  pub stands : StandsAt o k there
+  pub stands : StandsAt o p.steps there
   pub told : IsToldOf callers p there
 
--- A watch knows nothing, or where the run stopped.
-abbrev pub Tells : (Option Told → Type 0) → Exit → (Told → Type 0) → Type 0
-Tells knows exit.Return P = knows None
-Tells knows (exit.Over code) P = knows None
-Tells knows (exit.Stop code) P = (p : Told) × knows (Some p) × P p
+-- A watch knows nothing, or where the run last stood: after all the steps that are done, or before one that has
+-- failed.
+abbrev pub Tells : (Option Told → Type 0) → Exit → ℕ → (Told → Type 0) → Type 0
+Tells knows exit.Return done P = knows None
+Tells knows exit.Over done P = knows None
+Tells knows (exit.Fail code) done P = (p : Told) × knows (Some p) × (p.steps + 1 ≡ done) × P p
+Tells knows (exit.Stop code) done P = (p : Told) × knows (Some p) × (p.steps ≡ done) × P p
 
 -- From a continuation of a text at this depth of calls a run has come to stand where it is told.
-abbrev pub StandsFrom : ℕ → ℕ → Host → ℕ → (List Caller → Continuation) → Told → Type 0
-StandsFrom depth limit before k from p =
+abbrev pub StandsFrom : ℕ → ℕ → Host → (List Caller → Continuation) → Told → Type 0
+StandsFrom depth limit before from p =
     (o : Origin) (callers : List Caller) → o.limit ≡ limit → length callers ≡ depth
-    → RunGoesOn o before (from callers) → StandsWhereTold o k callers p
+    → RunGoesOn o before (from callers) → StandsWhereTold o callers p

@@ -9,7 +9,8 @@ use Rattle.teco_scan.specs.declared.token.Token.{Token}
 use Rattle.teco_scan.specs.declared.token.TokenKind.{TokenKind}
 use Rattle.teco_scan.specs.declared.token.TokenKind.TheVariants.{Item}
 use Rattle.teco_exec.specs.Machine.{Caller}
-use Rattle.teco_exec.specs.Running.{FlowFinishes, FlowStays, GoesOn, Stays, GoesQuietly, Reached, at_token, reached_by_flow, goes}
+use Rattle.teco_exec.specs.Running.{FlowFinishes, FlowStays, GoesOn, GoesQuietly, Reached, at_token, reached_by_flow, goes}
+use Rattle.teco_exec.specs.View.{Stays}
 use Rattle.teco_exec.specs.declared.cursor.Cursor.{Cursor}
 use Rattle.teco_exec.specs.declared.flow.Flow.{Flow}
 use Rattle.teco_exec.specs.declared.flow.Progress.{Progress}

@@ -37,6 +37,11 @@ abbrev pub cursor_or_error : {U : Type 0} → Cursor → Result U Code → Curso
 cursor_or_error c (Ok u) = Ok (cursor c)
 cursor_or_error c (Err e) = Err e
 
+-- A cursor stays at its place, in its blocks.
+pub record Stays (old new : Cursor) : Type 0 where
+  pub place : new.at ≡ old.at
+  pub frames : new.blocks ≡ old.blocks
+
 -- neither want of memory nor a failed terminal
 abbrev pub ResultFinishes : {U : Type 0} → Result U Code → Type 0
 ResultFinishes (Ok u) = Unit {0}

@@ -4,7 +4,7 @@ use Rattle.teco_exec.specs.Places.{Told}
 use Rattle.teco_exec.specs.Telling.{told_of}
 use Rattle.teco_exec.specs.declared.watch.Watched.{Watched}
 
--- Where no memory lacked it keeps nothing, or what it has been told.
+-- It keeps nothing; or what it has been told, where no memory lacked.
 abbrev pub Knows : Watched → Option Told → Type 0
-Knows w None = w.lacks_memory ≡ false → (w.has_stopped ≡ false) × (w.place.calls.items ≡ [])
-Knows w (Some p) = w.lacks_memory ≡ false → (w.has_stopped ≡ true) × (told_of w.place ≡ p)
+Knows w None = (w.has_stood ≡ false) × (w.lacks_memory ≡ false) × (w.place.calls.items ≡ [])
+Knows w (Some p) = (w.has_stood ≡ true) × (w.lacks_memory ≡ false → told_of w.place ≡ p)

@@ -1,6 +1,6 @@
 //! The open blocks of a text.
-ghost use Rattle.std.specs.Prelude.{◌≡◌, ◌<◌, ◌≤◌, [], ◌∷◌, IfOk, None, Some, length, MatchOption, slice_get};
-ghost use Rattle.teco_exec.specs.Frames.{EndsTurn, has_iteration, kind_of, list_start, next_turn, turns_open};
+ghost use Rattle.std.specs.Prelude.{◌≡◌, ◌<◌, ◌≤◌, ◌-◌, [], ◌∷◌, IfOk, None, Some, length, MatchOption, slice_get};
+ghost use Rattle.teco_exec.specs.Frames.{EndsTurn, has_iteration, kind_of, list_start, next_turn, outermost, turns_open};
 
 use std::alloc::Global;
 use std::marker::Model;
@@ -134,14 +134,34 @@ impl<'r> Blocks<'r> {
         }
     }
 
-    /// Where the list of commands of the innermost block begins: at 0 where no block is open.
-    pub fn list_start(&self) -> usize
-        ensures { result ≡ list_start self.now }
+    /// The block at this depth: the outermost is at 1.
+    pub fn get(&self, depth: usize) -> Block
+        requires some { 0 < depth }
+        requires open { depth ≤ length self.now }
+        requires few { depth ≤ BLOCK_LIMIT }
+        ensures { outermost depth self.now ≡ result ∷ outermost (depth - 1) self.now }
     {
-        match self.top() {
-            Some(block) => block.start,
-            None => 0,
+        self.open[depth - 1]
+    }
+
+    /// Closes the innermost blocks, so that as many as this depth are left.
+    pub fn truncate(&mut self, depth: usize)
+        requires { depth ≤ length self.old }
+        ensures { self.new ≡ outermost depth self.old }
+    {
+        self.depth = depth;
+    }
+
+    /// Where the list of commands at this depth begins: at 0 in no block.
+    pub fn list_start(&self, depth: usize) -> usize
+        requires open { depth ≤ length self.now }
+        requires few { depth ≤ BLOCK_LIMIT }
+        ensures { result ≡ list_start (outermost depth self.now) }
+    {
+        if depth == 0 {
+            return 0;
         }
+        self.get(depth).start
     }
 
     /// The turns left of each open iteration after the present one, the innermost first; none: without end.

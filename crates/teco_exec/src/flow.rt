@@ -13,8 +13,10 @@ pub(crate) enum Flow {
     Call(Reg),
     /// The text is over, and its caller goes on.
     Return,
-    /// The whole run is over, by a step.
-    Over(Option<Code>),
+    /// The whole run is over, by a step that ends the session.
+    Over,
+    /// The whole run is over, by a step that failed.
+    Fail(Code),
     /// The whole run stops, before a step or at a fault.
     Stop(Code),
 }
@@ -33,8 +35,10 @@ pub(crate) enum Progress {
 pub(crate) enum Exit {
     /// Its caller goes on.
     Return,
-    /// The whole run is over, by a step.
-    Over(Option<Code>),
+    /// The whole run is over, by a step that ends the session.
+    Over,
+    /// The whole run is over, by a step that failed.
+    Fail(Code),
     /// The whole run stops, before a step or at a fault.
     Stop(Code),
 }
@@ -47,9 +51,8 @@ impl Exit {
         ensures { result ≡ code_left self }
     {
         match self {
-            Exit::Return => None,
-            Exit::Over(code) => code,
-            Exit::Stop(code) => Some(code),
+            Exit::Return | Exit::Over => None,
+            Exit::Fail(code) | Exit::Stop(code) => Some(code),
         }
     }
 }

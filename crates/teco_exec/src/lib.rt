@@ -18,4 +18,4 @@ mod watch;
 pub use laws::{machine_laws, meaning_laws};
 pub use outcome::{Outcome, Stopped};
 pub use place::{Call, Place};
-pub use running::{place_after, run};
+pub use running::{run, run_where};

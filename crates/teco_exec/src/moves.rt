@@ -1,10 +1,10 @@
 //! Moves of a cursor: what uses no step, and the steps that open blocks and end turns.
-ghost use Rattle.std.specs.Prelude.{◌≡◌, ◌≢◌, ◌≤◌, ◌<◌, Ok, length, drop};
+ghost use Rattle.std.specs.Prelude.{◌≡◌, ◌≢◌, ◌≤◌, ◌<◌, Ok, OnErr, length, drop};
 ghost use Rattle.teco_scan.specs.Scan.{scan};
 ghost use Rattle.teco_scan.specs.Seen.{IsFoundAt, found_in};
 ghost use Rattle.teco_exec.specs.Frames.{EndsTurn, kind_of, turns_left};
 ghost use Rattle.teco_exec.specs.CursorMoves as machine;
-ghost use Rattle.teco_exec.specs.View.{ResultFinishes, MayOpen, TellsComing, coming_of, cursor, cursor_or_error, block_step_of};
+ghost use Rattle.teco_exec.specs.View.{ResultFinishes, MayOpen, Stays, TellsComing, coming_of, cursor, cursor_or_error, block_step_of};
 
 use crate::blocks::{Block, Body};
 use crate::conditions::holds;
@@ -188,6 +188,7 @@ impl<'t> Cursor<'t> {
         ensures moves { cursor_or_error self.new result
             ≡ machine.after_block_step (block_step_of block) (drop to self.old.text.now) (cursor self.old) }
         ensures finished { ResultFinishes result }
+        ensures stays { OnErr result (Stays self.old self.new) }
     {
         match block {
             BlockStep::Iterate => self.iterate(to),
@@ -207,6 +208,7 @@ impl<'t> Cursor<'t> {
         ensures moves { cursor_or_error self.new result
             ≡ machine.after_block_step machine.iterates (drop to self.old.text.now) (cursor self.old) }
         ensures finished { ResultFinishes result }
+        ensures stays { OnErr result (Stays self.old self.new) }
     {
         match self.args.take()? {
             Taken::Two(..) => Err(Code::Arg),
@@ -232,6 +234,7 @@ impl<'t> Cursor<'t> {
         ensures moves { cursor_or_error self.new result
             ≡ machine.after_block_step (machine.decides test) (drop to self.old.text.now) (cursor self.old) }
         ensures finished { ResultFinishes result }
+        ensures stays { OnErr result (Stays self.old self.new) }
     {
         match self.args.take()? {
             Taken::Two(..) => Err(Code::Arg),
@@ -285,6 +288,7 @@ impl<'t> Cursor<'t> {
         ensures moves { cursor_or_error self.new result
             ≡ machine.after_counted_start 0 (drop start self.old.text.now) (cursor self.old) }
         ensures finished { ResultFinishes result }
+        ensures stays { OnErr result (Stays self.old self.new) }
     {
         self.at = skip_whole_block(self.text, start, Kind::Iter, self.blocks.len() + 1)?;
         Ok(())
@@ -298,6 +302,7 @@ impl<'t> Cursor<'t> {
         ensures moves { cursor_or_error self.new result
             ≡ machine.after_first_part (drop start self.old.text.now) (cursor self.old) }
         ensures finished { ResultFinishes result }
+        ensures stays { OnErr result (Stays self.old self.new) }
     {
         let stop = skip_block(self.text, start, Kind::Then, self.blocks.len() + 1)?;
         if stop.divided {

@@ -1,12 +1,17 @@
-//! Where a run stops.
+//! Where a run stands.
 ghost use Rattle.std.specs.Prelude.{◌≡◌, ◌≤◌, length, drop};
 ghost use Rattle.teco_scan.specs.Scan.{after_fillers};
 
 use teco_core::{Reg, is_filler};
 
-/// Where a run stops: before a token, or at a fault.
+/// Where a run stands: before a step of a token, or at a fault of a text.
+///
+/// Places count the bytes before them, each in its own text. What a caller needs besides, he reads there himself: where the token
+/// ends, by `token_at` of teco_scan; and the text of a register that is called, as long as nothing has changed it since the call.
 #[derive(Debug, Drop)]
 pub struct Place {
+    /// The steps that were done when it stood there.
+    pub steps: u64,
     /// The bytes of the innermost text that come before the token.
     pub at: usize,
     /// The turns left after the present one of each iteration that is open there, the innermost first; none: without end.

@@ -1,12 +1,10 @@
 //! The run of a command string.
-ghost use Rattle.std.specs.Prelude.{◌≡◌, ◌≤◌, ◌<◌, ℕ, List, IfOk, IfSome, Option, Some, length, true, false, None};
+ghost use Rattle.std.specs.Prelude.{◌≡◌, ◌≤◌, ◌<◌, ℕ, List, ◌+◌, ◌↔◌, IfOk, IfSome, MatchOption, Ok, Option, Some, length, true, false, None};
 ghost use Rattle.teco_core.specs.ArgumentsView.{arguments};
 ghost use Rattle.teco_core.specs.Register.{content};
 ghost use Rattle.teco_core.specs.declared.code.Code.TheVariants.{Mem};
 ghost use Rattle.teco_scan.specs.Lists.{nodes};
-ghost use Rattle.teco_scan.specs.Scan.{register};
-ghost use Rattle.teco_scan.specs.declared.command.RegisterCommand.TheVariants as register_command;
-ghost use Rattle.teco_exec.specs.Places.{IsPlaceAfter, IsReadAt, Told};
+ghost use Rattle.teco_exec.specs.Places.{IsPlaceAfter, IsReadAt, Told, call_token};
 ghost use Rattle.teco_exec.specs.Telling.{told_of};
 ghost use Rattle.teco_step.specs.Terminal.{Shows};
 ghost use Rattle.teco_exec.specs.Running.{RunLeadsAt, StandsFrom, Tells, code_left, at_beginning, at_register_call, reached_by_exit, reached_after_call, host};
@@ -50,55 +48,43 @@ pub fn run<D: Desk, T: Terminal>(desk: &mut D, text: &[u8], limit: u64, term: &m
     run_watched(desk, text, limit, term, &mut Unwatched)
 }
 
-/// Runs a command string on a desk and a terminal for at most `steps` steps, and tells where its run is then.
+/// Runs a command string just as [`run`] does, and tells where its run last stood.
 ///
-/// It runs as [`run`] does under this limit, and leaves desk and terminal so. Where the run stops before a step, for want of steps or
-/// memory or because the terminal failed, the place is that of the token whose step comes. Where it stops at a fault of a text, which
-/// uses no step, it is the place of the fault. Where the string is over by its end, or by a step that failed or left, there is none:
-/// the place of the token that failed after n steps is the one after n - 1 steps. So where a string ended by an error after n steps,
-/// ask with n steps, and if there is no place, from the same state with n - 1.
+/// Where it stops before a step, for want of steps or memory or because the terminal failed, that is the token whose step comes. Where
+/// it stops at a fault of a text, which uses no step, it is the fault. Where a step failed, it is the token of that step: the run stood
+/// there one step before. So a place is told exactly where the string ends by a code, unless memory lacks for it.
 ///
-/// Places count the bytes before them, each in its own text. The answer takes memory, for at most 33 texts with at most 64 iterations
-/// each; where it lacks, the string was run all the same.
-pub fn place_after<D: Desk, T: Terminal>(
+/// The place takes memory, for at most 33 texts with at most 64 iterations each.
+pub fn run_where<D: Desk, T: Terminal>(
     desk: &mut D,
     text: &[u8],
-    steps: u64,
+    limit: u64,
     term: &mut T,
     alloc: Global,
-) -> Result<Stopped, NoMemory>
-    ensures place { IfOk result (λ s. IfSome s.place
-        (λ p. IsPlaceAfter (D.state desk.old) text.now s.outcome.steps (told_of p))) }
-    ensures run { IfOk result (λ s. (typed : List ℕ)
-        × Runs (D.state desk.old) text.now steps s.outcome typed (D.state desk.new)
-        × Shows (T.screen term.old) (T.screen term.new) typed (is_tty s.outcome)) }
-    ensures again { IfOk result (λ s. D.state desk.new
-        ≡ (string_meaning (D.state desk.old) text.now s.outcome.steps).state) }
+) -> Stopped
+    ensures place { IfOk result.place (λ told. IfSome told
+        (λ p. IsPlaceAfter (D.state desk.old) text.now result.outcome.steps (told_of p))) }
+    ensures told { (result.place ≡ Ok None) ↔ (result.outcome.code ≡ None) }
+    ensures run { (typed : List ℕ)
+        × Runs (D.state desk.old) text.now limit result.outcome typed (D.state desk.new)
+        × Shows (T.screen term.old) (T.screen term.new) typed (is_tty result.outcome) }
+    ensures again { D.state desk.new
+        ≡ (string_meaning (D.state desk.old) text.now result.outcome.steps).state }
+    ensures follows { (floor : ℕ) → D.follows desk.old (trail_of (D.state desk.old) text.now floor 0)
+        → D.follows desk.new (trail_of (D.state desk.old) text.now floor result.outcome.steps) }
+    ensures no_memory { takes_no_memory (nodes text.now) ≡ true → result.outcome.code ≡ Some Mem → ⊥ }
+    ensures exit { (D.state desk.old).is_done ≡ false → (D.state desk.new).is_done ≡ true
+        → result.outcome.code ≡ None }
 {
     let mut watch = Watched::new(alloc);
-    let outcome = run_watched(desk, text, steps, term, &mut watch);
-    let Watched {
-        place,
-        has_stopped,
-        lacks_memory,
-        ..
-    } = watch;
-    if lacks_memory {
-        return Err(NoMemory);
-    }
-    if has_stopped {
-        return Ok(Stopped {
-            outcome,
-            place: Some(place),
-        });
-    }
-    Ok(Stopped {
+    let outcome = run_watched(desk, text, limit, term, &mut watch);
+    Stopped {
         outcome,
-        place: None,
-    })
+        place: watch.into_place(),
+    }
 }
 
-/// Runs a command string as `run` does, and tells a watch where it stops.
+/// Runs a command string as `run` does, and tells a watch where it last stood.
 fn run_watched<D: Desk, T: Terminal, W: Watch>(
     desk: &mut D,
     text: &[u8],
@@ -114,8 +100,9 @@ fn run_watched<D: Desk, T: Terminal, W: Watch>(
     ensures no_memory { takes_no_memory (nodes text.now) ≡ true → result.code ≡ Some Mem → ⊥ }
     ensures exit { (D.state desk.old).is_done ≡ false → (D.state desk.new).is_done ≡ true
         → result.code ≡ None }
-    ensures told { W.knows watch.old None → (x : Option Told) × W.knows watch.new x
-        × IfSome x (λ p. IsPlaceAfter (D.state desk.old) text.now result.steps p) }
+    ensures told { W.knows watch.old None → MatchOption result.code (W.knows watch.new None)
+        (λ _. (p : Told) × W.knows watch.new (Some p)
+        × IsPlaceAfter (D.state desk.old) text.now result.steps p) }
 {
     machine_laws();
     meaning_laws();
@@ -147,9 +134,10 @@ fn run_text<D: Desk, T: Terminal, W: Watch>(
         (at_beginning (arguments args.old) text.now)
         (λ callers. reached_by_exit (arguments args.new) callers result) }
     ensures no_memory { takes_no_memory (nodes text.now) ≡ true → code_left result ≡ Some Mem → ⊥ }
-    ensures told { W.knows watch.old None → Tells (W.knows watch.new) result (StandsFrom depth steps.old.limit
+    ensures told { W.knows watch.old None → Tells (W.knows watch.new) result steps.new.done
+        (StandsFrom depth steps.old.limit
         (host (D.state desk.old) (D.follows desk.old) (T.screen term.old) steps.old.done)
-        steps.new.done (at_beginning (arguments args.old) text.now)) }
+        (at_beginning (arguments args.old) text.now)) }
 {
     let mut room = [Block {
         start: 0,
@@ -163,7 +151,8 @@ fn run_text<D: Desk, T: Terminal, W: Watch>(
             Flow::Call(q) => {
                 match run_called(desk, q, depth, &mut cursor, at, steps, term, watch) {
                     Exit::Return => continue 'running,
-                    Exit::Over(code) => return Exit::Over(code),
+                    Exit::Over => return Exit::Over,
+                    Exit::Fail(code) => return Exit::Fail(code),
                     Exit::Stop(code) => return Exit::Stop(code),
                 }
             }
@@ -171,9 +160,13 @@ fn run_text<D: Desk, T: Terminal, W: Watch>(
                 *args = cursor.args;
                 return Exit::Return;
             }
-            Flow::Over(code) => return Exit::Over(code),
+            Flow::Over => return Exit::Over,
+            Flow::Fail(code) => {
+                watch.stood(steps.done - 1, at, &cursor);
+                return Exit::Fail(code);
+            }
             Flow::Stop(code) => {
-                watch.stopped(at, &cursor);
+                watch.stood(steps.done, at, &cursor);
                 return Exit::Stop(code);
             }
         }
@@ -196,7 +189,7 @@ fn run_called<D: Desk, T: Terminal, W: Watch>(
     watch: &mut W,
 ) -> Exit
     requires deep { depth ≤ CALL_LIMIT }
-    requires token { IsReadAt cursor.old.text.now at (Some (register register_command.Macro q))
+    requires token { IsReadAt cursor.old.text.now at (Some (call_token q))
         (cursor_of cursor.old).left }
     requires within { at ≤ length cursor.old.text.now }
     ensures text { cursor.new.text ≡ cursor.old.text }
@@ -207,12 +200,13 @@ fn run_called<D: Desk, T: Terminal, W: Watch>(
         (host (D.state desk.old) (D.follows desk.old) (T.screen term.old) steps.old.done)
         (host (D.state desk.new) (D.follows desk.new) (T.screen term.new) steps.new.done)
         (at_register_call cursor.old q) (λ callers. reached_after_call cursor.new callers result) }
-    ensures told { W.knows watch.old None → Tells (W.knows watch.new) result (StandsFrom depth steps.old.limit
+    ensures told { W.knows watch.old None → Tells (W.knows watch.new) result steps.new.done
+        (StandsFrom depth steps.old.limit
         (host (D.state desk.old) (D.follows desk.old) (T.screen term.old) steps.old.done)
-        steps.new.done (at_register_call cursor.old q)) }
+        (at_register_call cursor.old q)) }
 {
     if steps.done == steps.limit {
-        watch.stopped(at, cursor);
+        watch.stood(steps.done, at, cursor);
         return Exit::Stop(Code::Lim);
     }
     let text = desk.registers().text(q);
@@ -225,7 +219,7 @@ fn run_called<D: Desk, T: Terminal, W: Watch>(
     match Vec::from_slice(alloc, text) {
         Ok(copy) => run_copy(desk, q, &copy, depth, cursor, at, steps, term, watch),
         Err(_) => {
-            watch.stopped(at, cursor);
+            watch.stood(steps.done, at, cursor);
             Exit::Stop(Code::Mem)
         }
     }
@@ -245,7 +239,7 @@ fn run_copy<D: Desk, T: Terminal, W: Watch>(
     watch: &mut W,
 ) -> Exit
     requires deep { depth ≤ CALL_LIMIT }
-    requires token { IsReadAt cursor.old.text.now at (Some (register register_command.Macro q))
+    requires token { IsReadAt cursor.old.text.now at (Some (call_token q))
         (cursor_of cursor.old).left }
     requires within { at ≤ length cursor.old.text.now }
     requires copy { called.now ≡ (content (D.state desk.old).registers q).text }
@@ -258,19 +252,25 @@ fn run_copy<D: Desk, T: Terminal, W: Watch>(
         (host (D.state desk.old) (D.follows desk.old) (T.screen term.old) steps.old.done)
         (host (D.state desk.new) (D.follows desk.new) (T.screen term.new) steps.new.done)
         (at_register_call cursor.old q) (λ callers. reached_after_call cursor.new callers result) }
-    ensures told { W.knows watch.old None → Tells (W.knows watch.new) result (StandsFrom depth steps.old.limit
+    ensures told { W.knows watch.old None → Tells (W.knows watch.new) result steps.new.done
+        (StandsFrom depth steps.old.limit
         (host (D.state desk.old) (D.follows desk.old) (T.screen term.old) steps.old.done)
-        steps.new.done (at_register_call cursor.old q)) }
+        (at_register_call cursor.old q)) }
 {
     steps.count();
     desk.step_done(steps.done);
     if depth == CALL_LIMIT {
-        return Exit::Over(Some(Code::Pdo));
+        watch.stood(steps.done - 1, at, cursor);
+        return Exit::Fail(Code::Pdo);
     }
     let args = &mut cursor.args;
     match run_text(desk, called, depth + 1, args, steps, term, watch) {
         Exit::Return => Exit::Return,
-        Exit::Over(code) => Exit::Over(code),
+        Exit::Over => Exit::Over,
+        Exit::Fail(code) => {
+            watch.called(q, at, cursor);
+            Exit::Fail(code)
+        }
         Exit::Stop(code) => {
             watch.called(q, at, cursor);
             Exit::Stop(code)

@@ -1,15 +1,15 @@
 //! One step of a text.
 ghost use Rattle.std.specs.Prelude.{◌≡◌, ◌<◌, ◌≤◌, ◌⊎◌, ℕ, List, None, Some, MatchOption, MatchResult, drop, false, length, true};
-ghost use Rattle.teco_scan.specs.Scan.{scan, register};
+ghost use Rattle.teco_scan.specs.Scan.{scan};
 ghost use Rattle.teco_store.specs.State.{State};
 ghost use Rattle.teco_step.specs.Stepping.{IsStepIn, end_of, is_unfinished, is_unfinished_code, name_in, takes_nothing_in};
 ghost use Rattle.teco_step.specs.Terminal.{Screen};
 ghost use Rattle.teco_step.specs.declared.next.Next.TheVariants.{Call, Error};
 ghost use Rattle.teco_exec.specs.CursorMoves.{inside_iteration, leave_is_next};
 ghost use Rattle.teco_exec.specs.Machine.{Caller, Now, after_step_end, ready_of};
-ghost use Rattle.teco_exec.specs.Running.{FlowStays, GoesOn, GoesQuietly, OnCall, OnStop, Origin, RunGoesOn, RunLeads, StandsAt, StandsSomewhere, token_standing, at_cursor, at_block_step, at_token, config, reached_by_flow, host, Comes};
+ghost use Rattle.teco_exec.specs.Running.{FlowStays, GoesOn, GoesQuietly, OnCall, OnLast, Origin, RunGoesOn, RunLeads, StandsAt, StandsSomewhere, token_standing, at_cursor, at_block_step, at_token, config, reached_by_flow, host, Comes};
 ghost use Rattle.teco_exec.specs.Tokens.{Continues, CountsSteps, OnDone, ProgressFinishes, ProgressStays, ProgressesQuietly, call_of, calls_text, looks_around, reached_by_progress};
-ghost use Rattle.teco_exec.specs.Places.{IsReadAt};
+ghost use Rattle.teco_exec.specs.Places.{IsReadAt, call_token};
 ghost use Rattle.teco_exec.specs.Quiet.{IsQuiet, is_plain};
 ghost use Rattle.teco_exec.specs.View.{MayOpen, cursor as cursor_of, item_of_kind};
 ghost use Rattle.teco_exec.specs.declared.flow.Flow.TheVariants as flow;
@@ -46,12 +46,14 @@ pub(crate) fn step<D: Desk, T: Terminal>(
         (host (D.state desk.new) (D.follows desk.new) (T.screen term.new) steps.new.done)
         (at_cursor cursor.old) (λ callers. reached_by_flow cursor.new callers result) }
     ensures quiet { IsQuiet (cursor_of cursor.old) → GoesQuietly cursor.new result }
-    ensures around { OnStop result ((cursor_of cursor.new).blocks ≡ (cursor_of cursor.old).blocks) }
-    ensures stops { OnStop result ((o : Origin) (callers : List Caller) → o.limit ≡ steps.old.limit
+    ensures around { OnLast result steps.new.done (λ k.
+        (cursor_of cursor.new).blocks ≡ (cursor_of cursor.old).blocks) }
+    ensures stood { OnLast result steps.new.done (λ k.
+        (o : Origin) (callers : List Caller) → o.limit ≡ steps.old.limit
         → RunGoesOn o (host (D.state desk.old) (D.follows desk.old) (T.screen term.old) steps.old.done)
-        (at_cursor cursor.old callers) → StandsSomewhere o steps.new.done cursor.old callers) }
-    ensures calls { OnCall result (λ q. IsReadAt cursor.old.text.now cursor.old.at
-        (Some (register RegisterCommand.Macro q)) (cursor_of cursor.new).left) }
+        (at_cursor cursor.old callers) → StandsSomewhere o k cursor.old callers) }
+    ensures calls { OnCall result (λ q. IsReadAt cursor.old.text.now cursor.old.at (Some (call_token q))
+        (cursor_of cursor.new).left) }
 {
     block_laws();
     let found = token_at(cursor.text, cursor.at);
@@ -88,10 +90,11 @@ fn token_steps<D: Desk, T: Terminal>(
     ensures quiet { IsQuiet (cursor_of cursor.old) → takes_nothing_in cursor.old.text.now token.now ≡ true
         → GoesQuietly cursor.new result }
     ensures stays { FlowStays cursor.old cursor.new result }
-    ensures stops { OnStop result ((o : Origin) (callers : List Caller) → o.limit ≡ steps.old.limit
+    ensures stood { OnLast result steps.new.done (λ k.
+        (o : Origin) (callers : List Caller) → o.limit ≡ steps.old.limit
         → RunGoesOn o (host (D.state desk.old) (D.follows desk.old) (T.screen term.old) steps.old.done)
         (at_token cursor.old token.now None callers)
-        → StandsAt o steps.new.done (token_standing cursor.old token.now callers)) }
+        → StandsAt o k (token_standing cursor.old token.now callers)) }
     ensures calls { OnCall result (λ q. token.now.kind ≡ call_of q) }
 {
     let mut work = None;
@@ -128,7 +131,7 @@ fn token_step<D: Desk, T: Terminal>(
     ensures quiet { IsQuiet (cursor_of cursor.old) → takes_nothing_in cursor.old.text.now token.now ≡ true
         → ProgressesQuietly cursor.new result }
     ensures stays { ProgressStays cursor.old cursor.new result }
-    ensures stops { OnDone result (λ f. OnStop f (steps.new.done ≡ steps.old.done)) }
+    ensures stood { OnDone result (λ f. OnLast f steps.new.done (λ k. k ≡ steps.old.done)) }
     ensures calls { OnDone result (λ f. OnCall f (λ q. token.now.kind ≡ call_of q)) }
 {
     effect_laws();
@@ -176,7 +179,8 @@ fn block_step<D: Desk>(
         → RunLeads steps.old.limit (host (D.state desk.old) (D.follows desk.old) screen steps.old.done)
         (host (D.state desk.new) (D.follows desk.new) screen steps.new.done)
         (at_block_step cursor.old block to) (λ callers. reached_by_flow cursor.new callers result) }
-    ensures stops { OnStop result ((steps.new.done ≡ steps.old.done) × (cursor.new ≡ cursor.old)) }
+    ensures stood { OnLast result steps.new.done (λ k. k ≡ steps.old.done) }
+    ensures stays { FlowStays cursor.old cursor.new result }
     ensures calls { OnCall result (λ q. ⊥) }
 {
     if steps.done == steps.limit {
@@ -217,8 +221,8 @@ fn resume(cursor: &mut Cursor, token: &Token, next: Next) -> Progress
         }
         // A token that calls is no step of its own: `run_called` does it.
         Next::Call(_) => unreachable!(),
-        Next::Out => Progress::Done(Flow::Over(None)),
-        Next::Error(code) => Progress::Done(over(code)),
+        Next::Out => Progress::Done(Flow::Over),
+        Next::Error(code) => Progress::Done(failed(code)),
     }
 }
 
@@ -272,20 +276,20 @@ fn unfinished(next: &Next) -> Option<Code>
     }
 }
 
-/// The whole run is over by this code.
-fn over(code: Code) -> Flow
-    ensures { result ≡ flow.Over (Some code) }
+/// A step has failed by this code.
+fn failed(code: Code) -> Flow
+    ensures { result ≡ flow.Fail code }
 {
-    Flow::Over(Some(code))
+    Flow::Fail(code)
 }
 
 /// The text goes on, unless there was an error.
 fn on_unless(moved: Result<(), Code>) -> Flow
-    ensures { MatchResult moved (λ _. result ≡ flow.On) (λ code. result ≡ flow.Over (Some code)) }
+    ensures { MatchResult moved (λ _. result ≡ flow.On) (λ code. result ≡ flow.Fail code) }
 {
     match moved {
         Ok(()) => Flow::On,
-        Err(code) => over(code),
+        Err(code) => failed(code),
     }
 }
 

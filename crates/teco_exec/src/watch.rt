@@ -1,25 +1,25 @@
-//! What is told where a run stops.
-ghost use Rattle.std.specs.Prelude.{◌≡◌, ◌≤◌, ℕ, Option, None, Some, length};
+//! What is told of where a run last stood.
+ghost use Rattle.std.specs.Prelude.{◌≡◌, ◌≤◌, ℕ, IfOk, IsSomeAnd, Ok, Option, None, Some, length};
 ghost use Rattle.teco_exec.specs.Places.{IsTokenPlace, Told, told_here, with_call};
 ghost use Rattle.teco_exec.specs.View.{cursor as cursor_of};
 
 use crate::cursor::Cursor;
 use crate::place::{Call, Place, token_place};
 use std::alloc::Global;
-use teco_core::Reg;
+use teco_core::{NoMemory, Reg};
 
-/// What is told where a run stops: of the innermost text first, and then of each text that has called.
+/// Who is told where a run last stood: of the innermost text first, and then of each text that has called.
 pub(crate) trait Watch {
     // that it has been told nothing, or so
     ghost knows: { Self → Option Told → Type 0 };
 
-    /// The run stops at a place of this text.
-    fn stopped(&mut self, at: usize, cursor: &Cursor)
+    /// After so many steps the run stood at a place of this text, and then it stopped or its step failed.
+    fn stood(&mut self, steps: u64, at: usize, cursor: &Cursor)
         requires { at ≤ length cursor.now.text.now }
         ensures { knows self.old None → (to : ℕ) × IsTokenPlace cursor.now.text.now at to
-            × knows self.new (Some (told_here to (cursor_of cursor.now).blocks)) };
+            × knows self.new (Some (told_here steps to (cursor_of cursor.now).blocks)) };
 
-    /// The run stops in the text of this register, which is called at a place of this text.
+    /// That was in the text of this register, which is called at a place of this text.
     fn called(&mut self, register: Reg, at: usize, cursor: &Cursor)
         requires { at ≤ length cursor.now.text.now }
         ensures { (p : Told) → knows self.old (Some p) → (to : ℕ) × IsTokenPlace cursor.now.text.now at to
@@ -34,7 +34,7 @@ impl Watch for Unwatched {
     ghost knows = { λ _ _. Unit {0} };
 
     #[inline(always)]
-    fn stopped(&mut self, _at: usize, _cursor: &Cursor) {}
+    fn stood(&mut self, _steps: u64, _at: usize, _cursor: &Cursor) {}
 
     #[inline(always)]
     fn called(&mut self, _register: Reg, _at: usize, _cursor: &Cursor) {}
@@ -45,11 +45,12 @@ impl Watch for Unwatched {
 pub(crate) struct Watched {
     pub alloc: Global,
     pub place: Place,
-    pub has_stopped: bool,
+    pub has_stood: bool,
     pub lacks_memory: bool,
 }
 
 impl Watched {
+    ghost use Rattle.teco_exec.specs.Telling.{told_of};
     ghost use Rattle.teco_exec.specs.Watching.{Knows};
 
     /// Nothing has been told. Takes no memory.
@@ -59,13 +60,35 @@ impl Watched {
         Watched {
             alloc,
             place: Place {
+                steps: 0,
                 at: 0,
                 turns: Vec::new(alloc),
                 calls: Vec::new(alloc),
             },
-            has_stopped: false,
+            has_stood: false,
             lacks_memory: false,
         }
+    }
+
+    /// The place that it keeps.
+    pub fn into_place(self) -> Result<Option<Place>, NoMemory>
+        ensures none { Knows self None → result ≡ Ok None }
+        ensures some { (p : Told) → Knows self (Some p)
+            → IfOk result (λ told. IsSomeAnd told (λ place. told_of place ≡ p)) }
+    {
+        let Watched {
+            place,
+            has_stood,
+            lacks_memory,
+            ..
+        } = self;
+        if lacks_memory {
+            return Err(NoMemory);
+        }
+        if has_stood {
+            return Ok(Some(place));
+        }
+        Ok(None)
     }
 }
 
@@ -74,10 +97,11 @@ impl Watch for Watched {
 
     ghost knows = { Knows };
 
-    fn stopped(&mut self, at: usize, cursor: &Cursor) {
-        self.has_stopped = true;
+    fn stood(&mut self, steps: u64, at: usize, cursor: &Cursor) {
+        self.has_stood = true;
         match cursor.blocks.turns(self.alloc) {
             Ok(turns) => {
+                self.place.steps = steps;
                 self.place.at = token_place(cursor.text, at);
                 self.place.turns = turns;
             }

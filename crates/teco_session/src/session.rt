@@ -1,11 +1,12 @@
 //! A session: command strings, undo and redo, over one editor, with what leads from each whole state to the next.
-ghost use Rattle.std.specs.Prelude.{◌≡◌, ℕ, List, [], ◌<◌, ◌≤◌, length, vec_len, None, Some, IfOk, OnErr, OnOk, IsOk, ◌↔◌, true, false};
+ghost use Rattle.std.specs.Prelude.{◌≡◌, ℕ, List, [], ◌<◌, ◌≤◌, length, vec_len, None, Some, IfOk, OnErr, OnOk, IsOk, ◌↔◌, IfSome, Ok, true, false};
 ghost use Rattle.teco_exec.specs.Runs.{Runs, is_tty};
 ghost use Rattle.teco_exec.specs.StringMeaning.{string_meaning};
+ghost use Rattle.teco_exec.specs.Telling.{TellsPlace};
 ghost use Rattle.teco_store.specs.Follows.{LeadsBack};
 ghost use Rattle.teco_store.specs.State.{IsSound, state_of};
 ghost use Rattle.teco_step.specs.Terminal.{Shows};
-ghost use Rattle.teco_session.specs.Answers.{answer_code, is_unbegun};
+ghost use Rattle.teco_session.specs.Answers.{answer_code, is_unbegun, outcome_of};
 ghost use Rattle.teco_session.specs.History.{IsHistory, IsWithinDepth, new_history, note_at, present, redone, rewound, state_after, undone};
 ghost use Rattle.teco_session.specs.Kept.{IsSession, IsSmall, HasRun, applied, cut_to, history_of, new_session, reverted, string_at};
 ghost use Rattle.teco_session.specs.Step.{Step, RunStep, Reply, is_terminal_failure};
@@ -13,12 +14,13 @@ ghost use Rattle.teco_session.specs.Play.{Play, ShowsAll, answers_of};
 
 use crate::entries::Entries;
 use crate::entry::Entry;
-use crate::request::{Answer, NothingToRedo, NothingToUndo, Request};
+use crate::request::{Answer, Answered, NothingToRedo, NothingToUndo, Request};
+use crate::runner::{Placing, Plain, Runner};
 use std::alloc::Global;
 use std::marker::Model;
 use std::mem;
 use teco_core::{DEPTH_LIMIT, FILE_LIMIT, NoMemory};
-use teco_exec::{Outcome, meaning_laws, run};
+use teco_exec::{Outcome, meaning_laws};
 use teco_step::Terminal;
 use teco_store::{Change, Desk, Editor, Recorder, record_laws};
 
@@ -46,12 +48,13 @@ impl Model for Session {
 }
 
 /// Runs a string on an editor, and gives the changes that lead back.
-fn record_run<T: Terminal>(
+fn record_run<T: Terminal, R: Runner>(
     alloc: Global,
     editor: &mut Editor,
     text: &[u8],
     limit: u64,
     term: &mut T,
+    runner: &mut R,
 ) -> (Vec<Change>, Outcome)
     requires { IsSound editor.old.room (length editor.old.stored) editor.old.body }
     ensures run { (typed : List ℕ)
@@ -67,11 +70,12 @@ fn record_run<T: Terminal>(
       steps = result.1.steps;
       changes = result.0.items;
     }) }
+    ensures tells { R.tells runner.new (state_of editor.old) text.now result.1 }
 {
     meaning_laws();
     record_laws();
     let mut recorder = Recorder::new(mem::replace(editor, Editor::new(Vec::new(alloc))));
-    let outcome = run(&mut recorder, text, limit, term);
+    let outcome = runner.run_on(&mut recorder, text, limit, term);
     let (after, mut changes) = recorder.into_parts();
     // A short string has a few changes, and room for more of them was found at each step.
     changes.shrink_to_fit();
@@ -234,6 +238,52 @@ impl Session {
             → (present (history_of self.new)).is_done ≡ true → answer_code result ≡ None }
         ensures same { is_unbegun result ≡ true → self.new ≡ self.old }
     {
+        self.run_by(text, limit, term, &mut Plain)
+    }
+
+    /// Runs a command string just as [`Session::run`] does, and tells where its run last stood: at the token or the fault where it
+    /// stopped, or at the token whose step failed. The place takes memory, for at most 33 texts with at most 64 iterations each.
+    pub fn run_where<T: Terminal>(&mut self, text: &[u8], limit: u64, term: &mut T) -> Answered
+        ensures place { IfSome (outcome_of result.answer)
+            (λ outcome. TellsPlace (present (history_of self.old)) text.now outcome result.place) }
+        ensures unbegun { is_unbegun result.answer ≡ true → result.place ≡ Ok None }
+        ensures step { (typed : List ℕ)
+            × RunStep limit (history_of self.old) text.now result.answer typed (history_of self.new)
+            × Shows (T.screen term.old) (T.screen term.new) typed (is_terminal_failure result.answer) }
+        ensures exit { (present (history_of self.old)).is_done ≡ false
+            → (present (history_of self.new)).is_done ≡ true → answer_code result.answer ≡ None }
+        ensures same { is_unbegun result.answer ≡ true → self.new ≡ self.old }
+    {
+        let alloc = self.entries.alloc();
+        let mut placing = Placing {
+            alloc,
+            place: Ok(None),
+        };
+        let answer = self.run_by(text, limit, term, &mut placing);
+        Answered {
+            answer,
+            place: placing.place,
+        }
+    }
+
+    /// Runs a command string as `run` does, by this runner.
+    fn run_by<T: Terminal, R: Runner>(
+        &mut self,
+        text: &[u8],
+        limit: u64,
+        term: &mut T,
+        runner: &mut R,
+    ) -> Answer
+        ensures tells { IfSome (outcome_of result)
+            (λ outcome. R.tells runner.new (present (history_of self.old)) text.now outcome) }
+        ensures unbegun { is_unbegun result ≡ true → runner.new ≡ runner.old }
+        ensures step { (typed : List ℕ)
+            × RunStep limit (history_of self.old) text.now result typed (history_of self.new)
+            × Shows (T.screen term.old) (T.screen term.new) typed (is_terminal_failure result) }
+        ensures exit { (present (history_of self.old)).is_done ≡ false
+            → (present (history_of self.new)).is_done ≡ true → answer_code result ≡ None }
+        ensures same { is_unbegun result ≡ true → self.new ≡ self.old }
+    {
         if self.editor().done() {
             return Answer::AfterExit;
         }
@@ -246,7 +296,7 @@ impl Session {
         }
         record_laws();
         self.entries.truncate(self.cursor);
-        let (changes, outcome) = record_run(alloc, &mut self.editor, text, limit, term);
+        let (changes, outcome) = record_run(alloc, &mut self.editor, text, limit, term, runner);
         self.entries.note(Entry {
             text: kept,
             steps: outcome.steps,

@@ -1,16 +1,14 @@
-use Rattle.std.proofs.Common.{◌≡◌, ◌<◌, ◌≤◌, inl, ◌+◌, ◌-◌, ◌*◌, ◌∷◌, length, drop, Some, refl, sym, subst, ap, ◌∙◌, arith, rules}
+use Rattle.std.proofs.Common.{◌≡◌, ◌<◌, ◌≤◌, inl, ◌+◌, ◌-◌, ◌*◌, ◌∷◌, length, drop, None, Some, refl, sym, subst, ap, ◌∙◌, arith, rules}
 use Rattle.std.proofs.lemmas.List.{length-drop}
 use Rattle.teco_core.specs.ArgumentsView.{arguments}
 use Rattle.teco_exec.specs.View.{cursor}
-use Rattle.teco_exec.specs.Running.{at_cursor, at_return, goes, host, over, reached_after_call}
+use Rattle.teco_exec.specs.Running.{at_cursor, at_return, goes, host, over, reached_after_call, stops}
 use Rattle.teco_exec.proofs.Continuations.{begins, caller, comes_home, enters, less_left, too_deep}
 use Rattle.teco_exec.proofs.Going.{since}
 use Rattle.teco_exec.proofs.NoMemory.{begins_quietly}
-use Rattle.teco_scan.specs.Scan.{register}
-use Rattle.teco_scan.specs.declared.command.RegisterCommand.TheVariants.{Macro}
-use Rattle.teco_exec.specs.Places.{IsReadAt, told_here, with_call}
+use Rattle.teco_exec.specs.Places.{IsReadAt, call_token, told_here, with_call}
 use Rattle.teco_exec.specs.declared.flow.Exit.TheVariants as ending
-use Rattle.teco_exec.proofs.Placings.{call_told_here, called_told, stopped_told}
+use Rattle.teco_exec.proofs.Placings.{call_told_here, called_told, stood_told}
 use Rattle.teco_exec.proofs.Stepped.{call_fails, call_leads, call_unpaid, counts_on}
 use Rattle.teco_core.specs.declared.code.Code.TheVariants.{Pdo}
 use Rattle.teco_exec.proofs.running.+run_text.Goals as goal
@@ -53,15 +51,20 @@ run_text-returns-in-Return-clause-leads g t c o callers limit deep e =
 pub run_text-returns-in-Over-clause-leads : goal.run_text-returns-in-Over-clause-leads
 run_text-returns-in-Over-clause-leads g t c o callers limit deep e =
     let there = c.running.invariant.going o callers limit deep e in
-    since o _ _ _ (over c.in-Over.code) there.follows (c.in-Over.ensures.leads o callers (limit ∙ sym c.running.invariant.counts.limit) there.going)
+    since o _ _ _ (over None) there.follows (c.in-Over.ensures.leads o callers (limit ∙ sym c.running.invariant.counts.limit) there.going)
 
-pub run_text-returns-in-Over-clause-no_memory : goal.run_text-returns-in-Over-clause-no_memory
-run_text-returns-in-Over-clause-no_memory g t c h e = c.in-Over.ensures.quiet (c.running.invariant.quiet h) e
+pub run_text-returns-in-Fail-clause-leads : goal.run_text-returns-in-Fail-clause-leads
+run_text-returns-in-Fail-clause-leads g t c o callers limit deep e =
+    let there = c.running.invariant.going o callers limit deep e in
+    since o _ _ _ (over (Some c.in-Fail.code)) there.follows (c.in-Fail.ensures.leads o callers (limit ∙ sym c.running.invariant.counts.limit) there.going)
+
+pub run_text-returns-in-Fail-clause-no_memory : goal.run_text-returns-in-Fail-clause-no_memory
+run_text-returns-in-Fail-clause-no_memory g t c h e = c.in-Fail.ensures.quiet (c.running.invariant.quiet h) e
 
 pub run_text-returns-in-Stop-clause-leads : goal.run_text-returns-in-Stop-clause-leads
 run_text-returns-in-Stop-clause-leads g t c o callers limit deep e =
     let there = c.running.invariant.going o callers limit deep e in
-    since o _ _ _ (over (Some c.in-Stop.code)) there.follows (c.in-Stop.ensures.leads o callers (limit ∙ sym c.running.invariant.counts.limit) there.going)
+    since o _ _ _ (stops c.in-Stop.code) there.follows (c.in-Stop.ensures.leads o callers (limit ∙ sym c.running.invariant.counts.limit) there.going)
 
 pub run_text-returns-in-Stop-clause-no_memory : goal.run_text-returns-in-Stop-clause-no_memory
 run_text-returns-in-Stop-clause-no_memory g t c h e = c.in-Stop.ensures.quiet (c.running.invariant.quiet h) e
@@ -97,10 +100,18 @@ run_text-returns-in-Over-run_called-clause-leads g t c o callers limit deep e =
     let here = c.in-Call.ensures.leads o callers (limit ∙ sym c.running.invariant.counts.limit) there.going in
     let h = host (g.D.Desk.state c.step.new.desk) (g.D.Desk.follows c.step.new.desk) (g.T.Terminal.screen c.step.new.term) c.step.new.steps.done in
     let r = c.in-Over-run_called.ensures.leads o callers (limit ∙ sym c.running.invariant.counts.limit ∙ sym c.in-Call.ensures.counts.limit) deep here.going in
-    since o _ h _ (over c.in-Over-run_called.code) (λ floor p. here.follows floor (there.follows floor p)) r
+    since o _ h _ (over None) (λ floor p. here.follows floor (there.follows floor p)) r
 
-pub run_text-returns-in-Over-run_called-clause-no_memory : goal.run_text-returns-in-Over-run_called-clause-no_memory
-run_text-returns-in-Over-run_called-clause-no_memory g t c h e = c.in-Call.ensures.quiet (c.running.invariant.quiet h)
+pub run_text-returns-in-Fail-run_called-clause-leads : goal.run_text-returns-in-Fail-run_called-clause-leads
+run_text-returns-in-Fail-run_called-clause-leads g t c o callers limit deep e =
+    let there = c.running.invariant.going o callers limit deep e in
+    let here = c.in-Call.ensures.leads o callers (limit ∙ sym c.running.invariant.counts.limit) there.going in
+    let h = host (g.D.Desk.state c.step.new.desk) (g.D.Desk.follows c.step.new.desk) (g.T.Terminal.screen c.step.new.term) c.step.new.steps.done in
+    let r = c.in-Fail-run_called.ensures.leads o callers (limit ∙ sym c.running.invariant.counts.limit ∙ sym c.in-Call.ensures.counts.limit) deep here.going in
+    since o _ h _ (over (Some c.in-Fail-run_called.code)) (λ floor p. here.follows floor (there.follows floor p)) r
+
+pub run_text-returns-in-Fail-run_called-clause-no_memory : goal.run_text-returns-in-Fail-run_called-clause-no_memory
+run_text-returns-in-Fail-run_called-clause-no_memory g t c h e = c.in-Call.ensures.quiet (c.running.invariant.quiet h)
 
 pub run_text-returns-in-Stop-run_called-clause-leads : goal.run_text-returns-in-Stop-run_called-clause-leads
 run_text-returns-in-Stop-run_called-clause-leads g t c o callers limit deep e =
@@ -108,7 +119,7 @@ run_text-returns-in-Stop-run_called-clause-leads g t c o callers limit deep e =
     let here = c.in-Call.ensures.leads o callers (limit ∙ sym c.running.invariant.counts.limit) there.going in
     let h = host (g.D.Desk.state c.step.new.desk) (g.D.Desk.follows c.step.new.desk) (g.T.Terminal.screen c.step.new.term) c.step.new.steps.done in
     let r = c.in-Stop-run_called.ensures.leads o callers (limit ∙ sym c.running.invariant.counts.limit ∙ sym c.in-Call.ensures.counts.limit) deep here.going in
-    since o _ h _ (over (Some c.in-Stop-run_called.code)) (λ floor p. here.follows floor (there.follows floor p)) r
+    since o _ h _ (stops c.in-Stop-run_called.code) (λ floor p. here.follows floor (there.follows floor p)) r
 
 pub run_text-returns-in-Stop-run_called-clause-no_memory : goal.run_text-returns-in-Stop-run_called-clause-no_memory
 run_text-returns-in-Stop-run_called-clause-no_memory g t c h e = c.in-Call.ensures.quiet (c.running.invariant.quiet h)
@@ -130,44 +141,73 @@ run_text-returns-in-Over-clause-told g t c knows = c.running.invariant.watch kno
 pub run_text-returns-in-Over-run_called-clause-told : goal.run_text-returns-in-Over-run_called-clause-told
 run_text-returns-in-Over-run_called-clause-told g t c knows = c.in-Over-run_called.ensures.told (c.running.invariant.watch knows)
 
+pub run_text-returns-in-Fail-run_called-clause-told : goal.run_text-returns-in-Fail-run_called-clause-told
+run_text-returns-in-Fail-run_called-clause-told g t c knows =
+    let told = c.in-Fail-run_called.ensures.told (c.running.invariant.watch knows) in (
+      told.0,
+      told.1,
+      told.2,
+      λ o callers limit deep e.
+          let there = c.running.invariant.going o callers limit deep e in
+          let here = c.in-Call.ensures.leads o callers (limit ∙ sym c.running.invariant.counts.limit) there.going in
+          told.3 o callers (limit ∙ sym c.running.invariant.counts.limit ∙ sym c.in-Call.ensures.counts.limit) deep here.going,
+    )
+
 pub run_text-returns-in-Stop-run_called-clause-told : goal.run_text-returns-in-Stop-run_called-clause-told
 run_text-returns-in-Stop-run_called-clause-told g t c knows =
     let told = c.in-Stop-run_called.ensures.told (c.running.invariant.watch knows) in (
       told.0,
       told.1,
+      told.2,
       λ o callers limit deep e.
           let there = c.running.invariant.going o callers limit deep e in
           let here = c.in-Call.ensures.leads o callers (limit ∙ sym c.running.invariant.counts.limit) there.going in
-          told.2 o callers (limit ∙ sym c.running.invariant.counts.limit ∙ sym c.in-Call.ensures.counts.limit) deep here.going,
+          told.3 o callers (limit ∙ sym c.running.invariant.counts.limit ∙ sym c.in-Call.ensures.counts.limit) deep here.going,
+    )
+
+pub run_text-returns-in-Fail-clause-told : goal.run_text-returns-in-Fail-clause-told
+run_text-returns-in-Fail-clause-told g t c knows =
+    let told = c.stood.ensures (c.running.invariant.watch knows) in
+    let done = c.step.new.steps.done in (
+      told_here (done - 1) told.0 (cursor c.step.new.cursor).blocks,
+      told.2,
+      omega (arith, c.in-Fail.ensures.stood.0),
+      λ o callers limit deep e.
+          let there = c.running.invariant.going o callers limit deep e in
+          stood_told o (done - 1) c.running.cursor c.step.new.cursor callers told.0
+          (c.in-Fail.ensures.stood.1 o callers (limit ∙ sym c.running.invariant.counts.limit) there.going) c.in-Fail.ensures.text c.in-Fail.ensures.around.1 told.1,
     )
 
 pub run_text-returns-in-Stop-clause-told : goal.run_text-returns-in-Stop-clause-told
 run_text-returns-in-Stop-clause-told g t c knows =
-    let told = c.stopped.ensures (c.running.invariant.watch knows) in (
-      told_here told.0 (cursor c.step.new.cursor).blocks,
+    let told = c.stood-in-Stop.ensures (c.running.invariant.watch knows) in (
+      told_here c.step.new.steps.done told.0 (cursor c.step.new.cursor).blocks,
       told.2,
+      refl,
       λ o callers limit deep e.
           let there = c.running.invariant.going o callers limit deep e in
-          stopped_told o c.step.new.steps.done c.running.cursor c.step.new.cursor callers told.0
-          (c.in-Stop.ensures.stops o callers (limit ∙ sym c.running.invariant.counts.limit) there.going) c.in-Stop.ensures.text c.in-Stop.ensures.around told.1,
+          stood_told o c.step.new.steps.done c.running.cursor c.step.new.cursor callers told.0
+          (c.in-Stop.ensures.stood o callers (limit ∙ sym c.running.invariant.counts.limit) there.going) c.in-Stop.ensures.text c.in-Stop.ensures.around told.1,
     )
 
 pub run_called-returns-then-steps-clause-told : goal.run_called-returns-then-steps-clause-told
 run_called-returns-then-steps-clause-told g t c knows =
-    let told = c.stopped.ensures knows in (
-      told_here told.0 (cursor c.args.cursor.now).blocks,
+    let told = c.stood.ensures knows in (
+      told_here c.args.steps.now.done told.0 (cursor c.args.cursor.now).blocks,
       told.2,
+      refl,
       λ o callers limit deep e.
-          call_told_here o _ c.args.cursor.now c.args.q c.args.at told.0 callers e c.requires.token told.1,
+          call_told_here o _ c.args.cursor.now c.args.q c.args.at told.0 c.args.steps.now.done callers refl e c.requires.token told.1,
     )
 
 pub run_called-returns-in-Err-clause-told : goal.run_called-returns-in-Err-clause-told
 run_called-returns-in-Err-clause-told g t c knows =
-    let told = c.stopped-in-Err.ensures knows in (
-      told_here told.0 (cursor c.args.cursor.now).blocks,
+    let told = c.stood-in-Err.ensures knows in (
+      told_here c.args.steps.now.done told.0 (cursor c.args.cursor.now).blocks,
       told.2,
+      refl,
       λ o callers limit deep e.
-          call_told_here o _ c.args.cursor.now c.args.q c.args.at told.0 callers e c.requires.token told.1,
+          call_told_here o _ c.args.cursor.now c.args.q c.args.at told.0 c.args.steps.now.done callers refl e c.requires.token told.1,
     )
 
 pub run_copy-returns-then-depth-eq-CALL_LIMIT-clause-leads : goal.run_copy-returns-then-depth-eq-CALL_LIMIT-clause-leads
@@ -180,7 +220,16 @@ run_copy-returns-then-depth-eq-CALL_LIMIT-clause-leads g t c o callers limit dee
     (too_deep o h from c.args.called.now callers there.going (deep ∙ c.if-depth-eq-CALL_LIMIT.true) (omega (arith, limit, c.count.new.self.within, c.count.ensures.limit)))
 
 pub run_copy-returns-then-depth-eq-CALL_LIMIT-clause-told : goal.run_copy-returns-then-depth-eq-CALL_LIMIT-clause-told
-run_copy-returns-then-depth-eq-CALL_LIMIT-clause-told g t c knows = knows
+run_copy-returns-then-depth-eq-CALL_LIMIT-clause-told g t c knows =
+    let told = c.stood.ensures knows in
+    let before = c.count.new.self.done - 1 in
+    let same : before ≡ c.args.steps.now.done = omega (arith, c.count.ensures.done) in (
+      told_here before told.0 (cursor c.args.cursor.now).blocks,
+      told.2,
+      omega (arith, c.count.ensures.done),
+      λ o callers limit deep e.
+          call_told_here o _ c.args.cursor.now c.args.q c.args.at told.0 before callers same e c.requires.token told.1,
+    )
 
 pub run_copy-returns-in-Return-clause-leads : goal.run_copy-returns-in-Return-clause-leads
 run_copy-returns-in-Return-clause-leads g t c o callers limit deep e =
@@ -208,9 +257,24 @@ run_copy-returns-in-Over-clause-leads g t c o callers limit deep e =
     let fewer : length callers < 32 = omega (arith, deep, c.requires.deep, c.if-depth-eq-CALL_LIMIT.false) in
     let into = enters o h from c.args.called.now callers there.going fewer in
     let deeper : length (caller from ∷ callers) ≡ c.args.depth + 1 = omega (arith, deep) in
-    since o _ h k (reached_after_call (record from { args = left }) callers (ending.Over c.in-Over.code)) there.follows
-    (comes_home o h k (arguments left) from (record from { args = left }) callers refl refl (ending.Over c.in-Over.code)
+    since o _ h k (reached_after_call (record from { args = left }) callers ending.Over) there.follows
+    (comes_home o h k (arguments left) from (record from { args = left }) callers refl refl ending.Over
     (c.in-Over.ensures.leads o (caller from ∷ callers) (limit ∙ sym c.count.ensures.limit) deeper into.going))
+
+pub run_copy-returns-in-Fail-clause-leads : goal.run_copy-returns-in-Fail-clause-leads
+run_copy-returns-in-Fail-clause-leads g t c o callers limit deep e =
+    let from = c.args.cursor.now in
+    let left = c.run_text.new.args in
+    let h = host (g.D.Desk.state c.step_done.new.self) (g.D.Desk.follows c.step_done.new.self) (g.T.Terminal.screen c.args.term.now) c.count.new.self.done in
+    let k = host (g.D.Desk.state c.run_text.new.desk) (g.D.Desk.follows c.run_text.new.desk) (g.T.Terminal.screen c.run_text.new.term) c.run_text.new.steps.done in
+    let there = call_leads from c.args.q callers o _ e c.count.new.self.done c.count.ensures.done (g.D.Desk.state c.step_done.new.self) c.step_done.ensures.state (g.D.Desk.follows c.step_done.new.self)
+    (g.met.D.Desk.eases c.args.desk.now) c.step_done.ensures.follows c.args.called.now c.requires.copy in
+    let fewer : length callers < 32 = omega (arith, deep, c.requires.deep, c.if-depth-eq-CALL_LIMIT.false) in
+    let into = enters o h from c.args.called.now callers there.going fewer in
+    let deeper : length (caller from ∷ callers) ≡ c.args.depth + 1 = omega (arith, deep) in
+    since o _ h k (reached_after_call (record from { args = left }) callers (ending.Fail c.in-Fail.code)) there.follows
+    (comes_home o h k (arguments left) from (record from { args = left }) callers refl refl (ending.Fail c.in-Fail.code)
+    (c.in-Fail.ensures.leads o (caller from ∷ callers) (limit ∙ sym c.count.ensures.limit) deeper into.going))
 
 pub run_copy-returns-in-Stop-clause-leads : goal.run_copy-returns-in-Stop-clause-leads
 run_copy-returns-in-Stop-clause-leads g t c o callers limit deep e =
@@ -233,13 +297,14 @@ run_copy-returns-in-Return-clause-told g t c knows = c.in-Return.ensures.told kn
 pub run_copy-returns-in-Over-clause-told : goal.run_copy-returns-in-Over-clause-told
 run_copy-returns-in-Over-clause-told g t c knows = c.in-Over.ensures.told knows
 
-pub run_copy-returns-in-Stop-clause-told : goal.run_copy-returns-in-Stop-clause-told
-run_copy-returns-in-Stop-clause-told g t c knows =
+pub run_copy-returns-in-Fail-clause-told : goal.run_copy-returns-in-Fail-clause-told
+run_copy-returns-in-Fail-clause-told g t c knows =
     let from = c.args.cursor.now in
-    let told = c.in-Stop.ensures.told knows in
+    let told = c.in-Fail.ensures.told knows in
     let more = c.called.ensures told.0 told.1 in (
       with_call told.0 c.args.q more.0 (cursor from).blocks,
       more.2,
+      told.2,
       λ o callers limit deep e.
           let h = host (g.D.Desk.state c.step_done.new.self) (g.D.Desk.follows c.step_done.new.self) (g.T.Terminal.screen c.args.term.now) c.count.new.self.done in
           let there = call_leads from c.args.q callers o _ e c.count.new.self.done c.count.ensures.done (g.D.Desk.state c.step_done.new.self) c.step_done.ensures.state (g.D.Desk.follows c.step_done.new.self)
@@ -247,17 +312,39 @@ run_copy-returns-in-Stop-clause-told g t c knows =
           let fewer : length callers < 32 = omega (arith, deep, c.requires.deep, c.if-depth-eq-CALL_LIMIT.false) in
           let into = enters o h from c.args.called.now callers there.going fewer in
           let deeper : length (caller from ∷ callers) ≡ c.args.depth + 1 = omega (arith, deep) in
-          called_told o c.run_text.new.steps.done from c.args.q c.args.at more.0 callers told.0
-          (told.2 o (caller from ∷ callers) (limit ∙ sym c.count.ensures.limit) deeper into.going) c.requires.token more.1,
+          called_told o from c.args.q c.args.at more.0 callers told.0
+          (told.3 o (caller from ∷ callers) (limit ∙ sym c.count.ensures.limit) deeper into.going) c.requires.token more.1,
+    )
+
+pub run_copy-returns-in-Stop-clause-told : goal.run_copy-returns-in-Stop-clause-told
+run_copy-returns-in-Stop-clause-told g t c knows =
+    let from = c.args.cursor.now in
+    let told = c.in-Stop.ensures.told knows in
+    let more = c.called-in-Stop.ensures told.0 told.1 in (
+      with_call told.0 c.args.q more.0 (cursor from).blocks,
+      more.2,
+      told.2,
+      λ o callers limit deep e.
+          let h = host (g.D.Desk.state c.step_done.new.self) (g.D.Desk.follows c.step_done.new.self) (g.T.Terminal.screen c.args.term.now) c.count.new.self.done in
+          let there = call_leads from c.args.q callers o _ e c.count.new.self.done c.count.ensures.done (g.D.Desk.state c.step_done.new.self) c.step_done.ensures.state (g.D.Desk.follows c.step_done.new.self)
+          (g.met.D.Desk.eases c.args.desk.now) c.step_done.ensures.follows c.args.called.now c.requires.copy in
+          let fewer : length callers < 32 = omega (arith, deep, c.requires.deep, c.if-depth-eq-CALL_LIMIT.false) in
+          let into = enters o h from c.args.called.now callers there.going fewer in
+          let deeper : length (caller from ∷ callers) ≡ c.args.depth + 1 = omega (arith, deep) in
+          called_told o from c.args.q c.args.at more.0 callers told.0
+          (told.3 o (caller from ∷ callers) (limit ∙ sym c.count.ensures.limit) deeper into.going) c.requires.token more.1,
     )
 
 pub run_text-run_called-requires : goal.run_text-run_called-requires
 run_text-run_called-requires g t c =
     let to = c.step.new.cursor in
-    let token : IsReadAt to.text.now c.running.cursor.at (Some (register Macro c.in-Call.q)) (cursor to).left =
-    subst (λ x. IsReadAt x.now c.running.cursor.at (Some (register Macro c.in-Call.q)) (cursor to).left) (sym c.in-Call.ensures.text) c.in-Call.ensures.calls in
+    let token : IsReadAt to.text.now c.running.cursor.at (Some (call_token c.in-Call.q)) (cursor to).left =
+    subst (λ x. IsReadAt x.now c.running.cursor.at (Some (call_token c.in-Call.q)) (cursor to).left) (sym c.in-Call.ensures.text) c.in-Call.ensures.calls in
     let within : c.running.cursor.at ≤ length to.text.now = subst (λ x. c.running.cursor.at ≤ length x.now) (sym c.in-Call.ensures.text) c.running.cursor.within in
     search rules
 
-pub run_text-stopped-requires : goal.run_text-stopped-requires
-run_text-stopped-requires g t c = subst (λ x. c.running.cursor.at ≤ length x.now) (sym c.in-Stop.ensures.text) c.running.cursor.within
+pub run_text-stood-requires : goal.run_text-stood-requires
+run_text-stood-requires g t c = subst (λ x. c.running.cursor.at ≤ length x.now) (sym c.in-Fail.ensures.text) c.running.cursor.within
+
+pub run_text-stood-requires-in-Stop : goal.run_text-stood-requires-in-Stop
+run_text-stood-requires-in-Stop g t c = subst (λ x. c.running.cursor.at ≤ length x.now) (sym c.in-Stop.ensures.text) c.running.cursor.within

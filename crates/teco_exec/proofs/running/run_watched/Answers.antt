@@ -3,7 +3,7 @@ use Rattle.teco_core.specs.ArgumentsView.{arguments}
 use Rattle.teco_exec.specs.Running.{Origin}
 use Rattle.teco_exec.proofs.NoMemory.{ends_quietly}
 use Rattle.teco_exec.proofs.Continuations.{whole_begins, whole_ends}
-use Rattle.teco_exec.proofs.Placings.{tells_some, whole_place}
+use Rattle.teco_exec.proofs.Placings.{tells_last}
 use Rattle.teco_exec.proofs.StringLaws.{runs_exit}
 use Rattle.teco_exec.proofs.running.run_watched.Goals as goal
 
@@ -22,5 +22,7 @@ returns g c =
       exit = λ going over.
           runs_exit laws.exit laws.more_limit o.state o.text o.limit going c.code.result c.run_text-exit.new.steps.done ends.typed _
           (laws.within_limit o.state o.text o.limit) (laws.within_limit o.state o.text c.run_text-exit.new.steps.done) ends.runs over;
-      told = λ knows. tells_some c.run_text-exit.result (λ p from. whole_place o c.run_text-exit.new.steps.done p (from o [] refl refl begins)) (c.run_text-exit.ensures.told knows);
+      told = λ knows.
+          tells_last (g.W.Watch.knows c.run_text-exit.new.watch) _ o _ _ (arguments c.run_text-exit.new.args) c.run_text-exit.result c.code.result c.code.ensures (c.run_text-exit.ensures.leads o [] refl refl begins)
+          (λ p from. from o [] refl refl begins) (c.run_text-exit.ensures.told knows);
     }

@@ -2,7 +2,7 @@ use Rattle.std.proofs.Common.{refl, sym, ◌∙◌, arith}
 use Rattle.teco_exec.specs.Running.{reached_by_flow}
 use Rattle.teco_exec.proofs.Going.{limit_ends}
 use Rattle.teco_exec.proofs.Stepped.{block_leads, finishes, moves_on, unless_finishes}
-use Rattle.teco_exec.proofs.Standings.{unless_no_call, unless_no_stop}
+use Rattle.teco_exec.proofs.Standings.{flow_counted, unless_no_call, unless_stays}
 use Rattle.teco_exec.proofs.stepping.block_step.Goals as goal
 
 pub returns-then-steps-clause-leads : goal.returns-then-steps-clause-leads
@@ -15,8 +15,14 @@ returns-clause-leads g c screen o callers limit at =
     (reached_by_flow c.block_step-moved.new.self callers c.on_unless.result) (finishes c.block_step-moved.new.self callers c.on_unless.result (unless_finishes c.block_step-moved.result c.on_unless.result c.on_unless.ensures c.block_step-moved.ensures.finished))
     (λ now. moves_on callers now c.args.cursor.now c.block_step-moved.new.self c.block_step-moved.ensures.text c.block_step-moved.result c.on_unless.result c.on_unless.ensures _ c.block_step-moved.ensures.moves)
 
-pub returns-clause-stops : goal.returns-clause-stops
-returns-clause-stops g c = unless_no_stop _ c.block_step-moved.result c.on_unless.result c.on_unless.ensures
+pub returns-clause-stood : goal.returns-clause-stood
+returns-clause-stood g c =
+    flow_counted c.on_unless.result c.args.steps.now.done c.count.new.self.done c.count.ensures.done
+    (unless_finishes c.block_step-moved.result c.on_unless.result c.on_unless.ensures c.block_step-moved.ensures.finished)
+
+pub returns-clause-stays : goal.returns-clause-stays
+returns-clause-stays g c =
+    unless_stays c.args.cursor.now c.block_step-moved.new.self c.block_step-moved.result c.on_unless.result c.on_unless.ensures c.block_step-moved.ensures.stays
 
 pub returns-clause-calls : goal.returns-clause-calls
 returns-clause-calls g c = unless_no_call _ c.block_step-moved.result c.on_unless.result c.on_unless.ensures

@@ -27,11 +27,11 @@ returns-in-Out-clause-resumes c s callers now = ends_so callers now s c.args.cur
 pub returns-in-Error-clause-resumes : goal.returns-in-Error-clause-resumes
 returns-in-Error-clause-resumes c s callers now =
     let from = c.args.cursor.now in
-    subst (λ f. Comes (ready_of (after_step_end c.args.token.now.modifiers (item_of_kind from.text.now c.args.token.now.kind) (end_of s (name_in from.text.now c.args.token.now) c.args.next) (config from.text.now (cursor from) None callers now))) now (reached_by_flow from callers f)) (sym c.over.ensures)
+    subst (λ f. Comes (ready_of (after_step_end c.args.token.now.modifiers (item_of_kind from.text.now c.args.token.now.kind) (end_of s (name_in from.text.now c.args.token.now) c.args.next) (config from.text.now (cursor from) None callers now))) now (reached_by_flow from callers f)) (sym c.failed.ensures)
     (ends_so callers now s from c.args.token.now _ _ (over (Some c.in-Error.code)) c.in-Error.is (is_over callers now from (Some c.in-Error.code)))
 
 pub returns-in-Leave-clause-stays : goal.returns-in-Leave-clause-stays
-returns-in-Leave-clause-stays c = unless_stays c.args.cursor.now c.leave.new.self c.leave.result c.on_unless.result c.on_unless.ensures
+returns-in-Leave-clause-stays c = unless_stays c.args.cursor.now c.leave.new.self c.leave.result c.on_unless.result c.on_unless.ensures c.leave.ensures.stays
 
 pub returns-in-Go-clause-stays : goal.returns-in-Go-clause-stays
-returns-in-Go-clause-stays c = unless_stays c.args.cursor.now c.jump.new.self c.jump.result c.on_unless-in-Go.result c.on_unless-in-Go.ensures
+returns-in-Go-clause-stays c = unless_stays c.args.cursor.now c.jump.new.self c.jump.result c.on_unless-in-Go.result c.on_unless-in-Go.ensures c.jump.ensures.stays

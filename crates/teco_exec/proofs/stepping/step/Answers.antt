@@ -1,12 +1,12 @@
-use Rattle.std.proofs.Common.{[], None, Some, inr, length, subst, arith, ap, ◌∙◌}
-use Rattle.teco_exec.specs.Running.{at_cursor, at_block_step, at_return, at_token, goes, over, token_standing}
+use Rattle.std.proofs.Common.{[], None, inr, length, subst, arith, ap}
+use Rattle.teco_exec.specs.Running.{at_cursor, at_block_step, at_return, at_token, goes, stops, token_standing}
 use Rattle.teco_core.specs.ArgumentsView.{arguments}
 use Rattle.teco_exec.specs.Quiet.{QuietComing}
 use Rattle.teco_exec.specs.View.{IsStepFound, coming_of_found, cursor}
 use Rattle.teco_exec.proofs.Going.{settles}
 use Rattle.teco_exec.proofs.Continuations.{comes_block, comes_fault, comes_over, comes_token, passes_on, passes_short}
 use Rattle.teco_exec.proofs.NoMemory.{comes_quietly, kind_quietly}
-use Rattle.teco_exec.proofs.Standings.{block_stands, fault_stands, flow_blocks, flow_read, on_call, on_stop, token_is}
+use Rattle.teco_exec.proofs.Standings.{block_stands, fault_stands, flow_read, last_blocks, on_call, on_last, token_blocks, token_is}
 use Rattle.teco_exec.specs.declared.cursor.Cursor.{Cursor}
 use Rattle.teco_exec.specs.declared.moves.Coming.TheVariants.{Block, Step}
 use Rattle.teco_exec.proofs.stepping.step.Goals as goal
@@ -38,7 +38,7 @@ returns-in-End-clause-leads g c o callers limit at =
 
 pub returns-in-Fault-clause-leads : goal.returns-in-Fault-clause-leads
 returns-in-Fault-clause-leads g c o callers limit at =
-    settles o _ _ at (over (Some c.in-Fault.code)) c.in-Fault.ensures.told.0 (omega (arith, limit, c.args.steps.now.within))
+    settles o _ _ at (stops c.in-Fault.code) c.in-Fault.ensures.told.0 (omega (arith, limit, c.args.steps.now.within))
     (comes_fault c.block_laws.ensures c.args.cursor.now c.pass.new.self c.token_at-found.result callers c.in-Fault.code c.in-Fault.ensures.comes)
 
 pub returns-in-Block-clause-quiet : goal.returns-in-Block-clause-quiet
@@ -56,30 +56,32 @@ returns-in-Token-clause-quiet g c q =
 pub returns-in-Fault-clause-around : goal.returns-in-Fault-clause-around
 returns-in-Fault-clause-around g c = ap (λ (x : Cursor). (cursor x).blocks) c.in-Fault.ensures.told.1
 
-pub returns-in-Fault-clause-stops : goal.returns-in-Fault-clause-stops
-returns-in-Fault-clause-stops g c o callers limit at =
+pub returns-in-Fault-clause-stood : goal.returns-in-Fault-clause-stood
+returns-in-Fault-clause-stood g c o callers limit at =
     fault_stands c.block_laws.ensures o _ c.args.cursor.now c.pass.new.self c.token_at-found.result c.in-Fault.code callers c.in-Fault.ensures.comes at
 
 pub returns-in-Block-clause-around : goal.returns-in-Block-clause-around
 returns-in-Block-clause-around g c =
-    on_stop c.block_step.result (λ x. ap (λ (y : Cursor). (cursor y).blocks) (x.1 ∙ c.in-Block.ensures.told.2)) c.block_step.ensures.stops
+    last_blocks _ c.args.cursor.now c.pass.new.self c.block_step.new.cursor c.block_step.result c.block_step.new.steps.done c.block_step.ensures.text
+    (ap (λ (y : Cursor). (cursor y).blocks) c.in-Block.ensures.told.2) c.block_step.ensures.stood c.block_step.ensures.stays
 
 pub returns-in-Block-clause-calls : goal.returns-in-Block-clause-calls
 returns-in-Block-clause-calls g c = on_call c.block_step.result (λ q x. absurd x) c.block_step.ensures.calls
 
-pub returns-in-Block-clause-stops : goal.returns-in-Block-clause-stops
-returns-in-Block-clause-stops g c =
-    on_stop c.block_step.result (λ x o callers limit at.
-    block_stands o _ c.args.cursor.now c.pass.new.self c.in-Block.block c.in-Block.to c.block_step.new.steps.done callers x.0 c.in-Block.ensures.told.2
+pub returns-in-Block-clause-stood : goal.returns-in-Block-clause-stood
+returns-in-Block-clause-stood g c =
+    on_last c.block_step.result c.block_step.new.steps.done (λ k same o callers limit at.
+    block_stands o _ c.args.cursor.now c.pass.new.self c.in-Block.block c.in-Block.to k callers same c.in-Block.ensures.told.2
     (settles o _ _ at (goes (at_block_step c.pass.new.self c.in-Block.block c.in-Block.to callers)) tt (omega (arith, limit, c.args.steps.now.within))
-    (comes_block c.block_laws.ensures c.args.cursor.now c.pass.new.self c.token_at-found.result callers c.in-Block.ensures.told.2 c.in-Block.block c.in-Block.to c.in-Block.ensures.comes)).going) c.block_step.ensures.stops
+    (comes_block c.block_laws.ensures c.args.cursor.now c.pass.new.self c.token_at-found.result callers c.in-Block.ensures.told.2 c.in-Block.block c.in-Block.to c.in-Block.ensures.comes)).going) c.block_step.ensures.stood
 
 pub returns-in-Token-clause-around : goal.returns-in-Token-clause-around
 returns-in-Token-clause-around g c =
     let to = c.pass.new.self in
     let told = subst (λ f. IsStepFound to.text.now f) c.in-Token.is c.in-Step.ensures.told in
-    flow_blocks c.args.cursor.now to c.token_at-found.result c.in-Token.token c.in-Token.is c.token_at-found.ensures.read c.in-Step.ensures.comes c.in-Step.ensures.text (length to.text.now, told)
-    c.token_steps.new.cursor c.token_steps.result c.token_steps.ensures.text c.token_steps.ensures.stays
+    last_blocks _ c.args.cursor.now to c.token_steps.new.cursor c.token_steps.result c.token_steps.new.steps.done c.token_steps.ensures.text
+    (token_blocks c.args.cursor.now to c.token_at-found.result c.in-Token.token c.in-Token.is c.token_at-found.ensures.read c.in-Step.ensures.comes c.in-Step.ensures.text (length to.text.now, told))
+    c.token_steps.ensures.stood c.token_steps.ensures.stays
 
 pub returns-in-Token-clause-calls : goal.returns-in-Token-clause-calls
 returns-in-Token-clause-calls g c =
@@ -88,14 +90,14 @@ returns-in-Token-clause-calls g c =
     flow_read c.args.cursor.now to c.token_at-found.result c.in-Token.token c.in-Token.is c.token_at-found.ensures.read c.in-Step.ensures.comes c.in-Step.ensures.text (length to.text.now, told)
     c.token_steps.new.cursor c.token_steps.result c.token_steps.ensures.text c.token_steps.ensures.stays c.token_steps.ensures.calls
 
-pub returns-in-Token-clause-stops : goal.returns-in-Token-clause-stops
-returns-in-Token-clause-stops g c =
+pub returns-in-Token-clause-stood : goal.returns-in-Token-clause-stood
+returns-in-Token-clause-stood g c =
     let to = c.pass.new.self in
     let told = subst (λ f. IsStepFound to.text.now f) c.in-Token.is c.in-Step.ensures.told in
-    on_stop c.token_steps.result (λ h o callers limit at. record {
+    on_last c.token_steps.result c.token_steps.new.steps.done (λ k h o callers limit at. record {
       there = token_standing to c.in-Token.token callers;
       stands = h o callers limit
           (settles o _ _ at (goes (at_token to c.in-Token.token None callers)) tt (omega (arith, limit, c.args.steps.now.within))
           (comes_token c.block_laws.ensures c.args.cursor.now to c.token_at-found.result callers c.in-Step.ensures.text c.in-Token.token c.in-Token.is c.in-Step.ensures.comes)).going;
       is = token_is c.args.cursor.now to c.token_at-found.result c.in-Token.token c.in-Token.is c.token_at-found.ensures.read c.in-Step.ensures.comes c.in-Step.ensures.text (length to.text.now, told) callers;
-    }) c.token_steps.ensures.stops
+    }) c.token_steps.ensures.stood

@@ -5,7 +5,7 @@ use Rattle.teco_exec.specs.Running.{at_register_call, goes}
 use Rattle.teco_exec.specs.Tokens.{reached_by_progress}
 use Rattle.teco_exec.proofs.Going.{limit_ends, settles}
 use Rattle.teco_exec.proofs.Stepped.{calls_same, never_calls, token_fails, token_goes, progress_finishes}
-use Rattle.teco_exec.proofs.Standings.{no_call, no_stop, progress_stays_on}
+use Rattle.teco_exec.proofs.Standings.{counted, no_call, progress_stays_on}
 use Rattle.teco_exec.proofs.stepping.token_step.Goals as goal
 
 pub returns-in-Some-clause-leads : goal.returns-in-Some-clause-leads
@@ -44,8 +44,8 @@ resume-requires-clause-no_call g c q e =
 pub returns-clause-stays : goal.returns-clause-stays
 returns-clause-stays g c = progress_stays_on c.args.cursor.now _ c.resume.new.cursor c.resume.result (record { place = refl; frames = refl }) c.resume.ensures.stays
 
-pub returns-clause-stops : goal.returns-clause-stops
-returns-clause-stops g c = no_stop _ c.resume.result c.resume.ensures.finished
+pub returns-clause-stood : goal.returns-clause-stood
+returns-clause-stood g c = counted c.resume.result c.args.steps.now.done c.count.new.self.done c.count.ensures.done c.resume.ensures.finished
 
 pub returns-clause-calls : goal.returns-clause-calls
 returns-clause-calls g c = no_call _ c.resume.result c.resume.ensures.finished

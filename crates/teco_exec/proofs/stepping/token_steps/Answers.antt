@@ -2,7 +2,7 @@ use Rattle.std.proofs.Common.{◌≡◌, Some, true, subst, sym, ◌∙◌, arit
 use Rattle.teco_step.specs.Stepping.{takes_nothing_in}
 use Rattle.teco_exec.specs.Running.{at_token, reached_by_flow, goes}
 use Rattle.teco_exec.proofs.Going.{since}
-use Rattle.teco_exec.proofs.Standings.{flow_stays_on, on_stop, stays_on, token_stands}
+use Rattle.teco_exec.proofs.Standings.{flow_stays_on, on_last, stays_on, token_stands}
 use Rattle.teco_exec.proofs.stepping.token_steps.Goals as goal
 
 pub stepping-preserved : goal.stepping-preserved
@@ -24,7 +24,7 @@ returns-in-Done-clause-leads g c o callers limit at =
 pub returns-in-Done-clause-stays : goal.returns-in-Done-clause-stays
 returns-in-Done-clause-stays g c = flow_stays_on c.args.cursor.now c.stepping.cursor c.token_step.new.cursor c.in-Done.flow c.stepping.invariant.stays c.in-Done.ensures.stays
 
-pub returns-in-Done-clause-stops : goal.returns-in-Done-clause-stops
-returns-in-Done-clause-stops g c =
-    on_stop c.in-Done.flow (λ same o callers limit at.
-    token_stands c.args.token.now callers o _ c.stepping.cursor c.args.cursor.now c.stepping.work c.token_step.new.steps.done same (c.stepping.invariant.going o callers limit at).going c.stepping.invariant.text c.stepping.invariant.stays) c.in-Done.ensures.stops
+pub returns-in-Done-clause-stood : goal.returns-in-Done-clause-stood
+returns-in-Done-clause-stood g c =
+    on_last c.in-Done.flow c.token_step.new.steps.done (λ k same o callers limit at.
+    token_stands c.args.token.now callers o _ c.stepping.cursor c.args.cursor.now c.stepping.work k same (c.stepping.invariant.going o callers limit at).going c.stepping.invariant.text c.stepping.invariant.stays) c.in-Done.ensures.stood

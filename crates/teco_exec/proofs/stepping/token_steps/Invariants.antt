@@ -2,9 +2,9 @@ use Rattle.std.proofs.Common.{◌≡◌, ◌-◌, None, true, List}
 use Rattle.teco_step.specs.Stepping.{takes_nothing_in}
 use Rattle.teco_exec.specs.Machine.{Caller}
 use Rattle.teco_exec.specs.Quiet.{IsQuiet}
-use Rattle.teco_exec.specs.Running.{ReachesContinuation, RunGoesOn, Origin, Stays, at_token, host}
+use Rattle.teco_exec.specs.Running.{ReachesContinuation, RunGoesOn, Origin, at_token, host}
 use Rattle.teco_exec.specs.Tokens.{CountsSteps}
-use Rattle.teco_exec.specs.View.{cursor}
+use Rattle.teco_exec.specs.View.{Stays, cursor}
 use Rattle.teco_exec.proofs.stepping.token_steps.Given as goal
 
 abbrev pub invariant-stepping : goal.invariant-stepping

@@ -12,13 +12,13 @@ returns-else-is_err c p known =
     let more : c.push.new.self.items ≡ c.args.self.now.place.calls.items ++ call ∷ [] = search rules in (
       c.token_place.result,
       c.token_place.ensures,
-      λ memory. (
-        (known memory).0,
-        kept_call c.args.self.now.place c.push.new.self.items call (cursor at).blocks p (known memory).1 more (c.in-Ok.ensures ∙ sym (turns_same at.text.now at.blocks)),
+      (
+        known.0,
+        λ memory. kept_call c.args.self.now.place c.push.new.self.items call (cursor at).blocks p (known.1 memory) more (c.in-Ok.ensures ∙ sym (turns_same at.text.now at.blocks)),
       ),
     )
 
 pub returns-in-Err : goal.returns-in-Err
 returns-in-Err c p known =
     let h = has_place c.args.cursor.now.text.now c.args.at in
-    (h.0, h.1, λ memory. absurd (let no : true ≡ false = memory in cc))
+    (h.0, h.1, (known.0, λ memory. absurd (let no : true ≡ false = memory in cc)))

@@ -10,8 +10,8 @@ use Rattle.teco_session.specs.declared.entry.Entry.{Entry}
 use Rattle.teco_session.proofs.Histories.{Shows-nil}
 use Rattle.teco_session.proofs.Turning.{present_is}
 use Rattle.teco_session.proofs.Sessions.{Ran, session_noted, session_with}
-use Rattle.teco_session.proofs.session.Session.run.Given as given
-use Rattle.teco_session.proofs.session.Session.run.Goals as goal
+use Rattle.teco_session.proofs.session.Session.run_by.Given as given
+use Rattle.teco_session.proofs.session.Session.run_by.Goals as goal
 
 -- the history is the same where only a place was found
 same_history : (f : Full) (xs ys : List KeptString) (c : ℕ) (d e : Option ℕ) (s : KeptSession) → ys ≡ xs → e ≡ d → session_with f xs c d ≡ s → history_of (session_with f ys c e) ≡ history_of s
@@ -102,3 +102,7 @@ returns-clause-exit g c = λ going over.
     let done = λ (s : State). s.is_done in
     let last = present_is (session_now g c) (ran_now g c).holds.within in
     c.record_run-changes.ensures.exit (ap done (state_now g c) ∙ going) (sym (ap done last) ∙ over)
+
+pub returns-clause-tells : goal.returns-clause-tells
+returns-clause-tells g c =
+    subst (λ (s : State). g.R.Runner.tells c.record_run-changes.new.runner s c.args.text.now c.record_run-changes.result.1) (state_now g c) c.record_run-changes.ensures.tells

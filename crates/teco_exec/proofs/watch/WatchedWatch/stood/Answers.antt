@@ -2,20 +2,20 @@ use Rattle.std.proofs.Common.{◌≡◌, true, false, refl, sym, ◌∙◌}
 use Rattle.teco_exec.specs.View.{cursor}
 use Rattle.teco_exec.proofs.Placings.{has_place, kept_here}
 use Rattle.teco_exec.proofs.Turns.{turns_same}
-use Rattle.teco_exec.proofs.watch.WatchedWatch.stopped.Goals as goal
+use Rattle.teco_exec.proofs.watch.WatchedWatch.stood.Goals as goal
 
 pub returns-in-Ok : goal.returns-in-Ok
 returns-in-Ok c known =
     let at = c.args.cursor.now in (
       c.token_place-self.result,
       c.token_place-self.ensures,
-      λ memory. (
+      (
         refl,
-        kept_here c.token_place-self.result c.in-Ok.turns.items (cursor at).blocks c.args.self.now.place.calls.items (c.in-Ok.ensures ∙ sym (turns_same at.text.now at.blocks)) (known memory).1,
+        λ memory. kept_here c.args.steps c.token_place-self.result c.in-Ok.turns.items (cursor at).blocks c.args.self.now.place.calls.items (c.in-Ok.ensures ∙ sym (turns_same at.text.now at.blocks)) known.2,
       ),
     )
 
 pub returns-in-Err : goal.returns-in-Err
 returns-in-Err c known =
     let h = has_place c.args.cursor.now.text.now c.args.at in
-    (h.0, h.1, λ memory. absurd (let no : true ≡ false = memory in cc))
+    (h.0, h.1, (refl, λ memory. absurd (let no : true ≡ false = memory in cc)))
