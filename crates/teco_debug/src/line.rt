@@ -83,6 +83,7 @@ fn macro_arg<'a>(alloc: Global) -> Arg<'a> {
 fn command<'a>(alloc: Global) -> Result<Command<'a>, NoMemory> {
     Command::new(alloc, "teco-debug")
         .about("Walks over the steps of a TECO command string, forward and back")
+        .override_usage("teco-debug [OPTIONS] <MACRO>")
         .after_help("Commands are read from standard input, a line each; help lists them.")
         .arg(limit_arg(alloc))?
         .arg(input_arg(alloc))?

@@ -4,7 +4,7 @@ use crate::command::Command;
 use crate::finding::{Part, last_change};
 use crate::listing::{show_register, show_registers, show_state, show_text};
 use crate::moving::{ahead, behind};
-use crate::showing::{letter, show_step, show_where, standing_of};
+use crate::showing::{show_step, show_where};
 use crate::spelling::spell;
 use crate::spot::{Spot, spot_of};
 use crate::walk::Walk;
@@ -77,8 +77,8 @@ impl Debugger {
 
     fn arrive(&mut self, out: &mut String, n: u64) -> Result<(), NoMemory> {
         self.walk.go(n)?;
-        let here = standing_of(&self.walk)?;
-        show_step(out, &self.walk, &here)
+        let seen = self.walk.look(self.walk.steps())?;
+        show_step(out, &self.walk, &seen)
     }
 
     /// Takes back the last `n` moves.
@@ -123,6 +123,7 @@ impl Debugger {
                 return Ok(None);
             }
             if let Some(place) = &seen.place
+                && place.steps == n
                 && self.is_at(place, stop)
             {
                 return Ok(Some(n));

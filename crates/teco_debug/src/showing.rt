@@ -1,55 +1,15 @@
 //! Where a walk stands, shown.
-ghost use Rattle.std.specs.Prelude.{◌≡◌, ◌≤◌, IfOk, IfSome};
-ghost use Rattle.teco_exec.specs.Places.{IsPlaceAfter};
-ghost use Rattle.teco_exec.specs.Telling.{told_of};
-ghost use Rattle.teco_store.specs.State.{beginning};
-ghost use Rattle.teco_debug.specs.Walk.{meant};
 
 use crate::sentence::sentence;
 use crate::spelling::spell;
 use crate::spot::{line_end, line_start, spot_of};
-use crate::walk::Walk;
+use crate::walk::{Seen, Walk};
 use std::alloc::Global;
 use std::fmt::Write;
 use teco_core::{Code, NoMemory, Reg};
 use teco_exec::Place;
 use teco_scan::{Found, token_at};
 use teco_store::Desk;
-
-/// Where a walk stands: before a token, after one that failed, or at the end.
-#[derive(Drop)]
-pub struct Standing {
-    /// The steps before the token.
-    pub steps: u64,
-    /// None: at the end.
-    pub place: Option<Place>,
-    /// Why the string ends here, if it ends by a code; `Lim` where the token's step can come.
-    pub code: Option<Code>,
-}
-
-/// Where a walk stands. The place of a token that failed is the one before its step.
-pub fn standing_of(walk: &Walk) -> Result<Standing, NoMemory>
-    ensures place { IfOk result (λ here. IfSome here.place
-        (λ p. IsPlaceAfter (beginning walk.now.input) walk.now.text here.steps (told_of p))) }
-    ensures code { IfOk result
-        (λ here. here.code ≡ (meant walk.now.input walk.now.text walk.now.steps).code) }
-{
-    let seen = walk.look(walk.steps())?;
-    let code = seen.outcome.code;
-    if seen.place.is_some() || code.is_none() || walk.steps() == 0 {
-        return Ok(Standing {
-            steps: seen.outcome.steps,
-            place: seen.place,
-            code,
-        });
-    }
-    let before = walk.look(walk.steps() - 1)?;
-    Ok(Standing {
-        steps: before.outcome.steps,
-        place: before.place,
-        code,
-    })
-}
 
 /// The letter or the digit that names a register.
 pub fn letter(q: Reg) -> char {
@@ -100,14 +60,14 @@ fn show_spot(out: &mut String, text: &[u8], at: usize) -> Result<(), NoMemory> {
 }
 
 /// Shows the step, the place and the token, in a line.
-pub fn show_step(out: &mut String, walk: &Walk, here: &Standing) -> Result<(), NoMemory> {
+pub fn show_step(out: &mut String, walk: &Walk, seen: &Seen) -> Result<(), NoMemory> {
     let steps = walk.steps();
     write!(out, "step {steps}, ")?;
-    match &here.place {
+    match &seen.place {
         None => out.push_str("the end")?,
         Some(place) => show_token(out, walk, place)?,
     }
-    if let Some(code) = here.code
+    if let Some(code) = seen.outcome.code
         && code != Code::Lim
     {
         let said = sentence(code);
@@ -192,9 +152,9 @@ fn show_calls(out: &mut String, walk: &Walk, place: &Place) -> Result<(), NoMemo
 
 /// Shows where a walk stands: the step, the line with its token marked, the open calls and iterations.
 pub fn show_where(out: &mut String, walk: &Walk) -> Result<(), NoMemory> {
-    let here = standing_of(walk)?;
-    show_step(out, walk, &here)?;
-    match &here.place {
+    let seen = walk.look(walk.steps())?;
+    show_step(out, walk, &seen)?;
+    match &seen.place {
         Some(place) => {
             show_line(out, innermost(walk, place), place.at)?;
             show_calls(out, walk, place)

@@ -9,7 +9,7 @@ ghost use Rattle.teco_debug.specs.Walk.{SameString, lacks_memory, meant, state_t
 use std::alloc::Global;
 use std::marker::Model;
 use teco_core::{Code, NoMemory};
-use teco_exec::{Outcome, Place, meaning_laws, place_after};
+use teco_exec::{Outcome, Place, meaning_laws, run_where};
 use teco_session::{Answer, Session};
 use teco_step::MemoryTerminal;
 use teco_store::{Change, Editor};
@@ -36,7 +36,8 @@ impl Model for Walk {
     ghost invariant = { IsWalk };
 }
 
-/// What a run of the string from its beginning shows: how it ended, where it then stood, and what it typed.
+/// What a run of the string from its beginning shows: how it ended, what it typed, and where it last stood, which is at the token
+/// whose step comes, at a fault, or at the token whose step failed.
 #[derive(Drop)]
 pub struct Seen {
     pub outcome: Outcome,
@@ -173,13 +174,13 @@ impl Walk {
         let alloc = *self.input.allocator();
         let mut editor = Editor::new(Vec::from_slice(alloc, self.input.as_slice())?);
         let mut terminal = MemoryTerminal::new(alloc);
-        let stopped = place_after(&mut editor, self.text.as_slice(), n, &mut terminal, alloc)?;
+        let stopped = run_where(&mut editor, self.text.as_slice(), n, &mut terminal, alloc);
         if lacks_memory(stopped.outcome.code) {
             return Err(NoMemory);
         }
         Ok(Seen {
             outcome: stopped.outcome,
-            place: stopped.place,
+            place: stopped.place?,
             typed: terminal.take(),
         })
     }
