@@ -1,0 +1,193 @@
+//! The commands, a line each.
+ghost use Rattle.std.specs.List.{prefix_len, suffix_len};
+ghost use Rattle.std.specs.Prelude.{◌≡◌, ℕ, ◌≤◌, length, not, Result};
+ghost use Rattle.teco_debug.specs.Verb.{alone, colon_in, command_in, command_of, is_blank, number_or, part_in, register_in, spot_in, without_blanks_after, without_blanks_before};
+
+use crate::finding::Part;
+use crate::number::number_in;
+use crate::spot::Spot;
+use crate::verb::Verb;
+use teco_core::Reg;
+use thiserror::Error;
+
+/// What is asked.
+#[derive(Clone, Copy, Debug, PartialEq, Eq)]
+pub enum Command {
+    /// So many steps on.
+    Next(u64),
+    /// So many steps back.
+    Back(u64),
+    /// To this step.
+    Goto(u64),
+    End,
+    Start,
+    Where,
+    /// So many lines before and after the pointer.
+    Text(u64),
+    Register(Reg),
+    Registers,
+    State,
+    /// Back to before the last change of the part.
+    Find(Part),
+    /// The place to stop at.
+    Break(Spot),
+    /// On to that place.
+    Continue,
+    Typed,
+    /// So many moves taken back.
+    Undo(u64),
+    Help,
+    Quit,
+}
+
+/// Why a line is no command.
+#[derive(Clone, Copy, Debug, PartialEq, Eq, Error)]
+pub enum Fault {
+    #[error("no such command; help lists them")]
+    NoCommand,
+    #[error("a number is wanted")]
+    NoNumber,
+    #[error("a register is wanted, A to Z or 0 to 9")]
+    NoRegister,
+    #[error("a place is wanted, as LINE:COLUMN")]
+    NoPlace,
+    #[error("nothing is wanted after this command")]
+    TooMuch,
+}
+
+fn after_blanks(bytes: &[u8]) -> &[u8]
+    ensures { result.now ≡ without_blanks_before bytes.now }
+{
+    let mut start = 0;
+    while start < bytes.len() && bytes[start] <= b' ' {
+        start += 1;
+    }
+    &bytes[start..]
+}
+
+fn before_blanks(bytes: &[u8]) -> &[u8]
+    ensures { result.now ≡ without_blanks_after bytes.now }
+{
+    let mut end = bytes.len();
+    while end > 0 && bytes[end - 1] <= b' ' {
+        end -= 1;
+    }
+    &bytes[..end]
+}
+
+/// Where the first word ends.
+fn word_end(bytes: &[u8]) -> usize
+    ensures value { result ≡ prefix_len (λ b. not (is_blank b)) bytes.now }
+    ensures within { result ≤ length bytes.now }
+{
+    let mut end = 0;
+    while end < bytes.len() && bytes[end] > b' ' {
+        end += 1;
+    }
+    end
+}
+
+/// The number that the bytes say, or else the one that stands for no bytes.
+fn number_or(otherwise: u64, bytes: &[u8]) -> Result<u64, Fault>
+    ensures { result ≡ number_or otherwise bytes.now }
+{
+    if bytes.is_empty() {
+        return Ok(otherwise);
+    }
+    number_in(bytes)
+}
+
+/// A command that wants nothing after its verb.
+fn alone(command: Command, bytes: &[u8]) -> Result<Command, Fault>
+    ensures { result ≡ alone command bytes.now }
+{
+    if bytes.is_empty() {
+        return Ok(command);
+    }
+    Err(Fault::TooMuch)
+}
+
+fn register_in(bytes: &[u8]) -> Result<Reg, Fault>
+    ensures { result ≡ register_in bytes.now }
+{
+    match bytes {
+        [byte] => match Reg::of(*byte) {
+            Some(q) => Ok(q),
+            None => Err(Fault::NoRegister),
+        },
+        _ => Err(Fault::NoRegister),
+    }
+}
+
+fn part_in(bytes: &[u8]) -> Result<Part, Fault>
+    ensures { result ≡ part_in bytes.now }
+{
+    if bytes == b"text".as_slice() {
+        return Ok(Part::Buffer);
+    }
+    Ok(Part::Register(register_in(bytes)?))
+}
+
+/// Where the first colon is; the length where there is none.
+fn colon(bytes: &[u8]) -> usize
+    ensures value { result ≡ colon_in bytes.now }
+    ensures within { result ≤ length bytes.now }
+{
+    let mut at = 0;
+    while at < bytes.len() && bytes[at] != b':' {
+        at += 1;
+    }
+    at
+}
+
+fn spot_in(bytes: &[u8]) -> Result<Spot, Fault>
+    ensures { result ≡ spot_in bytes.now }
+{
+    let at = colon(bytes);
+    if at == bytes.len() {
+        return Err(Fault::NoPlace);
+    }
+    match (number_in(&bytes[..at]), number_in(&bytes[at + 1..])) {
+        (Ok(line), Ok(column)) => Ok(Spot { line, column }),
+        _ => Err(Fault::NoPlace),
+    }
+}
+
+/// The command of a verb with these bytes after it.
+fn command_in(verb: Verb, bytes: &[u8]) -> Result<Command, Fault>
+    ensures { result ≡ command_in verb bytes.now }
+{
+    match verb {
+        Verb::Next => Ok(Command::Next(number_or(1, bytes)?)),
+        Verb::Back => Ok(Command::Back(number_or(1, bytes)?)),
+        Verb::Goto => Ok(Command::Goto(number_in(bytes)?)),
+        Verb::End => alone(Command::End, bytes),
+        Verb::Start => alone(Command::Start, bytes),
+        Verb::Where => alone(Command::Where, bytes),
+        Verb::Text => Ok(Command::Text(number_or(3, bytes)?)),
+        Verb::Register => Ok(Command::Register(register_in(bytes)?)),
+        Verb::All => alone(Command::Registers, bytes),
+        Verb::State => alone(Command::State, bytes),
+        Verb::Find => Ok(Command::Find(part_in(bytes)?)),
+        Verb::Break => Ok(Command::Break(spot_in(bytes)?)),
+        Verb::Continue => alone(Command::Continue, bytes),
+        Verb::Typed => alone(Command::Typed, bytes),
+        Verb::Undo => Ok(Command::Undo(number_or(1, bytes)?)),
+        Verb::Help => alone(Command::Help, bytes),
+        Verb::Quit => alone(Command::Quit, bytes),
+    }
+}
+
+impl Command {
+    /// The command of a line: its first word tells which, and what comes after it is the operand. Blanks around both are passed.
+    pub fn of(line: &[u8]) -> Result<Command, Fault>
+        ensures { result ≡ command_of line.now }
+    {
+        let bytes = after_blanks(before_blanks(line));
+        let end = word_end(bytes);
+        match Verb::of(&bytes[..end]) {
+            Some(verb) => command_in(verb, after_blanks(&bytes[end..])),
+            None => Err(Fault::NoCommand),
+        }
+    }
+}

@@ -1,0 +1,52 @@
+//! Who changed a part of the state last.
+ghost use Rattle.std.specs.Prelude.{◌≡◌};
+ghost use Rattle.teco_debug.specs.Finding.{is_for, last_change, step_before};
+
+use teco_core::Reg;
+use teco_store::{Change, ChangeKind};
+
+/// A part of the state that is asked for.
+#[derive(Clone, Copy, Debug, PartialEq, Eq)]
+pub enum Part {
+    /// The text of the buffer.
+    Buffer,
+    Register(Reg),
+}
+
+/// Whether a change of this kind is for the part.
+fn is_for(part: &Part, kind: ChangeKind) -> bool
+    ensures { result ≡ is_for part.now kind }
+{
+    match (part, kind) {
+        (Part::Buffer, ChangeKind::Splice { .. }) => true,
+        (Part::Register(q), ChangeKind::Number(r) | ChangeKind::Text(r) | ChangeKind::Pop(r)) => {
+            r.index() == q.index()
+        }
+        _ => false,
+    }
+}
+
+/// The steps that were done before a change, if it is for the part.
+fn step_before(part: &Part, change: &Change) -> Option<u64>
+    ensures { result ≡ step_before part.now change.now }
+{
+    if is_for(part, change.kind()) {
+        Some(change.step())
+    } else {
+        None
+    }
+}
+
+/// The steps that were done before the last of the changes that is for the part, where one is.
+pub fn last_change(part: &Part, changes: &[Change]) -> Option<u64>
+    ensures { result ≡ last_change part.now changes.now }
+{
+    let mut left = changes.len();
+    while left > 0 {
+        left -= 1;
+        if let Some(step) = step_before(part, &changes[left]) {
+            return Some(step);
+        }
+    }
+    None
+}

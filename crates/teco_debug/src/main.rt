@@ -1,0 +1,31 @@
+//! The program: walks over the steps of a command string, forward and back, by commands on standard input.
+#![tactic(auto)]
+
+mod command;
+mod finding;
+mod line;
+mod listing;
+mod moving;
+mod number;
+mod program;
+mod reading;
+mod sentence;
+mod serving;
+mod showing;
+mod spelling;
+mod spot;
+mod verb;
+mod walk;
+
+use crate::program::program;
+use std::process::ExitCode;
+use teco_step::WriterTerminal;
+
+// That these are the program's words, streams and files is told by no contract.
+fn main(rt: HostRuntime) -> ExitCode {
+    program(
+        &rt,
+        &mut WriterTerminal::new(rt.stdout()),
+        &mut WriterTerminal::new(rt.stderr()),
+    )
+}

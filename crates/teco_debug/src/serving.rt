@@ -1,0 +1,243 @@
+//! The commands, served over a walk.
+
+use crate::command::Command;
+use crate::finding::{Part, last_change};
+use crate::listing::{show_register, show_registers, show_state, show_text};
+use crate::moving::{ahead, behind};
+use crate::showing::{show_step, show_where};
+use crate::spelling::spell;
+use crate::spot::{Spot, spot_of};
+use crate::walk::Walk;
+use std::alloc::Global;
+use std::fmt::Write;
+use std::io::BufRead;
+use teco_core::NoMemory;
+use teco_exec::Place;
+use teco_step::{Terminal, TerminalFault};
+
+/// What `help` shows.
+const HELP: &str = "next [N]         n  N steps on, 1 without N
+back [N]         b  N steps back, 1 without N
+goto N           g  to the step after N steps
+end              e  to the end of the string, or to the limit
+start            s  to the beginning
+where            w  the line with its token marked, the open calls and iterations
+text [N]         t  N lines of the buffer before and after the pointer, which is |>
+register R       r  what a register holds
+registers        i  the registers that hold anything
+state            a  pointer, input, output, search and flags
+find R           f  back to the step that changed register R last
+find text        f  back to the step that changed the buffer last
+break LINE:COL   k  notes a place of the string
+continue         c  on to the next step at that place
+typed            y  what was typed so far
+undo [N]         u  takes back the last N moves, 1 without N
+help             h  this list
+quit             q
+";
+
+/// The most steps that `continue` runs in all; each step that it looks at is run to from the beginning.
+const MOST_WORK: u64 = 100_000_000;
+
+/// How the serving ended.
+#[derive(Clone, Copy, Debug, PartialEq, Eq)]
+pub enum Served {
+    /// By `quit`, or at the end of the commands.
+    Quit,
+    ReadFault,
+    ShowFault,
+    NoMemory,
+}
+
+/// A walk, with what the commands need beside it.
+#[derive(Drop)]
+pub struct Debugger {
+    walk: Walk,
+    limit: u64,
+    moves: Vec<u64>,
+    stop: Option<Spot>,
+}
+
+impl Debugger {
+    pub fn new(walk: Walk, limit: u64) -> Debugger {
+        let moves = Vec::new(walk.alloc());
+        Debugger {
+            walk,
+            limit,
+            moves,
+            stop: None,
+        }
+    }
+
+    /// Goes to a step, and shows where the walk then stands.
+    fn go(&mut self, out: &mut String, n: u64) -> Result<(), NoMemory> {
+        self.moves.push(self.walk.steps())?;
+        self.arrive(out, n)
+    }
+
+    fn arrive(&mut self, out: &mut String, n: u64) -> Result<(), NoMemory> {
+        self.walk.go(n)?;
+        let seen = self.walk.look(self.walk.steps())?;
+        show_step(out, &self.walk, &seen)
+    }
+
+    /// Takes back the last `n` moves.
+    fn take_back(&mut self, out: &mut String, n: u64) -> Result<(), NoMemory> {
+        let mut to = None;
+        for _i in 0..n {
+            match self.moves.pop() {
+                Some(steps) => to = Some(steps),
+                None => break,
+            }
+        }
+        match to {
+            Some(steps) => self.arrive(out, steps),
+            None => out.push_str("no move to take back\n"),
+        }
+    }
+
+    /// Goes back to before the last change of a part, where one was made.
+    fn find(&mut self, out: &mut String, part: Part) -> Result<(), NoMemory> {
+        match last_change(&part, self.walk.changes()) {
+            Some(steps) => self.go(out, steps),
+            None => out.push_str("no step before this one changed it\n"),
+        }
+    }
+
+    /// Whether a place of a run is this one, with no call open.
+    fn is_at(&self, place: &Place, stop: Spot) -> bool {
+        let text = self.walk.text();
+        place.calls.is_empty() && place.at <= text.len() && spot_of(text, place.at) == stop
+    }
+
+    /// The first step from `from` on that is at the place to stop at; none, too, where the way there is too long.
+    fn next_stop(&self, from: u64, stop: Spot) -> Result<Option<u64>, NoMemory> {
+        let mut work = MOST_WORK;
+        for n in from..self.limit {
+            if n > work {
+                return Ok(None);
+            }
+            work -= n;
+            let seen = self.walk.look(n)?;
+            if seen.outcome.steps < n {
+                return Ok(None);
+            }
+            if let Some(place) = &seen.place
+                && place.steps == n
+                && self.is_at(place, stop)
+            {
+                return Ok(Some(n));
+            }
+        }
+        Ok(None)
+    }
+
+    fn go_on(&mut self, out: &mut String) -> Result<(), NoMemory> {
+        let Some(stop) = self.stop else {
+            return out.push_str("no place to stop at is noted\n");
+        };
+        match self.next_stop(self.walk.steps().saturating_add(1), stop)? {
+            Some(n) => self.go(out, n),
+            None => out.push_str("no step at that place comes, or it is too far\n"),
+        }
+    }
+
+    fn show_typed(&self, out: &mut String) -> Result<(), NoMemory> {
+        let seen = self.walk.look(self.walk.steps())?;
+        spell(out, seen.typed.as_slice())?;
+        out.push_str("\n")
+    }
+
+    /// Does a command that moves.
+    fn walk_by(&mut self, out: &mut String, command: Command) -> Result<(), NoMemory> {
+        let steps = self.walk.steps();
+        match command {
+            Command::Next(n) => self.go(out, ahead(steps, n, self.limit)),
+            Command::Back(n) => self.go(out, behind(steps, n)),
+            Command::Goto(n) => self.go(out, n.min(self.limit)),
+            Command::End => self.go(out, self.limit),
+            Command::Start => self.go(out, 0),
+            Command::Find(part) => self.find(out, part),
+            Command::Continue => self.go_on(out),
+            Command::Undo(n) => self.take_back(out, n),
+            _ => Ok(()),
+        }
+    }
+
+    /// Does a command.
+    fn answer(&mut self, out: &mut String, command: Command) -> Result<(), NoMemory> {
+        match command {
+            Command::Where => show_where(out, &self.walk),
+            Command::Text(n) => show_text(out, self.walk.editor(), n),
+            Command::Register(q) => show_register(out, self.walk.editor(), q),
+            Command::Registers => show_registers(out, self.walk.editor()),
+            Command::State => show_state(out, self.walk.editor()),
+            Command::Typed => self.show_typed(out),
+            Command::Help => out.push_str(HELP),
+            Command::Break(spot) => {
+                self.stop = Some(spot);
+                Ok(())
+            }
+            other => self.walk_by(out, other),
+        }
+    }
+
+    /// Answers a line; where memory is refused, it says so.
+    fn answer_line(&mut self, out: &mut String, line: &[u8]) -> Result<(), NoMemory> {
+        match Command::of(line) {
+            Ok(command) => {
+                if let Err(NoMemory) = self.answer(out, command) {
+                    let steps = self.walk.steps();
+                    writeln!(out, "no memory; the walk stands at step {steps}")?;
+                }
+                Ok(())
+            }
+            Err(fault) => writeln!(out, "{fault}"),
+        }
+    }
+}
+
+/// Shows the answer to a line.
+fn answer_shown<T: Terminal>(
+    alloc: Global,
+    debugger: &mut Debugger,
+    line: &[u8],
+    term: &mut T,
+) -> Option<Served> {
+    let mut out = String::new(alloc);
+    if let Err(NoMemory) = debugger.answer_line(&mut out, line) {
+        return Some(Served::NoMemory);
+    }
+    match term.put(out.as_bytes()) {
+        Ok(()) => None,
+        Err(TerminalFault) => Some(Served::ShowFault),
+    }
+}
+
+fn is_quit(line: &[u8]) -> bool {
+    Command::of(line) == Ok(Command::Quit)
+}
+
+/// Serves commands, a line each, until one is `quit` or none is left.
+pub fn serve<R: BufRead, T: Terminal>(
+    alloc: Global,
+    debugger: &mut Debugger,
+    commands: &mut R,
+    term: &mut T,
+) -> Served {
+    for _i in 0..u64::MAX {
+        let mut line = Vec::new(alloc);
+        match commands.read_until(b'\n', &mut line) {
+            Ok(0) => return Served::Quit,
+            Ok(_) => {}
+            Err(_) => return Served::ReadFault,
+        }
+        if is_quit(line.as_slice()) {
+            return Served::Quit;
+        }
+        if let Some(served) = answer_shown(alloc, debugger, line.as_slice(), term) {
+            return served;
+        }
+    }
+    Served::Quit
+}

@@ -1,0 +1,53 @@
+//! How bytes are spelled.
+ghost use Rattle.std.specs.Prelude.{◌≡◌, ◌<◌, ◌++◌, ◌∷◌, [], OnOk};
+ghost use Rattle.std.specs.String.{string_bytes};
+ghost use Rattle.teco_debug.specs.Spelling.{hex_digit, spelled, spelling};
+
+use teco_core::{ESC, NoMemory};
+
+fn hex_digit(n: u8) -> u8
+    requires { n < 16 }
+    ensures { result ≡ hex_digit n }
+{
+    if n < 10 { b'0' + n } else { b'A' - 10 + n }
+}
+
+fn push_byte(out: &mut String, byte: u8) -> Result<(), NoMemory>
+    requires { byte < 128 }
+    ensures { OnOk result (string_bytes out.new ≡ string_bytes out.old ++ byte ∷ []) }
+{
+    out.push(char::from(byte))
+}
+
+/// Spells a byte at the end of a text.
+pub fn spell_byte(out: &mut String, byte: u8) -> Result<(), NoMemory>
+    ensures { OnOk result (string_bytes out.new ≡ string_bytes out.old ++ spelling byte) }
+{
+    if byte == ESC {
+        return push_byte(out, b'$');
+    }
+    if byte < 32 {
+        push_byte(out, b'^')?;
+        return push_byte(out, byte + 64);
+    }
+    if byte < 127 {
+        return push_byte(out, byte);
+    }
+    if byte == 127 {
+        return out.push_str("^?");
+    }
+    push_byte(out, b'[')?;
+    push_byte(out, hex_digit(byte / 16))?;
+    push_byte(out, hex_digit(byte % 16))?;
+    push_byte(out, b']')
+}
+
+/// Spells bytes at the end of a text.
+pub fn spell(out: &mut String, bytes: &[u8]) -> Result<(), NoMemory>
+    ensures { OnOk result (string_bytes out.new ≡ string_bytes out.old ++ spelled bytes.now) }
+{
+    for byte in bytes {
+        spell_byte(out, *byte)?;
+    }
+    Ok(())
+}
