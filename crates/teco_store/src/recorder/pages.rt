@@ -154,7 +154,8 @@ impl Recorder {
             (page self.old.full.body) ≤ self.old.full.room + there }
         requires rises { self.old.full.body.output ≤ end }
         requires ends { (end ≤ length self.old.full.stored) × (end ≤ FILE_LIMIT) }
-        ensures full { self.new.full ≡ record self.old.full { body = brought self.old.full.body at there pointer end } }
+        ensures full { self.new.full
+            ≡ record self.old.full { body = brought self.old.full.body at there pointer end } }
         ensures goes { FollowsAfterChanges (there + length (page self.old.full.body)) 2 self.old self.new }
     {
         let page = self.editor().page();
