@@ -66,10 +66,10 @@ fn run_in(session: &mut Session, text: &[u8], limit: u64, room: &mut [u8]) -> (A
     (answered, term.count)
 }
 
-/// Runs a command string as `teco_run` does, and tells where it stopped: at its token that ended by a code, or before which the limit
-/// ended it. That is `at` in the string itself, and where macros were open there, the outermost call; `calls` were open.
+/// Runs a command string as `teco_run` does, and tells where it stopped: at the token that ended it by a code, or that comes next where
+/// the limit did. `at` is the place of that token in the string itself, or of the outermost call, where `calls` were open.
 ///
-/// NOWHERE where the string ended well or was not begun, or where memory lacks for the place: then it was run all the same.
+/// NOWHERE and 0 where the string ended well or was not begun; and where memory lacks for the place, though the string was run.
 #[unsafe(no_mangle)]
 pub extern "C" fn teco_where(
     t: &mut Teco,
