@@ -110,11 +110,10 @@ uint8_t teco_run(struct teco *t, const uint8_t *text, size_t n, uint64_t limit, 
 
 /*
  * Runs a command string just as teco_run does, and tells where it stopped. `at` is the place in the string itself: of the command that
- * ended it by a code, of the first one that can't be read, or of the one before which the limit or the want of memory ended it. It is no
- * more than n. Where `calls` isn't 0 it stopped inside of macros, of which so many were open; `at` is then the place of the outermost
- * call, as of the M in MA.
+ * ended it by a code, of the one that can't be read, or of the one that comes next where the limit ended it. It is no more than n. Where
+ * it stopped inside of macros, so many `calls` are open, and `at` is the place of the outermost one, as of the M in MA.
  * `at` is TECO_NOWHERE, and `calls` 0, where the string ended well or wasn't begun, on a closed handle, and where no memory was found for
- * the place: then it was run all the same. What is told is not kept: it is for the caller, who asks by this call in place of teco_run.
+ * the place: then it was run all the same. No call tells it later: who wants it calls this in place of teco_run.
  */
 uint8_t teco_where(struct teco *t, const uint8_t *text, size_t n, uint64_t limit, uint8_t *room, size_t size, size_t *made, uint64_t *steps,
     size_t *at, size_t *calls);

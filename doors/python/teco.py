@@ -16,8 +16,8 @@ KINDS = (None, "splice", "point", "number", "text", "push", "pop", "pages", "sea
 # text, and how many bytes the next turn takes out there and puts in: the undo of its string, or the redo where that is undone.
 Change = namedtuple("Change", "kind step name at gone came", defaults=(None, None, None, None))
 
-# Where a string stopped: the place of the command in the string itself. Where `calls` isn't 0 that is the outermost call of those macros,
-# so many, inside of which it stopped.
+# Where a string stopped: the place of the command in the string itself. Where it stopped inside of macros, so many `calls` are open, and
+# the command is the outermost of them.
 Place = namedtuple("Place", "at calls")
 NOWHERE = c_size_t(-1).value
 

@@ -47,8 +47,8 @@ pub struct Outcome {
     pub stop: Option<Stop>,
 }
 
-/// Where a command string stopped: at the command of this place in the string itself. Where `calls` isn't 0 that is the outermost call of
-/// those macros, so many, inside of which it stopped.
+/// Where a command string stopped: the place of the command in the string itself. Where it stopped inside of macros, so many `calls` are
+/// open, and the command is the outermost of them.
 #[derive(Clone, Copy, Debug, PartialEq, Eq)]
 pub struct Place {
     pub at: usize,
@@ -82,8 +82,8 @@ impl Session {
         })
     }
 
-    /// Runs a command string as [`Session::run`] does, and tells where it stopped: nowhere where it ended well or was not begun, or where no
-    /// memory is found for the place.
+    /// Runs a command string as [`Session::run`] does, and tells where it stopped: nowhere where it ended well or was not begun, or where
+    /// no memory is found for the place.
     pub fn run_where(&mut self, text: &[u8], limit: u64, room: usize) -> (Outcome, Option<Place>) {
         let (mut at, mut calls) = (0, 0);
         let outcome = ran(room, |typed, made, steps| unsafe {
