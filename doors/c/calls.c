@@ -19,7 +19,7 @@ static int failed;
     } while (0)
 
 static uint8_t room[64];
-static size_t n;
+static size_t n, at, calls;
 static uint64_t steps;
 
 static const uint8_t *bytes(const char *text)
@@ -30,6 +30,17 @@ static const uint8_t *bytes(const char *text)
 static uint8_t run(struct teco *t, const char *text, size_t size)
 {
     return teco_run(t, bytes(text), strlen(text), 1000, room, size, &n, &steps);
+}
+
+static uint8_t where(struct teco *t, const char *text, size_t size)
+{
+    return teco_where(t, bytes(text), strlen(text), 1000, room, size, &n, &steps, &at, &calls);
+}
+
+/* Whether a string stopped there, inside of so many macros. */
+static int stopped(size_t place, size_t macros)
+{
+    return at == place && calls == macros;
 }
 
 /* Whether the first bytes of the room, as many as were told, are these. */
@@ -73,6 +84,27 @@ static void runs(void)
     HOLDS(run(&t, "J", 0) == TECO_END && steps == 0);
     HOLDS(teco_strings(&t, &n) == 0 && n == 6);
     HOLDS(teco_undo(&t) == 0 && teco_done(&t) == 0);
+    teco_close(&t);
+}
+
+static void wheres(void)
+{
+    struct teco t = {0};
+    teco_open(&t, bytes(""), 0, 0);
+    HOLDS(where(&t, "Iab\0332+3=", 64) == 0 && has("5\r\n") && steps == 5 && stopped(TECO_NOWHERE, 0));
+    HOLDS(where(&t, "ZJ 9J", 64) == 20 && has("") && stopped(4, 0));
+    HOLDS(where(&t, "2=12=", 4) == TECO_TTY && has("2\r\n") && steps == 3 && stopped(4, 0));
+    HOLDS(where(&t, "J\r\nIx", 0) == 24 && steps == 1 && stopped(3, 0));
+    HOLDS(where(&t, "3<ZJ>8<C>", 0) == 20 && stopped(7, 0));
+    HOLDS(teco_where(&t, bytes("J2J"), 3, 2, room, 0, &n, &steps, &at, &calls) == 27 && steps == 2 && stopped(2, 0));
+    HOLDS(where(&t, "@^UA/J9J/", 0) == 0 && stopped(TECO_NOWHERE, 0));
+    HOLDS(where(&t, "ZJ MA", 0) == 20 && stopped(3, 1));
+    HOLDS(where(&t, "@^UB/2UB J J MA/ 7UC MB ZJ", 0) == 20 && stopped(21, 2));
+    HOLDS(where(&t, "@^UC/2=Ix/JMC", 64) == 24 && has("2\r\n") && stopped(11, 1));
+    HOLDS(where(&t, "", 0) == 0 && stopped(TECO_NOWHERE, 0));
+    HOLDS(teco_strings(&t, &n) == 0 && n == 11 && teco_undo(&t) == 0 && teco_rewind(&t, 0) == 0);
+    HOLDS(where(&t, "EX", 0) == 0 && stopped(TECO_NOWHERE, 0) && teco_done(&t) == 1);
+    HOLDS(where(&t, "9J", 0) == TECO_END && steps == 0 && stopped(TECO_NOWHERE, 0));
     teco_close(&t);
 }
 
@@ -178,6 +210,8 @@ static void closed(void)
     memset(room, '.', sizeof room);
     n = steps = 1;
     HOLDS(run(&t, "2=", 64) == TECO_CLOSED && n == 0 && steps == 0);
+    n = steps = at = calls = 1;
+    HOLDS(where(&t, "9J", 64) == TECO_CLOSED && n == 0 && steps == 0 && stopped(TECO_NOWHERE, 0));
     HOLDS(teco_undo(&t) == TECO_CLOSED && teco_redo(&t) == TECO_CLOSED && teco_rewind(&t, 0) == TECO_CLOSED);
     HOLDS(teco_strings(&t, &one) == TECO_CLOSED && one == 0);
     HOLDS((one = 1, teco_cursor(&t, &one)) == TECO_CLOSED && one == 0);
@@ -219,12 +253,13 @@ static int told(const struct teco *t)
 static void unwritten(void)
 {
     struct teco *t = mmap(NULL, sizeof *t, PROT_READ, MAP_PRIVATE | MAP_ANONYMOUS, -1, 0);
-    HOLDS(t != MAP_FAILED && told(t) == 0 && run(t, "Y", 64) == TECO_CLOSED);
+    HOLDS(t != MAP_FAILED && told(t) == 0 && run(t, "Y", 64) == TECO_CLOSED && where(t, "Y", 64) == TECO_CLOSED);
     HOLDS(teco_undo(t) == TECO_CLOSED && teco_redo(t) == TECO_CLOSED && teco_rewind(t, 0) == TECO_CLOSED);
     HOLDS(mprotect(t, sizeof *t, PROT_READ | PROT_WRITE) == 0 && teco_open(t, bytes("one"), 3, 0) == 0);
     HOLDS(mprotect(t, sizeof *t, PROT_READ) == 0);
     HOLDS(run(t, "YSe\033I.\033", 64) == 0 && told(t) == 20);
     HOLDS(teco_undo(t) == 0 && teco_redo(t) == 0 && teco_rewind(t, 1) == 0 && teco_undo(t) == 0);
+    HOLDS(where(t, "J9J", 64) == 20 && stopped(2, 0));
     HOLDS(mprotect(t, sizeof *t, PROT_READ | PROT_WRITE) == 0);
     teco_close(t);
     munmap(t, sizeof *t);
@@ -236,6 +271,7 @@ static void many(void)
         struct teco t = {0};
         HOLDS(teco_open(&t, bytes("in"), 2, (size_t)i % 3) == 0);
         HOLDS(run(&t, "YIab\033UA[A", 0) != TECO_MEM);
+        HOLDS(where(&t, "@^UA/3<9J>/2<MA>", 0) == 20 && stopped(13, 1));
         if (i % 2)
             teco_undo(&t);
         teco_close(&t);
@@ -246,6 +282,7 @@ int main(void)
 {
     opens();
     runs();
+    wheres();
     turns();
     looks();
     changes();

@@ -1,7 +1,8 @@
 /*
  * Refuses each growth of a session in turn, and compares what is left with a session in ample memory that runs as many steps. Each undo,
- * redo and rewind, and each call that looks, is made where every growth is refused, and asks for none. It wants allocator.c before the C
- * library's allocator. Prints what differs, and ends with status 1 where something does.
+ * redo and rewind, and each call that looks, is made where every growth is refused, and asks for none. All of it twice: with teco_run, and
+ * with teco_where, which lacks a place only where a growth is refused in its string. It wants allocator.c before the C library's allocator.
+ * Prints what differs, and ends with status 1 where something does.
  */
 #include "teco.h"
 #include <dlfcn.h>
@@ -11,7 +12,7 @@
 
 static void (*begin)(long from, long to);
 static long (*end)(void);
-static int failed;
+static int failed, asks_where;
 
 static const char *const strings[] = {
     "Y", "Iaaaa\0330J<Saa\033;%A\033>", "@^UA/^UAy\033Ix\033/MA", "[A[Q]B]C", "3UQ10<QQ=QQ+1UQ>", "JFSa\033a long text that takes a place of its own\033",
@@ -31,6 +32,14 @@ static uint8_t run(struct teco *t, int i, uint64_t limit, uint64_t *steps)
     uint8_t room[4096];
     size_t made;
     return teco_run(t, (const uint8_t *)strings[i], strlen(strings[i]), limit, room, sizeof room, &made, steps);
+}
+
+/* The same, and asks where it stopped. */
+static uint8_t run_where(struct teco *t, int i, uint64_t limit, uint64_t *steps, size_t *at)
+{
+    uint8_t room[4096];
+    size_t made, calls;
+    return teco_where(t, (const uint8_t *)strings[i], strlen(strings[i]), limit, room, sizeof room, &made, steps, at, &calls);
 }
 
 /* Whether two sessions show the same. */
@@ -87,9 +96,15 @@ static long try(long nth)
         wrong("a refused open is told or left otherwise", nth, -1);
     for (int i = 0; opened == 0 && i < STRINGS; i++) {
         uint64_t steps, as_many;
-        begin(nth - counted, nth - counted);
-        int code = run(&t, i, 40, &steps);
-        counted += end();
+        size_t at = TECO_NOWHERE;
+        long one = nth - counted;
+        begin(one, one);
+        int code = asks_where ? run_where(&t, i, 40, &steps, &at) : run(&t, i, 40, &steps);
+        long asked = end();
+        counted += asked;
+        int lacks = asks_where && (at == TECO_NOWHERE) != (code == 0);
+        if (lacks && (at != TECO_NOWHERE || one < 1 || one > asked))
+            wrong("where it stopped is not told", nth, i);
         if (code == TECO_NOT_BEGUN && steps != 0)
             wrong("a string that was not begun took steps", nth, i);
         if (code != TECO_NOT_BEGUN)
@@ -117,9 +132,12 @@ int main(void)
         puts("growths: allocator.c is not before the C library's allocator");
         return 2;
     }
-    long nth = 1;
-    while (nth < NEVER && try(nth) >= nth)
-        nth++;
-    printf("growths: %ld refused in turn: %s\n", nth - 1, failed ? "differs" : "ok");
-    return failed || nth < 20;
+    for (asks_where = 0; asks_where < 2; asks_where++) {
+        long nth = 1;
+        while (nth < NEVER && try(nth) >= nth)
+            nth++;
+        printf("growths: %ld refused in turn%s: %s\n", nth - 1, asks_where ? ", with places" : "", failed ? "differs" : "ok");
+        failed |= nth < 20;
+    }
+    return failed;
 }

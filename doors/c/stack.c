@@ -1,4 +1,4 @@
-/* Runs macros as deep as they go, in a thread with so many KB of stack. Prints the code by which the string ends. */
+/* Runs macros as deep as they go, in a thread with so many KB of stack, without and with their place. Prints the code by which both end. */
 #include "teco.h"
 #include <pthread.h>
 #include <stdio.h>
@@ -10,10 +10,13 @@ static void *deep(void *answer)
     static const char string[] = "@^UA/Ix\033MA/MA";
     struct teco t = {0};
     uint8_t room[16];
-    size_t made;
+    size_t made, at, calls;
     uint64_t steps;
-    *(int *)answer = teco_open(&t, (const uint8_t *)"", 0, 0);
-    *(int *)answer = teco_run(&t, (const uint8_t *)string, sizeof string - 1, 1000000, room, sizeof room, &made, &steps);
+    teco_open(&t, (const uint8_t *)"", 0, 0);
+    int code = teco_run(&t, (const uint8_t *)string, sizeof string - 1, 1000000, room, sizeof room, &made, &steps);
+    int again = teco_where(&t, (const uint8_t *)string, sizeof string - 1, 1000000, room, sizeof room, &made, &steps, &at, &calls);
+    if (again == code && at == sizeof string - 3 && calls == 32)
+        *(int *)answer = code;
     teco_undo(&t);
     teco_close(&t);
     return NULL;

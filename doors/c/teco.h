@@ -28,7 +28,8 @@
  * ANSWERS
  *   0 is success. 1 to 32 are the numbers of the codes by which a command string, or a call, ends; TECO_MEM, TECO_TTY, TECO_NTU,
  *   TECO_NTR and TECO_END are those that a call itself can lead to. Others are below. The four calls at the end answer 1 and 0 for yes
- *   and no. Each other call that answers something else than 0, and isn't teco_run, has changed nothing, told 0 and copied nothing.
+ *   and no. Each other call that answers something else than 0, and is neither teco_run nor teco_where, has changed nothing, told 0 and
+ *   copied nothing.
  *
  * THREADS AND SIGNALS
  *   A handle stays on the thread that opened it. Different handles share nothing, and may be in calls at the same time on different
@@ -65,6 +66,9 @@ enum {
     TECO_LARGE = 254,     /* the input is above TECO_INPUT_LIMIT */
     TECO_CLOSED = 255     /* the handle is closed */
 };
+
+/* The place of a string that ended well, or of which none is told. */
+#define TECO_NOWHERE SIZE_MAX
 
 /* What a change of a string is for. */
 enum {
@@ -103,6 +107,16 @@ void teco_close(struct teco *t);
  * A string that is begun drops those that are undone, and with a depth the oldest one where there is one too many.
  */
 uint8_t teco_run(struct teco *t, const uint8_t *text, size_t n, uint64_t limit, uint8_t *room, size_t size, size_t *made, uint64_t *steps);
+
+/*
+ * Runs a command string just as teco_run does, and tells where it stopped. `at` is the place in the string itself: of the command that
+ * ended it by a code, of the one that can't be read, or of the one that comes next where the limit ended it. It is no more than n. Where
+ * it stopped inside of macros, so many `calls` are open, and `at` is the place of the outermost one, as of the M in MA.
+ * `at` is TECO_NOWHERE, and `calls` 0, where the string ended well or wasn't begun, on a closed handle, and where no memory was found for
+ * the place: then it was run all the same. No call tells it later: who wants it calls this in place of teco_run.
+ */
+uint8_t teco_where(struct teco *t, const uint8_t *text, size_t n, uint64_t limit, uint8_t *room, size_t size, size_t *made, uint64_t *steps,
+    size_t *at, size_t *calls);
 
 /* Goes back to the state before the last string that isn't undone: 0 or TECO_NTU. Asks for no memory; may be made after an exit. */
 uint8_t teco_undo(struct teco *t);

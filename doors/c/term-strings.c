@@ -65,13 +65,37 @@ static enum fate say_last_steps(struct editor *editor)
     return say_steps(steps);
 }
 
-/* Shows the string that failed, and how many steps it took. Up to where it failed is to come: the library doesn't tell it yet. */
+static enum fate say_macros(size_t calls)
+{
+    char text[48];
+    (void)snprintf(text, sizeof text, "[inside %zu macro%s]\r\n", calls, calls == 1 ? "" : "s");
+    return shown(tty_say(text));
+}
+
+static bool is_one_of(const struct bytes *text, size_t at, const char *bytes)
+{
+    return at < text->count && text->at[at] != 0 && strchr(bytes, text->at[at]) != NULL;
+}
+
+/* The place behind the letters of the command at a place: its modifiers, one letter, and a second one after E, F and a caret. Where no
+   place is told, the end of the string. */
+static size_t behind_letters(const struct bytes *text, size_t at)
+{
+    while (is_one_of(text, at, ":@"))
+        at++;
+    size_t letters = is_one_of(text, at, "EFef^") ? 2 : 1;
+    return at < text->count && letters < text->count - at ? at + letters : text->count;
+}
+
+/* Shows the string that failed, up to and with the letters of the command where it stopped. */
 enum fate show_failed(const struct editor *editor)
 {
+    struct bytes front = editor->last;
+    front.count = behind_letters(&editor->last, editor->last_at);
     if (!tty_say("?\r\n"))
         return SHOW_FAULT;
-    enum fate fate = line_show_text(&editor->last);
-    return fate == GOES_ON ? say_steps(editor->last_steps) : fate;
+    enum fate fate = line_show_text(&front);
+    return fate == GOES_ON && editor->last_calls > 0 ? say_macros(editor->last_calls) : fate;
 }
 
 static enum fate say_code(struct editor *editor, uint8_t number)
@@ -129,7 +153,9 @@ static uint8_t repeat(struct teco *session, uint8_t (*call)(struct teco *), uint
 static enum fate run(struct editor *editor, const uint8_t *text, size_t n, uint8_t *code)
 {
     size_t made;
-    *code = teco_run(&editor->session, text, n, editor->options->limit, editor->room, ROOM, &made, &editor->last_steps);
+    uint64_t steps;
+    *code = teco_where(&editor->session, text, n, editor->options->limit, editor->room, ROOM, &made, &steps, &editor->last_at,
+        &editor->last_calls);
     if (!tty_show(editor->room, made))
         return SHOW_FAULT;
     return shown(made == 0 || editor->room[made - 1] == LINE_FEED || tty_say("\r\n"));
@@ -142,7 +168,8 @@ enum fate serve(struct editor *editor, const uint8_t *text, size_t n)
     uint64_t number;
     bool is_given;
     enum fate fate = GOES_ON;
-    editor->last_steps = 0;
+    editor->last_at = TECO_NOWHERE;
+    editor->last_calls = 0;
     switch (asks_history(text, n - 1, &number, &is_given)) {
     case '{': code = repeat(&editor->session, teco_undo, is_given ? number : 1); break;
     case '}': code = repeat(&editor->session, teco_redo, is_given ? number : 1); break;

@@ -101,19 +101,20 @@ struct editor {
     struct bytes input;
     struct line line;
     uint8_t *room;
-    struct bytes last;   /* the last string, */
-    uint64_t last_steps; /* and the steps that it took, */
-    bool has_failed;     /* if it ended by a code, and no key came after that */
-    bool has_asked;      /* whether to leave with edits, and no key came after that */
-    bool is_quoted;      /* the next key is a byte as it is */
-    bool is_pasted;      /* what comes is a paste, and so many of its last bytes may be the mark of its end */
+    struct bytes last; /* the last string, */
+    size_t last_at;    /* where it stopped, or TECO_NOWHERE, */
+    size_t last_calls; /* and how many macros were open there, */
+    bool has_failed;   /* if it ended by a code, and no key came after that */
+    bool has_asked;    /* whether to leave with edits, and no key came after that */
+    bool is_quoted;    /* the next key is a byte as it is */
+    bool is_pasted;    /* what comes is a paste, and so many of its last bytes may be the mark of its end */
     size_t matched;
 };
 
 /* Does what a string asks, which has the first ESC of its pair, and shows what it types and what there is to tell. */
 enum fate serve(struct editor *editor, const uint8_t *text, size_t n);
 
-/* Shows the last string, which failed. */
+/* Shows the last string, which failed, up to where it did. */
 enum fate show_failed(const struct editor *editor);
 
 /* Whether EX would write something else than INPUT has. */

@@ -1,4 +1,4 @@
-"""Opens a session, runs strings, undoes, and shows what differs between two states."""
+"""Opens a session, runs strings, undoes, shows what differs between two states, and marks where a string failed."""
 
 import difflib
 
@@ -34,6 +34,13 @@ with Session(b"apples 3\npears 5\nplums 8\n") as session:
     splice = next(change for change in session.changes(2) if change.kind == "splice")
     print(f"an undo takes {splice.gone} bytes out at {splice.at} and puts {splice.came} in")
     print("strings:", len(session.strings), "of them not undone:", session.cursor)
+
+    string = b"J3C99C"
+    code, typed, steps, place = session.run_where(string)
+    print(f"this ends by {code}, at the mark:")
+    print("   ", string.decode())
+    print("   ", " " * place.at + "^")
+    session.undo()
 
     for _ in range(3):
         session.undo()

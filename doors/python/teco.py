@@ -16,6 +16,11 @@ KINDS = (None, "splice", "point", "number", "text", "push", "pop", "pages", "sea
 # text, and how many bytes the next turn takes out there and puts in: the undo of its string, or the redo where that is undone.
 Change = namedtuple("Change", "kind step name at gone came", defaults=(None, None, None, None))
 
+# Where a string stopped: the place of the command in the string itself. Where it stopped inside of macros, so many `calls` are open, and
+# the command is the outermost of them.
+Place = namedtuple("Place", "at calls")
+NOWHERE = c_size_t(-1).value
+
 
 class Handle(ctypes.Structure):
     _fields_ = [("at", c_void_p)]
@@ -28,6 +33,7 @@ def _library():
     calls = {
         "open": [c_void_p, c_size_t, c_size_t],
         "run": [c_void_p, c_size_t, c_uint64, *room, size, word],
+        "where": [c_void_p, c_size_t, c_uint64, *room, size, word, size, size],
         "undo": [], "redo": [], "rewind": [c_uint64],
         "strings": [size], "cursor": [size], "steps": [c_size_t, word],
         "string": [c_size_t, *room, size], "changes": [c_size_t, size],
@@ -81,14 +87,23 @@ class Session:
         self._told(c_size_t, name, *arguments, room, length)
         return room.raw[:length]
 
-    def run(self, text, limit=1000000, room=65536):
-        """Runs a command string, and gives the number of its code, what it typed and its steps."""
+    def _run(self, name, text, limit, room, *told):
         typed, made, steps = ctypes.create_string_buffer(room + 1), c_size_t(), c_uint64()
-        answer = self._teco.teco_run(
-            byref(self._handle), text, len(text), limit, typed, room, byref(made), byref(steps))
+        answer = getattr(self._teco, "teco_" + name)(
+            byref(self._handle), text, len(text), limit, typed, room, byref(made), byref(steps), *told)
         if answer in (NOT_BEGUN, END, CLOSED):
             raise Refused(answer)
         return answer, typed.raw[:made.value], steps.value
+
+    def run(self, text, limit=1000000, room=65536):
+        """Runs a command string, and gives the number of its code, what it typed and its steps."""
+        return self._run("run", text, limit, room)
+
+    def run_where(self, text, limit=1000000, room=65536):
+        """Runs it just so, and gives also where it stopped: None where it ended well, or where no memory is found for the place."""
+        at, calls = c_size_t(), c_size_t()
+        ran = self._run("where", text, limit, room, byref(at), byref(calls))
+        return *ran, Place(at.value, calls.value) if at.value != NOWHERE else None
 
     def undo(self):
         self._call("undo")

@@ -19,6 +19,9 @@ pub const NOT_BEGUN: u8 = 252;
 /// There is no such string, change or splice, no such register, or no search text.
 pub const OUTSIDE: u8 = 251;
 
+/// The place of a string that did not stop before its end, or of which no place is told.
+pub const NOWHERE: usize = usize::MAX;
+
 /// The number that tells an answer: of its code, 0 where it has none, and one of its own where the string was not begun.
 pub fn number_of_answer(answer: Answer) -> u8
     ensures { result ≡ answer_number answer }

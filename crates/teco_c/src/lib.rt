@@ -10,5 +10,6 @@ mod handle;
 mod history;
 mod kinds;
 mod parts;
+mod places;
 mod room;
 mod state;

@@ -47,12 +47,21 @@ pub struct Outcome {
     pub stop: Option<Stop>,
 }
 
+/// Where a command string stopped: the place of the command in the string itself. Where it stopped inside of macros, so many `calls` are
+/// open, and the command is the outermost of them.
+#[derive(Clone, Copy, Debug, PartialEq, Eq)]
+pub struct Place {
+    pub at: usize,
+    pub calls: usize,
+}
+
 const SPLICE: u8 = 1;
 const MEM: u8 = 28;
 const END: u8 = 32;
 const NOT_BEGUN: u8 = 252;
 const DEEP: u8 = 253;
 const LARGE: u8 = 254;
+const NOWHERE: usize = usize::MAX;
 
 impl Session {
     /// A session over a copy of the input, that keeps the last `depth` strings, or all of them where that is 0.
@@ -68,19 +77,20 @@ impl Session {
 
     /// Runs a command string for at most `limit` steps. It can type `room` bytes; one that would type more ends by code 29, TTY.
     pub fn run(&mut self, text: &[u8], limit: u64, room: usize) -> Outcome {
-        let mut typed = vec![0; room];
-        let (mut made, mut steps) = (0, 0);
-        let code = unsafe {
-            raw::teco_run(&mut self.handle, text.as_ptr(), text.len(), limit, typed.as_mut_ptr(), room, &mut made, &mut steps)
-        };
-        typed.truncate(made);
-        let stop = match code {
-            0 => None,
-            END => Some(Stop::AfterExit),
-            NOT_BEGUN => Some(Stop::NotBegun),
-            code => Some(Stop::Code(code)),
-        };
-        Outcome { typed, steps, stop }
+        ran(room, |typed, made, steps| unsafe {
+            raw::teco_run(&mut self.handle, text.as_ptr(), text.len(), limit, typed, room, made, steps)
+        })
+    }
+
+    /// Runs a command string as [`Session::run`] does, and tells where it stopped: nowhere where it ended well or was not begun, or where
+    /// no memory is found for the place.
+    pub fn run_where(&mut self, text: &[u8], limit: u64, room: usize) -> (Outcome, Option<Place>) {
+        let (mut at, mut calls) = (0, 0);
+        let outcome = ran(room, |typed, made, steps| unsafe {
+            raw::teco_where(
+                &mut self.handle, text.as_ptr(), text.len(), limit, typed, room, made, steps, &mut at, &mut calls)
+        });
+        (outcome, (at != NOWHERE).then_some(Place { at, calls }))
     }
 
     /// Goes back by a string. Asks for no memory.
@@ -191,6 +201,21 @@ impl Session {
         call(&self.handle, bytes.as_mut_ptr(), length, &mut length);
         Some(bytes)
     }
+}
+
+/// What a string comes to that is run so, with room for so many bytes.
+fn ran(room: usize, call: impl FnOnce(*mut u8, *mut usize, *mut u64) -> u8) -> Outcome {
+    let mut typed = vec![0; room];
+    let (mut made, mut steps) = (0, 0);
+    let code = call(typed.as_mut_ptr(), &mut made, &mut steps);
+    typed.truncate(made);
+    let stop = match code {
+        0 => None,
+        END => Some(Stop::AfterExit),
+        NOT_BEGUN => Some(Stop::NotBegun),
+        code => Some(Stop::Code(code)),
+    };
+    Outcome { typed, steps, stop }
 }
 
 fn turned(answer: u8) -> Result<(), Nothing> {

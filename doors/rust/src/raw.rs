@@ -20,6 +20,18 @@ extern "C" {
         made: *mut usize,
         steps: *mut u64,
     ) -> u8;
+    pub fn teco_where(
+        t: *mut Handle,
+        text: *const u8,
+        n: usize,
+        limit: u64,
+        room: *mut u8,
+        size: usize,
+        made: *mut usize,
+        steps: *mut u64,
+        at: *mut usize,
+        calls: *mut usize,
+    ) -> u8;
     pub fn teco_undo(t: *mut Handle) -> u8;
     pub fn teco_redo(t: *mut Handle) -> u8;
     pub fn teco_rewind(t: *mut Handle, n: u64) -> u8;

@@ -1,4 +1,4 @@
-use teco::{Change, Kind, Nothing, OpenError, Session, Stop};
+use teco::{Change, Kind, Nothing, OpenError, Place, Session, Stop};
 
 const LIMIT: u64 = 1_000_000;
 
@@ -33,6 +33,17 @@ fn a_full_room_ends_the_string() {
     let mut session = Session::open(b"", 0).unwrap();
     let outcome = session.run(b"2=12=", LIMIT, 3);
     assert_eq!((outcome.stop, outcome.typed.as_slice()), (Some(Stop::Code(29)), b"2\r\n".as_slice()));
+}
+
+#[test]
+fn a_string_that_fails_tells_where() {
+    let mut session = Session::open(b"", 0).unwrap();
+    let (outcome, place) = session.run_where(b"2= Iab\x1b9J", LIMIT, 9);
+    assert_eq!((outcome.stop, outcome.typed.as_slice()), (Some(Stop::Code(20)), b"2\r\n".as_slice()));
+    assert_eq!(place, Some(Place { at: 8, calls: 0 }));
+    assert_eq!(session.run_where(b"@^UA/J9J/ MA", LIMIT, 0).1, Some(Place { at: 10, calls: 1 }));
+    assert_eq!(session.run_where(b"J", LIMIT, 0).1, None);
+    assert_eq!(session.strings(), 3);
 }
 
 #[test]
