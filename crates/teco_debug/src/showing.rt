@@ -7,7 +7,7 @@ use teco_core::{Code, NoMemory};
 use teco_exec::Place;
 use teco_store::Desk;
 use teco_telling::{
-    line_end, line_start, show_call, show_code, show_token, spell, text_under, token,
+    line_end, line_start, show_call, show_code, show_place, spell, text_under, token,
 };
 
 /// Where no token is, one byte is shown.
@@ -24,13 +24,7 @@ pub fn show_step(out: &mut String, walk: &Walk, seen: &Seen) -> Result<(), NoMem
     write!(out, "step {steps}, ")?;
     match &seen.place {
         None => out.push_str("the end")?,
-        Some(place) => show_token(
-            out,
-            place,
-            walk.editor().registers(),
-            walk.text(),
-            MOST_FAULTY,
-        )?,
+        Some(place) => show_token(out, walk, place)?,
     }
     if let Some(code) = seen.outcome.code
         && code != Code::Lim
@@ -38,6 +32,12 @@ pub fn show_step(out: &mut String, walk: &Walk, seen: &Seen) -> Result<(), NoMem
         show_code(out, code)?;
     }
     out.push_str("\n")
+}
+
+fn show_token(out: &mut String, walk: &Walk, place: &Place) -> Result<(), NoMemory> {
+    show_place(out, place, walk.editor().registers(), walk.text())?;
+    out.push_str(", ")?;
+    spell(out, token(innermost(walk, place), place.at, MOST_FAULTY))
 }
 
 fn push_many(out: &mut String, text: &str, n: usize) -> Result<(), NoMemory> {

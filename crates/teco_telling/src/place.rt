@@ -66,23 +66,18 @@ pub fn show_spot(out: &mut String, text: &[u8], at: usize) -> Result<(), NoMemor
     write!(out, "{spot}")
 }
 
-/// Shows the register whose text is run, if one is called, the place in the text that is run, and the token there; where none is, at
-/// most `most` bytes.
-pub fn show_token(
+/// Shows the register whose text is run, if one is called, and the place in the text that is run.
+pub fn show_place(
     out: &mut String,
     place: &Place,
     registers: &Registers,
     string: &[u8],
-    most: usize,
 ) -> Result<(), NoMemory> {
     if let Some(call) = place.calls.first() {
         let name = letter(call.register);
         write!(out, "{name} ")?;
     }
-    let text = text_under(place, 0, registers, string);
-    show_spot(out, text, place.at)?;
-    out.push_str(", ")?;
-    spell(out, token(text, place.at, most))
+    show_spot(out, text_under(place, 0, registers, string), place.at)
 }
 
 /// Shows the register and the place of an open call, of which `k` are later.
@@ -123,7 +118,16 @@ pub fn show_stop(
     if let Some(place) = place {
         let steps = place.steps;
         write!(out, ", step {steps}, ")?;
-        show_token(out, place, registers, string, MOST_FAULTY)?;
+        show_place(out, place, registers, string)?;
+        let token = token(
+            text_under(place, 0, registers, string),
+            place.at,
+            MOST_FAULTY,
+        );
+        if !token.is_empty() {
+            out.push_str(", ")?;
+            spell(out, token)?;
+        }
         for k in 0..place.calls.len() {
             out.push_str(", ")?;
             show_call(out, place, k, registers, string)?;

@@ -11,13 +11,15 @@ use std::process::ExitCode;
 use teco_core::NoMemory;
 use teco_step::MemoryTerminal;
 
-/// The words of a run, with blanks between them, the files before and after it, what it types, tells on standard error and ends with.
+/// The words of a run, with blanks between them, the files before and after it, what it types, tells on standard error, notes there
+/// besides and ends with.
 struct Run<'a> {
     words: &'a str,
     files: Files<'a>,
     after: Files<'a>,
     typed: &'a str,
     told: &'a str,
+    noted: &'a str,
     status: u8,
 }
 
@@ -33,6 +35,7 @@ fn runs_over(alloc: Global, disk: &mut MemoryDisk, run: &Run) -> bool {
     let mut commands = MemorySource::new(joined(alloc, &[UNREAD]), Vec::new(alloc), false);
     let mut term = MemoryTerminal::new(alloc);
     let mut errors = MemoryTerminal::new(alloc);
+    let mut notes = MemoryTerminal::new(alloc);
     let status = program(
         alloc,
         words_in(alloc, run.words),
@@ -40,11 +43,13 @@ fn runs_over(alloc: Global, disk: &mut MemoryDisk, run: &Run) -> bool {
         &mut commands,
         &mut term,
         &mut errors,
+        &mut notes,
         disk,
     );
     status == ExitCode::from(run.status)
         && term.bytes() == run.typed.as_bytes()
         && errors.bytes() == run.told.as_bytes()
+        && notes.bytes() == run.noted.as_bytes()
         && is_unread(&mut commands)
 }
 
@@ -64,6 +69,7 @@ const PAGE: Run = Run {
     after: &[IN, ("in.out", "hi\n")],
     typed: "3\r\n",
     told: "",
+    noted: "",
     status: 0,
 };
 

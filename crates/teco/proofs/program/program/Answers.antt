@@ -5,7 +5,7 @@ pub returns-in-Ok : goal.returns-in-Ok
 returns-in-Ok g c = inr (record {
   line = c.in-Ok.line;
   line_is = c.in-Ok.ensures.line;
-  fate = c.edit_by_line-fate.result;
-  run = c.edit_by_line-fate.ensures;
+  fate = c.edit_noted-fate.result;
+  run = c.edit_noted-fate.ensures.edits;
   end = c.conclude.ensures;
 })
