@@ -1,5 +1,5 @@
 //! What the program does, on any disk, terminal and commands.
-ghost use Rattle.std.specs.Prelude.{◌≡◌, ◌≤◌, ◌⊎◌, Some, codes, IfErr, IfOk, IfSome, OnErr, vec_len};
+ghost use Rattle.std.specs.Prelude.{◌≡◌, ◌≤◌, ◌⊎◌, Some, false, codes, IfErr, IfOk, IfSome, OnErr, vec_len};
 ghost use Rattle.std.specs.Process.{exit_status};
 ghost use Rattle.teco.specs.CommandLine.{IsDepth};
 ghost use Rattle.teco.specs.Disk.{Opens};
@@ -371,7 +371,8 @@ fn line_in(alloc: Global, words: Result<Vec<String>, LineFault>) -> Result<Line,
     }
 }
 
-/// Runs over the line of these words, and gives the status. The number is for the name of a draft.
+/// Runs over the line of these words, and gives the status. The number is for the name of a draft. The notes are for what the line asks
+/// to be explained.
 pub fn program<S: Source, T: Terminal, E: Terminal, N: Terminal, D: Disk>(
     alloc: Global,
     words: Result<Vec<String>, LineFault>,
@@ -382,7 +383,7 @@ pub fn program<S: Source, T: Terminal, E: Terminal, N: Terminal, D: Disk>(
     notes: &mut N,
     disk: &mut D,
 ) -> ExitCode
-    ensures { Refuses words ((commands.new ≡ commands.old) × (disk.new ≡ disk.old)) result
+    ensures run { Refuses words ((commands.new ≡ commands.old) × (disk.new ≡ disk.old)) result
         ⊎ RunsOver words
         (λ line fate. let seen = disk_seen D.files D.left D.gave
         (source_view D.Input.coming D.Input.bound D.Input.failures D.Input.ended) in
@@ -397,6 +398,7 @@ pub fn program<S: Source, T: Terminal, E: Terminal, N: Terminal, D: Disk>(
         (EditsByFile (D.gave disk.new) idle
         (λ name. RunsOn (seen disk.old).input (Opens (D.files disk.old) name) edits) fate))
         (λ line fate. Concludes line fate (E.screen errors.old) (E.screen errors.new) result) }
+    ensures silent { (line : Line) → IsLineIn words line → line.explain ≡ false → notes.new ≡ notes.old }
 {
     match line_in(alloc, words) {
         Ok(line) => {
