@@ -1,4 +1,4 @@
-use Rattle.std.proofs.Common.{◌≡◌, ◌+◌, ◌≤◌, length, take}
+use Rattle.std.proofs.Common.{◌≡◌, ◌+◌, ◌≤◌, take}
 use Rattle.std.specs.Prelude.{not}
 use Rattle.std.specs.List.{suffix_len}
 use Rattle.teco_telling.specs.Spot.{is_newline}
