@@ -39,6 +39,41 @@ fn show_message<T: Terminal>(answer: Answer, term: &mut T) -> Result<(), Termina
     }
 }
 
+/// Shows the message of what a string was answered, and lets the listener hear of the string.
+fn show_ending<T: Terminal, L: Listens>(
+    text: &[u8],
+    answered: &Answered,
+    session: &Session,
+    term: &mut T,
+    listener: &mut L,
+) -> Result<(), TerminalFault>
+    ensures puts { Puts (T.screen term.old) (T.screen term.new) (message answered.now.answer) result }
+    ensures some { OnErr result (message answered.now.answer ≢ []) }
+{
+    if let Err(TerminalFault) = show_message(answered.answer, term) {
+        return Err(TerminalFault);
+    }
+    listener.ran(text, answered, session);
+    Ok(())
+}
+
+/// Shows the message of a refusal, and lets the listener hear of it.
+fn show_refusal<T: Terminal, L: Listens>(
+    answer: Answer,
+    session: &Session,
+    term: &mut T,
+    listener: &mut L,
+) -> Result<(), TerminalFault>
+    ensures puts { Puts (T.screen term.old) (T.screen term.new) (message answer) result }
+    ensures some { OnErr result (message answer ≢ []) }
+{
+    if let Err(TerminalFault) = show_message(answer, term) {
+        return Err(TerminalFault);
+    }
+    listener.moved(answer.code(), session);
+    Ok(())
+}
+
 /// Shows a star, if one is wanted.
 pub fn show_prompt<T: Terminal>(prompt: bool, term: &mut T) -> Result<(), TerminalFault>
     ensures puts { Puts (T.screen term.old) (T.screen term.new) (star prompt) result }
@@ -65,9 +100,7 @@ fn repeat<T: Terminal, L: Listens>(
     'moves: for _i in 0..n {
         let answer = session.answer(request, limit, term);
         if answer.is_refused() {
-            show_message(answer, term)?;
-            listener.moved(answer.code(), session);
-            return Ok(());
+            return show_refusal(answer, session, term, listener);
         }
     }
     listener.moved(None, session);
@@ -116,9 +149,7 @@ fn run_text<T: Terminal, L: Listens>(
     if answered.answer.is_terminal_failure() {
         return Err(TerminalFault);
     }
-    show_message(answered.answer, term)?;
-    listener.ran(text, &answered, session);
-    Ok(())
+    show_ending(text, &answered, session, term, listener)
 }
 
 /// Does what a text asks, and shows the messages of the answers. No put follows one that failed. Where a run made the session done,
