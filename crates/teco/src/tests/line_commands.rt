@@ -2,13 +2,10 @@
 use super::assert_of;
 use super::bytes::joined;
 use super::program::{Files, disk_with, has_just, words_in};
-use crate::memory_disk::{MemoryDisk, Refused};
-use crate::memory_source::MemorySource;
-use crate::program::program;
-use crate::source::Source;
 use std::alloc::Global;
 use std::process::ExitCode;
 use teco_core::NoMemory;
+use teco_program::{MemoryDisk, MemorySource, Refused, Source, program};
 use teco_step::MemoryTerminal;
 
 /// The words of a run, with blanks between them, the files before and after it, what it types, tells on standard error, notes there

@@ -1,15 +1,20 @@
-//! Runs of the whole program: over files in memory, and what it says of files of the system that it cannot read or write.
+//! Of teco_program: its parts, and runs of the whole program over files in memory; what it says of files of the system that it cannot
+//! read or write.
 use super::bytes::joined;
-use crate::disk::Disk;
-use crate::file_disk::FileDisk;
-use crate::line::LineFault;
-use crate::memory_disk::{MemoryDisk, Refused};
-use crate::memory_source::MemorySource;
-use crate::program::program;
 use std::alloc::Global;
 use std::process::ExitCode;
 use teco_core::NoMemory;
+use teco_program::{Disk, FileDisk, LineFault, MemoryDisk, MemorySource, Refused, program};
 use teco_step::MemoryTerminal;
+
+mod ending;
+mod input;
+mod line;
+mod output;
+mod reader_source;
+mod serving;
+mod splitter;
+mod word;
 
 /// The words of a run, with blanks between them, its commands, and what it types, tells on standard error, notes there besides and ends with.
 struct Run<'a> {

@@ -1,9 +1,0 @@
-use Rattle.teco.specs.Disk.{Changes, Passes}
-use Rattle.teco.specs.Writing.{both, AddsDrafts, IsWriting}
-use Rattle.teco.proofs.output.replace_file.Given as goal
-
-abbrev pub invariant-drafts : goal.invariant-drafts
-invariant-drafts g l = record {
-  adds : Changes (g.D.Disk.files l.initial.disk) (g.D.Disk.files l.disk) (AddsDrafts l.file);
-  moments : Passes (g.D.Disk.files l.initial.disk) (g.D.Disk.left l.initial.disk) (g.D.Disk.left l.disk) (IsWriting l.file (both l.bytes));
-}

@@ -1,0 +1,354 @@
+//! What is typed and written at streams of commands, and how serving them ends.
+use crate::tests::bytes::are_both;
+use std::alloc::Global;
+use std::process::Abort;
+use teco_core::{DEPTH_LIMIT, FILE_LIMIT, NoMemory};
+use teco_program::{MemorySource, Served, Silent, serve};
+use teco_session::Session;
+use teco_step::MemoryTerminal;
+use teco_store::Desk;
+
+/// How a stream is served, and how that ends.
+#[derive(Clone, Copy)]
+struct How<'a> {
+    input: &'a str,
+    // how many strings the history keeps, if that is said
+    depth: Option<usize>,
+    limit: u64,
+    prompt: bool,
+    // whether the source fails in place of its end
+    fails: bool,
+    served: Served,
+    // how many strings are noted, if that is said
+    strings: Option<usize>,
+    // what is served after it in the same session, each to the end of its stream
+    then: &'a [Row<'a>],
+}
+
+/// Over an empty input, under a limit of 1000 steps, without a prompt, to the end of the stream.
+const PLAIN: How = How {
+    input: "",
+    depth: None,
+    limit: 1000,
+    prompt: false,
+    fails: false,
+    served: Served::EndOfCommands,
+    strings: None,
+    then: &[],
+};
+
+/// As plain, but the source fails in place of its end.
+const FAILED: How = How {
+    fails: true,
+    served: Served::ReadFault,
+    ..PLAIN
+};
+
+/// A stream, where `$` is ESC and a backquote the byte 5, and what serving it gives: what is typed, and what is written to the output.
+type Row<'a> = (&'a str, &'a str, &'a str);
+
+/// Rows that are served in the same way, each in a session of its own.
+type Group<'a> = (How<'a>, &'a [Row<'a>]);
+
+/// The bytes of a stream.
+fn bytes_of(alloc: Global, stream: &[u8]) -> Result<Vec<u8>, NoMemory> {
+    let mut bytes = Vec::from_slice(alloc, stream)?;
+    for byte in bytes.iter_mut() {
+        match *byte {
+            b'$' => *byte = 27,
+            b'`' => *byte = 5,
+            _ => {}
+        }
+    }
+    Ok(bytes)
+}
+
+/// The places at which so many bytes are cut into single ones, or none.
+fn cuts_of(alloc: Global, len: usize, single: bool) -> Result<Vec<usize>, NoMemory> {
+    let mut cuts = Vec::new(alloc);
+    if single {
+        for cut in 1..len {
+            cuts.push(cut)?;
+        }
+    }
+    Ok(cuts)
+}
+
+/// A stream as one piece, or in single bytes.
+fn source_of(
+    alloc: Global,
+    stream: &[u8],
+    single: bool,
+    fails: bool,
+) -> Result<MemorySource, NoMemory> {
+    let cuts = cuts_of(alloc, stream.len(), single)?;
+    let bytes = bytes_of(alloc, stream)?;
+    Ok(MemorySource::new(bytes, cuts, fails))
+}
+
+/// A session over an input, whose history has this depth, if one is given.
+fn session_over(alloc: Global, input: &str, depth: Option<usize>) -> Option<Session> {
+    let input = Vec::from_slice(alloc, input.as_bytes()).ok()?;
+    if input.len() > FILE_LIMIT {
+        return None;
+    }
+    match depth {
+        Some(depth) if 1 <= depth && depth <= DEPTH_LIMIT => Session::with_depth(input, depth).ok(),
+        Some(_) => None,
+        None => Some(Session::new(input)),
+    }
+}
+
+/// Whether a session has the row's output and notes so many strings, if that is said.
+fn is_left(session: &Session, how: &How, row: &Row) -> bool {
+    are_both(session.editor().output(), row.2.as_bytes())
+        && (how.strings.is_none() || how.strings == Some(session.strings()))
+}
+
+/// Whether serving a source in a session gives what the row says.
+fn serves(
+    alloc: Global,
+    source: &mut MemorySource,
+    session: &mut Session,
+    how: &How,
+    row: &Row,
+) -> bool {
+    let mut term = MemoryTerminal::new(alloc);
+    let served = serve(
+        alloc,
+        source,
+        session,
+        how.limit,
+        how.prompt,
+        &mut term,
+        &mut Silent,
+    );
+    served == how.served && term.bytes() == row.1.as_bytes() && is_left(session, how, row)
+}
+
+/// Whether serving the row's stream in a session gives what the row says.
+fn serves_in(alloc: Global, session: &mut Session, how: &How, row: &Row, single: bool) -> bool {
+    match source_of(alloc, row.0.as_bytes(), single, how.fails) {
+        Ok(mut source) => serves(alloc, &mut source, session, how, row),
+        Err(NoMemory) => false,
+    }
+}
+
+/// Whether the row holds in a session, and then what is served after it.
+fn serves_in_turn(
+    alloc: Global,
+    session: &mut Session,
+    how: &How,
+    row: &Row,
+    single: bool,
+) -> bool {
+    let mut held = serves_in(alloc, session, how, row, single);
+    let after = How {
+        served: Served::EndOfCommands,
+        ..*how
+    };
+    for row in how.then {
+        held = serves_in(alloc, session, &after, row, single) && held;
+    }
+    held
+}
+
+fn holds_once(alloc: Global, how: &How, row: &Row, single: bool, depth: Option<usize>) -> bool {
+    match session_over(alloc, how.input, depth) {
+        Some(mut session) => serves_in_turn(alloc, &mut session, how, row, single),
+        None => false,
+    }
+}
+
+/// Whether the row holds with its stream as one piece and in single bytes, and with a history that is deep enough for its strings.
+fn holds_in_each_way(alloc: Global, how: &How, row: &Row) -> bool {
+    holds_once(alloc, how, row, false, how.depth)
+        && holds_once(alloc, how, row, true, how.depth)
+        && holds_once(alloc, how, row, false, how.depth.or(Some(100)))
+}
+
+/// The row holds in each way; where memory was refused, a second time.
+fn holds(rt: &impl Abort, alloc: Global, how: &How, row: &Row) {
+    let held = holds_in_each_way(alloc, how, row) || holds_in_each_way(alloc, how, row);
+    assert!(rt; held, "{}", row.0);
+}
+
+fn all_hold(rt: &impl Abort, alloc: Global, groups: &[Group]) {
+    for (how, rows) in groups {
+        for row in *rows {
+            holds(rt, alloc, how, row);
+        }
+    }
+}
+
+static GROUPS: [Group<'static>; 16] = [
+    // Requests.
+    (
+        PLAIN,
+        &[
+            ("", "", ""),
+            ("Ia$", "", ""),
+            ("{$$", "?NTU\r\n", ""),
+            ("3}$$ 2{\r\n$$", "?NTR\r\n?NTU\r\n", ""),
+            ("Ia$${$$}$$}$$HT$$", "?NTR\r\na", ""),
+            ("Ia$$Ib$$3{$$Z=$$", "?NTU\r\n0\r\n", ""),
+            ("Ia$$Ib$$2{$$}$$HT$$", "a", ""),
+            ("Ia$$Ib$$2{$$Ic$${$$2}$$HT$$", "?NTR\r\nc", ""),
+            ("1=$$$2=$$2{$${$$", "1\r\n2\r\n?NTU\r\n", ""),
+        ],
+    ),
+    // At a prompt.
+    (
+        How {
+            prompt: true,
+            ..PLAIN
+        },
+        &[
+            ("", "*", ""),
+            ("{$$0}$$}$", "*?NTU\r\n**", ""),
+            ("1=$$", "*1\r\n*", ""),
+        ],
+    ),
+    // To the limit.
+    (
+        How { limit: 0, ..PLAIN },
+        &[("1=$${$${$$", "?LIM\r\n?NTU\r\n", "")],
+    ),
+    (How { limit: 5, ..PLAIN }, &[("!x!Ox$$", "?LIM\r\n", "")]),
+    (
+        How { limit: 33, ..PLAIN },
+        &[("@^UA/MA/MA$$", "?LIM\r\n", "")],
+    ),
+    (
+        How { limit: 34, ..PLAIN },
+        &[("@^UA/MA/MA$$", "?PDO\r\n", "")],
+    ),
+    // To a failed read; an exit comes before it.
+    (FAILED, &[("1=$$", "1\r\n", "")]),
+    (
+        How {
+            prompt: true,
+            ..FAILED
+        },
+        &[("}$$Ia$", "*?NTR\r\n*", "")],
+    ),
+    (
+        How {
+            served: Served::Exit,
+            ..FAILED
+        },
+        &[("EX$$1=$$", "", "")],
+    ),
+    // What a source gives before it fails is served as if it had ended there.
+    (
+        How {
+            strings: Some(0),
+            ..PLAIN
+        },
+        FRONTS_WITHOUT_STRINGS,
+    ),
+    (
+        How {
+            strings: Some(0),
+            ..FAILED
+        },
+        FRONTS_WITHOUT_STRINGS,
+    ),
+    (
+        How {
+            strings: Some(1),
+            ..PLAIN
+        },
+        FRONTS_WITH_ONE_STRING,
+    ),
+    (
+        How {
+            strings: Some(1),
+            ..FAILED
+        },
+        FRONTS_WITH_ONE_STRING,
+    ),
+    (
+        How {
+            strings: Some(2),
+            ..PLAIN
+        },
+        FRONTS_WITH_TWO_STRINGS,
+    ),
+    (
+        How {
+            strings: Some(2),
+            ..FAILED
+        },
+        FRONTS_WITH_TWO_STRINGS,
+    ),
+    // An exit, and what is served after it in the same session, where two steps are enough for each string.
+    (
+        How {
+            input: "a",
+            limit: 2,
+            served: Served::Exit,
+            then: &[
+                ("1=$$", "?END\r\n", "a"),
+                ("{$$1=$$}$$", "1\r\n?NTR\r\n", ""),
+            ],
+            ..PLAIN
+        },
+        &[("YEX$$", "", "a")],
+    ),
+];
+
+/// The beginnings of a stream that note no string.
+const FRONTS_WITHOUT_STRINGS: &[Row] = &[
+    ("", "", ""),
+    ("1", "", ""),
+    ("1=", "", ""),
+    ("1=$", "", ""),
+];
+
+/// Its beginnings that note one string.
+const FRONTS_WITH_ONE_STRING: &[Row] = &[
+    ("1=$$", "1\r\n", ""),
+    ("1=$${", "1\r\n", ""),
+    ("1=$${$", "1\r\n", ""),
+    ("1=$${$$", "1\r\n", ""),
+    ("1=$${$$3", "1\r\n", ""),
+    ("1=$${$$3<", "1\r\n", ""),
+    ("1=$${$$3<I", "1\r\n", ""),
+    ("1=$${$$3<Ix", "1\r\n", ""),
+    ("1=$${$$3<Ix$", "1\r\n", ""),
+    ("1=$${$$3<Ix$>", "1\r\n", ""),
+    ("1=$${$$3<Ix$>$", "1\r\n", ""),
+    ("1=$${$$3<Ix$>$$", "1\r\n", ""),
+    ("1=$${$$3<Ix$>$$}", "1\r\n", ""),
+    ("1=$${$$3<Ix$>$$}$", "1\r\n", ""),
+    ("1=$${$$3<Ix$>$$}$$", "1\r\n?NTR\r\n", ""),
+    ("1=$${$$3<Ix$>$$}$$.", "1\r\n?NTR\r\n", ""),
+    ("1=$${$$3<Ix$>$$}$$.=", "1\r\n?NTR\r\n", ""),
+    ("1=$${$$3<Ix$>$$}$$.=$", "1\r\n?NTR\r\n", ""),
+];
+
+/// Its beginnings that note two strings.
+const FRONTS_WITH_TWO_STRINGS: &[Row] = &[
+    ("1=$${$$3<Ix$>$$}$$.=$$", "1\r\n?NTR\r\n3\r\n", ""),
+    ("1=$${$$3<Ix$>$$}$$.=$$2", "1\r\n?NTR\r\n3\r\n", ""),
+    ("1=$${$$3<Ix$>$$}$$.=$$2{", "1\r\n?NTR\r\n3\r\n", ""),
+    ("1=$${$$3<Ix$>$$}$$.=$$2{$", "1\r\n?NTR\r\n3\r\n", ""),
+    ("1=$${$$3<Ix$>$$}$$.=$$2{$$", "1\r\n?NTR\r\n3\r\n", ""),
+];
+
+#[test]
+fn serves_requests(rt: HostRuntime) {
+    all_hold(&rt, rt.alloc(), &GROUPS);
+}
+
+mod commands;
+mod depths;
+mod documents;
+mod examples;
+mod failing;
+mod pages;
+mod programs;
+mod rewinds;
+mod searches;
+mod worked;

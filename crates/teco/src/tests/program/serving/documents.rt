@@ -1,0 +1,145 @@
+//! The examples of the pages in docs. `docs/rows --write` makes their tables.
+use super::{How, PLAIN, session_over, source_of};
+use crate::tests::assert_of;
+use crate::tests::bytes::are_both;
+use std::alloc::Global;
+use std::process::Abort;
+use std::test::*;
+use teco_core::NoMemory;
+use teco_program::{Served, Silent, serve};
+use teco_session::Session;
+use teco_step::MemoryTerminal;
+use teco_store::Desk;
+
+/// As a command line without options says.
+const LINE: How = How {
+    limit: 1_000_000,
+    ..PLAIN
+};
+
+const PROMPT: How = How {
+    prompt: true,
+    ..LINE
+};
+
+/// The input, the strings, where `$` is ESC and a backquote the byte 5, what is typed but for the bytes that the page does not tell,
+/// and the output, if they end by an exit.
+type Example<'a> = (&'a str, &'a str, &'a str, Option<&'a str>);
+
+/// Examples that are served in the same way, each in a session of its own.
+type Group<'a> = (How<'a>, &'a [Example<'a>]);
+
+/// The bytes that a page tells.
+fn told_of(alloc: Global, bytes: &[u8], untold: &[u8]) -> Result<Vec<u8>, NoMemory> {
+    let mut told = Vec::new(alloc);
+    for byte in bytes {
+        if !untold.contains(byte) {
+            told.push(*byte)?;
+        }
+    }
+    Ok(told)
+}
+
+/// Whether the bytes that a page tells are this text.
+fn are_told(alloc: Global, bytes: &[u8], text: &str, untold: &[u8]) -> bool {
+    match told_of(alloc, bytes, untold) {
+        Ok(told) => told.as_slice() == text.as_bytes(),
+        Err(NoMemory) => false,
+    }
+}
+
+/// Whether the strings ended by an exit with this output, or without an exit.
+fn is_ended(served: Served, session: &Session, output: Option<&str>) -> bool {
+    match output {
+        Some(output) => {
+            served == Served::Exit && are_both(session.editor().output(), output.as_bytes())
+        }
+        None => served == Served::EndOfCommands,
+    }
+}
+
+/// Whether the example holds with its strings as one piece or in single bytes.
+fn holds_once(alloc: Global, how: &How, example: &Example, single: bool, untold: &[u8]) -> bool {
+    let (input, strings, typed, output) = example;
+    let Some(mut session) = session_over(alloc, input, how.depth) else {
+        return false;
+    };
+    let Ok(mut source) = source_of(alloc, strings.as_bytes(), single, false) else {
+        return false;
+    };
+    let mut term = MemoryTerminal::new(alloc);
+    let served = serve(
+        alloc,
+        &mut source,
+        &mut session,
+        how.limit,
+        how.prompt,
+        &mut term,
+        &mut Silent,
+    );
+    are_told(alloc, term.bytes(), typed, untold) && is_ended(served, &session, *output)
+}
+
+fn holds(alloc: Global, how: &How, example: &Example, untold: &[u8]) -> bool {
+    holds_once(alloc, how, example, false, untold) && holds_once(alloc, how, example, true, untold)
+}
+
+/// Each example holds; where memory was refused, the second time.
+fn all_hold(rt: &impl Abort, alloc: Global, groups: &[Group], untold: &[u8]) {
+    for (how, examples) in groups {
+        for example in *examples {
+            let held = holds(alloc, how, example, untold) || holds(alloc, how, example, untold);
+            assert_of(rt, example.1, held);
+        }
+    }
+}
+
+/// A page does not tell the byte 13 of a line end.
+const RETURN: &[u8] = b"\r";
+
+/// A table does not tell what is between the words that are typed.
+const BETWEEN_WORDS: &[u8] = b"\r\n ";
+
+#[test]
+fn the_tour_tells_what_is_typed_and_written(rt: HostRuntime) {
+    all_hold(&rt, rt.alloc(), tour::EXAMPLES, RETURN);
+}
+
+#[test]
+fn the_cookbook_tells_what_is_typed_and_written(rt: HostRuntime) {
+    let parts = [
+        cookbook_replacing::EXAMPLES,
+        cookbook_lines::EXAMPLES,
+        cookbook_columns_and_fields::EXAMPLES,
+        cookbook_paragraphs::EXAMPLES,
+        cookbook_numbers::EXAMPLES,
+        cookbook_macros_and_bytes::EXAMPLES,
+        cookbook_pages::EXAMPLES,
+        cookbook_looking_and_taking_back::EXAMPLES,
+    ];
+    for part in parts {
+        all_hold(&rt, rt.alloc(), part, RETURN);
+    }
+}
+
+#[test]
+fn the_reference_tells_what_is_typed(rt: HostRuntime) {
+    all_hold(&rt, rt.alloc(), reference::EXAMPLES, BETWEEN_WORDS);
+}
+
+#[test]
+fn the_man_page_tells_what_is_typed_and_written(rt: HostRuntime) {
+    all_hold(&rt, rt.alloc(), man_page::EXAMPLES, RETURN);
+}
+
+mod cookbook_columns_and_fields;
+mod cookbook_lines;
+mod cookbook_looking_and_taking_back;
+mod cookbook_macros_and_bytes;
+mod cookbook_numbers;
+mod cookbook_pages;
+mod cookbook_paragraphs;
+mod cookbook_replacing;
+mod man_page;
+mod reference;
+mod tour;

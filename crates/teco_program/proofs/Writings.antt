@@ -1,0 +1,58 @@
+-- Writing a file by one draft after another.
+use Rattle.std.proofs.Common.{◌≡◌, ◌≢◌, inl, inr, ℕ, List, Option, refl, sym, ◌∙◌}
+use Rattle.teco_program.specs.Disk.{Changes, Files, IsWhole, LeavesFiles, Passes, Replaces}
+use Rattle.teco_program.specs.Draft.{draft_beside}
+use Rattle.teco_program.specs.Writing.{AddsDrafts, IsDraftOf, IsWriting, Writes}
+
+-- no draft yet
+pub adds_none : (file : List ℕ) (files : Option Files) → Changes files files (AddsDrafts file)
+adds_none file files before told = (before, told, record { same = refl; files = λ other there. refl; others = λ other apart. refl })
+
+pub passes_none : (moment : Files → Files → Type 0) (files : Option Files) (left : Files → Type 0) → Passes files left left moment
+passes_none moment files left before told now is = inl is
+
+module _ {file draft : List ℕ} (number : ℕ) (named : draft ≡ draft_beside file number) (differ : draft ≢ file) where
+  -- a name that is no draft's is not this draft's
+  apart_from : (other : List ℕ) → (IsDraftOf file other → ⊥) → other ≢ draft
+  apart_from other apart e = apart (number, e ∙ named)
+
+  more : {a b c : Files} → AddsDrafts file a b → LeavesFiles draft b c → AddsDrafts file a c
+  more p q = record {
+    same = q.others file (λ e. differ (sym e)) ∙ p.same;
+    files = λ other there. q.files other (λ none. there (sym (p.files other there) ∙ none)) ∙ p.files other there;
+    others = λ other apart. q.others other (apart_from other apart) ∙ p.others other apart;
+  }
+
+  pub adds_more : {a b c : Option Files} → Changes a b (AddsDrafts file) → Changes b c (LeavesFiles draft) → Changes a c (AddsDrafts file)
+  adds_more p q before told =
+      let mid = p before told in
+      let end = q mid.0 mid.1 in
+      (end.0, end.1, more mid.2 end.2)
+
+  replaced : {bytes : List ℕ} {a b c : Files} → AddsDrafts file a b → Replaces file bytes b c → Writes file bytes a c
+  replaced p q = record {
+    whole = q.whole;
+    files = λ other apart there. q.others other apart ∙ p.files other there;
+    others = λ other apart no_draft. q.others other apart ∙ p.others other no_draft;
+  }
+
+  pub writes_after : {bytes : List ℕ} {a b c : Option Files} → Changes a b (AddsDrafts file) → Changes b c (Replaces file bytes) → Changes a c (Writes file bytes)
+  writes_after p q before told =
+      let mid = p before told in
+      let end = q mid.0 mid.1 in
+      (end.0, end.1, replaced mid.2 end.2)
+
+  moment : {bytes : List ℕ} {a b c : Files} → AddsDrafts file a b → IsWhole file draft bytes b c → IsWriting file bytes a c
+  moment p q = record {
+    file_is = elim q.file_is [ inl was ↦ inl (was ∙ p.same) | inr all ↦ inr all ];
+    others = λ other apart no_draft. q.others other apart (apart_from other no_draft) ∙ p.others other no_draft;
+  }
+
+  pub passes_more : {bytes : List ℕ} {a b : Option Files} {l0 l1 l2 : Files → Type 0} → Changes a b (AddsDrafts file) → Passes a l0 l1 (IsWriting file bytes)
+      → Passes b l1 l2 (IsWhole file draft bytes) → Passes a l0 l2 (IsWriting file bytes)
+  passes_more adds passes next before told now is =
+      let mid = adds before told in
+      elim (next mid.0 mid.1 now is) [
+        | inl was ↦ passes before told now was
+        | inr new ↦ inr (moment mid.2 new)
+      ]

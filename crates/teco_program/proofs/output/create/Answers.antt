@@ -1,0 +1,20 @@
+use Rattle.teco_program.proofs.Disks.{but_then, creates_written, leaves_draft, others_created, passes_then, removed_or}
+use Rattle.teco_program.proofs.output.create.Goals as goal
+
+pub returns-in-Err-clause-moments : goal.returns-in-Err-clause-moments
+returns-in-Err-clause-moments g c =
+    let made = others_created c.in_ok-draft.ensures.ok in
+    passes_then (passes_then c.make.ensures.moments made c.fill.ensures.moments) (but_then made c.in-Err.ensures.err) c.remove.ensures.moments
+
+pub returns-in-Err-clause-err : goal.returns-in-Err-clause-err
+returns-in-Err-clause-err g c = leaves_draft c.in_ok-draft.ensures.ok c.in-Err.ensures.err c.remove.ensures.others
+
+pub returns-in-Err-clause-removed : goal.returns-in-Err-clause-removed
+returns-in-Err-clause-removed g c =
+    removed_or c.remove.result c.in_ok-draft.ensures.ok c.in-Err.ensures.err c.remove.ensures.ok c.remove.ensures.err
+
+pub returns-clause-ok : goal.returns-clause-ok
+returns-clause-ok g c = creates_written c.in_ok-draft.ensures.ok c.in_default.ensures.ok
+
+pub returns-clause-moments : goal.returns-clause-moments
+returns-clause-moments g c = passes_then c.make.ensures.moments (others_created c.in_ok-draft.ensures.ok) c.fill.ensures.moments

@@ -1,0 +1,19 @@
+use Rattle.teco_program.proofs.Disks.{passes_making, passes_renaming, leaves_draft, passes_removing, removed_or, same_but}
+use Rattle.teco_program.proofs.output.replace.Goals as goal
+
+pub returns-in_err-create-clause-moments : goal.returns-in_err-create-clause-moments
+returns-in_err-create-clause-moments g c = passes_making c.requires c.create.ensures.moments
+
+pub returns-in-Err-clause-removed : goal.returns-in-Err-clause-removed
+returns-in-Err-clause-removed g c =
+    removed_or c.remove.result c.in_ok-create.ensures.ok (same_but c.in-Err.ensures.err) c.remove.ensures.ok c.remove.ensures.err
+
+pub returns-in-Err-clause-moments : goal.returns-in-Err-clause-moments
+returns-in-Err-clause-moments g c =
+    passes_removing c.requires c.create.ensures.moments c.in_ok-create.ensures.ok (c.rename.ensures.moments c.in_ok-create.ensures.kept) c.in-Err.ensures.err c.remove.ensures.moments
+
+pub returns-clause-moments : goal.returns-clause-moments
+returns-clause-moments g c = passes_renaming c.requires c.create.ensures.moments c.in_ok-create.ensures.ok (c.rename.ensures.moments c.in_ok-create.ensures.kept)
+
+pub returns-in-Err-clause-err : goal.returns-in-Err-clause-err
+returns-in-Err-clause-err g c = leaves_draft c.in_ok-create.ensures.ok (same_but c.in-Err.ensures.err) c.remove.ensures.others

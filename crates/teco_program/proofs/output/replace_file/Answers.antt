@@ -1,0 +1,34 @@
+use Rattle.std.proofs.Common.{◌≡◌, ◌≢◌, ◌∙◌, sym}
+use Rattle.std.proofs.lemmas.Result.{on_err_weaker}
+use Rattle.teco_program.specs.Disk.{Changes, LeavesFiles}
+use Rattle.teco_program.specs.Writing.{AddsDrafts}
+use Rattle.teco_program.specs.Draft.{draft_beside}
+use Rattle.teco_program.proofs.Writings.{adds_more, passes_more}
+use Rattle.teco_program.proofs.output.replace_file.Goals as goal
+use Rattle.teco_program.proofs.output.replace_file.Goals.{in_default-via-in-Err+else-eq, in_default-via-in-Ok-1}
+
+pub returns-in_default-clause-err : goal.returns-in_default-clause-err
+returns-in_default-clause-err g c =
+    let named : c.as_str.result.now ≡ draft_beside c.args.file.now c.drafts.draft_number = c.as_str.ensures.value ∙ c.in_ok-draft.ensures.named in
+    let differ : c.as_str.result.now ≢ c.args.file.now = λ e. c.in_ok-draft.ensures.another (sym c.as_str.ensures.value ∙ e) in
+    elim c.in_default-1.branch [
+      | in_default-via-in-Err+else-eq w ↦ rw w.done-is (adds_more c.drafts.draft_number named differ c.drafts.invariant.adds w.in-Err.ensures.err)
+      | in_default-via-in-Ok-1 w ↦ rw w.done-is (on_err_weaker {P = Changes (g.D.Disk.files c.drafts.disk) (g.D.Disk.files c.replace.new.disk) (LeavesFiles c.as_str.result.now)}
+          {Q = Changes (g.D.Disk.files c.args.disk.now) (g.D.Disk.files c.replace.new.disk) (AddsDrafts c.args.file.now)}
+          c.replace.result (adds_more c.drafts.draft_number named differ c.drafts.invariant.adds) c.replace.ensures.err)
+    ]
+
+pub returns-in_default-clause-moments : goal.returns-in_default-clause-moments
+returns-in_default-clause-moments g c =
+    let named : c.as_str.result.now ≡ draft_beside c.args.file.now c.drafts.draft_number = c.as_str.ensures.value ∙ c.in_ok-draft.ensures.named in
+    let differ : c.as_str.result.now ≢ c.args.file.now = λ e. c.in_ok-draft.ensures.another (sym c.as_str.ensures.value ∙ e) in
+    passes_more c.drafts.draft_number named differ c.drafts.invariant.adds c.drafts.invariant.moments c.replace.ensures.moments
+
+pub drafts-preserved : goal.drafts-preserved
+drafts-preserved g c =
+    let named : c.as_str.result.now ≡ draft_beside c.args.file.now c.drafts.draft_number = c.as_str.ensures.value ∙ c.in_ok-draft.ensures.named in
+    let differ : c.as_str.result.now ≢ c.args.file.now = λ e. c.in_ok-draft.ensures.another (sym c.as_str.ensures.value ∙ e) in
+    record {
+      adds = adds_more c.drafts.draft_number named differ c.drafts.invariant.adds c.in-Err.ensures.err;
+      moments = passes_more c.drafts.draft_number named differ c.drafts.invariant.adds c.drafts.invariant.moments c.replace.ensures.moments;
+    }

@@ -1,0 +1,8 @@
+use Rattle.teco_program.proofs.Disks.{appends_if, others_appended, passes_then}
+use Rattle.teco_program.proofs.output.write_both.Goals as goal
+
+pub returns-clause-ok : goal.returns-clause-ok
+returns-clause-ok g c = appends_if c.args.bytes.1.now (g.D.Disk.files c.write-2.new.self) c.write-2.result c.in_ok-write.ensures.ok c.write-2.ensures.ok
+
+pub returns-clause-moments : goal.returns-clause-moments
+returns-clause-moments g c = passes_then c.write.ensures.moments (others_appended c.in_ok-write.ensures.ok) c.write-2.ensures.moments

@@ -1,0 +1,63 @@
+-- What a run sees of its disk, its commands and its terminal.
+use Rattle.std.specs.Prelude.{◌≡◌, ℕ, List, Option, Bool}
+use Rattle.std.specs.declared.io.Error.{Error}
+use Rattle.teco_program.specs.Disk.{Files}
+use Rattle.teco_program.specs.Source.{Gives, HasEnded}
+use Rattle.teco_step.specs.Terminal.{Screen, Shows}
+
+-- how a source is seen at each of its states
+pub record SourceView (S : Type 0) : Type 0 where
+  -- the bytes still to come, where the source tells them
+  pub coming : S → Option (List ℕ)
+  -- no more bytes than this come
+  pub bound : S → ℕ
+  -- how often a read has failed, modulo 2^64
+  pub failures : S → ℕ
+  -- it has come to its end
+  pub ended : S → Bool
+
+abbrev pub source_view : {S : Type 0} → (S → Option (List ℕ)) → (S → ℕ) → (S → ℕ) → (S → Bool) → SourceView S
+source_view coming bound failures ended =
+    record { coming = coming; bound = bound; failures = failures; ended = ended }
+
+-- what is seen of a disk at a moment; `I` is what its files are read from
+pub record DiskSeen (I : Type 0) : Type 1 where
+  -- the files, where the disk tells them
+  pub files : Option Files
+  -- what a crash at some moment so far might have left
+  pub left : Files → Type 0
+  -- which errors its calls have given
+  pub gave : Error → Type 0
+  -- how a file that it has opened is seen
+  pub input : SourceView I
+
+abbrev pub disk_seen : {D I : Type 0} → (D → Option Files) → (D → Files → Type 0) → (D → Error → Type 0)
+    → SourceView I → D → DiskSeen I
+disk_seen files left gave input disk =
+    record { files = files disk; left = left disk; gave = gave disk; input = input }
+
+-- what is seen of the commands of a run
+pub record CommandsSeen : Type 1 where
+  -- nothing was read of them
+  pub still : Type 0
+  -- which bytes their source gave, and whether a read failed
+  pub gave : List ℕ → Bool → Type 0
+  -- their source has ended
+  pub ended : Type 0
+
+abbrev pub commands_seen : {S : Type 0} → SourceView S → S → S → CommandsSeen
+commands_seen source old new = record {
+  still = new ≡ old;
+  gave = Gives source.coming source.bound source.failures old new;
+  ended = HasEnded (source.coming new) (source.ended new);
+}
+
+-- what is seen of the terminal of a run
+pub record TerminalSeen : Type 1 where
+  -- nothing was put on it
+  pub still : Type 0
+  -- which bytes it showed, and whether a put failed
+  pub showed : List ℕ → Bool → Type 0
+
+abbrev pub terminal_seen : {T : Type 0} → (T → Screen) → T → T → TerminalSeen
+terminal_seen screen old new = record { still = new ≡ old; showed = Shows (screen old) (screen new) }

@@ -1,0 +1,90 @@
+//! Serving a stream of commands.
+ghost use Rattle.std.specs.Prelude.{List};
+ghost use Rattle.teco_session.specs.Kept.{history_of};
+ghost use Rattle.teco_program.specs.Exchange.{Exchange};
+ghost use Rattle.teco_program.specs.Held.{CutsOff, Emptied, HeldEnds};
+ghost use Rattle.teco_program.specs.Serving.{Exchanges, Serves};
+ghost use Rattle.teco_program.specs.Source.{Gives, HasEnded};
+ghost use Rattle.teco_step.specs.Terminal.{Shows};
+
+use crate::exchange::{do_exchange, show_prompt};
+use crate::listener::Listens;
+use crate::served::Served;
+use crate::source::{Source, SourceFault};
+use crate::splitter::Splitter;
+use std::alloc::Global;
+use teco_session::Session;
+use teco_step::{Terminal, TerminalFault};
+
+/// The most bytes of a piece.
+const PIECE: usize = 4096;
+
+/// Does what each held text asks, unless that ends the serving; says how the serving ends, if it does.
+fn serve_held<T: Terminal, L: Listens>(
+    splitter: &mut Splitter,
+    session: &mut Session,
+    limit: u64,
+    prompt: bool,
+    term: &mut T,
+    listener: &mut L,
+) -> Option<Served>
+    ensures { (exchanges : List Exchange)
+        × Exchanges limit (history_of session.old) exchanges (history_of session.new)
+        × CutsOff splitter.old exchanges splitter.new
+        × Emptied result splitter.new
+        × HeldEnds (Shows (T.screen term.old) (T.screen term.new)) prompt exchanges result }
+{
+    'held: loop {
+        match splitter.next() {
+            Err(_) => return Some(Served::NoMemory),
+            Ok(None) => return None,
+            Ok(Some(asked)) => {
+                if let Some(served) = do_exchange(&asked, session, limit, prompt, term, listener) {
+                    return Some(served);
+                }
+            }
+        }
+    }
+}
+
+/// Reads pieces of the stream, cuts them into texts, and does what each asks before it reads again; `limit` is the most steps that
+/// each command string may take. With `prompt` a star asks for commands. The listener hears what is done for each text.
+///
+/// However the source cuts its bytes, what is done is a beginning of what they ask, and all of it at the end of the stream and where
+/// a read fails. It ends where a run makes the session done, and at the first put that fails; nothing is done after that.
+pub fn serve<S: Source, T: Terminal, L: Listens>(
+    alloc: Global,
+    source: &mut S,
+    session: &mut Session,
+    limit: u64,
+    prompt: bool,
+    term: &mut T,
+    listener: &mut L,
+) -> Served
+    ensures { Serves limit prompt
+        (Gives S.coming S.bound S.failures source.old source.new)
+        (HasEnded (S.coming source.new) (S.ended source.new))
+        (Shows (T.screen term.old) (T.screen term.new))
+        (history_of session.old) (history_of session.new) result }
+{
+    if let Err(TerminalFault) = show_prompt(prompt, term) {
+        return Served::ShowFault;
+    }
+    let mut splitter = Splitter::new(alloc);
+    let mut piece = [0; PIECE];
+    'pieces: loop {
+        let n = match source.read(&mut piece) {
+            Err(SourceFault) => return Served::ReadFault,
+            Ok(n) => n,
+        };
+        if n == 0 {
+            return Served::EndOfCommands;
+        }
+        if splitter.feed(&piece[..n]).is_err() {
+            return Served::NoMemory;
+        }
+        if let Some(served) = serve_held(&mut splitter, session, limit, prompt, term, listener) {
+            return served;
+        }
+    }
+}
