@@ -2,8 +2,8 @@
 #![tactic(auto)]
 
 mod disk;
-mod ending;
 mod exchange;
+mod fate;
 mod file_disk;
 mod input;
 mod line;
@@ -12,8 +12,8 @@ mod memory_disk;
 mod memory_source;
 mod output;
 mod place;
-mod program;
 mod reader_source;
+mod running;
 mod served;
 mod serving;
 mod source;
@@ -21,7 +21,7 @@ mod splitter;
 mod word_source;
 
 pub use disk::Disk;
-pub use ending::{Fate, ending};
+pub use fate::{Fate, ending};
 pub use file_disk::FileDisk;
 pub use input::{InputFault, read_input};
 pub use line::{
@@ -31,8 +31,8 @@ pub use listener::Silent;
 pub use memory_disk::{MemoryDisk, Refused};
 pub use memory_source::MemorySource;
 pub use output::write_output;
-pub use program::program;
 pub use reader_source::ReaderSource;
+pub use running::program;
 pub use served::Served;
 pub use serving::serve;
 pub use source::{Source, SourceFault};

@@ -1,6 +1,6 @@
 //! Who hears what is done for each text of the stream, and what `--explain` tells of it.
 
-use crate::ending::Fate;
+use crate::fate::Fate;
 use crate::line::{Line, output_name};
 use crate::served::Served;
 use std::alloc::Global;

@@ -1,6 +1,6 @@
 use Rattle.std.proofs.Common.{inr}
 use Rattle.teco_program.proofs.Runs.{same_explain}
-use Rattle.teco_program.proofs.program.program.Goals as goal
+use Rattle.teco_program.proofs.running.program.Goals as goal
 
 pub returns-in-Ok-clause-run : goal.returns-in-Ok-clause-run
 returns-in-Ok-clause-run g c = inr (record {

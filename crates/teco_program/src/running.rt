@@ -15,7 +15,7 @@ ghost use Rattle.teco_session.specs.Kept.{history_of};
 ghost use Rattle.teco_step.specs.Terminal.{Shows};
 
 use crate::disk::Disk;
-use crate::ending::{Fate, ending};
+use crate::fate::{Fate, ending};
 use crate::input::read_input;
 use crate::line::{Commands, Line, LineFault, commands_in, line_of, output_name, refused_status};
 use crate::listener::{Explainer, Listens, Silent};

@@ -5,7 +5,7 @@ use Rattle.teco_program.specs.Seen.{commands_seen, disk_seen, source_view, termi
 use Rattle.teco_program.specs.Writing.{both}
 use Rattle.std.specs.String.{string_bytes}
 use Rattle.teco_program.proofs.Runs.{finishes_after, finishes_ends, lacks_ends}
-use Rattle.teco_program.proofs.program.edit.Goals as goal
+use Rattle.teco_program.proofs.running.edit.Goals as goal
 
 pub returns-in-Err : goal.returns-in-Err
 returns-in-Err g c =

@@ -1,6 +1,6 @@
 use Rattle.std.proofs.Common.{◌∙◌, arith, rules}
 use Rattle.std.proofs.lemmas.Grind.{common_steps}
-use Rattle.teco_program.proofs.program.conclude.Goals as goal
+use Rattle.teco_program.proofs.running.conclude.Goals as goal
 
 pub returns-in-Ok : goal.returns-in-Ok
 returns-in-Ok g c = record {

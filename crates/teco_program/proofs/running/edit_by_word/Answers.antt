@@ -1,6 +1,6 @@
 use Rattle.std.proofs.Common.{Some, ap, inr, ◌∙◌, arith}
 use Rattle.teco_program.proofs.Runs.{reads_all}
-use Rattle.teco_program.proofs.program.edit_by_word.Goals as goal
+use Rattle.teco_program.proofs.running.edit_by_word.Goals as goal
 
 pub returns : goal.returns
 returns g c = inr (

@@ -1,6 +1,6 @@
 use Rattle.std.proofs.Common.{inl, inr, refl}
 use Rattle.teco_program.proofs.Runs.{edits_after}
-use Rattle.teco_program.proofs.program.edit_by_file.Goals as goal
+use Rattle.teco_program.proofs.running.edit_by_file.Goals as goal
 
 pub returns-in-Ok : goal.returns-in-Ok
 returns-in-Ok g c = inr (record {

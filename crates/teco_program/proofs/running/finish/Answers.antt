@@ -1,5 +1,5 @@
 use Rattle.teco_program.proofs.Runs.{finishes_failed, finishes_other, finishes_written}
-use Rattle.teco_program.proofs.program.finish.Goals as goal
+use Rattle.teco_program.proofs.running.finish.Goals as goal
 
 pub returns-in-Ok : goal.returns-in-Ok
 returns-in-Ok g c = finishes_written c.in-Exit.is (record { files = c.in-Ok.ensures.ok; moments = c.in-Ok.ensures.moments })
