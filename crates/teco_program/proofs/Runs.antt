@@ -10,8 +10,8 @@ use Rattle.teco_program.specs.Disk.{Files}
 use Rattle.teco_program.specs.Ending.{fate_without_input, output_of}
 use Rattle.teco_program.specs.Seen.{CommandsSeen, DiskSeen, TerminalSeen}
 use Rattle.teco_program.specs.Run.{Doings, Edits, EditsByCommands, EditsByLine, EndsBy, FailsToOpen, FailsToRead, FailsToWrite, Finishes, FinishesBy, IsFateOf, IsInput, IsLineIn, KeepsDisk, LacksInput, ServesInput, WritesOutput, doings}
-use Rattle.teco_program.specs.declared.ending.Fate.{Fate}
-use Rattle.teco_program.specs.declared.ending.Fate.TheVariants.{NoCommands, NoInput, LargeInput, NoMemory, NoOutput, Ended}
+use Rattle.teco_program.specs.declared.fate.Fate.{Fate}
+use Rattle.teco_program.specs.declared.fate.Fate.TheVariants.{NoCommands, NoInput, LargeInput, NoMemory, NoOutput, Ended}
 use Rattle.teco_program.specs.declared.input.InputFault.{InputFault}
 use Rattle.teco_program.specs.declared.input.InputFault.TheVariants as input
 use Rattle.teco_program.specs.declared.line.Commands.TheVariants.{Word}

@@ -5,9 +5,9 @@ use Rattle.teco_program.specs.declared.input.InputFault.{InputFault}
 use Rattle.teco_program.specs.declared.input.InputFault.TheVariants as input
 use Rattle.teco_program.specs.declared.line.Commands.TheVariants.{StandardInput, Word, File}
 use Rattle.teco_program.specs.declared.line.Line.{Line}
-use Rattle.teco_program.specs.declared.ending.Fate.{Fate}
-use Rattle.teco_program.specs.declared.ending.Fate.TheVariants.{NoCommands, NoInput, LargeInput, NoMemory, NoOutput}
-use Rattle.teco_program.specs.declared.ending.Fate.TheVariants.{Ended}
+use Rattle.teco_program.specs.declared.fate.Fate.{Fate}
+use Rattle.teco_program.specs.declared.fate.Fate.TheVariants.{NoCommands, NoInput, LargeInput, NoMemory, NoOutput}
+use Rattle.teco_program.specs.declared.fate.Fate.TheVariants.{Ended}
 use Rattle.teco_program.specs.declared.served.Served.TheVariants as served
 
 -- the name of the output file: the one given, or the input's followed by .out

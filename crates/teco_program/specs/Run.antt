@@ -25,9 +25,9 @@ use Rattle.teco_program.specs.Serving.{Serves}
 use Rattle.teco_program.specs.Seen.{CommandsSeen, DiskSeen, SourceView, TerminalSeen, commands_seen}
 use Rattle.teco_program.specs.Source.{Gives}
 use Rattle.teco_program.specs.Writing.{AddsDrafts, IsWriteError, IsWriting, Writes}
-use Rattle.teco_program.specs.declared.ending.Fate.{Fate}
-use Rattle.teco_program.specs.declared.ending.Fate.TheVariants.{NoCommands, NoInput, LargeInput, NoMemory, NoOutput}
-use Rattle.teco_program.specs.declared.ending.Fate.TheVariants.{Ended}
+use Rattle.teco_program.specs.declared.fate.Fate.{Fate}
+use Rattle.teco_program.specs.declared.fate.Fate.TheVariants.{NoCommands, NoInput, LargeInput, NoMemory, NoOutput}
+use Rattle.teco_program.specs.declared.fate.Fate.TheVariants.{Ended}
 use Rattle.teco_program.specs.declared.input.InputFault.{InputFault}
 use Rattle.teco_program.specs.declared.line.Commands.{Commands}
 use Rattle.teco_program.specs.declared.line.Commands.TheVariants.{StandardInput, Word, File}
