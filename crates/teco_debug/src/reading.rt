@@ -14,7 +14,7 @@ use thiserror::Error;
 const PIECE: usize = 1 << 16;
 
 /// Why a file is not read.
-#[derive(Clone, Copy, Debug, PartialEq, Eq, Error)]
+#[derive(Clone, Copy, Debug, Error)]
 pub enum FileFault {
     #[error("cannot be read")]
     Read,

@@ -39,7 +39,7 @@ quit             q
 const MOST_WORK: u64 = 100_000_000;
 
 /// How the serving ended.
-#[derive(Clone, Copy, Debug, PartialEq, Eq)]
+#[derive(Clone, Copy)]
 pub enum Served {
     /// By `quit`, or at the end of the commands.
     Quit,

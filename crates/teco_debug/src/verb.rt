@@ -3,7 +3,7 @@ ghost use Rattle.std.specs.Prelude.{◌≡◌, find};
 ghost use Rattle.teco_debug.specs.Verb.{is_spelled, letter_of, verb_of, verbs, word_of};
 
 /// What a command asks, without its operand.
-#[derive(Clone, Copy, Debug, PartialEq, Eq)]
+#[derive(Clone, Copy)]
 pub enum Verb {
     Next,
     Back,
