@@ -35,7 +35,7 @@ teco_is_simple = refl
 pub teco_is_free : is_simple_and_free teco_app ≡ true
 teco_is_free = refl
 
-pub some_arg : (xs : List Arg) → length xs ≡ 7 → Arg
+pub some_arg : (xs : List Arg) → length xs ≡ 8 → Arg
 some_arg [] e = absurd (omega arith)
 some_arg (x ∷ xs) e = x
 
@@ -45,7 +45,7 @@ module _ (c : Command) (is : app_of c ≡ teco_app) where
   rules_are : map rule_of (args_of c) ≡ teco_app.top.rules
   rules_are = ap (λ a. a.top.rules) is
 
-  pub count_is : length (args_of c) ≡ 7
+  pub count_is : length (args_of c) ≡ 8
   count_is = sym (length-map (args_of c) rule_of) ∙ ap length rules_are
 
   rule_at : (k : ℕ) (d : Arg) → k < length (args_of c) → rule_of (slice_index_or (args_of c) k d) ≡ slice_index_or teco_app.top.rules k (rule_of d)
@@ -72,8 +72,8 @@ pub record IsAlone (c : Command) (k : ℕ) (rule : Rule) (arg : Arg) : Type 0 wh
   pub named : arg.id.now ≡ [] → ⊥
   pub unique : (j : ℕ) (e : Arg) → j < length (args_of c) → bytes_eq (slice_index_or (args_of c) j e).id.now arg.id.now ≡ true → j ≡ k
 
-pub alone_at : (c : Command) → app_of c ≡ teco_app → (k : ℕ) (rule : Rule) (d : Arg) → k < 7 → slice_index_or teco_app.top.rules k (rule_of d) ≡ rule
-    → ((j : ℕ) (r : Rule) → j < 7 → bytes_eq (slice_index_or teco_app.top.rules j r).id rule.id ≡ true → j ≡ k)
+pub alone_at : (c : Command) → app_of c ≡ teco_app → (k : ℕ) (rule : Rule) (d : Arg) → k < 8 → slice_index_or teco_app.top.rules k (rule_of d) ≡ rule
+    → ((j : ℕ) (r : Rule) → j < 8 → bytes_eq (slice_index_or teco_app.top.rules j r).id rule.id ≡ true → j ≡ k)
     → bytes_eq (codes "help") rule.id ≡ false → bytes_eq (codes "version") rule.id ≡ false → bytes_eq [] rule.id ≡ false
     → IsAlone c k rule (slice_index_or (args_of c) k d)
 alone_at c is k rule d low at only no_help no_version no_empty =

@@ -40,7 +40,7 @@ use Rattle.teco.proofs.CommandEntries.{teco_is_simple, teco_is_free, some_arg, c
 -- ---- what the parse gives
 
 -- no other argument of the program's command has the id of the limit, of the depth or of the input
-limit_only : (j : ℕ) (r : Rule) → j < 7 → bytes_eq (slice_index_or teco_app.top.rules j r).id (codes "limit") ≡ true → j ≡ 0
+limit_only : (j : ℕ) (r : Rule) → j < 8 → bytes_eq (slice_index_or teco_app.top.rules j r).id (codes "limit") ≡ true → j ≡ 0
 limit_only zero r lt e = refl
 limit_only (suc zero) r lt e = absurd (true≢false (sym e))
 limit_only (suc (suc zero)) r lt e = absurd (true≢false (sym e))
@@ -48,27 +48,30 @@ limit_only (suc (suc (suc zero))) r lt e = absurd (true≢false (sym e))
 limit_only (suc (suc (suc (suc zero)))) r lt e = absurd (true≢false (sym e))
 limit_only (suc (suc (suc (suc (suc zero))))) r lt e = absurd (true≢false (sym e))
 limit_only (suc (suc (suc (suc (suc (suc zero)))))) r lt e = absurd (true≢false (sym e))
-limit_only (suc (suc (suc (suc (suc (suc (suc j))))))) r lt e = absurd (omega arith)
+limit_only (suc (suc (suc (suc (suc (suc (suc zero))))))) r lt e = absurd (true≢false (sym e))
+limit_only (suc (suc (suc (suc (suc (suc (suc (suc j)))))))) r lt e = absurd (omega arith)
 
-undo_only : (j : ℕ) (r : Rule) → j < 7 → bytes_eq (slice_index_or teco_app.top.rules j r).id (codes "undo") ≡ true → j ≡ 3
+undo_only : (j : ℕ) (r : Rule) → j < 8 → bytes_eq (slice_index_or teco_app.top.rules j r).id (codes "undo") ≡ true → j ≡ 4
 undo_only zero r lt e = absurd (true≢false (sym e))
 undo_only (suc zero) r lt e = absurd (true≢false (sym e))
 undo_only (suc (suc zero)) r lt e = absurd (true≢false (sym e))
-undo_only (suc (suc (suc zero))) r lt e = refl
-undo_only (suc (suc (suc (suc zero)))) r lt e = absurd (true≢false (sym e))
+undo_only (suc (suc (suc zero))) r lt e = absurd (true≢false (sym e))
+undo_only (suc (suc (suc (suc zero)))) r lt e = refl
 undo_only (suc (suc (suc (suc (suc zero))))) r lt e = absurd (true≢false (sym e))
 undo_only (suc (suc (suc (suc (suc (suc zero)))))) r lt e = absurd (true≢false (sym e))
-undo_only (suc (suc (suc (suc (suc (suc (suc j))))))) r lt e = absurd (omega arith)
+undo_only (suc (suc (suc (suc (suc (suc (suc zero))))))) r lt e = absurd (true≢false (sym e))
+undo_only (suc (suc (suc (suc (suc (suc (suc (suc j)))))))) r lt e = absurd (omega arith)
 
-input_only : (j : ℕ) (r : Rule) → j < 7 → bytes_eq (slice_index_or teco_app.top.rules j r).id (codes "input") ≡ true → j ≡ 6
+input_only : (j : ℕ) (r : Rule) → j < 8 → bytes_eq (slice_index_or teco_app.top.rules j r).id (codes "input") ≡ true → j ≡ 7
 input_only zero r lt e = absurd (true≢false (sym e))
 input_only (suc zero) r lt e = absurd (true≢false (sym e))
 input_only (suc (suc zero)) r lt e = absurd (true≢false (sym e))
 input_only (suc (suc (suc zero))) r lt e = absurd (true≢false (sym e))
 input_only (suc (suc (suc (suc zero)))) r lt e = absurd (true≢false (sym e))
 input_only (suc (suc (suc (suc (suc zero))))) r lt e = absurd (true≢false (sym e))
-input_only (suc (suc (suc (suc (suc (suc zero)))))) r lt e = refl
-input_only (suc (suc (suc (suc (suc (suc (suc j))))))) r lt e = absurd (omega arith)
+input_only (suc (suc (suc (suc (suc (suc zero)))))) r lt e = absurd (true≢false (sym e))
+input_only (suc (suc (suc (suc (suc (suc (suc zero))))))) r lt e = refl
+input_only (suc (suc (suc (suc (suc (suc (suc (suc j)))))))) r lt e = absurd (omega arith)
 
 module _ (c : Command) (is : app_of c ≡ teco_app) (m : ArgMatches) (p : IsParsedFrom c m) where
   globals_is : (out-Command c).has_globals ≡ false
@@ -108,17 +111,17 @@ module _ (c : Command) (is : app_of c ≡ teco_app) (m : ArgMatches) (p : IsPars
 
   -- the depth has one where it has a value
   undo_text : is_some (first_value (found_of m) (codes "undo")) ≡ true → (t : Text) × (one_text (found_of m) (codes "undo") ≡ Some t) × IsUnsignedIn 1 DEPTH_LIMIT t
-  undo_text = number_text 3 undo_rule 1 DEPTH_LIMIT (alone_at c is 3 undo_rule some (omega arith) refl undo_only refl refl refl) refl
+  undo_text = number_text 4 undo_rule 1 DEPTH_LIMIT (alone_at c is 4 undo_rule some (omega arith) refl undo_only refl refl refl) refl
 
   -- the input has a text
   pub input_text : is_some (first_value (found_of m) (codes "input")) ≡ true
   input_text =
-      let arg = slice_index_or (args_of c) 6 some in
-      let a = alone_at c is 6 input_rule some (omega arith) refl input_only refl refl refl in
+      let arg = slice_index_or (args_of c) 7 some in
+      let a = alone_at c is 7 input_rule some (omega arith) refl input_only refl refl refl in
       let one : least_values arg ≡ 1 = ap (λ r. (unwrap_or_range r.range).start_inclusive) a.rule_is in
       let least : 1 ≤ least_values arg = rw one (omega arith) in
-      let has = required_has_value c m p (plain_is c is) globals_is negates_is 6 some a.within (ap (λ r. r.required) a.rule_is) (ap (λ r. r.action) a.rule_is)
-      ((simple_is c is).args 6 some a.within).delimiter least a.unique a.named a.own in
+      let has = required_has_value c m p (plain_is c is) globals_is negates_is 7 some a.within (ap (λ r. r.required) a.rule_is) (ap (λ r. r.action) a.rule_is)
+      ((simple_is c is).args 7 some a.within).delimiter least a.unique a.named a.own in
       subst (λ t. is_some (first_value (found_of m) t) ≡ true) a.id_is has
 
 -- ---- what the getters give
@@ -211,9 +214,10 @@ module _ (c : Command) (m : ArgMatches) (words : List Text) (is : app_of c ≡ t
       → (word file : Option Text) → word ≡ first_value (found_of m) (codes "execute") → file ≡ first_value (found_of m) (codes "file") → IsCommands word file line.commands
       → option_map number_of (one_text (found_of m) (codes "limit")) ≡ Some line.limit
       → (IsTrue line.prompt ↔ (one_text (found_of m) (codes "prompt") ≡ Some (codes "true")))
+      → (IsTrue line.explain ↔ (one_text (found_of m) (codes "explain") ≡ Some (codes "true")))
       → option_map number_of (one_text (found_of m) (codes "undo")) ≡ line.undo
       → IsLine words line
-  line_is line input output word file is_word is_file commands limit prompt undo = record {
+  line_is line input output word file is_word is_file commands limit prompt explain undo = record {
     taken = words_taken;
     input = first (codes "input") ∙ input;
     output = first (codes "output") ∙ output;
@@ -221,6 +225,7 @@ module _ (c : Command) (m : ArgMatches) (words : List Text) (is : app_of c ≡ t
         (subst (λ f. IsCommands word f line.commands) (is_file ∙ sym (first (codes "file"))) commands);
     limit = ap (option_map number_of) (one (codes "limit")) ∙ limit;
     prompt = (λ up. one (codes "prompt") ∙ prompt.0 up, λ e. prompt.1 (sym (one (codes "prompt")) ∙ e));
+    explain = (λ up. one (codes "explain") ∙ explain.0 up, λ e. explain.1 (sym (one (codes "explain")) ∙ e));
     undo = ap (option_map number_of) (one (codes "undo")) ∙ undo;
   }
 

@@ -5,12 +5,13 @@ use Rattle.clap.specs.declared.error.kind.ErrorKind.TheVariants.{ArgumentConflic
 use Rattle.clap.proofs.OnLiterals.{clap_on_literals}
 use Rattle.teco.specs.CommandLine.{teco_app}
 
--- what the words give for the input, the output, the limit, the flag and the depth
+-- what the words give for the input, the output, the limit, the flags and the depth
 pub record Row : Type 0 where
   pub input : Option Text
   pub output : Option Text
   pub limit : Option Text
   pub prompt : Option Text
+  pub explain : Option Text
   pub undo : Option Text
 
 abbrev row_of : List Text → Row
@@ -19,30 +20,38 @@ row_of words = record {
   output = first_of (codes "output") (matches_of teco_app words);
   limit = one_of (codes "limit") (matches_of teco_app words);
   prompt = one_of (codes "prompt") (matches_of teco_app words);
+  explain = one_of (codes "explain") (matches_of teco_app words);
   undo = one_of (codes "undo") (matches_of teco_app words);
 }
 
-abbrev row : Text → Option Text → Text → Text → Option Text → Row
-row input output limit prompt undo = record { input = Some input; output = output; limit = Some limit; prompt = Some prompt; undo = undo }
+abbrev row : Text → Option Text → Text → Text → Text → Option Text → Row
+row input output limit prompt explain undo = record {
+  input = Some input;
+  output = output;
+  limit = Some limit;
+  prompt = Some prompt;
+  explain = Some explain;
+  undo = undo;
+}
 
 -- teco a
-alone : row_of (codes "teco" ∷ codes "a" ∷ []) ≡ row (codes "a") None (codes "1000000") (codes "false") None
+alone : row_of (codes "teco" ∷ codes "a" ∷ []) ≡ row (codes "a") None (codes "1000000") (codes "false") (codes "false") None
 unfolding clap_on_literals
 alone = refl
 
 -- teco --limit 5 a
-limited : row_of (codes "teco" ∷ codes "--limit" ∷ codes "5" ∷ codes "a" ∷ []) ≡ row (codes "a") None (codes "5") (codes "false") None
+limited : row_of (codes "teco" ∷ codes "--limit" ∷ codes "5" ∷ codes "a" ∷ []) ≡ row (codes "a") None (codes "5") (codes "false") (codes "false") None
 unfolding clap_on_literals
 limited = refl
 
 -- teco --undo 1 a
-bounded : row_of (codes "teco" ∷ codes "--undo" ∷ codes "1" ∷ codes "a" ∷ []) ≡ row (codes "a") None (codes "1000000") (codes "false") (Some (codes "1"))
+bounded : row_of (codes "teco" ∷ codes "--undo" ∷ codes "1" ∷ codes "a" ∷ []) ≡ row (codes "a") None (codes "1000000") (codes "false") (codes "false") (Some (codes "1"))
 unfolding clap_on_literals
 bounded = refl
 
--- teco a --prompt --output=b --limit=0 --undo=100000
-all_given : row_of (codes "teco" ∷ codes "a" ∷ codes "--prompt" ∷ codes "--output=b" ∷ codes "--limit=0" ∷ codes "--undo=100000" ∷ [])
-    ≡ row (codes "a") (Some (codes "b")) (codes "0") (codes "true") (Some (codes "100000"))
+-- teco a --prompt --explain --output=b --limit=0 --undo=100000
+all_given : row_of (codes "teco" ∷ codes "a" ∷ codes "--prompt" ∷ codes "--explain" ∷ codes "--output=b" ∷ codes "--limit=0" ∷ codes "--undo=100000" ∷ [])
+    ≡ row (codes "a") (Some (codes "b")) (codes "0") (codes "true") (codes "true") (Some (codes "100000"))
 unfolding clap_on_literals
 all_given = refl
 
@@ -71,7 +80,7 @@ unfolding clap_on_literals
 both_given = refl
 
 -- teco -- --prompt
-after_dashes : row_of (codes "teco" ∷ codes "--" ∷ codes "--prompt" ∷ []) ≡ row (codes "--prompt") None (codes "1000000") (codes "false") None
+after_dashes : row_of (codes "teco" ∷ codes "--" ∷ codes "--prompt" ∷ []) ≡ row (codes "--prompt") None (codes "1000000") (codes "false") (codes "false") None
 unfolding clap_on_literals
 after_dashes = refl
 

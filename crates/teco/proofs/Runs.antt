@@ -1,19 +1,22 @@
 -- How the parts of a run make its end.
-use Rattle.std.proofs.Common.{◌≡◌, ◌≢◌, ◌⊎◌, inl, inr, ℕ, List, Option, refl, sym, ◌∙◌, subst, true}
+use Rattle.std.proofs.Common.{◌≡◌, ◌≢◌, ◌⊎◌, inl, inr, ℕ, List, Option, Result, Ok, Err, refl, sym, ◌∙◌, subst, true, false, true≢false}
+use Rattle.std.proofs.lemmas.Bool.{cases_Bool}
 use Rattle.std.specs.String.{string_bytes}
 use Rattle.std.specs.declared.alloc.Global.{Global}
 use Rattle.std.specs.declared.string.String.{String}
+use Rattle.std.specs.declared.vec.Vec.{Vec}
 use Rattle.std.specs.declared.io.Error.{Error}
 use Rattle.teco.specs.Disk.{Files}
 use Rattle.teco.specs.Ending.{fate_without_input, output_of}
 use Rattle.teco.specs.Seen.{CommandsSeen, DiskSeen, TerminalSeen}
-use Rattle.teco.specs.Run.{Doings, Edits, EditsByCommands, EditsByLine, EndsBy, FailsToOpen, FailsToRead, FailsToWrite, Finishes, FinishesBy, IsFateOf, IsInput, KeepsDisk, LacksInput, ServesInput, WritesOutput, doings}
+use Rattle.teco.specs.Run.{Doings, Edits, EditsByCommands, EditsByLine, EndsBy, FailsToOpen, FailsToRead, FailsToWrite, Finishes, FinishesBy, IsFateOf, IsInput, IsLineIn, KeepsDisk, LacksInput, ServesInput, WritesOutput, doings}
 use Rattle.teco.specs.declared.ending.Fate.{Fate}
 use Rattle.teco.specs.declared.ending.Fate.TheVariants.{NoCommands, NoInput, LargeInput, NoMemory, NoOutput, Ended}
 use Rattle.teco.specs.declared.input.InputFault.{InputFault}
 use Rattle.teco.specs.declared.input.InputFault.TheVariants as input
 use Rattle.teco.specs.declared.line.Commands.TheVariants.{Word}
 use Rattle.teco.specs.declared.line.Line.{Line}
+use Rattle.teco.specs.declared.line.LineFault.{LineFault}
 use Rattle.teco.specs.declared.served.Served.{Served}
 use Rattle.teco.specs.declared.served.Served.TheVariants as served
 
@@ -194,3 +197,12 @@ finishes_other served.EndOfCommands other = record { ends = (refl, record { file
 finishes_other served.ReadFault other = record { ends = (refl, record { files = refl; moments = λ files left. left }) }
 finishes_other served.ShowFault other = record { ends = (refl, record { files = refl; moments = λ files left. left }) }
 finishes_other served.NoMemory other = record { ends = (refl, record { files = refl; moments = λ files left. left }) }
+
+-- Two lines that the same words say ask alike to be explained.
+pub same_explain : (words : Result (Vec (String Global) Global) LineFault) (line other : Line) → IsLineIn words line → IsLineIn words other
+    → other.explain ≡ false → line.explain ≡ false
+same_explain (Ok words) line other is same off = elim (cases_Bool line.explain) [
+  | inl up ↦ absurd (true≢false (sym (same.explain.1 (is.explain.0 up)) ∙ off))
+  | inr down ↦ down
+]
+same_explain (Err fault) line other is same off = absurd is

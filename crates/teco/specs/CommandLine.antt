@@ -1,5 +1,6 @@
 -- What the command line says:
--- teco [--limit N] [--output FILE] [--prompt] [--undo N] [--execute STRINGS | --file FILE] INPUT.
+-- teco [--limit N] [--output FILE] [--prompt] [--explain] [--undo N]
+-- [--execute STRINGS | --file FILE] INPUT.
 use Rattle.std.specs.Prelude.{◌≡◌, ◌≤◌, ◌==◌, ℕ, List, [], ◌∷◌, Option, Some, None, IsTrue, ◌↔◌, codes, true}
 use Rattle.std.specs.Prelude.{false, option_map, is_some, ⊤, ◌⊎◌, Result, Ok, Err, if◌then◌else◌}
 use Rattle.std.specs.Borrow.{Bor}
@@ -42,6 +43,13 @@ output_rule = record (new_rule (codes "output")) {
 abbrev pub prompt_rule : Rule
 prompt_rule = record (new_rule (codes "prompt")) {
   long = Some (codes "prompt");
+  action = Some SetTrue;
+}
+
+-- --explain: a flag, with no value
+abbrev pub explain_rule : Rule
+explain_rule = record (new_rule (codes "explain")) {
+  long = Some (codes "explain");
   action = Some SetTrue;
 }
 
@@ -91,9 +99,9 @@ with_version app = on_top (λ shape. record shape { has_version = true }) app
 -- The command that the words are read by: the parser's rules for a command with these arguments and no others
 -- of its own.
 abbrev pub teco_app : App
-teco_app = with_rule (with_rule (with_rule (with_rule (with_rule (with_rule (with_rule
+teco_app = with_rule (with_rule (with_rule (with_rule (with_rule (with_rule (with_rule (with_rule
     (with_version (new_app (codes "teco")))
-    limit_rule) output_rule) prompt_rule) undo_rule) execute_rule)
+    limit_rule) output_rule) prompt_rule) explain_rule) undo_rule) execute_rule)
     file_rule) input_rule
 
 -- the number that a text spells in decimal digits, after a plus sign or none
@@ -142,6 +150,9 @@ pub record IsLine (words : List Text) (line : Line) : Type 0 where
   -- the flag
   pub prompt : IsTrue line.prompt
       ↔ (one_of (codes "prompt") (matches_of teco_app words) ≡ Some (codes "true"))
+  -- the other flag
+  pub explain : IsTrue line.explain
+      ↔ (one_of (codes "explain") (matches_of teco_app words) ≡ Some (codes "true"))
   -- the depth of the history, if one is given
   pub undo : option_map number_of (one_of (codes "undo") (matches_of teco_app words)) ≡ line.undo
 

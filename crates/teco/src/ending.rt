@@ -119,6 +119,7 @@ mod tests {
             commands: Commands::File(String::from_str(alloc, "strings")?),
             limit: 0,
             prompt: false,
+            explain: false,
             undo: None,
         })
     }

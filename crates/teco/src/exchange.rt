@@ -1,18 +1,21 @@
 //! One text of the stream: what it asks is done, and the answers are shown.
-ghost use Rattle.std.specs.Prelude.{◌≡◌, ◌≢◌, ℕ, List, [], ◌&&◌, not, true, false, OnErr};
+ghost use Rattle.std.specs.Prelude.{◌≡◌, ◌≢◌, ℕ, List, [], ◌&&◌, not, None, true, false, OnErr};
 ghost use Rattle.teco.specs.Cut.{value_of};
 ghost use Rattle.teco.specs.Exchange.{Does, Exchange, MovesInHistory, Repeats, is_exit, is_run};
 ghost use Rattle.teco.specs.Held.{ExchangeEnds, IsExchange};
 ghost use Rattle.teco.specs.Message.{code_line, message, replies_shown, star};
 ghost use Rattle.teco.specs.Stream.Asks.{Run};
+ghost use Rattle.teco_session.specs.Answers.{answer_code};
+ghost use Rattle.teco_session.specs.History.{present};
 ghost use Rattle.teco_session.specs.Kept.{history_of};
-ghost use Rattle.teco_session.specs.Step.{Reply};
+ghost use Rattle.teco_session.specs.Step.{Reply, RunStep, is_terminal_failure};
 ghost use Rattle.teco_step.specs.Terminal.{Puts, Shows};
 
+use crate::listener::Listens;
 use crate::served::Served;
 use crate::splitter::Asked;
 use teco_core::Code;
-use teco_session::{Answer, Request, Session};
+use teco_session::{Answer, Answered, Request, Session};
 use teco_step::{Terminal, TerminalFault};
 use teco_store::Desk;
 
@@ -36,6 +39,41 @@ fn show_message<T: Terminal>(answer: Answer, term: &mut T) -> Result<(), Termina
     }
 }
 
+/// Shows the message of what a string was answered, and lets the listener hear of the string.
+fn show_ending<T: Terminal, L: Listens>(
+    text: &[u8],
+    answered: &Answered,
+    session: &Session,
+    term: &mut T,
+    listener: &mut L,
+) -> Result<(), TerminalFault>
+    ensures puts { Puts (T.screen term.old) (T.screen term.new) (message answered.now.answer) result }
+    ensures some { OnErr result (message answered.now.answer ≢ []) }
+{
+    if let Err(TerminalFault) = show_message(answered.answer, term) {
+        return Err(TerminalFault);
+    }
+    listener.ran(text, answered, session);
+    Ok(())
+}
+
+/// Shows the message of a refusal, and lets the listener hear of it.
+fn show_refusal<T: Terminal, L: Listens>(
+    answer: Answer,
+    session: &Session,
+    term: &mut T,
+    listener: &mut L,
+) -> Result<(), TerminalFault>
+    ensures puts { Puts (T.screen term.old) (T.screen term.new) (message answer) result }
+    ensures some { OnErr result (message answer ≢ []) }
+{
+    if let Err(TerminalFault) = show_message(answer, term) {
+        return Err(TerminalFault);
+    }
+    listener.moved(answer.code(), session);
+    Ok(())
+}
+
 /// Shows a star, if one is wanted.
 pub fn show_prompt<T: Terminal>(prompt: bool, term: &mut T) -> Result<(), TerminalFault>
     ensures puts { Puts (T.screen term.old) (T.screen term.new) (star prompt) result }
@@ -45,12 +83,13 @@ pub fn show_prompt<T: Terminal>(prompt: bool, term: &mut T) -> Result<(), Termin
 }
 
 /// Asks for an undo, a redo or a rewind `n` times. It stops after the first that is refused, and shows its message.
-fn repeat<T: Terminal>(
+fn repeat<T: Terminal, L: Listens>(
     request: &Request,
     n: u32,
     session: &mut Session,
     limit: u64,
     term: &mut T,
+    listener: &mut L,
 ) -> Result<(), TerminalFault>
     requires { MovesInHistory request.now }
     ensures { (replies : List Reply)
@@ -61,18 +100,43 @@ fn repeat<T: Terminal>(
     'moves: for _i in 0..n {
         let answer = session.answer(request, limit, term);
         if answer.is_refused() {
-            return show_message(answer, term);
+            return show_refusal(answer, session, term, listener);
         }
     }
+    listener.moved(None, session);
     Ok(())
 }
 
-/// Runs a text, and shows the message of the answer.
-fn run_text<T: Terminal>(
+/// Runs a text. Tells where its run last stood only where that is wanted.
+fn run_heard<T: Terminal>(
     text: &[u8],
     session: &mut Session,
     limit: u64,
     term: &mut T,
+    wants_place: bool,
+) -> Answered
+    ensures step { (typed : List ℕ)
+        × RunStep limit (history_of session.old) text.now result.answer typed (history_of session.new)
+        × Shows (T.screen term.old) (T.screen term.new) typed (is_terminal_failure result.answer) }
+    ensures exit { (present (history_of session.old)).is_done ≡ false
+        → (present (history_of session.new)).is_done ≡ true → answer_code result.answer ≡ None }
+{
+    if wants_place {
+        return session.run_where(text, limit, term);
+    }
+    Answered {
+        answer: session.run(text, limit, term),
+        place: Ok(None),
+    }
+}
+
+/// Runs a text, and shows the message of the answer.
+fn run_text<T: Terminal, L: Listens>(
+    text: &[u8],
+    session: &mut Session,
+    limit: u64,
+    term: &mut T,
+    listener: &mut L,
 ) -> Result<(), TerminalFault>
     ensures done { (replies : List Reply)
         × Does limit (Run text.now) (history_of session.old) replies (history_of session.new)
@@ -81,20 +145,21 @@ fn run_text<T: Terminal>(
     ensures err { OnErr result
         (is_exit (Run text.now) (history_of session.old) (history_of session.new) ≡ false) }
 {
-    let answer = session.run(text, limit, term);
-    if answer.is_terminal_failure() {
+    let answered = run_heard(text, session, limit, term, listener.wants_place());
+    if answered.answer.is_terminal_failure() {
         return Err(TerminalFault);
     }
-    show_message(answer, term)
+    show_ending(text, &answered, session, term, listener)
 }
 
 /// Does what a text asks, and shows the messages of the answers. No put follows one that failed. Where a run made the session done,
 /// none fails.
-fn do_asked<T: Terminal>(
+fn do_asked<T: Terminal, L: Listens>(
     asked: &Asked,
     session: &mut Session,
     limit: u64,
     term: &mut T,
+    listener: &mut L,
 ) -> Result<(), TerminalFault>
     ensures done { (replies : List Reply)
         × Does limit (value_of asked.now) (history_of session.old) replies (history_of session.new)
@@ -104,10 +169,17 @@ fn do_asked<T: Terminal>(
         (is_exit (value_of asked.now) (history_of session.old) (history_of session.new) ≡ false) }
 {
     match asked {
-        Asked::Run(text) => run_text(text.as_slice(), session, limit, term),
-        Asked::Undo(n) => repeat(&Request::Undo, *n, session, limit, term),
-        Asked::Redo(n) => repeat(&Request::Redo, *n, session, limit, term),
-        Asked::Rewind(n) => repeat(&Request::Rewind(u64::from(*n)), 1, session, limit, term),
+        Asked::Run(text) => run_text(text.as_slice(), session, limit, term, listener),
+        Asked::Undo(n) => repeat(&Request::Undo, *n, session, limit, term, listener),
+        Asked::Redo(n) => repeat(&Request::Redo, *n, session, limit, term, listener),
+        Asked::Rewind(n) => repeat(
+            &Request::Rewind(u64::from(*n)),
+            1,
+            session,
+            limit,
+            term,
+            listener,
+        ),
     }
 }
 
@@ -120,19 +192,20 @@ fn exits(asked: &Asked, was_done: bool, is_done: bool) -> bool
 
 /// Does what a text asks and shows its answers, and then a star unless a run has made the session done. Says how the serving ends,
 /// if it does.
-pub fn do_exchange<T: Terminal>(
+pub fn do_exchange<T: Terminal, L: Listens>(
     asked: &Asked,
     session: &mut Session,
     limit: u64,
     prompt: bool,
     term: &mut T,
+    listener: &mut L,
 ) -> Option<Served>
     ensures { (exchange : Exchange)
         × IsExchange limit (value_of asked.now) (history_of session.old) (history_of session.new) exchange
         × ExchangeEnds (Shows (T.screen term.old) (T.screen term.new)) prompt exchange result }
 {
     let was_done = session.editor().done();
-    if let Err(TerminalFault) = do_asked(asked, session, limit, term) {
+    if let Err(TerminalFault) = do_asked(asked, session, limit, term, listener) {
         return Some(Served::ShowFault);
     }
     if exits(asked, was_done, session.editor().done()) {

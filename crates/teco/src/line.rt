@@ -4,7 +4,7 @@ ghost use Rattle.std.specs.IoError.{error_kind};
 ghost use Rattle.std.specs.Prelude.{◌≡◌, ◌≢◌, ◌≤◌, IfErr, IfOk, IfSome, false, map};
 ghost use Rattle.std.specs.String.{string_bytes};
 ghost use Rattle.std.specs.declared.io.ErrorKind.TheVariants as io_kind;
-ghost use Rattle.teco.specs.CommandLine.{IsCommands, IsCommandsFault, IsDepth, IsFaultOnceMade, IsLine, IsLineFault, execute_rule, fault_for, file_rule, input_rule, limit_rule, output_rule, prompt_rule, teco_app, text_behind, undo_rule};
+ghost use Rattle.teco.specs.CommandLine.{IsCommands, IsCommandsFault, IsDepth, IsFaultOnceMade, IsLine, IsLineFault, execute_rule, explain_rule, fault_for, file_rule, input_rule, limit_rule, output_rule, prompt_rule, teco_app, text_behind, undo_rule};
 ghost use Rattle.teco.specs.Ending.{output_of};
 
 use clap::error::ErrorKind;
@@ -56,6 +56,8 @@ pub struct Line {
     pub limit: u64,
     /// Whether a star is shown where commands are wanted.
     pub prompt: bool,
+    /// Whether each code that is shown is explained on standard error.
+    pub explain: bool,
     /// The most command strings that are kept to be undone, from 1 to [`DEPTH_LIMIT`]; without it all are kept.
     pub undo: Option<u64>,
 }
@@ -125,6 +127,16 @@ fn prompt_arg<'a>(alloc: Global) -> Arg<'a>
         .help("Types * where a command string is awaited")
 }
 
+fn explain_arg<'a>(alloc: Global) -> Arg<'a>
+    ensures rule { rule_of result ≡ explain_rule }
+    ensures local { result.global ≡ false }
+{
+    Arg::new(alloc, "explain")
+        .long("explain")
+        .action(ArgAction::SetTrue)
+        .help("Explains each error, and with --prompt what was done, on standard error")
+}
+
 fn undo_arg<'a>(alloc: Global) -> Arg<'a>
     ensures rule { rule_of result ≡ undo_rule }
     ensures local { result.global ≡ false }
@@ -186,6 +198,7 @@ fn command<'a>(alloc: Global) -> Result<Command<'a>, NoMemory>
         .arg(limit_arg(alloc))?
         .arg(output_arg(alloc))?
         .arg(prompt_arg(alloc))?
+        .arg(explain_arg(alloc))?
         .arg(undo_arg(alloc))?
         .arg(execute_arg(alloc))?
         .arg(file_arg(alloc))?
@@ -230,11 +243,12 @@ fn line_by<'a>(alloc: Global, command: Command<'a>, words: &'a [String]) -> Resu
         limit,
         prompt: matches.get_one::<bool>("prompt").unwrap_or(false),
         undo: matches.get_one::<u64>("undo"),
+        explain: matches.get_one::<bool>("explain").unwrap_or(false),
     })
 }
 
 /// What the words say, the program's name first:
-/// `teco [--limit N] [--output FILE] [--prompt] [--undo N] [--execute STRINGS | --file FILE] INPUT`.
+/// `teco [--limit N] [--output FILE] [--prompt] [--explain] [--undo N] [--execute STRINGS | --file FILE] INPUT`.
 pub fn line_of(alloc: Global, words: &[String]) -> Result<Line, LineFault>
     ensures line { IfOk result (IsLine (map string_bytes words.now)) }
     ensures range { IfOk result (λ line. (line.limit ≤ 1000000000000) × IfSome line.undo IsDepth) }

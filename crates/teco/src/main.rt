@@ -7,6 +7,7 @@ mod exchange;
 mod file_disk;
 mod input;
 mod line;
+mod listener;
 #[cfg(test)]
 mod memory_disk;
 #[cfg(test)]
@@ -48,6 +49,7 @@ fn main(rt: HostRuntime) -> ExitCode {
         process::id(rt.process()),
         &mut ReaderSource::new(rt.stdin()),
         &mut WriterTerminal::new(rt.stdout()),
+        &mut WriterTerminal::new(rt.stderr()),
         &mut WriterTerminal::new(rt.stderr()),
         &mut FileDisk::new(&rt),
     )

@@ -1,5 +1,5 @@
 //! What the program does, on any disk, terminal and commands.
-ghost use Rattle.std.specs.Prelude.{◌≡◌, ◌≤◌, ◌⊎◌, Some, codes, IfErr, IfOk, IfSome, OnErr, vec_len};
+ghost use Rattle.std.specs.Prelude.{◌≡◌, ◌≤◌, ◌⊎◌, Some, false, codes, IfErr, IfOk, IfSome, OnErr, vec_len};
 ghost use Rattle.std.specs.Process.{exit_status};
 ghost use Rattle.teco.specs.CommandLine.{IsDepth};
 ghost use Rattle.teco.specs.Disk.{Opens};
@@ -18,6 +18,7 @@ use crate::disk::Disk;
 use crate::ending::{Fate, ending};
 use crate::input::read_input;
 use crate::line::{Commands, Line, LineFault, commands_in, line_of, output_name, refused_status};
+use crate::listener::{Explainer, Listens, Silent};
 use crate::output::write_output;
 use crate::served::Served;
 use crate::serving::serve;
@@ -77,12 +78,13 @@ fn session_over(line: &Line, input: Vec<u8>) -> Result<Session, NoMemory>
 }
 
 /// Serves the commands over the input. Gives the session that is left, and how the serving ended.
-fn serve_over<S: Source, T: Terminal>(
+fn serve_over<S: Source, T: Terminal, L: Listens>(
     alloc: Global,
     line: &Line,
     input: Vec<u8>,
     commands: &mut S,
     term: &mut T,
+    listener: &mut L,
 ) -> Result<(Session, Served), NoMemory>
     requires small { vec_len input ≤ FILE_LIMIT }
     requires depth { IfSome line.now.undo IsDepth }
@@ -94,7 +96,15 @@ fn serve_over<S: Source, T: Terminal>(
     ensures err { OnErr result ((commands.new ≡ commands.old) × (term.new ≡ term.old)) }
 {
     let mut session = session_over(line, input)?;
-    let served = serve(alloc, commands, &mut session, line.limit, line.prompt, term);
+    let served = serve(
+        alloc,
+        commands,
+        &mut session,
+        line.limit,
+        line.prompt,
+        term,
+        listener,
+    );
     Ok((session, served))
 }
 
@@ -121,12 +131,13 @@ fn finish<D: Disk>(
 }
 
 /// Reads the input, serves the commands over it, and after an exit writes the output. The number is for the name of a draft.
-fn edit<S: Source, T: Terminal, D: Disk>(
+fn edit<S: Source, T: Terminal, L: Listens, D: Disk>(
     alloc: Global,
     line: &Line,
     number: u32,
     commands: &mut S,
     term: &mut T,
+    listener: &mut L,
     disk: &mut D,
 ) -> Fate
     requires depth { IfSome line.now.undo IsDepth }
@@ -143,7 +154,7 @@ fn edit<S: Source, T: Terminal, D: Disk>(
     let Ok(name) = output_name(alloc, line) else {
         return Fate::NoMemory;
     };
-    let Ok((session, served)) = serve_over(alloc, line, input, commands, term) else {
+    let Ok((session, served)) = serve_over(alloc, line, input, commands, term, listener) else {
         return Fate::NoMemory;
     };
     finish(
@@ -157,12 +168,13 @@ fn edit<S: Source, T: Terminal, D: Disk>(
 }
 
 /// The same by the commands in a word.
-fn edit_by_word<T: Terminal, D: Disk>(
+fn edit_by_word<T: Terminal, L: Listens, D: Disk>(
     alloc: Global,
     line: &Line,
     word: &str,
     number: u32,
     term: &mut T,
+    listener: &mut L,
     disk: &mut D,
 ) -> Fate
     requires depth { IfSome line.now.undo IsDepth }
@@ -180,16 +192,17 @@ fn edit_by_word<T: Terminal, D: Disk>(
         return Fate::NoMemory;
     };
     let mut commands = WordSource::new(bytes);
-    edit(alloc, line, number, &mut commands, term, disk)
+    edit(alloc, line, number, &mut commands, term, listener, disk)
 }
 
 /// The same by the commands in a file.
-fn edit_by_file<T: Terminal, D: Disk>(
+fn edit_by_file<T: Terminal, L: Listens, D: Disk>(
     alloc: Global,
     line: &Line,
     name: &str,
     number: u32,
     term: &mut T,
+    listener: &mut L,
     disk: &mut D,
 ) -> Fate
     requires depth { IfSome line.now.undo IsDepth }
@@ -203,18 +216,19 @@ fn edit_by_file<T: Terminal, D: Disk>(
         result name.now }
 {
     match disk.open(name) {
-        Ok(mut commands) => edit(alloc, line, number, &mut commands, term, disk),
+        Ok(mut commands) => edit(alloc, line, number, &mut commands, term, listener, disk),
         Err(error) => fate_of(error, Fate::NoCommands),
     }
 }
 
 /// The same by the commands that the line says: those on standard input, or its own.
-fn edit_by_line<S: Source, T: Terminal, D: Disk>(
+fn edit_by_line<S: Source, T: Terminal, L: Listens, D: Disk>(
     alloc: Global,
     line: &Line,
     number: u32,
     commands: &mut S,
     term: &mut T,
+    listener: &mut L,
     disk: &mut D,
 ) -> Fate
     requires depth { IfSome line.now.undo IsDepth }
@@ -232,10 +246,60 @@ fn edit_by_line<S: Source, T: Terminal, D: Disk>(
         (λ name. RunsOn (seen disk.old).input (Opens (D.files disk.old) name) edits) result) }
 {
     match &line.commands {
-        Commands::StandardInput => edit(alloc, line, number, commands, term, disk),
-        Commands::Word(word) => edit_by_word(alloc, line, word.as_str(), number, term, disk),
-        Commands::File(name) => edit_by_file(alloc, line, name.as_str(), number, term, disk),
+        Commands::StandardInput => edit(alloc, line, number, commands, term, listener, disk),
+        Commands::Word(word) => edit_by_word(
+            alloc,
+            line,
+            word.as_str(),
+            number,
+            term,
+            listener,
+            disk,
+        ),
+        Commands::File(name) => edit_by_file(
+            alloc,
+            line,
+            name.as_str(),
+            number,
+            term,
+            listener,
+            disk,
+        ),
     }
+}
+
+/// The same, and where the line asks for it what is done is explained in notes.
+fn edit_noted<S: Source, T: Terminal, N: Terminal, D: Disk>(
+    alloc: Global,
+    line: &Line,
+    number: u32,
+    commands: &mut S,
+    term: &mut T,
+    notes: &mut N,
+    disk: &mut D,
+) -> Fate
+    requires depth { IfSome line.now.undo IsDepth }
+    ensures edits { let seen = disk_seen D.files D.left D.gave
+        (source_view D.Input.coming D.Input.bound D.Input.failures D.Input.ended) in
+        let word_view = source_view ⟦<WordSource as Source>⟧.coming ⟦<WordSource as Source>⟧.bound
+        ⟦<WordSource as Source>⟧.failures ⟦<WordSource as Source>⟧.ended in
+        let edits : CommandsSeen → Type 0 = λ given. Edits line.now (seen disk.old) (seen disk.new)
+        given (terminal_seen T.screen term.old term.new) result in
+        let idle : Type 0 = (term.new ≡ term.old) × KeepsDisk (seen disk.old) (seen disk.new) in
+        EditsByLine line.now (commands.new ≡ commands.old)
+        (edits (commands_seen (source_view S.coming S.bound S.failures S.ended) commands.old commands.new))
+        (EditsByWord idle (λ bytes. RunsOn word_view (λ coming. coming ≡ Some bytes) edits) result)
+        (EditsByFile (D.gave disk.new) idle
+        (λ name. RunsOn (seen disk.old).input (Opens (D.files disk.old) name) edits) result) }
+    ensures silent { line.now.explain ≡ false → notes.new ≡ notes.old }
+{
+    if !line.explain {
+        return edit_by_line(alloc, line, number, commands, term, &mut Silent, disk);
+    }
+    let mut explainer = Explainer::new(alloc, line.prompt, notes);
+    let fate = edit_by_line(alloc, line, number, commands, term, &mut explainer, disk);
+    explainer.ended(line, fate);
+    fate
 }
 
 fn no_memory<E: Terminal>(errors: &mut E) -> ExitCode
@@ -307,17 +371,19 @@ fn line_in(alloc: Global, words: Result<Vec<String>, LineFault>) -> Result<Line,
     }
 }
 
-/// Runs over the line of these words, and gives the status. The number is for the name of a draft.
-pub fn program<S: Source, T: Terminal, E: Terminal, D: Disk>(
+/// Runs over the line of these words, and gives the status. The number is for the name of a draft. The notes are for what the line asks
+/// to be explained.
+pub fn program<S: Source, T: Terminal, E: Terminal, N: Terminal, D: Disk>(
     alloc: Global,
     words: Result<Vec<String>, LineFault>,
     number: u32,
     commands: &mut S,
     term: &mut T,
     errors: &mut E,
+    notes: &mut N,
     disk: &mut D,
 ) -> ExitCode
-    ensures { Refuses words ((commands.new ≡ commands.old) × (disk.new ≡ disk.old)) result
+    ensures run { Refuses words ((commands.new ≡ commands.old) × (disk.new ≡ disk.old)) result
         ⊎ RunsOver words
         (λ line fate. let seen = disk_seen D.files D.left D.gave
         (source_view D.Input.coming D.Input.bound D.Input.failures D.Input.ended) in
@@ -332,10 +398,11 @@ pub fn program<S: Source, T: Terminal, E: Terminal, D: Disk>(
         (EditsByFile (D.gave disk.new) idle
         (λ name. RunsOn (seen disk.old).input (Opens (D.files disk.old) name) edits) fate))
         (λ line fate. Concludes line fate (E.screen errors.old) (E.screen errors.new) result) }
+    ensures silent { (line : Line) → IsLineIn words line → line.explain ≡ false → notes.new ≡ notes.old }
 {
     match line_in(alloc, words) {
         Ok(line) => {
-            let fate = edit_by_line(alloc, &line, number, commands, term, disk);
+            let fate = edit_noted(alloc, &line, number, commands, term, notes, disk);
             conclude(alloc, &line, fate, errors)
         }
         Err(fault) => refuse(&fault, term, errors),

@@ -8,6 +8,7 @@ ghost use Rattle.teco.specs.Source.{Gives, HasEnded};
 ghost use Rattle.teco_step.specs.Terminal.{Shows};
 
 use crate::exchange::{do_exchange, show_prompt};
+use crate::listener::Listens;
 use crate::served::Served;
 use crate::source::{Source, SourceFault};
 use crate::splitter::Splitter;
@@ -19,12 +20,13 @@ use teco_step::{Terminal, TerminalFault};
 const PIECE: usize = 4096;
 
 /// Does what each held text asks, unless that ends the serving; says how the serving ends, if it does.
-fn serve_held<T: Terminal>(
+fn serve_held<T: Terminal, L: Listens>(
     splitter: &mut Splitter,
     session: &mut Session,
     limit: u64,
     prompt: bool,
     term: &mut T,
+    listener: &mut L,
 ) -> Option<Served>
     ensures { (exchanges : List Exchange)
         × Exchanges limit (history_of session.old) exchanges (history_of session.new)
@@ -37,7 +39,7 @@ fn serve_held<T: Terminal>(
             Err(_) => return Some(Served::NoMemory),
             Ok(None) => return None,
             Ok(Some(asked)) => {
-                if let Some(served) = do_exchange(&asked, session, limit, prompt, term) {
+                if let Some(served) = do_exchange(&asked, session, limit, prompt, term, listener) {
                     return Some(served);
                 }
             }
@@ -46,17 +48,18 @@ fn serve_held<T: Terminal>(
 }
 
 /// Reads pieces of the stream, cuts them into texts, and does what each asks before it reads again; `limit` is the most steps that
-/// each command string may take. With `prompt` a star asks for commands.
+/// each command string may take. With `prompt` a star asks for commands. The listener hears what is done for each text.
 ///
 /// However the source cuts its bytes, what is done is a beginning of what they ask, and all of it at the end of the stream and where
 /// a read fails. It ends where a run makes the session done, and at the first put that fails; nothing is done after that.
-pub fn serve<S: Source, T: Terminal>(
+pub fn serve<S: Source, T: Terminal, L: Listens>(
     alloc: Global,
     source: &mut S,
     session: &mut Session,
     limit: u64,
     prompt: bool,
     term: &mut T,
+    listener: &mut L,
 ) -> Served
     ensures { Serves limit prompt
         (Gives S.coming S.bound S.failures source.old source.new)
@@ -80,7 +83,7 @@ pub fn serve<S: Source, T: Terminal>(
         if splitter.feed(&piece[..n]).is_err() {
             return Served::NoMemory;
         }
-        if let Some(served) = serve_held(&mut splitter, session, limit, prompt, term) {
+        if let Some(served) = serve_held(&mut splitter, session, limit, prompt, term, listener) {
             return served;
         }
     }

@@ -10,7 +10,7 @@ use Rattle.teco_debug.specs.declared.command.Fault.{Fault}
 use Rattle.teco_debug.specs.declared.command.Fault.TheVariants.{NoCommand, NoRegister, NoPlace, TooMuch}
 use Rattle.teco_debug.specs.declared.finding.Part.{Part}
 use Rattle.teco_debug.specs.declared.finding.Part.TheVariants as part
-use Rattle.teco_debug.specs.declared.spot.Spot.{Spot}
+use Rattle.teco_telling.specs.declared.spot.Spot.{Spot}
 use Rattle.teco_debug.specs.declared.verb.Verb.{Verb}
 use Rattle.teco_debug.specs.declared.verb.Verb.TheVariants.{Next, Back, Goto, End, Start, Where, Text, Register, All, State, Find, Break, Continue, Typed, Undo, Help, Quit}
 

@@ -5,9 +5,9 @@ ghost use Rattle.teco_debug.specs.Verb.{alone, colon_in, command_in, command_of,
 
 use crate::finding::Part;
 use crate::number::number_in;
-use crate::spot::Spot;
 use crate::verb::Verb;
 use teco_core::Reg;
+use teco_telling::Spot;
 use thiserror::Error;
 
 /// What is asked.

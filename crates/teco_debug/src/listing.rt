@@ -1,12 +1,11 @@
 //! The parts of a state, shown.
 ghost use Rattle.std.specs.Prelude.{◌≡◌, ◌≤◌, ◌++◌, length};
 
-use crate::showing::letter;
-use crate::spelling::{spell, spell_byte};
 use std::fmt::Write;
 use teco_core::{CaseMode, NoMemory, Reg};
 use teco_step::line_place;
 use teco_store::{Desk, Editor, part};
+use teco_telling::{letter, spell, spell_byte};
 
 /// The most bytes that are shown of a register's text among others.
 const MOST_SHOWN: usize = 40;

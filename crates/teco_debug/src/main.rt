@@ -9,11 +9,8 @@ mod moving;
 mod number;
 mod program;
 mod reading;
-mod sentence;
 mod serving;
 mod showing;
-mod spelling;
-mod spot;
 mod verb;
 mod walk;
 

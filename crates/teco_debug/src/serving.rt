@@ -5,8 +5,6 @@ use crate::finding::{Part, last_change};
 use crate::listing::{show_register, show_registers, show_state, show_text};
 use crate::moving::{ahead, behind};
 use crate::showing::{show_step, show_where};
-use crate::spelling::spell;
-use crate::spot::{Spot, spot_of};
 use crate::walk::Walk;
 use std::alloc::Global;
 use std::fmt::Write;
@@ -14,6 +12,7 @@ use std::io::BufRead;
 use teco_core::NoMemory;
 use teco_exec::Place;
 use teco_step::{Terminal, TerminalFault};
+use teco_telling::{Spot, spell, spot_of};
 
 /// What `help` shows.
 const HELP: &str = "next [N]         n  N steps on, 1 without N

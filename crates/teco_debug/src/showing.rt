@@ -1,62 +1,21 @@
 //! Where a walk stands, shown.
 
-use crate::sentence::sentence;
-use crate::spelling::spell;
-use crate::spot::{line_end, line_start, spot_of};
 use crate::walk::{Seen, Walk};
 use std::alloc::Global;
 use std::fmt::Write;
-use teco_core::{Code, NoMemory, Reg};
+use teco_core::{Code, NoMemory};
 use teco_exec::Place;
-use teco_scan::{Found, token_at};
 use teco_store::Desk;
+use teco_telling::{
+    line_end, line_start, show_call, show_code, show_place, spell, text_under, token,
+};
 
-/// The letter or the digit that names a register.
-pub fn letter(q: Reg) -> char {
-    let index = q.index() as u8;
-    char::from(if index < 26 {
-        b'A' + index
-    } else {
-        b'0' - 26 + index
-    })
-}
+/// Where no token is, one byte is shown.
+const MOST_FAULTY: usize = 1;
 
 /// The innermost of the texts with these calls, as it is now: the string, or what a register holds.
 fn innermost<'a>(walk: &'a Walk, place: &Place) -> &'a [u8] {
-    match place.calls.first() {
-        Some(call) => walk.editor().registers().text(call.register),
-        None => walk.text(),
-    }
-}
-
-/// The text in which the call `k` is, of those that are open, the latest first.
-fn outer<'a>(walk: &'a Walk, place: &Place, k: usize) -> &'a [u8] {
-    match place.calls.get(k.wrapping_add(1)) {
-        Some(call) => walk.editor().registers().text(call.register),
-        None => walk.text(),
-    }
-}
-
-/// The token at a place, as it is spelled; where none is there, the byte.
-fn token(text: &[u8], at: usize) -> &[u8] {
-    if at > text.len() {
-        return &[];
-    }
-    let whole = match token_at(text, at) {
-        Found::Token(token) => text.get(token.span.from..token.span.to),
-        Found::End => None,
-        Found::Fault(_) => text.get(at..at.saturating_add(1)),
-    };
-    whole.unwrap_or(&[])
-}
-
-/// Shows a place of a text as a line and a column; one that the text has no more, as what it is.
-fn show_spot(out: &mut String, text: &[u8], at: usize) -> Result<(), NoMemory> {
-    if at > text.len() {
-        return out.push_str("a text that is changed");
-    }
-    let spot = spot_of(text, at);
-    write!(out, "{spot}")
+    text_under(place, 0, walk.editor().registers(), walk.text())
 }
 
 /// Shows the step, the place and the token, in a line.
@@ -70,21 +29,15 @@ pub fn show_step(out: &mut String, walk: &Walk, seen: &Seen) -> Result<(), NoMem
     if let Some(code) = seen.outcome.code
         && code != Code::Lim
     {
-        let said = sentence(code);
-        write!(out, ": {code}, {said}")?;
+        show_code(out, code)?;
     }
     out.push_str("\n")
 }
 
 fn show_token(out: &mut String, walk: &Walk, place: &Place) -> Result<(), NoMemory> {
-    if let Some(call) = place.calls.first() {
-        let name = letter(call.register);
-        write!(out, "{name} ")?;
-    }
-    let text = innermost(walk, place);
-    show_spot(out, text, place.at)?;
+    show_place(out, place, walk.editor().registers(), walk.text())?;
     out.push_str(", ")?;
-    spell(out, token(text, place.at))
+    spell(out, token(innermost(walk, place), place.at, MOST_FAULTY))
 }
 
 fn push_many(out: &mut String, text: &str, n: usize) -> Result<(), NoMemory> {
@@ -109,7 +62,7 @@ fn show_line(out: &mut String, text: &[u8], at: usize) -> Result<(), NoMemory> {
     let alloc = *out.allocator();
     let start = line_start(text, at);
     let end = line_end(text, at);
-    let inside = token(text, at).len().min(end - at);
+    let inside = token(text, at, MOST_FAULTY).len().min(end - at);
     out.push_str("    ")?;
     spell(out, &text[start..end])?;
     out.push_str("\n    ")?;
@@ -141,9 +94,7 @@ fn show_calls(out: &mut String, walk: &Walk, place: &Place) -> Result<(), NoMemo
         out.push_str("\n")?;
     }
     for (k, call) in place.calls.iter().enumerate() {
-        let name = letter(call.register);
-        write!(out, "{name} is called at ")?;
-        show_spot(out, outer(walk, place, k), call.at)?;
+        show_call(out, place, k, walk.editor().registers(), walk.text())?;
         show_turns(out, call.turns.as_slice())?;
         out.push_str("\n")?;
     }

@@ -85,8 +85,8 @@ fn gives_the_status_of_a_refused_line(rt: HostRuntime) {
     }
 }
 
-/// An input, an output, a limit, whether there is a prompt, and a depth.
-type Given<'a> = (&'a str, Option<&'a str>, u64, bool, Option<u64>);
+/// An input, an output, a limit, whether there is a prompt and whether errors are explained, and a depth.
+type Given<'a> = (&'a str, Option<&'a str>, u64, (bool, bool), Option<u64>);
 
 /// Words with blanks between them, and what they give; none where they are refused.
 type Row<'a> = (&'a str, Option<Given<'a>>);
@@ -100,12 +100,12 @@ fn words_of(alloc: Global, text: &str) -> Result<Vec<String>, NoMemory> {
 }
 
 fn is_line(line: &Line, given: &Given) -> bool {
-    let (input, output, limit, prompt, undo) = *given;
+    let (input, output, limit, flags, undo) = *given;
     let named = line.output.as_ref().map(|name| name.as_str());
     line.input.as_str() == input
         && named == output
         && line.limit == limit
-        && line.prompt == prompt
+        && (line.prompt, line.explain) == flags
         && line.undo == undo
 }
 
@@ -125,22 +125,25 @@ fn says(alloc: Global, row: &Row) -> bool {
 }
 
 static ROWS: [Row<'static>; 8] = [
-    ("teco in", Some(("in", None, 1_000_000, false, None))),
     (
-        "teco --limit 5 --output o --prompt in",
-        Some(("in", Some("o"), 5, true, None)),
+        "teco in",
+        Some(("in", None, 1_000_000, (false, false), None)),
     ),
     (
-        "teco in --limit=1000000000000",
-        Some(("in", None, 1_000_000_000_000, false, None)),
+        "teco --limit 5 --output o --prompt in",
+        Some(("in", Some("o"), 5, (true, false), None)),
+    ),
+    (
+        "teco in --limit=1000000000000 --explain",
+        Some(("in", None, 1_000_000_000_000, (false, true), None)),
     ),
     (
         "teco --undo 1 in",
-        Some(("in", None, 1_000_000, false, Some(1))),
+        Some(("in", None, 1_000_000, (false, false), Some(1))),
     ),
     (
         "teco in --undo=100000",
-        Some(("in", None, 1_000_000, false, Some(100_000))),
+        Some(("in", None, 1_000_000, (false, false), Some(100_000))),
     ),
     ("teco --undo 0 in", None),
     ("teco --undo 100001 in", None),

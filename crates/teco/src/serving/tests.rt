@@ -1,5 +1,6 @@
 //! What is typed and written at streams of commands, and how serving them ends.
 use super::*;
+use crate::listener::Silent;
 use crate::memory_source::MemorySource;
 use crate::tests::bytes::are_both;
 use std::process::Abort;
@@ -113,7 +114,15 @@ fn serves(
     row: &Row,
 ) -> bool {
     let mut term = MemoryTerminal::new(alloc);
-    let served = serve(alloc, source, session, how.limit, how.prompt, &mut term);
+    let served = serve(
+        alloc,
+        source,
+        session,
+        how.limit,
+        how.prompt,
+        &mut term,
+        &mut Silent,
+    );
     served == how.served && term.bytes() == row.1.as_bytes() && is_left(session, how, row)
 }
 

@@ -11,12 +11,13 @@ use std::process::ExitCode;
 use teco_core::NoMemory;
 use teco_step::MemoryTerminal;
 
-/// The words of a run, with blanks between them, its commands, and what it types, tells on standard error and ends with.
+/// The words of a run, with blanks between them, its commands, and what it types, tells on standard error, notes there besides and ends with.
 struct Run<'a> {
     words: &'a str,
     commands: &'a str,
     typed: &'a str,
     told: &'a str,
+    noted: &'a str,
     status: u8,
 }
 
@@ -45,10 +46,21 @@ fn runs_on<D: Disk>(alloc: Global, disk: &mut D, run: &Run) -> bool {
     );
     let mut term = MemoryTerminal::new(alloc);
     let mut errors = MemoryTerminal::new(alloc);
-    let status = program(alloc, words, 7, &mut commands, &mut term, &mut errors, disk);
+    let mut notes = MemoryTerminal::new(alloc);
+    let status = program(
+        alloc,
+        words,
+        7,
+        &mut commands,
+        &mut term,
+        &mut errors,
+        &mut notes,
+        disk,
+    );
     status == ExitCode::from(run.status)
         && term.bytes() == run.typed.as_bytes()
         && errors.bytes() == run.told.as_bytes()
+        && notes.bytes() == run.noted.as_bytes()
 }
 
 /// Files by their names.
@@ -92,6 +104,7 @@ const EXITS: Run = Run {
     commands: PAGE,
     typed: "3\r\n",
     told: "",
+    noted: "",
     status: 0,
 };
 
@@ -101,6 +114,7 @@ const ENDS: Run = Run {
     commands: "",
     typed: "",
     told: "",
+    noted: "",
     status: 2,
 };
 
@@ -267,6 +281,7 @@ static OF_THE_SYSTEM: [Run; 2] = [
         commands: "EX\x1b\x1b",
         typed: "",
         told: "teco: cannot write no/x\n",
+        noted: "",
         status: 1,
     },
 ];

@@ -29,9 +29,9 @@ returns-then-is_refused g c =
     let silent = subst (λ l. Shows (g.T.Terminal.screen c.moves.term) (g.T.Terminal.screen c.answer-answer.new.term) l false) quiet.typed_none before in (
       m.0 ++ reply ∷ [],
       m.2 (reply ∷ []) new (subst (λ k. Repeats c.args.limit c.args.request.now k (history_of c.moves.session) (reply ∷ []) new) (sym (less_one c.args.n c.moves._i (omega arith))) last),
-      subst (λ l. Puts (g.T.Terminal.screen c.args.term.now) (g.T.Terminal.screen c.show_message.new.term) l c.show_message.result) (sym one)
-          (Puts-after (g.T.Terminal.screen c.show_message.new.term) (message reply.answer) c.show_message.result (Shows-trans c.moves.invariant.shown silent) c.show_message.ensures.puts),
-      subst (λ l. OnErr c.show_message.result (l ≢ [])) (sym one) c.show_message.ensures.some,
+      subst (λ l. Puts (g.T.Terminal.screen c.args.term.now) (g.T.Terminal.screen c.show_refusal.new.term) l c.show_refusal.result) (sym one)
+          (Puts-after (g.T.Terminal.screen c.show_refusal.new.term) (message reply.answer) c.show_refusal.result (Shows-trans c.moves.invariant.shown silent) c.show_refusal.ensures.puts),
+      subst (λ l. OnErr c.show_refusal.result (l ≢ [])) (sym one) c.show_refusal.ensures.some,
     )
 
 pub moves-preserved : goal.moves-preserved

@@ -38,6 +38,7 @@ returns-clause-line c =
     let limit = limit_read (λ bs r. ParsesUnsigned 64 10 bs r × ExplainsUnsignedError 10 bs r × HasUnsignedDigitsIfOk bs r) (λ u x g. g.0)
     c.args.command c.requires.command m parse.parsed c.get_one.result c.get_one.ensures.value in
     let flag = flag_read ParsesBool (λ u x g. g) (one_text (found_of m) (codes "prompt")) c.get_one-2.result c.get_one-2.ensures.none c.get_one-2.ensures.value in
+    let explained = flag_read ParsesBool (λ u x g. g) (one_text (found_of m) (codes "explain")) c.get_one-4.result c.get_one-4.ensures.none c.get_one-4.ensures.value in
     let undo = undo_read (λ bs r. ParsesUnsigned 64 10 bs r × ExplainsUnsignedError 10 bs r × HasUnsignedDigitsIfOk bs r) (λ u x g. g.0)
     c.args.command c.requires.command m parse.parsed c.get_one-3.result c.get_one-3.ensures.none c.get_one-3.ensures.value in
     let input : first_value (found_of m) (codes "input") ≡ Some (string_bytes c.in_ok-input.input) =
@@ -50,7 +51,7 @@ returns-clause-line c =
     ] in
     line_is c.args.command m (map (λ x. string_bytes x) c.args.words.now) c.requires.command parse.matches parse.kinds _ input output
     _ _ c.get_str.ensures c.get_str-2.ensures c.in_ok-commands.ensures.commands
-    (limit.2 ∙ ap Some (sym (taken_is c.get_one.result _ _ c.unwrap-limit.ensures limit.1))) (rw c.unwrap_or.ensures flag) undo.0
+    (limit.2 ∙ ap Some (sym (taken_is c.get_one.result _ _ c.unwrap-limit.ensures limit.1))) (rw c.unwrap_or.ensures flag) (rw c.unwrap_or-2.ensures explained) undo.0
 
 pub returns-clause-range : goal.returns-clause-range
 returns-clause-range c =

@@ -1,5 +1,6 @@
 //! The examples of the pages in docs. `docs/rows --write` makes their tables.
 use super::{How, PLAIN, session_over, source_of};
+use crate::listener::Silent;
 use crate::served::Served;
 use crate::serving::serve;
 use crate::tests::assert_of;
@@ -76,6 +77,7 @@ fn holds_once(alloc: Global, how: &How, example: &Example, single: bool, untold:
         how.limit,
         how.prompt,
         &mut term,
+        &mut Silent,
     );
     are_told(alloc, term.bytes(), typed, untold) && is_ended(served, &session, *output)
 }

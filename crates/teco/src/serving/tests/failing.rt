@@ -1,5 +1,6 @@
 //! Streams on a terminal that fails after so many bytes, and from a reader that does.
 use super::{bytes_of, source_of};
+use crate::listener::Silent;
 use crate::memory_source::MemorySource;
 use crate::reader_source::ReaderSource;
 use crate::served::Served;
@@ -77,7 +78,7 @@ fn serve_on(
     writer: &mut FailAfter,
 ) -> Served {
     let mut term = WriterTerminal::new(writer);
-    serve(alloc, source, session, 1000, false, &mut term)
+    serve(alloc, source, session, 1000, false, &mut term, &mut Silent)
 }
 
 fn shows(alloc: Global, source: &mut MemorySource, typed: &[u8], room: usize) -> bool {
@@ -107,7 +108,15 @@ fn each_put_fails(alloc: Global, row: &Row) -> bool {
 fn leaves<S: Source>(alloc: Global, source: &mut S, wanted: Served, left: &mut Vec<u8>) -> bool {
     let mut session = session_over(alloc, INPUT);
     let mut term = MemoryTerminal::new(alloc);
-    serve(alloc, source, &mut session, 1000, false, &mut term) == wanted
+    serve(
+        alloc,
+        source,
+        &mut session,
+        1000,
+        false,
+        &mut term,
+        &mut Silent,
+    ) == wanted
         && left.extend_from_slice(term.bytes()).is_ok()
         && left
             .extend_from_slice(&seen(alloc, session.editor()))
@@ -159,7 +168,15 @@ fn stops_before(alloc: Global, source: &mut MemorySource, byte: u8) -> bool {
     let mut room: [u8; 0] = [];
     let mut term = WriterTerminal::new(room.as_mut_slice());
     let mut next = [0];
-    serve(alloc, source, &mut session, 1000, false, &mut term) == Served::ShowFault
+    serve(
+        alloc,
+        source,
+        &mut session,
+        1000,
+        false,
+        &mut term,
+        &mut Silent,
+    ) == Served::ShowFault
         && session.strings() == 1
         && matches!(source.read(&mut next), Ok(1))
         && next[0] == byte

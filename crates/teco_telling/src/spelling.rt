@@ -1,7 +1,7 @@
 //! How bytes are spelled.
 ghost use Rattle.std.specs.Prelude.{◌≡◌, ◌<◌, ◌++◌, ◌∷◌, [], OnOk};
 ghost use Rattle.std.specs.String.{string_bytes};
-ghost use Rattle.teco_debug.specs.Spelling.{hex_digit, spelled, spelling};
+ghost use Rattle.teco_telling.specs.Spelling.{hex_digit, spelled, spelling};
 
 use teco_core::{ESC, NoMemory};
 

@@ -1,7 +1,7 @@
 //! Lines and columns.
 ghost use Rattle.std.specs.Prelude.{◌≡◌, ◌≤◌, ◌+◌, length, take, count_by};
 ghost use Rattle.std.specs.List.{after_last};
-ghost use Rattle.teco_debug.specs.Spot.{is_newline, spot_of};
+ghost use Rattle.teco_telling.specs.Spot.{is_newline, spot_of};
 
 use std::fmt;
 

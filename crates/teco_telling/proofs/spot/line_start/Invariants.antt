@@ -1,8 +1,8 @@
-use Rattle.std.proofs.Common.{◌≡◌, ◌+◌, ◌≤◌, length, take}
+use Rattle.std.proofs.Common.{◌≡◌, ◌+◌, ◌≤◌, take}
 use Rattle.std.specs.Prelude.{not}
 use Rattle.std.specs.List.{suffix_len}
-use Rattle.teco_debug.specs.Spot.{is_newline}
-use Rattle.teco_debug.proofs.spot.line_start.Given as goal
+use Rattle.teco_telling.specs.Spot.{is_newline}
+use Rattle.teco_telling.proofs.spot.line_start.Given as goal
 
 abbrev pub invariant-loop-start : goal.invariant-loop-start
 invariant-loop-start l = record {

@@ -1,7 +1,7 @@
 -- Lines and columns.
 use Rattle.std.specs.Prelude.{ℕ, ◌+◌, Bool, ◌==◌, List, take, length, count_by}
 use Rattle.std.specs.List.{after_last}
-use Rattle.teco_debug.specs.declared.spot.Spot.{Spot}
+use Rattle.teco_telling.specs.declared.spot.Spot.{Spot}
 
 abbrev pub is_newline : ℕ → Bool
 is_newline b = b == 10

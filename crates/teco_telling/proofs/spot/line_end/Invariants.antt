@@ -1,5 +1,5 @@
 use Rattle.std.proofs.Common.{◌-◌, ◌≤◌, length}
-use Rattle.teco_debug.proofs.spot.line_end.Given as goal
+use Rattle.teco_telling.proofs.spot.line_end.Given as goal
 
 abbrev pub invariant-loop-end : goal.invariant-loop-end
 invariant-loop-end l = (l.fn.at ≤ l.end) × (l.end ≤ length l.text)
