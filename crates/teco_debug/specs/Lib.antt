@@ -1,5 +1,1 @@
-pub mod Walk
-pub mod Finding
 pub mod Spelling
-pub mod Verb
-pub mod Number

@@ -1,18 +1,13 @@
 //! The program: walks over the steps of a command string, forward and back, by commands on standard input.
 #![tactic(auto)]
 
-mod command;
-mod finding;
 mod line;
 mod listing;
 mod moving;
-mod number;
 mod program;
 mod reading;
 mod serving;
 mod showing;
-mod verb;
-mod walk;
 
 use crate::program::program;
 use std::process::ExitCode;

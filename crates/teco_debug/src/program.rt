@@ -5,7 +5,6 @@ ghost use Rattle.teco_core.specs.declared.limits.TheConstants.{FILE_LIMIT};
 use crate::line::{Line, LineFault, line_of};
 use crate::reading::{FileFault, read_file, with_escapes};
 use crate::serving::{Debugger, Served, serve};
-use crate::walk::Walk;
 use std::alloc::Global;
 use std::env;
 use std::fmt::Write;
@@ -14,6 +13,7 @@ use std::process::ExitCode;
 use std::rt::{Env, Files};
 use teco_core::NoMemory;
 use teco_step::Terminal;
+use teco_walk::Walk;
 
 /// Why the program does not end well.
 #[derive(Drop)]

@@ -1,11 +1,8 @@
 //! The commands, served over a walk.
 
-use crate::command::Command;
-use crate::finding::{Part, last_change};
 use crate::listing::{show_register, show_registers, show_state, show_text};
 use crate::moving::{ahead, behind};
 use crate::showing::{show_step, show_where};
-use crate::walk::Walk;
 use std::alloc::Global;
 use std::fmt::Write;
 use std::io::BufRead;
@@ -13,6 +10,7 @@ use teco_core::NoMemory;
 use teco_exec::Place;
 use teco_step::{Terminal, TerminalFault};
 use teco_telling::{Spot, spell, spot_of};
+use teco_walk::{Command, Part, Walk, last_change};
 
 /// What `help` shows.
 const HELP: &str = "next [N]         n  N steps on, 1 without N

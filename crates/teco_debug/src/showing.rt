@@ -1,6 +1,5 @@
 //! Where a walk stands, shown.
 
-use crate::walk::{Seen, Walk};
 use std::alloc::Global;
 use std::fmt::Write;
 use teco_core::{Code, NoMemory};
@@ -9,6 +8,7 @@ use teco_store::Desk;
 use teco_telling::{
     line_end, line_start, show_call, show_code, show_place, spell, text_under, token,
 };
+use teco_walk::{Seen, Walk};
 
 /// Where no token is, one byte is shown.
 const MOST_FAULTY: usize = 1;

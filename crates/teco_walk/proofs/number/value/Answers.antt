@@ -1,8 +1,8 @@
 use Rattle.std.proofs.Common.{◌≡◌, ◌+◌, ◌*◌, ◌^◌, ◌≤◌, arith, sym, ap, drop, add-one, pow-suc, ◌∙◌}
 use Rattle.std.proofs.Math.Nat.{pow-le-pow_right}
 use Rattle.teco_core.specs.Number.{digits_value}
-use Rattle.teco_debug.proofs.Digits.{digit_at, digits_value-more, digits_value-all}
-use Rattle.teco_debug.proofs.number.value.Goals as goal
+use Rattle.teco_walk.proofs.Digits.{digit_at, digits_value-more, digits_value-all}
+use Rattle.teco_walk.proofs.number.value.Goals as goal
 
 pub overflow_mul-number : goal.overflow_mul-number
 overflow_mul-number c =

@@ -4,7 +4,7 @@ ghost use Rattle.teco_core.specs.declared.limits.TheConstants.{FILE_LIMIT};
 ghost use Rattle.teco_exec.specs.Places.{IsPlaceAfter};
 ghost use Rattle.teco_exec.specs.Telling.{told_of};
 ghost use Rattle.teco_store.specs.State.{beginning, state_of};
-ghost use Rattle.teco_debug.specs.Walk.{SameString, lacks_memory, meant, state_there};
+ghost use Rattle.teco_walk.specs.Walk.{SameString, lacks_memory, meant, state_there};
 
 use std::alloc::Global;
 use std::marker::Model;
@@ -27,7 +27,7 @@ pub struct Walk {
 }
 
 impl Model for Walk {
-    ghost use Rattle.teco_debug.specs.Walk.{KeptWalk, kept_walk, IsWalk};
+    ghost use Rattle.teco_walk.specs.Walk.{KeptWalk, kept_walk, IsWalk};
 
     ghost Value = { KeptWalk };
 

@@ -8,7 +8,7 @@ use Rattle.teco_store.specs.Turn.{Note}
 use Rattle.teco_exec.specs.StringMeaning.{StringMeaning, string_meaning}
 use Rattle.teco_session.specs.History.{History}
 use Rattle.teco_session.specs.Kept.{history_of, string_at}
-use Rattle.teco_debug.specs.declared.walk.Walk.TheInside.{Inside}
+use Rattle.teco_walk.specs.declared.walk.Walk.TheInside.{Inside}
 
 -- the string and its input, how many of its steps are done, and the changes that they made
 pub record KeptWalk : Type 0 where

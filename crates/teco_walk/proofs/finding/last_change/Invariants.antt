@@ -1,6 +1,6 @@
 use Rattle.std.proofs.Common.{◌≡◌, ◌≤◌, length, drop, None}
-use Rattle.teco_debug.specs.Finding.{last_change}
-use Rattle.teco_debug.proofs.finding.last_change.Given as goal
+use Rattle.teco_walk.specs.Finding.{last_change}
+use Rattle.teco_walk.proofs.finding.last_change.Given as goal
 
 abbrev pub invariant-loop-left : goal.invariant-loop-left
 invariant-loop-left l = record {

@@ -1,6 +1,6 @@
 //! Who changed a part of the state last.
 ghost use Rattle.std.specs.Prelude.{◌≡◌};
-ghost use Rattle.teco_debug.specs.Finding.{is_for, last_change, step_before};
+ghost use Rattle.teco_walk.specs.Finding.{is_for, last_change, step_before};
 
 use teco_core::Reg;
 use teco_store::{Change, ChangeKind};

@@ -3,7 +3,7 @@ ghost use Rattle.std.specs.List.{list_all};
 ghost use Rattle.std.specs.Prelude.{◌≡◌, ◌<◌, length, IsTrue};
 ghost use Rattle.teco_core.specs.Ascii.{is_digit};
 ghost use Rattle.teco_core.specs.Number.{digits_value};
-ghost use Rattle.teco_debug.specs.Number.{is_number, number_in};
+ghost use Rattle.teco_walk.specs.Number.{is_number, number_in};
 
 use crate::command::Fault;
 

@@ -2,8 +2,8 @@
 use Rattle.std.proofs.Common.{◌≡◌, ℕ, ◌+◌, ◌<◌, ◌≤◌, zero, suc, List, [], ◌∷◌, length, drop, get_or, Option, Some, None, refl, ap, ◌∙◌}
 use Rattle.std.proofs.lemmas.List.{at_drop_more, at_drop_all}
 use Rattle.teco_store.specs.Turn.{Note}
-use Rattle.teco_debug.specs.Finding.{last_change, or_else, step_before}
-use Rattle.teco_debug.specs.declared.finding.Part.{Part}
+use Rattle.teco_walk.specs.Finding.{last_change, or_else, step_before}
+use Rattle.teco_walk.specs.declared.finding.Part.{Part}
 
 -- of changes from a place on, by the first of them and the others
 pub last_change-drop : (part : Part) (notes : List Note) (i : ℕ) (note : Note) → i < length notes → get_or notes i note ≡ note

@@ -1,6 +1,6 @@
 use Rattle.std.proofs.Common.{◌-◌, sym, arith}
-use Rattle.teco_debug.proofs.Findings.{found_here, last_change-none, none_here}
-use Rattle.teco_debug.proofs.finding.last_change.Goals as goal
+use Rattle.teco_walk.proofs.Findings.{found_here, last_change-none, none_here}
+use Rattle.teco_walk.proofs.finding.last_change.Goals as goal
 
 pub loop-left-init : goal.loop-left-init
 loop-left-init c = record { within = omega arith; none_since = last_change-none c.args.part.now c.args.changes.now _ (omega arith) }

@@ -1,6 +1,6 @@
 //! The words of the commands.
 ghost use Rattle.std.specs.Prelude.{◌≡◌, find};
-ghost use Rattle.teco_debug.specs.Verb.{is_spelled, letter_of, verb_of, verbs, word_of};
+ghost use Rattle.teco_walk.specs.Verb.{is_spelled, letter_of, verb_of, verbs, word_of};
 
 /// What a command asks, without its operand.
 #[derive(Clone, Copy)]

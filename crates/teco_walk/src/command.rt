@@ -1,7 +1,7 @@
 //! The commands, a line each.
 ghost use Rattle.std.specs.List.{prefix_len, suffix_len};
 ghost use Rattle.std.specs.Prelude.{◌≡◌, ℕ, ◌≤◌, length, not, Result};
-ghost use Rattle.teco_debug.specs.Verb.{alone, colon_in, command_in, command_of, is_blank, number_or, part_in, register_in, spot_in, without_blanks_after, without_blanks_before};
+ghost use Rattle.teco_walk.specs.Verb.{alone, colon_in, command_in, command_of, is_blank, number_or, part_in, register_in, spot_in, without_blanks_after, without_blanks_before};
 
 use crate::finding::Part;
 use crate::number::number_in;

@@ -1,6 +1,6 @@
 use Rattle.std.proofs.Common.{◌≡◌, ◌<◌, ◌^◌, drop}
 use Rattle.teco_core.specs.Number.{digits_value}
-use Rattle.teco_debug.proofs.number.value.Given as goal
+use Rattle.teco_walk.proofs.number.value.Given as goal
 
 abbrev pub invariant-loop-digit : goal.invariant-loop-digit
 invariant-loop-digit l = record {

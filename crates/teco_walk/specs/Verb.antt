@@ -3,16 +3,16 @@ use Rattle.std.specs.Prelude.{ℕ, ◌+◌, ◌-◌, Bool, ◌||◌, ◌==◌, n
 use Rattle.std.specs.List.{prefix_len, suffix_len}
 use lib.Pointwise.{pointwise}
 use Rattle.teco_core.specs.Register.{register_of}
-use Rattle.teco_debug.specs.Number.{number_in}
-use Rattle.teco_debug.specs.declared.command.Command.{Command}
-use Rattle.teco_debug.specs.declared.command.Command.TheVariants as command
-use Rattle.teco_debug.specs.declared.command.Fault.{Fault}
-use Rattle.teco_debug.specs.declared.command.Fault.TheVariants.{NoCommand, NoRegister, NoPlace, TooMuch}
-use Rattle.teco_debug.specs.declared.finding.Part.{Part}
-use Rattle.teco_debug.specs.declared.finding.Part.TheVariants as part
+use Rattle.teco_walk.specs.Number.{number_in}
+use Rattle.teco_walk.specs.declared.command.Command.{Command}
+use Rattle.teco_walk.specs.declared.command.Command.TheVariants as command
+use Rattle.teco_walk.specs.declared.command.Fault.{Fault}
+use Rattle.teco_walk.specs.declared.command.Fault.TheVariants.{NoCommand, NoRegister, NoPlace, TooMuch}
+use Rattle.teco_walk.specs.declared.finding.Part.{Part}
+use Rattle.teco_walk.specs.declared.finding.Part.TheVariants as part
 use Rattle.teco_telling.specs.declared.spot.Spot.{Spot}
-use Rattle.teco_debug.specs.declared.verb.Verb.{Verb}
-use Rattle.teco_debug.specs.declared.verb.Verb.TheVariants.{Next, Back, Goto, End, Start, Where, Text, Register, All, State, Find, Break, Continue, Typed, Undo, Help, Quit}
+use Rattle.teco_walk.specs.declared.verb.Verb.{Verb}
+use Rattle.teco_walk.specs.declared.verb.Verb.TheVariants.{Next, Back, Goto, End, Start, Where, Text, Register, All, State, Find, Break, Continue, Typed, Undo, Help, Quit}
 
 -- a verb and its word
 abbrev pub word_of : Verb → List ℕ

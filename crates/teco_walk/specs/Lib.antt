@@ -1,0 +1,4 @@
+pub mod Walk
+pub mod Finding
+pub mod Verb
+pub mod Number
