@@ -1,5 +1,6 @@
 -- Tables of bytes, and the sets that are made of them.
-use Rattle.std.proofs.Common.{replicate, ◌≡◌, ℕ, ◌+◌, ◌<◌, ◌≤◌, Bool, true, false, eqb, List, length, get_or, Fits, w8, ◌++◌, ◌-◌, Some, None, Option, refl, sym, ap, ◌∙◌, arith, ⊎_elim}
+use Rattle.std.proofs.Common.{replicate, ◌≡◌, ℕ, ◌+◌, ◌<◌, ◌≤◌, Bool, true, false, eqb, List, length, get_or, Fits, w8, ◌++◌, ◌-◌, Some, None, Option, refl, sym, ap, subst, ◌∙◌, arith, ⊎_elim}
+use Rattle.memchr.specs.Find.{Nowhere}
 use Rattle.std.specs.Option.{option_map_or, unwrap_or}
 use Rattle.std.specs.Prelude.{slice_get, ◌||◌}
 use Rattle.std.proofs.lemmas.Bool.{cases_eq, cases_lt, eq-eqb, ne_eqb}
@@ -45,6 +46,14 @@ tells (Some x) = refl
 
 in_table-get_or : (table : List Bool) (b : ℕ) → in_table table b ≡ get_or table b false
 in_table-get_or table b = tells (slice_get table b) ∙ unwrap_or-slice_get table b false
+
+-- Whether a table has the byte at a place of a slice, by what was read there.
+pub in_table-read : (table : List Bool) (bytes : List ℕ) (at byte : ℕ) (is : Bool) → byte ≡ get_or bytes at 0 → get_or table byte false ≡ is → in_table table (get_or bytes at 0) ≡ is
+in_table-read table bytes at byte is same entry = subst (λ b. in_table table b ≡ is) same (in_table-get_or table byte ∙ entry)
+
+-- No byte of a slice passes from a place on, where none does after it and its own does not.
+pub nowhere_from : (P : ℕ → Type 0) (at next to : ℕ) → next ≡ at + 1 → (P at → ⊥) → Nowhere P next to → Nowhere P at to
+nowhere_from P at next to behind not_here later k low high is = ⊎_elim (λ same. not_here (subst P same is)) (λ other. later k (omega arith) high is) (cases_eq k at)
 
 -- A table that has no byte.
 pub in_table-none : (b : ℕ) → b < 256 → in_table (replicate 256 false) b ≡ false
