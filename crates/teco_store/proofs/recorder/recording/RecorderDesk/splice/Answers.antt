@@ -1,4 +1,4 @@
-use Rattle.std.proofs.Common.{ap, arith, length, ◌≡◌, ◌+◌}
+use Rattle.std.proofs.Common.{ap, arith, length, rules, ◌≡◌, ◌+◌}
 use Rattle.std.proofs.lemmas.Grind.{common_steps}
 use Rattle.teco_store.proofs.Fitting.{lands_within}
 use Rattle.teco_store.proofs.Recordings.{goes_call}
@@ -36,3 +36,12 @@ returns-in_err-find_room-clause-big c = grind (arith, common_steps)
 
 pub returns-in_err-held-clause-big : goal.returns-in_err-held-clause-big
 returns-in_err-held-clause-big c = grind (arith, common_steps)
+
+pub exchange_short-requires-clause-small : goal.exchange_short-requires-clause-small
+exchange_short-requires-clause-small c = search rules
+
+pub exchange_short-requires-clause-room : goal.exchange_short-requires-clause-room
+exchange_short-requires-clause-room c = search rules
+
+pub returns-then-del-ins-le-SHORT_LIMIT-clause-ok : goal.returns-then-del-ins-le-SHORT_LIMIT-clause-ok
+returns-then-del-ins-le-SHORT_LIMIT-clause-ok c = search rules
