@@ -1,6 +1,5 @@
 use Rattle.std.proofs.Common.{ap, arith, refl}
 use Rattle.std.proofs.lemmas.Grind.{common_steps}
-use Rattle.std.proofs.lemmas.Result.{err_from_is_err_and}
 use Rattle.teco_store.specs.State.{state_of}
 use Rattle.teco_store.proofs.Exits.{leaves_err}
 use Rattle.teco_store.proofs.editor.EditorDesk.note_replace.Goals as goal
@@ -27,22 +26,22 @@ pub overflow_add-kept : goal.overflow_add-kept
 overflow_add-kept c = grind (arith, common_steps)
 
 pub invariant_of-self : goal.invariant_of-self
-invariant_of-self c = rw c.in_err-reserve.ensures.err c.self.invariant
+invariant_of-self c = grind (arith, common_steps)
 
 pub returns-in_err-reserve-clause-ok : goal.returns-in_err-reserve-clause-ok
-returns-in_err-reserve-clause-ok c = let p = err_from_is_err_and c.from_residual.result c.from_residual.ensures.1 in rw p.1 tt
+returns-in_err-reserve-clause-ok c = grind (arith, common_steps)
 
 pub returns-in_err-reserve-clause-err : goal.returns-in_err-reserve-clause-err
 returns-in_err-reserve-clause-err c = rw c.in_err-reserve.ensures.err (leaves_err _ _ (ap state_of c.self.view_is))
 
 pub returns-in_err-reserve-clause-follows : goal.returns-in_err-reserve-clause-follows
-returns-in_err-reserve-clause-follows c = let p = err_from_is_err_and c.from_residual.result c.from_residual.ensures.1 in rw p.1 tt
+returns-in_err-reserve-clause-follows c = grind (arith, common_steps)
 
 pub returns-in_err-reserve-clause-keeps : goal.returns-in_err-reserve-clause-keeps
-returns-in_err-reserve-clause-keeps c = let p = err_from_is_err_and c.from_residual.result c.from_residual.ensures.1 in rw p.1 (λ _ _. tt)
+returns-in_err-reserve-clause-keeps c = grind (arith, common_steps)
 
 pub returns-in_err-note_text-clause-ok : goal.returns-in_err-note_text-clause-ok
-returns-in_err-note_text-clause-ok c = let p = err_from_is_err_and c.from_residual-in_err-note_text.result c.from_residual-in_err-note_text.ensures.1 in rw p.1 tt
+returns-in_err-note_text-clause-ok c = grind (arith, common_steps)
 
 pub returns-in_err-note_text-clause-big : goal.returns-in_err-note_text-clause-big
 returns-in_err-note_text-clause-big c = grind (arith, common_steps)
@@ -51,10 +50,10 @@ pub returns-in_err-note_text-clause-err : goal.returns-in_err-note_text-clause-e
 returns-in_err-note_text-clause-err c = grind (arith, common_steps)
 
 pub returns-in_err-note_text-clause-follows : goal.returns-in_err-note_text-clause-follows
-returns-in_err-note_text-clause-follows c = let p = err_from_is_err_and c.from_residual-in_err-note_text.result c.from_residual-in_err-note_text.ensures.1 in rw p.1 tt
+returns-in_err-note_text-clause-follows c = grind (arith, common_steps)
 
 pub returns-in_err-note_text-clause-keeps : goal.returns-in_err-note_text-clause-keeps
-returns-in_err-note_text-clause-keeps c = let p = err_from_is_err_and c.from_residual-in_err-note_text.result c.from_residual-in_err-note_text.ensures.1 in rw p.1 (λ _ _. tt)
+returns-in_err-note_text-clause-keeps c = grind (arith, common_steps)
 
 pub splice-requires-clause-inside : goal.splice-requires-clause-inside
 splice-requires-clause-inside c = grind (arith, common_steps)
