@@ -1,5 +1,6 @@
 pub mod Bounds
 pub mod Entries
+pub mod Exits
 pub mod Fitting
 pub mod FormFeeds
 pub mod Halves

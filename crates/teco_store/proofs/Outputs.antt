@@ -1,7 +1,7 @@
 -- Outputs of which the first bytes are shown, and pages that stand in the input.
 use Rattle.std.proofs.Common.{◌≡◌, ◌∙◌, ap, sym, ℕ, ◌+◌, ◌-◌, ◌≤◌, ◌<◌, List, ◌++◌, length, take, drop, slice_range, append_assoc, arith, length-append, length-take, ⊎_elim}
 use Rattle.std.proofs.lemmas.Bool.{cases_lt}
-use Rattle.std.proofs.lemmas.List.{append-nil, take-append-le, take-take, take_all}
+use Rattle.std.proofs.lemmas.List.{append-nil, length-take-le, take-append-le, take-take, take_all}
 use Rattle.std.proofs.lemmas.List.{take-append-drop, drop-append-le}
 use Rattle.std.proofs.lemmas.Slice.{between_to_end}
 use Rattle.std.proofs.Math.Seq.{take-append-add, take-add, drop-drop, drop-append_seam}
@@ -47,6 +47,10 @@ module _ (own input : List ℕ) (from upto : ℕ) where
 
   pub begins : (shown at end : ℕ) → shown ≤ length own → take shown own ++ slice_range input at end ≡ take shown (own ++ slice_range input from upto) ++ slice_range input at end
   begins shown at end few = ap (λ (l : List ℕ). l ++ slice_range input at end) (sym (take-append-le shown own (slice_range input from upto) few))
+
+-- What is shown is still there after other bytes are stored behind it.
+pub still_there : (old new more : List ℕ) (shown : ℕ) → shown ≤ length old → new ≡ take shown old ++ more → shown ≤ length new
+still_there old new more shown within e = omega (arith, ap length e, length-append (take shown old) more, length-take-le shown old within)
 
 -- A page that stands at the end of what was read.
 pub stands : (read l₁ l₂ l₃ before after flag : List ℕ) → read ≡ l₁ ++ flag → l₁ ≡ l₂ ++ after → l₂ ≡ l₃ ++ before → drop (length l₃) read ≡ (before ++ after) ++ flag

@@ -237,6 +237,10 @@ goes_then r s u l m c d g h = λ t f.
 pub goes_call : (r s u : Recording) (l c n : ℕ) → StillFollows r s → FollowsAfterChanges l c s u → l ≤ n → c ≤ 6 → (t : Trail) → Follows r t → Follows u (moved t n)
 goes_call r s u l c n k g less few = λ t f. come_within u (noting t l c) (t.load + n) (t.changes + 6) (omega arith) (omega arith) (g t (k t f))
 
+-- A call finds memory, which keeps, and then makes one change, which has the load of the call.
+pub goes_once : (r s u : Recording) (l n : ℕ) → StillFollows r s → FollowsAfterChanges l 1 s u → l ≡ n → (t : Trail) → Follows r t → Follows u (moved t n)
+goes_once r s u l n k g same = goes_call r s u l 1 n k g (omega arith) (omega arith)
+
 -- a step is done
 pub come_stepped : (r : Recording) (t : Trail) → Follows r t → t.changes ≤ 6 → t.states (t.steps + 1) ≡ state_of r.full → t.load ≤ t.loads (t.steps + 1)
     → HasCome r.full r.notes (t.steps + 1) (stepped t)

@@ -1,4 +1,5 @@
 use Rattle.std.proofs.Common.{◌≡◌, ◌∙◌, ◌++◌, ap, append_assoc, arith, List, ℕ, drop, slice_range, subst, take}
+use Rattle.std.proofs.lemmas.Grind.{common_steps}
 use Rattle.std.proofs.lemmas.Slice.{between_to_end}
 use Rattle.teco_gap.specs.Gap.{text}
 use Rattle.teco_store.specs.Output.{bytes_of}
@@ -23,3 +24,12 @@ returns-clause-ok c =
     ∙ ap (λ (l : List ℕ). (shown ++ page) ++ l) (between_to_end input e.place c.follow.new.self.upto (omega (arith, c.len-2.ensures, upto)))
     ∙ append_assoc shown page (drop e.place input) in
     subst (λ (f : Full). full (bytes_of c.follow.new.self input) ≡ with_stored f (written (state_of f) ++ left_of (state_of f)) f.room) c.self.view_is (ap full stored)
+
+pub put-requires-clause-room : goal.put-requires-clause-room
+put-requires-clause-room c = grind (arith, common_steps)
+
+pub invariant_of-self-2 : goal.invariant_of-self-2
+invariant_of-self-2 c = grind (arith, common_steps)
+
+pub returns-clause-extends : goal.returns-clause-extends
+returns-clause-extends c = grind (arith, common_steps)

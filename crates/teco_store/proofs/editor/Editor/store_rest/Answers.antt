@@ -1,10 +1,12 @@
 use Rattle.std.proofs.Common.{◌≡◌, ◌≤◌, ◌∙◌, ◌++◌, ap, arith, List, ℕ, drop, length, subst, sym, take}
+use Rattle.std.proofs.lemmas.Grind.{common_steps}
 use Rattle.teco_gap.specs.Gap.{text}
 use Rattle.teco_store.specs.Output.{bytes_of}
 use Rattle.teco_store.specs.Page.{form_feed_if, left_of, written}
 use Rattle.teco_store.specs.State.{Full, state_of, with_stored}
 use Rattle.teco_store.specs.View.{body_in}
-use Rattle.teco_store.proofs.Outputs.{rest_from}
+use Rattle.teco_store.proofs.Entries.{sound_within}
+use Rattle.teco_store.proofs.Outputs.{rest_from, still_there}
 use Rattle.teco_store.proofs.editor.Editor.store_rest.Goals as goal
 
 pub returns-in-Some-clause-ok : goal.returns-in-Some-clause-ok
@@ -24,3 +26,19 @@ returns-in-Some-clause-ok c =
     c.lengthen.ensures.bytes input c.self.invariant.1 (omega (arith, c.len.ensures))
     ∙ ap (λ (l : List ℕ). take e.shown (bytes_of e.output input) ++ l) (rest_from input page at e.place c.len.result inside there (omega (arith, c.len.ensures))) in
     subst (λ (f : Full). full (bytes_of c.lengthen.new.self input) ≡ with_stored f (written (state_of f) ++ left_of (state_of f)) f.room) c.self.view_is (ap full stored)
+
+pub lengthen-requires-clause-there : goal.lengthen-requires-clause-there
+lengthen-requires-clause-there c = grind (arith, common_steps)
+
+pub invariant_of-self : goal.invariant_of-self
+invariant_of-self c =
+    let e = c.self.inside in
+    let input = e.input.items in
+    let sound = c.self.invariant.0 in
+    let there = still_there (bytes_of e.output input) (bytes_of c.lengthen.new.self input) _ e.shown sound.stored (c.lengthen.ensures.bytes input c.self.invariant.1 (omega (arith, c.len.ensures))) in (
+      sound_within e.text.cap (length (bytes_of e.output input)) _ (body_in e) there sound,
+      (c.lengthen.ensures.part.0, omega (arith, c.lengthen.ensures.part.1, c.len.ensures)),
+    )
+
+pub returns-in-Some-clause-extends : goal.returns-in-Some-clause-extends
+returns-in-Some-clause-extends c = grind (arith, common_steps)

@@ -1,4 +1,5 @@
 use Rattle.std.proofs.Common.{ap, arith, length, ◌≡◌, ◌∙◌, ◌+◌}
+use Rattle.std.proofs.lemmas.Grind.{common_steps}
 use Rattle.teco_store.specs.State.{Full}
 use Rattle.teco_store.proofs.Recordings.{goes_call, goes_then}
 use Rattle.teco_store.proofs.recorder.recording.RecorderDesk.finish.Goals as goal
@@ -11,3 +12,6 @@ returns-clause-follows c =
     (goes_then c.prepare_rest.new.self c.note.new.self c.note-2.new.self (n + 0) 0 2 1
     (goes_then c.prepare_rest.new.self c.exchange.new.self c.note.new.self n 0 1 1 c.exchange.ensures.goes c.note.ensures.goes) c.note-2.ensures.goes)
     (omega arith) (omega arith)
+
+pub returns-clause-ok : goal.returns-clause-ok
+returns-clause-ok c = grind (arith, common_steps)

@@ -1,4 +1,5 @@
 use Rattle.std.proofs.Common.{ap, arith, length, ◌+◌}
+use Rattle.std.proofs.lemmas.Grind.{common_steps}
 use Rattle.std.proofs.lemmas.Result.{err_from_is_err_and}
 use Rattle.std.specs.Option.{option_copied}
 use Rattle.teco_store.specs.Search.{note_load}
@@ -31,3 +32,15 @@ returns-clause-follows c =
     (goes_then c.find_memory.new.self c.note-2.new.self c.exchange.new.self (_ + 0) m 2 1
     (goes_then c.find_memory.new.self c.note_text-2.new.self c.note-2.new.self _ 0 1 1 c.note_text-2.ensures.goes c.note-2.ensures.goes) c.exchange.ensures.goes)
     (omega (arith, load)) (omega arith)
+
+pub returns-then-is_long-clause-big : goal.returns-then-is_long-clause-big
+returns-then-is_long-clause-big c = grind (arith, common_steps)
+
+pub returns-in_err-text-clause-big : goal.returns-in_err-text-clause-big
+returns-in_err-text-clause-big c = grind (arith, common_steps)
+
+pub returns-in_err-find_room-clause-big : goal.returns-in_err-find_room-clause-big
+returns-in_err-find_room-clause-big c = grind (arith, common_steps)
+
+pub returns-in_err-held-clause-big : goal.returns-in_err-held-clause-big
+returns-in_err-held-clause-big c = grind (arith, common_steps)

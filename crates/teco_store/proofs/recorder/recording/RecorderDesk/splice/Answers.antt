@@ -1,4 +1,5 @@
-use Rattle.std.proofs.Common.{ap, arith, length, ◌≡◌, ◌+◌}
+use Rattle.std.proofs.Common.{ap, arith, length, rules, ◌≡◌, ◌+◌}
+use Rattle.std.proofs.lemmas.Grind.{common_steps}
 use Rattle.teco_store.proofs.Fitting.{lands_within}
 use Rattle.teco_store.proofs.Recordings.{goes_call}
 use Rattle.teco_store.proofs.recorder.recording.RecorderDesk.splice.Goals as goal
@@ -26,3 +27,21 @@ pub returns-clause-follows : goal.returns-clause-follows
 returns-clause-follows c =
     let n = c.args.del + length c.args.ins.now in
     goes_call c.args.self.now c.find_memory.new.self c.exchange.new.self n 1 n c.find_memory.ensures.keeps c.exchange.ensures.goes (omega arith) (omega arith)
+
+pub returns-then-is_past-clause-big : goal.returns-then-is_past-clause-big
+returns-then-is_past-clause-big c = grind (arith, common_steps)
+
+pub returns-in_err-find_room-clause-big : goal.returns-in_err-find_room-clause-big
+returns-in_err-find_room-clause-big c = grind (arith, common_steps)
+
+pub returns-in_err-held-clause-big : goal.returns-in_err-held-clause-big
+returns-in_err-held-clause-big c = grind (arith, common_steps)
+
+pub exchange_short-requires-clause-small : goal.exchange_short-requires-clause-small
+exchange_short-requires-clause-small c = search rules
+
+pub exchange_short-requires-clause-room : goal.exchange_short-requires-clause-room
+exchange_short-requires-clause-room c = search rules
+
+pub returns-then-del-ins-le-SHORT_LIMIT-clause-ok : goal.returns-then-del-ins-le-SHORT_LIMIT-clause-ok
+returns-then-del-ins-le-SHORT_LIMIT-clause-ok c = search rules

@@ -1,4 +1,5 @@
 use Rattle.std.proofs.Common.{ap, arith, length, ◌≡◌, ◌∙◌, ◌+◌}
+use Rattle.std.proofs.lemmas.Grind.{common_steps}
 use Rattle.std.proofs.lemmas.Result.{err_from_is_err_and}
 use Rattle.teco_store.specs.Page.{page, page_load}
 use Rattle.teco_store.specs.State.{Body, Full, state_of}
@@ -14,3 +15,6 @@ returns-clause-follows c =
     let page_is : length (page c.prepare_page.new.self.full.body) ≡ length (page c.args.self.now.full.body) = ap (λ (b : Body). length (page b)) (ap (λ (x : Full). x.body) c.in_ok-held.ensures.ok) in
     let len : c.len-there.result ≡ length c.args.self.now.full.body.text = c.len-there.ensures.value ∙ ap (λ (x : Full). length x.body.text) c.editor-3.ensures in
     goes_call c.args.self.now c.prepare_page.new.self c.bring_page.new.self n 2 (page_load (state_of c.args.self.now.full)) c.prepare_page.ensures.keeps c.bring_page.ensures.goes (omega arith) (omega arith)
+
+pub returns-clause-ok : goal.returns-clause-ok
+returns-clause-ok c = grind (arith, common_steps)
