@@ -161,3 +161,8 @@ why_after h r x k e (inr memory) = inr memory
 pub passes : {A : Type 0} (P : Failure → Type 0) (h : Failure) (r : Result A Failure) → IsErrAnd r (λ e. e ≡ h) → P h → IfErr r P
 passes P h (Ok x) is p = absurd is
 passes P h (Err e) is p = subst P (sym is) p
+
+-- one end for another
+pub ends_so : (t : State) (left : Arguments) (load : ℕ) (e f : End) → e ≡ f
+    → ◌≡◌ {A = Attempt} (Ok (record { state = t; arguments = left; typed = []; load = load; end = e })) (Ok (record { state = t; arguments = left; typed = []; load = load; end = f }))
+ends_so t left load e f same = ap (λ (e : End). Ok (record { state = t; arguments = left; typed = []; load = load; end = e })) same
