@@ -1,4 +1,4 @@
-use Rattle.std.proofs.Common.{◌≡◌, ◌∙◌, ap, refl, rules, pos, sym, ◌+ℤ◌, FitsSigned, subst, w32}
+use Rattle.std.proofs.Common.{◌∙◌, ap, refl, rules, pos, sym, ◌+ℤ◌, FitsSigned, subst, w32}
 use Rattle.std.proofs.lemmas.Int.{to_z-of_z}
 use Rattle.teco_core.specs.Arguments.{give}
 use Rattle.teco_core.specs.ArgumentsView.{arguments}
