@@ -1,8 +1,9 @@
 -- A step changes the state or it types, and its load is what it moves.
-use Rattle.std.proofs.Common.{◌≡◌, ap, sym, subst, refl, ◌⊎◌, inl, inr, ℕ, ◌≤◌, Bool, true, false, cond, List, [], length, Ok, Err, pos}
+use Rattle.std.proofs.Common.{◌≡◌, ap, sym, subst, refl, ◌⊎◌, inl, inr, ℕ, ◌≤◌, Bool, true, false, cond, List, [], ◌∷◌, length, Ok, Err, pos, ◌+ℤ◌, ◌-ℤ◌}
 use Rattle.std.specs.Prelude.{int_le}
+use Rattle.std.specs.Fmt.{digits, signed_decimal}
 use Rattle.teco_core.specs.declared.code.Code.TheVariants as code
-use Rattle.teco_core.specs.Number.{decimal_value, truth}
+use Rattle.teco_core.specs.Number.{decimal_value, to_word, truth}
 use Rattle.teco_core.specs.Arguments.{Arguments, no_arguments}
 use Rattle.teco_store.specs.Page.{finished, page_load, with_next_page}
 use Rattle.teco_store.specs.State.{State}
@@ -17,15 +18,17 @@ use Rattle.teco_scan.specs.declared.command.TextCommand.TheVariants as text_comm
 use Rattle.teco_scan.specs.Scan.{Item}
 use Rattle.teco_scan.specs.Scan as token
 use Rattle.teco_step.specs.Effect.{effect, command_effect, bare_effect, register_effect, text_effect, item_effect}
+use Rattle.teco_step.specs.Line.{line}
 use Rattle.teco_step.specs.Load.{Moves}
 use Rattle.teco_step.specs.Pages.{pages_left, with_output_in_limit, with_page_turned}
 use Rattle.teco_step.specs.Registers as registers
-use Rattle.teco_step.specs.Step.{Setting, Attempt, Made, Action, goes, steers, goes_on, done_by, on, leave, settled, ends, takes_none, takes_one_or}
+use Rattle.teco_step.specs.Step.{Setting, Attempt, Made, Action, goes, steers, goes_on, done_by, on, leave, settled, ends, as_byte, place_or, takes_none, takes_one, takes_one_or, takes_reach}
+use Rattle.teco_step.specs.Typing.{around, ended, part}
 use Rattle.teco_step.specs.Values.{built, value_of}
 use Rattle.teco_step.proofs.Moving.{exit_moves, nothing_moves, turn_moves}
 use Rattle.teco_step.proofs.Occurring.{Backward, Forward, Long, Spelled}
 use Rattle.teco_step.proofs.Seeking.{seeks, seeks_and_replaces, seeks_reading, seeks_turning}
-use Rattle.teco_step.proofs.Working.{AttemptWorks, MadeWorks, Works, attempt_then, case_works, delete_works, extract_works, get_works, gives_works, increment_works, insert_tab_works, insert_works, inserts_works, kill_works, level_works, made_then, moves_works, next_page_works, output_is, pop_works, push_works, set_number_works, set_text_works, turned_is, types_works, within_limit, write_page_works}
+use Rattle.teco_step.proofs.Working.{AttemptWorks, MadeWorks, Works, attempt_then, case_works, delete_works, extract_works, get_works, gives_works, increment_works, insert_tab_works, insert_works, kill_works, level_works, made_then, moves_works, next_page_works, output_is, pop_works, push_works, set_number_works, set_text_works, turned_is, types_works, within_limit, write_page_works}
 
 abbrev ActionWorks : Action → Type 0
 ActionWorks (goes make) = (s : State) (a : Arguments) → MadeWorks s (make s a)
@@ -69,7 +72,20 @@ command_works command.Leave w = λ s a. attempt_then s (takes_one_or (truth s.la
 command_works command.TurnPages w = λ s a.
     attempt_then s (pages_left w.work a) _ (λ n e. attempt_then s (with_page_turned s) _ (λ t h. within_limit s (with_next_page s) t (page_load s) (turned_is s t h) (λ within. turn_moves s)))
 command_works command.Exit w = λ s a. attempt_then s (takes_none a) _ (λ none e. attempt_then s (with_output_in_limit (finished s)) _ (λ t h. exit_works s t h))
-command_works _ w = λ s a. search (made_then, moves_works, types_works, inserts_works, delete_works, kill_works, next_page_works, write_page_works, case_works)
+command_works command.Jump w = λ s a. made_then s (takes_one_or (pos 0) a) _ (λ n e. made_then s (place_or code.Pop s n) _ (λ place h. moves_works s a place))
+command_works command.Forward w = λ s a. made_then s (takes_one_or (pos 1) a) _ (λ n e. made_then s (place_or code.Pop s (pos s.pointer +ℤ n)) _ (λ place h. moves_works s a place))
+command_works command.Back w = λ s a. made_then s (takes_one_or (pos 1) a) _ (λ n e. made_then s (place_or code.Pop s (pos s.pointer -ℤ n)) _ (λ place h. moves_works s a place))
+command_works command.Line w = λ s a. made_then s (takes_one_or (pos 1) a) _ (λ n e. moves_works s a (line s.text s.pointer n))
+command_works command.Delete w = delete_works
+command_works command.Kill w = kill_works
+command_works command.TypeOut w = λ s a. made_then s (takes_reach s a) _ (λ r e. types_works s (part s r))
+command_works command.View w = λ s a. made_then s (takes_none a) _ (λ none e. types_works s (part s (around s)))
+command_works command.TypeByte w = λ s a. made_then s (takes_one code.Arg a) _ (λ n e. made_then s (as_byte n) _ (λ b h. types_works s (b ∷ [])))
+command_works command.Print w = λ s a. made_then s (takes_one code.Nae a) _ (λ n e. types_works s (ended w.modifiers (signed_decimal n)))
+command_works command.PrintOctal w = λ s a. made_then s (takes_one code.Nae a) _ (λ n e. types_works s (ended w.modifiers (digits 8 false (to_word n))))
+command_works command.NextPage w = next_page_works
+command_works command.WritePage w = write_page_works
+command_works command.CaseMode w = case_works
 
 bare_works : (b : Bare) (w : Setting) → ActionWorks (bare_effect b w)
 bare_works (bare.Quantity q) w = λ s a. gives_works s a (value_of q s)

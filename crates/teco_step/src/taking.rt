@@ -20,7 +20,6 @@ use teco_core::{Args, Code, Op, Taken};
 use teco_store::Desk;
 
 /// The value of a run of decimal digits.
-#[tactic(auto, using(crate::proofs::Own::own_decimal))]
 pub(crate) fn decimal(digits: &[u8]) -> Result<i32, Failure>
     ensures { Takes (λ n. n) result (decimal_value digits.now) }
 {
@@ -28,7 +27,6 @@ pub(crate) fn decimal(digits: &[u8]) -> Result<i32, Failure>
 }
 
 /// The sum of two numbers.
-#[tactic(auto, using(crate::proofs::Own::own_sum))]
 pub(crate) fn sum(m: i32, n: i32) -> Result<i32, Failure>
     ensures { Takes (λ n. n) result (fitted (m +ℤ n)) }
 {
@@ -61,7 +59,6 @@ pub(crate) fn given(args: &Args, value: i32) -> Result<Args, Failure>
 }
 
 /// Lets an operator wait.
-#[tactic(auto, using(crate::proofs::Own::own_operator))]
 pub(crate) fn operator(args: &mut Args, op: Op) -> Result<(), Failure>
     ensures ok { OnOk result (operate op (arguments args.old) ≡ Ok (arguments args.new)) }
     ensures err { IfErr result (λ failure. IsRefusal failure (operate op (arguments args.old))) }
@@ -71,7 +68,6 @@ pub(crate) fn operator(args: &mut Args, op: Op) -> Result<(), Failure>
 }
 
 /// Gives 0 and a length.
-#[tactic(auto, using(crate::proofs::Own::own_pair))]
 pub(crate) fn pair(args: &mut Args, length: usize) -> Result<(), Failure>
     requires { length < 2 ^ 31 }
     ensures ok { OnOk result (give_pair length (arguments args.old) ≡ Ok (arguments args.new)) }
@@ -82,7 +78,6 @@ pub(crate) fn pair(args: &mut Args, length: usize) -> Result<(), Failure>
 }
 
 /// Opens a parenthesis.
-#[tactic(auto, using(crate::proofs::Own::own_opening))]
 pub(crate) fn open(args: &mut Args) -> Result<(), Failure>
     ensures ok { OnOk result (open_level (arguments args.old) ≡ Ok (arguments args.new)) }
     ensures err { IfErr result (λ failure. IsRefusal failure (open_level (arguments args.old))) }
@@ -92,7 +87,6 @@ pub(crate) fn open(args: &mut Args) -> Result<(), Failure>
 }
 
 /// Closes a parenthesis, whose value is given to what is around it.
-#[tactic(auto, using(crate::proofs::Own::own_closing))]
 pub(crate) fn close(args: &mut Args) -> Result<(), Failure>
     ensures ok { OnOk result (close_level (arguments args.old) ≡ Ok (arguments args.new)) }
     ensures err { IfErr result (λ failure. IsRefusal failure (close_level (arguments args.old))) }
@@ -102,7 +96,6 @@ pub(crate) fn close(args: &mut Args) -> Result<(), Failure>
 }
 
 /// Makes a value the first of two.
-#[tactic(auto, using(crate::proofs::Own::own_comma))]
 pub(crate) fn comma(args: &mut Args) -> Result<(), Failure>
     ensures ok { OnOk result (comma (arguments args.old) ≡ Ok (arguments args.new)) }
     ensures err { IfErr result (λ failure. IsRefusal failure (comma (arguments args.old))) }

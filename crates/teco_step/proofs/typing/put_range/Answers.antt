@@ -19,3 +19,9 @@ returns-in_err-put_some g c =
           (Puts-front failed.0 c.part.result.1.now c.from_residual.result failed.1 failed.2 c.from_residual.ensures.0);
       some = MatchResult-from_err c.from_residual.result _ _ c.from_residual.ensures.0 (λ _. rw (← c.part.ensures.joined) (nonempty_before _ _ c.in_err-put_some.ensures.some));
     }
+
+pub part-requires-clause-ordered : goal.part-requires-clause-ordered
+part-requires-clause-ordered g c = c.requires.ordered
+
+pub part-requires-clause-there : goal.part-requires-clause-there
+part-requires-clause-there g c = c.requires.within
