@@ -22,6 +22,7 @@ mod source;
 mod splitter;
 #[cfg(test)]
 mod tests;
+mod text_on;
 mod word_source;
 
 use crate::file_disk::FileDisk;
