@@ -18,6 +18,7 @@ mod served;
 mod serving;
 mod source;
 mod splitter;
+mod text_on;
 mod word_source;
 
 pub use disk::Disk;

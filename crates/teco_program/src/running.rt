@@ -23,15 +23,15 @@ use crate::output::write_output;
 use crate::served::Served;
 use crate::serving::serve;
 use crate::source::Source;
+use crate::text_on::tell;
 use crate::word_source::WordSource;
 use std::alloc::Global;
-use std::fmt::Write;
+use std::io;
 use std::io::ErrorKind;
 use std::process::ExitCode;
-use std::{fmt, io};
 use teco_core::{FILE_LIMIT, NoMemory};
 use teco_session::Session;
-use teco_step::{Terminal, TerminalFault};
+use teco_step::Terminal;
 use teco_store::Desk;
 
 /// How the program ends at an error of the system: by want of memory where the error is that, otherwise as given.
@@ -321,26 +321,6 @@ fn conclude<E: Terminal>(alloc: Global, line: &Line, fate: Fate, errors: &mut E)
         }
         Err(NoMemory) => no_memory(errors),
     }
-}
-
-/// A terminal, to write text on.
-#[derive(Drop)]
-struct TextOn<'a, T: Terminal> {
-    term: &'a mut T,
-}
-
-impl<'a, T: Terminal> fmt::Write for TextOn<'a, T> {
-    fn write_str(&mut self, text: &str) -> fmt::Result {
-        match self.term.put(text.as_bytes()) {
-            Ok(()) => Ok(()),
-            Err(TerminalFault) => Err(fmt::Error),
-        }
-    }
-}
-
-fn tell<T: Terminal>(error: &clap::Error, term: &mut T) {
-    let mut text = TextOn { term };
-    let _ = write!(text, "{error}");
 }
 
 /// Tells why there is no line: on standard error, or on standard output where the help or the version was asked for.
