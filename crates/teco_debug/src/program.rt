@@ -75,22 +75,41 @@ fn walk_of<R: Files + AllocGlobal>(rt: &R, line: &Line) -> Result<Walk, Failure>
     Ok(Walk::new(input, text)?)
 }
 
-fn debug<R: Env + Files + Input + AllocGlobal, T: Terminal>(
-    rt: &R,
-    term: &mut T,
-) -> Result<(), Failure> {
+/// What the program was called with.
+fn called_with<R: Env + AllocGlobal>(rt: &R) -> Result<Line, Failure> {
     let words = words(rt)?;
-    let line = line_of(rt.alloc(), words.as_slice())?;
-    let mut debugger = Debugger::new(walk_of(rt, &line)?, line.limit);
-    let Ok(mut commands) = BufReader::new(rt.alloc(), rt.reader()) else {
-        return Err(Failure::NoMemory);
-    };
-    match serve(rt.alloc(), &mut debugger, &mut commands, term) {
+    Ok(line_of(rt.alloc(), words.as_slice())?)
+}
+
+/// Serves the commands on standard input.
+fn served<R: Input + AllocGlobal, T: Terminal>(
+    rt: &R,
+    debugger: &mut Debugger,
+    term: &mut T,
+) -> Served {
+    match BufReader::new(rt.alloc(), rt.reader()) {
+        Ok(mut commands) => serve(rt.alloc(), debugger, &mut commands, term),
+        Err(_) => Served::NoMemory,
+    }
+}
+
+/// What a serving that ended so comes to.
+fn ending(served: Served) -> Result<(), Failure> {
+    match served {
         Served::Quit => Ok(()),
         Served::ReadFault => Err(Failure::Commands),
         Served::ShowFault => Err(Failure::Show),
         Served::NoMemory => Err(Failure::NoMemory),
     }
+}
+
+fn debug<R: Env + Files + Input + AllocGlobal, T: Terminal>(
+    rt: &R,
+    term: &mut T,
+) -> Result<(), Failure> {
+    let line = called_with(rt)?;
+    let mut debugger = Debugger::new(walk_of(rt, &line)?, line.limit);
+    ending(served(rt, &mut debugger, term))
 }
 
 /// Writes what the program says of a failure.

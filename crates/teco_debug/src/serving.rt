@@ -212,7 +212,7 @@ fn answer_shown<T: Terminal>(
 }
 
 fn is_quit(line: &[u8]) -> bool {
-    Command::of(line) == Ok(Command::Quit)
+    matches!(Command::of(line), Ok(Command::Quit))
 }
 
 /// Serves commands, a line each, until one is `quit` or none is left.

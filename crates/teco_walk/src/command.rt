@@ -11,7 +11,7 @@ use teco_telling::Spot;
 use thiserror::Error;
 
 /// What is asked.
-#[derive(Clone, Copy, Debug, PartialEq, Eq)]
+#[derive(Clone, Copy, Debug)]
 pub enum Command {
     /// So many steps on.
     Next(u64),
@@ -41,7 +41,7 @@ pub enum Command {
 }
 
 /// Why a line is no command.
-#[derive(Clone, Copy, Debug, PartialEq, Eq, Error)]
+#[derive(Clone, Copy, Debug, Error)]
 pub enum Fault {
     #[error("no such command; help lists them")]
     NoCommand,
