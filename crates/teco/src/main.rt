@@ -4,9 +4,11 @@
 #[cfg(test)]
 mod tests;
 
-use std::process;
 use std::process::ExitCode;
-use teco_program::{FileDisk, LineFault, ReaderSource, fault_of_words, not_text, program};
+use std::process;
+use teco_files::{FileDisk, ReaderSource};
+use teco_line::{LineFault, fault_of_words, not_text};
+use teco_program::program;
 use teco_step::WriterTerminal;
 
 // The theorem ends here: that these are the program's words, streams and files is told by no contract.

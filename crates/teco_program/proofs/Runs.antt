@@ -6,17 +6,17 @@ use Rattle.std.specs.declared.alloc.Global.{Global}
 use Rattle.std.specs.declared.string.String.{String}
 use Rattle.std.specs.declared.vec.Vec.{Vec}
 use Rattle.std.specs.declared.io.Error.{Error}
-use Rattle.teco_program.specs.Disk.{Files}
+use Rattle.teco_files.specs.Disk.{Files}
 use Rattle.teco_program.specs.Ending.{fate_without_input, output_of}
 use Rattle.teco_program.specs.Seen.{CommandsSeen, DiskSeen, TerminalSeen}
 use Rattle.teco_program.specs.Run.{Doings, Edits, EditsByCommands, EditsByLine, EndsBy, FailsToOpen, FailsToRead, FailsToWrite, Finishes, FinishesBy, IsFateOf, IsInput, IsLineIn, KeepsDisk, LacksInput, ServesInput, WritesOutput, doings}
 use Rattle.teco_program.specs.declared.fate.Fate.{Fate}
 use Rattle.teco_program.specs.declared.fate.Fate.TheVariants.{NoCommands, NoInput, LargeInput, NoMemory, NoOutput, Ended}
-use Rattle.teco_program.specs.declared.input.InputFault.{InputFault}
-use Rattle.teco_program.specs.declared.input.InputFault.TheVariants as input
-use Rattle.teco_program.specs.declared.line.Commands.TheVariants.{Word}
-use Rattle.teco_program.specs.declared.line.Line.{Line}
-use Rattle.teco_program.specs.declared.line.LineFault.{LineFault}
+use Rattle.teco_files.specs.declared.input.InputFault.{InputFault}
+use Rattle.teco_files.specs.declared.input.InputFault.TheVariants as input
+use Rattle.teco_line.specs.declared.line.Commands.TheVariants.{Word}
+use Rattle.teco_line.specs.declared.line.Line.{Line}
+use Rattle.teco_line.specs.declared.line.LineFault.{LineFault}
 use Rattle.teco_program.specs.declared.served.Served.{Served}
 use Rattle.teco_program.specs.declared.served.Served.TheVariants as served
 

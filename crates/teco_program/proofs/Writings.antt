@@ -1,6 +1,6 @@
 -- Writing a file by one draft after another.
 use Rattle.std.proofs.Common.{◌≡◌, ◌≢◌, inl, inr, ℕ, List, Option, refl, sym, ◌∙◌}
-use Rattle.teco_program.specs.Disk.{Changes, Files, IsWhole, LeavesFiles, Passes, Replaces}
+use Rattle.teco_files.specs.Disk.{Changes, Files, IsWhole, LeavesFiles, Passes, Replaces}
 use Rattle.teco_program.specs.Draft.{draft_beside}
 use Rattle.teco_program.specs.Writing.{AddsDrafts, IsDraftOf, IsWriting, Writes}
 

@@ -1,10 +1,10 @@
 -- How the program ends: its status, and what it prints on standard error.
 use Rattle.std.specs.Prelude.{◌≡◌, ℕ, List, [], ◌∷◌, ◌++◌, Some, None, codes}
 use Rattle.std.specs.String.{string_bytes}
-use Rattle.teco_program.specs.declared.input.InputFault.{InputFault}
-use Rattle.teco_program.specs.declared.input.InputFault.TheVariants as input
-use Rattle.teco_program.specs.declared.line.Commands.TheVariants.{StandardInput, Word, File}
-use Rattle.teco_program.specs.declared.line.Line.{Line}
+use Rattle.teco_files.specs.declared.input.InputFault.{InputFault}
+use Rattle.teco_files.specs.declared.input.InputFault.TheVariants as input
+use Rattle.teco_line.specs.declared.line.Commands.TheVariants.{StandardInput, Word, File}
+use Rattle.teco_line.specs.declared.line.Line.{Line}
 use Rattle.teco_program.specs.declared.fate.Fate.{Fate}
 use Rattle.teco_program.specs.declared.fate.Fate.TheVariants.{NoCommands, NoInput, LargeInput, NoMemory, NoOutput}
 use Rattle.teco_program.specs.declared.fate.Fate.TheVariants.{Ended}

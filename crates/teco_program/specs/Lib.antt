@@ -1,16 +1,10 @@
 pub mod Stream
 pub mod Cut
-pub mod Source
-pub mod Input
-pub mod Pieces
 pub mod Message
 pub mod Exchange
 pub mod Serving
 pub mod Held
 pub mod Ending
-pub mod Disk
-pub mod FileLog
-pub mod CommandLine
 pub mod Draft
 pub mod Writing
 pub mod Seen

@@ -10,28 +10,28 @@ use Rattle.std.specs.declared.alloc.Global.{Global}
 use Rattle.clap.specs.Words.{kind_of}
 use Rattle.clap.specs.declared.error.kind.ErrorKind.TheVariants as kind
 use Rattle.teco_step.specs.Terminal.{IsFrontOf, Screen, Shows}
-use Rattle.teco_program.specs.CommandLine.{IsLine, IsLineFault, typed}
-use Rattle.teco_program.specs.declared.line.LineFault.{LineFault}
-use Rattle.teco_program.specs.declared.line.LineFault.TheVariants as line_fault
+use Rattle.teco_line.specs.CommandLine.{IsLine, IsLineFault, typed}
+use Rattle.teco_line.specs.declared.line.LineFault.{LineFault}
+use Rattle.teco_line.specs.declared.line.LineFault.TheVariants as line_fault
 use Rattle.std.specs.IoError.{error_kind}
 use Rattle.std.specs.declared.io.Error.{Error}
 use Rattle.std.specs.declared.io.ErrorKind.TheVariants.{OutOfMemory}
 use Rattle.teco_core.specs.declared.limits.TheConstants.{FILE_LIMIT}
 use Rattle.teco_session.specs.History.{History, new_history, present}
-use Rattle.teco_program.specs.Disk.{Changes, Files, Opens, Passes}
+use Rattle.teco_files.specs.Disk.{Changes, Files, Opens, Passes}
 use Rattle.teco_program.specs.Ending.{fate_without_input, output_of, said, status_of, text_of}
-use Rattle.teco_program.specs.Input.{IsFaultOf}
+use Rattle.teco_files.specs.Input.{IsFaultOf}
 use Rattle.teco_program.specs.Serving.{Serves}
 use Rattle.teco_program.specs.Seen.{CommandsSeen, DiskSeen, SourceView, TerminalSeen, commands_seen}
-use Rattle.teco_program.specs.Source.{Gives}
+use Rattle.teco_files.specs.Source.{Gives}
 use Rattle.teco_program.specs.Writing.{AddsDrafts, IsWriteError, IsWriting, Writes}
 use Rattle.teco_program.specs.declared.fate.Fate.{Fate}
 use Rattle.teco_program.specs.declared.fate.Fate.TheVariants.{NoCommands, NoInput, LargeInput, NoMemory, NoOutput}
 use Rattle.teco_program.specs.declared.fate.Fate.TheVariants.{Ended}
-use Rattle.teco_program.specs.declared.input.InputFault.{InputFault}
-use Rattle.teco_program.specs.declared.line.Commands.{Commands}
-use Rattle.teco_program.specs.declared.line.Commands.TheVariants.{StandardInput, Word, File}
-use Rattle.teco_program.specs.declared.line.Line.{Line}
+use Rattle.teco_files.specs.declared.input.InputFault.{InputFault}
+use Rattle.teco_line.specs.declared.line.Commands.{Commands}
+use Rattle.teco_line.specs.declared.line.Commands.TheVariants.{StandardInput, Word, File}
+use Rattle.teco_line.specs.declared.line.Line.{Line}
 use Rattle.teco_program.specs.declared.served.Served.{Served}
 use Rattle.teco_program.specs.declared.served.Served.TheVariants as served
 

@@ -1,8 +1,8 @@
 -- What a run sees of its disk, its commands and its terminal.
 use Rattle.std.specs.Prelude.{◌≡◌, ℕ, List, Option, Bool}
 use Rattle.std.specs.declared.io.Error.{Error}
-use Rattle.teco_program.specs.Disk.{Files}
-use Rattle.teco_program.specs.Source.{Gives, HasEnded}
+use Rattle.teco_files.specs.Disk.{Files}
+use Rattle.teco_files.specs.Source.{Gives, HasEnded}
 use Rattle.teco_step.specs.Terminal.{Screen, Shows}
 
 -- how a source is seen at each of its states

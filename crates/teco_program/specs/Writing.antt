@@ -4,7 +4,7 @@ use Rattle.std.specs.Borrow.{Bor}
 use Rattle.std.specs.IoError.{error_kind}
 use Rattle.std.specs.declared.io.Error.{Error}
 use Rattle.std.specs.declared.io.ErrorKind.TheVariants.{AlreadyExists, OutOfMemory}
-use Rattle.teco_program.specs.Disk.{Files}
+use Rattle.teco_files.specs.Disk.{Files}
 use Rattle.teco_program.specs.Draft.{draft_beside}
 
 -- the bytes of two parts, one after the other

@@ -1,13 +1,13 @@
 //! How the program ends.
 ghost use Rattle.std.specs.Prelude.{◌≡◌, ◌++◌, codes, IfOk, OnErr};
 ghost use Rattle.std.specs.String.{string_bytes};
-ghost use Rattle.teco_program.specs.Ending.{commands_name, said, status_of, text_of};
+ghost use Rattle.teco_program.specs.Ending.{commands_name, output_of, said, status_of, text_of};
 
-use crate::input::InputFault;
-use crate::line::{Commands, Line, output_name};
 use crate::served::Served;
 use std::alloc::Global;
 use teco_core::NoMemory;
+use teco_files::InputFault;
+use teco_line::{Commands, Line};
 
 /// How the program ends, once its command line is read.
 #[derive(Clone, Copy)]
@@ -60,6 +60,20 @@ fn said_of(alloc: Global, before: &str, name: &str, after: &str) -> Result<Strin
     text.push_str(after)?;
     text.push_str("\n")?;
     Ok(text)
+}
+
+/// The name of the output file: the one given, or the input's followed by `.out`.
+pub fn output_name(alloc: Global, line: &Line) -> Result<String, NoMemory>
+    ensures { IfOk result (λ name. string_bytes name ≡ output_of line.now) }
+{
+    match &line.output {
+        Some(name) => String::from_str(alloc, name.as_str()),
+        None => {
+            let mut name = String::from_str(alloc, line.input.as_str())?;
+            name.push_str(".out")?;
+            Ok(name)
+        }
+    }
 }
 
 /// The name of the file that the commands come from; nothing where they come from elsewhere.

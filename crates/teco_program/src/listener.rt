@@ -1,11 +1,11 @@
 //! Who hears what is done for each text of the stream, and what `--explain` tells of it.
 
-use crate::fate::Fate;
-use crate::line::{Line, output_name};
+use crate::fate::{Fate, output_name};
 use crate::served::Served;
 use std::alloc::Global;
 use std::fmt::Write;
 use teco_core::{Code, NoMemory};
+use teco_line::Line;
 use teco_session::{Answer, Answered, Session};
 use teco_step::Terminal;
 use teco_store::Desk;

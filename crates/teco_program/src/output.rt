@@ -2,16 +2,15 @@
 ghost use Rattle.std.specs.Prelude.{◌≡◌, ◌≢◌, ◌⊎◌, IfErr, IfOk, OnErr, OnOk};
 ghost use Rattle.std.specs.String.{string_bytes};
 ghost use Rattle.teco_program.specs.Draft.{draft_beside};
-ghost use Rattle.teco_program.specs.Disk.{Appends, Changes, Counts, Creates, IsWhole, LeavesFiles, Passes, Replaces, Same, SameBut};
+ghost use Rattle.teco_files.specs.Disk.{Appends, Changes, Counts, Creates, IsWhole, LeavesFiles, Passes, Replaces, Same, SameBut};
 ghost use Rattle.teco_program.specs.Writing.{AddsDrafts, IsWriteError, IsWriting, Writes, both};
 
-use crate::disk::Disk;
-use crate::place::Place;
 use std::alloc::Global;
-use std::io;
 use std::io::ErrorKind;
+use std::io;
 use std::path::Path;
 use teco_core::NoMemory;
+use teco_files::{Disk, Place};
 
 /// How many names are tried for a draft.
 const DRAFTS: u32 = 100;

@@ -4,15 +4,15 @@ ghost use Rattle.teco_session.specs.Kept.{history_of};
 ghost use Rattle.teco_program.specs.Exchange.{Exchange};
 ghost use Rattle.teco_program.specs.Held.{CutsOff, Emptied, HeldEnds};
 ghost use Rattle.teco_program.specs.Serving.{Exchanges, Serves};
-ghost use Rattle.teco_program.specs.Source.{Gives, HasEnded};
+ghost use Rattle.teco_files.specs.Source.{Gives, HasEnded};
 ghost use Rattle.teco_step.specs.Terminal.{Shows};
 
 use crate::exchange::{do_exchange, show_prompt};
 use crate::listener::Listens;
 use crate::served::Served;
-use crate::source::{Source, SourceFault};
 use crate::splitter::Splitter;
 use std::alloc::Global;
+use teco_files::{Source, SourceFault};
 use teco_session::Session;
 use teco_step::{Terminal, TerminalFault};
 

@@ -1,11 +1,12 @@
 //! Runs of the whole program by the commands of its line. Those on standard input are not read then.
+use std::alloc::Global;
+use std::process::ExitCode;
 use super::assert_of;
 use super::bytes::joined;
 use super::program::{Files, disk_with, has_just, words_in};
-use std::alloc::Global;
-use std::process::ExitCode;
 use teco_core::NoMemory;
-use teco_program::{MemoryDisk, MemorySource, Refused, Source, program};
+use teco_files::{MemoryDisk, MemorySource, Refused, Source};
+use teco_program::program;
 use teco_step::MemoryTerminal;
 
 /// The words of a run, with blanks between them, the files before and after it, what it types, tells on standard error, notes there

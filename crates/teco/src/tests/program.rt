@@ -1,10 +1,12 @@
 //! Of teco_program: its parts, and runs of the whole program over files in memory; what it says of files of the system that it cannot
 //! read or write.
-use super::bytes::joined;
 use std::alloc::Global;
 use std::process::ExitCode;
+use super::bytes::joined;
 use teco_core::NoMemory;
-use teco_program::{Disk, FileDisk, LineFault, MemoryDisk, MemorySource, Refused, program};
+use teco_files::{Disk, FileDisk, MemoryDisk, MemorySource, Refused};
+use teco_line::LineFault;
+use teco_program::program;
 use teco_step::MemoryTerminal;
 
 mod ending;

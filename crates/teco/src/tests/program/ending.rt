@@ -2,7 +2,8 @@
 use crate::tests::assert_of;
 use std::alloc::Global;
 use teco_core::NoMemory;
-use teco_program::{Commands, Fate, Line, Served, ending};
+use teco_line::{Commands, Line};
+use teco_program::{Fate, Served, ending};
 
 fn line(alloc: Global, output: Option<&str>) -> Result<Line, NoMemory> {
     let output = match output {

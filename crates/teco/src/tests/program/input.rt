@@ -1,7 +1,7 @@
 //! What is read of sources that end, fail, or give too much.
 use std::alloc::Global;
 use teco_core::NoMemory;
-use teco_program::{InputFault, MemorySource, ReaderSource, read_input};
+use teco_files::{InputFault, MemorySource, ReaderSource, read_input};
 use teco_step::FailAfter;
 
 /// A source that gives `12345678` in three pieces, and then ends or fails.

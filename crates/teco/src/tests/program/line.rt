@@ -3,7 +3,7 @@ use crate::tests::assert_of;
 use std::alloc::Global;
 use std::io;
 use teco_core::NoMemory;
-use teco_program::{Commands, Line, LineFault, fault_of_words, line_of, not_text, refused_status};
+use teco_line::{Commands, Line, LineFault, fault_of_words, line_of, not_text, refused_status};
 
 /// The status that an argument which is not UTF-8 leads to; none where memory was refused.
 fn status_without_text(alloc: Global) -> Option<u8> {

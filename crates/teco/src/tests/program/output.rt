@@ -1,7 +1,8 @@
 //! Files of the system, written whole.
 use std::fs;
 use std::os::unix::fs::{MetadataExt, PermissionsExt, symlink};
-use teco_program::{FileDisk, write_output};
+use teco_files::FileDisk;
+use teco_program::write_output;
 
 const FOLDER: &str = "teco_output_test";
 

@@ -2,7 +2,7 @@
 use crate::tests::assert_of;
 use std::alloc::Global;
 use teco_core::NoMemory;
-use teco_program::commands_in;
+use teco_line::commands_in;
 
 fn gives(alloc: Global, word: &str, bytes: &[u8]) -> bool {
     match commands_in(alloc, word) {

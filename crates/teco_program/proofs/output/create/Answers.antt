@@ -1,4 +1,4 @@
-use Rattle.teco_program.proofs.Disks.{but_then, creates_written, leaves_draft, others_created, passes_then, removed_or}
+use Rattle.teco_files.proofs.Disks.{but_then, creates_written, leaves_draft, others_created, passes_then, removed_or}
 use Rattle.teco_program.proofs.output.create.Goals as goal
 
 pub returns-in-Err-clause-moments : goal.returns-in-Err-clause-moments

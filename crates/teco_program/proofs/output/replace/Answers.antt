@@ -1,4 +1,4 @@
-use Rattle.teco_program.proofs.Disks.{passes_making, passes_renaming, leaves_draft, passes_removing, removed_or, same_but}
+use Rattle.teco_files.proofs.Disks.{passes_making, passes_renaming, leaves_draft, passes_removing, removed_or, same_but}
 use Rattle.teco_program.proofs.output.replace.Goals as goal
 
 pub returns-in_err-create-clause-moments : goal.returns-in_err-create-clause-moments

@@ -1,6 +1,6 @@
 use Rattle.std.proofs.Common.{◌≡◌, ◌≢◌, ◌∙◌, sym}
 use Rattle.std.proofs.lemmas.Result.{on_err_weaker}
-use Rattle.teco_program.specs.Disk.{Changes, LeavesFiles}
+use Rattle.teco_files.specs.Disk.{Changes, LeavesFiles}
 use Rattle.teco_program.specs.Writing.{AddsDrafts}
 use Rattle.teco_program.specs.Draft.{draft_beside}
 use Rattle.teco_program.proofs.Writings.{adds_more, passes_more}

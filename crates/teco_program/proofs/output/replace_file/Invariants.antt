@@ -1,4 +1,4 @@
-use Rattle.teco_program.specs.Disk.{Changes, Passes}
+use Rattle.teco_files.specs.Disk.{Changes, Passes}
 use Rattle.teco_program.specs.Writing.{both, AddsDrafts, IsWriting}
 use Rattle.teco_program.proofs.output.replace_file.Given as goal
 

@@ -1,4 +1,4 @@
-use Rattle.teco_program.proofs.Disks.{appends_if, others_appended, passes_then}
+use Rattle.teco_files.proofs.Disks.{appends_if, others_appended, passes_then}
 use Rattle.teco_program.proofs.output.write_both.Goals as goal
 
 pub returns-clause-ok : goal.returns-clause-ok

@@ -1,5 +1,5 @@
 use Rattle.std.proofs.Common.{◌≡◌, ◌≢◌, ◌∙◌, sym, subst, inl, inr, None}
-use Rattle.teco_program.specs.Disk.{IsPlaceOf}
+use Rattle.teco_files.specs.Disk.{IsPlaceOf}
 use Rattle.teco_program.specs.Writing.{IsWriting, both}
 use Rattle.teco_program.proofs.output.write_output.Goals as goal
 

@@ -2,11 +2,11 @@ use Rattle.std.proofs.Common.{◌≡◌, [], ◌++◌, take, false, refl, sym, a
 use Rattle.std.proofs.lemmas.Grind.{common_steps}
 use Rattle.teco_session.specs.Kept.{history_of}
 use Rattle.teco_step.specs.Terminal.{Shows}
-use Rattle.teco_program.specs.Source.{Gives}
+use Rattle.teco_files.specs.Source.{Gives}
 use Rattle.teco_program.specs.Stream.{requests, texts_of}
 use Rattle.teco_program.specs.Message.{star}
 use Rattle.teco_program.proofs.Showing.{Shows-joins}
-use Rattle.teco_program.proofs.Sources.{Gives-nil, Gives-more, Gives-on}
+use Rattle.teco_files.proofs.Sources.{Gives-nil, Gives-more, Gives-on}
 use Rattle.teco_program.proofs.Servings.{CutsOff-none, CutsOff-fed, CutsOff-append, CutsOff-first, CutsOff-all, Exchanges-append, GoOn-append, held_shows, ends_from}
 use Rattle.teco_program.proofs.serving.serve.Goals as goal
 

@@ -2,8 +2,8 @@
 use super::programs::{
     COLUMNS, E, JOIN, NUMBER, PRIMES, REPLACE, REVERSE, SORT, SPLIT, STRIP, SWAP, WRAP,
 };
-use super::{Group, How, PLAIN, all_hold};
 use std::test::*;
+use super::{Group, How, PLAIN, all_hold};
 use teco_program::Served;
 
 /// Over an empty input. Each program ends by its exit, under the limit that strings have by default.

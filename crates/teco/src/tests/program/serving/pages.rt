@@ -1,6 +1,6 @@
 //! What is typed and written at streams of commands over an input of three pages.
-use super::{Group, How, PLAIN, all_hold};
 use std::test::*;
+use super::{Group, How, PLAIN, all_hold};
 use teco_program::Served;
 
 /// The pages `one`, `two` and `three`.

@@ -1,6 +1,6 @@
 //! Rewinds to a step, and what is left of the string, of its history and of what it wrote.
-use super::{Group, How, PLAIN, all_hold};
 use std::test::*;
+use super::{Group, How, PLAIN, all_hold};
 use teco_program::Served;
 
 /// Over three pages, `a`, `b` and `c`.

@@ -1,6 +1,6 @@
 //! Worked rows: what a stream types, and what its last strings then type of the state that it left.
-use super::{Group, How, PLAIN, all_hold};
 use std::test::*;
+use super::{Group, How, PLAIN, all_hold};
 use teco_program::Served;
 
 /// Three pages.

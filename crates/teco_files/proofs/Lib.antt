@@ -1,0 +1,4 @@
+pub mod Pieces
+pub mod Sources
+pub mod Disks
+pub mod FileLogs

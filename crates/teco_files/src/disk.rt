@@ -1,0 +1,115 @@
+//! Where files are.
+ghost use Rattle.std.specs.Prelude.{◌≡◌, ◌≢◌, ◌⊎◌, ℕ, List, Option, IfErr, OnErr, OnOk};
+ghost use Rattle.std.specs.declared.io.Error.{Error};
+ghost use Rattle.std.specs.Prelude.{[], None, IfOk};
+ghost use Rattle.teco_files.specs.Disk.{Appends, Changes, Counts, Creates, Files, IsPlaceOf, Opens, Passes, Removes, Renames, Same, SameBut};
+
+use crate::place::Place;
+use crate::source::Source;
+use std::io;
+
+/// Where files are, by their names. Each call is one of the system's.
+pub trait Disk {
+    /// What a file is read from.
+    type Input: Source + Drop;
+
+    /// A new file, open to be written.
+    type Draft: Drop;
+
+    // the files, where the disk tells them
+    ghost files: { Self → Option Files };
+
+    // what a crash at some moment so far might have left
+    ghost left: { Self → Files → Type 0 };
+
+    // how often a call has failed, modulo 2^64
+    ghost failures: { Self → ℕ };
+
+    // which errors its calls have given
+    ghost gave: { Self → Error → Type 0 };
+
+    // the draft was made under this name
+    ghost is_of: { Self.Draft → List ℕ → Type 0 };
+
+    // what is under this name outlasts a crash
+    ghost kept: { Self → List ℕ → Type 0 };
+
+    // a file of this name could not be removed
+    ghost unremoved: { Self → List ℕ → Type 0 };
+
+    /// Opens a file, to be read from its beginning to its end.
+    fn open(&mut self, name: &str) -> io::Result<Self::Input>
+        ensures input { IfOk result (λ input. Opens (files self.old) name.now (Self.Input.coming input)) }
+        ensures files { files self.new ≡ files self.old }
+        ensures moments { (files : Files) → left self.new files → left self.old files }
+        ensures count { Counts result (failures self.old) (failures self.new) }
+        ensures error { IfErr result (gave self.new) };
+
+    /// Where the output of this name goes. A disk that tells its files has only files.
+    fn place_of(&mut self, name: &str) -> io::Result<Place>
+        ensures place { IfOk result (λ place. files self.old ≢ None → IsPlaceOf name.now place) }
+        ensures files { files self.new ≡ files self.old }
+        ensures moments { (files : Files) → left self.new files → left self.old files }
+        ensures count { Counts result (failures self.old) (failures self.new) }
+        ensures error { IfErr result (gave self.new) };
+
+    /// Writes both parts after what a device, a pipe or an open file has.
+    fn append(&mut self, name: &str, bytes: (&[u8], &[u8])) -> io::Result<()>
+        ensures count { Counts result (failures self.old) (failures self.new) }
+        ensures error { IfErr result (gave self.new) };
+
+    /// Makes a new file, which has no bytes yet. A file that has the name already is not touched, and the call fails.
+    fn make(&mut self, name: &str) -> io::Result<Self::Draft>
+        ensures ok { OnOk result (Changes (files self.old) (files self.new) (Creates name.now [])) }
+        ensures draft { IfOk result (λ draft. is_of draft name.now) }
+        ensures err { OnErr result (Changes (files self.old) (files self.new) Same) }
+        ensures moments { Passes (files self.old) (left self.old) (left self.new) (SameBut name.now) }
+        ensures count { Counts result (failures self.old) (failures self.new) }
+        ensures error { IfErr result (gave self.new) };
+
+    /// Writes all the bytes to a draft, or some of them where it fails.
+    fn write(&mut self, draft: &mut Self::Draft, name: &str, bytes: &[u8]) -> io::Result<()>
+        requires { is_of draft.old name.now }
+        ensures ok { OnOk result (Changes (files self.old) (files self.new) (Appends name.now bytes.now)) }
+        ensures draft { is_of draft.new name.now }
+        ensures err { OnErr result (Changes (files self.old) (files self.new) (SameBut name.now)) }
+        ensures moments { Passes (files self.old) (left self.old) (left self.new) (SameBut name.now) }
+        ensures count { Counts result (failures self.old) (failures self.new) }
+        ensures error { IfErr result (gave self.new) };
+
+    /// Gives a draft the owner and the permissions of the file whose place it is to take, as far as the system lets us.
+    fn make_like(&mut self, draft: &Self::Draft, name: &str)
+        requires { is_of draft.now name.now }
+        ensures files { files self.new ≡ files self.old }
+        ensures moments { (files : Files) → left self.new files → left self.old files }
+        ensures count { failures self.new ≡ failures self.old }
+        ensures errors { (error : Error) → gave self.old error → gave self.new error };
+
+    /// Waits until what a draft has outlasts a crash.
+    fn sync(&mut self, draft: &Self::Draft, name: &str) -> io::Result<()>
+        requires { is_of draft.now name.now }
+        ensures kept { OnOk result (kept self.new name.now) }
+        ensures files { files self.new ≡ files self.old }
+        ensures moments { (files : Files) → left self.new files → left self.old files }
+        ensures count { Counts result (failures self.old) (failures self.new) }
+        ensures error { IfErr result (gave self.new) };
+
+    /// Gives a file another name, in one moment, if its bytes outlast a crash. What had that name before is gone.
+    fn rename(&mut self, from: &str, to: &str) -> io::Result<()>
+        requires { from.now ≢ to.now }
+        ensures ok { OnOk result (Changes (files self.old) (files self.new) (Renames from.now to.now)) }
+        ensures err { OnErr result (Changes (files self.old) (files self.new) Same) }
+        ensures moments { kept self.old from.now → Passes (files self.old) (left self.old) (left self.new)
+            (λ before now. Same before now ⊎ Renames from.now to.now before now) }
+        ensures count { Counts result (failures self.old) (failures self.new) }
+        ensures error { IfErr result (gave self.new) };
+
+    /// Removes a file. A failure is not counted: it is told of no file that a user named.
+    fn remove(&mut self, name: &str) -> io::Result<()>
+        ensures ok { OnOk result (Changes (files self.old) (files self.new) (Removes name.now)) }
+        ensures err { OnErr result (unremoved self.new name.now) }
+        ensures others { Changes (files self.old) (files self.new) (SameBut name.now) }
+        ensures moments { Passes (files self.old) (left self.old) (left self.new) (SameBut name.now) }
+        ensures count { failures self.new ≡ failures self.old }
+        ensures errors { (error : Error) → gave self.old error → gave self.new error };
+}

@@ -1,0 +1,171 @@
+//! Files in memory.
+ghost use Rattle.std.specs.IoError.{error_kind};
+ghost use Rattle.std.specs.Prelude.{◌≡◌, ⊤, true, IfErr, Some};
+ghost use Rattle.teco_files.specs.Disk.{Counts};
+ghost use Rattle.teco_files.specs.FileLog.{WereOnce, files_of};
+
+use crate::disk::Disk;
+use crate::memory_source::MemorySource;
+use crate::place::Place;
+use std::alloc::Global;
+use std::io;
+use std::io::ErrorKind;
+use teco_core::NoMemory;
+
+mod log;
+
+use log::Log;
+
+/// Which call is refused.
+#[derive(Clone, Copy, PartialEq)]
+pub enum Refused {
+    Nothing,
+    /// A read of a file that was opened.
+    Read,
+    Make,
+    /// A write, of which half the bytes come.
+    Write,
+    Sync,
+    Rename,
+    /// A rename, and then that the draft is removed.
+    RenameAndRemove,
+}
+
+/// How often a call has failed, modulo 2^64, and what the last failure was.
+#[derive(Drop)]
+struct Failures {
+    times: u64,
+    last: Option<ErrorKind>,
+}
+
+impl Failures {
+    /// Counts a call that failed, and notes its error.
+    fn count<A>(&mut self, done: &io::Result<A>)
+        ensures count { Counts done.now self.old.times self.new.times }
+        ensures error { IfErr done.now (λ error. self.new.last ≡ Some (error_kind error)) }
+    {
+        if let Err(error) = done {
+            self.times = self.times.wrapping_add(1);
+            self.last = Some(error.kind());
+        }
+    }
+}
+
+/// Files in memory, which tells them. So a disk can tell its files and do all that is said of a disk.
+#[derive(Drop)]
+pub struct MemoryDisk {
+    alloc: Global,
+    log: Log,
+    refused: Refused,
+    failures: Failures,
+    // whether a file could not be removed
+    unremoved: bool,
+}
+
+impl MemoryDisk {
+    pub fn new(alloc: Global, refused: Refused) -> MemoryDisk {
+        MemoryDisk {
+            alloc,
+            log: Log::new(alloc),
+            refused,
+            failures: Failures {
+                times: 0,
+                last: None,
+            },
+            unremoved: false,
+        }
+    }
+
+    /// Puts a file there.
+    pub fn put(&mut self, name: &str, bytes: &[u8]) -> Result<(), NoMemory> {
+        self.log.put(name, bytes)
+    }
+
+    /// The bytes of a file, if it is there.
+    pub fn bytes(&self, name: &str) -> Option<&[u8]> {
+        self.log.bytes(name)
+    }
+
+    /// Whether each file has one of these names.
+    pub fn has_only(&self, names: &[(&str, &str)]) -> bool {
+        self.log.has_only(names)
+    }
+}
+
+impl Disk for MemoryDisk {
+    type Input = MemorySource;
+
+    type Draft = ();
+
+    ghost files = { λ disk. Some (files_of disk.log) };
+
+    // Each call makes one note at most. So the files were at each moment as the log told them after some note.
+    ghost left = { λ disk files. WereOnce disk.log files };
+
+    ghost failures = { λ disk. disk.failures.times };
+
+    ghost gave = { λ disk error. disk.failures.last ≡ Some (error_kind error) };
+
+    ghost is_of = { λ _ _. ⊤ };
+
+    // What is noted outlasts a crash.
+    ghost kept = { λ _ _. ⊤ };
+
+    ghost unremoved = { λ disk _. disk.unremoved ≡ true };
+
+    fn open(&mut self, name: &str) -> io::Result<MemorySource> {
+        let opened = self.log.opened(self.refused, name);
+        self.failures.count(&opened);
+        opened
+    }
+
+    fn place_of(&mut self, name: &str) -> io::Result<Place> {
+        let place = match String::from_str(self.alloc, name) {
+            Ok(name) => Ok(Place::File(name)),
+            Err(error) => Err(io::Error::from(error)),
+        };
+        self.failures.count(&place);
+        place
+    }
+
+    fn append(&mut self, _name: &str, _bytes: (&[u8], &[u8])) -> io::Result<()> {
+        let appended = Err(io::Error::from(ErrorKind::Unsupported));
+        self.failures.count(&appended);
+        appended
+    }
+
+    fn make(&mut self, name: &str) -> io::Result<()> {
+        let made = self.log.made(self.refused, name);
+        self.failures.count(&made);
+        made
+    }
+
+    fn write(&mut self, _draft: &mut (), name: &str, bytes: &[u8]) -> io::Result<()> {
+        let written = self.log.written(self.refused, name, bytes);
+        self.failures.count(&written);
+        written
+    }
+
+    fn make_like(&mut self, _draft: &(), _name: &str) {}
+
+    fn sync(&mut self, _draft: &(), _name: &str) -> io::Result<()> {
+        let synced = match self.refused {
+            Refused::Sync => Err(io::Error::from(ErrorKind::StorageFull)),
+            _ => Ok(()),
+        };
+        self.failures.count(&synced);
+        synced
+    }
+
+    fn rename(&mut self, from: &str, to: &str) -> io::Result<()> {
+        let renamed = self.log.renamed(self.refused, from, to);
+        self.failures.count(&renamed);
+        renamed
+    }
+
+    fn remove(&mut self, name: &str) -> io::Result<()> {
+        let removed = self.log.removed(self.refused, name);
+        self.unremoved = self.unremoved || removed.is_err();
+        removed
+    }
+}

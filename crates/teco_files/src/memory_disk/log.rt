@@ -1,0 +1,190 @@
+//! The log of a disk in memory, which tells its files.
+ghost use Rattle.std.specs.Option.{option_copied, option_map};
+ghost use Rattle.std.specs.Prelude.{◌≡◌, ◌≢◌, ◌∷◌, [], IfOk, OnErr, OnOk, Some};
+ghost use Rattle.teco_files.specs.Disk.{Appends, Creates, Opens, Removes, Renames, Same, SameBut};
+ghost use Rattle.teco_files.specs.FileLog.{GrowsByOne, files_of};
+
+use super::Refused;
+use crate::memory_source::MemorySource;
+use crate::source::Source;
+use std::alloc::Global;
+use std::io;
+use std::io::ErrorKind;
+use std::marker::Model;
+use teco_core::NoMemory;
+
+/// What a call made of the files.
+#[derive(Drop)]
+struct Note {
+    gone: String,
+    name: String,
+    bytes: Option<Vec<u8>>,
+}
+
+impl Model for Note {
+    ghost use Rattle.std.specs.Option.{option_map};
+    ghost use Rattle.std.specs.String.{string_bytes};
+    ghost use Rattle.teco_files.specs.FileLog.{FileNote};
+
+    ghost Value = { FileNote };
+
+    ghost view = { λ note. record {
+      gone = string_bytes note.gone;
+      name = string_bytes note.name;
+      bytes = option_map (λ bytes. bytes.items) note.bytes;
+    } };
+}
+
+/// What each call made of the files, the last first.
+#[derive(Drop)]
+pub(super) struct Log {
+    alloc: Global,
+    notes: Vec<Note>,
+}
+
+impl Model for Log {
+    ghost use Rattle.std.specs.Prelude.{List};
+    ghost use Rattle.teco_files.specs.FileLog.{FileNote};
+
+    ghost Value = { List FileNote };
+
+    ghost view = { λ log. log.notes.items };
+}
+
+impl Log {
+    pub(super) fn new(alloc: Global) -> Log
+        ensures { result ≡ [] }
+    {
+        Log {
+            alloc,
+            notes: Vec::new(alloc),
+        }
+    }
+
+    /// The bytes of a file, if it is there.
+    pub(super) fn bytes(&self, name: &str) -> Option<&[u8]>
+        ensures { option_copied result ≡ files_of self.now name.now }
+    {
+        for note in self.notes.iter() {
+            if name == note.name.as_str() {
+                return match &note.bytes {
+                    Some(bytes) => Some(bytes.as_slice()),
+                    None => None,
+                };
+            }
+            if name == note.gone.as_str() {
+                return None;
+            }
+        }
+        None
+    }
+
+    /// Whether each file has one of these names.
+    pub(super) fn has_only(&self, names: &[(&str, &str)]) -> bool {
+        let mut held = true;
+        for note in self.notes.iter() {
+            let name = note.name.as_str();
+            held = held && (self.bytes(name).is_none() || names.iter().any(|file| file.0 == name));
+        }
+        held
+    }
+
+    /// Notes what a call made of the files.
+    fn note(&mut self, gone: &str, name: &str, bytes: Option<Vec<u8>>) -> Result<(), NoMemory>
+        ensures ok { OnOk result (self.new
+            ≡ record {
+              gone = gone.now;
+              name = name.now;
+              bytes = option_map (λ bytes. bytes.items) bytes;
+            } ∷ self.old) }
+        ensures err { OnErr result (self.new ≡ self.old) }
+    {
+        let note = Note {
+            gone: String::from_str(self.alloc, gone)?,
+            name: String::from_str(self.alloc, name)?,
+            bytes,
+        };
+        Ok(self.notes.insert(0, note)?)
+    }
+}
+
+// What each call does to the files. Where it is refused they stay as they were, but for a write, of which half comes.
+impl Log {
+    /// Puts a file there.
+    pub(super) fn put(&mut self, name: &str, bytes: &[u8]) -> Result<(), NoMemory> {
+        let bytes = Vec::from_slice(self.alloc, bytes)?;
+        self.note(name, name, Some(bytes))
+    }
+
+    pub(super) fn opened(&self, refused: Refused, name: &str) -> io::Result<MemorySource>
+        ensures { IfOk result
+            (λ input. Opens (Some (files_of self.now)) name.now (⟦<MemorySource as Source>⟧.coming input)) }
+    {
+        let Some(bytes) = self.bytes(name) else {
+            return Err(io::Error::from(ErrorKind::NotFound));
+        };
+        let bytes = Vec::from_slice(self.alloc, bytes)?;
+        let fails = matches!(refused, Refused::Read);
+        Ok(MemorySource::new(bytes, Vec::new(self.alloc), fails))
+    }
+
+    pub(super) fn made(&mut self, refused: Refused, name: &str) -> io::Result<()>
+        ensures ok { OnOk result (Creates name.now [] (files_of self.old) (files_of self.new)) }
+        ensures err { OnErr result (Same (files_of self.old) (files_of self.new)) }
+        ensures others { SameBut name.now (files_of self.old) (files_of self.new) }
+        ensures grows { GrowsByOne self.old self.new }
+    {
+        if matches!(refused, Refused::Make) {
+            return Err(io::Error::from(ErrorKind::PermissionDenied));
+        }
+        let None = self.bytes(name) else {
+            return Err(io::Error::from(ErrorKind::AlreadyExists));
+        };
+        Ok(self.note(name, name, Some(Vec::new(self.alloc)))?)
+    }
+
+    pub(super) fn written(&mut self, refused: Refused, name: &str, bytes: &[u8]) -> io::Result<()>
+        ensures ok { OnOk result (Appends name.now bytes.now (files_of self.old) (files_of self.new)) }
+        ensures others { SameBut name.now (files_of self.old) (files_of self.new) }
+        ensures grows { GrowsByOne self.old self.new }
+    {
+        let Some(had) = self.bytes(name) else {
+            return Err(io::Error::from(ErrorKind::NotFound));
+        };
+        let mut all = Vec::from_slice(self.alloc, had)?;
+        if matches!(refused, Refused::Write) {
+            all.extend_from_slice(&bytes[..bytes.len() / 2])?;
+            self.note(name, name, Some(all))?;
+            return Err(io::Error::from(ErrorKind::StorageFull));
+        }
+        all.extend_from_slice(bytes)?;
+        Ok(self.note(name, name, Some(all))?)
+    }
+
+    pub(super) fn renamed(&mut self, refused: Refused, from: &str, to: &str) -> io::Result<()>
+        requires { from.now ≢ to.now }
+        ensures ok { OnOk result (Renames from.now to.now (files_of self.old) (files_of self.new)) }
+        ensures err { OnErr result (Same (files_of self.old) (files_of self.new)) }
+        ensures grows { GrowsByOne self.old self.new }
+    {
+        if matches!(refused, Refused::Rename | Refused::RenameAndRemove) {
+            return Err(io::Error::from(ErrorKind::PermissionDenied));
+        }
+        let Some(bytes) = self.bytes(from) else {
+            return Err(io::Error::from(ErrorKind::NotFound));
+        };
+        let bytes = Vec::from_slice(self.alloc, bytes)?;
+        Ok(self.note(from, to, Some(bytes))?)
+    }
+
+    pub(super) fn removed(&mut self, refused: Refused, name: &str) -> io::Result<()>
+        ensures ok { OnOk result (Removes name.now (files_of self.old) (files_of self.new)) }
+        ensures others { SameBut name.now (files_of self.old) (files_of self.new) }
+        ensures grows { GrowsByOne self.old self.new }
+    {
+        if matches!(refused, Refused::RenameAndRemove) {
+            return Err(io::Error::from(ErrorKind::PermissionDenied));
+        }
+        Ok(self.note(name, name, None)?)
+    }
+}

@@ -1,0 +1,234 @@
+-- The arguments of the program's command, and the entries of a parse by it.
+use Rattle.std.proofs.Common.{◌≡◌, ◌∙◌, ◌<◌, ◌≤◌, ℕ, Bool, true, false, zero, suc, refl, sym, ap, subst, arith, List, [], ◌∷◌, length, is_some, codes, Option, Some, None, inl, inr, true≢false}
+use Rattle.std.specs.Prelude.{find, map, option_map, slice_get}
+use Rattle.std.specs.List.{All, list_all, slice_index_or}
+use Rattle.std.specs.Str.{bytes_eq}
+use Rattle.std.specs.Borrow.{Bor}
+use Rattle.std.proofs.lemmas.List.{get_or-map, length-map}
+use Rattle.std.proofs.lemmas.List.Elements.{All-get_or}
+use Rattle.std.proofs.lemmas.Slice.Eq.{bytes_eq-Decides}
+use Rattle.clap.specs.Facts.{Entry, EntryPasses, HasIn, HasReading, IsParsed, PassesArg, args_of, groups_of, least_values, parser_of, parser_of_value}
+use Rattle.clap.specs.Built.{IsAuto, IsParsedFrom, IsPlain}
+use Rattle.clap.specs.Values.{Accepts, read_as, reading_of}
+use Rattle.clap.specs.Matches.{first_value, found_of, has_subcommand, matched_of, one_text}
+use Rattle.clap.specs.Walk.{Rule, Text, rule_of}
+use Rattle.clap.specs.Simple.{IsSimple, app_of, is_ready, is_ready_leaf, is_simple}
+use Rattle.clap.specs.Faults.{has_free_rules, is_simple_and_free}
+use Rattle.clap.specs.declared.builder.action.ArgAction.TheVariants.{Count, Set}
+use Rattle.clap.specs.declared.builder.arg.Arg.{Arg}
+use Rattle.clap.specs.declared.builder.command.Command.{Command}
+use Rattle.clap.specs.declared.builder.command.Command.TheViews.{out-Command}
+use Rattle.clap.specs.declared.builder.value_parser.Reading.{Reading}
+use Rattle.clap.specs.declared.builder.value_parser.ValueParser.{ValueParser}
+use Rattle.clap.specs.declared.parser.matches.ArgMatches.{ArgMatches}
+use Rattle.clap.specs.declared.parser.matches.Found.{Found}
+use Rattle.clap.specs.declared.parser.matches.MatchedArg.{MatchedArg}
+use Rattle.clap.proofs.CallerLemmas.{entry_by_id, same_rules_by_id}
+use Rattle.clap.proofs.FaultLemmas.{free_args}
+use Rattle.clap.proofs.SimpleLemmas.{all_simple, ready_simple, simple_groups}
+use Rattle.teco_line.specs.CommandLine.{teco_app}
+
+-- the command is one whose matches the parser's contract says, and no argument has a rule on another
+pub teco_is_simple : is_simple teco_app ≡ true
+teco_is_simple = refl
+
+pub teco_is_free : is_simple_and_free teco_app ≡ true
+teco_is_free = refl
+
+pub some_arg : (xs : List Arg) → length xs ≡ 8 → Arg
+some_arg [] e = absurd (omega arith)
+some_arg (x ∷ xs) e = x
+
+-- ---- the arguments of the program's command
+
+module _ (c : Command) (is : app_of c ≡ teco_app) where
+  rules_are : map rule_of (args_of c) ≡ teco_app.top.rules
+  rules_are = ap (λ a. a.top.rules) is
+
+  pub count_is : length (args_of c) ≡ 8
+  count_is = sym (length-map (args_of c) rule_of) ∙ ap length rules_are
+
+  rule_at : (k : ℕ) (d : Arg) → k < length (args_of c) → rule_of (slice_index_or (args_of c) k d) ≡ slice_index_or teco_app.top.rules k (rule_of d)
+  rule_at k d lt = sym (get_or-map rule_of (args_of c) k d (rule_of d) lt) ∙ ap (λ xs. slice_index_or xs k (rule_of d)) rules_are
+
+  id_at : (k : ℕ) (d : Arg) → k < length (args_of c) → (slice_index_or (args_of c) k d).id.now ≡ (slice_index_or teco_app.top.rules k (rule_of d)).id
+  id_at k d lt = ap (λ r. r.id) (rule_at k d lt)
+
+  pub simple_is : IsSimple c
+  simple_is = ready_simple c (ap (λ a. is_ready a.top) is) (ap (λ a. list_all is_ready_leaf a.subs) is)
+
+  pub plain_is : IsPlain c
+  plain_is =
+      let free = free_args c simple_is (ap (λ a. has_free_rules a.top) is) in
+      let groups = simple_groups c (ap (λ a. all_simple a.top.rules) is) in
+      (λ k d lt. ((free k d lt).exclusive, (free k d lt).conflicts, (free k d lt).overrides, groups k d lt), simple_is.groups)
+
+-- an argument that no other one is taken for, and that is none of the parser's own
+pub record IsAlone (c : Command) (k : ℕ) (rule : Rule) (arg : Arg) : Type 0 where
+  pub within : k < length (args_of c)
+  pub rule_is : rule_of arg ≡ rule
+  pub id_is : arg.id.now ≡ rule.id
+  pub own : IsAuto arg → ⊥
+  pub named : arg.id.now ≡ [] → ⊥
+  pub unique : (j : ℕ) (e : Arg) → j < length (args_of c) → bytes_eq (slice_index_or (args_of c) j e).id.now arg.id.now ≡ true → j ≡ k
+
+pub alone_at : (c : Command) → app_of c ≡ teco_app → (k : ℕ) (rule : Rule) (d : Arg) → k < 8 → slice_index_or teco_app.top.rules k (rule_of d) ≡ rule
+    → ((j : ℕ) (r : Rule) → j < 8 → bytes_eq (slice_index_or teco_app.top.rules j r).id rule.id ≡ true → j ≡ k)
+    → bytes_eq (codes "help") rule.id ≡ false → bytes_eq (codes "version") rule.id ≡ false → bytes_eq [] rule.id ≡ false
+    → IsAlone c k rule (slice_index_or (args_of c) k d)
+alone_at c is k rule d low at only no_help no_version no_empty =
+    let count = count_is c is in
+    let lt : k < length (args_of c) = omega arith in
+    let rule_is = rule_at c is k d lt ∙ at in
+    let id_is : (slice_index_or (args_of c) k d).id.now ≡ rule.id = ap (λ r. r.id) rule_is in
+    let apart : (t : Text) → bytes_eq t rule.id ≡ false → (slice_index_or (args_of c) k d).id.now ≡ t → ⊥ =
+    λ t other e. true≢false (sym ((bytes_eq-Decides t rule.id).1 (sym e ∙ id_is)) ∙ other) in
+    record {
+      within = lt;
+      rule_is = rule_is;
+      id_is = id_is;
+      own = λ auto. elim auto [ inl h ↦ apart (codes "help") no_help h | inr h ↦ apart (codes "version") no_version h ];
+      named = apart [] no_empty;
+      unique = λ j e less same. only j (rule_of e) (omega arith) (rw (← id_at c is j e less, ← id_is) same);
+    }
+
+-- ---- entries
+
+first_some : (xs : List (Bor (List ℕ))) → 0 < length xs → is_some (option_map (λ s. s.now) (slice_get xs 0)) ≡ true
+first_some [] lt = absurd (omega arith)
+first_some (x ∷ xs) lt = refl
+
+-- an id that is had is found
+pub found_in : (xs : List Entry) (id : List ℕ) → HasIn xs id → is_some (option_map (λ e. e.1) (find (λ e. bytes_eq e.0.now id) xs)) ≡ true
+found_in [] id h = absurd (omega (arith, h.1))
+found_in (x ∷ xs) id h = go (bytes_eq x.0.now id) refl (found_in xs id) h
+  where
+    go : (t : Bool) → bytes_eq x.0.now id ≡ t → (HasIn xs id → is_some (option_map (λ e. e.1) (find (λ e. bytes_eq e.0.now id) xs)) ≡ true) → HasIn (x ∷ xs) id
+        → is_some (option_map (λ e. e.1) (find (λ e. bytes_eq e.0.now id) (x ∷ xs))) ≡ true
+    go true t rest h = rw t refl
+    go false t rest (zero, lt, at) =
+        let hit : bytes_eq x.0.now id ≡ true = at x in
+        cc
+    go false t rest (suc i, lt, at) = rw t (rest (i, omega arith, at))
+
+module _ (old : Command) (m : ArgMatches) (p : IsParsedFrom old m) (plain : IsPlain old) (globals : (out-Command old).has_globals ≡ false)
+    (k : ℕ) (d : Arg) (lt : k < length (args_of old))
+    (unique : (j : ℕ) (e : Arg) → j < length (args_of old) → bytes_eq (slice_index_or (args_of old) j e).id.now (slice_index_or (args_of old) k d).id.now ≡ true → j ≡ k)
+    (own : IsAuto (slice_index_or (args_of old) k d) → ⊥) where
+  -- the argument that the caller gave, its id, and what was found
+  abbrev arg : Arg
+  arg = slice_index_or (args_of old) k d
+
+  abbrev id : List ℕ
+  id = arg.id.now
+
+  abbrev found : Found
+  found = found_of m
+
+  -- an argument that takes one value has a value where it has an entry
+  pub entry_has_value : arg.action ≡ Some Set → arg.val_delim ≡ None → 1 ≤ least_values arg → (id ≡ [] → ⊥) → is_some (matched_of found id) ≡ true → is_some (first_value found id) ≡ true
+  entry_has_value set delim least named some = go (matched_of found id) refl (p.parsed (p.from.globals ∙ globals))
+    where
+      go : (o : Option MatchedArg) → matched_of found id ≡ o → IsParsed p.built found (has_subcommand m) → is_some (first_value found id) ≡ true
+      go None e parsed =
+          let none : is_some (matched_of found id) ≡ false = rw e refl in
+          cc
+      go (Some x) e parsed =
+          let got = entry_by_id (EntryPasses p.built) found.entries.items id x parsed.values e in
+          let same_x : got.0.1 ≡ x = got.1 in
+          let key : bytes_eq got.0.0.now id ≡ true = got.2 in
+          let key_id : got.0.0.now ≡ id = (bytes_eq-Decides _ _).0 key in
+          let no_groups : groups_of p.built ≡ [] = (p.from.plain plain).1 in
+          elim got.3.1 [
+            | inl h ↦ elim h.1 [
+              | inl empty ↦ absurd (named (sym key_id ∙ empty))
+              | inr has ↦
+                  let bad : 0 < 0 = rw no_groups at has in
+                  absurd (omega arith)
+            ]
+            | inr (inl v) ↦ rw e (first_some x.vals.items (rw same_x at v))
+            | inr (inr (inl h)) ↦
+                let any = h.1 in
+                let s = same_rules_by_id old m p k d lt unique own any.0 any.1 any.2 any.3 (rw key_id at any.4.0) in
+                let is_set : any.1.action ≡ Some Set = s.action Set set in
+                let bad : Set ≡ Count = rw is_set at any.4.1 in
+                cc
+            | inr (inr (inr h)) ↦
+                let s = same_rules_by_id old m p k d lt unique own h.0 h.1 h.2 h.3 (rw key_id at h.4.0) in
+                elim h.4.1 [
+                  | inl none ↦
+                      let one = s.least set least in
+                      absurd (omega arith)
+                  | inr has ↦
+                      let bad : false ≡ true = rw (s.val_delim, delim) at has in
+                      cc
+                ]
+          ]
+
+  -- an argument with its id is read as its parser says
+  only_reading : (q : ValueParser) → arg.value_parser ≡ Some q → (r : Reading) → HasReading p.built id r → r ≡ reading_of q
+  only_reading q parser r any =
+      let s = same_rules_by_id old m p k d lt unique own any.0 any.1 any.2 any.3 any.4.0 in
+      let is_q : parser_of any.1 ≡ q = ap parser_of_value (s.parser q parser) in
+      sym any.4.1 ∙ ap reading_of is_q
+
+  -- a value that passed an argument with its id passed its parser
+  passes_read : (q : ValueParser) → arg.value_parser ≡ Some q → (w : List ℕ) (v : Bor (List ℕ)) → w ≡ id → PassesArg p.built w v.now → Accepts arg.ignore_case q v.now
+  passes_read q parser w v key pass =
+      let same : bytes_eq pass.1.id.now id ≡ true = subst (λ (u : List ℕ). bytes_eq pass.1.id.now u ≡ true) key pass.4.0 in
+      let s = same_rules_by_id old m p k d lt unique own pass.0 pass.1 pass.2 pass.3 same in
+      let is_q : parser_of pass.1 ≡ q = ap parser_of_value (s.parser q parser) in
+      let as_q : Accepts pass.1.ignore_case q v.now = subst (λ (w : ValueParser). Accepts pass.1.ignore_case w v.now) is_q pass.4.1 in
+      subst (λ (b : Bool). Accepts b q v.now) s.ignore_case as_q
+
+  head_passes : (P : Bor (List ℕ) → Type 0) (how : Reading) (vs : List (Bor (List ℕ))) → All P vs → is_some (option_map (λ s. s.now) (slice_get vs 0)) ≡ true
+      → (v : Bor (List ℕ)) × (option_map (λ s. read_as how s.now) (slice_get vs 0) ≡ Some (read_as how v.now)) × P v
+  head_passes P how [] h some = cc
+  head_passes P how (v ∷ vs) h some = (v, refl, All-get_or P (v ∷ vs) 0 v (omega arith) h)
+
+  one_text_at_entry : (x : MatchedArg) (how : Reading) (t : List ℕ) → matched_of found id ≡ Some x → x.reading ≡ how
+      → option_map (λ s. read_as how s.now) (slice_get x.vals.items 0) ≡ Some t → one_text found id ≡ Some t
+  one_text_at_entry x how t at how_is v = rw (at, how_is) v
+
+  -- what one entry gives
+  read_of : (q : ValueParser) → arg.value_parser ≡ Some q → (id ≡ [] → ⊥) → (x : MatchedArg) (e : Entry) → matched_of found id ≡ Some x
+      → is_some (option_map (λ s. s.now) (slice_get x.vals.items 0)) ≡ true → e.1 ≡ x → e.0.now ≡ id → EntryPasses p.built e
+      → (t : List ℕ) × (one_text found id ≡ Some (read_as (reading_of q) t)) × Accepts arg.ignore_case q t
+  read_of q parser named x e at first same_x key_id pass =
+      let no_groups : groups_of p.built ≡ [] = (p.from.plain plain).1 in
+      let no_group : e.1.is_group ≡ true → ⊥ = λ g. elim (pass.3 g) [
+        | inl empty ↦ named (sym key_id ∙ empty)
+        | inr lots ↦
+            let bad : 0 < 0 = rw no_groups at lots in
+            absurd (omega arith)
+      ] in
+      let all : All (λ v. PassesArg p.built id v.now) x.vals.items = elim pass.0 [
+        | inl g ↦ absurd (no_group g)
+        | inr vals ↦ subst (λ (w : List ℕ). All (λ v. PassesArg p.built w v.now) x.vals.items) key_id (rw same_x at vals)
+      ] in
+      let reads : e.1.reading ≡ reading_of q = elim pass.4 [
+        | inl g ↦ absurd (no_group g)
+        | inr h ↦ only_reading q parser e.1.reading (subst (λ (w : List ℕ). HasReading p.built w e.1.reading) key_id h)
+      ] in
+      let head = head_passes (λ v. PassesArg p.built id v.now) (reading_of q) x.vals.items all first in (
+        head.0.now,
+        one_text_at_entry x (reading_of q) (read_as (reading_of q) head.0.now) at (ap (λ (y : MatchedArg). y.reading) (sym same_x) ∙ reads) head.1,
+        passes_read q parser id head.0 refl head.2,
+      )
+
+  -- an argument with a first value has a text that passed its parser, and is read as that parser says
+  pub entry_read : (q : ValueParser) → arg.value_parser ≡ Some q → (id ≡ [] → ⊥) → is_some (first_value found id) ≡ true
+      → (t : List ℕ) × (one_text found id ≡ Some (read_as (reading_of q) t)) × Accepts arg.ignore_case q t
+  entry_read q parser named has = go (matched_of found id) refl has
+    where
+      step : (x : MatchedArg) → matched_of found id ≡ Some x → is_some (option_map (λ s. s.now) (slice_get x.vals.items 0)) ≡ true
+          → ((e : Entry) × (e.1 ≡ x) × (bytes_eq e.0.now id ≡ true) × EntryPasses p.built e)
+          → (t : List ℕ) × (one_text found id ≡ Some (read_as (reading_of q) t)) × Accepts arg.ignore_case q t
+      step x at first got = read_of q parser named x got.0 at first got.1 ((bytes_eq-Decides got.0.0.now id).0 got.2) got.3
+
+      go : (o : Option MatchedArg) → matched_of found id ≡ o → is_some (first_value found id) ≡ true
+          → (t : List ℕ) × (one_text found id ≡ Some (read_as (reading_of q) t)) × Accepts arg.ignore_case q t
+      go None e h =
+          let bad : false ≡ true = rw e at h in
+          cc
+      go (Some x) e h = step x e (rw e at h) (entry_by_id (EntryPasses p.built) found.entries.items id x (p.parsed (p.from.globals ∙ globals)).values e)

@@ -1,0 +1,3 @@
+mod CommandEntries
+pub mod CommandLines
+mod CommandRows

@@ -1,9 +1,0 @@
-use Rattle.std.proofs.Common.{Some, ap, sym, ◌∙◌}
-use Rattle.teco_program.proofs.FileLogs.{creates, noted, others_noted}
-use Rattle.teco_program.proofs.memory_disk.log.Log.made.Goals as goal
-
-pub returns-clause-ok : goal.returns-clause-ok
-returns-clause-ok c = creates (sym c.in-None.ensures) (rw c.new.ensures.items at c.in_ok-note.ensures.ok)
-
-pub returns-clause-others : goal.returns-clause-others
-returns-clause-others c = others_noted c.in_ok-note.ensures.ok

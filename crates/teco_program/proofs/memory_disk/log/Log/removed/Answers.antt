@@ -1,8 +1,0 @@
-use Rattle.teco_program.proofs.FileLogs.{others_noted, removes}
-use Rattle.teco_program.proofs.memory_disk.log.Log.removed.Goals as goal
-
-pub returns-clause-ok : goal.returns-clause-ok
-returns-clause-ok c = removes c.in_ok-note.ensures.ok
-
-pub returns-clause-others : goal.returns-clause-others
-returns-clause-others c = others_noted c.in_ok-note.ensures.ok

@@ -1,6 +1,0 @@
-use Rattle.std.proofs.Common.{sym}
-use Rattle.teco_program.proofs.FileLogs.{renames}
-use Rattle.teco_program.proofs.memory_disk.log.Log.renamed.Goals as goal
-
-pub returns-clause-ok : goal.returns-clause-ok
-returns-clause-ok c = renames c.requires (sym c.in-Some.ensures) (rw c.in_ok-bytes.ensures.items at c.in_ok-note.ensures.ok)
