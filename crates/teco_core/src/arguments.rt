@@ -9,7 +9,7 @@ use crate::number::{Op, operation};
 use std::mem;
 
 /// A `+` or `-` before a value.
-#[derive(Clone, Copy, Debug, PartialEq, Eq)]
+#[derive(Clone, Copy)]
 pub enum Sign {
     Positive,
     Negative,
@@ -18,7 +18,7 @@ pub enum Sign {
 /// What a level of the arguments has so far. A level is the ground or an open parenthesis.
 ///
 /// `Signed` is a sign that waits for a value, `Operation` a value and an operator that waits for the next one.
-#[derive(Clone, Copy, Debug, PartialEq, Eq)]
+#[derive(Clone, Copy)]
 pub enum Expression {
     Nothing,
     Number(i32),
@@ -29,7 +29,7 @@ pub enum Expression {
 /// What the level in use has, for the commands that look at it without taking it.
 ///
 /// `Sign` is a lone sign, as 1 or -1; at `Waits` an operator waits after a value.
-#[derive(Clone, Copy, Debug, PartialEq, Eq)]
+#[derive(Clone, Copy)]
 pub enum Level {
     Empty,
     Value(i32),
@@ -38,7 +38,7 @@ pub enum Level {
 }
 
 /// What a command takes: nothing, `n`, or `m,n`.
-#[derive(Clone, Copy, Debug, PartialEq, Eq)]
+#[derive(Clone, Copy)]
 pub enum Taken {
     None,
     One(i32),
@@ -115,7 +115,7 @@ fn with_first(first: Option<i32>, value: Option<i32>) -> Result<Taken, Code>
 /// The arguments as they are built, with at most [`PARENTHESIS_LIMIT`] open parentheses. They take no memory.
 ///
 /// A call that is refused changes nothing.
-#[derive(Clone, Copy, Debug)]
+#[derive(Clone, Copy)]
 pub struct Args {
     first: Option<i32>,
     /// At the level in use.

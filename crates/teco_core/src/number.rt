@@ -5,7 +5,7 @@ ghost use Rattle.teco_core.specs.Number.{operation, decimal_value, fitted};
 use crate::code::Code;
 
 /// An operator between two numbers: `Over` is division, cut toward zero, and `And` and `Or` are of 32 bits in two's complement.
-#[derive(Clone, Copy, Debug, PartialEq, Eq)]
+#[derive(Clone, Copy)]
 pub enum Op {
     Plus,
     Minus,

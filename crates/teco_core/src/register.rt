@@ -88,7 +88,7 @@ impl Value {
 /// The 36 registers, A to Z and 0 to 9.
 ///
 /// A clause sees them as the list of what they hold, at their places from 0 to 35.
-#[derive(Debug, Drop)]
+#[derive(Drop)]
 pub struct Registers {
     values: [Value; 36],
 }

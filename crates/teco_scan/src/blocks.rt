@@ -16,7 +16,7 @@ use crate::token::{Found, Token, TokenKind};
 use teco_core::{BLOCK_LIMIT, Code, is_filler};
 
 /// The kinds of open blocks: an iteration's body, a conditional's first part and its second.
-#[derive(Clone, Copy, Debug, PartialEq, Eq)]
+#[derive(Clone, Copy)]
 pub enum Kind {
     Iter,
     Then,
@@ -24,7 +24,7 @@ pub enum Kind {
 }
 
 /// Where a skip stopped: the place one past the block's closing byte or, where it is divided, one past its `|`.
-#[derive(Clone, Copy, Debug, PartialEq, Eq)]
+#[derive(Clone, Copy)]
 pub struct Stop {
     pub to: usize,
     pub divided: bool,

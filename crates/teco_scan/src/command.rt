@@ -2,7 +2,7 @@
 use teco_core::Op;
 
 /// Values that take nothing.
-#[derive(Clone, Copy, Debug, PartialEq, Eq)]
+#[derive(Clone, Copy)]
 pub enum Quantity {
     /// `B`, the place 0.
     Beginning,
@@ -17,7 +17,7 @@ pub enum Quantity {
 }
 
 /// What builds arguments.
-#[derive(Clone, Copy, Debug, PartialEq, Eq)]
+#[derive(Clone, Copy)]
 pub enum Arithmetic {
     /// `H`, the whole buffer as a pair.
     Whole,
@@ -32,7 +32,7 @@ pub enum Arithmetic {
 }
 
 /// A value or a command, as the level of the arguments says.
-#[derive(Clone, Copy, Debug, PartialEq, Eq)]
+#[derive(Clone, Copy)]
 pub enum LevelCommand {
     /// `A`, the code of a character, or the next page appended.
     Append,
@@ -41,7 +41,7 @@ pub enum LevelCommand {
 }
 
 /// Commands that take arguments, and after whose name nothing follows.
-#[derive(Clone, Copy, Debug, PartialEq, Eq)]
+#[derive(Clone, Copy)]
 pub enum Command {
     /// `J`
     Jump,
@@ -80,7 +80,7 @@ pub enum Command {
 }
 
 /// Commands after whose name nothing follows, and which are a step of their own.
-#[derive(Clone, Copy, Debug, PartialEq, Eq)]
+#[derive(Clone, Copy)]
 pub enum Bare {
     Quantity(Quantity),
     Arithmetic(Arithmetic),
@@ -89,7 +89,7 @@ pub enum Bare {
 }
 
 /// Commands on a register.
-#[derive(Clone, Copy, Debug, PartialEq, Eq)]
+#[derive(Clone, Copy)]
 pub enum RegisterCommand {
     /// `Q`; with a colon, the length of its text.
     Number,
@@ -110,7 +110,7 @@ pub enum RegisterCommand {
 }
 
 /// Commands with one text.
-#[derive(Clone, Copy, Debug, PartialEq, Eq)]
+#[derive(Clone, Copy)]
 pub enum TextCommand {
     /// `I`
     Insert,
@@ -129,7 +129,7 @@ pub enum TextCommand {
 }
 
 /// What opens, divides and ends blocks, but for `"`, which has its test.
-#[derive(Clone, Copy, Debug, PartialEq, Eq)]
+#[derive(Clone, Copy)]
 pub enum BlockMark {
     /// `<`
     Iterate,
@@ -142,7 +142,7 @@ pub enum BlockMark {
 }
 
 /// What `"` and a letter ask of a number.
-#[derive(Clone, Copy, Debug, PartialEq, Eq)]
+#[derive(Clone, Copy)]
 pub enum Test {
     /// `E`, `F` or `U`
     Zero,
@@ -202,7 +202,7 @@ pub enum Name {
 }
 
 /// What comes before a command, or the most that may: whether `@`, and how many colons.
-#[derive(Clone, Copy, Debug, PartialEq, Eq)]
+#[derive(Clone, Copy)]
 pub struct Modifiers {
     pub at: bool,
     pub colons: u8,

@@ -3,14 +3,14 @@ use crate::command::{Bare, BlockMark, Modifiers, RegisterCommand, Test, TextComm
 use teco_core::{Code, Reg};
 
 /// The bytes of a text from one place up to another.
-#[derive(Clone, Copy, Debug, PartialEq, Eq)]
+#[derive(Clone, Copy)]
 pub struct Span {
     pub from: usize,
     pub to: usize,
 }
 
 /// What is a step of its own, with its operands. A text's span leaves its delimiters out.
-#[derive(Clone, Copy, Debug, PartialEq, Eq)]
+#[derive(Clone, Copy)]
 pub enum Item {
     /// A run of decimal digits.
     Digits(Span),
@@ -26,7 +26,7 @@ pub enum Item {
 }
 
 /// What a token instructs.
-#[derive(Clone, Copy, Debug, PartialEq, Eq)]
+#[derive(Clone, Copy)]
 pub enum TokenKind {
     Item(Item),
     Mark(BlockMark),
@@ -38,7 +38,7 @@ pub enum TokenKind {
 }
 
 /// A token, from its first byte up to the place after its last.
-#[derive(Clone, Copy, Debug, PartialEq, Eq)]
+#[derive(Clone, Copy)]
 pub struct Token {
     pub span: Span,
     pub modifiers: Modifiers,
@@ -46,7 +46,7 @@ pub struct Token {
 }
 
 /// What is at a place, after fillers.
-#[derive(Clone, Copy, Debug, PartialEq, Eq)]
+#[derive(Clone, Copy)]
 pub enum Found {
     Token(Token),
     /// The end of the text.

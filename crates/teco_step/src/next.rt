@@ -3,7 +3,7 @@ use teco_core::{Code, Reg};
 use teco_scan::Modifiers;
 
 /// What is left of a token that takes several steps: so many pages or occurrences, and whether a search is next.
-#[derive(Clone, Copy, Debug, PartialEq, Eq)]
+#[derive(Clone, Copy)]
 pub struct Work {
     pub left: i32,
     pub search: bool,
@@ -11,7 +11,7 @@ pub struct Work {
 
 /// What surrounds a step: the modifiers of the token; what is left of it after an earlier step; whether an iteration of the same text
 /// is open; and whether a `;` without modifiers comes next.
-#[derive(Clone, Copy, Debug, PartialEq, Eq)]
+#[derive(Clone, Copy)]
 pub struct Setting {
     pub modifiers: Modifiers,
     pub work: Option<Work>,
@@ -20,7 +20,7 @@ pub struct Setting {
 }
 
 /// What a step leads to.
-#[derive(Clone, Copy, Debug)]
+#[derive(Clone, Copy)]
 pub enum Next {
     /// The string goes on.
     On,

@@ -6,7 +6,7 @@ ghost use Rattle.teco_telling.specs.Spot.{is_newline, spot_of};
 use std::fmt;
 
 /// A line and a column of a text, from 1 on.
-#[derive(Clone, Copy, Debug, PartialEq, Eq)]
+#[derive(Clone, Copy, PartialEq)]
 pub struct Spot {
     pub line: u64,
     pub column: u64,

@@ -11,7 +11,7 @@ use teco_telling::Spot;
 use thiserror::Error;
 
 /// What is asked.
-#[derive(Clone, Copy, Debug)]
+#[derive(Clone, Copy)]
 pub enum Command {
     /// So many steps on.
     Next(u64),

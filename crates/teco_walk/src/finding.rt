@@ -6,7 +6,7 @@ use teco_core::Reg;
 use teco_store::{Change, ChangeKind};
 
 /// A part of the state that is asked for.
-#[derive(Clone, Copy, Debug)]
+#[derive(Clone, Copy)]
 pub enum Part {
     /// The text of the buffer.
     Buffer,
