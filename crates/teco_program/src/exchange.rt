@@ -107,6 +107,29 @@ fn repeat<T: Terminal, L: Listens>(
     Ok(())
 }
 
+/// Runs a text. Tells where its run last stood only where that is wanted.
+fn run_heard<T: Terminal>(
+    text: &[u8],
+    session: &mut Session,
+    limit: u64,
+    term: &mut T,
+    wants_place: bool,
+) -> Answered
+    ensures step { (typed : List ℕ)
+        × RunStep limit (history_of session.old) text.now result.answer typed (history_of session.new)
+        × Shows (T.screen term.old) (T.screen term.new) typed (is_terminal_failure result.answer) }
+    ensures exit { (present (history_of session.old)).is_done ≡ false
+        → (present (history_of session.new)).is_done ≡ true → answer_code result.answer ≡ None }
+{
+    if wants_place {
+        return session.run_where(text, limit, term);
+    }
+    Answered {
+        answer: session.run(text, limit, term),
+        place: Ok(None),
+    }
+}
+
 /// Runs a text, and shows the message of the answer.
 fn run_text<T: Terminal, L: Listens>(
     text: &[u8],
@@ -122,7 +145,7 @@ fn run_text<T: Terminal, L: Listens>(
     ensures err { OnErr result
         (is_exit (Run text.now) (history_of session.old) (history_of session.new) ≡ false) }
 {
-    let answered = session.run_where(text, limit, term);
+    let answered = run_heard(text, session, limit, term, listener.wants_place());
     if answered.answer.is_terminal_failure() {
         return Err(TerminalFault);
     }

@@ -13,6 +13,9 @@ use teco_telling::{show_code, show_stop};
 
 /// Who hears what is done for each text of the stream.
 pub trait Listens {
+    /// Whether it wants to hear where a run last stood.
+    fn wants_place(&self) -> bool;
+
     /// A text was run, and the code of its answer is shown, if it has one.
     fn ran(&mut self, text: &[u8], answered: &Answered, session: &Session);
 
@@ -25,6 +28,10 @@ pub trait Listens {
 pub struct Silent;
 
 impl Listens for Silent {
+    fn wants_place(&self) -> bool {
+        false
+    }
+
     fn ran(&mut self, _text: &[u8], _answered: &Answered, _session: &Session) {}
 
     fn moved(&mut self, _code: Option<Code>, _session: &Session) {}
@@ -131,6 +138,10 @@ impl<'a, N: Terminal> Explainer<'a, N> {
 }
 
 impl<'a, N: Terminal> Listens for Explainer<'a, N> {
+    fn wants_place(&self) -> bool {
+        true
+    }
+
     fn ran(&mut self, text: &[u8], answered: &Answered, session: &Session) {
         self.texts = self.texts.saturating_add(1);
         self.tell(lines_of_run(self.alloc, self.texts, self.counts, text, answered, session));
