@@ -40,6 +40,7 @@ impl<'t> Cursor<'t> {
     /// Passes a token that uses no step, or tells what comes.
     ///
     /// It is the token that was found here.
+    #[inline(always)]
     pub fn pass(&mut self, found: &Found) -> Coming
         requires read { found_in self.old.text.now found.now ≡ scan (drop self.old.at self.old.text.now) }
         requires place { IsFoundAt self.old.text.now self.old.at found.now }

@@ -162,7 +162,7 @@ fn token_step<D: Desk, T: Terminal>(
 }
 
 /// Does a step of a block.
-#[inline]
+#[inline(always)]
 fn block_step<D: Desk>(
     desk: &mut D,
     cursor: &mut Cursor,
@@ -193,7 +193,7 @@ fn block_step<D: Desk>(
 }
 
 /// Goes on where a step of the token before the cursor has ended so.
-#[inline]
+#[inline(always)]
 fn resume(cursor: &mut Cursor, token: &Token, next: Next) -> Progress
     requires token { IsStepIn cursor.old.text.now token.now }
     requires finished { is_unfinished next ≡ false }
