@@ -182,6 +182,7 @@ impl<'t> Cursor<'t> {
     }
 
     /// Takes a step that opens a block or ends a turn, and whose token ends at a place.
+    #[inline(always)]
     pub fn block_step(&mut self, block: BlockStep, to: usize) -> Result<(), Code>
         requires within { to ≤ length self.old.text.now }
         requires opens { MayOpen block self.old.blocks }
