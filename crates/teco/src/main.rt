@@ -4,8 +4,8 @@
 #[cfg(test)]
 mod tests;
 
-use std::process::ExitCode;
 use std::process;
+use std::process::ExitCode;
 use teco_files::{FileDisk, ReaderSource};
 use teco_line::{LineFault, fault_of_words, not_text};
 use teco_program::program;

@@ -6,8 +6,8 @@ ghost use Rattle.teco_files.specs.Disk.{Appends, Changes, Counts, Creates, IsWho
 ghost use Rattle.teco_program.specs.Writing.{AddsDrafts, IsWriteError, IsWriting, Writes, both};
 
 use std::alloc::Global;
-use std::io::ErrorKind;
 use std::io;
+use std::io::ErrorKind;
 use std::path::Path;
 use teco_core::NoMemory;
 use teco_files::{Disk, Place};

@@ -1,4 +1,4 @@
-use Rattle.std.proofs.Common.{◌≡◌, ◌∙◌, sym, ap, refl, rules, map, Some, codes}
+use Rattle.std.proofs.Common.{◌≡◌, ◌∙◌, sym, ap, refl, map, Some, codes}
 use Rattle.std.specs.Prelude.{option_map}
 use Rattle.std.specs.String.{string_bytes}
 use Rattle.std.specs.Str.Parse.{ParsesBool, ParsesUnsigned, ExplainsUnsignedError, HasUnsignedDigitsIfOk}

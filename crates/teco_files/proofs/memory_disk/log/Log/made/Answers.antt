@@ -1,5 +1,5 @@
-use Rattle.std.proofs.Common.{Some, ap, sym, ◌∙◌}
-use Rattle.teco_files.proofs.FileLogs.{creates, noted, others_noted}
+use Rattle.std.proofs.Common.{sym}
+use Rattle.teco_files.proofs.FileLogs.{creates, others_noted}
 use Rattle.teco_files.proofs.memory_disk.log.Log.made.Goals as goal
 
 pub returns-clause-ok : goal.returns-clause-ok
