@@ -19,13 +19,13 @@ mod splitter;
 mod word;
 
 /// The words of a run, with blanks between them, its commands, and what it types, tells on standard error, notes there besides and ends with.
-struct Run<'a> {
-    words: &'a str,
-    commands: &'a str,
-    typed: &'a str,
-    told: &'a str,
-    noted: &'a str,
-    status: u8,
+pub(super) struct Run<'a> {
+    pub(super) words: &'a str,
+    pub(super) commands: &'a str,
+    pub(super) typed: &'a str,
+    pub(super) told: &'a str,
+    pub(super) noted: &'a str,
+    pub(super) status: u8,
 }
 
 fn words_of(alloc: Global, text: &str) -> Result<Vec<String>, NoMemory> {
@@ -37,37 +37,49 @@ fn words_of(alloc: Global, text: &str) -> Result<Vec<String>, NoMemory> {
 }
 
 /// The words of a text with a blank between them, as the program is given them.
-pub(super) fn words_in(alloc: Global, text: &str) -> Result<Vec<String>, LineFault> {
+fn words_in(alloc: Global, text: &str) -> Result<Vec<String>, LineFault> {
     match words_of(alloc, text) {
         Ok(words) => Ok(words),
         Err(NoMemory) => Err(LineFault::NoMemory),
     }
 }
 
-fn runs_on<D: Disk>(alloc: Global, disk: &mut D, run: &Run) -> bool {
-    let words = words_in(alloc, run.words);
-    let mut commands = MemorySource::new(
-        joined(alloc, &[run.commands.as_bytes()]),
-        Vec::new(alloc),
-        false,
-    );
+fn types_so(run: &Run, typed: &[u8], told: &[u8], noted: &[u8]) -> bool {
+    typed == run.typed.as_bytes() && told == run.told.as_bytes() && noted == run.noted.as_bytes()
+}
+
+/// Whether a run by these commands ends so and types, tells and notes this.
+pub(super) fn runs_by<D: Disk>(
+    alloc: Global,
+    commands: &mut MemorySource,
+    disk: &mut D,
+    run: &Run,
+) -> bool {
     let mut term = MemoryTerminal::new(alloc);
     let mut errors = MemoryTerminal::new(alloc);
     let mut notes = MemoryTerminal::new(alloc);
     let status = program(
         alloc,
-        words,
+        words_in(alloc, run.words),
         7,
-        &mut commands,
+        commands,
         &mut term,
         &mut errors,
         &mut notes,
         disk,
     );
-    status == ExitCode::from(run.status)
-        && term.bytes() == run.typed.as_bytes()
-        && errors.bytes() == run.told.as_bytes()
-        && notes.bytes() == run.noted.as_bytes()
+    let ended = status == ExitCode::from(run.status);
+    types_so(run, term.bytes(), errors.bytes(), notes.bytes()) && ended
+}
+
+pub(super) fn commands_of(alloc: Global, run: &Run) -> MemorySource {
+    let commands = joined(alloc, &[run.commands.as_bytes()]);
+    MemorySource::new(commands, Vec::new(alloc), false)
+}
+
+fn runs_on<D: Disk>(alloc: Global, disk: &mut D, run: &Run) -> bool {
+    let mut commands = commands_of(alloc, run);
+    runs_by(alloc, &mut commands, disk, run)
 }
 
 /// Files by their names.
@@ -96,9 +108,13 @@ pub(super) fn has_just(disk: &MemoryDisk, files: Files) -> bool {
     held
 }
 
+fn runs_over(alloc: Global, disk: &mut MemoryDisk, row: &Row) -> bool {
+    runs_on(alloc, disk, &row.0) && has_just(disk, row.3)
+}
+
 fn runs(alloc: Global, row: &Row) -> bool {
-    match disk_with(alloc, row.1, row.2) {
-        Ok(mut disk) => runs_on(alloc, &mut disk, &row.0) && has_just(&disk, row.3),
+    match &mut disk_with(alloc, row.1, row.2) {
+        Ok(disk) => runs_over(alloc, disk, row),
         Err(NoMemory) => false,
     }
 }

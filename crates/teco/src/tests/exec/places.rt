@@ -3,7 +3,7 @@ use crate::tests::assert_of;
 use std::alloc::Global;
 use std::test::*;
 use teco_core::{Code, Reg};
-use teco_exec::{Call, Place, Stopped, run_where};
+use teco_exec::{Call, Outcome, Place, Stopped, run_where};
 use teco_step::MemoryTerminal;
 use teco_store::Editor;
 
@@ -324,30 +324,45 @@ fn is_there(place: &Place, there: &There) -> bool {
         && are_callers(place.calls.as_slice(), callers)
 }
 
-/// Whether a row holds; none where it lacked memory.
-fn try_row(alloc: Global, row: &Row) -> Option<bool> {
-    let (text, limit, code, steps, there) = *row;
-    let mut editor = Editor::new(Vec::new(alloc));
-    let mut terminal = MemoryTerminal::new(alloc);
-    let Stopped { outcome, place } = run_where(
-        &mut editor,
-        text.as_bytes(),
-        limit,
-        &mut terminal,
-        alloc,
-    );
-    let Ok(place) = place else {
-        return None;
-    };
-    if outcome.code == Some(Code::Mem) || outcome.code == Some(Code::Tty) {
-        return None;
-    }
-    let placed = match (&place, &there) {
+/// Whether a run last stood where it is said, if that is said.
+fn is_placed(place: &Option<Place>, there: &Option<There>) -> bool {
+    match (place, there) {
         (Some(place), Some(there)) => is_there(place, there),
         (None, None) => true,
         _ => false,
-    };
-    Some(placed && outcome.code == code && outcome.steps == steps)
+    }
+}
+
+/// Whether a run that ended so is as its row says; none where it lacked memory.
+fn told(outcome: Outcome, place: &Option<Place>, row: &Row) -> Option<bool> {
+    if outcome.code == Some(Code::Mem) || outcome.code == Some(Code::Tty) {
+        return None;
+    }
+    Some(is_placed(place, &row.4) && outcome.code == row.2 && outcome.steps == row.3)
+}
+
+fn told_of(stopped: &Stopped, row: &Row) -> Option<bool> {
+    match &stopped.place {
+        Ok(place) => told(stopped.outcome, place, row),
+        Err(_) => None,
+    }
+}
+
+fn try_on(
+    alloc: Global,
+    editor: &mut Editor,
+    terminal: &mut MemoryTerminal,
+    row: &Row,
+) -> Option<bool> {
+    let stopped = run_where(editor, row.0.as_bytes(), row.1, terminal, alloc);
+    told_of(&stopped, row)
+}
+
+/// Whether a row holds; none where it lacked memory.
+fn try_row(alloc: Global, row: &Row) -> Option<bool> {
+    let mut editor = Editor::new(Vec::new(alloc));
+    let mut terminal = MemoryTerminal::new(alloc);
+    try_on(alloc, &mut editor, &mut terminal, row)
 }
 
 /// Whether a row holds; where memory was refused, at the second time.

@@ -6,6 +6,7 @@ use std::process::Abort;
 use std::test::*;
 use super::{How, PLAIN, session_over, source_of};
 use teco_core::NoMemory;
+use teco_files::MemorySource;
 use teco_program::{Served, Silent, serve};
 use teco_session::Session;
 use teco_step::MemoryTerminal;
@@ -58,26 +59,48 @@ fn is_ended(served: Served, session: &Session, output: Option<&str>) -> bool {
     }
 }
 
-/// Whether the example holds with its strings as one piece or in single bytes.
-fn holds_once(alloc: Global, how: &How, example: &Example, single: bool, untold: &[u8]) -> bool {
-    let (input, strings, typed, output) = example;
-    let Some(mut session) = session_over(alloc, input, how.depth) else {
-        return false;
-    };
-    let Ok(mut source) = source_of(alloc, strings.as_bytes(), single, false) else {
-        return false;
-    };
+/// Whether serving a source in a session gives what the example tells.
+fn serves(
+    alloc: Global,
+    source: &mut MemorySource,
+    session: &mut Session,
+    how: &How,
+    example: &Example,
+    untold: &[u8],
+) -> bool {
     let mut term = MemoryTerminal::new(alloc);
     let served = serve(
         alloc,
-        &mut source,
-        &mut session,
+        source,
+        session,
         how.limit,
         how.prompt,
         &mut term,
         &mut Silent,
     );
-    are_told(alloc, term.bytes(), typed, untold) && is_ended(served, &session, *output)
+    are_told(alloc, term.bytes(), example.2, untold) && is_ended(served, session, example.3)
+}
+
+fn serves_in(
+    alloc: Global,
+    session: &mut Session,
+    how: &How,
+    example: &Example,
+    single: bool,
+    untold: &[u8],
+) -> bool {
+    match &mut source_of(alloc, example.1.as_bytes(), single, false) {
+        Ok(source) => serves(alloc, source, session, how, example, untold),
+        Err(NoMemory) => false,
+    }
+}
+
+/// Whether the example holds with its strings as one piece or in single bytes.
+fn holds_once(alloc: Global, how: &How, example: &Example, single: bool, untold: &[u8]) -> bool {
+    match &mut session_over(alloc, example.0, how.depth) {
+        Some(session) => serves_in(alloc, session, how, example, single, untold),
+        None => false,
+    }
 }
 
 fn holds(alloc: Global, how: &How, example: &Example, untold: &[u8]) -> bool {
