@@ -1,7 +1,8 @@
 //! Runs of the whole program by the commands of its line. Those on standard input are not read then.
-use std::alloc::Global;
 use super::assert_of;
 use super::program::{Files, Run, commands_of, disk_with, has_just, runs_by};
+use std::alloc::Global;
+use std::process::Abort;
 use teco_core::NoMemory;
 use teco_files::{MemoryDisk, MemorySource, Refused, Source};
 
@@ -55,12 +56,10 @@ const FAULTY: Run = Run {
 /// What is there after an exit.
 const WRITTEN: Files = &[IN, ("in.out", "hi\n")];
 
-static ROWS: [Row; 14] = [
-    (PAGE,
-        &[IN],
-        WRITTEN,
-    ),
-    (Run {
+static FROM_A_WORD: [Row<'static>; 3] = [
+    (PAGE, &[IN], WRITTEN),
+    (
+        Run {
             words: "teco in --output=out --execute=YHT$$EX$$",
             typed: "hi\n",
             ..PAGE
@@ -69,7 +68,8 @@ static ROWS: [Row; 14] = [
         &[IN, ("out", "hi\n")],
     ),
     // A caret and a letter are a control command; the word ends without an exit.
-    (Run {
+    (
+        Run {
             words: "teco -e @^UA/xy/GAHT$$ in",
             typed: "xy",
             status: 2,
@@ -78,15 +78,24 @@ static ROWS: [Row; 14] = [
         &[IN],
         &[IN],
     ),
-    (Run {
+];
+
+static FROM_A_FILE: [Row<'static>; 2] = [
+    (
+        Run {
             words: "teco -f strings in",
             ..PAGE
         },
         &[IN, ("strings", "Y\x1b\x1bZ=\x1b\x1bEX\x1b\x1b")],
-        &[IN, ("strings", "Y\x1b\x1bZ=\x1b\x1bEX\x1b\x1b"), ("in.out", "hi\n")],
+        &[
+            IN,
+            ("strings", "Y\x1b\x1bZ=\x1b\x1bEX\x1b\x1b"),
+            ("in.out", "hi\n"),
+        ],
     ),
     // In a file a dollar sign is itself.
-    (Run {
+    (
+        Run {
             words: "teco --file=strings in",
             typed: "$",
             status: 2,
@@ -95,8 +104,12 @@ static ROWS: [Row; 14] = [
         &[IN, ("strings", "I$\x1bHT\x1b\x1b")],
         &[IN, ("strings", "I$\x1bHT\x1b\x1b")],
     ),
-    // A file of commands that is not there, and an input that is not.
-    (Run {
+];
+
+/// A file of commands that is not there, and an input that is not.
+static UNREADABLE: [Row<'static>; 2] = [
+    (
+        Run {
             words: "teco -f none in",
             typed: "",
             told: "teco: cannot read none\n",
@@ -106,7 +119,8 @@ static ROWS: [Row; 14] = [
         &[IN],
         &[IN],
     ),
-    (Run {
+    (
+        Run {
             words: "teco -e EX$$ none",
             typed: "",
             told: "teco: cannot read none\n",
@@ -116,8 +130,12 @@ static ROWS: [Row; 14] = [
         &[IN],
         &[IN],
     ),
-    // A code that is typed is explained in a line: where its command stands, in which registers, and what it says.
-    (Run {
+];
+
+/// A code that is typed is explained in a line: where its command stands, in which registers, and what it says.
+static EXPLAINED: [Row<'static>; 2] = [
+    (
+        Run {
             words: "teco --explain -e Y$$CFSx$y$$EX$$ in",
             typed: "?SRH\r\n",
             noted: "string 2, step 1, 1:2, FSx$y$: SRH, search failed\n",
@@ -126,7 +144,8 @@ static ROWS: [Row; 14] = [
         &[IN],
         WRITTEN,
     ),
-    (Run {
+    (
+        Run {
             words: "teco --explain -e @^UA/0J9D/@^UB/MA/MB$$1<2$${{$$help$$?$$ in",
             typed: "?DTB\r\n?UTC\r\n?ILL\r\n?ILL\r\n?ILL\r\n",
             noted: "string 1, step 7, A 1:4, D, A is called at 1:1, B is called at 1:19: DTB, delete past the buffer\n\
@@ -140,8 +159,12 @@ static ROWS: [Row; 14] = [
         &[IN],
         &[IN],
     ),
-    // With a prompt too it is told what each string did, and what is written.
-    (Run {
+];
+
+/// With a prompt too it is told what each string did, and what is written.
+static PROMPTED: [Row<'static>; 2] = [
+    (
+        Run {
             words: "teco --explain --prompt -e Y$$C9J$$2{$$}$$EX$$ in",
             typed: "**?POP\r\n***",
             noted: "string 1: steps taken 1\n\
@@ -156,7 +179,8 @@ static ROWS: [Row; 14] = [
         &[IN],
         WRITTEN,
     ),
-    (Run {
+    (
+        Run {
             words: "teco --prompt --explain -e {$$ in",
             typed: "*?NTU\r\n*",
             noted: "string 1: NTU, nothing to undo\n\
@@ -168,9 +192,12 @@ static ROWS: [Row; 14] = [
         &[IN],
         &[IN],
     ),
-    (Run {
-            words: "teco --help",
-            typed: "TECO, a text editor whose command strings are programs, each of which can be undone\n\n\
+];
+
+static HELP: [Row<'static>; 1] = [(
+    Run {
+        words: "teco --help",
+        typed: "TECO, a text editor whose command strings are programs, each of which can be undone\n\n\
                 Usage: teco [OPTIONS] <INPUT>\n\n\
                 Arguments:\n  \
                 <INPUT>  The file to edit; it stays as it is, unless --output names it too\n\n\
@@ -187,13 +214,16 @@ static ROWS: [Row; 14] = [
                 Commands are read from standard input where neither --execute nor --file gives them, and what they\n\
                 type goes to standard output. Two ESC end a command string, which is then run; EX writes the output\n\
                 and ends the program.\n",
-            ..PAGE
-        },
-        &[IN],
-        &[IN],
-    ),
-    // A faulty line shows the options, as the help does.
-    (Run {
+        ..PAGE
+    },
+    &[IN],
+    &[IN],
+)];
+
+/// A faulty line shows the options, as the help does.
+static FAULTY_LINES: [Row<'static>; 2] = [
+    (
+        Run {
             words: "teco -e EX$$ -f in in",
             told: "error: the argument '--execute <STRINGS>' cannot be used with '--file <FILE>'\n\n\
                 Usage: teco [OPTIONS] <INPUT>\n\nFor more information, try '--help'.\n",
@@ -202,7 +232,8 @@ static ROWS: [Row; 14] = [
         &[IN],
         &[IN],
     ),
-    (Run {
+    (
+        Run {
             words: "teco",
             told: "error: the following required arguments were not provided:\n  <INPUT>\n\n\
                 Usage: teco [OPTIONS] <INPUT>\n\nFor more information, try '--help'.\n",
@@ -214,10 +245,20 @@ static ROWS: [Row; 14] = [
 ];
 
 /// Where memory was refused, a row holds the second time.
+fn all_run(rt: &impl Abort, alloc: Global, rows: &[Row]) {
+    for row in rows {
+        let held = runs(alloc, row) || runs(alloc, row);
+        assert_of(rt, row.0.words, held);
+    }
+}
+
 #[test]
 fn takes_its_commands_from_the_line(rt: HostRuntime) {
-    for row in &ROWS {
-        let held = runs(rt.alloc(), row) || runs(rt.alloc(), row);
-        assert_of(&rt, row.0.words, held);
-    }
+    all_run(&rt, rt.alloc(), &FROM_A_WORD);
+    all_run(&rt, rt.alloc(), &FROM_A_FILE);
+    all_run(&rt, rt.alloc(), &UNREADABLE);
+    all_run(&rt, rt.alloc(), &EXPLAINED);
+    all_run(&rt, rt.alloc(), &PROMPTED);
+    all_run(&rt, rt.alloc(), &HELP);
+    all_run(&rt, rt.alloc(), &FAULTY_LINES);
 }

@@ -1,8 +1,8 @@
 //! Of teco_program: its parts, and runs of the whole program over files in memory; what it says of files of the system that it cannot
 //! read or write.
-use std::alloc::Global;
-use std::process::ExitCode;
 use super::bytes::joined;
+use std::alloc::Global;
+use std::process::{Abort, ExitCode};
 use teco_core::NoMemory;
 use teco_files::{Disk, FileDisk, MemoryDisk, MemorySource, Refused};
 use teco_line::LineFault;
@@ -149,8 +149,8 @@ const UNWRITTEN: Run = Run {
 
 const IN: (&str, &str) = ("in", "hi\n");
 
-static ROWS: [Row; 17] = [
-    // An exit writes the output, in the place of what was there, and by another draft where one is taken.
+/// An exit writes the output, in the place of what was there, and by another draft where one is taken.
+static WRITTEN: [Row<'static>; 4] = [
     (EXITS, &[IN], Refused::Nothing, &[IN, ("in.out", "hi\n")]),
     (
         EXITS,
@@ -173,7 +173,10 @@ static ROWS: [Row; 17] = [
         Refused::Nothing,
         &[IN, ("out", "hi\n")],
     ),
-    // Without an exit there is no output.
+];
+
+/// Without an exit there is no output.
+static UNFINISHED: [Row<'static>; 2] = [
     (
         Run {
             words: "teco --prompt in",
@@ -194,7 +197,10 @@ static ROWS: [Row; 17] = [
         Refused::Nothing,
         &[IN, ("in.out", "old")],
     ),
-    // The limit and the depth are those of the line.
+];
+
+/// The limit and the depth are those of the line.
+static LIMITED: [Row<'static>; 3] = [
     (
         Run {
             words: "teco --limit 0 in",
@@ -228,7 +234,10 @@ static ROWS: [Row; 17] = [
         Refused::Nothing,
         &[IN],
     ),
-    // An input that is not there.
+];
+
+/// An input that is not there.
+static UNREAD: [Row<'static>; 2] = [
     (
         Run {
             words: "teco none",
@@ -253,7 +262,10 @@ static ROWS: [Row; 17] = [
         Refused::Read,
         &[IN],
     ),
-    // An output that cannot be written: what was there stays, and no draft is left but one that can't be removed.
+];
+
+/// An output that cannot be written: what was there stays, and no draft is left but one that can't be removed.
+static REFUSED_OUTPUTS: [Row<'static>; 5] = [
     (UNWRITTEN, &[IN], Refused::Make, &[IN]),
     (UNWRITTEN, &[IN], Refused::Write, &[IN]),
     (UNWRITTEN, &[IN], Refused::Sync, &[IN]),
@@ -269,26 +281,36 @@ static ROWS: [Row; 17] = [
         Refused::RenameAndRemove,
         &[IN, ("in.out", "old"), (".teco-7", "hi\n")],
     ),
-    // A faulty line.
-    (
-        Run {
-            words: "teco --version",
-            typed: "teco 0.1.0\n",
-            ..EXITS
-        },
-        &[IN],
-        Refused::Nothing,
-        &[IN],
-    ),
 ];
 
+/// A faulty line.
+static VERSION: [Row<'static>; 1] = [(
+    Run {
+        words: "teco --version",
+        typed: "teco 0.1.0\n",
+        ..EXITS
+    },
+    &[IN],
+    Refused::Nothing,
+    &[IN],
+)];
+
 /// Where memory was refused, a row holds the second time.
-#[test]
-fn runs_over_files(rt: HostRuntime) {
-    for row in &ROWS {
-        let held = runs(rt.alloc(), row) || runs(rt.alloc(), row);
+fn all_run(rt: &impl Abort, alloc: Global, rows: &[Row]) {
+    for row in rows {
+        let held = runs(alloc, row) || runs(alloc, row);
         assert!(rt; held, "{}", row.0.words);
     }
+}
+
+#[test]
+fn runs_over_files(rt: HostRuntime) {
+    all_run(&rt, rt.alloc(), &WRITTEN);
+    all_run(&rt, rt.alloc(), &UNFINISHED);
+    all_run(&rt, rt.alloc(), &LIMITED);
+    all_run(&rt, rt.alloc(), &UNREAD);
+    all_run(&rt, rt.alloc(), &REFUSED_OUTPUTS);
+    all_run(&rt, rt.alloc(), &VERSION);
 }
 
 static OF_THE_SYSTEM: [Run; 2] = [

@@ -61,12 +61,7 @@ fn are_all(answers: &Result<Vec<Answer>, NoMemory>, all: &[Answer]) -> bool {
     }
 }
 
-fn plays_on(
-    alloc: Global,
-    session: &mut Session,
-    term: &mut MemoryTerminal,
-    play: &Play,
-) -> bool {
+fn plays_on(alloc: Global, session: &mut Session, term: &mut MemoryTerminal, play: &Play) -> bool {
     let answers = session.play(alloc, play.0, 100, term);
     are_all(&answers, play.1) && term.bytes() == play.2.as_bytes()
 }

@@ -1,10 +1,10 @@
 //! The examples of the pages in docs. `docs/rows --write` makes their tables.
+use super::{How, PLAIN, session_over, source_of};
 use crate::tests::assert_of;
 use crate::tests::bytes::are_both;
 use std::alloc::Global;
 use std::process::Abort;
 use std::test::*;
-use super::{How, PLAIN, session_over, source_of};
 use teco_core::NoMemory;
 use teco_files::MemorySource;
 use teco_program::{Served, Silent, serve};

@@ -1,10 +1,10 @@
 //! Streams on a terminal that fails after so many bytes, and from a reader that does.
+use super::{bytes_of, source_of};
 use crate::tests::bytes::failing_after;
 use crate::tests::session::requests::session_over;
 use crate::tests::store::states::seen;
 use std::alloc::Global;
 use std::test::*;
-use super::{bytes_of, source_of};
 use teco_core::NoMemory;
 use teco_files::{MemorySource, ReaderSource, Source};
 use teco_program::{Served, Silent, serve};
