@@ -28,8 +28,8 @@ fn runs_over(alloc: Global, disk: &mut MemoryDisk, row: &Row) -> bool {
 }
 
 fn runs(alloc: Global, row: &Row) -> bool {
-    match &mut disk_with(alloc, row.1, Refused::Nothing) {
-        Ok(disk) => runs_over(alloc, disk, row),
+    match disk_with(alloc, row.1, Refused::Nothing) {
+        Ok(mut disk) => runs_over(alloc, &mut disk, row),
         Err(NoMemory) => false,
     }
 }

@@ -113,8 +113,8 @@ fn runs_over(alloc: Global, disk: &mut MemoryDisk, row: &Row) -> bool {
 }
 
 fn runs(alloc: Global, row: &Row) -> bool {
-    match &mut disk_with(alloc, row.1, row.2) {
-        Ok(disk) => runs_over(alloc, disk, row),
+    match disk_with(alloc, row.1, row.2) {
+        Ok(mut disk) => runs_over(alloc, &mut disk, row),
         Err(NoMemory) => false,
     }
 }

@@ -131,8 +131,8 @@ fn serves(
 
 /// Whether serving the row's stream in a session gives what the row says.
 fn serves_in(alloc: Global, session: &mut Session, how: &How, row: &Row, single: bool) -> bool {
-    match &mut source_of(alloc, row.0.as_bytes(), single, how.fails) {
-        Ok(source) => serves(alloc, source, session, how, row),
+    match source_of(alloc, row.0.as_bytes(), single, how.fails) {
+        Ok(mut source) => serves(alloc, &mut source, session, how, row),
         Err(NoMemory) => false,
     }
 }
@@ -157,8 +157,8 @@ fn serves_in_turn(
 }
 
 fn holds_once(alloc: Global, how: &How, row: &Row, single: bool, depth: Option<usize>) -> bool {
-    match &mut session_over(alloc, how.input, depth) {
-        Some(session) => serves_in_turn(alloc, session, how, row, single),
+    match session_over(alloc, how.input, depth) {
+        Some(mut session) => serves_in_turn(alloc, &mut session, how, row, single),
         None => false,
     }
 }

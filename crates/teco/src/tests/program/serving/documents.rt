@@ -89,16 +89,16 @@ fn serves_in(
     single: bool,
     untold: &[u8],
 ) -> bool {
-    match &mut source_of(alloc, example.1.as_bytes(), single, false) {
-        Ok(source) => serves(alloc, source, session, how, example, untold),
+    match source_of(alloc, example.1.as_bytes(), single, false) {
+        Ok(mut source) => serves(alloc, &mut source, session, how, example, untold),
         Err(NoMemory) => false,
     }
 }
 
 /// Whether the example holds with its strings as one piece or in single bytes.
 fn holds_once(alloc: Global, how: &How, example: &Example, single: bool, untold: &[u8]) -> bool {
-    match &mut session_over(alloc, example.0, how.depth) {
-        Some(session) => serves_in(alloc, session, how, example, single, untold),
+    match session_over(alloc, example.0, how.depth) {
+        Some(mut session) => serves_in(alloc, &mut session, how, example, single, untold),
         None => false,
     }
 }
@@ -130,19 +130,14 @@ fn the_tour_tells_what_is_typed_and_written(rt: HostRuntime) {
 
 #[test]
 fn the_cookbook_tells_what_is_typed_and_written(rt: HostRuntime) {
-    let parts = [
-        cookbook_replacing::EXAMPLES,
-        cookbook_lines::EXAMPLES,
-        cookbook_columns_and_fields::EXAMPLES,
-        cookbook_paragraphs::EXAMPLES,
-        cookbook_numbers::EXAMPLES,
-        cookbook_macros_and_bytes::EXAMPLES,
-        cookbook_pages::EXAMPLES,
-        cookbook_looking_and_taking_back::EXAMPLES,
-    ];
-    for part in parts {
-        all_hold(&rt, rt.alloc(), part, RETURN);
-    }
+    all_hold(&rt, rt.alloc(), cookbook_replacing::EXAMPLES, RETURN);
+    all_hold(&rt, rt.alloc(), cookbook_lines::EXAMPLES, RETURN);
+    all_hold(&rt, rt.alloc(), cookbook_columns_and_fields::EXAMPLES, RETURN);
+    all_hold(&rt, rt.alloc(), cookbook_paragraphs::EXAMPLES, RETURN);
+    all_hold(&rt, rt.alloc(), cookbook_numbers::EXAMPLES, RETURN);
+    all_hold(&rt, rt.alloc(), cookbook_macros_and_bytes::EXAMPLES, RETURN);
+    all_hold(&rt, rt.alloc(), cookbook_pages::EXAMPLES, RETURN);
+    all_hold(&rt, rt.alloc(), cookbook_looking_and_taking_back::EXAMPLES, RETURN);
 }
 
 #[test]
