@@ -132,12 +132,22 @@ fn the_tour_tells_what_is_typed_and_written(rt: HostRuntime) {
 fn the_cookbook_tells_what_is_typed_and_written(rt: HostRuntime) {
     all_hold(&rt, rt.alloc(), cookbook_replacing::EXAMPLES, RETURN);
     all_hold(&rt, rt.alloc(), cookbook_lines::EXAMPLES, RETURN);
-    all_hold(&rt, rt.alloc(), cookbook_columns_and_fields::EXAMPLES, RETURN);
+    all_hold(
+        &rt,
+        rt.alloc(),
+        cookbook_columns_and_fields::EXAMPLES,
+        RETURN,
+    );
     all_hold(&rt, rt.alloc(), cookbook_paragraphs::EXAMPLES, RETURN);
     all_hold(&rt, rt.alloc(), cookbook_numbers::EXAMPLES, RETURN);
     all_hold(&rt, rt.alloc(), cookbook_macros_and_bytes::EXAMPLES, RETURN);
     all_hold(&rt, rt.alloc(), cookbook_pages::EXAMPLES, RETURN);
-    all_hold(&rt, rt.alloc(), cookbook_looking_and_taking_back::EXAMPLES, RETURN);
+    all_hold(
+        &rt,
+        rt.alloc(),
+        cookbook_looking_and_taking_back::EXAMPLES,
+        RETURN,
+    );
 }
 
 #[test]
