@@ -8,6 +8,7 @@ pub(crate) mod exec;
 mod gap;
 mod line_commands;
 mod program;
+pub(crate) mod rows;
 mod scan;
 mod search;
 pub(crate) mod session;

@@ -1,8 +1,8 @@
 //! Of teco_program: its parts, and runs of the whole program over files in memory; what it says of files of the system that it cannot
 //! read or write.
-use std::alloc::Global;
-use std::process::ExitCode;
 use super::bytes::joined;
+use std::alloc::Global;
+use std::process::{Abort, ExitCode};
 use teco_core::NoMemory;
 use teco_files::{Disk, FileDisk, MemoryDisk, MemorySource, Refused};
 use teco_line::LineFault;
@@ -19,13 +19,13 @@ mod splitter;
 mod word;
 
 /// The words of a run, with blanks between them, its commands, and what it types, tells on standard error, notes there besides and ends with.
-struct Run<'a> {
-    words: &'a str,
-    commands: &'a str,
-    typed: &'a str,
-    told: &'a str,
-    noted: &'a str,
-    status: u8,
+pub(super) struct Run<'a> {
+    pub(super) words: &'a str,
+    pub(super) commands: &'a str,
+    pub(super) typed: &'a str,
+    pub(super) told: &'a str,
+    pub(super) noted: &'a str,
+    pub(super) status: u8,
 }
 
 fn words_of(alloc: Global, text: &str) -> Result<Vec<String>, NoMemory> {
@@ -37,37 +37,49 @@ fn words_of(alloc: Global, text: &str) -> Result<Vec<String>, NoMemory> {
 }
 
 /// The words of a text with a blank between them, as the program is given them.
-pub(super) fn words_in(alloc: Global, text: &str) -> Result<Vec<String>, LineFault> {
+fn words_in(alloc: Global, text: &str) -> Result<Vec<String>, LineFault> {
     match words_of(alloc, text) {
         Ok(words) => Ok(words),
         Err(NoMemory) => Err(LineFault::NoMemory),
     }
 }
 
-fn runs_on<D: Disk>(alloc: Global, disk: &mut D, run: &Run) -> bool {
-    let words = words_in(alloc, run.words);
-    let mut commands = MemorySource::new(
-        joined(alloc, &[run.commands.as_bytes()]),
-        Vec::new(alloc),
-        false,
-    );
+fn types_so(run: &Run, typed: &[u8], told: &[u8], noted: &[u8]) -> bool {
+    typed == run.typed.as_bytes() && told == run.told.as_bytes() && noted == run.noted.as_bytes()
+}
+
+/// Whether a run by these commands ends so and types, tells and notes this.
+pub(super) fn runs_by<D: Disk>(
+    alloc: Global,
+    commands: &mut MemorySource,
+    disk: &mut D,
+    run: &Run,
+) -> bool {
     let mut term = MemoryTerminal::new(alloc);
     let mut errors = MemoryTerminal::new(alloc);
     let mut notes = MemoryTerminal::new(alloc);
     let status = program(
         alloc,
-        words,
+        words_in(alloc, run.words),
         7,
-        &mut commands,
+        commands,
         &mut term,
         &mut errors,
         &mut notes,
         disk,
     );
-    status == ExitCode::from(run.status)
-        && term.bytes() == run.typed.as_bytes()
-        && errors.bytes() == run.told.as_bytes()
-        && notes.bytes() == run.noted.as_bytes()
+    let ended = status == ExitCode::from(run.status);
+    types_so(run, term.bytes(), errors.bytes(), notes.bytes()) && ended
+}
+
+pub(super) fn commands_of(alloc: Global, run: &Run) -> MemorySource {
+    let commands = joined(alloc, &[run.commands.as_bytes()]);
+    MemorySource::new(commands, Vec::new(alloc), false)
+}
+
+fn runs_on<D: Disk>(alloc: Global, disk: &mut D, run: &Run) -> bool {
+    let mut commands = commands_of(alloc, run);
+    runs_by(alloc, &mut commands, disk, run)
 }
 
 /// Files by their names.
@@ -96,9 +108,13 @@ pub(super) fn has_just(disk: &MemoryDisk, files: Files) -> bool {
     held
 }
 
+fn runs_over(alloc: Global, disk: &mut MemoryDisk, row: &Row) -> bool {
+    runs_on(alloc, disk, &row.0) && has_just(disk, row.3)
+}
+
 fn runs(alloc: Global, row: &Row) -> bool {
     match disk_with(alloc, row.1, row.2) {
-        Ok(mut disk) => runs_on(alloc, &mut disk, &row.0) && has_just(&disk, row.3),
+        Ok(mut disk) => runs_over(alloc, &mut disk, row),
         Err(NoMemory) => false,
     }
 }
@@ -133,8 +149,8 @@ const UNWRITTEN: Run = Run {
 
 const IN: (&str, &str) = ("in", "hi\n");
 
-static ROWS: [Row; 17] = [
-    // An exit writes the output, in the place of what was there, and by another draft where one is taken.
+/// An exit writes the output, in the place of what was there, and by another draft where one is taken.
+static WRITTEN: [Row<'static>; 4] = [
     (EXITS, &[IN], Refused::Nothing, &[IN, ("in.out", "hi\n")]),
     (
         EXITS,
@@ -157,7 +173,10 @@ static ROWS: [Row; 17] = [
         Refused::Nothing,
         &[IN, ("out", "hi\n")],
     ),
-    // Without an exit there is no output.
+];
+
+/// Without an exit there is no output.
+static UNFINISHED: [Row<'static>; 2] = [
     (
         Run {
             words: "teco --prompt in",
@@ -178,7 +197,10 @@ static ROWS: [Row; 17] = [
         Refused::Nothing,
         &[IN, ("in.out", "old")],
     ),
-    // The limit and the depth are those of the line.
+];
+
+/// The limit and the depth are those of the line.
+static LIMITED: [Row<'static>; 3] = [
     (
         Run {
             words: "teco --limit 0 in",
@@ -212,7 +234,10 @@ static ROWS: [Row; 17] = [
         Refused::Nothing,
         &[IN],
     ),
-    // An input that is not there.
+];
+
+/// An input that is not there.
+static UNREAD: [Row<'static>; 2] = [
     (
         Run {
             words: "teco none",
@@ -237,7 +262,10 @@ static ROWS: [Row; 17] = [
         Refused::Read,
         &[IN],
     ),
-    // An output that cannot be written: what was there stays, and no draft is left but one that can't be removed.
+];
+
+/// An output that cannot be written: what was there stays, and no draft is left but one that can't be removed.
+static REFUSED_OUTPUTS: [Row<'static>; 5] = [
     (UNWRITTEN, &[IN], Refused::Make, &[IN]),
     (UNWRITTEN, &[IN], Refused::Write, &[IN]),
     (UNWRITTEN, &[IN], Refused::Sync, &[IN]),
@@ -253,26 +281,36 @@ static ROWS: [Row; 17] = [
         Refused::RenameAndRemove,
         &[IN, ("in.out", "old"), (".teco-7", "hi\n")],
     ),
-    // A faulty line.
-    (
-        Run {
-            words: "teco --version",
-            typed: "teco 0.1.0\n",
-            ..EXITS
-        },
-        &[IN],
-        Refused::Nothing,
-        &[IN],
-    ),
 ];
 
+/// A faulty line.
+static VERSION: [Row<'static>; 1] = [(
+    Run {
+        words: "teco --version",
+        typed: "teco 0.1.0\n",
+        ..EXITS
+    },
+    &[IN],
+    Refused::Nothing,
+    &[IN],
+)];
+
 /// Where memory was refused, a row holds the second time.
-#[test]
-fn runs_over_files(rt: HostRuntime) {
-    for row in &ROWS {
-        let held = runs(rt.alloc(), row) || runs(rt.alloc(), row);
+fn all_run(rt: &impl Abort, alloc: Global, rows: &[Row]) {
+    for row in rows {
+        let held = runs(alloc, row) || runs(alloc, row);
         assert!(rt; held, "{}", row.0.words);
     }
+}
+
+#[test]
+fn runs_over_files(rt: HostRuntime) {
+    all_run(&rt, rt.alloc(), &WRITTEN);
+    all_run(&rt, rt.alloc(), &UNFINISHED);
+    all_run(&rt, rt.alloc(), &LIMITED);
+    all_run(&rt, rt.alloc(), &UNREAD);
+    all_run(&rt, rt.alloc(), &REFUSED_OUTPUTS);
+    all_run(&rt, rt.alloc(), &VERSION);
 }
 
 static OF_THE_SYSTEM: [Run; 2] = [

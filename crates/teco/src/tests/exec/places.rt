@@ -1,9 +1,10 @@
 //! Where a run last stood: before the step that comes, at a fault, or before the step that failed.
 use crate::tests::assert_of;
 use std::alloc::Global;
+use std::process::Abort;
 use std::test::*;
 use teco_core::{Code, Reg};
-use teco_exec::{Call, Place, Stopped, run_where};
+use teco_exec::{Call, Outcome, Place, Stopped, run_where};
 use teco_step::MemoryTerminal;
 use teco_store::Editor;
 
@@ -40,15 +41,18 @@ const ENDLESS: &str = "@^UA/MA/MA";
 /// The 31 calls of that text by itself.
 const AGAIN: Caller<'static> = (b'A', 0, &[]);
 
-static ROWS: [Row<'static>; 51] = [
-    // A token after fillers, and the end.
+/// A token after fillers, and the end.
+static TOKENS: [Row<'static>; 6] = [
     ("1+2=", 0, Some(Code::Lim), 0, Some((0, 0, &[], &[]))),
     ("1+2=", 2, Some(Code::Lim), 2, Some((2, 2, &[], &[]))),
     ("1\r\n +2=", 1, Some(Code::Lim), 1, Some((1, 4, &[], &[]))),
     ("1+2=", 9, None, 4, None),
     ("1+2=", 4, None, 4, None),
     ("1+2=EX", 9, None, 5, None),
-    // Iterations, and their turns.
+];
+
+/// Iterations, and their turns.
+static ITERATIONS: [Row<'static>; 8] = [
     ("3<1=>", 1, Some(Code::Lim), 1, Some((1, 1, &[], &[]))),
     (
         "3<1=>",
@@ -87,7 +91,10 @@ static ROWS: [Row<'static>; 51] = [
         4,
         Some((4, 5, &[Some(1)], &[])),
     ),
-    // Calls. A step that fails counts, and its token is told.
+];
+
+/// Calls. A step that fails counts, and its token is told.
+static CALLS: [Row<'static>; 9] = [
     (FAILS, 3, Some(Code::Lim), 3, Some((3, 12, &[Some(1)], &[]))),
     (
         FAILS,
@@ -140,7 +147,10 @@ static ROWS: [Row<'static>; 51] = [
         4,
         Some((4, 6, &[Some(1)], &[])),
     ),
-    // A step that fails in an iteration, in a conditional, and in its second part.
+];
+
+/// A step that fails in an iteration, in a conditional, and in its second part.
+static FAILING_STEPS: [Row<'static>; 7] = [
     ("@S/x/", 99, Some(Code::Srh), 1, Some((0, 0, &[], &[]))),
     (
         "<@S/x/1=>",
@@ -166,7 +176,10 @@ static ROWS: [Row<'static>; 51] = [
         6,
         Some((5, 6, &[Some(1)], &[])),
     ),
-    // A step of a block that fails.
+];
+
+/// A step of a block that fails.
+static FAILING_BLOCKS: [Row<'static>; 4] = [
     ("1,2<=>", 99, Some(Code::Arg), 4, Some((3, 3, &[], &[]))),
     ("\"G'", 99, Some(Code::Naq), 1, Some((0, 0, &[], &[]))),
     (
@@ -177,7 +190,10 @@ static ROWS: [Row<'static>; 51] = [
         Some((2, 2, &[Some(2)], &[])),
     ),
     ("0<?>", 99, Some(Code::Ill), 2, Some((1, 1, &[], &[]))),
-    // A jump that finds no tag, and `;` where it can't leave: the blocks around are told.
+];
+
+/// A jump that finds no tag, and `;` where it can't leave: the blocks around are told.
+static FAILING_JUMPS: [Row<'static>; 7] = [
     (
         "2<1\"G@O/x/'>",
         99,
@@ -221,7 +237,10 @@ static ROWS: [Row<'static>; 51] = [
         6,
         Some((5, 6, &[Some(2)], &[])),
     ),
-    // One block or call too many, and further steps of a token.
+];
+
+/// One block or call too many, and further steps of a token.
+static LIMITS: [Row<'static>; 6] = [
     (
         DEEP,
         99,
@@ -278,7 +297,10 @@ static ROWS: [Row<'static>; 51] = [
     ("3P", 3, Some(Code::Lim), 3, Some((3, 1, &[], &[]))),
     ("3P", 99, None, 4, None),
     ("0P", 99, Some(Code::Ipa), 2, Some((1, 1, &[], &[]))),
-    // Calls of calls, the latest first.
+];
+
+/// Calls of calls, the latest first.
+static CALLS_OF_CALLS: [Row<'static>; 4] = [
     (NESTED, 2, Some(Code::Lim), 2, Some((2, 19, &[], &[]))),
     (
         NESTED,
@@ -324,30 +346,45 @@ fn is_there(place: &Place, there: &There) -> bool {
         && are_callers(place.calls.as_slice(), callers)
 }
 
-/// Whether a row holds; none where it lacked memory.
-fn try_row(alloc: Global, row: &Row) -> Option<bool> {
-    let (text, limit, code, steps, there) = *row;
-    let mut editor = Editor::new(Vec::new(alloc));
-    let mut terminal = MemoryTerminal::new(alloc);
-    let Stopped { outcome, place } = run_where(
-        &mut editor,
-        text.as_bytes(),
-        limit,
-        &mut terminal,
-        alloc,
-    );
-    let Ok(place) = place else {
-        return None;
-    };
-    if outcome.code == Some(Code::Mem) || outcome.code == Some(Code::Tty) {
-        return None;
-    }
-    let placed = match (&place, &there) {
+/// Whether a run last stood where it is said, if that is said.
+fn is_placed(place: &Option<Place>, there: &Option<There>) -> bool {
+    match (place, there) {
         (Some(place), Some(there)) => is_there(place, there),
         (None, None) => true,
         _ => false,
-    };
-    Some(placed && outcome.code == code && outcome.steps == steps)
+    }
+}
+
+/// Whether a run that ended so is as its row says; none where it lacked memory.
+fn told(outcome: Outcome, place: &Option<Place>, row: &Row) -> Option<bool> {
+    if outcome.code == Some(Code::Mem) || outcome.code == Some(Code::Tty) {
+        return None;
+    }
+    Some(is_placed(place, &row.4) && outcome.code == row.2 && outcome.steps == row.3)
+}
+
+fn told_of(stopped: &Stopped, row: &Row) -> Option<bool> {
+    match &stopped.place {
+        Ok(place) => told(stopped.outcome, place, row),
+        Err(_) => None,
+    }
+}
+
+fn try_on(
+    alloc: Global,
+    editor: &mut Editor,
+    terminal: &mut MemoryTerminal,
+    row: &Row,
+) -> Option<bool> {
+    let stopped = run_where(editor, row.0.as_bytes(), row.1, terminal, alloc);
+    told_of(&stopped, row)
+}
+
+/// Whether a row holds; none where it lacked memory.
+fn try_row(alloc: Global, row: &Row) -> Option<bool> {
+    let mut editor = Editor::new(Vec::new(alloc));
+    let mut terminal = MemoryTerminal::new(alloc);
+    try_on(alloc, &mut editor, &mut terminal, row)
 }
 
 /// Whether a row holds; where memory was refused, at the second time.
@@ -358,9 +395,20 @@ fn holds(alloc: Global, row: &Row) -> bool {
     }
 }
 
+fn all_hold(rt: &impl Abort, alloc: Global, rows: &[Row]) {
+    for row in rows {
+        assert_of(rt, row.0, holds(alloc, row));
+    }
+}
+
 #[test]
 fn runs_tell_where_they_last_stood(rt: HostRuntime) {
-    for row in &ROWS {
-        assert_of(&rt, row.0, holds(rt.alloc(), row));
-    }
+    all_hold(&rt, rt.alloc(), &TOKENS);
+    all_hold(&rt, rt.alloc(), &ITERATIONS);
+    all_hold(&rt, rt.alloc(), &CALLS);
+    all_hold(&rt, rt.alloc(), &FAILING_STEPS);
+    all_hold(&rt, rt.alloc(), &FAILING_BLOCKS);
+    all_hold(&rt, rt.alloc(), &FAILING_JUMPS);
+    all_hold(&rt, rt.alloc(), &LIMITS);
+    all_hold(&rt, rt.alloc(), &CALLS_OF_CALLS);
 }

@@ -38,10 +38,8 @@ impl<'a> Row<'a> {
 }
 
 fn editor_over(alloc: Global, input: &[u8]) -> Editor {
-    let input = joined(alloc, &[input]);
-    if input.len() > FILE_LIMIT {
-        return Editor::new(Vec::new(alloc));
-    }
+    let mut input = joined(alloc, &[input]);
+    input.truncate(FILE_LIMIT);
     Editor::new(input)
 }
 
@@ -72,12 +70,16 @@ fn told(editor: &Editor, typed: &[u8], outcome: Outcome, row: &Row) -> Option<bo
     Some(ends_so(outcome, typed, row) && has_written(editor, row.written))
 }
 
+fn try_on(editor: &mut Editor, terminal: &mut MemoryTerminal, row: &Row) -> Option<bool> {
+    let outcome = run(editor, row.text, row.limit, terminal);
+    told(editor, terminal.bytes(), outcome, row)
+}
+
 /// Whether a row holds; none where it lacked memory.
 fn try_row(alloc: Global, row: &Row) -> Option<bool> {
     let mut editor = editor_over(alloc, row.input);
     let mut terminal = MemoryTerminal::new(alloc);
-    let outcome = run(&mut editor, row.text, row.limit, &mut terminal);
-    told(&editor, terminal.bytes(), outcome, row)
+    try_on(&mut editor, &mut terminal, row)
 }
 
 /// Whether a row holds; where memory was refused, at the second time.

@@ -1,5 +1,7 @@
 //! What is typed and written at streams of commands, and how serving them ends.
+use crate::tests::assert_of;
 use crate::tests::bytes::are_both;
+use crate::tests::rows::{LINE, cells_of, is_row};
 use std::alloc::Global;
 use std::process::Abort;
 use teco_core::{DEPTH_LIMIT, FILE_LIMIT, NoMemory};
@@ -48,8 +50,8 @@ const FAILED: How = How {
 /// A stream, where `$` is ESC and a backquote the byte 5, and what serving it gives: what is typed, and what is written to the output.
 type Row<'a> = (&'a str, &'a str, &'a str);
 
-/// Rows that are served in the same way, each in a session of its own.
-type Group<'a> = (How<'a>, &'a [Row<'a>]);
+/// A table of rows that are served in the same way, each in a session of its own.
+type Group<'a> = (How<'a>, &'a str);
 
 /// The bytes of a stream.
 fn bytes_of(alloc: Global, stream: &[u8]) -> Result<Vec<u8>, NoMemory> {
@@ -174,71 +176,77 @@ fn holds(rt: &impl Abort, alloc: Global, how: &How, row: &Row) {
     assert!(rt; held, "{}", row.0);
 }
 
-fn all_hold(rt: &impl Abort, alloc: Global, groups: &[Group]) {
-    for (how, rows) in groups {
-        for row in *rows {
-            holds(rt, alloc, how, row);
+fn line_holds(rt: &impl Abort, alloc: Global, how: &How, line: &str) {
+    match cells_of(line) {
+        Some(row) => holds(rt, alloc, how, &row),
+        None => assert_of(rt, line, false),
+    }
+}
+
+/// Each row of a table holds.
+fn all_hold_so(rt: &impl Abort, alloc: Global, how: &How, table: &str) {
+    for line in table.split(LINE) {
+        if is_row(line) {
+            line_holds(rt, alloc, how, line);
         }
     }
 }
 
+fn all_hold(rt: &impl Abort, alloc: Global, groups: &[Group]) {
+    for (how, table) in groups {
+        all_hold_so(rt, alloc, how, table);
+    }
+}
+
+/// Requests.
+const REQUESTS: &str = "
+     =>
+    Ia$ =>
+    {$$ => ?NTU\r\n
+    3}$$ 2{\r\n$$ => ?NTR\r\n?NTU\r\n
+    Ia$${$$}$$}$$HT$$ => ?NTR\r\na
+    Ia$$Ib$$3{$$Z=$$ => ?NTU\r\n0\r\n
+    Ia$$Ib$$2{$$}$$HT$$ => a
+    Ia$$Ib$$2{$$Ic$${$$2}$$HT$$ => ?NTR\r\nc
+    1=$$$2=$$2{$${$$ => 1\r\n2\r\n?NTU\r\n
+    ";
+
+/// At a prompt.
+const AT_A_PROMPT: &str = "
+     => *
+    {$$0}$$}$ => *?NTU\r\n**
+    1=$$ => *1\r\n*
+    ";
+
 static GROUPS: [Group<'static>; 16] = [
-    // Requests.
-    (
-        PLAIN,
-        &[
-            ("", "", ""),
-            ("Ia$", "", ""),
-            ("{$$", "?NTU\r\n", ""),
-            ("3}$$ 2{\r\n$$", "?NTR\r\n?NTU\r\n", ""),
-            ("Ia$${$$}$$}$$HT$$", "?NTR\r\na", ""),
-            ("Ia$$Ib$$3{$$Z=$$", "?NTU\r\n0\r\n", ""),
-            ("Ia$$Ib$$2{$$}$$HT$$", "a", ""),
-            ("Ia$$Ib$$2{$$Ic$${$$2}$$HT$$", "?NTR\r\nc", ""),
-            ("1=$$$2=$$2{$${$$", "1\r\n2\r\n?NTU\r\n", ""),
-        ],
-    ),
-    // At a prompt.
+    (PLAIN, REQUESTS),
     (
         How {
             prompt: true,
             ..PLAIN
         },
-        &[
-            ("", "*", ""),
-            ("{$$0}$$}$", "*?NTU\r\n**", ""),
-            ("1=$$", "*1\r\n*", ""),
-        ],
+        AT_A_PROMPT,
     ),
     // To the limit.
-    (
-        How { limit: 0, ..PLAIN },
-        &[("1=$${$${$$", "?LIM\r\n?NTU\r\n", "")],
-    ),
-    (How { limit: 5, ..PLAIN }, &[("!x!Ox$$", "?LIM\r\n", "")]),
-    (
-        How { limit: 33, ..PLAIN },
-        &[("@^UA/MA/MA$$", "?LIM\r\n", "")],
-    ),
-    (
-        How { limit: 34, ..PLAIN },
-        &[("@^UA/MA/MA$$", "?PDO\r\n", "")],
-    ),
+    (How { limit: 0, ..PLAIN }, "1=$${$${$$ => ?LIM\r\n?NTU\r\n"),
+    (How { limit: 5, ..PLAIN }, "!x!Ox$$ => ?LIM\r\n"),
+    (How { limit: 33, ..PLAIN }, "@^UA/MA/MA$$ => ?LIM\r\n"),
+    (How { limit: 34, ..PLAIN }, "@^UA/MA/MA$$ => ?PDO\r\n"),
     // To a failed read; an exit comes before it.
-    (FAILED, &[("1=$$", "1\r\n", "")]),
+    (FAILED, "1=$$ => 1\r\n"),
     (
         How {
             prompt: true,
             ..FAILED
         },
-        &[("}$$Ia$", "*?NTR\r\n*", "")],
+        "}$$Ia$ => *?NTR\r\n*",
     ),
     (
         How {
             served: Served::Exit,
             ..FAILED
         },
-        &[("EX$$1=$$", "", "")],
+        "EX$$1=$$ =>",
     ),
     // What a source gives before it fails is served as if it had ended there.
     (
@@ -295,48 +303,48 @@ static GROUPS: [Group<'static>; 16] = [
             ],
             ..PLAIN
         },
-        &[("YEX$$", "", "a")],
+        "YEX$$ => => a",
     ),
 ];
 
 /// The beginnings of a stream that note no string.
-const FRONTS_WITHOUT_STRINGS: &[Row] = &[
-    ("", "", ""),
-    ("1", "", ""),
-    ("1=", "", ""),
-    ("1=$", "", ""),
-];
+const FRONTS_WITHOUT_STRINGS: &str = "
+     =>
+    1 =>
+    1= =>
+    1=$ =>
+    ";
 
 /// Its beginnings that note one string.
-const FRONTS_WITH_ONE_STRING: &[Row] = &[
-    ("1=$$", "1\r\n", ""),
-    ("1=$${", "1\r\n", ""),
-    ("1=$${$", "1\r\n", ""),
-    ("1=$${$$", "1\r\n", ""),
-    ("1=$${$$3", "1\r\n", ""),
-    ("1=$${$$3<", "1\r\n", ""),
-    ("1=$${$$3<I", "1\r\n", ""),
-    ("1=$${$$3<Ix", "1\r\n", ""),
-    ("1=$${$$3<Ix$", "1\r\n", ""),
-    ("1=$${$$3<Ix$>", "1\r\n", ""),
-    ("1=$${$$3<Ix$>$", "1\r\n", ""),
-    ("1=$${$$3<Ix$>$$", "1\r\n", ""),
-    ("1=$${$$3<Ix$>$$}", "1\r\n", ""),
-    ("1=$${$$3<Ix$>$$}$", "1\r\n", ""),
-    ("1=$${$$3<Ix$>$$}$$", "1\r\n?NTR\r\n", ""),
-    ("1=$${$$3<Ix$>$$}$$.", "1\r\n?NTR\r\n", ""),
-    ("1=$${$$3<Ix$>$$}$$.=", "1\r\n?NTR\r\n", ""),
-    ("1=$${$$3<Ix$>$$}$$.=$", "1\r\n?NTR\r\n", ""),
-];
+const FRONTS_WITH_ONE_STRING: &str = "
+    1=$$ => 1\r\n
+    1=$${ => 1\r\n
+    1=$${$ => 1\r\n
+    1=$${$$ => 1\r\n
+    1=$${$$3 => 1\r\n
+    1=$${$$3< => 1\r\n
+    1=$${$$3<I => 1\r\n
+    1=$${$$3<Ix => 1\r\n
+    1=$${$$3<Ix$ => 1\r\n
+    1=$${$$3<Ix$> => 1\r\n
+    1=$${$$3<Ix$>$ => 1\r\n
+    1=$${$$3<Ix$>$$ => 1\r\n
+    1=$${$$3<Ix$>$$} => 1\r\n
+    1=$${$$3<Ix$>$$}$ => 1\r\n
+    1=$${$$3<Ix$>$$}$$ => 1\r\n?NTR\r\n
+    1=$${$$3<Ix$>$$}$$. => 1\r\n?NTR\r\n
+    1=$${$$3<Ix$>$$}$$.= => 1\r\n?NTR\r\n
+    1=$${$$3<Ix$>$$}$$.=$ => 1\r\n?NTR\r\n
+    ";
 
 /// Its beginnings that note two strings.
-const FRONTS_WITH_TWO_STRINGS: &[Row] = &[
-    ("1=$${$$3<Ix$>$$}$$.=$$", "1\r\n?NTR\r\n3\r\n", ""),
-    ("1=$${$$3<Ix$>$$}$$.=$$2", "1\r\n?NTR\r\n3\r\n", ""),
-    ("1=$${$$3<Ix$>$$}$$.=$$2{", "1\r\n?NTR\r\n3\r\n", ""),
-    ("1=$${$$3<Ix$>$$}$$.=$$2{$", "1\r\n?NTR\r\n3\r\n", ""),
-    ("1=$${$$3<Ix$>$$}$$.=$$2{$$", "1\r\n?NTR\r\n3\r\n", ""),
-];
+const FRONTS_WITH_TWO_STRINGS: &str = "
+    1=$${$$3<Ix$>$$}$$.=$$ => 1\r\n?NTR\r\n3\r\n
+    1=$${$$3<Ix$>$$}$$.=$$2 => 1\r\n?NTR\r\n3\r\n
+    1=$${$$3<Ix$>$$}$$.=$$2{ => 1\r\n?NTR\r\n3\r\n
+    1=$${$$3<Ix$>$$}$$.=$$2{$ => 1\r\n?NTR\r\n3\r\n
+    1=$${$$3<Ix$>$$}$$.=$$2{$$ => 1\r\n?NTR\r\n3\r\n
+    ";
 
 #[test]
 fn serves_requests(rt: HostRuntime) {

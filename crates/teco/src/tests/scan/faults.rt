@@ -3,8 +3,8 @@ use crate::tests::exec::strings::{Ends, all_end};
 use std::test::*;
 use teco_core::Code;
 
-static ROWS: &[Ends] = &[
-    // Texts that end too early are UTC.
+/// Texts that end too early are UTC.
+static CUT_TEXTS: [Ends<'static>; 20] = [
     ("Iab", Some(Code::Utc), 0, ""),
     ("\tab", Some(Code::Utc), 0, ""),
     ("^Uaab", Some(Code::Utc), 0, ""),
@@ -25,7 +25,10 @@ static ROWS: &[Ends] = &[
     ("@FS/a", Some(Code::Utc), 0, ""),
     ("@FS/a/b", Some(Code::Utc), 0, ""),
     ("@O", Some(Code::Utc), 0, ""),
-    // Commands that end too early are UTC, after their first byte too.
+];
+
+/// Commands that end too early are UTC, after their first byte too.
+static CUT_COMMANDS: [Ends<'static>; 11] = [
     (":Q", Some(Code::Utc), 0, ""),
     (":G", Some(Code::Utc), 0, ""),
     ("^U", Some(Code::Utc), 0, ""),
@@ -37,7 +40,10 @@ static ROWS: &[Ends] = &[
     ("0\"N1|", Some(Code::Utc), 2, ""),
     ("@^Ua/I/Ma", Some(Code::Utc), 2, ""),
     ("@^Ua/1</Ma>", Some(Code::Utc), 4, ""),
-    // Names of no register are refused.
+];
+
+/// Names of no register are refused.
+static NO_REGISTERS: [Ends<'static>; 24] = [
     ("Q?", Some(Code::Iqn), 0, ""),
     (":Q?", Some(Code::Iqn), 0, ""),
     ("%?", Some(Code::Iqn), 0, ""),
@@ -62,7 +68,10 @@ static ROWS: &[Ends] = &[
     ("0<Q?>", Some(Code::Iqn), 2, ""),
     ("0<\"?>", Some(Code::Iqc), 2, ""),
     ("5UzQZ=q0=", None, 6, "5\r\n0\r\n"),
-    // Names of no command are ILL; of single bytes session/single_bytes has all.
+];
+
+/// Names of no command are ILL; of single bytes session/single_bytes has all.
+static NO_COMMANDS: [Ends<'static>; 12] = [
     ("^B", Some(Code::Ill), 0, ""),
     ("^I", Some(Code::Ill), 0, ""),
     ("^?", Some(Code::Ill), 0, ""),
@@ -75,7 +84,10 @@ static ROWS: &[Ends] = &[
     ("F ", Some(Code::Ill), 0, ""),
     ("===", Some(Code::Ill), 0, ""),
     ("\u{e9}", Some(Code::Ill), 0, ""),
-    // Faults in blocks are told where they are.
+];
+
+/// Faults in blocks are told where they are.
+static IN_BLOCKS: [Ends<'static>; 14] = [
     ("1===", Some(Code::Ill), 1, ""),
     ("1=~", Some(Code::Ill), 2, "1\r\n"),
     ("1\"G||'", Some(Code::Ill), 2, ""),
@@ -90,7 +102,10 @@ static ROWS: &[Ends] = &[
     ("0<<J>", Some(Code::Utc), 2, ""),
     ("0\"G~'", Some(Code::Ill), 2, ""),
     ("0<I~\x1b>", None, 2, ""),
-    // Errors of searches come in their order.
+];
+
+/// Errors of searches come in their order.
+static OF_SEARCHES: [Ends<'static>; 13] = [
     ("0S\x1b", Some(Code::Isa), 2, ""),
     ("S\x1b", Some(Code::Iss), 1, ""),
     ("S\x12\x1b", Some(Code::Ice), 1, ""),
@@ -104,7 +119,10 @@ static ROWS: &[Ends] = &[
     ("0FS\x1ba\x1b", Some(Code::Isa), 2, ""),
     ("FS\x12\x1ba\x1b", Some(Code::Ice), 1, ""),
     ("@FS//a/", Some(Code::Iss), 1, ""),
-    // Errors of commands come in their order.
+];
+
+/// Errors of commands come in their order.
+static OF_COMMANDS: [Ends<'static>; 16] = [
     ("1+=", Some(Code::Arg), 3, ""),
     ("1,=", Some(Code::Arg), 3, ""),
     ("(1+=", Some(Code::Mrp), 4, ""),
@@ -121,7 +139,10 @@ static ROWS: &[Ends] = &[
     ("1 99999999999", Some(Code::Ovf), 2, ""),
     ("1 2", Some(Code::Arg), 2, ""),
     ("2147483647Ua%aQa=", Some(Code::Ovf), 3, ""),
-    // Limits are reached.
+];
+
+/// Limits are reached.
+static AT_LIMITS: [Ends<'static>; 9] = [
     ("64<[A>[A", Some(Code::Pdo), 131, ""),
     ("64<[A>64<]A>]A", Some(Code::Cpq), 261, ""),
     ("((((((((((((((((1))))))))))))))))=", None, 34, "1\r\n"),
@@ -141,7 +162,10 @@ static ROWS: &[Ends] = &[
         129,
         "",
     ),
-    // Limits are reached in passing: a block that is passed over has the same limit, and a jump finds nothing past it.
+];
+
+/// Limits are reached in passing: a block that is passed over has the same limit, and a jump finds nothing past it.
+static PAST_LIMITS: [Ends<'static>; 3] = [
     (
         "0<<<<<<<<<<<<<<<<<<<<<<<<<<<<<<<<<<<<<<<<<<<<<<<<<<<<<<<<<<<<<<<<",
         Some(Code::Utc),
@@ -164,5 +188,13 @@ static ROWS: &[Ends] = &[
 
 #[test]
 fn faults_are_told_in_their_order(rt: HostRuntime) {
-    all_end(&rt, rt.alloc(), ROWS);
+    all_end(&rt, rt.alloc(), &CUT_TEXTS);
+    all_end(&rt, rt.alloc(), &CUT_COMMANDS);
+    all_end(&rt, rt.alloc(), &NO_REGISTERS);
+    all_end(&rt, rt.alloc(), &NO_COMMANDS);
+    all_end(&rt, rt.alloc(), &IN_BLOCKS);
+    all_end(&rt, rt.alloc(), &OF_SEARCHES);
+    all_end(&rt, rt.alloc(), &OF_COMMANDS);
+    all_end(&rt, rt.alloc(), &AT_LIMITS);
+    all_end(&rt, rt.alloc(), &PAST_LIMITS);
 }

@@ -7,7 +7,7 @@ use std::test::*;
 use teco_core::Code;
 use teco_exec::Outcome;
 use teco_session::{Answer, Session};
-use teco_step::WriterTerminal;
+use teco_step::{FailAfter, WriterTerminal};
 use teco_store::Desk;
 
 /// A string, how many bytes its terminal takes, the code by which it ends and its steps, what is shown, and the text that is left.
@@ -18,21 +18,34 @@ fn has_text(alloc: Global, session: &Session, text: &str) -> bool {
     joined(alloc, &[before, after]).as_slice() == text.as_bytes()
 }
 
-/// Whether a string ends so on its terminal.
-fn ends(alloc: Global, session: &mut Session, row: &Row) -> bool {
-    let (text, room, code, steps, shown, left) = *row;
-    let mut writer = failing_after(alloc, room);
-    let mut terminal = WriterTerminal::new(&mut writer);
-    let answer = session.run(text.as_bytes(), 1000, &mut terminal);
-    answer == Answer::Ended(Outcome { code, steps })
-        && writer.before() == shown.as_bytes()
-        && has_text(alloc, session, left)
+fn run_on(session: &mut Session, text: &str, writer: &mut FailAfter) -> Answer {
+    let mut terminal = WriterTerminal::new(writer);
+    session.run(text.as_bytes(), 1000, &mut terminal)
 }
 
-/// Whether a string ends so, and leaves an empty text once it is undone.
+fn ends_on(session: &mut Session, row: &Row, writer: &mut FailAfter) -> bool {
+    let (text, _, code, steps, shown, _) = *row;
+    run_on(session, text, writer) == Answer::Ended(Outcome { code, steps })
+        && writer.before() == shown.as_bytes()
+}
+
+/// Whether a string ends so on its terminal.
+fn ends(alloc: Global, session: &mut Session, row: &Row) -> bool {
+    let mut writer = failing_after(alloc, row.1);
+    ends_on(session, row, &mut writer)
+}
+
+fn comes_back(alloc: Global, session: &mut Session, row: &Row) -> bool {
+    ends(alloc, session, row)
+        && has_text(alloc, session, row.5)
+        && session.undo().is_ok()
+        && has_text(alloc, session, "")
+}
+
+/// Whether a string ends so, leaves its text, and leaves an empty one once it is undone.
 fn ends_and_comes_back(alloc: Global, row: &Row) -> bool {
     let mut session = session_over(alloc, b"");
-    ends(alloc, &mut session, row) && session.undo().is_ok() && has_text(alloc, &session, "")
+    comes_back(alloc, &mut session, row)
 }
 
 // A step whose put fails is not done: its beginning is shown, and the state is that of the steps before.

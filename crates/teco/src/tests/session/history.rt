@@ -27,11 +27,15 @@ fn begins_twelve(session: &mut Session, term: &mut MemoryTerminal) -> bool {
     held && session.strings() == 5 && session.cursor() == 4
 }
 
+fn twelve_begin(alloc: Global) -> bool {
+    let mut session = session_over(alloc, b"");
+    let mut term = MemoryTerminal::new(alloc);
+    begins_twelve(&mut session, &mut term)
+}
+
 #[test]
 fn begins_again_after_a_refusal(rt: HostRuntime) {
-    let mut session = session_over(rt.alloc(), b"");
-    let mut term = MemoryTerminal::new(rt.alloc());
-    assert!(rt; begins_twelve(&mut session, &mut term));
+    assert!(rt; twelve_begin(rt.alloc()));
 }
 
 /// What the requests of `plays_in_order` are answered.
@@ -47,16 +51,32 @@ static ANSWERS: [Answer; 6] = [
     Answer::NothingToRedo,
 ];
 
-fn plays(alloc: Global, input: &[u8], requests: &[Request], all: &[Answer], typed: &str) -> bool {
-    let mut session = session_over(alloc, input);
-    let mut term = MemoryTerminal::new(alloc);
-    match session.play(alloc, requests, 100, &mut term) {
-        Ok(answers) => answers.as_slice() == all && term.bytes() == typed.as_bytes(),
+/// Requests, what they are answered, and what they type in all.
+type Play<'a> = (&'a [Request], &'a [Answer], &'a str);
+
+fn are_all(answers: &Result<Vec<Answer>, NoMemory>, all: &[Answer]) -> bool {
+    match answers {
+        Ok(answers) => answers.as_slice() == all,
         Err(NoMemory) => false,
     }
 }
 
-// One answer a request; where memory was refused, all are answered the second time.
+fn plays_on(alloc: Global, session: &mut Session, term: &mut MemoryTerminal, play: &Play) -> bool {
+    let answers = session.play(alloc, play.0, 100, term);
+    are_all(&answers, play.1) && term.bytes() == play.2.as_bytes()
+}
+
+fn plays_once(alloc: Global, input: &[u8], play: &Play) -> bool {
+    let mut session = session_over(alloc, input);
+    let mut term = MemoryTerminal::new(alloc);
+    plays_on(alloc, &mut session, &mut term, play)
+}
+
+/// One answer a request; where memory was refused, all are answered the second time.
+fn plays(alloc: Global, input: &[u8], play: &Play) -> bool {
+    plays_once(alloc, input, play) || plays_once(alloc, input, play)
+}
+
 #[test]
 fn plays_in_order(rt: HostRuntime) {
     let requests = [
@@ -67,9 +87,7 @@ fn plays_in_order(rt: HostRuntime) {
         Request::Redo,
         Request::Redo,
     ];
-    let held = plays(rt.alloc(), b"", &requests, &ANSWERS, "1\r\n")
-        || plays(rt.alloc(), b"", &requests, &ANSWERS, "1\r\n");
-    assert!(rt; held);
+    assert!(rt; plays(rt.alloc(), b"", &(&requests, &ANSWERS, "1\r\n")));
 }
 
 /// What the requests of `plays_after_an_exit` are answered.
@@ -97,9 +115,7 @@ fn plays_after_an_exit(rt: HostRuntime) {
         Request::Run(joined(rt.alloc(), &[b"1="])),
         Request::Redo,
     ];
-    let held = plays(rt.alloc(), b"a", &requests, &AFTER_AN_EXIT, "1\r\n")
-        || plays(rt.alloc(), b"a", &requests, &AFTER_AN_EXIT, "1\r\n");
-    assert!(rt; held);
+    assert!(rt; plays(rt.alloc(), b"a", &(&requests, &AFTER_AN_EXIT, "1\r\n")));
 }
 
 /// The pointer, the lengths of the text, of the output and of the text of register A, and the number of that register.
@@ -138,13 +154,21 @@ fn each_comes_back(session: &mut Session, text: &[u8], term: &mut MemoryTerminal
     held
 }
 
+fn all_come_back_in(
+    rt: &impl Abort,
+    session: &mut Session,
+    texts: &[&str],
+    term: &mut MemoryTerminal,
+) {
+    for text in texts {
+        assert_of(rt, text, each_comes_back(session, text.as_bytes(), term));
+    }
+}
+
 fn all_come_back(rt: &impl Abort, alloc: Global, input: &[u8], texts: &[&str]) {
     let mut session = session_over(alloc, input);
     let mut term = MemoryTerminal::new(alloc);
-    for text in texts {
-        let held = each_comes_back(&mut session, text.as_bytes(), &mut term);
-        assert_of(rt, text, held);
-    }
+    all_come_back_in(rt, &mut session, texts, &mut term);
 }
 
 /// Strings over no input.

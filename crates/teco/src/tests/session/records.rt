@@ -1,9 +1,9 @@
 //! What strings leave for their undo: how much it is, and the pages that it turns back.
+use super::requests::session_over;
 use crate::tests::bytes::are_both;
 use std::alloc::Global;
 use std::process::Abort;
 use std::test::*;
-use teco_core::NoMemory;
 use teco_session::{Answer, Session};
 use teco_step::MemoryTerminal;
 use teco_store::{ChangeKind, Desk};
@@ -35,15 +35,19 @@ fn runs(session: &mut Session, texts: &[&[u8]], term: &mut MemoryTerminal) -> bo
 }
 
 /// Whether the last string of a row is within its bounds when it is run, undone and redone.
+fn holds_in(session: &mut Session, row: &Row, term: &mut MemoryTerminal) -> bool {
+    runs(session, row.0, term)
+        && is_within(session, row.1)
+        && session.undo().is_ok()
+        && is_within(session, row.1)
+        && session.redo().is_ok()
+        && is_within(session, row.1)
+}
+
 fn holds_once(alloc: Global, row: &Row) -> bool {
     let mut session = Session::new(Vec::new(alloc));
     let mut term = MemoryTerminal::new(alloc);
-    runs(&mut session, row.0, &mut term)
-        && is_within(&session, row.1)
-        && session.undo().is_ok()
-        && is_within(&session, row.1)
-        && session.redo().is_ok()
-        && is_within(&session, row.1)
+    holds_in(&mut session, row, &mut term)
 }
 
 fn all_hold(rt: &impl Abort, alloc: Global, rows: &[Row]) {
@@ -91,30 +95,42 @@ fn splice(at: usize, gone: usize, came: usize) -> ChangeKind {
     ChangeKind::Splice { at, gone, came }
 }
 
+fn ways_are_shown(session: &Session) -> bool {
+    are(
+        session,
+        &[
+            splice(0, 3, 0),
+            splice(2, 0, 1),
+            splice(2, 2, 0),
+            ChangeKind::Point,
+        ],
+    )
+}
+
+fn ways_back_are_shown(session: &Session) -> bool {
+    are(
+        session,
+        &[
+            splice(0, 0, 3),
+            splice(2, 1, 0),
+            splice(2, 0, 2),
+            ChangeKind::Point,
+        ],
+    )
+}
+
 /// Whether a string shows the kinds of its changes, and the way back once it is undone.
+fn kinds_are_shown_in(session: &mut Session, term: &mut MemoryTerminal) -> bool {
+    runs(session, &[b"Iabc\x1b-DIxy\x1bJ\x1b"], term)
+        && ways_are_shown(session)
+        && session.undo().is_ok()
+        && ways_back_are_shown(session)
+}
+
 fn kinds_are_shown(alloc: Global) -> bool {
     let mut session = Session::new(Vec::new(alloc));
     let mut term = MemoryTerminal::new(alloc);
-    runs(&mut session, &[b"Iabc\x1b-DIxy\x1bJ\x1b"], &mut term)
-        && are(
-            &session,
-            &[
-                splice(0, 3, 0),
-                splice(2, 0, 1),
-                splice(2, 2, 0),
-                ChangeKind::Point,
-            ],
-        )
-        && session.undo().is_ok()
-        && are(
-            &session,
-            &[
-                splice(0, 0, 3),
-                splice(2, 1, 0),
-                splice(2, 0, 2),
-                ChangeKind::Point,
-            ],
-        )
+    kinds_are_shown_in(&mut session, &mut term)
 }
 
 #[test]
@@ -149,17 +165,21 @@ fn redoes(session: &mut Session, count: usize) -> bool {
 }
 
 /// Whether a hundred strings are undone, each by itself, and redone, and one redo more is refused.
+fn hundred_come_back_in(session: &mut Session, term: &mut MemoryTerminal) -> bool {
+    let text: &[u8] = b"Ix\x1b";
+    runs(session, &[text; 100], term)
+        && undoes(session, 100)
+        && session.undo().is_err()
+        && is_all_x(session, 0)
+        && redoes(session, 100)
+        && session.redo().is_err()
+        && is_all_x(session, 100)
+}
+
 fn hundred_come_back(alloc: Global) -> bool {
     let mut session = Session::new(Vec::new(alloc));
     let mut term = MemoryTerminal::new(alloc);
-    let text: &[u8] = b"Ix\x1b";
-    runs(&mut session, &[text; 100], &mut term)
-        && undoes(&mut session, 100)
-        && session.undo().is_err()
-        && is_all_x(&session, 0)
-        && redoes(&mut session, 100)
-        && session.redo().is_err()
-        && is_all_x(&session, 100)
+    hundred_come_back_in(&mut session, &mut term)
 }
 
 // Where memory was refused once, all come back the second time.
@@ -192,15 +212,18 @@ fn page_is_written_anew(session: &mut Session, term: &mut MemoryTerminal) -> boo
         && session.redo().is_err()
 }
 
-fn pages_once(alloc: Global) -> Result<bool, NoMemory> {
-    let mut session = Session::new(Vec::from_slice(alloc, b"one\n\x0ctwo\n")?);
+fn page_comes_back(session: &mut Session, term: &mut MemoryTerminal) -> bool {
+    page_turns_back(session, term) && page_is_written_anew(session, term)
+}
+
+fn pages_once(alloc: Global) -> bool {
+    let mut session = session_over(alloc, b"one\n\x0ctwo\n");
     let mut term = MemoryTerminal::new(alloc);
-    Ok(page_turns_back(&mut session, &mut term) && page_is_written_anew(&mut session, &mut term))
+    page_comes_back(&mut session, &mut term)
 }
 
 #[test]
 fn pages_come_back(rt: HostRuntime) {
-    let held = matches!(pages_once(rt.alloc()), Ok(true))
-        || matches!(pages_once(rt.alloc()), Ok(true));
+    let held = pages_once(rt.alloc()) || pages_once(rt.alloc());
     assert!(rt; held, "a page turned back and forth");
 }

@@ -33,11 +33,15 @@ pub(crate) fn session_over(alloc: Global, input: &[u8]) -> Session {
     Session::new(input)
 }
 
+fn types(session: &mut Session, rows: &[Asks], typed: &str, term: &mut MemoryTerminal) -> bool {
+    are_answered(session, rows, term) && term.bytes() == typed.as_bytes()
+}
+
 /// Whether the requests are answered so over an input, and type this in all.
 fn answers(alloc: Global, input: &[u8], rows: &[Asks], typed: &str) -> bool {
     let mut session = session_over(alloc, input);
     let mut term = MemoryTerminal::new(alloc);
-    are_answered(&mut session, rows, &mut term) && term.bytes() == typed.as_bytes()
+    types(&mut session, rows, typed, &mut term)
 }
 
 /// The same; where memory was refused, at the second time.

@@ -125,18 +125,16 @@ fn searches_fail_or_are_refused(rt: HostRuntime) {
     all_leave(&rt, rt.alloc(), &ROWS);
 }
 
+static PARDONED: &str = "
+    <Sx\x1b;>1= => 1\r\n
+    <Sx\x1b0;> => => SRH
+    <Sx\x1b> => => SRH
+    Sx\x1b; => => SRH
+    <:Sx\x1b;>1= => 1\r\n
+    ::Sx\x1b= => 0\r\n
+    ";
+
 #[test]
 fn a_failed_search_is_pardoned_in_an_iteration_before_a_semicolon(rt: HostRuntime) {
-    all_type(
-        &rt,
-        rt.alloc(),
-        &[
-            ("<Sx\x1b;>1=", "1\r\n", None),
-            ("<Sx\x1b0;>", "", Some(Code::Srh)),
-            ("<Sx\x1b>", "", Some(Code::Srh)),
-            ("Sx\x1b;", "", Some(Code::Srh)),
-            ("<:Sx\x1b;>1=", "1\r\n", None),
-            ("::Sx\x1b=", "0\r\n", None),
-        ],
-    );
+    all_type(&rt, rt.alloc(), PARDONED);
 }

@@ -1,82 +1,81 @@
 //! Values and operators in each place: after nothing, a number, a sign, an operator, a parenthesis or a comma.
-use super::{Types, all_type};
+use super::all_type;
 use std::test::*;
-use teco_core::Code;
 
-static ROWS: &[Types] = &[
+static ROWS: &str = "
     // Registers are given in each form.
-    ("5Ua1Qa", "", Some(Code::Arg)),
-    ("5Ua-Qa=", "-5\r\n", None),
-    ("5Ua(Qa)=", "5\r\n", None),
-    ("5Ua1+Qa=", "6\r\n", None),
-    ("Iabc\x1b1,:QaT", "a", None),
-    ("%a=", "1\r\n", None),
-    ("5%a=", "5\r\n", None),
-    ("Iabc\x1b0,2%aT", "ab", None),
-    ("-%a=", "-1\r\n", None),
-    ("(%a)=", "1\r\n", None),
-    ("(5%a)=", "5\r\n", None),
-    ("1+%a=", "2\r\n", None),
-    ("I5\x1bJ\\=", "5\r\n", None),
-    ("7\\HT", "7", None),
-    ("1,2\\", "", Some(Code::Arg)),
-    ("I5\x1bJ-\\=", "-5\r\n", None),
-    ("I5\x1bJ(\\)=", "5\r\n", None),
-    ("(2\\", "", Some(Code::Mrp)),
-    ("I5\x1bJ1+\\=", "6\r\n", None),
-    ("I5\x1bJ0,\\=", "", Some(Code::Arg)),
+    5Ua1Qa => => ARG
+    5Ua-Qa= => -5\r\n
+    5Ua(Qa)= => 5\r\n
+    5Ua1+Qa= => 6\r\n
+    Iabc\x1b1,:QaT => a
+    %a= => 1\r\n
+    5%a= => 5\r\n
+    Iabc\x1b0,2%aT => ab
+    -%a= => -1\r\n
+    (%a)= => 1\r\n
+    (5%a)= => 5\r\n
+    1+%a= => 2\r\n
+    I5\x1bJ\\= => 5\r\n
+    7\\HT => 7
+    1,2\\ => => ARG
+    I5\x1bJ-\\= => -5\r\n
+    I5\x1bJ(\\)= => 5\r\n
+    (2\\ => => MRP
+    I5\x1bJ1+\\= => 6\r\n
+    I5\x1bJ0,\\= => => ARG
     // Places are given in each form.
-    ("1B", "", Some(Code::Arg)),
-    ("1Z", "", Some(Code::Arg)),
-    ("1.", "", Some(Code::Arg)),
-    ("1^E", "", Some(Code::Arg)),
-    ("1^N", "", Some(Code::Arg)),
-    ("1^^a", "", Some(Code::Arg)),
-    ("-Z=", "0\r\n", None),
-    ("(B)=", "0\r\n", None),
-    ("1+.=", "1\r\n", None),
-    ("-^N=", "1\r\n", None),
-    ("(^E)=", "0\r\n", None),
-    ("1-^^a=", "-96\r\n", None),
-    ("1H", "", Some(Code::Arg)),
-    ("-H", "", Some(Code::Arg)),
-    ("(H", "", Some(Code::Arg)),
-    ("1+H", "", Some(Code::Arg)),
-    ("1,H", "", Some(Code::Arg)),
-    ("HT", "", None),
+    1B => => ARG
+    1Z => => ARG
+    1. => => ARG
+    1^E => => ARG
+    1^N => => ARG
+    1^^a => => ARG
+    -Z= => 0\r\n
+    (B)= => 0\r\n
+    1+.= => 1\r\n
+    -^N= => 1\r\n
+    (^E)= => 0\r\n
+    1-^^a= => -96\r\n
+    1H => => ARG
+    -H => => ARG
+    (H => => ARG
+    1+H => => ARG
+    1,H => => ARG
+    HT =>
     // Operators wait for values.
-    ("*", "", Some(Code::Arg)),
-    ("/", "", Some(Code::Arg)),
-    ("&", "", Some(Code::Arg)),
-    ("#", "", Some(Code::Arg)),
-    ("(*", "", Some(Code::Arg)),
-    ("1+*", "", Some(Code::Arg)),
-    ("-+", "", Some(Code::Arg)),
-    ("1--1", "", Some(Code::Arg)),
-    (",", "", Some(Code::Arg)),
-    ("-,", "", Some(Code::Arg)),
-    ("1+,", "", Some(Code::Arg)),
-    ("1,,", "", Some(Code::Arg)),
-    ("(1,", "", Some(Code::Arg)),
-    ("1(", "", Some(Code::Arg)),
-    ("-(2)=", "-2\r\n", None),
-    ("1-(2)=", "-1\r\n", None),
-    (")", "", Some(Code::Arg)),
-    ("(1+)", "", Some(Code::Arg)),
-    ("(-)", "", Some(Code::Arg)),
-    ("(1))", "", Some(Code::Arg)),
-    ("(1)(", "", Some(Code::Arg)),
+    * => => ARG
+    / => => ARG
+    & => => ARG
+    # => => ARG
+    (* => => ARG
+    1+* => => ARG
+    -+ => => ARG
+    1--1 => => ARG
+    , => => ARG
+    -, => => ARG
+    1+, => => ARG
+    1,, => => ARG
+    (1, => => ARG
+    1( => => ARG
+    -(2)= => -2\r\n
+    1-(2)= => -1\r\n
+    ) => => ARG
+    (1+) => => ARG
+    (-) => => ARG
+    (1)) => => ARG
+    (1)( => => ARG
     // Results are in range.
-    ("2147483647=", "2147483647\r\n", None),
-    ("2147483648", "", Some(Code::Ovf)),
-    ("1/0", "", Some(Code::Dvz)),
-    ("-7/2=", "-3\r\n", None),
-    ("-(", "", None),
-    ("-1&255=", "255\r\n", None),
-    ("-8#7=", "-1\r\n", None),
-    ("(\x1b5=", "5\r\n", None),
-    ("1,\x1b5=", "5\r\n", None),
-];
+    2147483647= => 2147483647\r\n
+    2147483648 => => OVF
+    1/0 => => DVZ
+    -7/2= => -3\r\n
+    -( =>
+    -1&255= => 255\r\n
+    -8#7= => -1\r\n
+    (\x1b5= => 5\r\n
+    1,\x1b5= => 5\r\n
+    ";
 
 #[test]
 fn operands_are_given_in_each_form(rt: HostRuntime) {

@@ -1,55 +1,42 @@
 //! Searches, numbers in the buffer, and the case mode.
-use super::{Types, all_type};
+use super::all_type;
 use std::test::*;
-use teco_core::Code;
 
-static ROWS: &[Types] = &[
+static ROWS: &str = "
     // Texts are searched for.
-    ("Ixabxab\x1b-2Sab\x1b.=", "3\r\n", None),
-    ("Ia1  b\x1b0JS\x05D\x05Sb\x1b.=", "5\r\n", None),
-    ("Iabc\x1b0J@S/\x05[c,b]/.=", "2\r\n", None),
-    ("Iab\x1b0JS\x0ea\x1b.=", "2\r\n", None),
-    ("Iabab\x1bJ2Sab\x1b.=J@S//.=", "4\r\n2\r\n", None),
-    ("Iabab\x1b-Sab\x1b.=-Sab\x1b.=", "4\r\n4\r\n", None),
-    (":Sx\x1b=", "0\r\n", None),
-    ("Iab\x1bJSb\x1bJ:S\x1b=.=", "-1\r\n2\r\n", None),
-    ("Iab\x1b0J::Sa\x1b=.=", "-1\r\n1\r\n", None),
-    (
-        "Iaxb\x1bJ::Sx\x1b=.=J1C::S\x1b=.=",
-        "0\r\n0\r\n-1\r\n2\r\n",
-        None,
-    ),
-    ("Ia\x1b0J-:Sa\x1b+1=", "0\r\n", None),
-    ("Ia\x1b0J5,:Sa\x1b", "", Some(Code::Arg)),
+    Ixabxab\x1b-2Sab\x1b.= => 3\r\n
+    Ia1  b\x1b0JS\x05D\x05Sb\x1b.= => 5\r\n
+    Iabc\x1b0J@S/\x05[c,b]/.= => 2\r\n
+    Iab\x1b0JS\x0ea\x1b.= => 2\r\n
+    Iabab\x1bJ2Sab\x1b.=J@S//.= => 4\r\n2\r\n
+    Iabab\x1b-Sab\x1b.=-Sab\x1b.= => 4\r\n4\r\n
+    :Sx\x1b= => 0\r\n
+    Iab\x1bJSb\x1bJ:S\x1b=.= => -1\r\n2\r\n
+    Iab\x1b0J::Sa\x1b=.= => -1\r\n1\r\n
+    Iaxb\x1bJ::Sx\x1b=.=J1C::S\x1b=.= => 0\r\n0\r\n-1\r\n2\r\n
+    Ia\x1b0J-:Sa\x1b+1= => 0\r\n
+    Ia\x1b0J5,:Sa\x1b => => ARG
     // What is found is replaced.
-    ("Icat\x1b0J@FS/a/oa/HT.=", "coat3\r\n", None),
-    ("Iabc\x1bJ:FSb\x1bxyz\x1b=HT.=", "-1\r\naxyzc4\r\n", None),
-    ("Iabcabc\x1b-2FSb\x1bQ\x1bHT.=", "aQcabc2\r\n", None),
-    (
-        "Iaba\x1bJ2FSa\x1b\x1b.=HT@FS///",
-        "2\r\nab",
-        Some(Code::Srh),
-    ),
-    ("Iabc\x1bJ:FSz\x1bx\x1b=HT", "0\r\nabc", None),
-    (
-        "Iab\x1bJFSb\x1bcd\x1bISb\x1b0J:@FS//b/=HT",
-        "-1\r\nacdSb",
-        None,
-    ),
+    Icat\x1b0J@FS/a/oa/HT.= => coat3\r\n
+    Iabc\x1bJ:FSb\x1bxyz\x1b=HT.= => -1\r\naxyzc4\r\n
+    Iabcabc\x1b-2FSb\x1bQ\x1bHT.= => aQcabc2\r\n
+    Iaba\x1bJ2FSa\x1b\x1b.=HT@FS/// => 2\r\nab => SRH
+    Iabc\x1bJ:FSz\x1bx\x1b=HT => 0\r\nabc
+    Iab\x1bJFSb\x1bcd\x1bISb\x1b0J:@FS//b/=HT => -1\r\nacdSb
     // Numbers are read and inserted.
-    ("Iab-12c\x1b2J\\:=.=", "-125\r\n", None),
-    ("Ix\x1b5+\\=", "5\r\n", None),
-    ("I-5\x1bJ-\\=.=", "5\r\n2\r\n", None),
-    ("I-2147483648\x1bJ\\=", "-2147483648\r\n", None),
-    ("I4294967297\x1bJ\\", "", Some(Code::Ovf)),
-    ("I1234\x1b2JIx\x1b-DJ\\=", "1234\r\n", None),
-    ("42\\-7\\HT", "42-7", None),
-    ("(1+\\)=", "1\r\n", None),
+    Iab-12c\x1b2J\\:=.= => -125\r\n
+    Ix\x1b5+\\= => 5\r\n
+    I-5\x1bJ-\\=.= => 5\r\n2\r\n
+    I-2147483648\x1bJ\\= => -2147483648\r\n
+    I4294967297\x1bJ\\ => => OVF
+    I1234\x1b2JIx\x1b-DJ\\= => 1234\r\n
+    42\\-7\\HT => 42-7
+    (1+\\)= => 1\r\n
     // The case mode is set. Where it is 0, a search takes letters of either case.
-    ("IAb\x1bJ:SaB\x1b=", "0\r\n", None),
-    ("0^XIAb\x1bJ:SaB\x1b=", "-1\r\n", None),
-    ("0^X-1^XIAb\x1bJ:SaB\x1b=", "0\r\n", None),
-];
+    IAb\x1bJ:SaB\x1b= => 0\r\n
+    0^XIAb\x1bJ:SaB\x1b= => -1\r\n
+    0^X-1^XIAb\x1bJ:SaB\x1b= => 0\r\n
+    ";
 
 #[test]
 fn searches_and_replacements_do_what_they_mean(rt: HostRuntime) {

@@ -1,5 +1,5 @@
 //! Histories with a depth, which keep the last strings alone.
-use super::{Group, How, PLAIN, all_hold};
+use super::{How, PLAIN, all_hold_so};
 use std::test::*;
 
 /// Where two strings are kept.
@@ -8,21 +8,15 @@ const TWO: How = How {
     ..PLAIN
 };
 
-static GROUPS: [Group<'static>; 1] = [(
-    TWO,
-    &[
-        ("Ia$$Ib$$2{$$HT.=$$", "0\r\n", ""),
-        ("Ia$$Ib$$Ic$$3{$$HT.=$$", "?NTU\r\na1\r\n", ""),
-        ("Ia$$Ib$$Ic$$3{$$2}$$HT.=$$", "?NTU\r\nabc3\r\n", ""),
-        (
-            "Ia$$Ib$$Ic$$3{$$2}$$2{$$Id$$2{$$HT.=$$",
-            "?NTU\r\n?NTU\r\na1\r\n",
-            "",
-        ),
-    ],
-)];
+/// Streams and what they type.
+const ROWS: &str = "
+    Ia$$Ib$$2{$$HT.=$$ => 0\r\n
+    Ia$$Ib$$Ic$$3{$$HT.=$$ => ?NTU\r\na1\r\n
+    Ia$$Ib$$Ic$$3{$$2}$$HT.=$$ => ?NTU\r\nabc3\r\n
+    Ia$$Ib$$Ic$$3{$$2}$$2{$$Id$$2{$$HT.=$$ => ?NTU\r\n?NTU\r\na1\r\n
+    ";
 
 #[test]
 fn keeps_the_last_strings(rt: HostRuntime) {
-    all_hold(&rt, rt.alloc(), &GROUPS);
+    all_hold_so(&rt, rt.alloc(), &TWO, ROWS);
 }

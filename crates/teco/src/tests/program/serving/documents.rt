@@ -1,11 +1,12 @@
 //! The examples of the pages in docs. `docs/rows --write` makes their tables.
+use super::{How, PLAIN, session_over, source_of};
 use crate::tests::assert_of;
 use crate::tests::bytes::are_both;
 use std::alloc::Global;
 use std::process::Abort;
 use std::test::*;
-use super::{How, PLAIN, session_over, source_of};
 use teco_core::NoMemory;
+use teco_files::MemorySource;
 use teco_program::{Served, Silent, serve};
 use teco_session::Session;
 use teco_step::MemoryTerminal;
@@ -58,26 +59,48 @@ fn is_ended(served: Served, session: &Session, output: Option<&str>) -> bool {
     }
 }
 
-/// Whether the example holds with its strings as one piece or in single bytes.
-fn holds_once(alloc: Global, how: &How, example: &Example, single: bool, untold: &[u8]) -> bool {
-    let (input, strings, typed, output) = example;
-    let Some(mut session) = session_over(alloc, input, how.depth) else {
-        return false;
-    };
-    let Ok(mut source) = source_of(alloc, strings.as_bytes(), single, false) else {
-        return false;
-    };
+/// Whether serving a source in a session gives what the example tells.
+fn serves(
+    alloc: Global,
+    source: &mut MemorySource,
+    session: &mut Session,
+    how: &How,
+    example: &Example,
+    untold: &[u8],
+) -> bool {
     let mut term = MemoryTerminal::new(alloc);
     let served = serve(
         alloc,
-        &mut source,
-        &mut session,
+        source,
+        session,
         how.limit,
         how.prompt,
         &mut term,
         &mut Silent,
     );
-    are_told(alloc, term.bytes(), typed, untold) && is_ended(served, &session, *output)
+    are_told(alloc, term.bytes(), example.2, untold) && is_ended(served, session, example.3)
+}
+
+fn serves_in(
+    alloc: Global,
+    session: &mut Session,
+    how: &How,
+    example: &Example,
+    single: bool,
+    untold: &[u8],
+) -> bool {
+    match source_of(alloc, example.1.as_bytes(), single, false) {
+        Ok(mut source) => serves(alloc, &mut source, session, how, example, untold),
+        Err(NoMemory) => false,
+    }
+}
+
+/// Whether the example holds with its strings as one piece or in single bytes.
+fn holds_once(alloc: Global, how: &How, example: &Example, single: bool, untold: &[u8]) -> bool {
+    match session_over(alloc, example.0, how.depth) {
+        Some(mut session) => serves_in(alloc, &mut session, how, example, single, untold),
+        None => false,
+    }
 }
 
 fn holds(alloc: Global, how: &How, example: &Example, untold: &[u8]) -> bool {
@@ -107,19 +130,24 @@ fn the_tour_tells_what_is_typed_and_written(rt: HostRuntime) {
 
 #[test]
 fn the_cookbook_tells_what_is_typed_and_written(rt: HostRuntime) {
-    let parts = [
-        cookbook_replacing::EXAMPLES,
-        cookbook_lines::EXAMPLES,
+    all_hold(&rt, rt.alloc(), cookbook_replacing::EXAMPLES, RETURN);
+    all_hold(&rt, rt.alloc(), cookbook_lines::EXAMPLES, RETURN);
+    all_hold(
+        &rt,
+        rt.alloc(),
         cookbook_columns_and_fields::EXAMPLES,
-        cookbook_paragraphs::EXAMPLES,
-        cookbook_numbers::EXAMPLES,
-        cookbook_macros_and_bytes::EXAMPLES,
-        cookbook_pages::EXAMPLES,
+        RETURN,
+    );
+    all_hold(&rt, rt.alloc(), cookbook_paragraphs::EXAMPLES, RETURN);
+    all_hold(&rt, rt.alloc(), cookbook_numbers::EXAMPLES, RETURN);
+    all_hold(&rt, rt.alloc(), cookbook_macros_and_bytes::EXAMPLES, RETURN);
+    all_hold(&rt, rt.alloc(), cookbook_pages::EXAMPLES, RETURN);
+    all_hold(
+        &rt,
+        rt.alloc(),
         cookbook_looking_and_taking_back::EXAMPLES,
-    ];
-    for part in parts {
-        all_hold(&rt, rt.alloc(), part, RETURN);
-    }
+        RETURN,
+    );
 }
 
 #[test]

@@ -2,8 +2,10 @@
 use super::programs::{
     COLUMNS, E, JOIN, NUMBER, PRIMES, REPLACE, REVERSE, SORT, SPLIT, STRIP, SWAP, WRAP,
 };
+use super::{How, PLAIN, holds};
+use std::alloc::Global;
+use std::process::Abort;
 use std::test::*;
-use super::{Group, How, PLAIN, all_hold};
 use teco_program::Served;
 
 /// Over an empty input. Each program ends by its exit, under the limit that strings have by default.
@@ -13,294 +15,184 @@ const PROGRAM: How = How {
     ..PLAIN
 };
 
-static ORDERED_LINES: [Group<'static>; 9] = [
-    // Sorts lines.
+/// An input, and what a program types and writes over it.
+type Over<'a> = (&'a str, &'a str, &'a str);
+
+fn all_run(rt: &impl Abort, alloc: Global, program: &str, rows: &[Over]) {
+    for (input, typed, output) in rows {
+        let how = How { input, ..PROGRAM };
+        holds(rt, alloc, &how, &(program, typed, output));
+    }
+}
+
+/// Sorts lines.
+static SORTED: [Over<'static>; 5] = [
     (
-        How {
-            input: "pear\napple\n\x0capple pie\nfig\n\tb\nappl\n\napple",
-            ..PROGRAM
-        },
-        &[(
-            SORT,
-            "",
-            "\n\tb\nappl\napple\napple\napple pie\nfig\npear\n",
-        )],
+        "pear\napple\n\x0capple pie\nfig\n\tb\nappl\n\napple",
+        "",
+        "\n\tb\nappl\napple\napple\napple pie\nfig\npear\n",
     ),
-    (PROGRAM, &[(SORT, "", "")]),
-    (
-        How {
-            input: "b\x0ca",
-            ..PROGRAM
-        },
-        &[(SORT, "", "a\nb\n")],
-    ),
-    (
-        How {
-            input: "\x0c",
-            ..PROGRAM
-        },
-        &[(SORT, "", "\x0c")],
-    ),
+    ("", "", ""),
+    ("b\x0ca", "", "a\nb\n"),
+    ("\x0c", "", "\x0c"),
     // More lines than are merged: they go into heaps.
     (
-        How {
-            input: "thu\nthes\nabc\nu\nv\nbeginning\nthen\nz\nbeginningb\nb\ns\nbeginningj\nm\n\n-1\nthin\nab\nbeginninge\nq\nw\nbeginningg\nbeginning of line 3\nbeginninga\nbeginni\np\nbegin\nthis\nbeginningf\nab\nthe\n\x0cthas\nb\nbeginningi\na\nbeginningk\n~\n\tm\ntha\ntho\nx\no\na b\n$\nthan\nbeginning of line 12\nn\nthon\nm\nt\nbeginningc\nbeginningh\nthos\nbeginning of line 1\n[]\nm\t\n\n^,\na\tb\nthun\ny\nbeginning of line 2\nthus\n#\nr\nbeginningd\nthi",
-            ..PROGRAM
-        },
-        &[(
-            SORT,
-            "",
-            "\n\n\tm\n#\n$\n-1\n[]\n^,\na\na\tb\na b\nab\nab\nabc\nb\nb\nbegin\nbeginni\nbeginning\nbeginning of line 1\nbeginning of line 12\nbeginning of line 2\nbeginning of line 3\nbeginninga\nbeginningb\nbeginningc\nbeginningd\nbeginninge\nbeginningf\nbeginningg\nbeginningh\nbeginningi\nbeginningj\nbeginningk\nm\nm\nm\t\nn\no\np\nq\nr\ns\nt\ntha\nthan\nthas\nthe\nthen\nthes\nthi\nthin\nthis\ntho\nthon\nthos\nthu\nthun\nthus\nu\nv\nw\nx\ny\nz\n~\n",
-        )],
+        "thu\nthes\nabc\nu\nv\nbeginning\nthen\nz\nbeginningb\nb\ns\nbeginningj\nm\n\n-1\nthin\nab\nbeginninge\nq\nw\nbeginningg\nbeginning of line 3\nbeginninga\nbeginni\np\nbegin\nthis\nbeginningf\nab\nthe\n\x0cthas\nb\nbeginningi\na\nbeginningk\n~\n\tm\ntha\ntho\nx\no\na b\n$\nthan\nbeginning of line 12\nn\nthon\nm\nt\nbeginningc\nbeginningh\nthos\nbeginning of line 1\n[]\nm\t\n\n^,\na\tb\nthun\ny\nbeginning of line 2\nthus\n#\nr\nbeginningd\nthi",
+        "",
+        "\n\n\tm\n#\n$\n-1\n[]\n^,\na\na\tb\na b\nab\nab\nabc\nb\nb\nbegin\nbeginni\nbeginning\nbeginning of line 1\nbeginning of line 12\nbeginning of line 2\nbeginning of line 3\nbeginninga\nbeginningb\nbeginningc\nbeginningd\nbeginninge\nbeginningf\nbeginningg\nbeginningh\nbeginningi\nbeginningj\nbeginningk\nm\nm\nm\t\nn\no\np\nq\nr\ns\nt\ntha\nthan\nthas\nthe\nthen\nthes\nthi\nthin\nthis\ntho\nthon\nthos\nthu\nthun\nthus\nu\nv\nw\nx\ny\nz\n~\n",
     ),
-    // Reverses lines.
+];
+
+/// Reverses lines.
+static REVERSED: [Over<'static>; 4] = [
     (
-        How {
-            input: "one\ntwo\n\x0cthree\n\nfour",
-            ..PROGRAM
-        },
-        &[(REVERSE, "", "four\n\nthree\ntwo\none\n")],
+        "one\ntwo\n\x0cthree\n\nfour",
+        "",
+        "four\n\nthree\ntwo\none\n",
     ),
-    (PROGRAM, &[(REVERSE, "", "")]),
-    (
-        How {
-            input: "one",
-            ..PROGRAM
-        },
-        &[(REVERSE, "", "one\n")],
-    ),
-    (
-        How {
-            input: "a\x0cb\n\x0c",
-            ..PROGRAM
-        },
-        &[(REVERSE, "", "b\na\n")],
-    ),
+    ("", "", ""),
+    ("one", "", "one\n"),
+    ("a\x0cb\n\x0c", "", "b\na\n"),
 ];
 
 #[test]
 fn orders_lines(rt: HostRuntime) {
-    all_hold(&rt, rt.alloc(), &ORDERED_LINES);
+    all_run(&rt, rt.alloc(), SORT, &SORTED);
+    all_run(&rt, rt.alloc(), REVERSE, &REVERSED);
 }
 
-static LINES: [Group<'static>; 10] = [
-    // Numbers lines.
+/// Numbers lines.
+static NUMBERED: [Over<'static>; 3] = [
     (
-        How {
-            input: "one\n\n\x0ctwo\nthree",
-            ..PROGRAM
-        },
-        &[(
-            NUMBER,
-            "4\r\n",
-            "     1\tone\n     2\t\n\x0c     3\ttwo\n     4\tthree",
-        )],
+        "one\n\n\x0ctwo\nthree",
+        "4\r\n",
+        "     1\tone\n     2\t\n\x0c     3\ttwo\n     4\tthree",
     ),
-    (PROGRAM, &[(NUMBER, "0\r\n", "")]),
+    ("", "0\r\n", ""),
+    ("\x0c\n", "1\r\n", "\x0c     1\t\n"),
+];
+
+/// Strips blanks.
+static STRIPPED: [Over<'static>; 4] = [
     (
-        How {
-            input: "\x0c\n",
-            ..PROGRAM
-        },
-        &[(NUMBER, "1\r\n", "\x0c     1\t\n")],
+        "one  \ntwo\t \n\x0c  \n\x0c thr ee \t",
+        "",
+        "one\ntwo\n\x0c\n\x0c thr ee",
     ),
-    // Strips blanks.
+    ("", "", ""),
+    (" \x0c\t", "", "\x0c"),
+    ("a\n", "", "a\n"),
+];
+
+/// Wraps lines.
+static WRAPPED: [Over<'static>; 3] = [
     (
-        How {
-            input: "one  \ntwo\t \n\x0c  \n\x0c thr ee \t",
-            ..PROGRAM
-        },
-        &[(STRIP, "", "one\ntwo\n\x0c\n\x0c thr ee")],
+        "the quick brown fox jumps over the lazy dog and runs away into the deep green woods\nshort\nxxxxxxxxxxxxxxxxxxxxxxxxxxxxxxxxxxxxxxxxxxxxxxxxxxxxxxxxxxxxxxxxxxxxxxxxxxxxxxxx\n\x0cyyyyyyyyyyyyyyyyyyyyyyyyyyyyyyyyyyyyyyyyyyyyyyyyyyyyyyyyyyyyyyyyyyyyyyyy\nzzzzzzzzzzzzzzzzzzzzzzzzzzzzzzzzzzzzzzzzzzzzzzzzzzzzzzzzzzzzzzzzzzzzzzzz a\n vvvvvvvvvvvvvvvvvvvvvvvvvvvvvvvvvvvvvvvvvvvvvvvvvvvvvvvvvvvvvvvvvvvvvvvvv",
+        "",
+        "the quick brown fox jumps over the lazy dog and runs away into the deep\ngreen woods\nshort\nxxxxxxxxxxxxxxxxxxxxxxxxxxxxxxxxxxxxxxxxxxxxxxxxxxxxxxxxxxxxxxxxxxxxxxxx\nxxxxxxxx\n\x0cyyyyyyyyyyyyyyyyyyyyyyyyyyyyyyyyyyyyyyyyyyyyyyyyyyyyyyyyyyyyyyyyyyyyyyyy\nzzzzzzzzzzzzzzzzzzzzzzzzzzzzzzzzzzzzzzzzzzzzzzzzzzzzzzzzzzzzzzzzzzzzzzzz\na\n vvvvvvvvvvvvvvvvvvvvvvvvvvvvvvvvvvvvvvvvvvvvvvvvvvvvvvvvvvvvvvvvvvvvvvv\nvv",
     ),
-    (PROGRAM, &[(STRIP, "", "")]),
-    (
-        How {
-            input: " \x0c\t",
-            ..PROGRAM
-        },
-        &[(STRIP, "", "\x0c")],
-    ),
-    (
-        How {
-            input: "a\n",
-            ..PROGRAM
-        },
-        &[(STRIP, "", "a\n")],
-    ),
-    // Wraps lines.
-    (
-        How {
-            input: "the quick brown fox jumps over the lazy dog and runs away into the deep green woods\nshort\nxxxxxxxxxxxxxxxxxxxxxxxxxxxxxxxxxxxxxxxxxxxxxxxxxxxxxxxxxxxxxxxxxxxxxxxxxxxxxxxx\n\x0cyyyyyyyyyyyyyyyyyyyyyyyyyyyyyyyyyyyyyyyyyyyyyyyyyyyyyyyyyyyyyyyyyyyyyyyy\nzzzzzzzzzzzzzzzzzzzzzzzzzzzzzzzzzzzzzzzzzzzzzzzzzzzzzzzzzzzzzzzzzzzzzzzz a\n vvvvvvvvvvvvvvvvvvvvvvvvvvvvvvvvvvvvvvvvvvvvvvvvvvvvvvvvvvvvvvvvvvvvvvvvv",
-            ..PROGRAM
-        },
-        &[(
-            WRAP,
-            "",
-            "the quick brown fox jumps over the lazy dog and runs away into the deep\ngreen woods\nshort\nxxxxxxxxxxxxxxxxxxxxxxxxxxxxxxxxxxxxxxxxxxxxxxxxxxxxxxxxxxxxxxxxxxxxxxxx\nxxxxxxxx\n\x0cyyyyyyyyyyyyyyyyyyyyyyyyyyyyyyyyyyyyyyyyyyyyyyyyyyyyyyyyyyyyyyyyyyyyyyyy\nzzzzzzzzzzzzzzzzzzzzzzzzzzzzzzzzzzzzzzzzzzzzzzzzzzzzzzzzzzzzzzzzzzzzzzzz\na\n vvvvvvvvvvvvvvvvvvvvvvvvvvvvvvvvvvvvvvvvvvvvvvvvvvvvvvvvvvvvvvvvvvvvvvv\nvv",
-        )],
-    ),
-    (PROGRAM, &[(WRAP, "", "")]),
-    (
-        How {
-            input: "\n\x0c",
-            ..PROGRAM
-        },
-        &[(WRAP, "", "\n\x0c")],
-    ),
+    ("", "", ""),
+    ("\n\x0c", "", "\n\x0c"),
 ];
 
 #[test]
 fn edits_lines(rt: HostRuntime) {
-    all_hold(&rt, rt.alloc(), &LINES);
+    all_run(&rt, rt.alloc(), NUMBER, &NUMBERED);
+    all_run(&rt, rt.alloc(), STRIP, &STRIPPED);
+    all_run(&rt, rt.alloc(), WRAP, &WRAPPED);
 }
 
-static COLUMN_SWAPS: [Group<'static>; 8] = [
-    // Swaps columns.
+/// Swaps columns.
+static SWAPPED: [Over<'static>; 5] = [
     (
-        How {
-            input: "a,b,c\nno comma\n,x\n\x0cy,\n\np,q",
-            ..PROGRAM
-        },
-        &[(SWAP, "", "b,a,c\nno comma\nx,\n\x0c,y\n\nq,p")],
+        "a,b,c\nno comma\n,x\n\x0cy,\n\np,q",
+        "",
+        "b,a,c\nno comma\nx,\n\x0c,y\n\nq,p",
     ),
-    (PROGRAM, &[(SWAP, "", "")]),
+    ("", "", ""),
+    (",", "", ","),
+    ("a,b\nc,\x0cd\ne,f", "", "b,a\n,c\x0cd\nf,e"),
     (
-        How {
-            input: ",",
-            ..PROGRAM
-        },
-        &[(SWAP, "", ",")],
+        "a,bb,c\n,,\nddd,,e,f\n\x0cg,h,i",
+        "",
+        "bb,a,c\n,,\n,ddd,e,f\n\x0ch,g,i",
     ),
+];
+
+/// Reverses columns.
+static COLUMNS_REVERSED: [Over<'static>; 3] = [
     (
-        How {
-            input: "a,b\nc,\x0cd\ne,f",
-            ..PROGRAM
-        },
-        &[(SWAP, "", "b,a\n,c\x0cd\nf,e")],
+        "a,b,c\nno comma\n,x\n\x0cy,\n\np,q",
+        "",
+        "c,b,a\nno comma\nx,\n\x0c,y\n\nq,p",
     ),
+    ("", "", ""),
     (
-        How {
-            input: "a,bb,c\n,,\nddd,,e,f\n\x0cg,h,i",
-            ..PROGRAM
-        },
-        &[(SWAP, "", "bb,a,c\n,,\n,ddd,e,f\n\x0ch,g,i")],
-    ),
-    // Reverses columns.
-    (
-        How {
-            input: "a,b,c\nno comma\n,x\n\x0cy,\n\np,q",
-            ..PROGRAM
-        },
-        &[(COLUMNS, "", "c,b,a\nno comma\nx,\n\x0c,y\n\nq,p")],
-    ),
-    (PROGRAM, &[(COLUMNS, "", "")]),
-    (
-        How {
-            input: ",,,,,,,,,,,,,,,,,,,,,,,,,,,,,,,,,,,,,,,,,,,,,,,,,,,,,,,,,,,,,,,",
-            ..PROGRAM
-        },
-        &[(
-            COLUMNS,
-            "",
-            ",,,,,,,,,,,,,,,,,,,,,,,,,,,,,,,,,,,,,,,,,,,,,,,,,,,,,,,,,,,,,,,",
-        )],
+        ",,,,,,,,,,,,,,,,,,,,,,,,,,,,,,,,,,,,,,,,,,,,,,,,,,,,,,,,,,,,,,,",
+        "",
+        ",,,,,,,,,,,,,,,,,,,,,,,,,,,,,,,,,,,,,,,,,,,,,,,,,,,,,,,,,,,,,,,",
     ),
 ];
 
 #[test]
 fn swaps_columns(rt: HostRuntime) {
-    all_hold(&rt, rt.alloc(), &COLUMN_SWAPS);
+    all_run(&rt, rt.alloc(), SWAP, &SWAPPED);
+    all_run(&rt, rt.alloc(), COLUMNS, &COLUMNS_REVERSED);
 }
 
-static PAGES_AND_COUNTS: [Group<'static>; 12] = [
-    // Joins pages.
+/// Joins pages.
+static JOINED: [Over<'static>; 3] = [
+    ("one\n\x0ctwo\x0cthree", "", "one\ntwo\nthree"),
+    ("", "", ""),
+    ("one\n\x0c\x0ctwo\n\x0c", "", "one\ntwo\n"),
+];
+
+/// Splits pages.
+static SPLIT_PAGES: [Over<'static>; 4] = [
     (
-        How {
-            input: "one\n\x0ctwo\x0cthree",
-            ..PROGRAM
-        },
-        &[(JOIN, "", "one\ntwo\nthree")],
+        "\n\n\n\n\n\n\n\n\n\n\n\n\n\n\n\n\n\n\n\n\n\n\n\n\n\n\n\n\n\n\n\n\n\n\n\n\n\n\n\n\n\n\n\n\n\n\n\n\n\n\n\n\n\n\n\n\n\n\n\x0ca\nb\n",
+        "",
+        "\n\n\n\n\n\n\n\n\n\n\n\n\n\n\n\n\n\n\n\n\n\n\n\n\n\n\n\n\n\n\n\n\n\n\n\n\n\n\n\n\n\n\n\n\n\n\n\n\n\n\n\n\n\n\n\n\n\n\na\n\x0cb\n",
     ),
-    (PROGRAM, &[(JOIN, "", "")]),
+    ("", "", ""),
+    ("a\n\x0cb\x0cc", "", "a\nb\nc"),
     (
-        How {
-            input: "one\n\x0c\x0ctwo\n\x0c",
-            ..PROGRAM
-        },
-        &[(JOIN, "", "one\ntwo\n")],
-    ),
-    // Splits pages.
-    (
-        How {
-            input: "\n\n\n\n\n\n\n\n\n\n\n\n\n\n\n\n\n\n\n\n\n\n\n\n\n\n\n\n\n\n\n\n\n\n\n\n\n\n\n\n\n\n\n\n\n\n\n\n\n\n\n\n\n\n\n\n\n\n\n\x0ca\nb\n",
-            ..PROGRAM
-        },
-        &[(
-            SPLIT,
-            "",
-            "\n\n\n\n\n\n\n\n\n\n\n\n\n\n\n\n\n\n\n\n\n\n\n\n\n\n\n\n\n\n\n\n\n\n\n\n\n\n\n\n\n\n\n\n\n\n\n\n\n\n\n\n\n\n\n\n\n\n\na\n\x0cb\n",
-        )],
-    ),
-    (PROGRAM, &[(SPLIT, "", "")]),
-    (
-        How {
-            input: "a\n\x0cb\x0cc",
-            ..PROGRAM
-        },
-        &[(SPLIT, "", "a\nb\nc")],
-    ),
-    (
-        How {
-            input: "\n\n\n\n\n\n\n\n\n\n\n\n\n\n\n\n\n\n\n\n\n\n\n\n\n\n\n\n\n\n\n\n\n\n\n\n\n\n\n\n\n\n\n\n\n\n\n\n\n\n\n\n\n\n\n\n\n\n\n\n",
-            ..PROGRAM
-        },
-        &[(
-            SPLIT,
-            "",
-            "\n\n\n\n\n\n\n\n\n\n\n\n\n\n\n\n\n\n\n\n\n\n\n\n\n\n\n\n\n\n\n\n\n\n\n\n\n\n\n\n\n\n\n\n\n\n\n\n\n\n\n\n\n\n\n\n\n\n\n\n",
-        )],
-    ),
-    // Replaces, and counts.
-    (
-        How {
-            input: "The colour of\ncolourless\n\x0cpage\n\x0ccolour",
-            ..PROGRAM
-        },
-        &[(
-            REPLACE,
-            "3 replaced\n",
-            "The color of\ncolorless\n\x0cpage\n\x0ccolor",
-        )],
-    ),
-    (PROGRAM, &[(REPLACE, "0 replaced\n", "")]),
-    (
-        How {
-            input: "col\x0cour",
-            ..PROGRAM
-        },
-        &[(REPLACE, "0 replaced\n", "col\x0cour")],
-    ),
-    // Writes primes.
-    (
-        PROGRAM,
-        &[(
-            PRIMES,
-            "25\r\n",
-            "2\n3\n5\n7\n11\n13\n17\n19\n23\n29\n31\n37\n41\n43\n47\n53\n59\n61\n67\n71\n73\n79\n83\n89\n97\n",
-        )],
-    ),
-    // Types e.
-    (
-        PROGRAM,
-        &[(
-            E,
-            "2.71828182845904523536028747135266249775724709369995\n",
-            "",
-        )],
+        "\n\n\n\n\n\n\n\n\n\n\n\n\n\n\n\n\n\n\n\n\n\n\n\n\n\n\n\n\n\n\n\n\n\n\n\n\n\n\n\n\n\n\n\n\n\n\n\n\n\n\n\n\n\n\n\n\n\n\n\n",
+        "",
+        "\n\n\n\n\n\n\n\n\n\n\n\n\n\n\n\n\n\n\n\n\n\n\n\n\n\n\n\n\n\n\n\n\n\n\n\n\n\n\n\n\n\n\n\n\n\n\n\n\n\n\n\n\n\n\n\n\n\n\n\n",
     ),
 ];
 
+/// Replaces, and counts.
+static REPLACED: [Over<'static>; 3] = [
+    (
+        "The colour of\ncolourless\n\x0cpage\n\x0ccolour",
+        "3 replaced\n",
+        "The color of\ncolorless\n\x0cpage\n\x0ccolor",
+    ),
+    ("", "0 replaced\n", ""),
+    ("col\x0cour", "0 replaced\n", "col\x0cour"),
+];
+
+/// Writes primes.
+static PRIMES_WRITTEN: [Over<'static>; 1] = [(
+    "",
+    "25\r\n",
+    "2\n3\n5\n7\n11\n13\n17\n19\n23\n29\n31\n37\n41\n43\n47\n53\n59\n61\n67\n71\n73\n79\n83\n89\n97\n",
+)];
+
+/// Types e.
+static E_TYPED: [Over<'static>; 1] = [(
+    "",
+    "2.71828182845904523536028747135266249775724709369995\n",
+    "",
+)];
+
 #[test]
 fn edits_pages_and_counts(rt: HostRuntime) {
-    all_hold(&rt, rt.alloc(), &PAGES_AND_COUNTS);
+    all_run(&rt, rt.alloc(), JOIN, &JOINED);
+    all_run(&rt, rt.alloc(), SPLIT, &SPLIT_PAGES);
+    all_run(&rt, rt.alloc(), REPLACE, &REPLACED);
+    all_run(&rt, rt.alloc(), PRIMES, &PRIMES_WRITTEN);
+    all_run(&rt, rt.alloc(), E, &E_TYPED);
 }

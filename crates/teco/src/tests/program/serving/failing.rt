@@ -1,10 +1,10 @@
 //! Streams on a terminal that fails after so many bytes, and from a reader that does.
+use super::{bytes_of, source_of};
 use crate::tests::bytes::failing_after;
 use crate::tests::session::requests::session_over;
 use crate::tests::store::states::seen;
 use std::alloc::Global;
 use std::test::*;
-use super::{bytes_of, source_of};
 use teco_core::NoMemory;
 use teco_files::{MemorySource, ReaderSource, Source};
 use teco_program::{Served, Silent, serve};
@@ -48,13 +48,23 @@ fn has_whole_steps(alloc: Global, session: &Session, other: &mut Session) -> boo
     is_alike(alloc, session, other)
 }
 
+fn has_state_of_whole_steps(alloc: Global, session: &Session) -> bool {
+    let mut other = session_over(alloc, INPUT);
+    has_whole_steps(alloc, session, &mut other)
+}
+
+fn is_as_at_first(alloc: Global, session: &Session) -> bool {
+    let first = session_over(alloc, INPUT);
+    is_alike(alloc, session, &first)
+}
+
 /// Whether a session has the state of its whole steps, and the first one once all is undone.
 fn is_left(alloc: Global, session: &mut Session) -> bool {
-    if !has_whole_steps(alloc, session, &mut session_over(alloc, INPUT)) {
+    if !has_state_of_whole_steps(alloc, session) {
         return false;
     }
     undo_strings(session, session.cursor());
-    is_alike(alloc, session, &session_over(alloc, INPUT))
+    is_as_at_first(alloc, session)
 }
 
 /// Whether a serving on a terminal that takes so many bytes ends so, and shows those of what is to be typed.
@@ -77,11 +87,31 @@ fn serve_on(
     serve(alloc, source, session, 1000, false, &mut term, &mut Silent)
 }
 
+fn shows_on(
+    alloc: Global,
+    source: &mut MemorySource,
+    session: &mut Session,
+    typed: &[u8],
+    room: usize,
+) -> bool {
+    let mut writer = failing_after(alloc, room);
+    let served = serve_on(alloc, source, session, &mut writer);
+    is_shown(served, writer.before(), typed, room)
+}
+
+fn shows_and_leaves(
+    alloc: Global,
+    source: &mut MemorySource,
+    session: &mut Session,
+    typed: &[u8],
+    room: usize,
+) -> bool {
+    shows_on(alloc, source, session, typed, room) && is_left(alloc, session)
+}
+
 fn shows(alloc: Global, source: &mut MemorySource, typed: &[u8], room: usize) -> bool {
     let mut session = session_over(alloc, INPUT);
-    let mut writer = failing_after(alloc, room);
-    let served = serve_on(alloc, source, &mut session, &mut writer);
-    is_shown(served, writer.before(), typed, room) && is_left(alloc, &mut session)
+    shows_and_leaves(alloc, source, &mut session, typed, room)
 }
 
 fn shows_once(alloc: Global, row: &Row, room: usize) -> bool {
@@ -100,23 +130,27 @@ fn each_put_fails(alloc: Global, row: &Row) -> bool {
     held
 }
 
+/// Puts what is typed and the state that is left behind these bytes.
+fn put_left(alloc: Global, left: &mut Vec<u8>, typed: &[u8], session: &Session) -> bool {
+    let state = seen(alloc, session.editor());
+    left.extend_from_slice(typed).is_ok() && left.extend_from_slice(&state).is_ok()
+}
+
+fn serve_in<S: Source>(
+    alloc: Global,
+    source: &mut S,
+    session: &mut Session,
+    left: &mut Vec<u8>,
+) -> (Served, bool) {
+    let mut term = MemoryTerminal::new(alloc);
+    let served = serve(alloc, source, session, 1000, false, &mut term, &mut Silent);
+    (served, put_left(alloc, left, term.bytes(), session))
+}
+
 /// Whether serving a source ends so; what it types and leaves goes behind these bytes.
 fn leaves<S: Source>(alloc: Global, source: &mut S, wanted: Served, left: &mut Vec<u8>) -> bool {
     let mut session = session_over(alloc, INPUT);
-    let mut term = MemoryTerminal::new(alloc);
-    serve(
-        alloc,
-        source,
-        &mut session,
-        1000,
-        false,
-        &mut term,
-        &mut Silent,
-    ) == wanted
-        && left.extend_from_slice(term.bytes()).is_ok()
-        && left
-            .extend_from_slice(&seen(alloc, session.editor()))
-            .is_ok()
+    serve_in(alloc, source, &mut session, left) == (wanted, true)
 }
 
 /// Whether a reader that fails after its bytes is served as a source that ends after them.
@@ -158,24 +192,23 @@ fn serves_up_to_a_failure(rt: HostRuntime) {
     }
 }
 
-/// Whether a serving on a terminal that takes nothing fails at what the first string types, and leaves this byte to be read next.
-fn stops_before(alloc: Global, source: &mut MemorySource, byte: u8) -> bool {
-    let mut session = session_over(alloc, b"");
+/// Whether a serving on a terminal that takes nothing fails at what the first string types.
+fn cannot_show(alloc: Global, source: &mut MemorySource, session: &mut Session) -> bool {
     let mut room: [u8; 0] = [];
     let mut term = WriterTerminal::new(room.as_mut_slice());
+    let served = serve(alloc, source, session, 1000, false, &mut term, &mut Silent);
+    served == Served::ShowFault && session.strings() == 1
+}
+
+fn is_next(source: &mut MemorySource, byte: u8) -> bool {
     let mut next = [0];
-    serve(
-        alloc,
-        source,
-        &mut session,
-        1000,
-        false,
-        &mut term,
-        &mut Silent,
-    ) == Served::ShowFault
-        && session.strings() == 1
-        && matches!(source.read(&mut next), Ok(1))
-        && next[0] == byte
+    matches!(source.read(&mut next), Ok(1)) && next[0] == byte
+}
+
+/// Whether such a serving fails so, and leaves this byte to be read next.
+fn stops_before(alloc: Global, source: &mut MemorySource, byte: u8) -> bool {
+    let mut session = session_over(alloc, b"");
+    cannot_show(alloc, source, &mut session) && is_next(source, byte)
 }
 
 fn stops_before_the_next_read(alloc: Global) -> bool {

@@ -1,6 +1,6 @@
 //! Rewinds to a step, and what is left of the string, of its history and of what it wrote.
-use std::test::*;
 use super::{Group, How, PLAIN, all_hold};
+use std::test::*;
 use teco_program::Served;
 
 /// Over three pages, `a`, `b` and `c`.
@@ -14,51 +14,39 @@ const EXIT: How = How {
     ..PLAIN
 };
 
-static GROUPS: [Group<'static>; 3] = [
+/// Over an empty input.
+const STRINGS: &str = "
     // The steps of a string with a loop are gone back one after another.
-    (
-        PLAIN,
-        &[
-            ("Iaaaa$0J<Saa$;%A$>$$12~$$QA=.=$$", "2\r\n4\r\n", ""),
-            (
-                "Iaaaa$0J<Saa$;%A$>$$12~$$4~$$13~$$HT.=QA=@S//$$",
-                "aaaa0\r\n0\r\n?ISS\r\n",
-                "",
-            ),
-            ("Iaaaa$0J<Saa$;%A$>$$12~$$4~$$13~$${$$Z=$$", "0\r\n", ""),
-            (
-                "Iaaaa$0J<Saa$;%A$>$$12~$$4~$$13~$${$$}$$HT.=QA=$$",
-                "aaaa0\r\n0\r\n",
-                "",
-            ),
-            ("~$$", "?NTU\r\n", ""),
-            (
-                "@^UA/Ia$-DIb$/$$MA$$HT$${$$4~$$Z=$${$$2~$$HT$$",
-                "b0\r\na",
-                "",
-            ),
-            ("Ia$${$$~$$}$$HT$$", "?NTU\r\na", ""),
-            ("Ia$$Ib$${$$1~$$}$$HT$$", "?NTR\r\na", ""),
-            ("Iab$3D$$1~$$HT$${$${$$}$$HT$$", "?DTB\r\nabab", ""),
-            ("Ia$Ib$Ic$$2 ~ $$HT$$", "?ILL\r\nabc", ""),
-            ("Ia$Ib$Ic$$ 2~ $$HT$$", "ab", ""),
-            ("Ia$Ib$Ic$$~$$Z=$$", "0\r\n", ""),
-            ("Ia$1234567890~$$HT$$", "?ILL\r\na", ""),
-            ("1=~$$", "1\r\n?ILL\r\n", ""),
-        ],
-    ),
+    Iaaaa$0J<Saa$;%A$>$$12~$$QA=.=$$ => 2\r\n4\r\n
+    Iaaaa$0J<Saa$;%A$>$$12~$$4~$$13~$$HT.=QA=@S//$$ => aaaa0\r\n0\r\n?ISS\r\n
+    Iaaaa$0J<Saa$;%A$>$$12~$$4~$$13~$${$$Z=$$ => 0\r\n
+    Iaaaa$0J<Saa$;%A$>$$12~$$4~$$13~$${$$}$$HT.=QA=$$ => aaaa0\r\n0\r\n
+    ~$$ => ?NTU\r\n
+    @^UA/Ia$-DIb$/$$MA$$HT$${$$4~$$Z=$${$$2~$$HT$$ => b0\r\na
+    Ia$${$$~$$}$$HT$$ => ?NTU\r\na
+    Ia$$Ib$${$$1~$$}$$HT$$ => ?NTR\r\na
+    Iab$3D$$1~$$HT$${$${$$}$$HT$$ => ?DTB\r\nabab
+    Ia$Ib$Ic$$2 ~ $$HT$$ => ?ILL\r\nabc
+    Ia$Ib$Ic$$ 2~ $$HT$$ => ab
+    Ia$Ib$Ic$$~$$Z=$$ => 0\r\n
+    Ia$1234567890~$$HT$$ => ?ILL\r\na
+    1=~$$ => 1\r\n?ILL\r\n
+    ";
+
+/// Over the three pages.
+const OVER_PAGES: &str = "
     // A search over pages is gone back page by page, and what it wrote is taken back.
-    (
-        PAGES,
-        &[
-            ("YNc$$3~$$HT.=<;1=>$$", "b0\r\n", "a\x0c"),
-            ("YNc$$3~$${$$}$$HT$$", "b", "a\x0c"),
-            ("YNc$$1~$$HT$$", "a", ""),
-            ("YNc$$3~$$PHT$$", "c", "a\x0cb\x0c"),
-        ],
-    ),
+    YNc$$3~$$HT.=<;1=>$$ => b0\r\n => a\x0c
+    YNc$$3~$${$$}$$HT$$ => b => a\x0c
+    YNc$$1~$$HT$$ => a
+    YNc$$3~$$PHT$$ => c => a\x0cb\x0c
+    ";
+
+static GROUPS: [Group<'static>; 3] = [
+    (PLAIN, STRINGS),
+    (PAGES, OVER_PAGES),
     // An exit is gone back before the serving sees it done; after it nothing is asked.
-    (EXIT, &[("Ia$EX$$~$$", "", "a")]),
+    (EXIT, "Ia$EX$$~$$ => => a"),
 ];
 
 #[test]

@@ -1,6 +1,6 @@
 //! Worked rows: what a stream types, and what its last strings then type of the state that it left.
-use std::test::*;
 use super::{Group, How, PLAIN, all_hold};
+use std::test::*;
 use teco_program::Served;
 
 /// Three pages.
@@ -19,159 +19,118 @@ const EXIT: How = How {
     ..PLAIN
 };
 
-const LAST_SEARCH: &str = "Iaaaa$0J<Saa$;%A$>$$HT.=QA=$$";
-
-static GROUPS: [Group<'static>; 15] = [
+/// Over an empty input.
+const STRINGS: &str = "
     // Strings.
-    (
-        PLAIN,
-        &[
-            ("$${$${$$.=Z=$$", "?NTU\r\n0\r\n0\r\n", ""),
-            ("5J$$.=$$2{$${$$", "?POP\r\n0\r\n?NTU\r\n", ""),
-            ("Ihello$0J3C.=$${$$.=Z=$$", "3\r\n0\r\n0\r\n", ""),
-            ("2+3*4=$$.=Z=$$", "20\r\n0\r\n0\r\n", ""),
-            ("2147483647+1=$$.=Z=$$", "?OVF\r\n0\r\n0\r\n", ""),
-            ("Iab$3D$$HT.=$$", "?DTB\r\nab2\r\n", ""),
-            ("Iab$3D$${$$Z=$$", "?DTB\r\n0\r\n", ""),
-            ("(2+3)*(4-1):=$$.=Z=$$", "150\r\n0\r\n", ""),
-            ("-1==$$.=Z=$$", "37777777777\r\n0\r\n0\r\n", ""),
-            ("Ione\ntwo\n$-LK$$HT.=$$", "one\n4\r\n", ""),
-            ("Ia$${$$}$$}$$HT.=$$", "?NTR\r\na1\r\n", ""),
-            ("Ia$${$$Ib$$}$$HT.=$$", "?NTR\r\nb1\r\n", ""),
-            ("256I$$.=Z=$$", "?ARG\r\n0\r\n0\r\n", ""),
-            ("Iab-12c$2J\\:=.=$$HT.=$$", "-125\r\nab-12c5\r\n", ""),
-            ("Iabcd$3,1K.=$$HT.=$$", "1\r\nad1\r\n", ""),
-        ],
-    ),
+    $${$${$$.=Z=$$ => ?NTU\r\n0\r\n0\r\n
+    5J$$.=$$2{$${$$ => ?POP\r\n0\r\n?NTU\r\n
+    Ihello$0J3C.=$${$$.=Z=$$ => 3\r\n0\r\n0\r\n
+    2+3*4=$$.=Z=$$ => 20\r\n0\r\n0\r\n
+    2147483647+1=$$.=Z=$$ => ?OVF\r\n0\r\n0\r\n
+    Iab$3D$$HT.=$$ => ?DTB\r\nab2\r\n
+    Iab$3D$${$$Z=$$ => ?DTB\r\n0\r\n
+    (2+3)*(4-1):=$$.=Z=$$ => 150\r\n0\r\n
+    -1==$$.=Z=$$ => 37777777777\r\n0\r\n0\r\n
+    Ione\ntwo\n$-LK$$HT.=$$ => one\n4\r\n
+    Ia$${$$}$$}$$HT.=$$ => ?NTR\r\na1\r\n
+    Ia$${$$Ib$$}$$HT.=$$ => ?NTR\r\nb1\r\n
+    256I$$.=Z=$$ => ?ARG\r\n0\r\n0\r\n
+    Iab-12c$2J\\:=.=$$HT.=$$ => -125\r\nab-12c5\r\n
+    Iabcd$3,1K.=$$HT.=$$ => 1\r\nad1\r\n
     // Registers.
-    (
-        PLAIN,
-        &[
-            ("@^UA/^UAy$Ix$/MA$$HT:GA$$", "xy", ""),
-            ("0UA<!x!%A-3\"LOx$'1;>QA=$$QA=$$", "3\r\n3\r\n", ""),
-            ("@^UA/MA/MA$$:GA$$", "?PDO\r\nMA", ""),
-            ("@^UA/MA/MA$${$$:QA=$$", "?PDO\r\n0\r\n", ""),
-            ("3UA%A=5%A=$$QA=$$", "4\r\n9\r\n9\r\n", ""),
-            ("2147483647UA%A$$QA=$$", "?OVF\r\n2147483647\r\n", ""),
-            (
-                "[A[A[A[A[A[A[A[A[A[A[A[A[A[A[A[A[A[A[A[A[A[A[A[A[A[A[A[A[A[A[A[A[A[A[A[A[A[A[A[A[A[A[A[A[A[A[A[A[A[A[A[A[A[A[A[A[A[A[A[A[A[A[A[A[A$$64<]A>]A$$",
-                "?PDO\r\n?CPQ\r\n",
-                "",
-            ),
-            (
-                "[A[A[A[A[A[A[A[A[A[A[A[A[A[A[A[A[A[A[A[A[A[A[A[A[A[A[A[A[A[A[A[A[A[A[A[A[A[A[A[A[A[A[A[A[A[A[A[A[A[A[A[A[A[A[A[A[A[A[A[A[A[A[A[A[A$${$$]A$$",
-                "?PDO\r\n?CPQ\r\n",
-                "",
-            ),
-        ],
-    ),
+    @^UA/^UAy$Ix$/MA$$HT:GA$$ => xy
+    0UA<!x!%A-3\"LOx$'1;>QA=$$QA=$$ => 3\r\n3\r\n
+    @^UA/MA/MA$$:GA$$ => ?PDO\r\nMA
+    @^UA/MA/MA$${$$:QA=$$ => ?PDO\r\n0\r\n
+    3UA%A=5%A=$$QA=$$ => 4\r\n9\r\n9\r\n
+    2147483647UA%A$$QA=$$ => ?OVF\r\n2147483647\r\n
+    [A[A[A[A[A[A[A[A[A[A[A[A[A[A[A[A[A[A[A[A[A[A[A[A[A[A[A[A[A[A[A[A[A[A[A[A[A[A[A[A[A[A[A[A[A[A[A[A[A[A[A[A[A[A[A[A[A[A[A[A[A[A[A[A[A$$64<]A>]A$$ => ?PDO\r\n?CPQ\r\n
+    [A[A[A[A[A[A[A[A[A[A[A[A[A[A[A[A[A[A[A[A[A[A[A[A[A[A[A[A[A[A[A[A[A[A[A[A[A[A[A[A[A[A[A[A[A[A[A[A[A[A[A[A[A[A[A[A[A[A[A[A[A[A[A[A[A$${$$]A$$ => ?PDO\r\n?CPQ\r\n
     // Blocks.
-    (
-        PLAIN,
-        &[
-            ("0<Ia>b$>Iok$$HT.=$$", "ok2\r\n", ""),
-            ("3<Ix$$HT$$", "?UTC\r\nx", ""),
-            ("3<Ix$${$$Z=$$", "?UTC\r\n0\r\n", ""),
-            ("Ox$0<!x!>$$.=Z=$$", "?TAG\r\n0\r\n0\r\n", ""),
-            (
-                "Iq7$0J0A\"V^Alower\x01'1A\"D^A digit\x01'$$HT.=$$",
-                "lower digitq70\r\n",
-                "",
-            ),
-        ],
-    ),
+    0<Ia>b$>Iok$$HT.=$$ => ok2\r\n
+    3<Ix$$HT$$ => ?UTC\r\nx
+    3<Ix$${$$Z=$$ => ?UTC\r\n0\r\n
+    Ox$0<!x!>$$.=Z=$$ => ?TAG\r\n0\r\n0\r\n
+    Iq7$0J0A\"V^Alower\x01'1A\"D^A digit\x01'$$HT.=$$ => lower digitq70\r\n
     // Searches.
-    (
-        PLAIN,
-        &[
-            ("Ixabxab$-2Sab$.=$$HT.=$$", "3\r\nxabxab3\r\n", ""),
-            ("Iab$0J::Sa$=.=$$HT.=$$", "-1\r\n1\r\nab1\r\n", ""),
-            ("Ia1  b$0JS`D`Sb$.=$$HT.=$$", "5\r\na1  b5\r\n", ""),
-            ("Icat$0J@FS/a/oa/HT$$HT.=$$", "coatcoat3\r\n", ""),
-            (
-                ":Sx$=$$1<;1=>2=$$Iax$J:S$=.=$$",
-                "0\r\n2\r\n-1\r\n2\r\n",
-                "",
-            ),
-            (
-                "Iab$<Sx$0;>$$.=ZJIcx$J:S$=.=$$",
-                "?SRH\r\n0\r\n-1\r\n4\r\n",
-                "",
-            ),
-            ("S$$.=Z=$$", "?ISS\r\n0\r\n0\r\n", ""),
-            ("Iaaa$-2Saa$$HT.=$$", "?SRH\r\naaa0\r\n", ""),
-            ("Iabc$0J@S/`[c,b]/.=$$HT.=$$", "2\r\nabc2\r\n", ""),
-            ("Iab$0JS\x0ea$.=$$HT.=$$", "2\r\nab2\r\n", ""),
-        ],
-    ),
+    Ixabxab$-2Sab$.=$$HT.=$$ => 3\r\nxabxab3\r\n
+    Iab$0J::Sa$=.=$$HT.=$$ => -1\r\n1\r\nab1\r\n
+    Ia1  b$0JS`D`Sb$.=$$HT.=$$ => 5\r\na1  b5\r\n
+    Icat$0J@FS/a/oa/HT$$HT.=$$ => coatcoat3\r\n
+    :Sx$=$$1<;1=>2=$$Iax$J:S$=.=$$ => 0\r\n2\r\n-1\r\n2\r\n
+    Iab$<Sx$0;>$$.=ZJIcx$J:S$=.=$$ => ?SRH\r\n0\r\n-1\r\n4\r\n
+    S$$.=Z=$$ => ?ISS\r\n0\r\n0\r\n
+    Iaaa$-2Saa$$HT.=$$ => ?SRH\r\naaa0\r\n
+    Iabc$0J@S/`[c,b]/.=$$HT.=$$ => 2\r\nabc2\r\n
+    Iab$0JS\x0ea$.=$$HT.=$$ => 2\r\nab2\r\n
     // Searches in either case.
-    (
-        PLAIN,
-        &[
-            ("0^XIaBc$0JSbC$.=$$HT.=$$", "3\r\naBc3\r\n", ""),
-            (
-                "Iab$0J:SB$=0^X:SB$=$${$$Z=Iab$J:SB$=$$",
-                "0\r\n-1\r\n0\r\n0\r\n",
-                "",
-            ),
-            ("1^X$$.=Iab$J:SB$=$$", "?ARG\r\n0\r\n0\r\n", ""),
-            ("0^XIab$0JS\x0eA$.=$$HT.=$$", "2\r\nab2\r\n", ""),
-        ],
-    ),
+    0^XIaBc$0JSbC$.=$$HT.=$$ => 3\r\naBc3\r\n
+    Iab$0J:SB$=0^X:SB$=$${$$Z=Iab$J:SB$=$$ => 0\r\n-1\r\n0\r\n0\r\n
+    1^X$$.=Iab$J:SB$=$$ => ?ARG\r\n0\r\n0\r\n
+    0^XIab$0JS\x0eA$.=$$HT.=$$ => 2\r\nab2\r\n
+    ";
+
+/// Over three pages.
+const OVER_PAGES: &str = "
+    // Pages.
+    YNc$$HT.=$$ => c1\r\n => a\x0cb\x0c
+    YNc$${$$.=Z=YHT$$ => 0\r\n0\r\na
+    YNc$${$$}$$HT.=$$ => c1\r\n => a\x0cb\x0c
+    ";
+
+/// Over two pages, three steps each.
+const TO_THREE_STEPS: &str = "
+    2P$$HT$$.=$$ => b0\r\n => a\x0c
+    Y_b$$HT$$.=$$ZJIb$$J:S$=$$.=$$ => ?YCA\r\na0\r\n-1\r\n2\r\n
+    ";
+
+/// Over two pages, two steps each.
+const TO_TWO_STEPS: &str = "
+    2P$$HT$$ => ?LIM\r\na
+    Y_b$$ => ?LIM\r\n
+    ";
+
+static GROUPS: [Group<'static>; 11] = [
+    (PLAIN, STRINGS),
     // A search that fails is a step: where it is the last that the limit allows, the pointer is at 0.
     (
         How { limit: 14, ..PLAIN },
-        &[(LAST_SEARCH, "aaaa0\r\n2\r\n", "")],
+        "Iaaaa$0J<Saa$;%A$>$$HT.=QA=$$ => aaaa0\r\n2\r\n",
     ),
     (
         How { limit: 13, ..PLAIN },
-        &[(LAST_SEARCH, "?LIM\r\naaaa0\r\n2\r\n", "")],
+        "Iaaaa$0J<Saa$;%A$>$$HT.=QA=$$ => ?LIM\r\naaaa0\r\n2\r\n",
     ),
     (
         How { limit: 12, ..PLAIN },
-        &[(LAST_SEARCH, "?LIM\r\naaaa4\r\n2\r\n", "")],
+        "Iaaaa$0J<Saa$;%A$>$$HT.=QA=$$ => ?LIM\r\naaaa4\r\n2\r\n",
     ),
-    // Pages.
-    (
-        PAGES,
-        &[
-            ("YNc$$HT.=$$", "c1\r\n", "a\x0cb\x0c"),
-            ("YNc$${$$.=Z=YHT$$", "0\r\n0\r\na", ""),
-            ("YNc$${$$}$$HT.=$$", "c1\r\n", "a\x0cb\x0c"),
-        ],
-    ),
+    (PAGES, OVER_PAGES),
     (
         How {
             input: "a",
             ..PLAIN
         },
-        &[("Y$$Y$$HT^N=$$", "?YCA\r\na-1\r\n", "")],
+        "Y$$Y$$HT^N=$$ => ?YCA\r\na-1\r\n",
     ),
     // Pages to the limit. The last search's result is 0 where `;` leaves.
     (
         How { limit: 5, ..PAGES },
-        &[("YNc$$HT.=$$1<;1=>2=$$", "?LIM\r\nc0\r\n2\r\n", "a\x0cb\x0c")],
+        "YNc$$HT.=$$1<;1=>2=$$ => ?LIM\r\nc0\r\n2\r\n => a\x0cb\x0c",
     ),
     (
         How {
             limit: 3,
             ..TWO_PAGES
         },
-        &[
-            ("2P$$HT$$.=$$", "b0\r\n", "a\x0c"),
-            (
-                "Y_b$$HT$$.=$$ZJIb$$J:S$=$$.=$$",
-                "?YCA\r\na0\r\n-1\r\n2\r\n",
-                "",
-            ),
-        ],
+        TO_THREE_STEPS,
     ),
     (
         How {
             limit: 2,
             ..TWO_PAGES
         },
-        &[("2P$$HT$$", "?LIM\r\na", ""), ("Y_b$$", "?LIM\r\n", "")],
+        TO_TWO_STEPS,
     ),
     // The output.
     (
@@ -179,14 +138,14 @@ static GROUPS: [Group<'static>; 15] = [
             input: "one\n\x0ctwo\n",
             ..EXIT
         },
-        &[("Y$$P$${$$EX$$", "", "one\n\x0ctwo\n")],
+        "Y$$P$${$$EX$$ => => one\n\x0ctwo\n",
     ),
     (
         How {
             input: "hi\n",
             ..EXIT
         },
-        &[("Y$$Z=$$EX$$", "3\r\n", "hi\n")],
+        "Y$$Z=$$EX$$ => 3\r\n => hi\n",
     ),
 ];
 
