@@ -1,6 +1,6 @@
 //! Readers that fail, and what their source gives.
-use std::io::Read;
 use std::io;
+use std::io::Read;
 use teco_files::{ReaderSource, Source};
 
 /// Gives one byte a read, but fails at its second read, and ends after its fourth.
