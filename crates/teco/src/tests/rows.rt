@@ -1,4 +1,4 @@
-//! Tables that are texts. A row is a line behind four blanks, with an arrow between blanks from one cell to the next; a last cell that is
+//! Tables that are texts. A row is a line after four blanks, with an arrow between blanks from one cell to the next; a last cell that is
 //! empty is left out. A line that begins with two slashes tells of the rows after it.
 
 /// What is before each line.
