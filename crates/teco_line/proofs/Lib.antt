@@ -1,3 +1,4 @@
 mod CommandEntries
 pub mod CommandLines
 mod CommandRows
+pub mod Narrowing

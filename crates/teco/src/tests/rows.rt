@@ -20,3 +20,13 @@ pub(crate) fn cells_of(row: &str) -> Option<(&str, &str, &str)> {
     let (second, third) = rest.split_once(" =>").unwrap_or((rest, ""));
     Some((first, inner(second), inner(third)))
 }
+
+/// The four cells of a row, the last of which may be left out; none where it has fewer than three.
+pub(crate) fn four_cells_of(row: &str) -> Option<(&str, &str, &str, Option<&str>)> {
+    let (first, rest) = row.split_once(" =>")?;
+    let (second, rest) = rest.split_once(" =>")?;
+    match rest.split_once(" =>") {
+        Some((third, fourth)) => Some((first, inner(second), inner(third), Some(inner(fourth)))),
+        None => Some((first, inner(second), inner(rest), None)),
+    }
+}

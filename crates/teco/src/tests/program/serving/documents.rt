@@ -2,6 +2,7 @@
 use super::{How, PLAIN, session_over, source_of};
 use crate::tests::assert_of;
 use crate::tests::bytes::are_both;
+use crate::tests::rows::{self, four_cells_of, is_row};
 use std::alloc::Global;
 use std::process::Abort;
 use std::test::*;
@@ -27,8 +28,8 @@ const PROMPT: How = How {
 /// and the output, if they end by an exit.
 type Example<'a> = (&'a str, &'a str, &'a str, Option<&'a str>);
 
-/// Examples that are served in the same way, each in a session of its own.
-type Group<'a> = (How<'a>, &'a [Example<'a>]);
+/// A table of examples that are served in the same way, each in a session of its own.
+type Group<'a> = (How<'a>, &'a str);
 
 /// The bytes that a page tells.
 fn told_of(alloc: Global, bytes: &[u8], untold: &[u8]) -> Result<Vec<u8>, NoMemory> {
@@ -107,13 +108,30 @@ fn holds(alloc: Global, how: &How, example: &Example, untold: &[u8]) -> bool {
     holds_once(alloc, how, example, false, untold) && holds_once(alloc, how, example, true, untold)
 }
 
-/// Each example holds; where memory was refused, the second time.
-fn all_hold(rt: &impl Abort, alloc: Global, groups: &[Group], untold: &[u8]) {
-    for (how, examples) in groups {
-        for example in *examples {
-            let held = holds(alloc, how, example, untold) || holds(alloc, how, example, untold);
-            assert_of(rt, example.1, held);
+/// Whether the example of a line holds; where memory was refused, the second time.
+fn line_holds(alloc: Global, how: &How, line: &str, untold: &[u8]) -> bool {
+    match four_cells_of(line) {
+        Some(example) => {
+            holds(alloc, how, &example, untold) || holds(alloc, how, &example, untold)
         }
+        None => false,
+    }
+}
+
+/// Each example of a table holds.
+fn all_hold_so(rt: &impl Abort, alloc: Global, how: &How, table: &str, untold: &[u8]) {
+    for line in table.split(rows::LINE) {
+        assert_of(
+            rt,
+            line,
+            !is_row(line) || line_holds(alloc, how, line, untold),
+        );
+    }
+}
+
+fn all_hold(rt: &impl Abort, alloc: Global, groups: &[Group], untold: &[u8]) {
+    for (how, table) in groups {
+        all_hold_so(rt, alloc, how, table, untold);
     }
 }
 

@@ -3,109 +3,44 @@ use super::*;
 
 pub(super) static EXAMPLES: &[Group] = &[(
     LINE,
-    &[
-        // Something before each line?
-        ("one\ntwo\n", "Y<.-Z;I> $L>EX$$", "", Some("> one\n> two\n")),
-        // Something after each line?
-        ("one\ntwo\n", "Y<FS\n$;\n$;>EX$$", "", Some("one;\ntwo;\n")),
-        // A line end at the end of the file, if there is none?
-        ("one", "YZJ-A-10\"NI\n$'EX$$", "", Some("one\n")),
-        // The number of each line before it?
-        (
-            "one\ntwo\n",
-            "Y<.-Z;%N\\I: $L>EX$$",
-            "",
-            Some("1: one\n2: two\n"),
-        ),
-        // How many lines are there?
-        (
-            "one\ntwo\n",
-            "Y<.-Z;L%A$>QA=EX$$",
-            "2\n",
-            Some("one\ntwo\n"),
-        ),
-        // How often is a text there?
-        ("banana\n", "Y<San$;%A$>QA=EX$$", "2\n", Some("banana\n")),
-        // Which lines have a text?
-        (
-            "banana\ncherry\nmango\n",
-            "Y<San$;0LTL>$$",
-            "banana\nmango\n",
-            None,
-        ),
-        // Without the lines that have a text?
-        (
-            "banana\ncherry\nmango\nplum\n",
-            "Y<San$;0LK>EX$$",
-            "",
-            Some("cherry\nplum\n"),
-        ),
-        // Only the lines that have a text?
-        (
-            "cherry\nbanana\nplum\nmango\nfig\n",
-            "Y<.UBSan$;0LQB,.KL>QB,ZKEX$$",
-            "",
-            Some("banana\nmango\n"),
-        ),
-        // Without empty lines?
-        (
-            "one\n\n\ntwo\n",
-            "Y<FS\n\n$\n$;R>EX$$",
-            "",
-            Some("one\ntwo\n"),
-        ),
-        // Without the first byte of each line?
-        (
-            "one\n\ntwo\n",
-            "Y<.-Z;0A-10\"ND'L>EX$$",
-            "",
-            Some("ne\n\nwo\n"),
-        ),
-        // Without the last byte of each line?
-        (
-            "one;\n\ntwo;\n",
-            "Y<.-Z;LR.UE0LQE-.\"GQEJ-D'L>EX$$",
-            "",
-            Some("one\n\ntwo\n"),
-        ),
-        // Without the first three lines, or the last one?
-        ("1\n2\n3\n4\n5\n", "Y3KZJ-KEX$$", "", Some("4\n")),
-        // Something before line 3?
-        ("1\n2\n3\n", "Y2LInew\n$EX$$", "", Some("1\n2\nnew\n3\n")),
-        // A first line and a last line?
-        (
-            "one\n",
-            "YIhead\n$ZJItail\n$EX$$",
-            "",
-            Some("head\none\ntail\n"),
-        ),
-        // Each line twice?
-        (
-            "one\ntwo\n",
-            "Y<.-Z;XALGA>EX$$",
-            "",
-            Some("one\none\ntwo\ntwo\n"),
-        ),
-        // The first line to the end?
-        (
-            "one\ntwo\nthree\n",
-            "YXAKZJGAEX$$",
-            "",
-            Some("two\nthree\none\n"),
-        ),
-        // Blanks off the ends of lines?
-        (
-            "one  \ntwo\t\nthree\n",
-            "Y<FS`S\n$\n$;>EX$$",
-            "",
-            Some("one\ntwo\nthree\n"),
-        ),
-        // Lines that are alike and next to one another, once?
-        (
-            "one\none\none\ntwo\ntwofold\n",
-            "Y<.-Z;.UBL.-Z;.UC0UI<QB+QIJ0AUXQC+QIJ0AUYQX-QY\"N0;'QX-10\"E0;'%I>QX-QY\"EQCJKQBJ|QCJ'>EX$$",
-            "",
-            Some("one\ntwo\ntwofold\n"),
-        ),
-    ],
+    "
+    // Something before each line?
+    one\ntwo\n => Y<.-Z;I> $L>EX$$ =>  => > one\n> two\n
+    // Something after each line?
+    one\ntwo\n => Y<FS\n$;\n$;>EX$$ =>  => one;\ntwo;\n
+    // A line end at the end of the file, if there is none?
+    one => YZJ-A-10\"NI\n$'EX$$ =>  => one\n
+    // The number of each line before it?
+    one\ntwo\n => Y<.-Z;%N\\I: $L>EX$$ =>  => 1: one\n2: two\n
+    // How many lines are there?
+    one\ntwo\n => Y<.-Z;L%A$>QA=EX$$ => 2\n => one\ntwo\n
+    // How often is a text there?
+    banana\n => Y<San$;%A$>QA=EX$$ => 2\n => banana\n
+    // Which lines have a text?
+    banana\ncherry\nmango\n => Y<San$;0LTL>$$ => banana\nmango\n
+    // Without the lines that have a text?
+    banana\ncherry\nmango\nplum\n => Y<San$;0LK>EX$$ =>  => cherry\nplum\n
+    // Only the lines that have a text?
+    cherry\nbanana\nplum\nmango\nfig\n => Y<.UBSan$;0LQB,.KL>QB,ZKEX$$ =>  => banana\nmango\n
+    // Without empty lines?
+    one\n\n\ntwo\n => Y<FS\n\n$\n$;R>EX$$ =>  => one\ntwo\n
+    // Without the first byte of each line?
+    one\n\ntwo\n => Y<.-Z;0A-10\"ND'L>EX$$ =>  => ne\n\nwo\n
+    // Without the last byte of each line?
+    one;\n\ntwo;\n => Y<.-Z;LR.UE0LQE-.\"GQEJ-D'L>EX$$ =>  => one\n\ntwo\n
+    // Without the first three lines, or the last one?
+    1\n2\n3\n4\n5\n => Y3KZJ-KEX$$ =>  => 4\n
+    // Something before line 3?
+    1\n2\n3\n => Y2LInew\n$EX$$ =>  => 1\n2\nnew\n3\n
+    // A first line and a last line?
+    one\n => YIhead\n$ZJItail\n$EX$$ =>  => head\none\ntail\n
+    // Each line twice?
+    one\ntwo\n => Y<.-Z;XALGA>EX$$ =>  => one\none\ntwo\ntwo\n
+    // The first line to the end?
+    one\ntwo\nthree\n => YXAKZJGAEX$$ =>  => two\nthree\none\n
+    // Blanks off the ends of lines?
+    one  \ntwo\t\nthree\n => Y<FS`S\n$\n$;>EX$$ =>  => one\ntwo\nthree\n
+    // Lines that are alike and next to one another, once?
+    one\none\none\ntwo\ntwofold\n => Y<.-Z;.UBL.-Z;.UC0UI<QB+QIJ0AUXQC+QIJ0AUYQX-QY\"N0;'QX-10\"E0;'%I>QX-QY\"EQCJKQBJ|QCJ'>EX$$ =>  => one\ntwo\ntwofold\n
+    ",
 )];

@@ -3,38 +3,18 @@ use super::*;
 
 pub(super) static EXAMPLES: &[Group] = &[(
     LINE,
-    &[
-        // Each number one higher?
-        (
-            "a1 b9 c99\n",
-            "Y<S`D$;R.UB\\UAQB,.KQA+1\\>EX$$",
-            "",
-            Some("a2 b10 c100\n"),
-        ),
-        // The sum of all numbers?
-        (
-            "3 apples, 4 pears\n",
-            "Y<S`D$;R\\+QAUA>QA=EX$$",
-            "7\n",
-            Some("3 apples, 4 pears\n"),
-        ),
-        // Two registers as variables?
-        (
-            "",
-            "0UA1UB7<QA=QA+QBUCQBUAQCUB>$$",
-            "0\n1\n1\n2\n3\n5\n8\n",
-            None,
-        ),
-        // If and else?
-        (
-            "one\neleven\n",
-            "Y<.-Z;.UBL.-QB-5\"GQBJIlong $|QBJIshort $'L>EX$$",
-            "",
-            Some("short one\nlong eleven\n"),
-        ),
-        // The greater of two numbers?
-        ("", "3UA5UBQA-QB\"GQAUC|QBUC'QC=$$", "5\n", None),
-        // Without precedence: how is a sum of products written?
-        ("", "2*3+(4*5)=2*3+4*5=$$", "26\n50\n", None),
-    ],
+    "
+    // Each number one higher?
+    a1 b9 c99\n => Y<S`D$;R.UB\\UAQB,.KQA+1\\>EX$$ =>  => a2 b10 c100\n
+    // The sum of all numbers?
+    3 apples, 4 pears\n => Y<S`D$;R\\+QAUA>QA=EX$$ => 7\n => 3 apples, 4 pears\n
+    // Two registers as variables?
+     => 0UA1UB7<QA=QA+QBUCQBUAQCUB>$$ => 0\n1\n1\n2\n3\n5\n8\n
+    // If and else?
+    one\neleven\n => Y<.-Z;.UBL.-QB-5\"GQBJIlong $|QBJIshort $'L>EX$$ =>  => short one\nlong eleven\n
+    // The greater of two numbers?
+     => 3UA5UBQA-QB\"GQAUC|QBUC'QC=$$ => 5\n
+    // Without precedence: how is a sum of products written?
+     => 2*3+(4*5)=2*3+4*5=$$ => 26\n50\n
+    ",
 )];

@@ -3,16 +3,11 @@ use super::*;
 
 pub(super) static EXAMPLES: &[Group] = &[(
     LINE,
-    &[
-        (
-            "one colour\ntwo colours\n",
-            "Y<FScolour$color$;>EX$$",
-            "",
-            Some("one color\ntwo colors\n"),
-        ),
-        ("one\ntwo\n", "Y<.-Z;I> $L>EX$$", "", Some("> one\n> two\n")),
-        ("one\ntwo\nthree\n", "Y<Se$;0LTL>$$", "one\nthree\n", None),
-        ("one\none\n", "Y<FSone$1$;>EX$$", "", Some("1\n1\n")),
-        ("", "2*(3+4)=$$", "14\n", None),
-    ],
+    "
+    one colour\ntwo colours\n => Y<FScolour$color$;>EX$$ =>  => one color\ntwo colors\n
+    one\ntwo\n => Y<.-Z;I> $L>EX$$ =>  => > one\n> two\n
+    one\ntwo\nthree\n => Y<Se$;0LTL>$$ => one\nthree\n
+    one\none\n => Y<FSone$1$;>EX$$ =>  => 1\n1\n
+     => 2*(3+4)=$$ => 14\n
+    ",
 )];

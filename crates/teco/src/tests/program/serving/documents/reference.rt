@@ -3,75 +3,65 @@ use super::*;
 
 pub(super) static EXAMPLES: &[Group] = &[(
     LINE,
-    &[
-        ("", "2+3*4=2*(3+4)=12&10=12#3=$$", "2014815", None),
-        ("", "Iab$B=Z=.=$$", "022", None),
-        ("", "Iab$HT$$", "ab", None),
-        ("", "\x1eA=$$", "65", None),
-        ("", "Iab$-A=0A=$$", "98-1", None),
-        ("", "I-12c$J\\=.=$$", "-123", None),
-        ("", "42\\HT$$", "42", None),
-        ("", "12:=3=$$", "123", None),
-        ("", "8:==$$", "10", None),
-        ("", "Iab$1J.=J.=$$", "10", None),
-        ("", "Iabc$J2C.=R.=$$", "21", None),
-        ("", "Ia\nb$0L.=JL.=$$", "22", None),
-        ("", "Iab$HT$$", "ab", None),
-        ("", "65I$HT$$", "A", None),
-        ("", "\tx$Z=$$", "2", None),
-        ("", "Iabc$J2D-Z=HT$$", "-1c", None),
-        ("", "Ia\nb$JKHT0,1KZ=$$", "b0", None),
-        ("", "Iabc$1,2T0T$$", "babc", None),
-        ("", "Iab$V$$", "ab", None),
-        ("", "\x01hi\x01$$", "hi", None),
-        ("", "72\x14105\x14$$", "Hi", None),
-        ("", "7UAQA=$$", "7", None),
-        ("", "2%A=%A=$$", "23", None),
-        ("", "\x15Ahi$:QA=$$", "2", None),
-        ("", "Iabc$0,2XA:GA$$", "ab", None),
-        ("", "\x15Ahi$GAGAHT$$", "hihi", None),
-        ("", "1UA[A2UA]BQA=QB=$$", "21", None),
-        ("", "@\x15A/+1/2MA=$$", "3", None),
-        ("", "Ixabxab$JSab$.=-Sab$.=$$", "33", None),
-        ("", "Iab$:Sx$=$$", "0", None),
-        ("", "Iab$J::Sa$=.=$$", "-11", None),
-        ("", "Icat$JFSa$oa$HT$$", "coat", None),
-        ("", "0\x18IAb$J:SaB$=$$", "-1", None),
-        ("one\n\x0ctwo\n\x0cthree\n", "YHT$$", "one", None),
-        ("one\n\x0ctwo\n\x0cthree\n", "YAHT$$", "onetwo", None),
-        ("one\n\x0ctwo\n\x0cthree\n", "3PHT$$", "three", None),
-        ("one\n\x0ctwo\n\x0cthree\n", "YPWHT$$", "one", None),
-        (
-            "one\n\x0ctwo\n\x0cthree\n",
-            "YNthree$.=HT$$",
-            "5three",
-            None,
-        ),
-        ("one\n\x0ctwo\n\x0cthree\n", "_one$.=HT$$", "3one", None),
-        ("one\n\x0ctwo\n\x0cthree\n", ":Nx$=HT$$", "0three", None),
-        ("one\n\x0ctwo\n\x0cthree\n", "Y`=\x0e=$$", "-10", None),
-        (
-            "one\n\x0ctwo\n\x0cthree\n",
-            "YHTEX$$",
-            "one",
-            Some("one\n\x0ctwo\n\x0cthree\n"),
-        ),
-        ("", "3<Ix$>HT$$", "xxx", None),
-        ("", "Iaaa$J<Sa$;%A$>QA=$$", "3", None),
-        ("", "1\"G2=|3='4=$$", "24", None),
-        ("", "\x1e7\"D1='\x1eb\"W2='$$", "1", None),
-        ("", "Ox$1=!x!2=$$", "2", None),
-        ("", "1$2=$$", "2", None),
-        ("", "Ia$$Ib$$2{$$}$$HT$$", "a", None),
-        ("", "Ia$Ib$Ic$$2~$$HT$$", "ab", None),
-        ("", "Iab$JS\x18b$.=$$", "2", None),
-        ("", "Ia b$JS`B$.=$$", "2", None),
-        ("", "Iab$JS\x0ea$.=$$", "2", None),
-        ("", "Ia\x18b$J@S/\x11\x18/.=$$", "2", None),
-        ("", "Ia1$JS`A`D$.=$$", "2", None),
-        ("", "IaB$JS`W$.=$$", "2", None),
-        ("", "Ia\nb$JS`L$.=$$", "2", None),
-        ("", "Ia  b$JS`S$.=$$", "3", None),
-        ("", "Iabc$J@S/`[c,b]/.=$$", "2", None),
-    ],
+    "
+     => 2+3*4=2*(3+4)=12&10=12#3=$$ => 2014815
+     => Iab$B=Z=.=$$ => 022
+     => Iab$HT$$ => ab
+     => \x1eA=$$ => 65
+     => Iab$-A=0A=$$ => 98-1
+     => I-12c$J\\=.=$$ => -123
+     => 42\\HT$$ => 42
+     => 12:=3=$$ => 123
+     => 8:==$$ => 10
+     => Iab$1J.=J.=$$ => 10
+     => Iabc$J2C.=R.=$$ => 21
+     => Ia\nb$0L.=JL.=$$ => 22
+     => Iab$HT$$ => ab
+     => 65I$HT$$ => A
+     => \tx$Z=$$ => 2
+     => Iabc$J2D-Z=HT$$ => -1c
+     => Ia\nb$JKHT0,1KZ=$$ => b0
+     => Iabc$1,2T0T$$ => babc
+     => Iab$V$$ => ab
+     => \x01hi\x01$$ => hi
+     => 72\x14105\x14$$ => Hi
+     => 7UAQA=$$ => 7
+     => 2%A=%A=$$ => 23
+     => \x15Ahi$:QA=$$ => 2
+     => Iabc$0,2XA:GA$$ => ab
+     => \x15Ahi$GAGAHT$$ => hihi
+     => 1UA[A2UA]BQA=QB=$$ => 21
+     => @\x15A/+1/2MA=$$ => 3
+     => Ixabxab$JSab$.=-Sab$.=$$ => 33
+     => Iab$:Sx$=$$ => 0
+     => Iab$J::Sa$=.=$$ => -11
+     => Icat$JFSa$oa$HT$$ => coat
+     => 0\x18IAb$J:SaB$=$$ => -1
+    one\n\x0ctwo\n\x0cthree\n => YHT$$ => one
+    one\n\x0ctwo\n\x0cthree\n => YAHT$$ => onetwo
+    one\n\x0ctwo\n\x0cthree\n => 3PHT$$ => three
+    one\n\x0ctwo\n\x0cthree\n => YPWHT$$ => one
+    one\n\x0ctwo\n\x0cthree\n => YNthree$.=HT$$ => 5three
+    one\n\x0ctwo\n\x0cthree\n => _one$.=HT$$ => 3one
+    one\n\x0ctwo\n\x0cthree\n => :Nx$=HT$$ => 0three
+    one\n\x0ctwo\n\x0cthree\n => Y`=\x0e=$$ => -10
+    one\n\x0ctwo\n\x0cthree\n => YHTEX$$ => one => one\n\x0ctwo\n\x0cthree\n
+     => 3<Ix$>HT$$ => xxx
+     => Iaaa$J<Sa$;%A$>QA=$$ => 3
+     => 1\"G2=|3='4=$$ => 24
+     => \x1e7\"D1='\x1eb\"W2='$$ => 1
+     => Ox$1=!x!2=$$ => 2
+     => 1$2=$$ => 2
+     => Ia$$Ib$$2{$$}$$HT$$ => a
+     => Ia$Ib$Ic$$2~$$HT$$ => ab
+     => Iab$JS\x18b$.=$$ => 2
+     => Ia b$JS`B$.=$$ => 2
+     => Iab$JS\x0ea$.=$$ => 2
+     => Ia\x18b$J@S/\x11\x18/.=$$ => 2
+     => Ia1$JS`A`D$.=$$ => 2
+     => IaB$JS`W$.=$$ => 2
+     => Ia\nb$JS`L$.=$$ => 2
+     => Ia  b$JS`S$.=$$ => 3
+     => Iabc$J@S/`[c,b]/.=$$ => 2
+    ",
 )];
