@@ -49,7 +49,11 @@ pub struct Seen {
 fn lacks_memory(code: Option<Code>) -> bool
     ensures { result ≡ lacks_memory code }
 {
-    matches!(code, Some(Code::Mem) | Some(Code::Tty))
+    match code {
+        Some(Code::Mem) => true,
+        Some(Code::Tty) => true,
+        _ => false,
+    }
 }
 
 impl Walk {
@@ -171,10 +175,22 @@ impl Walk {
         ensures code { IfOk result (λ seen. seen.outcome.code ≡ (meant self.now.input self.now.text n).code) }
         ensures typed { IfOk result (λ seen. seen.typed.items ≡ (meant self.now.input self.now.text n).typed) }
     {
-        let alloc = *self.input.allocator();
-        let mut editor = Editor::new(Vec::from_slice(alloc, self.input.as_slice())?);
+        let mut editor = Editor::new(Vec::from_slice(self.alloc(), self.input.as_slice())?);
+        self.look_on(&mut editor, n)
+    }
+
+    /// Runs the string on an editor over the input.
+    fn look_on(&self, editor: &mut Editor, n: u64) -> Result<Seen, NoMemory>
+        requires { state_of editor.old ≡ beginning self.now.input }
+        ensures place { IfOk result (λ seen. IfSome seen.place
+            (λ p. IsPlaceAfter (beginning self.now.input) self.now.text seen.outcome.steps (told_of p))) }
+        ensures steps { IfOk result (λ seen. seen.outcome.steps ≡ (meant self.now.input self.now.text n).steps) }
+        ensures code { IfOk result (λ seen. seen.outcome.code ≡ (meant self.now.input self.now.text n).code) }
+        ensures typed { IfOk result (λ seen. seen.typed.items ≡ (meant self.now.input self.now.text n).typed) }
+    {
+        let alloc = self.alloc();
         let mut terminal = MemoryTerminal::new(alloc);
-        let stopped = run_where(&mut editor, self.text.as_slice(), n, &mut terminal, alloc);
+        let stopped = run_where(editor, self.text.as_slice(), n, &mut terminal, alloc);
         if lacks_memory(stopped.outcome.code) {
             return Err(NoMemory);
         }
