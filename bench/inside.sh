@@ -4,7 +4,7 @@ peers=inside
 
 # Writes a source of bench/inside with its sizes as WORK says.
 sized() {
-    sed "s/10_000_000/$(scaled 10000000)/; s/ 1_000_000/ $(scaled 1000000)/; s/16 << 20/$(scaled 16777216)/" "$BENCH/inside/$1"
+    sed "s/ 1_000_000;/ $(scaled 1000000);/; s/ 100;/ $(scaled 100);/; s/16 << 20/$(scaled 16777216)/" "$BENCH/inside/$1"
 }
 
 # Builds the program in Rattle in a repository of its own, over copies of the crates with what was proved of them.
