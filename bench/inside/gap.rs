@@ -139,6 +139,8 @@ fn main() -> Result<(), ()> {
     inserts(&mut buffer, TEXT / 2)?;
     told("middle", start, &buffer);
 
+    let mut buffer = filled(&text)?;
+    buffer.splice(0, TEXT / 10, b"");
     let start = Instant::now();
     moves(&mut buffer);
     told("moves", start, &buffer);
