@@ -1,6 +1,6 @@
 //! Lines and columns.
-ghost use Rattle.std.specs.Prelude.{◌≡◌, ◌≤◌, ◌+◌, length, take, count_by};
-ghost use Rattle.std.specs.List.{after_last};
+ghost use Rattle.std.specs.Prelude.{◌≡◌, ◌≤◌, ◌+◌, length, take, drop, count_by};
+ghost use Rattle.std.specs.List.{after_last, before_first};
 ghost use Rattle.teco_telling.specs.Spot.{is_newline, spot_of};
 
 use std::fmt;
@@ -38,6 +38,7 @@ pub fn line_end(text: &[u8], at: usize) -> usize
     requires { at ≤ length text.now }
     ensures from { at ≤ result }
     ensures within { result ≤ length text.now }
+    ensures value { result ≡ at + length (before_first is_newline (drop at text.now)) }
 {
     let mut end = at;
     while end < text.len() && text[end] != b'\n' {
