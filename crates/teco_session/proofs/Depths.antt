@@ -2,7 +2,7 @@
 use Rattle.std.proofs.Common.{◌≡◌, ℕ, zero, suc, ◌+◌, ◌-◌, ◌≤◌, Option, None, Some, List, [], ◌∷◌, ◌++◌, length, take, drop, reverse, refl, sym, ◌∙◌, ap, subst, arith}
 use Rattle.std.proofs.lemmas.List.{reverse-append, length-reverse, length-take-le, length-drop, drop-drop}
 use Rattle.std.proofs.Math.Seq.{take-add, drop-append_seam}
-use Rattle.teco_store.specs.State.{State, Body, state_at, beginning}
+use Rattle.teco_store.specs.State.{State, Body, state_at, paged_beginning}
 use Rattle.teco_store.specs.Entry.{body_back}
 use Rattle.teco_session.specs.History.{History, NotedString, state_after, AreMeant, HasBegun, IsHistory, without_first}
 use Rattle.teco_session.specs.Kept.{KeptString, KeptSession, done_strings, undone_strings, noted_as, first_body, done_notes, undone_notes, history_of, LeadBack, LeadForth, IsSession}
@@ -32,12 +32,14 @@ parts s (x ∷ notes) (suc n) m = let p = parts x.state notes n m.1 in record { 
 has_begun : (depth : Option ℕ) (s : State) (notes : List NotedString) (n : ℕ) → (depth ≡ None → n ≡ 0) → AreMeant s notes → HasBegun depth s → HasBegun depth (state_after s notes n)
 has_begun None s notes n none m b = rw (none refl) b
 has_begun (Some depth) s notes n none m b =
-    let dropped : List NotedString = b.1 in
+    let first : State = paged_beginning b.0 b.1 in
+    let dropped : List NotedString = b.2 in
     let p = parts s notes n m in (
       b.0,
+      b.1,
       dropped ++ take n notes,
-      AreMeant-append (beginning b.0) dropped (take n notes) b.2 (subst (λ (z : State). AreMeant z (take n notes)) b.3 p.first),
-      sym p.last ∙ ap (λ (z : State). state_after z (take n notes) (length (take n notes))) b.3 ∙ sym (state_after-append (beginning b.0) dropped (take n notes)),
+      AreMeant-append first dropped (take n notes) b.3 (subst (λ (z : State). AreMeant z (take n notes)) b.4 p.first),
+      sym p.last ∙ ap (λ (z : State). state_after z (take n notes) (length (take n notes))) b.4 ∙ sym (state_after-append first dropped (take n notes)),
     )
 
 IsHistory-without_first : (h : History) (n : ℕ) → (h.depth ≡ None → n ≡ 0) → n ≤ h.cursor → IsHistory h → IsHistory (without_first n h)

@@ -2,7 +2,7 @@
 -- other.
 use Rattle.std.specs.Prelude.{ℕ, ◌+◌, ◌-◌, ◌*◌, ◌≤◌, List, [], ◌∷◌, ◌++◌, length, take, drop, min, reverse, slice_index_or, Option}
 use Rattle.std.proofs.Common.{set}
-use Rattle.teco_store.specs.State.{State, Body, Full, IsSound, state_at, new_full, with_body}
+use Rattle.teco_store.specs.State.{State, Body, Full, IsSound, state_at, new_paged_full, with_body}
 use Rattle.teco_store.specs.Follows.{HasCome}
 use Rattle.teco_store.specs.Turn.{Note as Change}
 use Rattle.teco_store.specs.Entry.{body_back, notes_back, body_forth, notes_forth, FitsForth, before, since, held_in}
@@ -24,9 +24,17 @@ pub record KeptSession : Type 0 where
   pub cursor : ℕ
   pub depth : Option ℕ
 
--- the beginning, with this input
+-- the beginning, with this input and pages of so many lines
+abbrev pub new_paged_session : ℕ → Option ℕ → List ℕ → KeptSession
+new_paged_session lines depth input = record {
+  editor = new_paged_full lines input;
+  strings = [];
+  cursor = 0;
+  depth = depth;
+}
+
 abbrev pub new_session : Option ℕ → List ℕ → KeptSession
-new_session depth input = record { editor = new_full input; strings = []; cursor = 0; depth = depth }
+new_session depth input = new_paged_session 0 depth input
 
 -- the strings that are done, the last first, and those that are undone, the first first
 abbrev pub done_strings : KeptSession → List KeptString

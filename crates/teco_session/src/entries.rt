@@ -1,5 +1,5 @@
 //! The entries of a session: of every string that has begun, or of the last ones.
-ghost use Rattle.std.specs.Prelude.{◌≡◌, [], ◌∷◌, ◌++◌, ◌<◌, length, take, Some, IfOk, OnOk};
+ghost use Rattle.std.specs.Prelude.{◌≡◌, [], ◌∷◌, ◌++◌, ◌<◌, length, take, None, Some, IfOk, IsOk, OnOk};
 ghost use Rattle.std.proofs.Common.{set};
 ghost use Rattle.teco_store.specs.Entry.{body_back, body_forth, since, FitsBack, FitsForth};
 ghost use Rattle.teco_store.specs.Follows.{IsInOrder};
@@ -29,6 +29,17 @@ impl Entries {
         ensures { IfOk result (λ entries. (strings_of entries ≡ []) × (depth_of entries ≡ Some depth)) }
     {
         Ok(Entries::Last(HeapCircularBuffer::with_capacity(alloc, depth)?))
+    }
+
+    /// None of a session that keeps so many strings, or every string where there is no depth.
+    pub fn of_depth(alloc: Global, depth: Option<usize>) -> Result<Entries, NoMemory>
+        ensures none { IfOk result (λ entries. (strings_of entries ≡ []) × (depth_of entries ≡ depth)) }
+        ensures every { depth ≡ None → IsOk result }
+    {
+        match depth {
+            None => Ok(Entries::All(Vec::new(alloc))),
+            Some(depth) => Entries::with_depth(alloc, depth),
+        }
     }
 
     /// Where memory for strings comes from.

@@ -1,5 +1,6 @@
 //! A session: command strings, undo and redo, over one editor, with what leads from each whole state to the next.
 ghost use Rattle.std.specs.Prelude.{◌≡◌, ℕ, List, [], ◌<◌, ◌≤◌, length, vec_len, None, Some, IfOk, OnErr, OnOk, IsOk, ◌↔◌, IfSome, Ok, true, false};
+ghost use Rattle.std.specs.Option.{ForSome};
 ghost use Rattle.teco_exec.specs.Runs.{Runs, is_tty};
 ghost use Rattle.teco_exec.specs.StringMeaning.{string_meaning};
 ghost use Rattle.teco_exec.specs.Telling.{TellsPlace};
@@ -7,8 +8,8 @@ ghost use Rattle.teco_store.specs.Follows.{LeadsBack};
 ghost use Rattle.teco_store.specs.State.{IsSound, state_of};
 ghost use Rattle.teco_step.specs.Terminal.{Shows};
 ghost use Rattle.teco_session.specs.Answers.{answer_code, is_unbegun, outcome_of};
-ghost use Rattle.teco_session.specs.History.{IsHistory, IsWithinDepth, new_history, note_at, present, redone, rewound, state_after, undone};
-ghost use Rattle.teco_session.specs.Kept.{IsSession, IsSmall, HasRun, applied, cut_to, history_of, new_session, reverted, string_at};
+ghost use Rattle.teco_session.specs.History.{IsHistory, IsWithinDepth, new_history, new_paged_history, note_at, present, redone, rewound, state_after, undone};
+ghost use Rattle.teco_session.specs.Kept.{IsSession, IsSmall, HasRun, applied, cut_to, history_of, new_paged_session, new_session, reverted, string_at};
 ghost use Rattle.teco_session.specs.Step.{Step, RunStep, Reply, is_terminal_failure};
 ghost use Rattle.teco_session.specs.Play.{Play, ShowsAll, answers_of};
 
@@ -108,6 +109,28 @@ impl Session {
         let entries = Entries::with_depth(*input.allocator(), depth)?;
         Ok(Session {
             editor: Editor::new(input),
+            entries,
+            cursor: 0,
+        })
+    }
+
+    /// A new session over this input, of at most 2^30 bytes, whose pages end after so many lines too; 0 is any number of lines. It keeps
+    /// the last `depth` strings, for whose entries room is found here, or every string where there is no depth: then it takes no memory.
+    pub fn with_pages(
+        input: Vec<u8>,
+        lines: usize,
+        depth: Option<usize>,
+    ) -> Result<Session, NoMemory>
+        requires input { vec_len input ≤ FILE_LIMIT }
+        requires depth { ForSome depth (λ depth. (1 ≤ depth) × (depth ≤ DEPTH_LIMIT)) }
+        ensures value { IfOk result (λ session. session ≡ new_paged_session lines depth input.items) }
+        ensures history { IfOk result (λ session. history_of session
+            ≡ new_paged_history lines depth input.items) }
+        ensures every { depth ≡ None → IsOk result }
+    {
+        let entries = Entries::of_depth(*input.allocator(), depth)?;
+        Ok(Session {
+            editor: Editor::with_page_lines(input, lines),
             entries,
             cursor: 0,
         })

@@ -160,7 +160,7 @@ unfolding page_of
 no_page s over =
     let at_end : s.place ≡ length s.input = (Decides-eqb s.place (length s.input)).0 over in
     let none : left_of s ≡ [] = drop_of_length-le s.input (omega arith) in
-    ap (λ left. length (page_of left)) none
+    ap (λ left. length (page_of s.page_lines left)) none
 
 more_moves_by : (s : State) (b : Bool) → is_input_over s ≡ b → Moves s (cond b s (record (past_page s) { text = s.text ++ page s })) (length (page s))
 more_moves_by s true over = subst (λ n. Moves s s n) (sym (no_page s over)) (nothing_moves s)

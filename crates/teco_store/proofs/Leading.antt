@@ -22,6 +22,7 @@ with_end n s = record {
   pushed = s.pushed;
   input = s.input;
   place = s.place;
+  page_lines = s.page_lines;
   output = n;
   form_feed = s.form_feed;
   last_search = s.last_search;

@@ -2,7 +2,8 @@ pub mod Bounds
 pub mod Entries
 pub mod Exits
 pub mod Fitting
-pub mod FormFeeds
+pub mod PageEnds
+pub mod PageLines
 pub mod Halves
 pub mod Joining
 pub mod Leading

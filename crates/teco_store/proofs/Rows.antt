@@ -6,7 +6,7 @@ use Rattle.teco_core.specs.Register.{blank}
 use Rattle.teco_core.specs.declared.case_mode.CaseMode.TheVariants.{Either}
 use Rattle.teco_store.specs.Page.{page_of, page_load, is_input_over, with_page, with_more, with_next_page, with_range_written, finished}
 use Rattle.teco_store.specs.Search.{noted, replaced_noted, note_load}
-use Rattle.teco_store.specs.State.{State, beginning, with_register_number, with_register_text, pushed_from, popped_into, with_case}
+use Rattle.teco_store.specs.State.{State, beginning, paged_beginning, with_register_number, with_register_text, pushed_from, popped_into, with_case}
 
 -- the bytes of a text; ~ is a form feed
 abbrev bytes : String → List ℕ
@@ -42,6 +42,30 @@ appended_pages :
     × (with_more (record at_last { form_feed = true }) ≡ record at_last { form_feed = true })
 unfolding page_of
 appended_pages = (refl, refl)
+
+-- Pages of two lines, from the beginning of these bytes.
+abbrev two_lines_each : String → State
+two_lines_each text = paged_beginning 2 (bytes text)
+
+pages_of_lines :
+    -- fewer lines, and no line end at the end of the input
+    (with_page (two_lines_each "a\nb") ≡ record (two_lines_each "a\nb") { text = bytes "a\nb"; place = 3 })
+    -- just two: with no input left the next page is empty
+    × (with_page (two_lines_each "a\nb\n") ≡ record (two_lines_each "a\nb\n") { text = bytes "a\nb\n"; place = 4 })
+    -- more: no form feed is written after the page, since none was read
+    × (with_next_page (with_page (two_lines_each "a\nb\nc")) ≡ record (two_lines_each "a\nb\nc") { text = bytes "c"; place = 5; output = bytes "a\nb\n" })
+    -- A line may end with VT.
+    × (with_page (two_lines_each "a\u{b}\nb") ≡ record (two_lines_each "a\u{b}\nb") { text = bytes "a\u{b}\n"; place = 3 })
+    -- A form feed ends the page before the second line end does.
+    × (with_page (two_lines_each "a\nb~c\n") ≡ record (two_lines_each "a\nb~c\n") { text = bytes "a\nb"; place = 4; form_feed = true })
+    -- One right after it is the next page's, which is empty.
+    × (with_page (two_lines_each "a\nb\n~c") ≡ record (two_lines_each "a\nb\n~c") { text = bytes "a\nb\n"; place = 4 })
+    × (with_next_page (with_page (two_lines_each "a\nb\n~c")) ≡ record (two_lines_each "a\nb\n~c") { place = 5; output = bytes "a\nb\n"; form_feed = true })
+    -- The next two lines come after the text.
+    × (with_more (with_page (two_lines_each "a\nb\nc\nd\ne")) ≡ record (two_lines_each "a\nb\nc\nd\ne") { text = bytes "a\nb\nc\nd\n"; place = 8 })
+    × (finished (with_page (two_lines_each "a\nb\nc")) ≡ record (two_lines_each "a\nb\nc") { place = 5; output = bytes "a\nb\nc"; is_done = true })
+unfolding page_of
+pages_of_lines = (refl, refl, refl, refl, refl, refl, refl, refl, refl)
 
 -- Read, turned and finished, the output is the input.
 abbrev two_lines : List ℕ

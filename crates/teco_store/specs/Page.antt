@@ -1,18 +1,34 @@
 -- Pages: the input is read, and the output written, page by page.
-use Rattle.std.specs.Prelude.{ℕ, ◌+◌, Bool, true, false, not, List, [], ◌∷◌, ◌++◌, length, take, drop, take_while, nat_lt, ◌==◌, if◌then◌else◌}
+use Rattle.std.specs.Prelude.{ℕ, ◌+◌, ◌-◌, Bool, true, false, List, [], ◌∷◌, ◌++◌, length, take, drop, ◌==◌, ◌&&◌, if◌then◌else◌}
+use Rattle.teco_core.specs.Ascii.{is_line_end}
 use Rattle.teco_store.specs.State.{Body, State, StateOver, replaced}
 
--- A page is what is left of the input, up to its first form feed.
-unfoldable pub page_of : List ℕ → List ℕ
-page_of left = take_while (λ b. not (b == 12)) left
+-- whether a byte ends the last of so many lines; of 0 lines none is the last
+abbrev pub ends_lines : ℕ → ℕ → Bool
+ends_lines lines b = is_line_end b && lines == 1
 
--- whether a form feed ends it
-abbrev pub is_ended : List ℕ → Bool
-is_ended left = nat_lt (length (page_of left)) (length left)
+-- how many of so many lines are left after a byte; of 0, which is any number, 0
+abbrev pub lines_after : ℕ → ℕ → ℕ
+lines_after lines b = if is_line_end b then lines - 1 else lines
+
+-- A page is what is left of the input, up to its first form feed, or up to and with the end of the line of this number, if that comes
+-- first; 0 is the number of no line.
+unfoldable pub page_of : ℕ → List ℕ → List ℕ
+page_of lines [] = []
+page_of lines (b ∷ bs) =
+    if b == 12 then []
+    else (b ∷ (if ends_lines lines b then [] else page_of (lines_after lines b) bs))
+
+-- Whether a form feed ends it. One right after the last of its lines doesn't: it ends the next page, which is empty.
+abbrev pub is_ended : ℕ → List ℕ → Bool
+is_ended lines [] = false
+is_ended lines (b ∷ bs) =
+    if b == 12 then true
+    else (if ends_lines lines b then false else is_ended (lines_after lines b) bs)
 
 -- the bytes that reading it takes, its form feed too
-abbrev pub page_span : List ℕ → ℕ
-page_span left = length (page_of left) + (if is_ended left then 1 else 0)
+abbrev pub page_span : ℕ → List ℕ → ℕ
+page_span lines left = length (page_of lines left) + (if is_ended lines left then 1 else 0)
 
 -- what is left of the input
 abbrev pub left_of : {O : Type 0} → StateOver O → List ℕ
@@ -23,11 +39,14 @@ is_input_over s = s.place == length s.input
 
 -- the next page
 abbrev pub page : {O : Type 0} → StateOver O → List ℕ
-page s = page_of (left_of s)
+page s = page_of s.page_lines (left_of s)
 
 -- The place is after the next page and its form feed, and the flag says whether it had one.
 abbrev pub past_page : {O : Type 0} → StateOver O → StateOver O
-past_page s = record s { place = s.place + page_span (left_of s); form_feed = is_ended (left_of s) }
+past_page s = record s {
+  place = s.place + page_span s.page_lines (left_of s);
+  form_feed = is_ended s.page_lines (left_of s);
+}
 
 -- The next page replaces the buffer; the pointer is at its beginning.
 abbrev pub with_page : State → State

@@ -16,6 +16,7 @@ pub record StateOver (O : Type 0) : Type 0 where
   pub pushed : List Content  -- at most 64, the last pushed first
   pub input : List ℕ
   pub place : ℕ  -- in the input
+  pub page_lines : ℕ  -- the lines at which a page ends; 0 for pages of any number of lines
   pub output : O
   pub form_feed : Bool  -- whether a form feed ended the page
   pub last_search : Option (List ℕ)  -- the last search text
@@ -47,6 +48,7 @@ state_at stored b = record {
   pushed = b.pushed;
   input = b.input;
   place = b.place;
+  page_lines = b.page_lines;
   output = take b.output stored;
   form_feed = b.form_feed;
   last_search = b.last_search;
@@ -79,7 +81,7 @@ abbrev pub IsEnd : Option ℕ → ℕ → Type 0
 IsEnd None n = FILE_LIMIT < n
 IsEnd (Some end) n = (end ≡ n) × (n ≤ FILE_LIMIT)
 
--- the beginning, with this output and this input
+-- the beginning, with this output and this input, and pages of any number of lines
 abbrev pub beginning_over : {O : Type 0} → O → List ℕ → StateOver O
 beginning_over output input = record {
   text = [];
@@ -88,6 +90,7 @@ beginning_over output input = record {
   pushed = [];
   input = input;
   place = 0;
+  page_lines = 0;
   output = output;
   form_feed = false;
   last_search = None;
@@ -100,9 +103,24 @@ beginning_over output input = record {
 abbrev pub beginning : List ℕ → State
 beginning input = beginning_over [] input
 
--- an editor at the beginning
+-- a state whose pages end after so many lines. No call changes this number.
+abbrev pub with_page_lines : {O : Type 0} → ℕ → StateOver O → StateOver O
+with_page_lines lines s = record s { page_lines = lines }
+
+-- the beginning, with pages of so many lines
+abbrev pub paged_beginning : ℕ → List ℕ → State
+paged_beginning lines input = with_page_lines lines (beginning input)
+
+-- an editor at the beginning, with pages of so many lines
+abbrev pub new_paged_full : ℕ → List ℕ → Full
+new_paged_full lines input = record {
+  body = with_page_lines lines (beginning_over 0 input);
+  stored = [];
+  room = 0;
+}
+
 abbrev pub new_full : List ℕ → Full
-new_full input = record { body = beginning_over 0 input; stored = []; room = 0 }
+new_full input = new_paged_full 0 input
 
 -- each of these texts is within its limit
 abbrev pub AreSmall : List Content → Type 0

@@ -13,6 +13,7 @@ body_in e = record {
   pushed = e.pushed;
   input = e.input.items;
   place = e.place;
+  page_lines = e.page_lines;
   output = e.shown;
   form_feed = e.form_feed;
   last_search = option_map (λ v. v.items) e.last_search;

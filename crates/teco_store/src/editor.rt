@@ -1,6 +1,6 @@
 //! The editor: one editing state.
 ghost use Rattle.std.specs.Prelude.{◌≡◌, ◌≤◌, vec_len, IfOk};
-ghost use Rattle.teco_store.specs.State.{new_full, state_of};
+ghost use Rattle.teco_store.specs.State.{new_full, new_paged_full, state_of};
 
 mod putting;
 mod storing;
@@ -17,7 +17,8 @@ use teco_gap::GapBuffer;
 /// search left.
 ///
 /// A clause sees it as its body, the output that is stored, and the capacity of the buffer. The output ends after its first `shown`
-/// bytes: what is stored beyond them was written and taken back, and the next write drops it.
+/// bytes: what is stored beyond them was written and taken back, and the next write drops it. A page ends at a form feed, and after
+/// `page_lines` lines where that is not 0.
 #[derive(Drop)]
 pub struct Editor {
     text: GapBuffer,
@@ -26,6 +27,7 @@ pub struct Editor {
     pushed: PushList,
     input: Vec<u8>,
     place: usize,
+    page_lines: usize,
     output: Output,
     shown: usize,
     form_feed: bool,
@@ -52,6 +54,14 @@ impl Editor {
         requires { vec_len input ≤ FILE_LIMIT }
         ensures { result ≡ new_full input.items }
     {
+        Editor::with_page_lines(input, 0)
+    }
+
+    /// The beginning of a session with this input, whose pages end after so many lines too; 0 is any number of lines. Takes no memory.
+    pub fn with_page_lines(input: Vec<u8>, lines: usize) -> Editor
+        requires { vec_len input ≤ FILE_LIMIT }
+        ensures { result ≡ new_paged_full lines input.items }
+    {
         let alloc = *input.allocator();
         Editor {
             text: GapBuffer::new(),
@@ -60,6 +70,7 @@ impl Editor {
             pushed: PushList::new(alloc),
             input,
             place: 0,
+            page_lines: lines,
             output: Output::new(alloc),
             shown: 0,
             form_feed: false,
@@ -183,7 +194,7 @@ impl Desk for Editor {
     }
 
     fn read_page(&mut self) -> Result<(), Refused> {
-        let page = next_page(&self.input[self.place..]);
+        let page = next_page(&self.input[self.place..], self.page_lines);
         if page.bytes.len() > TEXT_LIMIT {
             return Err(Refused::Big);
         }
@@ -199,7 +210,7 @@ impl Desk for Editor {
         if self.place == self.input.len() {
             return Ok(());
         }
-        let page = next_page(&self.input[self.place..]);
+        let page = next_page(&self.input[self.place..], self.page_lines);
         let end = self.text.len();
         if is_past(TEXT_LIMIT, end, page.bytes.len()) {
             return Err(Refused::Big);
@@ -216,7 +227,9 @@ impl Desk for Editor {
     }
 
     fn turn_page(&mut self) -> Result<(), Refused> {
-        let len = next_page(&self.input[self.place..]).bytes.len();
+        let len = next_page(&self.input[self.place..], self.page_lines)
+            .bytes
+            .len();
         if len > TEXT_LIMIT {
             return Err(Refused::Big);
         }
@@ -224,7 +237,7 @@ impl Desk for Editor {
             return Err(Refused::Big);
         };
         self.store_page(len)?;
-        let page = next_page(&self.input[self.place..]);
+        let page = next_page(&self.input[self.place..], self.page_lines);
         replace_text(&mut self.text, page.bytes);
         self.pointer = 0;
         self.place += page.bytes.len() + usize::from(page.form_feed);

@@ -5,10 +5,14 @@ ghost use Rattle.teco_gap.specs.Gap.{text};
 ghost use Rattle.teco_store.specs.Page.{page_of, is_ended, form_feed_if};
 ghost use Rattle.teco_store.specs.State.{IsEnd};
 
-use memchr::memchr;
+use memchr::{memchr, memchr3};
 use std::alloc::Global;
 use teco_core::{FILE_LIMIT, NoMemory};
 use teco_gap::GapBuffer;
+
+const LINE_FEED: u8 = 10;
+
+const VERTICAL_TAB: u8 = 11;
 
 const FORM_FEED: u8 = 12;
 
@@ -19,10 +23,23 @@ pub(crate) struct Page<'a> {
     pub(crate) form_feed: bool,
 }
 
-// The next page of what is left of the input.
-pub(crate) fn next_page(left: &[u8]) -> Page<'_>
-    ensures bytes { result.bytes.now ≡ page_of left.now }
-    ensures form_feed { result.form_feed ≡ is_ended left.now }
+// The next page of what is left of the input. No more than the page is looked at, and the byte after it.
+pub(crate) fn next_page(left: &[u8], lines: usize) -> Page<'_>
+    ensures bytes { result.bytes.now ≡ page_of lines left.now }
+    ensures form_feed { result.form_feed ≡ is_ended lines left.now }
+    ensures within { length result.bytes.now + (if result.form_feed then 1 else 0) ≤ length left.now }
+{
+    if lines == 0 {
+        page_to_form_feed(left)
+    } else {
+        page_of_lines(left, lines)
+    }
+}
+
+// The next page, where lines don't end it.
+fn page_to_form_feed(left: &[u8]) -> Page<'_>
+    ensures bytes { result.bytes.now ≡ page_of 0 left.now }
+    ensures form_feed { result.form_feed ≡ is_ended 0 left.now }
     ensures within { length result.bytes.now + (if result.form_feed then 1 else 0) ≤ length left.now }
 {
     match memchr(FORM_FEED, left) {
@@ -34,6 +51,36 @@ pub(crate) fn next_page(left: &[u8]) -> Page<'_>
             bytes: &left[..end],
             form_feed: true,
         },
+    }
+}
+
+// The next page, where it ends after so many lines too.
+fn page_of_lines(left: &[u8], lines: usize) -> Page<'_>
+    requires { 0 < lines }
+    ensures bytes { result.bytes.now ≡ page_of lines left.now }
+    ensures form_feed { result.form_feed ≡ is_ended lines left.now }
+    ensures within { length result.bytes.now + (if result.form_feed then 1 else 0) ≤ length left.now }
+{
+    let mut end = 0;
+    for _line in 0..lines {
+        let Some(more) = memchr3(LINE_FEED, VERTICAL_TAB, FORM_FEED, &left[end..]) else {
+            return Page {
+                bytes: left,
+                form_feed: false,
+            };
+        };
+        let at = end + more;
+        if left[at] == FORM_FEED {
+            return Page {
+                bytes: &left[..at],
+                form_feed: true,
+            };
+        }
+        end = at + 1;
+    }
+    Page {
+        bytes: &left[..end],
+        form_feed: false,
     }
 }
 

@@ -153,7 +153,7 @@ impl Editor {
             (turn.Splice at there pointer (page self.old.body)) self.old.body }
         ensures room { HasRoom result }
     {
-        let page = next_page(&self.input[self.place..]);
+        let page = next_page(&self.input[self.place..], self.page_lines);
         let place = Place {
             at: at as u32,
             there: page.bytes.len() as u32,

@@ -36,12 +36,12 @@ impl Editor {
     // The next page of the input.
     pub(crate) fn page(&self) -> Page<'_>
         ensures bytes { result.bytes.now ≡ page self.now.body }
-        ensures form_feed { result.form_feed ≡ is_ended (left_of self.now.body) }
-        ensures within { self.now.body.place + page_span
+        ensures form_feed { result.form_feed ≡ is_ended self.now.body.page_lines (left_of self.now.body) }
+        ensures within { self.now.body.place + page_span self.now.body.page_lines
             (left_of self.now.body) ≤ length self.now.body.input }
         ensures sound { IsSound self.now.room (length self.now.stored) self.now.body }
     {
-        next_page(&self.input[self.place..])
+        next_page(&self.input[self.place..], self.page_lines)
     }
 
     // Drops what is stored beyond the output's end.

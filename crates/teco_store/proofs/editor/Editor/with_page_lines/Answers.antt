@@ -5,7 +5,7 @@ use Rattle.teco_core.specs.Number.{IsNumber}
 use Rattle.teco_core.specs.Register.{Content, blank}
 use Rattle.teco_core.specs.declared.limits.TheConstants.{TEXT_LIMIT}
 use Rattle.teco_store.specs.State.{AreNumbers, AreSmall}
-use Rattle.teco_store.proofs.editor.Editor.new.Goals as goal
+use Rattle.teco_store.proofs.editor.Editor.with_page_lines.Goals as goal
 
 blank_fits : IsNumber blank.number
 blank_fits = (omega (arith, ints), omega (arith, ints))
