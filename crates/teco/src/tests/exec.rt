@@ -4,6 +4,7 @@ mod conditionals;
 mod iterations;
 mod jumps;
 mod laws;
+mod page_lines;
 mod page_turns;
 mod places;
 pub(crate) mod strings;

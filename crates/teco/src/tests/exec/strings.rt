@@ -12,6 +12,8 @@ use teco_store::{Desk, Editor};
 #[derive(Clone, Copy)]
 pub(crate) struct Row<'a> {
     pub(crate) input: &'a [u8],
+    /// The lines of a page; 0 for any number.
+    pub(crate) page_lines: usize,
     pub(crate) text: &'a [u8],
     pub(crate) limit: u64,
     pub(crate) code: Option<Code>,
@@ -27,6 +29,7 @@ impl<'a> Row<'a> {
     pub(crate) fn new(text: &'a [u8], typed: &'a str, code: Option<Code>) -> Row<'a> {
         Row {
             input: b"",
+            page_lines: 0,
             text,
             limit: 1000,
             code,
@@ -37,10 +40,10 @@ impl<'a> Row<'a> {
     }
 }
 
-fn editor_over(alloc: Global, input: &[u8]) -> Editor {
-    let mut input = joined(alloc, &[input]);
+fn editor_over(alloc: Global, row: &Row) -> Editor {
+    let mut input = joined(alloc, &[row.input]);
     input.truncate(FILE_LIMIT);
-    Editor::new(input)
+    Editor::with_page_lines(input, row.page_lines)
 }
 
 fn has_written(editor: &Editor, written: Option<(&str, bool)>) -> bool {
@@ -77,7 +80,7 @@ fn try_on(editor: &mut Editor, terminal: &mut MemoryTerminal, row: &Row) -> Opti
 
 /// Whether a row holds; none where it lacked memory.
 fn try_row(alloc: Global, row: &Row) -> Option<bool> {
-    let mut editor = editor_over(alloc, row.input);
+    let mut editor = editor_over(alloc, row);
     let mut terminal = MemoryTerminal::new(alloc);
     try_on(&mut editor, &mut terminal, row)
 }

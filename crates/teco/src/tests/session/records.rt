@@ -1,9 +1,10 @@
 //! What strings leave for their undo: how much it is, and the pages that it turns back.
 use super::requests::session_over;
-use crate::tests::bytes::are_both;
+use crate::tests::bytes::{are_both, joined};
 use std::alloc::Global;
 use std::process::Abort;
 use std::test::*;
+use teco_core::FILE_LIMIT;
 use teco_session::{Answer, Session};
 use teco_step::MemoryTerminal;
 use teco_store::{ChangeKind, Desk};
@@ -226,4 +227,49 @@ fn pages_once(alloc: Global) -> bool {
 fn pages_come_back(rt: HostRuntime) {
     let held = pages_once(rt.alloc()) || pages_once(rt.alloc());
     assert!(rt; held, "a page turned back and forth");
+}
+
+/// An input of three lines.
+fn three_lines(alloc: Global) -> Vec<u8> {
+    let mut input = joined(alloc, &[b"one\ntwo\nthree\n"]);
+    input.truncate(FILE_LIMIT);
+    input
+}
+
+/// Whether a page that lines ended is turned back with its output, and forth again.
+fn page_of_lines_turns_back(session: &mut Session, term: &mut MemoryTerminal) -> bool {
+    runs(session, &[b"YP\x1b"], term)
+        && has(session, b"three\n", b"one\ntwo\n")
+        && session.undo().is_ok()
+        && has(session, b"", b"")
+        && session.redo().is_ok()
+        && has(session, b"three\n", b"one\ntwo\n")
+}
+
+/// Whether a session that keeps one string goes back to the page before it, and no further.
+fn last_page_turns_back(session: &mut Session, term: &mut MemoryTerminal) -> bool {
+    runs(session, &[b"Y\x1b", b"P\x1b"], term)
+        && has(session, b"three\n", b"one\ntwo\n")
+        && session.undo().is_ok()
+        && has(session, b"one\ntwo\n", b"")
+        && session.undo().is_err()
+        && session.redo().is_ok()
+        && has(session, b"three\n", b"one\ntwo\n")
+}
+
+fn pages_of_lines_once(alloc: Global) -> bool {
+    let mut term = MemoryTerminal::new(alloc);
+    let (Some(mut session), Some(mut last)) = (
+        Session::with_pages(three_lines(alloc), 2, None).ok(),
+        Session::with_pages(three_lines(alloc), 2, Some(1)).ok(),
+    ) else {
+        return false;
+    };
+    page_of_lines_turns_back(&mut session, &mut term) && last_page_turns_back(&mut last, &mut term)
+}
+
+#[test]
+fn pages_of_lines_come_back(rt: HostRuntime) {
+    let held = pages_of_lines_once(rt.alloc()) || pages_of_lines_once(rt.alloc());
+    assert!(rt; held, "a page of lines turned back and forth");
 }
