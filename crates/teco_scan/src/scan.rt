@@ -18,7 +18,7 @@ use teco_core::{Code, is_filler};
 
 /// The place after the fillers.
 #[tactic(auto, using(crate::proofs::Places::front, crate::proofs::Places::no_front), unfolding(crate::specs::Scan::after_fillers))]
-fn filler_end(text: &[u8], at: usize) -> usize
+pub(crate) fn filler_end(text: &[u8], at: usize) -> usize
     requires { at ≤ length text.now }
     ensures read { drop result text.now ≡ after_fillers (drop at text.now) }
     ensures within { (at ≤ result) × (result ≤ length text.now) }
