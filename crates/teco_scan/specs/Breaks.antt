@@ -1,5 +1,5 @@
 -- Where a list of a text breaks.
-use Rattle.std.specs.Prelude.{◌≡◌, ℕ, ◌+◌, ◌-◌, ◌<◌, ◌≤◌, true, List, length, drop, Some, None, Ok}
+use Rattle.std.specs.Prelude.{◌≡◌, ℕ, ◌+◌, ◌-◌, ◌<◌, ◌≤◌, true, List, length, drop, Option, Some, None, Ok}
 use Rattle.teco_core.specs.declared.code.Code.{Code}
 use Rattle.teco_core.specs.declared.code.Code.TheVariants.{Pdo, Utc}
 use Rattle.teco_core.specs.declared.limits.TheConstants.{BLOCK_LIMIT}
@@ -10,7 +10,8 @@ use Rattle.teco_scan.specs.declared.breaks.OpenList.{OpenList}
 use Rattle.teco_scan.specs.declared.command.BlockMark.{BlockMark}
 use Rattle.teco_scan.specs.Scan.{TokenMeaning, found, ended, fault, scan, after_fillers}
 use Rattle.teco_scan.specs.Skip.{closing_mark, opened_kind}
-use Rattle.teco_scan.specs.Lists.{broken, closed, at_mark, behind_block, list_at}
+use Rattle.teco_scan.specs.Lists.{broken, closed, at_mark, behind_block, list_at, nodes}
+use Rattle.teco_scan.specs.Nesting.{is_whole}
 
 -- A token begins at the first byte from a place on that is no filler, or at the end where none is left.
 pub record IsTokenPlace (text : List ℕ) (at to : ℕ) : Type 0 where
@@ -79,3 +80,12 @@ pub data Breaks : List ℕ → OpenList → ℕ → Fault → Type 0 where
       → behind_block list_at kind (list.depth + 1) (list_at (Some kind) (list.depth + 1) (drop to text)).1 ≡ Ok (drop next text)
       → Breaks text list next there
       → Breaks text list at there
+
+-- the text's own list
+abbrev pub whole_list : OpenList
+whole_list = record { kind = None; start = 0; depth = 0 }
+
+-- This is the first fault of a text: where its own list breaks. Where it has none, its nodes are whole.
+abbrev pub IsFirstFault : List ℕ → Option Fault → Type 0
+IsFirstFault text (Some there) = Breaks text whole_list 0 there
+IsFirstFault text None = is_whole (nodes text) ≡ true

@@ -1,7 +1,7 @@
 //! Where a list of a text breaks.
 ghost use Rattle.std.specs.Prelude.{◌≡◌, ◌≢◌, ◌+◌, ◌<◌, ◌≤◌, ℕ, true, false, List, length, drop, IfSome, Option, Some, None, Err, is_none};
 ghost use Rattle.teco_core.specs.declared.limits.TheConstants.{BLOCK_LIMIT};
-ghost use Rattle.teco_scan.specs.Breaks.{Breaks, IsTokenPlace, fault_at, inside_list, opening};
+ghost use Rattle.teco_scan.specs.Breaks.{Breaks, IsFirstFault, IsTokenPlace, fault_at, inside_list, opening};
 ghost use Rattle.teco_scan.specs.Scan.{Instruction, TokenMeaning, ended, found, scan};
 ghost use Rattle.teco_scan.specs.Skip.{closing_mark, opened_kind};
 ghost use Rattle.teco_scan.specs.Lists.{at_instruction, at_mark, broken, list_at};
@@ -146,9 +146,7 @@ fn past_block(text: &[u8], list: OpenList, kind: Kind, start: usize) -> (OpenLis
 
 /// Where a list of a text first breaks, from a place in it on. There is none where it closes, or where the text's own list goes on to
 /// the end of the text.
-///
-/// It takes no memory. A list that breaks in a block is passed once for each block around the fault.
-pub fn first_fault(text: &[u8], list: OpenList, at: usize) -> Option<Fault>
+fn first_fault_from(text: &[u8], list: OpenList, at: usize) -> Option<Fault>
     requires inside { at ≤ length text.now }
     requires few { list.depth ≤ BLOCK_LIMIT }
     ensures breaks { IfSome result (λ fault. Breaks text.now list at fault) }
@@ -172,6 +170,20 @@ pub fn first_fault(text: &[u8], list: OpenList, at: usize) -> Option<Fault>
             },
         }
     }
+}
+
+/// The first fault of a text, if it has one: where its own list breaks.
+///
+/// It takes no memory. What comes before the fault in a block is passed once for each block around it.
+pub fn first_fault(text: &[u8]) -> Option<Fault>
+    ensures { IsFirstFault text.now result }
+{
+    let whole = OpenList {
+        kind: None,
+        start: 0,
+        depth: 0,
+    };
+    first_fault_from(text, whole, 0)
 }
 
 /// The laws of faults, as clauses: where a list breaks, it is broken by that code, and the place lies in the text. The call does

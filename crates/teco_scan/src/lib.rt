@@ -16,6 +16,6 @@ pub use command::{
     Arithmetic, Bare, BlockMark, Command, Form, LevelCommand, Modifiers, Name, Quantity,
     RegisterCommand, Row, Test, TextCommand,
 };
-pub use scan::{spelling, token_at};
+pub use scan::{filler_end, spelling, token_at};
 pub use table::ROWS;
 pub use token::{Found, Item, Span, Token, TokenKind};

@@ -4,7 +4,7 @@ use Rattle.teco_scan.specs.declared.breaks.Fault.{Fault}
 use Rattle.teco_scan.specs.Breaks.{Breaks}
 use Rattle.teco_scan.specs.Lists.{list_at}
 use Rattle.teco_scan.specs.Nesting.{is_whole}
-use Rattle.teco_scan.proofs.breaks.first_fault.Given as goal
+use Rattle.teco_scan.proofs.breaks.first_fault_from.Given as goal
 
 -- A fault of the list at hand is one of the list that was given, and both are whole or neither is.
 abbrev pub invariant-loop-code : goal.invariant-loop-code

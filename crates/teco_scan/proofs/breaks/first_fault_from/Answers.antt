@@ -8,7 +8,7 @@ use Rattle.teco_scan.specs.Scan.{Instruction, ended, fault, found}
 use Rattle.teco_scan.specs.Seen.{IsTokenAt, instruction_in, meaning_in}
 use Rattle.teco_scan.proofs.Breaking.{deep_whole, end_whole, found_whole, token_whole, wrong_whole}
 use Rattle.teco_scan.proofs.SkipSteps.{closing_is}
-use Rattle.teco_scan.proofs.breaks.first_fault.Goals as goal
+use Rattle.teco_scan.proofs.breaks.first_fault_from.Goals as goal
 
 -- the token is at its place
 token_here : (text : List ℕ) (at : ℕ) (t : Token) → IsTokenAt text at t → IsTokenPlace text at t.span.from
