@@ -13,7 +13,6 @@ pub mod Stepped
 pub mod Continuations
 pub mod NoMemory
 pub mod Standings
-pub mod Fronts
 pub mod Turns
 pub mod Outermost
 pub mod Placings

@@ -1,19 +1,21 @@
 -- Places that are told: fillers before a token, turns of blocks, and calls.
-use Rattle.std.proofs.Common.{◌≡◌, ℕ, suc, ◌+◌, ◌++◌, Bool, true, false, List, [], ◌∷◌, drop, map, Option, Some, None, IfOk, IfSome, IsSomeAnd, MatchOption, Result, Ok, Err, ◌↔◌, arith, refl, sym, ap, subst, ◌∙◌, if◌then◌else◌}
-use Rattle.std.proofs.lemmas.List.{drop-drop}
+use Rattle.std.proofs.Common.{◌≡◌, ℕ, suc, ◌+◌, ◌++◌, Bool, true, false, List, [], ◌∷◌, ◌≤◌, drop, length, map, Option, Some, None, IfOk, IfSome, IsSomeAnd, MatchOption, Result, Ok, Err, ◌↔◌, arith, refl, sym, ap, subst, ◌∙◌, if◌then◌else◌}
+use Rattle.std.proofs.lemmas.List.{drop-drop, length-drop}
 use Rattle.teco_core.specs.Ascii.{is_filler}
 use Rattle.teco_scan.specs.Scan.{TokenMeaning, scan, scan_here, after_fillers}
+use Rattle.teco_scan.specs.Breaks.{IsTokenPlace}
+use Rattle.teco_store.specs.State.{State}
 use Rattle.teco_exec.specs.CursorMoves.{Frame}
 use Rattle.teco_exec.specs.Machine.{Caller}
-use Rattle.teco_exec.specs.Places.{CallToken, HaveCalled, IsCallOf, IsPlaceAfter, IsReadAt, IsTokenPlace, Told, call_token, open_turns, stands_after, told_here, with_call}
+use Rattle.teco_exec.specs.Places.{CallToken, HaveCalled, IsCallOf, IsPlaceAfter, IsReadAt, Told, call_token, open_turns, stands_after, told_here, with_call}
 use Rattle.teco_core.specs.Arguments.{Arguments}
 use Rattle.teco_core.specs.declared.code.Code.{Code}
 use Rattle.std.specs.declared.alloc.AllocError.{AllocError}
 use Rattle.teco_exec.specs.Running.{Host, Origin, Reaches, RunGoesOn, StandsSomewhere, StandsWhereTold, Tells, at_register_call, code_left, reached_by_exit}
-use Rattle.teco_exec.specs.Telling.{call_told, told_of}
+use Rattle.teco_exec.specs.Telling.{IsLastPlace, call_told, told_of}
 use Rattle.teco_exec.specs.declared.place.Call.{Call}
 use Rattle.teco_exec.specs.declared.place.Place.{Place}
-use Rattle.teco_exec.specs.Watching.{Knows}
+use Rattle.teco_exec.specs.Watching.{KeepsPlace, Knows}
 use Rattle.teco_exec.specs.View.{cursor}
 use Rattle.teco_exec.specs.declared.cursor.Cursor.{Cursor}
 use Rattle.teco_exec.specs.declared.flow.Exit.{Exit}
@@ -36,27 +38,33 @@ scan_fillers : (bs : List ℕ) → scan (after_fillers bs) ≡ scan bs
 unfolding scan
 scan_fillers bs = ap scan_here (fillers_twice bs)
 
-dropped_by : (b : ℕ) (bs : List ℕ) (x : Bool) → ((n : ℕ) × (drop n bs ≡ after_fillers bs)) → (n : ℕ) × (drop n (b ∷ bs) ≡ (if x then after_fillers bs else b ∷ bs))
-dropped_by b bs true h = (suc h.0, h.1)
-dropped_by b bs false h = (0, refl)
+dropped_by : (b : ℕ) (bs : List ℕ) (x : Bool) → ((n : ℕ) × (drop n bs ≡ after_fillers bs) × (n ≤ length bs)) → (n : ℕ) × (drop n (b ∷ bs) ≡ (if x then after_fillers bs else b ∷ bs)) × (n ≤ length (b ∷ bs))
+dropped_by b bs true h = (suc h.0, h.1, omega (arith, h.2))
+dropped_by b bs false h = (0, refl, omega arith)
 
-fillers_dropped : (bs : List ℕ) → (n : ℕ) × (drop n bs ≡ after_fillers bs)
+fillers_dropped : (bs : List ℕ) → (n : ℕ) × (drop n bs ≡ after_fillers bs) × (n ≤ length bs)
 unfolding after_fillers
-fillers_dropped [] = (0, refl)
+fillers_dropped [] = (0, refl, omega arith)
 fillers_dropped (b ∷ bs) = dropped_by b bs (is_filler b) (fillers_dropped bs)
 
 -- A token has a place.
-pub has_place : (text : List ℕ) (at : ℕ) → (to : ℕ) × IsTokenPlace text at to
-has_place text at = let h = fillers_dropped (drop at text) in (at + h.0, sym (drop-drop h.0 at text) ∙ h.1)
+pub has_place : (text : List ℕ) (at : ℕ) → at ≤ length text → (to : ℕ) × IsTokenPlace text at to
+has_place text at within =
+    let h = fillers_dropped (drop at text) in
+    (at + h.0, record { rest = sym (drop-drop h.0 at text) ∙ h.1; within = omega (arith, h.2, within, length-drop at text) })
+
+-- It is at that place itself.
+pub lands : (text : List ℕ) (at to : ℕ) → IsTokenPlace text at to → IsTokenPlace text to to
+lands text at to e = record { rest = e.rest ∙ sym (ap after_fillers e.rest ∙ fillers_twice (drop at text)); within = e.within }
 
 -- What is read at a place is read after the fillers there.
 read_on : (text : List ℕ) (at to : ℕ) (token : Option TokenMeaning) (left : List ℕ) → IsTokenPlace text at to → IsReadAt text at token left → IsReadAt text to token left
-read_on text at to (Some t) left e h = (h.0, h.1, ap scan e ∙ scan_fillers (drop at text) ∙ h.2, h.3)
-read_on text at to None left e h = ap after_fillers e ∙ fillers_twice (drop at text) ∙ h
+read_on text at to (Some t) left e h = (h.0, h.1, ap scan e.rest ∙ scan_fillers (drop at text) ∙ h.2, h.3)
+read_on text at to None left e h = ap after_fillers e.rest ∙ fillers_twice (drop at text) ∙ h
 
 -- where the run last stood at a cursor
 pub stood_told : (o : Origin) (k : ℕ) (c new : Cursor) (callers : List Caller) (to : ℕ) → StandsSomewhere o k c callers → new.text ≡ c.text → (cursor new).blocks ≡ (cursor c).blocks → IsTokenPlace new.text.now c.at to
-    → StandsWhereTold o callers (told_here k to (cursor new).blocks)
+    → StandsWhereTold o callers (told_here k new.text.now to (cursor new).blocks)
 unfolding HaveCalled
 stood_told o k c new callers to w text blocks place =
     let here : IsTokenPlace c.text.now c.at to = subst (λ t. IsTokenPlace t.now c.at to) text place in
@@ -64,6 +72,8 @@ stood_told o k c new callers to w text blocks place =
       there = w.there;
       stands = w.stands;
       told = record {
+        text = ap (λ t. t.now) text ∙ sym w.is.text;
+        here = subst (λ t. IsTokenPlace t to to) (sym w.is.text) (lands c.text.now c.at to here);
         read = subst (λ t. IsReadAt t to w.there.token w.there.left) (sym w.is.text) (read_on c.text.now c.at to w.there.token w.there.left here w.is.read);
         turns = ap open_turns (blocks ∙ sym w.is.blocks);
         calls = w.is.callers;
@@ -72,12 +82,12 @@ stood_told o k c new callers to w text blocks place =
 
 -- before a step that calls
 pub call_told_here : (o : Origin) (h : Host) (c : Cursor) (q at to k : ℕ) (callers : List Caller) → k ≡ h.steps → RunGoesOn o h (at_register_call c q callers) → IsReadAt c.text.now at (Some (call_token q)) (cursor c).left → IsTokenPlace c.text.now at to
-    → StandsWhereTold o callers (told_here k to (cursor c).blocks)
+    → StandsWhereTold o callers (told_here k c.text.now to (cursor c).blocks)
 unfolding HaveCalled
 call_told_here o h c q at to k callers same g read place = record {
   there = record { text = c.text.now; left = (cursor c).left; blocks = (cursor c).blocks; callers = callers; token = Some (call_token q) };
   stands = ap (stands_after o.state o.text) same ∙ ap (λ x. x.0) g.stands;
-  told = record { read = read_on c.text.now at to (Some (call_token q)) (cursor c).left place read; turns = refl; calls = refl };
+  told = record { text = refl; here = lands c.text.now at to place; read = read_on c.text.now at to (Some (call_token q)) (cursor c).left place read; turns = refl; calls = refl };
 }
 
 -- One call more, around the others.
@@ -93,10 +103,12 @@ called_told o c q at to callers p w read place = record {
   there = w.there;
   stands = w.stands;
   told = record {
+    text = w.told.text;
+    here = w.told.here;
     read = w.told.read;
     turns = w.told.turns;
     calls = called_on p.calls w.there.callers (caller c) callers (record { register = q; at = to; turns = open_turns (cursor c).blocks }) w.told.calls
-        (record { read = read_on c.text.now at to (Some (call_token q)) (cursor c).left place read; turns = refl });
+        (record { here = lands c.text.now at to place; read = read_on c.text.now at to (Some (call_token q)) (cursor c).left place read; turns = refl });
   };
 }
 
@@ -129,42 +141,46 @@ pub tells_last : (knows : Option Told → Type 0) (P : Told → Type 0) (o : Ori
 tells_last knows P o before after a x code is r at t = subst (KnowsLast knows o after.steps) (sym is) (exit_tells knows P o before after a x r at t)
 
 -- A place that was kept is the one that was told.
-abbrev pub KeepsPlace : Result (Option Place) AllocError → Told → Type 0
-KeepsPlace r p = IfOk r (λ told. IsSomeAnd told (λ place. told_of place ≡ p))
+abbrev pub Keeps : Result (Option Place) AllocError → Told → Type 0
+Keeps r p = IfOk r (λ told. IsSomeAnd told (λ place. KeepsPlace place p))
 
-kept_place : (r : Result (Option Place) AllocError) (p : Told) (Q : Told → Type 0) → KeepsPlace r p → Q p → IfOk r (λ told. IfSome told (λ place. Q (told_of place)))
-kept_place (Ok None) p Q keeps q = tt
-kept_place (Ok (Some place)) p Q keeps q = subst Q (sym keeps) q
-kept_place (Err e) p Q keeps q = tt
+last_kept : (s : State) (text : List ℕ) (done : ℕ) (place : Place) (p : Told) → KeepsPlace place p → IsPlaceAfter s text done p → IsLastPlace s text done place
+last_kept s text done place p keeps h = record { innermost = p.text; stood = subst (IsPlaceAfter s text done) (sym keeps.told) h; fault = keeps.fault }
 
-kept_some : (r : Result (Option Place) AllocError) (p : Told) → KeepsPlace r p → r ≡ Ok None → ⊥
+kept_place : (r : Result (Option Place) AllocError) (p : Told) (s : State) (text : List ℕ) (done : ℕ) → Keeps r p → IsPlaceAfter s text done p → IfOk r (λ told. IfSome told (λ place. IsLastPlace s text done place))
+kept_place (Ok None) p s text done keeps h = tt
+kept_place (Ok (Some place)) p s text done keeps h = last_kept s text done place p keeps h
+kept_place (Err e) p s text done keeps h = tt
+
+kept_some : (r : Result (Option Place) AllocError) (p : Told) → Keeps r p → r ≡ Ok None → ⊥
 kept_some (Ok None) p keeps e = keeps
 kept_some (Ok (Some place)) p keeps e = let same : Some place ≡ None = cc in cc
 kept_some (Err e) p keeps is = absurd cc
 
-module _ (w : Watched) (r : Result (Option Place) AllocError) (none : Knows w None → r ≡ Ok None) (some : (p : Told) → Knows w (Some p) → KeepsPlace r p) where
-  pub place_told : (o : Origin) (done : ℕ) (code : Option Code) → KnowsLast (Knows w) o done code → IfOk r (λ told. IfSome told (λ place. IsPlaceAfter o.state o.text done (told_of place)))
-  place_told o done None knows = subst (λ (x : Result (Option Place) AllocError). IfOk x (λ told. IfSome told (λ place. IsPlaceAfter o.state o.text done (told_of place)))) (sym (none knows)) tt
-  place_told o done (Some code) knows = kept_place r knows.0 (IsPlaceAfter o.state o.text done) (some knows.0 knows.1) knows.2
+module _ (w : Watched) (r : Result (Option Place) AllocError) (none : Knows w None → r ≡ Ok None) (some : (p : Told) → Knows w (Some p) → Keeps r p) where
+  pub place_told : (o : Origin) (done : ℕ) (code : Option Code) → KnowsLast (Knows w) o done code → IfOk r (λ told. IfSome told (λ place. IsLastPlace o.state o.text done place))
+  place_told o done None knows = subst (λ (x : Result (Option Place) AllocError). IfOk x (λ told. IfSome told (λ place. IsLastPlace o.state o.text done place))) (sym (none knows)) tt
+  place_told o done (Some code) knows = kept_place r knows.0 o.state o.text done (some knows.0 knows.1) knows.2
 
   pub told_exactly : (o : Origin) (done : ℕ) (code : Option Code) → KnowsLast (Knows w) o done code → (r ≡ Ok None) ↔ (code ≡ None)
   told_exactly o done None knows = (λ e. refl, λ e. none knows)
   told_exactly o done (Some code) knows = (λ e. absurd (kept_some r knows.0 (some knows.0 knows.1) e), λ e. absurd cc)
 
 -- what the watch keeps
-pub kept_here : (steps to : ℕ) (turns : List (Option ℕ)) (blocks : List Frame) (calls : List Call) → turns ≡ open_turns blocks → calls ≡ [] → (let kept : Told = record { steps = steps; at = to; turns = turns; calls = map call_told calls } in kept ≡ told_here steps to blocks)
-kept_here steps to turns blocks calls e none =
-    ap (λ ts. (let kept : Told = record { steps = steps; at = to; turns = ts; calls = map call_told calls } in kept)) e
-    ∙ ap (λ cs. (let kept : Told = record { steps = steps; at = to; turns = open_turns blocks; calls = map call_told cs } in kept)) none
+pub kept_here : (steps : ℕ) (text : List ℕ) (to : ℕ) (turns : List (Option ℕ)) (blocks : List Frame) (calls : List Call) → turns ≡ open_turns blocks → calls ≡ []
+    → (let kept : Told = record { steps = steps; text = text; at = to; turns = turns; calls = map call_told calls } in kept ≡ told_here steps text to blocks)
+kept_here steps text to turns blocks calls e none =
+    ap (λ ts. (let kept : Told = record { steps = steps; text = text; at = to; turns = ts; calls = map call_told calls } in kept)) e
+    ∙ ap (λ cs. (let kept : Told = record { steps = steps; text = text; at = to; turns = open_turns blocks; calls = map call_told cs } in kept)) none
 
 more_calls : (xs : List Call) (x : Call) → map call_told (xs ++ x ∷ []) ≡ map call_told xs ++ call_told x ∷ []
 more_calls [] x = refl
 more_calls (y ∷ ys) x = ap (λ zs. call_told y ∷ zs) (more_calls ys x)
 
-pub kept_call : (old : Place) (ys : List Call) (x : Call) (blocks : List Frame) (p : Told) → told_of old ≡ p → ys ≡ old.calls.items ++ x ∷ [] → x.turns.items ≡ open_turns blocks
-    → (let kept : Told = record { steps = old.steps; at = old.at; turns = old.turns.items; calls = map call_told ys } in kept ≡ with_call p x.register x.at blocks)
+pub kept_call : (old : Place) (ys : List Call) (x : Call) (blocks : List Frame) (p : Told) → told_of p.text old ≡ p → ys ≡ old.calls.items ++ x ∷ [] → x.turns.items ≡ open_turns blocks
+    → (let kept : Told = record { steps = old.steps; text = p.text; at = old.at; turns = old.turns.items; calls = map call_told ys } in kept ≡ with_call p x.register x.at blocks)
 kept_call old ys x blocks p is more turns =
-    ap (λ cs. (let kept : Told = record { steps = old.steps; at = old.at; turns = old.turns.items; calls = map call_told cs } in kept)) more
-    ∙ ap (λ cs. (let kept : Told = record { steps = old.steps; at = old.at; turns = old.turns.items; calls = cs } in kept)) (more_calls old.calls.items x)
-    ∙ ap (λ ts. (let kept : Told = record { steps = old.steps; at = old.at; turns = old.turns.items; calls = map call_told old.calls.items ++ record { register = x.register; at = x.at; turns = ts } ∷ [] } in kept)) turns
+    ap (λ cs. (let kept : Told = record { steps = old.steps; text = p.text; at = old.at; turns = old.turns.items; calls = map call_told cs } in kept)) more
+    ∙ ap (λ cs. (let kept : Told = record { steps = old.steps; text = p.text; at = old.at; turns = old.turns.items; calls = cs } in kept)) (more_calls old.calls.items x)
+    ∙ ap (λ ts. (let kept : Told = record { steps = old.steps; text = p.text; at = old.at; turns = old.turns.items; calls = map call_told old.calls.items ++ record { register = x.register; at = x.at; turns = ts } ∷ [] } in kept)) turns
     ∙ ap (λ q. with_call q x.register x.at blocks) is

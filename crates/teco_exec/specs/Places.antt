@@ -2,6 +2,7 @@
 use Rattle.std.specs.Prelude.{◌≡◌, ◌<◌, ◌≤◌, ℕ, List, [], ◌∷◌, ◌++◌, drop, Option, Some, None}
 use Rattle.teco_scan.specs.Scan.{Item, TokenMeaning, found, scan, after_fillers, no_modifiers}
 use Rattle.teco_scan.specs.Scan as token
+use Rattle.teco_scan.specs.Breaks.{IsTokenPlace}
 use Rattle.teco_scan.specs.declared.blocks.Kind.TheVariants.{Iter, Then, Else}
 use Rattle.teco_scan.specs.declared.command.Modifiers.{Modifiers}
 use Rattle.teco_scan.specs.declared.command.RegisterCommand.TheVariants.{Macro}
@@ -67,26 +68,25 @@ pub record CallToken : Type 0 where
   pub at : ℕ
   pub turns : List (Option ℕ)
 
--- Where a run stands, as it is told: the steps that were done by then, the place in the innermost text, the
+-- Where a run stands, as it is told: the steps that were done by then, the innermost text, the place in it, the
 -- turns left there, and the calls, the latest first.
 pub record Told : Type 0 where
   pub steps : ℕ
+  pub text : List ℕ
   pub at : ℕ
   pub turns : List (Option ℕ)
   pub calls : List CallToken
 
--- The token begins at the first byte from a place on that is no filler.
-abbrev pub IsTokenPlace : List ℕ → ℕ → ℕ → Type 0
-IsTokenPlace text at to = drop to text ≡ after_fillers (drop at text)
-
-abbrev pub told_here : ℕ → ℕ → List Frame → Told
-told_here steps at blocks = record { steps = steps; at = at; turns = open_turns blocks; calls = [] }
+abbrev pub told_here : ℕ → List ℕ → ℕ → List Frame → Told
+told_here steps text at blocks =
+    record { steps = steps; text = text; at = at; turns = open_turns blocks; calls = [] }
 
 abbrev pub with_call : Told → ℕ → ℕ → List Frame → Told
 with_call p q at blocks =
     record p { calls = p.calls ++ record { register = q; at = at; turns = open_turns blocks } ∷ [] }
 
 pub record IsCallOf (b : Caller) (x : CallToken) : Type 0 where
+  pub here : IsTokenPlace b.text x.at x.at
   pub read : IsReadAt b.text x.at (Some (call_token x.register)) b.left
   pub turns : x.turns ≡ open_turns b.blocks
 
@@ -98,6 +98,8 @@ HaveCalled (x ∷ xs) (b ∷ callers) others = IsCallOf b x × HaveCalled xs cal
 
 -- It is told of a run that stands so, in a text with these callers.
 pub record IsToldOf (callers : List Caller) (p : Told) (s : Standing) : Type 0 where
+  pub text : p.text ≡ s.text
+  pub here : IsTokenPlace s.text p.at p.at
   pub read : IsReadAt s.text p.at s.token s.left
   pub turns : p.turns ≡ open_turns s.blocks
   pub calls : HaveCalled p.calls s.callers callers

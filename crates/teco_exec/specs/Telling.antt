@@ -1,6 +1,7 @@
 -- A place as it is told, and when it is.
 use Rattle.std.specs.Prelude.{◌≡◌, ◌↔◌, ℕ, List, Option, None, Result, Ok, IfOk, IfSome, map}
 use Rattle.std.specs.declared.alloc.AllocError.{AllocError}
+use Rattle.teco_scan.specs.Breaks.{IsFirstFault}
 use Rattle.teco_store.specs.State.{State}
 use Rattle.teco_exec.specs.Places.{CallToken, IsPlaceAfter, Told}
 use Rattle.teco_exec.specs.declared.outcome.Outcome.{Outcome}
@@ -10,12 +11,21 @@ use Rattle.teco_exec.specs.declared.place.Place.{Place}
 abbrev pub call_told : Call → CallToken
 call_told x = record { register = x.register; at = x.at; turns = x.turns.items }
 
-abbrev pub told_of : Place → Told
-told_of p = record { steps = p.steps; at = p.at; turns = p.turns.items; calls = map call_told p.calls.items }
+-- a place as it is told, in this innermost text
+abbrev pub told_of : List ℕ → Place → Told
+told_of text p =
+    record { steps = p.steps; text = text; at = p.at; turns = p.turns.items; calls = map call_told p.calls.items }
+
+-- It is the last place at which the run of a whole string has stood after this many steps, and its fault is the
+-- first one of the innermost text.
+pub record IsLastPlace (s : State) (text : List ℕ) (k : ℕ) (p : Place) : Type 0 where
+  pub innermost : List ℕ
+  pub stood : IsPlaceAfter s text k (told_of innermost p)
+  pub fault : IsFirstFault innermost p.fault
 
 -- Of a string that was run from a state and ended so, this is told: the last place at which its run stood,
 -- exactly where it ended by a code; or else memory lacked for the place.
 pub record TellsPlace (s : State) (text : List ℕ) (outcome : Outcome)
     (told : Result (Option Place) AllocError) : Type 0 where
-  pub place : IfOk told (λ some. IfSome some (λ p. IsPlaceAfter s text outcome.steps (told_of p)))
+  pub place : IfOk told (λ some. IfSome some (λ p. IsLastPlace s text outcome.steps p))
   pub exactly : (told ≡ Ok None) ↔ (outcome.code ≡ None)

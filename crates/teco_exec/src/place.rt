@@ -1,8 +1,6 @@
 //! Where a run stands.
-ghost use Rattle.std.specs.Prelude.{◌≡◌, ◌≤◌, length, drop};
-ghost use Rattle.teco_scan.specs.Scan.{after_fillers};
-
-use teco_core::{Reg, is_filler};
+use teco_core::Reg;
+use teco_scan::Fault;
 
 /// Where a run stands: before a step of a token, or at a fault of a text.
 ///
@@ -18,6 +16,9 @@ pub struct Place {
     pub turns: Vec<Option<u32>>,
     /// The calls that are open, the latest first.
     pub calls: Vec<Call>,
+    /// The first fault of the innermost text, if it has one. A run that ends by its code has met it: at the place, or in what the
+    /// token there skips. A jump finds no tag after it.
+    pub fault: Option<Fault>,
 }
 
 /// A call that is open.
@@ -29,17 +30,4 @@ pub struct Call {
     pub at: usize,
     /// The turns left after the present one of each iteration that is open in that text, the innermost first.
     pub turns: Vec<Option<u32>>,
-}
-
-/// The place of the first byte that is no filler, from a place on.
-#[tactic(auto, using(crate::proofs::Fronts::front, crate::proofs::Fronts::no_front), unfolding(teco_scan::specs::Scan::after_fillers))]
-pub(crate) fn token_place(text: &[u8], at: usize) -> usize
-    requires { at ≤ length text.now }
-    ensures { drop result text.now ≡ after_fillers (drop at text.now) }
-{
-    let mut to = at;
-    while to < text.len() && is_filler(text[to]) {
-        to += 1;
-    }
-    to
 }

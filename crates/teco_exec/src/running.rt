@@ -5,7 +5,7 @@ ghost use Rattle.teco_core.specs.Register.{content};
 ghost use Rattle.teco_core.specs.declared.code.Code.TheVariants.{Mem};
 ghost use Rattle.teco_scan.specs.Lists.{nodes};
 ghost use Rattle.teco_exec.specs.Places.{IsPlaceAfter, IsReadAt, Told, call_token};
-ghost use Rattle.teco_exec.specs.Telling.{told_of};
+ghost use Rattle.teco_exec.specs.Telling.{IsLastPlace};
 ghost use Rattle.teco_step.specs.Terminal.{Shows};
 ghost use Rattle.teco_exec.specs.Running.{RunLeadsAt, StandsFrom, Tells, code_left, at_beginning, at_register_call, reached_by_exit, reached_after_call, host};
 ghost use Rattle.teco_exec.specs.Tokens.{CountsSteps};
@@ -63,7 +63,7 @@ pub fn run_where<D: Desk, T: Terminal>(
     alloc: Global,
 ) -> Stopped
     ensures place { IfOk result.place (λ told. IfSome told
-        (λ p. IsPlaceAfter (D.state desk.old) text.now result.outcome.steps (told_of p))) }
+        (λ p. IsLastPlace (D.state desk.old) text.now result.outcome.steps p)) }
     ensures told { (result.place ≡ Ok None) ↔ (result.outcome.code ≡ None) }
     ensures run { (typed : List ℕ)
         × Runs (D.state desk.old) text.now limit result.outcome typed (D.state desk.new)

@@ -1,12 +1,14 @@
 //! What is told of where a run last stood.
 ghost use Rattle.std.specs.Prelude.{◌≡◌, ◌≤◌, ℕ, IfOk, IsSomeAnd, Ok, Option, None, Some, length};
-ghost use Rattle.teco_exec.specs.Places.{IsTokenPlace, Told, told_here, with_call};
+ghost use Rattle.teco_scan.specs.Breaks.{IsTokenPlace};
+ghost use Rattle.teco_exec.specs.Places.{Told, told_here, with_call};
 ghost use Rattle.teco_exec.specs.View.{cursor as cursor_of};
 
 use crate::cursor::Cursor;
-use crate::place::{Call, Place, token_place};
+use crate::place::{Call, Place};
 use std::alloc::Global;
 use teco_core::{NoMemory, Reg};
+use teco_scan::{filler_end, first_fault};
 
 /// Who is told where a run last stood: of the innermost text first, and then of each text that has called.
 pub(crate) trait Watch {
@@ -17,7 +19,7 @@ pub(crate) trait Watch {
     fn stood(&mut self, steps: u64, at: usize, cursor: &Cursor)
         requires { at ≤ length cursor.now.text.now }
         ensures { knows self.old None → (to : ℕ) × IsTokenPlace cursor.now.text.now at to
-            × knows self.new (Some (told_here steps to (cursor_of cursor.now).blocks)) };
+            × knows self.new (Some (told_here steps cursor.now.text.now to (cursor_of cursor.now).blocks)) };
 
     /// That was in the text of this register, which is called at a place of this text.
     fn called(&mut self, register: Reg, at: usize, cursor: &Cursor)
@@ -50,8 +52,7 @@ pub(crate) struct Watched {
 }
 
 impl Watched {
-    ghost use Rattle.teco_exec.specs.Telling.{told_of};
-    ghost use Rattle.teco_exec.specs.Watching.{Knows};
+    ghost use Rattle.teco_exec.specs.Watching.{KeepsPlace, Knows};
 
     /// Nothing has been told. Takes no memory.
     pub fn new(alloc: Global) -> Watched
@@ -64,6 +65,7 @@ impl Watched {
                 at: 0,
                 turns: Vec::new(alloc),
                 calls: Vec::new(alloc),
+                fault: None,
             },
             has_stood: false,
             lacks_memory: false,
@@ -74,7 +76,7 @@ impl Watched {
     pub fn into_place(self) -> Result<Option<Place>, NoMemory>
         ensures none { Knows self None → result ≡ Ok None }
         ensures some { (p : Told) → Knows self (Some p)
-            → IfOk result (λ told. IsSomeAnd told (λ place. told_of place ≡ p)) }
+            → IfOk result (λ told. IsSomeAnd told (λ place. KeepsPlace place p)) }
     {
         let Watched {
             place,
@@ -102,7 +104,8 @@ impl Watch for Watched {
         match cursor.blocks.turns(self.alloc) {
             Ok(turns) => {
                 self.place.steps = steps;
-                self.place.at = token_place(cursor.text, at);
+                self.place.at = filler_end(cursor.text, at);
+                self.place.fault = first_fault(cursor.text);
                 self.place.turns = turns;
             }
             Err(_) => self.lacks_memory = true,
@@ -114,7 +117,7 @@ impl Watch for Watched {
             Ok(turns) => {
                 let call = Call {
                     register,
-                    at: token_place(cursor.text, at),
+                    at: filler_end(cursor.text, at),
                     turns,
                 };
                 if self.place.calls.push(call).is_err() {

@@ -21,3 +21,5 @@ pub mod Written
 pub mod Determined
 pub mod FirstRow
 pub mod TokensNest
+pub mod Breaking
+pub mod BreaksIsBroken

@@ -161,6 +161,15 @@ unfolding list_within
 front zero k d bs = wrong_front Utc k bs
 front (suc n) k d bs = scan_front (list_within n) (front n) k d bs (scan bs) refl
 
+ends_broken : (w : Bool) (x : Close) (k : Kind) (left : List ℕ) (c : Code) → EndsSo w x (Some k) left → x ≡ broken c → w ≡ false
+ends_broken w (broken c) k left code e is = e
+ends_broken w (closed divided rest) k left code e is = absurd cc
+
+-- A list in a block that is broken isn't whole.
+pub broken_whole : (k : Kind) (d : ℕ) (bs : List ℕ) (c : Code) → (list_at (Some k) d bs).1 ≡ broken c → is_whole (list_at (Some k) d bs).0 ≡ false
+unfolding list_at
+broken_whole k d bs c is = let f = front (suc (length bs)) (Some k) d bs in ends_broken _ _ k f.left c f.ends is
+
 ends_whole : (w : Bool) (c : Close) (left : List ℕ) → EndsSo w c None left → w ≡ true → scan left ≡ ended
 ends_whole w (broken c) left e whole = e whole
 ends_whole w (closed divided rest) left e whole = absurd e

@@ -9,3 +9,4 @@ pub mod Lists
 pub mod Nesting
 pub mod ListLaws
 pub mod Written
+pub mod Breaks

@@ -16,7 +16,7 @@ use crate::token::{Found, Token, TokenKind};
 use teco_core::{BLOCK_LIMIT, Code, is_filler};
 
 /// The kinds of open blocks: an iteration's body, a conditional's first part and its second.
-#[derive(Clone, Copy)]
+#[derive(Clone, Copy, Debug, PartialEq, Eq)]
 pub enum Kind {
     Iter,
     Then,
@@ -31,7 +31,7 @@ pub struct Stop {
 }
 
 /// The mark by which a block ends or is divided, if the token is one.
-fn closing_mark(kind: TokenKind) -> Option<BlockMark>
+pub(crate) fn closing_mark(kind: TokenKind) -> Option<BlockMark>
     ensures { (text : List ℕ) → result ≡ closing_mark (instruction_in text kind) }
 {
     match kind {
@@ -43,7 +43,7 @@ fn closing_mark(kind: TokenKind) -> Option<BlockMark>
 }
 
 /// The kind of block that a token opens.
-fn opened_kind(kind: TokenKind) -> Option<Kind>
+pub(crate) fn opened_kind(kind: TokenKind) -> Option<Kind>
     ensures { (text : List ℕ) → result ≡ opened_kind (instruction_in text kind) }
 {
     match kind {

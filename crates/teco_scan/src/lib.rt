@@ -2,6 +2,7 @@
 #![tactic(auto)]
 
 mod blocks;
+mod breaks;
 mod command;
 mod names;
 mod operand;
@@ -10,10 +11,11 @@ mod table;
 mod token;
 
 pub use blocks::{Kind, Stop, block_laws, find_tag, nesting, skip_block, skip_whole_block};
+pub use breaks::{Fault, OpenList, break_laws, first_fault};
 pub use command::{
     Arithmetic, Bare, BlockMark, Command, Form, LevelCommand, Modifiers, Name, Quantity,
     RegisterCommand, Row, Test, TextCommand,
 };
-pub use scan::{spelling, token_at};
+pub use scan::{filler_end, spelling, token_at};
 pub use table::ROWS;
 pub use token::{Found, Item, Span, Token, TokenKind};

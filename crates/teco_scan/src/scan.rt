@@ -16,9 +16,9 @@ use crate::table::{NONE, ROWS};
 use crate::token::{Found, Item, Span, Token, TokenKind};
 use teco_core::{Code, is_filler};
 
-/// The place after the fillers.
+/// The place after the fillers: where a token begins, if one does.
 #[tactic(auto, using(crate::proofs::Places::front, crate::proofs::Places::no_front), unfolding(crate::specs::Scan::after_fillers))]
-fn filler_end(text: &[u8], at: usize) -> usize
+pub fn filler_end(text: &[u8], at: usize) -> usize
     requires { at ≤ length text.now }
     ensures read { drop result text.now ≡ after_fillers (drop at text.now) }
     ensures within { (at ≤ result) × (result ≤ length text.now) }

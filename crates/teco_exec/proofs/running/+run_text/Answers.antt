@@ -169,7 +169,7 @@ pub run_text-returns-in-Fail-clause-told : goal.run_text-returns-in-Fail-clause-
 run_text-returns-in-Fail-clause-told g t c knows =
     let told = c.stood.ensures (c.running.invariant.watch knows) in
     let done = c.step.new.steps.done in (
-      told_here (done - 1) told.0 (cursor c.step.new.cursor).blocks,
+      told_here (done - 1) c.step.new.cursor.text.now told.0 (cursor c.step.new.cursor).blocks,
       told.2,
       omega (arith, c.in-Fail.ensures.stood.0),
       λ o callers limit deep e.
@@ -181,7 +181,7 @@ run_text-returns-in-Fail-clause-told g t c knows =
 pub run_text-returns-in-Stop-clause-told : goal.run_text-returns-in-Stop-clause-told
 run_text-returns-in-Stop-clause-told g t c knows =
     let told = c.stood-in-Stop.ensures (c.running.invariant.watch knows) in (
-      told_here c.step.new.steps.done told.0 (cursor c.step.new.cursor).blocks,
+      told_here c.step.new.steps.done c.step.new.cursor.text.now told.0 (cursor c.step.new.cursor).blocks,
       told.2,
       refl,
       λ o callers limit deep e.
@@ -193,7 +193,7 @@ run_text-returns-in-Stop-clause-told g t c knows =
 pub run_called-returns-then-steps-clause-told : goal.run_called-returns-then-steps-clause-told
 run_called-returns-then-steps-clause-told g t c knows =
     let told = c.stood.ensures knows in (
-      told_here c.args.steps.now.done told.0 (cursor c.args.cursor.now).blocks,
+      told_here c.args.steps.now.done c.args.cursor.now.text.now told.0 (cursor c.args.cursor.now).blocks,
       told.2,
       refl,
       λ o callers limit deep e.
@@ -203,7 +203,7 @@ run_called-returns-then-steps-clause-told g t c knows =
 pub run_called-returns-in-Err-clause-told : goal.run_called-returns-in-Err-clause-told
 run_called-returns-in-Err-clause-told g t c knows =
     let told = c.stood-in-Err.ensures knows in (
-      told_here c.args.steps.now.done told.0 (cursor c.args.cursor.now).blocks,
+      told_here c.args.steps.now.done c.args.cursor.now.text.now told.0 (cursor c.args.cursor.now).blocks,
       told.2,
       refl,
       λ o callers limit deep e.
@@ -224,7 +224,7 @@ run_copy-returns-then-depth-eq-CALL_LIMIT-clause-told g t c knows =
     let told = c.stood.ensures knows in
     let before = c.count.new.self.done - 1 in
     let same : before ≡ c.args.steps.now.done = omega (arith, c.count.ensures.done) in (
-      told_here before told.0 (cursor c.args.cursor.now).blocks,
+      told_here before c.args.cursor.now.text.now told.0 (cursor c.args.cursor.now).blocks,
       told.2,
       omega (arith, c.count.ensures.done),
       λ o callers limit deep e.

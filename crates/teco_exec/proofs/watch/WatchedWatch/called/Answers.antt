@@ -8,17 +8,17 @@ use Rattle.teco_exec.proofs.watch.WatchedWatch.called.Goals as goal
 pub returns-else-is_err : goal.returns-else-is_err
 returns-else-is_err c p known =
     let at = c.args.cursor.now in
-    let call : Call = record { register = c.args.register; at = c.token_place.result; turns = c.in-Ok.turns } in
+    let call : Call = record { register = c.args.register; at = c.filler_end.result; turns = c.in-Ok.turns } in
     let more : c.push.new.self.items ≡ c.args.self.now.place.calls.items ++ call ∷ [] = search rules in (
-      c.token_place.result,
-      c.token_place.ensures,
+      c.filler_end.result,
+      record { rest = c.filler_end.ensures.read; within = c.filler_end.ensures.within.1 },
       (
         known.0,
-        λ memory. kept_call c.args.self.now.place c.push.new.self.items call (cursor at).blocks p (known.1 memory) more (c.in-Ok.ensures ∙ sym (turns_same at.text.now at.blocks)),
+        λ memory. record { told = kept_call c.args.self.now.place c.push.new.self.items call (cursor at).blocks p (known.1 memory).told more (c.in-Ok.ensures ∙ sym (turns_same at.text.now at.blocks)); fault = (known.1 memory).fault },
       ),
     )
 
 pub returns-in-Err : goal.returns-in-Err
 returns-in-Err c p known =
-    let h = has_place c.args.cursor.now.text.now c.args.at in
+    let h = has_place c.args.cursor.now.text.now c.args.at c.requires in
     (h.0, h.1, (known.0, λ memory. absurd (let no : true ≡ false = memory in cc)))

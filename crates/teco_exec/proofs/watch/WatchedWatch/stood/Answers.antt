@@ -7,15 +7,15 @@ use Rattle.teco_exec.proofs.watch.WatchedWatch.stood.Goals as goal
 pub returns-in-Ok : goal.returns-in-Ok
 returns-in-Ok c known =
     let at = c.args.cursor.now in (
-      c.token_place-self.result,
-      c.token_place-self.ensures,
+      c.filler_end-self.result,
+      record { rest = c.filler_end-self.ensures.read; within = c.filler_end-self.ensures.within.1 },
       (
         refl,
-        λ memory. kept_here c.args.steps c.token_place-self.result c.in-Ok.turns.items (cursor at).blocks c.args.self.now.place.calls.items (c.in-Ok.ensures ∙ sym (turns_same at.text.now at.blocks)) known.2,
+        λ memory. record { told = kept_here c.args.steps at.text.now c.filler_end-self.result c.in-Ok.turns.items (cursor at).blocks c.args.self.now.place.calls.items (c.in-Ok.ensures ∙ sym (turns_same at.text.now at.blocks)) known.2; fault = c.first_fault-self.ensures },
       ),
     )
 
 pub returns-in-Err : goal.returns-in-Err
 returns-in-Err c known =
-    let h = has_place c.args.cursor.now.text.now c.args.at in
+    let h = has_place c.args.cursor.now.text.now c.args.at c.requires in
     (h.0, h.1, (refl, λ memory. absurd (let no : true ≡ false = memory in cc)))
