@@ -78,7 +78,7 @@ pub trait Disk {
     fn append(&mut self, name: &str, bytes: (&[u8], &[u8])) -> io::Result<()>
         ensures ok { OnOk result
             (Appends name.now (bytes.entry.0.now ++ bytes.entry.1.now) (streams self.old) (streams self.new)) }
-        ensures err { OnErr result (SameBut name.now (streams self.old) (streams self.new)) }
+        ensures others { SameBut name.now (streams self.old) (streams self.new) }
         ensures files { files self.new ≡ files self.old }
         ensures moments { (files : Files) → left self.new files → left self.old files }
         ensures count { Counts result (failures self.old) (failures self.new) }
