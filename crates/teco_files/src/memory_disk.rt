@@ -1,12 +1,12 @@
 //! Files in memory.
-ghost use Rattle.std.specs.IoError.{error_kind};
-ghost use Rattle.std.specs.Prelude.{◌≡◌, ⊤, true, IfErr, Some};
-ghost use Rattle.teco_files.specs.Disk.{Counts};
+ghost use Rattle.std.specs.Prelude.{◌≡◌, ⊤, true, IfErr, IfOk, Some};
+ghost use Rattle.teco_files.specs.declared.memory_disk.Refused.TheVariants.{Changed};
+ghost use Rattle.teco_files.specs.Disk.{Counts, IsTargetOf};
 ghost use Rattle.teco_files.specs.FileLog.{WereOnce, files_of};
 
 use crate::disk::Disk;
 use crate::memory_source::MemorySource;
-use crate::place::Place;
+use crate::target::Target;
 use std::alloc::Global;
 use std::io;
 use std::io::ErrorKind;
@@ -29,24 +29,26 @@ pub enum Refused {
     Rename,
     /// A rename, and then that the draft is removed.
     RenameAndRemove,
+    /// To replace a file: it is told not to be what it was when it was opened.
+    Changed,
 }
 
 /// How often a call has failed, modulo 2^64, and what the last failure was.
 #[derive(Drop)]
 struct Failures {
     times: u64,
-    last: Option<ErrorKind>,
+    last: Option<io::Error>,
 }
 
 impl Failures {
     /// Counts a call that failed, and notes its error.
     fn count<A>(&mut self, done: &io::Result<A>)
         ensures count { Counts done.now self.old.times self.new.times }
-        ensures error { IfErr done.now (λ error. self.new.last ≡ Some (error_kind error)) }
+        ensures error { IfErr done.now (λ error. self.new.last ≡ Some error) }
     {
         if let Err(error) = done {
             self.times = self.times.wrapping_add(1);
-            self.last = Some(error.kind());
+            self.last = Some(*error);
         }
     }
 }
@@ -56,6 +58,8 @@ impl Failures {
 pub struct MemoryDisk {
     alloc: Global,
     log: Log,
+    // what each device was given
+    devices: Log,
     refused: Refused,
     failures: Failures,
     // whether a file could not be removed
@@ -67,6 +71,7 @@ impl MemoryDisk {
         MemoryDisk {
             alloc,
             log: Log::new(alloc),
+            devices: Log::new(alloc),
             refused,
             failures: Failures {
                 times: 0,
@@ -81,6 +86,16 @@ impl MemoryDisk {
         self.log.put(name, bytes)
     }
 
+    /// Puts a device there, which keeps what it is given.
+    pub fn put_device(&mut self, name: &str) -> Result<(), NoMemory> {
+        self.devices.put(name, &[])
+    }
+
+    /// What a device was given, if it is there.
+    pub fn given(&self, name: &str) -> Option<&[u8]> {
+        self.devices.bytes(name)
+    }
+
     /// The bytes of a file, if it is there.
     pub fn bytes(&self, name: &str) -> Option<&[u8]> {
         self.log.bytes(name)
@@ -89,6 +104,16 @@ impl MemoryDisk {
     /// Whether each file has one of these names.
     pub fn has_only(&self, names: &[(&str, &str)]) -> bool {
         self.log.has_only(names)
+    }
+}
+
+/// The target of this name, where these are the devices.
+fn target_among(devices: &Log, alloc: Global, name: &str) -> io::Result<Target>
+    ensures target { IfOk result (IsTargetOf (files_of devices.now) name.now) }
+{
+    match devices.bytes(name) {
+        Some(_) => Ok(Target::Stream),
+        None => Ok(Target::File(String::from_str(alloc, name)?)),
     }
 }
 
@@ -102,9 +127,11 @@ impl Disk for MemoryDisk {
     // Each call makes one note at most. So the files were at each moment as the log told them after some note.
     ghost left = { λ disk files. WereOnce disk.log files };
 
+    ghost streams = { λ disk. files_of disk.devices };
+
     ghost failures = { λ disk. disk.failures.times };
 
-    ghost gave = { λ disk error. disk.failures.last ≡ Some (error_kind error) };
+    ghost gave = { λ disk error. disk.failures.last ≡ Some error };
 
     ghost is_of = { λ _ _. ⊤ };
 
@@ -113,23 +140,26 @@ impl Disk for MemoryDisk {
 
     ghost unremoved = { λ disk _. disk.unremoved ≡ true };
 
+    ghost changed = { λ disk _. disk.refused ≡ Changed };
+
     fn open(&mut self, name: &str) -> io::Result<MemorySource> {
         let opened = self.log.opened(self.refused, name);
         self.failures.count(&opened);
         opened
     }
 
-    fn place_of(&mut self, name: &str) -> io::Result<Place> {
-        let place = match String::from_str(self.alloc, name) {
-            Ok(name) => Ok(Place::File(name)),
-            Err(error) => Err(io::Error::from(error)),
-        };
-        self.failures.count(&place);
-        place
+    fn is_as_read(&mut self, _name: &str) -> io::Result<bool> {
+        Ok(self.refused != Refused::Changed)
     }
 
-    fn append(&mut self, _name: &str, _bytes: (&[u8], &[u8])) -> io::Result<()> {
-        let appended = Err(io::Error::from(ErrorKind::Unsupported));
+    fn target_of(&mut self, name: &str) -> io::Result<Target> {
+        let target = target_among(&self.devices, self.alloc, name);
+        self.failures.count(&target);
+        target
+    }
+
+    fn append(&mut self, name: &str, bytes: (&[u8], &[u8])) -> io::Result<()> {
+        let appended = self.devices.written_both(self.refused, name, bytes);
         self.failures.count(&appended);
         appended
     }
@@ -167,5 +197,12 @@ impl Disk for MemoryDisk {
         let removed = self.log.removed(self.refused, name);
         self.unremoved = self.unremoved || removed.is_err();
         removed
+    }
+
+    fn why(&self) -> Option<ErrorKind> {
+        match &self.failures.last {
+            Some(error) => Some(error.kind()),
+            None => None,
+        }
     }
 }

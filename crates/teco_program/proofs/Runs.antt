@@ -1,14 +1,15 @@
 -- How the parts of a run make its end.
-use Rattle.std.proofs.Common.{◌≡◌, ◌≢◌, ◌⊎◌, inl, inr, ℕ, List, Option, Result, Ok, Err, refl, sym, ◌∙◌, subst, true, false, true≢false}
+use Rattle.std.proofs.Common.{◌≡◌, ◌≢◌, ◌⊎◌, inl, inr, ℕ, List, Option, Result, Ok, Err, refl, ap, sym, ◌∙◌, subst, true, false, true≢false}
 use Rattle.std.proofs.lemmas.Bool.{cases_Bool}
 use Rattle.std.specs.String.{string_bytes}
 use Rattle.std.specs.declared.alloc.Global.{Global}
 use Rattle.std.specs.declared.string.String.{String}
 use Rattle.std.specs.declared.vec.Vec.{Vec}
 use Rattle.std.specs.declared.io.Error.{Error}
-use Rattle.teco_files.specs.Disk.{Files}
+use Rattle.teco_files.specs.Disk.{Changes, Files}
 use Rattle.teco_program.specs.Ending.{fate_without_input, output_of}
 use Rattle.teco_program.specs.Seen.{CommandsSeen, DiskSeen, TerminalSeen}
+use Rattle.teco_program.specs.Writing.{IsPut}
 use Rattle.teco_program.specs.Run.{Doings, Edits, EditsByCommands, EditsByLine, EndsBy, FailsToOpen, FailsToRead, FailsToWrite, Finishes, FinishesBy, IsFateOf, IsInput, IsLineIn, KeepsDisk, LacksInput, ServesInput, WritesOutput, doings}
 use Rattle.teco_program.specs.declared.fate.Fate.{Fate}
 use Rattle.teco_program.specs.declared.fate.Fate.TheVariants.{NoCommands, NoInput, LargeInput, NoMemory, NoOutput, Ended}
@@ -87,17 +88,19 @@ finishes_by run output served.NoMemory fate s f = subst (EndsBy run) (sym f.0) (
 -- The disk that is written to is as it was before the input was read.
 module _ {I : Type 0} {old mid : DiskSeen I} (kept : KeepsDisk old mid) where
   keeps_after : {new : DiskSeen I} → KeepsDisk mid new → KeepsDisk old new
-  keeps_after k = record { files = k.files ∙ kept.files; moments = λ files left. kept.moments files (k.moments files left) }
+  keeps_after k = record { files = k.files ∙ kept.files; streams = k.streams ∙ kept.streams; moments = λ files left. kept.moments files (k.moments files left) }
 
   writes_after : {new : DiskSeen I} {name output : List ℕ} → WritesOutput mid new name output → WritesOutput old new name output
-  writes_after w = record {
-    files = λ before told. w.files before (kept.files ∙ told);
+  writes_after {new} {name} {output} w = record {
+    files = λ before told. subst (λ (streams : Files). Changes mid.files new.files (IsPut name output (streams name) (new.streams name))) kept.streams w.files before (kept.files ∙ told);
+    streams = λ other apart. w.streams other apart ∙ ap (λ (streams : Files). streams other) kept.streams;
     moments = λ before told files left. elim (w.moments before (kept.files ∙ told) files left) [ inl was ↦ inl (kept.moments files was) | inr now ↦ inr now ];
   }
 
   fails_after : {new : DiskSeen I} {name output : List ℕ} {fate : Fate} → FailsToWrite mid new name output fate → FailsToWrite old new name output fate
   fails_after f = record {
     files = λ before told. f.files before (kept.files ∙ told);
+    streams = λ other apart. f.streams other apart ∙ ap (λ (streams : Files). streams other) kept.streams;
     moments = λ before told files left. elim (f.moments before (kept.files ∙ told) files left) [ inl was ↦ inl (kept.moments files was) | inr now ↦ inr now ];
     error = f.error;
     given = f.given;
@@ -193,10 +196,10 @@ module _ {I : Type 0} {old new : DiskSeen I} {name output : List ℕ} where
 
 pub finishes_other : {I : Type 0} {disk : DiskSeen I} {name output : List ℕ} (end : Served) → end ≢ served.Exit → Finishes disk disk name output end (Ended end)
 finishes_other served.Exit other = absurd (other refl)
-finishes_other served.EndOfCommands other = record { ends = (refl, record { files = refl; moments = λ files left. left }) }
-finishes_other served.ReadFault other = record { ends = (refl, record { files = refl; moments = λ files left. left }) }
-finishes_other served.ShowFault other = record { ends = (refl, record { files = refl; moments = λ files left. left }) }
-finishes_other served.NoMemory other = record { ends = (refl, record { files = refl; moments = λ files left. left }) }
+finishes_other served.EndOfCommands other = record { ends = (refl, record { files = refl; streams = refl; moments = λ files left. left }) }
+finishes_other served.ReadFault other = record { ends = (refl, record { files = refl; streams = refl; moments = λ files left. left }) }
+finishes_other served.ShowFault other = record { ends = (refl, record { files = refl; streams = refl; moments = λ files left. left }) }
+finishes_other served.NoMemory other = record { ends = (refl, record { files = refl; streams = refl; moments = λ files left. left }) }
 
 -- Two lines that the same words say ask alike to be explained.
 pub same_explain : (words : Result (Vec (String Global) Global) LineFault) (line other : Line) → IsLineIn words line → IsLineIn words other

@@ -45,10 +45,10 @@ fn fate_of(error: io::Error, other: Fate) -> Fate
 fn input_of<D: Disk>(alloc: Global, name: &str, disk: &mut D) -> Result<Vec<u8>, Fate>
     ensures input { IfOk result (λ input. IsInput (D.files disk.old) name.now input.items) }
     ensures small { IfOk result (λ input. vec_len input ≤ FILE_LIMIT) }
-    ensures fault { let seen = disk_seen D.files D.left D.gave
+    ensures fault { let seen = disk_seen D.files D.streams D.left D.gave
         (source_view D.Input.coming D.Input.bound D.Input.failures D.Input.ended) in
         IfErr result (LacksInput (seen disk.old) (seen disk.new) name.now) }
-    ensures keeps { let seen = disk_seen D.files D.left D.gave
+    ensures keeps { let seen = disk_seen D.files D.streams D.left D.gave
         (source_view D.Input.coming D.Input.bound D.Input.failures D.Input.ended) in
         KeepsDisk (seen disk.old) (seen disk.new) }
 {
@@ -114,7 +114,7 @@ fn finish<D: Disk>(
     output: (&[u8], &[u8]),
     disk: &mut D,
 ) -> Fate
-    ensures { let seen = disk_seen D.files D.left D.gave
+    ensures { let seen = disk_seen D.files D.streams D.left D.gave
         (source_view D.Input.coming D.Input.bound D.Input.failures D.Input.ended) in
         Finishes (seen disk.old) (seen disk.new) name.now (both output.entry) served result }
 {
@@ -138,7 +138,7 @@ fn edit<S: Source, T: Terminal, L: Listens, D: Disk>(
     disk: &mut D,
 ) -> Fate
     requires depth { IfSome line.now.undo IsDepth }
-    ensures { let seen = disk_seen D.files D.left D.gave
+    ensures { let seen = disk_seen D.files D.streams D.left D.gave
         (source_view D.Input.coming D.Input.bound D.Input.failures D.Input.ended) in
         Edits line.now (seen disk.old) (seen disk.new)
         (commands_seen (source_view S.coming S.bound S.failures S.ended) commands.old commands.new)
@@ -175,7 +175,7 @@ fn edit_by_word<T: Terminal, L: Listens, D: Disk>(
     disk: &mut D,
 ) -> Fate
     requires depth { IfSome line.now.undo IsDepth }
-    ensures { let seen = disk_seen D.files D.left D.gave
+    ensures { let seen = disk_seen D.files D.streams D.left D.gave
         (source_view D.Input.coming D.Input.bound D.Input.failures D.Input.ended) in
         let word_view = source_view ⟦<WordSource as Source>⟧.coming ⟦<WordSource as Source>⟧.bound
         ⟦<WordSource as Source>⟧.failures ⟦<WordSource as Source>⟧.ended in
@@ -203,7 +203,7 @@ fn edit_by_file<T: Terminal, L: Listens, D: Disk>(
     disk: &mut D,
 ) -> Fate
     requires depth { IfSome line.now.undo IsDepth }
-    ensures { let seen = disk_seen D.files D.left D.gave
+    ensures { let seen = disk_seen D.files D.streams D.left D.gave
         (source_view D.Input.coming D.Input.bound D.Input.failures D.Input.ended) in
         EditsByFile (D.gave disk.new)
         ((term.new ≡ term.old) × KeepsDisk (seen disk.old) (seen disk.new))
@@ -229,7 +229,7 @@ fn edit_by_line<S: Source, T: Terminal, L: Listens, D: Disk>(
     disk: &mut D,
 ) -> Fate
     requires depth { IfSome line.now.undo IsDepth }
-    ensures { let seen = disk_seen D.files D.left D.gave
+    ensures { let seen = disk_seen D.files D.streams D.left D.gave
         (source_view D.Input.coming D.Input.bound D.Input.failures D.Input.ended) in
         let word_view = source_view ⟦<WordSource as Source>⟧.coming ⟦<WordSource as Source>⟧.bound
         ⟦<WordSource as Source>⟧.failures ⟦<WordSource as Source>⟧.ended in
@@ -276,7 +276,7 @@ fn edit_noted<S: Source, T: Terminal, N: Terminal, D: Disk>(
     disk: &mut D,
 ) -> Fate
     requires depth { IfSome line.now.undo IsDepth }
-    ensures edits { let seen = disk_seen D.files D.left D.gave
+    ensures edits { let seen = disk_seen D.files D.streams D.left D.gave
         (source_view D.Input.coming D.Input.bound D.Input.failures D.Input.ended) in
         let word_view = source_view ⟦<WordSource as Source>⟧.coming ⟦<WordSource as Source>⟧.bound
         ⟦<WordSource as Source>⟧.failures ⟦<WordSource as Source>⟧.ended in
@@ -362,7 +362,7 @@ pub fn program<S: Source, T: Terminal, E: Terminal, N: Terminal, D: Disk>(
 ) -> ExitCode
     ensures run { Refuses words ((commands.new ≡ commands.old) × (disk.new ≡ disk.old)) result
         ⊎ RunsOver words
-        (λ line fate. let seen = disk_seen D.files D.left D.gave
+        (λ line fate. let seen = disk_seen D.files D.streams D.left D.gave
         (source_view D.Input.coming D.Input.bound D.Input.failures D.Input.ended) in
         let word_view = source_view ⟦<WordSource as Source>⟧.coming ⟦<WordSource as Source>⟧.bound
         ⟦<WordSource as Source>⟧.failures ⟦<WordSource as Source>⟧.ended in

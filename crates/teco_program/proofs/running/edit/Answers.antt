@@ -9,7 +9,7 @@ use Rattle.teco_program.proofs.running.edit.Goals as goal
 
 pub returns-in-Err : goal.returns-in-Err
 returns-in-Err g c =
-    let seen = disk_seen g.D.Disk.files g.D.Disk.left g.D.Disk.gave
+    let seen = disk_seen g.D.Disk.files g.D.Disk.streams g.D.Disk.left g.D.Disk.gave
     (source_view g.D.Input.Source.coming g.D.Input.Source.bound g.D.Input.Source.failures g.D.Input.Source.ended) in
     let lacks = subst (λ name. LacksInput (seen c.args.disk.now) (seen c.input_of.new.disk) name c.in-Err.fate)
     c.as_str.ensures.value c.in-Err.ensures.fault in
