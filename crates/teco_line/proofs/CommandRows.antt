@@ -97,7 +97,6 @@ all_taken = refl
 -- each of these lines has one fault
 faults : map (fault_of teco_app) (
     (codes "teco" ∷ [])
-    ∷ (codes "teco" ∷ codes "a" ∷ codes "b" ∷ [])
     ∷ (codes "teco" ∷ codes "a" ∷ codes "--limit" ∷ [])
     ∷ (codes "teco" ∷ codes "a" ∷ codes "--limit=x" ∷ [])
     ∷ (codes "teco" ∷ codes "a" ∷ codes "--limit=1000000000001" ∷ [])
@@ -111,7 +110,7 @@ faults : map (fault_of teco_app) (
     ∷ (codes "teco" ∷ codes "a" ∷ codes "-e" ∷ codes "-C" ∷ [])
     ∷ (codes "teco" ∷ codes "a" ∷ codes "-fb" ∷ codes "--file=c" ∷ [])
     ∷ (codes "teco" ∷ codes "--help" ∷ [])
-    ∷ []) ≡ (MissingRequiredArgument ∷ []) ∷ (UnknownArgument ∷ []) ∷ (InvalidValue ∷ []) ∷ (ValueValidation ∷ []) ∷ (ValueValidation ∷ [])
+    ∷ []) ≡ (MissingRequiredArgument ∷ []) ∷ (InvalidValue ∷ []) ∷ (ValueValidation ∷ []) ∷ (ValueValidation ∷ [])
     ∷ (ValueValidation ∷ []) ∷ (ValueValidation ∷ []) ∷ (ValueValidation ∷ []) ∷ (TooManyValues ∷ []) ∷ (ArgumentConflict ∷ []) ∷ (UnknownArgument ∷ [])
     ∷ (InvalidValue ∷ []) ∷ (UnknownArgument ∷ []) ∷ (ArgumentConflict ∷ []) ∷ (DisplayHelp ∷ []) ∷ []
 unfolding clap_on_literals

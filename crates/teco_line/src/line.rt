@@ -1,16 +1,17 @@
 //! The program's command line.
-ghost use Rattle.clap.specs.Words.{app_of, kind_of, new_app, rule_of};
+ghost use Rattle.clap.specs.Words.{all_of, app_of, first_of, found_of, kind_of, new_app, one_of, rows_of, rule_of};
 ghost use Rattle.std.specs.IoError.{error_kind};
-ghost use Rattle.std.specs.Prelude.{◌≡◌, ◌≢◌, ◌≤◌, IfErr, IfOk, IfSome, codes, false, map, option_map};
+ghost use Rattle.std.specs.Prelude.{[], unwrap_or, IsTrue, ◌↔◌, Some, ◌≡◌, ◌≢◌, ◌≤◌, IfErr, IfOk, IfSome, codes, false, map, option_map};
 ghost use Rattle.std.specs.String.{string_bytes};
 ghost use Rattle.std.specs.declared.io.ErrorKind.TheVariants as io_kind;
-ghost use Rattle.teco_line.specs.CommandLine.{IsCommands, IsCommandsFault, IsDepth, IsFaultOnceMade, IsLine, IsLineFault, execute_rule, explain_rule, fault_for, file_rule, input_rule, limit_rule, option_rules, output_rule, prompt_rule, source_rules, teco_app, text_behind, undo_rule, with_rules, with_version};
+ghost use Rattle.teco_line.specs.CommandLine.{HasLine, IsGiven, IsNumber, IsReadFault, number_of, IsCommands, IsCommandsFault, IsDepth, IsFaultOnceMade, IsLine, IsLineFault, fault_for, input_rule, more_rule, teco_app, text_behind, with_version};
 
 use clap::error::ErrorKind;
-use clap::{Arg, ArgAction, Command};
+use clap::{Arg, ArgAction, ArgMatches, Command};
+use options::{OPTIONS, with_table};
 use std::alloc::Global;
 use std::io;
-use teco_core::{DEPTH_LIMIT, NoMemory};
+use teco_core::NoMemory;
 use thiserror::Error;
 
 /// The most steps that a command string may be given.
@@ -47,12 +48,16 @@ pub enum Commands {
 pub struct Line {
     /// The name of the input file.
     pub input: String,
+    /// The names of the input files after it.
+    pub more: Vec<String>,
     /// The name of the output file, if one is given.
     pub output: Option<String>,
     /// Where the commands come from.
     pub commands: Commands,
     /// The most steps that each command string may take, at most [`MOST_STEPS`].
     pub limit: u64,
+    /// Whether the output is written over the input.
+    pub in_place: bool,
     /// Whether a star is shown where commands are wanted.
     pub prompt: bool,
     /// Whether each code that is shown is explained on standard error.
@@ -92,86 +97,6 @@ impl From<clap::Error> for LineFault {
     }
 }
 
-fn limit_arg<'a>(alloc: Global) -> Arg<'a>
-    ensures rule { rule_of result ≡ limit_rule }
-    ensures local { result.global ≡ false }
-{
-    Arg::new(alloc, "limit")
-        .long("limit")
-        .value_name("N")
-        .action(ArgAction::Set)
-        .value_parser(clap::value_parser!(u64).range(0..=MOST_STEPS as i64))
-        .default_value("1000000")
-        .help("The most steps that each command string may take, at most 1000000000000")
-}
-
-fn output_arg<'a>(alloc: Global) -> Arg<'a>
-    ensures rule { rule_of result ≡ output_rule }
-    ensures local { result.global ≡ false }
-{
-    Arg::new(alloc, "output")
-        .long("output")
-        .value_name("FILE")
-        .action(ArgAction::Set)
-        .help("Where the output goes after an exit; INPUT.out where it is not given")
-}
-
-fn prompt_arg<'a>(alloc: Global) -> Arg<'a>
-    ensures rule { rule_of result ≡ prompt_rule }
-    ensures local { result.global ≡ false }
-{
-    Arg::new(alloc, "prompt")
-        .long("prompt")
-        .action(ArgAction::SetTrue)
-        .help("Types * where a command string is awaited")
-}
-
-fn explain_arg<'a>(alloc: Global) -> Arg<'a>
-    ensures rule { rule_of result ≡ explain_rule }
-    ensures local { result.global ≡ false }
-{
-    Arg::new(alloc, "explain")
-        .long("explain")
-        .action(ArgAction::SetTrue)
-        .help("Explains each error, and with --prompt what was done, on standard error")
-}
-
-fn undo_arg<'a>(alloc: Global) -> Arg<'a>
-    ensures rule { rule_of result ≡ undo_rule }
-    ensures local { result.global ≡ false }
-{
-    Arg::new(alloc, "undo")
-        .long("undo")
-        .value_name("N")
-        .action(ArgAction::Set)
-        .value_parser(clap::value_parser!(u64).range(1..=DEPTH_LIMIT as i64))
-        .help("The most command strings kept to be undone, at most 100000; all without it")
-}
-
-fn execute_arg<'a>(alloc: Global) -> Arg<'a>
-    ensures rule { rule_of result ≡ execute_rule }
-    ensures local { result.global ≡ false }
-{
-    Arg::new(alloc, "execute")
-        .short('e')
-        .long("execute")
-        .value_name("STRINGS")
-        .action(ArgAction::Set)
-        .help("The command strings, in which $ is ESC")
-}
-
-fn file_arg<'a>(alloc: Global) -> Arg<'a>
-    ensures rule { rule_of result ≡ file_rule }
-    ensures local { result.global ≡ false }
-{
-    Arg::new(alloc, "file")
-        .short('f')
-        .long("file")
-        .value_name("FILE")
-        .action(ArgAction::Set)
-        .help("The file that the commands are read from, as they are")
-}
-
 fn input_arg<'a>(alloc: Global) -> Arg<'a>
     ensures rule { rule_of result ≡ input_rule }
     ensures local { result.global ≡ false }
@@ -181,6 +106,16 @@ fn input_arg<'a>(alloc: Global) -> Arg<'a>
         .required(true)
         .action(ArgAction::Set)
         .help("The file to edit; it stays as it is, unless --output names it too")
+}
+
+fn more_arg<'a>(alloc: Global) -> Arg<'a>
+    ensures rule { rule_of result ≡ more_rule }
+    ensures local { result.global ≡ false }
+{
+    Arg::new(alloc, "more")
+        .value_name("INPUT")
+        .action(ArgAction::Append)
+        .help("More files, each edited by itself")
 }
 
 /// The command without its arguments: its name, and what its help and its version tell.
@@ -196,33 +131,13 @@ fn described<'a>(alloc: Global) -> Command<'a>
         .version(VERSION)
 }
 
-/// The command with the options that say how its strings are served.
-fn with_options<'a>(alloc: Global, command: Command<'a>) -> Result<Command<'a>, NoMemory>
-    ensures { IfOk result (λ made. app_of made ≡ with_rules (app_of command.entry) option_rules) }
-{
-    command
-        .arg(limit_arg(alloc))?
-        .arg(output_arg(alloc))?
-        .arg(prompt_arg(alloc))?
-        .arg(explain_arg(alloc))?
-        .arg(undo_arg(alloc))
-}
-
-/// The command with what says where its strings and its input come from.
-fn with_sources<'a>(alloc: Global, command: Command<'a>) -> Result<Command<'a>, NoMemory>
-    ensures { IfOk result (λ made. app_of made ≡ with_rules (app_of command.entry) source_rules) }
-{
-    command
-        .arg(execute_arg(alloc))?
-        .arg(file_arg(alloc))?
-        .arg(input_arg(alloc))
-}
-
 /// The command that the parser reads the words by.
 fn command<'a>(alloc: Global) -> Result<Command<'a>, NoMemory>
     ensures { IfOk result (λ command. app_of command ≡ teco_app) }
 {
-    with_sources(alloc, with_options(alloc, described(alloc))?)
+    with_table(alloc, described(alloc), &OPTIONS)?
+        .arg(input_arg(alloc))?
+        .arg(more_arg(alloc))
 }
 
 /// The parser's error of this kind, with this text.
@@ -259,6 +174,78 @@ fn text_given(alloc: Global, text: Option<&str>) -> Result<Option<String>, NoMem
     }
 }
 
+/// The text of an option, where it is given.
+fn text_at(alloc: Global, matches: &ArgMatches, id: &str) -> Result<Option<String>, NoMemory>
+    ensures { IfOk result (λ given. first_of id.now (rows_of (found_of matches.now)) ≡ option_map string_bytes given) }
+{
+    text_given(alloc, matches.get_str(id))
+}
+
+/// The texts, of memory of their own.
+fn owned(alloc: Global, texts: &[&str]) -> Result<Vec<String>, NoMemory>
+    ensures { IfOk result (λ given. map string_bytes given.items ≡ map (λ s. s.now) texts.now) }
+{
+    let mut given = Vec::new(alloc);
+    for text in texts {
+        given.push(String::from_str(alloc, text)?)?;
+    }
+    Ok(given)
+}
+
+/// The texts of an argument that may be given more than once.
+fn texts_at(alloc: Global, matches: &ArgMatches, id: &str) -> Result<Vec<String>, NoMemory>
+    ensures { IfOk result (λ given. unwrap_or (all_of id.now (rows_of (found_of matches.now))) [] ≡ map string_bytes given.items) }
+{
+    match matches.get_strs(id) {
+        Some(texts) => owned(alloc, texts),
+        None => Ok(Vec::new(alloc)),
+    }
+}
+
+/// Whether a flag is up.
+fn flag_at(matches: &ArgMatches, id: &str) -> bool
+    ensures { IsTrue result ↔ (one_of id.now (rows_of (found_of matches.now)) ≡ Some (codes "true")) }
+{
+    matches.get_one::<bool>(id).unwrap_or(false)
+}
+
+/// The number of an option, where it is given.
+fn number_at(matches: &ArgMatches, id: &str) -> Option<u64>
+    requires { IfSome (one_of id.now (rows_of (found_of matches.now))) IsNumber }
+    ensures { option_map number_of (one_of id.now (rows_of (found_of matches.now))) ≡ result }
+{
+    matches.get_one::<u64>(id)
+}
+
+/// The line that a parse gives.
+fn line_in<'a>(alloc: Global, matches: &ArgMatches<'a>) -> Result<Line, LineFault>
+    requires given { IsGiven (rows_of (found_of matches.now)) }
+    ensures line { IfOk result (HasLine (rows_of (found_of matches.now))) }
+    ensures range { IfOk result (λ line. (line.limit ≤ 1000000000000) × IfSome line.undo IsDepth) }
+    ensures refused { IfErr result (IsReadFault (rows_of (found_of matches.now))) }
+{
+    let commands = commands_of(alloc, matches.get_str("execute"), matches.get_str("file"))?;
+    let input = String::from_str(alloc, matches.get_str("input").unwrap())?;
+    let more = texts_at(alloc, matches, "more")?;
+    let output = text_at(alloc, matches, "output")?;
+    let limit = number_at(matches, "limit").unwrap();
+    let undo = number_at(matches, "undo");
+    let prompt = flag_at(matches, "prompt");
+    let in_place = flag_at(matches, "in-place");
+    let explain = flag_at(matches, "explain");
+    Ok(Line {
+        input,
+        more,
+        output,
+        commands,
+        limit,
+        prompt,
+        in_place,
+        explain,
+        undo,
+    })
+}
+
 /// What the words say to the program's command.
 fn line_by<'a>(alloc: Global, command: Command<'a>, words: &'a [String]) -> Result<Line, LineFault>
     requires command { app_of command ≡ teco_app }
@@ -267,19 +254,7 @@ fn line_by<'a>(alloc: Global, command: Command<'a>, words: &'a [String]) -> Resu
     ensures refused { IfErr result (IsFaultOnceMade (map string_bytes words.now)) }
 {
     let matches = command.try_get_matches_from(words)?;
-    let commands = commands_of(alloc, matches.get_str("execute"), matches.get_str("file"))?;
-    let input = String::from_str(alloc, matches.get_str("input").unwrap())?;
-    let output = text_given(alloc, matches.get_str("output"))?;
-    let limit = matches.get_one::<u64>("limit").unwrap();
-    Ok(Line {
-        input,
-        output,
-        commands,
-        limit,
-        prompt: matches.get_one::<bool>("prompt").unwrap_or(false),
-        undo: matches.get_one::<u64>("undo"),
-        explain: matches.get_one::<bool>("explain").unwrap_or(false),
-    })
+    line_in(alloc, &matches)
 }
 
 /// What the words say, the program's name first:
@@ -327,6 +302,7 @@ pub fn refused_status(error: &clap::Error) -> u8
     if error.use_stderr() { 3 } else { 0 }
 }
 
+mod options;
 mod word;
 
 pub use word::commands_in;
