@@ -1,6 +1,6 @@
 -- What a parse by the program's command gives.
 use Rattle.std.proofs.Common.{◌≡◌, ◌∙◌, ◌≤◌, ℕ, Bool, true, false, refl, sym, ap, subst, arith, List, [], length, is_some, codes, Option, Some, None, Result, Ok, Err, inl, inr, true≢false}
-use Rattle.std.specs.Prelude.{option_and_then, option_map, slice_get, unwrap_or, IfSome, IsSomeAnd, IsTrue, ◌↔◌}
+use Rattle.std.specs.Prelude.{option_and_then, option_map, slice_get, unwrap_or, IfOk, IfSome, IsSomeAnd, IsTrue, ◌↔◌}
 use Rattle.std.specs.List.{slice_index_or}
 use Rattle.std.specs.Str.Parse.{ParsesBool, ParsesUnsigned}
 use Rattle.std.specs.Borrow.{Bor}
@@ -30,7 +30,8 @@ use Rattle.clap.proofs.CallerLemmas.{default_present, required_has_value}
 use Rattle.clap.proofs.SimpleLemmas.{plain_fields}
 use Rattle.clap.proofs.WalkLemmas.{first_value-rows, one_text-rows}
 use Rattle.teco_core.specs.declared.limits.TheConstants.{DEPTH_LIMIT}
-use Rattle.teco_line.specs.CommandLine.{HasLine, IsFaultOnceMade, IsGiven, IsLine, IsNumber, IsReadFault, IsRefusal, number_of, teco_app}
+use Rattle.teco_line.specs.CommandLine.{HasLine, IsCommandsFault, IsFaultOnceMade, IsGiven, IsLine, IsMisfit, IsNumber, IsReadFault, IsRefusal, number_of, teco_app}
+use Rattle.teco_line.specs.Conflict.{has_conflict}
 use Rattle.teco_line.specs.declared.line.Line.{Line}
 use Rattle.teco_line.specs.declared.line.LineFault.{LineFault}
 use Rattle.teco_line.specs.declared.line.LineFault.TheVariants.{NoMemory, Refused}
@@ -204,6 +205,7 @@ module _ (c : Command) (is : app_of c ≡ teco_app) (m : ArgMatches) (p : IsPars
     input = required_given (codes "input") refl refl refl refl;
     limit = number_given (codes "limit") refl 0 1000000000000 refl refl refl refl;
     undo = number_fits (codes "undo") refl 1 DEPTH_LIMIT refl;
+    page_lines = number_fits (codes "page-lines") refl 1 1000000000 refl;
   }
 
 -- a number that is read of a text in a range is in the range
@@ -234,15 +236,35 @@ module _ (c : Command) (m : ArgMatches) (words : List Text) (is : app_of c ≡ t
   pub words_taken : fault_of teco_app words ≡ []
   words_taken = ap (λ a. fault_of a words) (sym is) ∙ fault (ap is_simple_and_free is ∙ teco_is_free)
 
-  pub line_is : (line : Line) → HasLine (rows_of (found_of m)) line → IsLine words line
-  line_is line has = record { taken = words_taken; given = rw (← rows_are) has }
+  pub line_is : (r : Result Line LineFault) (line : Line) → HasLine (rows_of (found_of m)) line → IfOk r (λ fit. fit ≡ line) → IfOk r (λ fit. has_conflict fit ≡ false)
+      → IfOk r (IsLine words)
+  line_is (Ok fit) line has same fits = record { taken = words_taken; given = rw (← rows_are, same) has; fits = fits }
+  line_is (Err fault) line has same fits = tt
 
   pub read_fault_is : (fault : LineFault) → IsReadFault (rows_of (found_of m)) fault → IsFaultOnceMade words fault
   read_fault_is NoMemory h = words_taken
   read_fault_is (Refused error) h = inr (inr (words_taken, rw (← rows_are) h))
 
--- what two getters gave, by the rows
-pub two_texts : (P : Option Text → Option Text → Type 0) (m : ArgMatches) (a b : Text) (word file : Option Text) → word ≡ first_value (found_of m) a → file ≡ first_value (found_of m) b
-    → P word file → P (first_of a (rows_of (found_of m))) (first_of b (rows_of (found_of m)))
-two_texts P m a b word file is_word is_file h =
-    subst (λ w. P w (first_of b (rows_of (found_of m)))) (is_word ∙ first_value-rows (found_of m) a) (subst (λ f. P word f) (is_file ∙ first_value-rows (found_of m) b) h)
+  pub misfit_is : (line : Line) → HasLine (rows_of (found_of m)) line → (fault : LineFault) → IsMisfit line fault → IsFaultOnceMade words fault
+  misfit_is line has NoMemory h = words_taken
+  misfit_is line has (Refused error) h = inr (inr (words_taken, (inr (line, rw (← rows_are) has, h.0), h.1)))
+
+-- commands that are given more than once
+pub commands_fault_is : (parse : List Row) (fault : LineFault) → IsCommandsFault (first_of (codes "execute") parse) (first_of (codes "pages") parse) (first_of (codes "file") parse) fault
+    → IsReadFault parse fault
+commands_fault_is parse NoMemory h = tt
+commands_fault_is parse (Refused error) h = (inl h.0, h.1)
+
+-- what is so of a line is so of the same line
+pub same_line : (P : Line → Type 0) (r : Result Line LineFault) (line : Line) → IfOk r (λ fit. fit ≡ line) → P line → IfOk r P
+same_line P (Ok fit) line same h = rw same h
+same_line P (Err fault) line same h = tt
+
+-- what three getters gave, by the rows
+pub three_texts : (P : Option Text → Option Text → Option Text → Type 0) (m : ArgMatches) (a b d : Text) (word pages file : Option Text)
+    → word ≡ first_value (found_of m) a → pages ≡ first_value (found_of m) b → file ≡ first_value (found_of m) d → P word pages file
+    → P (first_of a (rows_of (found_of m))) (first_of b (rows_of (found_of m))) (first_of d (rows_of (found_of m)))
+three_texts P m a b d word pages file is_word is_pages is_file h =
+    let in_rows : (id : Text) (text : Option Text) → text ≡ first_value (found_of m) id → text ≡ first_of id (rows_of (found_of m)) =
+    λ id text e. e ∙ first_value-rows (found_of m) id in
+    rw (← in_rows a word is_word, ← in_rows b pages is_pages, ← in_rows d file is_file) h

@@ -1,5 +1,4 @@
 mod CommandEntries
 mod CommandRows
-mod InputRows
 mod OptionRows
 pub mod CommandLines

@@ -1,2 +1,4 @@
 pub mod CommandLine
+pub mod Conflict
 pub mod OptionTable
+pub mod StreamNames

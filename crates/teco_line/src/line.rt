@@ -1,21 +1,27 @@
 //! The program's command line.
-ghost use Rattle.clap.specs.Words.{all_of, app_of, first_of, found_of, kind_of, new_app, one_of, rows_of, rule_of};
+ghost use Rattle.clap.specs.Words.{app_of, found_of, kind_of, new_app, rows_of, rule_of};
 ghost use Rattle.std.specs.IoError.{error_kind};
-ghost use Rattle.std.specs.Prelude.{[], unwrap_or, IsTrue, ◌↔◌, Some, ◌≡◌, ◌≢◌, ◌≤◌, IfErr, IfOk, IfSome, codes, false, map, option_map};
+ghost use Rattle.std.specs.Prelude.{◌≡◌, ◌≢◌, ◌≤◌, IfErr, IfOk, IfSome, codes, false, map};
 ghost use Rattle.std.specs.String.{string_bytes};
 ghost use Rattle.std.specs.declared.io.ErrorKind.TheVariants as io_kind;
-ghost use Rattle.teco_line.specs.CommandLine.{HasLine, IsGiven, IsNumber, IsReadFault, number_of, IsCommands, IsCommandsFault, IsDepth, IsFaultOnceMade, IsLine, IsLineFault, fault_for, input_rule, more_rule, teco_app, text_behind, with_version};
+ghost use Rattle.teco_line.specs.CommandLine.{HasLine, IsCommands, IsCommandsFault, IsDepth, IsFaultOnceMade, IsGiven, IsLine, IsLineFault, IsMisfit, IsPageLength, IsReadFault, fault_for, input_rule, more_rule, teco_app, text_behind, with_version};
+ghost use Rattle.teco_line.specs.Conflict.{has_conflict};
 
 use clap::error::ErrorKind;
 use clap::{Arg, ArgAction, ArgMatches, Command};
+use conflict::conflict_in;
 use options::{OPTIONS, with_table};
 use std::alloc::Global;
 use std::io;
 use teco_core::NoMemory;
 use thiserror::Error;
+use values::{flag_at, number_at, text_at, texts_at};
 
 /// The most steps that a command string may be given.
 pub const MOST_STEPS: u64 = 1_000_000_000_000;
+
+/// The most line ends that a page may be asked to end after.
+pub const MOST_PAGE_LINES: u64 = 1_000_000_000;
 
 /// The version that the program tells.
 const VERSION: &str = "0.1.0";
@@ -29,8 +35,9 @@ and ends the program.";
 /// The usage, which the help and each faulty line show.
 const USAGE: &str = "teco [OPTIONS] <INPUT>";
 
-/// What the parser's error says of a line with a word and a file of commands.
-const BOTH: &str = "the argument '--execute <STRINGS>' cannot be used with '--file <FILE>'";
+/// What the parser's error says of a line that gives commands more than once.
+const MANY: &str =
+    "only one of '--execute <STRINGS>', '--pages <STRINGS>' and '--file <FILE>' can be used";
 
 /// Where the commands come from.
 #[derive(Drop)]
@@ -39,6 +46,8 @@ pub enum Commands {
     StandardInput,
     /// A word of the line, in which each `$` is ESC.
     Word(String),
+    /// A word of the same kind, whose strings are run on every page.
+    Pages(String),
     /// The file of this name.
     File(String),
 }
@@ -64,6 +73,8 @@ pub struct Line {
     pub explain: bool,
     /// The most command strings that are kept to be undone, from 1 to [`DEPTH_LIMIT`]; without it all are kept.
     pub undo: Option<u64>,
+    /// The line ends after which a page ends, from 1 to [`MOST_PAGE_LINES`]; without it form feeds alone end pages.
+    pub page_lines: Option<u64>,
 }
 
 /// Why there is no [`Line`].
@@ -147,74 +158,23 @@ fn error_of(alloc: Global, kind: ErrorKind, text: &str) -> Result<clap::Error, N
     command(alloc)?.error(kind, text)
 }
 
-/// Where the commands come from, by the word and the file that are given. A line with both is faulty.
-fn commands_of(alloc: Global, word: Option<&str>, file: Option<&str>) -> Result<Commands, LineFault>
-    ensures commands { IfOk result (IsCommands (text_behind word.entry) (text_behind file.entry)) }
-    ensures fault { IfErr result (IsCommandsFault (text_behind word.entry) (text_behind file.entry)) }
+/// Where the commands come from, by the texts that are given. A line with more than one is faulty.
+fn commands_of(
+    alloc: Global,
+    word: Option<&str>,
+    pages: Option<&str>,
+    file: Option<&str>,
+) -> Result<Commands, LineFault>
+    ensures commands { IfOk result (IsCommands (text_behind word.entry) (text_behind pages.entry) (text_behind file.entry)) }
+    ensures fault { IfErr result (IsCommandsFault (text_behind word.entry) (text_behind pages.entry) (text_behind file.entry)) }
 {
-    match (word, file) {
-        (None, None) => Ok(Commands::StandardInput),
-        (Some(text), None) => Ok(Commands::Word(String::from_str(alloc, text)?)),
-        (None, Some(name)) => Ok(Commands::File(String::from_str(alloc, name)?)),
-        (Some(_), Some(_)) => Err(LineFault::Refused(error_of(
-            alloc,
-            ErrorKind::ArgumentConflict,
-            BOTH,
-        )?)),
+    match (word, pages, file) {
+        (None, None, None) => Ok(Commands::StandardInput),
+        (Some(text), None, None) => Ok(Commands::Word(String::from_str(alloc, text)?)),
+        (None, Some(text), None) => Ok(Commands::Pages(String::from_str(alloc, text)?)),
+        (None, None, Some(name)) => Ok(Commands::File(String::from_str(alloc, name)?)),
+        _ => Err(LineFault::Refused(error_of(alloc, ErrorKind::ArgumentConflict, MANY)?)),
     }
-}
-
-/// A text of the line, where it is given.
-fn text_given(alloc: Global, text: Option<&str>) -> Result<Option<String>, NoMemory>
-    ensures { IfOk result (λ given. option_map string_bytes given ≡ text_behind text.entry) }
-{
-    match text {
-        Some(text) => Ok(Some(String::from_str(alloc, text)?)),
-        None => Ok(None),
-    }
-}
-
-/// The text of an option, where it is given.
-fn text_at(alloc: Global, matches: &ArgMatches, id: &str) -> Result<Option<String>, NoMemory>
-    ensures { IfOk result (λ given. first_of id.now (rows_of (found_of matches.now)) ≡ option_map string_bytes given) }
-{
-    text_given(alloc, matches.get_str(id))
-}
-
-/// The texts, of memory of their own.
-fn owned(alloc: Global, texts: &[&str]) -> Result<Vec<String>, NoMemory>
-    ensures { IfOk result (λ given. map string_bytes given.items ≡ map (λ s. s.now) texts.now) }
-{
-    let mut given = Vec::new(alloc);
-    for text in texts {
-        given.push(String::from_str(alloc, text)?)?;
-    }
-    Ok(given)
-}
-
-/// The texts of an argument that may be given more than once.
-fn texts_at(alloc: Global, matches: &ArgMatches, id: &str) -> Result<Vec<String>, NoMemory>
-    ensures { IfOk result (λ given. unwrap_or (all_of id.now (rows_of (found_of matches.now))) [] ≡ map string_bytes given.items) }
-{
-    match matches.get_strs(id) {
-        Some(texts) => owned(alloc, texts),
-        None => Ok(Vec::new(alloc)),
-    }
-}
-
-/// Whether a flag is up.
-fn flag_at(matches: &ArgMatches, id: &str) -> bool
-    ensures { IsTrue result ↔ (one_of id.now (rows_of (found_of matches.now)) ≡ Some (codes "true")) }
-{
-    matches.get_one::<bool>(id).unwrap_or(false)
-}
-
-/// The number of an option, where it is given.
-fn number_at(matches: &ArgMatches, id: &str) -> Option<u64>
-    requires { IfSome (one_of id.now (rows_of (found_of matches.now))) IsNumber }
-    ensures { option_map number_of (one_of id.now (rows_of (found_of matches.now))) ≡ result }
-{
-    matches.get_one::<u64>(id)
 }
 
 /// The line that a parse gives.
@@ -222,14 +182,18 @@ fn line_in<'a>(alloc: Global, matches: &ArgMatches<'a>) -> Result<Line, LineFaul
     requires given { IsGiven (rows_of (found_of matches.now)) }
     ensures line { IfOk result (HasLine (rows_of (found_of matches.now))) }
     ensures range { IfOk result (λ line. (line.limit ≤ 1000000000000) × IfSome line.undo IsDepth) }
+    ensures page_lines { IfOk result (λ line. IfSome line.page_lines IsPageLength) }
     ensures refused { IfErr result (IsReadFault (rows_of (found_of matches.now))) }
 {
-    let commands = commands_of(alloc, matches.get_str("execute"), matches.get_str("file"))?;
+    let word = matches.get_str("execute");
+    let pages = matches.get_str("pages");
+    let commands = commands_of(alloc, word, pages, matches.get_str("file"))?;
     let input = String::from_str(alloc, matches.get_str("input").unwrap())?;
     let more = texts_at(alloc, matches, "more")?;
     let output = text_at(alloc, matches, "output")?;
     let limit = number_at(matches, "limit").unwrap();
     let undo = number_at(matches, "undo");
+    let page_lines = number_at(matches, "page-lines");
     let prompt = flag_at(matches, "prompt");
     let in_place = flag_at(matches, "in-place");
     let explain = flag_at(matches, "explain");
@@ -243,7 +207,20 @@ fn line_in<'a>(alloc: Global, matches: &ArgMatches<'a>) -> Result<Line, LineFaul
         in_place,
         explain,
         undo,
+        page_lines,
     })
+}
+
+/// The line, if what it says goes together.
+fn fitting(alloc: Global, line: Line) -> Result<Line, LineFault>
+    ensures same { IfOk result (λ fit. fit ≡ line) }
+    ensures fits { IfOk result (λ fit. has_conflict fit ≡ false) }
+    ensures refused { IfErr result (IsMisfit line) }
+{
+    match conflict_in(&line) {
+        None => Ok(line),
+        Some(text) => Err(LineFault::Refused(error_of(alloc, ErrorKind::ArgumentConflict, text)?)),
+    }
 }
 
 /// What the words say to the program's command.
@@ -251,17 +228,19 @@ fn line_by<'a>(alloc: Global, command: Command<'a>, words: &'a [String]) -> Resu
     requires command { app_of command ≡ teco_app }
     ensures line { IfOk result (IsLine (map string_bytes words.now)) }
     ensures range { IfOk result (λ line. (line.limit ≤ 1000000000000) × IfSome line.undo IsDepth) }
+    ensures page_lines { IfOk result (λ line. IfSome line.page_lines IsPageLength) }
     ensures refused { IfErr result (IsFaultOnceMade (map string_bytes words.now)) }
 {
     let matches = command.try_get_matches_from(words)?;
-    line_in(alloc, &matches)
+    let line = line_in(alloc, &matches)?;
+    fitting(alloc, line)
 }
 
-/// What the words say, the program's name first:
-/// `teco [--limit N] [--output FILE] [--prompt] [--explain] [--undo N] [--execute STRINGS | --file FILE] INPUT`.
+/// What the words say, the program's name first: `teco [OPTIONS] INPUT...`.
 pub fn line_of(alloc: Global, words: &[String]) -> Result<Line, LineFault>
     ensures line { IfOk result (IsLine (map string_bytes words.now)) }
     ensures range { IfOk result (λ line. (line.limit ≤ 1000000000000) × IfSome line.undo IsDepth) }
+    ensures page_lines { IfOk result (λ line. IfSome line.page_lines IsPageLength) }
     ensures refused { IfErr result (IsLineFault (map string_bytes words.now)) }
 {
     line_by(alloc, command(alloc)?, words)
@@ -302,7 +281,11 @@ pub fn refused_status(error: &clap::Error) -> u8
     if error.use_stderr() { 3 } else { 0 }
 }
 
+mod conflict;
 mod options;
+mod streams;
+mod values;
 mod word;
 
-pub use word::commands_in;
+pub use streams::{is_standard_input, is_standard_output};
+pub use word::{commands_in, commands_on_pages};

@@ -3,7 +3,7 @@ ghost use Rattle.clap.specs.Words.{app_of, rule_of};
 ghost use Rattle.std.specs.Prelude.{◌≡◌, IfOk, false, map};
 ghost use Rattle.teco_line.specs.OptionTable.{option, rule_by, with_rules};
 
-use super::MOST_STEPS;
+use super::{MOST_PAGE_LINES, MOST_STEPS};
 use clap::builder::ValueParser;
 use clap::{Arg, ArgAction, Command};
 use std::alloc::Global;
@@ -38,13 +38,34 @@ pub(crate) struct OptionRow {
 }
 
 /// Every option, in the order of the help.
-pub(crate) const OPTIONS: [OptionRow; 8] = [
+pub(crate) const OPTIONS: [OptionRow; 10] = [
     OptionRow {
-        name: "limit",
-        short: None,
-        takes: Takes::NumberOr(0, MOST_STEPS, "1000000"),
-        value: "N",
-        help: "The most steps that each command string may take, at most 1000000000000",
+        name: "execute",
+        short: Some('e'),
+        takes: Takes::Text,
+        value: "STRINGS",
+        help: "The command strings, in which $ is ESC",
+    },
+    OptionRow {
+        name: "pages",
+        short: Some('p'),
+        takes: Takes::Text,
+        value: "STRINGS",
+        help: "The same on each page, and then an exit: -e 'Y<STRINGS$-1-^N;P>EX$$'",
+    },
+    OptionRow {
+        name: "file",
+        short: Some('f'),
+        takes: Takes::Text,
+        value: "FILE",
+        help: "The file that the commands are read from, as they are",
+    },
+    OptionRow {
+        name: "output",
+        short: Some('o'),
+        takes: Takes::Text,
+        value: "FILE",
+        help: "Where the output goes after an exit, or - for standard output; INPUT.out without it",
     },
     OptionRow {
         name: "in-place",
@@ -54,11 +75,25 @@ pub(crate) const OPTIONS: [OptionRow; 8] = [
         help: "Writes the output over each INPUT",
     },
     OptionRow {
-        name: "output",
-        short: Some('o'),
-        takes: Takes::Text,
-        value: "FILE",
-        help: "Where the output goes after an exit; INPUT.out where it is not given",
+        name: "page-lines",
+        short: None,
+        takes: Takes::Number(1, MOST_PAGE_LINES),
+        value: "N",
+        help: "The line ends after which a page ends, at most 1000000000; form feeds alone without it",
+    },
+    OptionRow {
+        name: "limit",
+        short: None,
+        takes: Takes::NumberOr(0, MOST_STEPS, "1000000"),
+        value: "N",
+        help: "The most steps that each command string may take, at most 1000000000000",
+    },
+    OptionRow {
+        name: "undo",
+        short: None,
+        takes: Takes::Number(1, DEPTH_LIMIT as u64),
+        value: "N",
+        help: "The most command strings kept to be undone, at most 100000; all without it",
     },
     OptionRow {
         name: "prompt",
@@ -73,27 +108,6 @@ pub(crate) const OPTIONS: [OptionRow; 8] = [
         takes: Takes::Nothing,
         value: "",
         help: "Explains each error, and with --prompt what was done, on standard error",
-    },
-    OptionRow {
-        name: "undo",
-        short: None,
-        takes: Takes::Number(1, DEPTH_LIMIT as u64),
-        value: "N",
-        help: "The most command strings kept to be undone, at most 100000; all without it",
-    },
-    OptionRow {
-        name: "execute",
-        short: Some('e'),
-        takes: Takes::Text,
-        value: "STRINGS",
-        help: "The command strings, in which $ is ESC",
-    },
-    OptionRow {
-        name: "file",
-        short: Some('f'),
-        takes: Takes::Text,
-        value: "FILE",
-        help: "The file that the commands are read from, as they are",
     },
 ];
 

@@ -2,7 +2,7 @@ use Rattle.std.proofs.Common.{sym, ◌∙◌}
 use Rattle.std.proofs.lemmas.Result.{IfOk-weaker}
 use Rattle.clap.proofs.WalkLemmas.{first_value-rows}
 use Rattle.clap.specs.Words.{found_of}
-use Rattle.teco_line.proofs.line.text_at.Goals as goal
+use Rattle.teco_line.proofs.line.values.text_at.Goals as goal
 
 pub returns : goal.returns
 returns c =

@@ -3,7 +3,7 @@ use Rattle.std.specs.Str.Parse.{ParsesBool}
 use Rattle.clap.proofs.WalkLemmas.{one_text-rows}
 use Rattle.clap.specs.Words.{found_of, one_of, rows_of}
 use Rattle.teco_line.proofs.CommandLines.{flag_read}
-use Rattle.teco_line.proofs.line.flag_at.Goals as goal
+use Rattle.teco_line.proofs.line.values.flag_at.Goals as goal
 
 pub returns : goal.returns
 returns c =
