@@ -30,8 +30,9 @@ use Rattle.clap.proofs.CallerLemmas.{default_present, required_has_value}
 use Rattle.clap.proofs.SimpleLemmas.{plain_fields}
 use Rattle.clap.proofs.WalkLemmas.{first_value-rows, one_text-rows}
 use Rattle.teco_core.specs.declared.limits.TheConstants.{DEPTH_LIMIT}
-use Rattle.teco_line.specs.CommandLine.{HasLine, IsCommandsFault, IsFaultOnceMade, IsGiven, IsLine, IsMisfit, IsNumber, IsReadFault, IsRefusal, number_of, teco_app}
+use Rattle.teco_line.specs.CommandLine.{HasLine, IsCommandsFault, IsFaultOnceMade, IsGiven, IsLineBy, IsLineFault, IsMisfit, IsNumber, IsReadFault, IsRefusal, number_of, teco_app}
 use Rattle.teco_line.specs.Conflict.{has_conflict}
+use Rattle.teco_line.specs.Joining.{joined}
 use Rattle.teco_line.specs.declared.line.Line.{Line}
 use Rattle.teco_line.specs.declared.line.LineFault.{LineFault}
 use Rattle.teco_line.specs.declared.line.LineFault.TheVariants.{NoMemory, Refused}
@@ -237,7 +238,7 @@ module _ (c : Command) (m : ArgMatches) (words : List Text) (is : app_of c ≡ t
   words_taken = ap (λ a. fault_of a words) (sym is) ∙ fault (ap is_simple_and_free is ∙ teco_is_free)
 
   pub line_is : (r : Result Line LineFault) (line : Line) → HasLine (rows_of (found_of m)) line → IfOk r (λ fit. fit ≡ line) → IfOk r (λ fit. has_conflict fit ≡ false)
-      → IfOk r (IsLine words)
+      → IfOk r (IsLineBy words)
   line_is (Ok fit) line has same fits = record { taken = words_taken; given = rw (← rows_are, same) has; fits = fits }
   line_is (Err fault) line has same fits = tt
 
@@ -268,3 +269,8 @@ three_texts P m a b d word pages file is_word is_pages is_file h =
     let in_rows : (id : Text) (text : Option Text) → text ≡ first_value (found_of m) id → text ≡ first_of id (rows_of (found_of m)) =
     λ id text e. e ∙ first_value-rows (found_of m) id in
     rw (← in_rows a word is_word, ← in_rows b pages is_pages, ← in_rows d file is_file) h
+
+-- why a line is refused once the command is made is why it is refused
+pub fault_at_all : (words : List Text) (fault : LineFault) → IsFaultOnceMade (joined words) fault → IsLineFault words fault
+fault_at_all words NoMemory h = tt
+fault_at_all words (Refused error) h = h

@@ -4,6 +4,7 @@ use Rattle.clap.specs.Words.{Text, all_of, fault_of, first_of, matches_of, one_o
 use Rattle.clap.specs.declared.error.kind.ErrorKind.TheVariants.{ArgumentConflict, DisplayHelp, InvalidValue, MissingRequiredArgument, TooManyValues, UnknownArgument, ValueValidation}
 use Rattle.clap.proofs.OnLiterals.{clap_on_literals}
 use Rattle.teco_line.specs.CommandLine.{on_pages, teco_app}
+use Rattle.teco_line.specs.Joining.{joined, joined_after}
 use Rattle.teco_line.specs.StreamNames.{is_standard_input, is_standard_output}
 
 -- what the words give for the inputs, the output, the flags and the numbers
@@ -65,11 +66,11 @@ numbers = refl
 -- teco a --prompt --explain -ob --limit=0 --undo=100000
 all_given : row_of (codes "teco" ∷ codes "a" ∷ codes "--prompt" ∷ codes "--explain" ∷ codes "-ob" ∷ codes "--limit=0" ∷ codes "--undo=100000" ∷ [])
     ≡ record (plain (codes "a")) {
-        output = Some (codes "b");
-        prompt = Some (codes "true");
-        explain = Some (codes "true");
-        limit = Some (codes "0");
-        undo = Some (codes "100000");
+      output = Some (codes "b");
+      prompt = Some (codes "true");
+      explain = Some (codes "true");
+      limit = Some (codes "0");
+      undo = Some (codes "100000");
     }
 unfolding clap_on_literals
 all_given = refl
@@ -171,3 +172,19 @@ input_named = refl
 output_named : map is_standard_output (codes "-" ∷ codes "/dev/stdout" ∷ codes "/dev/fd/1" ∷ codes "/proc/self/fd/1" ∷ codes "/dev/stdin" ∷ codes "./-" ∷ codes "" ∷ [])
     ≡ true ∷ true ∷ true ∷ true ∷ false ∷ false ∷ false ∷ []
 output_named = refl
+
+-- teco -e -1J a; teco --limit -1 a; teco -i -e x -f; teco -- -e -1J; teco -e
+joined_words : map joined (
+    (codes "teco" ∷ codes "-e" ∷ codes "-1J" ∷ codes "a" ∷ [])
+    ∷ (codes "teco" ∷ codes "--limit" ∷ codes "-1" ∷ codes "a" ∷ [])
+    ∷ (codes "teco" ∷ codes "-i" ∷ codes "-e" ∷ codes "x" ∷ codes "-f" ∷ [])
+    ∷ (codes "teco" ∷ codes "--" ∷ codes "-e" ∷ codes "-1J" ∷ [])
+    ∷ (codes "teco" ∷ codes "-e" ∷ [])
+    ∷ []) ≡ (codes "teco" ∷ codes "-e-1J" ∷ codes "a" ∷ [])
+    ∷ (codes "teco" ∷ codes "--limit=-1" ∷ codes "a" ∷ [])
+    ∷ (codes "teco" ∷ codes "-i" ∷ codes "-e" ∷ codes "x" ∷ codes "-f" ∷ [])
+    ∷ (codes "teco" ∷ codes "--" ∷ codes "-e" ∷ codes "-1J" ∷ [])
+    ∷ (codes "teco" ∷ codes "-e" ∷ [])
+    ∷ []
+unfolding joined_after
+joined_words = refl

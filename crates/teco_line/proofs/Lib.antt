@@ -1,4 +1,5 @@
 mod CommandEntries
 mod CommandRows
+mod Joinings
 mod OptionRows
 pub mod CommandLines

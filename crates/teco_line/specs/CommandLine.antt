@@ -14,26 +14,13 @@ use Rattle.clap.specs.declared.error.kind.ErrorKind.TheVariants as kind
 use Rattle.teco_core.specs.declared.ascii.TheConstants.{ESC}
 use Rattle.teco_core.specs.declared.limits.TheConstants.{DEPTH_LIMIT}
 use Rattle.teco_line.specs.Conflict.{has_conflict}
-use Rattle.teco_line.specs.OptionTable.{flag, with_number, with_rules, with_text}
+use Rattle.teco_line.specs.Joining.{joined}
+use Rattle.teco_line.specs.OptionTable.{option_rules, with_rules}
 use Rattle.teco_line.specs.declared.line.Commands.{Commands}
 use Rattle.teco_line.specs.declared.line.Commands.TheVariants.{StandardInput, Word, Pages, File}
 use Rattle.teco_line.specs.declared.line.Line.{Line}
 use Rattle.teco_line.specs.declared.line.LineFault.{LineFault}
 use Rattle.teco_line.specs.declared.line.LineFault.TheVariants.{Refused, NoMemory}
-
--- the options, each with its letter if it has one
-abbrev pub option_rules : List Rule
-option_rules = with_text (codes "execute") (Some 101)
-    ∷ with_text (codes "pages") (Some 112)
-    ∷ with_text (codes "file") (Some 102)
-    ∷ with_text (codes "output") (Some 111)
-    ∷ flag (codes "in-place") (Some 105)
-    ∷ with_number (codes "page-lines") None 1 1000000000 []
-    ∷ with_number (codes "limit") None 0 1000000000000 (codes "1000000" ∷ [])
-    ∷ with_number (codes "undo") None 1 DEPTH_LIMIT []
-    ∷ flag (codes "prompt") None
-    ∷ flag (codes "explain") None
-    ∷ []
 
 -- a depth that a session can be asked for
 abbrev pub IsDepth : ℕ → Type 0
@@ -122,12 +109,16 @@ pub record HasLine (rows : List Row) (line : Line) : Type 0 where
   pub page_lines : option_map number_of (one_of (codes "page-lines") rows) ≡ line.page_lines
 
 -- The line has what the parse of these words gives.
-pub record IsLine (words : List Text) (line : Line) : Type 0 where
+pub record IsLineBy (words : List Text) (line : Line) : Type 0 where
   -- the parser takes the words
   pub taken : fault_of teco_app words ≡ []
   pub given : HasLine (matches_of teco_app words) line
   -- and what it says goes together
   pub fits : has_conflict line ≡ false
+
+-- The line is what the words say, the program's name first: the parser reads them as they are joined.
+abbrev pub IsLine : List Text → Line → Type 0
+IsLine words = IsLineBy (joined words)
 
 -- a text that is read as a number
 abbrev pub IsNumber : Text → Type 0
@@ -166,10 +157,10 @@ IsRefusal words error = (kind_of error ≡ kind.OutOfMemory)
 -- Why the words gave no line: memory was refused, or the line is.
 abbrev pub IsLineFault : List Text → LineFault → Type 0
 IsLineFault words NoMemory = ⊤
-IsLineFault words (Refused error) = IsRefusal words error
+IsLineFault words (Refused error) = IsRefusal (joined words) error
 
--- The same once the command is made: memory is refused to the program itself only where the parser takes the
--- words, so a faulty line is never told as that.
+-- The same once the words are joined and the command is made: memory is refused to the program itself only
+-- where the parser takes the words, so a faulty line is never told as that.
 abbrev pub IsFaultOnceMade : List Text → LineFault → Type 0
 IsFaultOnceMade words NoMemory = fault_of teco_app words ≡ []
 IsFaultOnceMade words (Refused error) = IsRefusal words error

@@ -1,8 +1,9 @@
 -- The rules that the parser has for the rows of the table of options.
-use Rattle.std.specs.Prelude.{ℕ, List, [], ◌∷◌, Option, Some}
+use Rattle.std.specs.Prelude.{ℕ, List, [], ◌∷◌, codes, Option, Some, None}
 use Rattle.clap.specs.Words.{App, Rule, new_rule, with_rule}
 use Rattle.clap.specs.declared.builder.action.ArgAction.TheVariants.{Set, SetTrue}
 use Rattle.clap.specs.declared.builder.value_parser.ValueParser.TheVariants as parser
+use Rattle.teco_core.specs.declared.limits.TheConstants.{DEPTH_LIMIT}
 use Rattle.teco_line.specs.declared.line.options.OptionRow.{OptionRow}
 use Rattle.teco_line.specs.declared.line.options.Takes.{Takes}
 use Rattle.teco_line.specs.declared.line.options.Takes.TheVariants.{Nothing, Text, Number, NumberOr}
@@ -41,3 +42,17 @@ rule_by row = rule_taking row.takes row.name.now row.short
 abbrev pub with_rules : App → List Rule → App
 with_rules app [] = app
 with_rules app (rule ∷ rules) = with_rules (with_rule app rule) rules
+
+-- the options, each with its letter if it has one
+abbrev pub option_rules : List Rule
+option_rules = with_text (codes "execute") (Some 101)
+    ∷ with_text (codes "pages") (Some 112)
+    ∷ with_text (codes "file") (Some 102)
+    ∷ with_text (codes "output") (Some 111)
+    ∷ flag (codes "in-place") (Some 105)
+    ∷ with_number (codes "page-lines") None 1 1000000000 []
+    ∷ with_number (codes "limit") None 0 1000000000000 (codes "1000000" ∷ [])
+    ∷ with_number (codes "undo") None 1 DEPTH_LIMIT []
+    ∷ flag (codes "prompt") None
+    ∷ flag (codes "explain") None
+    ∷ []

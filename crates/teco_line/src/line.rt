@@ -4,12 +4,13 @@ ghost use Rattle.std.specs.IoError.{error_kind};
 ghost use Rattle.std.specs.Prelude.{◌≡◌, ◌≢◌, ◌≤◌, IfErr, IfOk, IfSome, codes, false, map};
 ghost use Rattle.std.specs.String.{string_bytes};
 ghost use Rattle.std.specs.declared.io.ErrorKind.TheVariants as io_kind;
-ghost use Rattle.teco_line.specs.CommandLine.{HasLine, IsCommands, IsCommandsFault, IsDepth, IsFaultOnceMade, IsGiven, IsLine, IsLineFault, IsMisfit, IsPageLength, IsReadFault, fault_for, input_rule, more_rule, teco_app, text_behind, with_version};
+ghost use Rattle.teco_line.specs.CommandLine.{HasLine, IsCommands, IsCommandsFault, IsDepth, IsFaultOnceMade, IsGiven, IsLine, IsLineBy, IsLineFault, IsMisfit, IsPageLength, IsReadFault, fault_for, input_rule, more_rule, teco_app, text_behind, with_version};
 ghost use Rattle.teco_line.specs.Conflict.{has_conflict};
 
 use clap::error::ErrorKind;
 use clap::{Arg, ArgAction, ArgMatches, Command};
 use conflict::conflict_in;
+use joining::joined;
 use options::{OPTIONS, with_table};
 use std::alloc::Global;
 use std::io;
@@ -226,7 +227,7 @@ fn fitting(alloc: Global, line: Line) -> Result<Line, LineFault>
 /// What the words say to the program's command.
 fn line_by<'a>(alloc: Global, command: Command<'a>, words: &'a [String]) -> Result<Line, LineFault>
     requires command { app_of command ≡ teco_app }
-    ensures line { IfOk result (IsLine (map string_bytes words.now)) }
+    ensures line { IfOk result (IsLineBy (map string_bytes words.now)) }
     ensures range { IfOk result (λ line. (line.limit ≤ 1000000000000) × IfSome line.undo IsDepth) }
     ensures page_lines { IfOk result (λ line. IfSome line.page_lines IsPageLength) }
     ensures refused { IfErr result (IsFaultOnceMade (map string_bytes words.now)) }
@@ -243,7 +244,8 @@ pub fn line_of(alloc: Global, words: &[String]) -> Result<Line, LineFault>
     ensures page_lines { IfOk result (λ line. IfSome line.page_lines IsPageLength) }
     ensures refused { IfErr result (IsLineFault (map string_bytes words.now)) }
 {
-    line_by(alloc, command(alloc)?, words)
+    let made = joined(alloc, words)?;
+    line_by(alloc, command(alloc)?, made.as_slice())
 }
 
 /// The parser's error for an argument that is not UTF-8.
@@ -282,6 +284,7 @@ pub fn refused_status(error: &clap::Error) -> u8
 }
 
 mod conflict;
+mod joining;
 mod options;
 mod streams;
 mod values;

@@ -26,11 +26,11 @@ pub(crate) enum Takes {
 #[derive(Clone, Copy)]
 pub(crate) struct OptionRow {
     /// What follows the two hyphens; it names the option.
-    name: &'static str,
+    pub(crate) name: &'static str,
     /// What follows the one hyphen.
-    short: Option<char>,
+    pub(crate) short: Option<char>,
     /// What it takes.
-    takes: Takes,
+    pub(crate) takes: Takes,
     /// What the help calls the value.
     value: &'static str,
     /// What the help says.
