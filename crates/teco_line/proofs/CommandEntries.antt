@@ -1,19 +1,15 @@
--- The arguments of the program's command, and the entries of a parse by it.
-use Rattle.std.proofs.Common.{◌≡◌, ◌∙◌, ◌<◌, ◌≤◌, ℕ, Bool, true, false, zero, suc, refl, sym, ap, subst, arith, List, [], ◌∷◌, length, is_some, codes, Option, Some, None, inl, inr, true≢false}
-use Rattle.std.specs.Prelude.{find, map, option_map, slice_get}
-use Rattle.std.specs.List.{All, list_all, slice_index_or}
+-- The entries of a parse.
+use Rattle.std.proofs.Common.{◌≡◌, ◌∙◌, ◌<◌, ◌≤◌, ℕ, Bool, true, false, zero, suc, refl, sym, ap, subst, arith, List, [], ◌∷◌, length, is_some, Option, Some, None, inl, inr}
+use Rattle.std.specs.Prelude.{find, option_map, slice_get}
+use Rattle.std.specs.List.{All, slice_index_or}
 use Rattle.std.specs.Str.{bytes_eq}
 use Rattle.std.specs.Borrow.{Bor}
-use Rattle.std.proofs.lemmas.List.{get_or-map, length-map}
 use Rattle.std.proofs.lemmas.List.Elements.{All-get_or}
 use Rattle.std.proofs.lemmas.Slice.Eq.{bytes_eq-Decides}
 use Rattle.clap.specs.Facts.{Entry, EntryPasses, HasIn, HasReading, IsParsed, PassesArg, args_of, groups_of, least_values, parser_of, parser_of_value}
 use Rattle.clap.specs.Built.{IsAuto, IsParsedFrom, IsPlain}
 use Rattle.clap.specs.Values.{Accepts, read_as, reading_of}
 use Rattle.clap.specs.Matches.{first_value, found_of, has_subcommand, matched_of, one_text}
-use Rattle.clap.specs.Walk.{Rule, Text, rule_of}
-use Rattle.clap.specs.Simple.{IsSimple, app_of, is_ready, is_ready_leaf, is_simple}
-use Rattle.clap.specs.Faults.{has_free_rules, is_simple_and_free}
 use Rattle.clap.specs.declared.builder.action.ArgAction.TheVariants.{Count, Set}
 use Rattle.clap.specs.declared.builder.arg.Arg.{Arg}
 use Rattle.clap.specs.declared.builder.command.Command.{Command}
@@ -24,73 +20,6 @@ use Rattle.clap.specs.declared.parser.matches.ArgMatches.{ArgMatches}
 use Rattle.clap.specs.declared.parser.matches.Found.{Found}
 use Rattle.clap.specs.declared.parser.matches.MatchedArg.{MatchedArg}
 use Rattle.clap.proofs.CallerLemmas.{entry_by_id, same_rules_by_id}
-use Rattle.clap.proofs.FaultLemmas.{free_args}
-use Rattle.clap.proofs.SimpleLemmas.{all_simple, ready_simple, simple_groups}
-use Rattle.teco_line.specs.CommandLine.{teco_app}
-
--- the command is one whose matches the parser's contract says, and no argument has a rule on another
-pub teco_is_simple : is_simple teco_app ≡ true
-teco_is_simple = refl
-
-pub teco_is_free : is_simple_and_free teco_app ≡ true
-teco_is_free = refl
-
-pub some_arg : (xs : List Arg) → length xs ≡ 8 → Arg
-some_arg [] e = absurd (omega arith)
-some_arg (x ∷ xs) e = x
-
--- ---- the arguments of the program's command
-
-module _ (c : Command) (is : app_of c ≡ teco_app) where
-  rules_are : map rule_of (args_of c) ≡ teco_app.top.rules
-  rules_are = ap (λ a. a.top.rules) is
-
-  pub count_is : length (args_of c) ≡ 8
-  count_is = sym (length-map (args_of c) rule_of) ∙ ap length rules_are
-
-  rule_at : (k : ℕ) (d : Arg) → k < length (args_of c) → rule_of (slice_index_or (args_of c) k d) ≡ slice_index_or teco_app.top.rules k (rule_of d)
-  rule_at k d lt = sym (get_or-map rule_of (args_of c) k d (rule_of d) lt) ∙ ap (λ xs. slice_index_or xs k (rule_of d)) rules_are
-
-  id_at : (k : ℕ) (d : Arg) → k < length (args_of c) → (slice_index_or (args_of c) k d).id.now ≡ (slice_index_or teco_app.top.rules k (rule_of d)).id
-  id_at k d lt = ap (λ r. r.id) (rule_at k d lt)
-
-  pub simple_is : IsSimple c
-  simple_is = ready_simple c (ap (λ a. is_ready a.top) is) (ap (λ a. list_all is_ready_leaf a.subs) is)
-
-  pub plain_is : IsPlain c
-  plain_is =
-      let free = free_args c simple_is (ap (λ a. has_free_rules a.top) is) in
-      let groups = simple_groups c (ap (λ a. all_simple a.top.rules) is) in
-      (λ k d lt. ((free k d lt).exclusive, (free k d lt).conflicts, (free k d lt).overrides, groups k d lt), simple_is.groups)
-
--- an argument that no other one is taken for, and that is none of the parser's own
-pub record IsAlone (c : Command) (k : ℕ) (rule : Rule) (arg : Arg) : Type 0 where
-  pub within : k < length (args_of c)
-  pub rule_is : rule_of arg ≡ rule
-  pub id_is : arg.id.now ≡ rule.id
-  pub own : IsAuto arg → ⊥
-  pub named : arg.id.now ≡ [] → ⊥
-  pub unique : (j : ℕ) (e : Arg) → j < length (args_of c) → bytes_eq (slice_index_or (args_of c) j e).id.now arg.id.now ≡ true → j ≡ k
-
-pub alone_at : (c : Command) → app_of c ≡ teco_app → (k : ℕ) (rule : Rule) (d : Arg) → k < 8 → slice_index_or teco_app.top.rules k (rule_of d) ≡ rule
-    → ((j : ℕ) (r : Rule) → j < 8 → bytes_eq (slice_index_or teco_app.top.rules j r).id rule.id ≡ true → j ≡ k)
-    → bytes_eq (codes "help") rule.id ≡ false → bytes_eq (codes "version") rule.id ≡ false → bytes_eq [] rule.id ≡ false
-    → IsAlone c k rule (slice_index_or (args_of c) k d)
-alone_at c is k rule d low at only no_help no_version no_empty =
-    let count = count_is c is in
-    let lt : k < length (args_of c) = omega arith in
-    let rule_is = rule_at c is k d lt ∙ at in
-    let id_is : (slice_index_or (args_of c) k d).id.now ≡ rule.id = ap (λ r. r.id) rule_is in
-    let apart : (t : Text) → bytes_eq t rule.id ≡ false → (slice_index_or (args_of c) k d).id.now ≡ t → ⊥ =
-    λ t other e. true≢false (sym ((bytes_eq-Decides t rule.id).1 (sym e ∙ id_is)) ∙ other) in
-    record {
-      within = lt;
-      rule_is = rule_is;
-      id_is = id_is;
-      own = λ auto. elim auto [ inl h ↦ apart (codes "help") no_help h | inr h ↦ apart (codes "version") no_version h ];
-      named = apart [] no_empty;
-      unique = λ j e less same. only j (rule_of e) (omega arith) (rw (← id_at c is j e less, ← id_is) same);
-    }
 
 -- ---- entries
 

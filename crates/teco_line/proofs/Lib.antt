@@ -1,4 +1,5 @@
 mod CommandEntries
-pub mod CommandLines
 mod CommandRows
-pub mod Narrowing
+mod Joinings
+mod OptionRows
+pub mod CommandLines

@@ -1,1 +1,5 @@
 pub mod CommandLine
+pub mod Conflict
+pub mod Joining
+pub mod OptionTable
+pub mod StreamNames

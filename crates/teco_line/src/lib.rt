@@ -4,5 +4,6 @@
 mod line;
 
 pub use line::{
-    Commands, Line, LineFault, commands_in, fault_of_words, line_of, not_text, refused_status,
+    Commands, Line, LineFault, MOST_PAGE_LINES, MOST_STEPS, commands_in, commands_on_pages,
+    fault_of_words, is_standard_input, is_standard_output, line_of, not_text, refused_status,
 };

@@ -1,20 +1,28 @@
 //! The program's command line.
-ghost use Rattle.clap.specs.Words.{app_of, kind_of, new_app, rule_of};
+ghost use Rattle.clap.specs.Words.{app_of, found_of, kind_of, new_app, rows_of, rule_of};
 ghost use Rattle.std.specs.IoError.{error_kind};
-ghost use Rattle.std.specs.Prelude.{◌≡◌, ◌≢◌, ◌≤◌, IfErr, IfOk, IfSome, codes, false, map, option_map};
+ghost use Rattle.std.specs.Prelude.{◌≡◌, ◌≢◌, ◌≤◌, IfErr, IfOk, IfSome, codes, false, map};
 ghost use Rattle.std.specs.String.{string_bytes};
 ghost use Rattle.std.specs.declared.io.ErrorKind.TheVariants as io_kind;
-ghost use Rattle.teco_line.specs.CommandLine.{IsCommands, IsCommandsFault, IsDepth, IsFaultOnceMade, IsLine, IsLineFault, execute_rule, explain_rule, fault_for, file_rule, input_rule, limit_rule, option_rules, output_rule, prompt_rule, source_rules, teco_app, text_behind, undo_rule, with_rules, with_version};
+ghost use Rattle.teco_line.specs.CommandLine.{HasLine, IsCommands, IsCommandsFault, IsDepth, IsFaultOnceMade, IsGiven, IsLine, IsLineBy, IsLineFault, IsMisfit, IsPageLength, IsReadFault, fault_for, input_rule, more_rule, teco_app, text_behind, with_version};
+ghost use Rattle.teco_line.specs.Conflict.{has_conflict};
 
 use clap::error::ErrorKind;
-use clap::{Arg, ArgAction, Command};
+use clap::{Arg, ArgAction, ArgMatches, Command};
+use conflict::conflict_in;
+use joining::joined;
+use options::{OPTIONS, with_table};
 use std::alloc::Global;
 use std::io;
-use teco_core::{DEPTH_LIMIT, NoMemory};
+use teco_core::NoMemory;
 use thiserror::Error;
+use values::{flag_at, number_at, text_at, texts_at};
 
 /// The most steps that a command string may be given.
 pub const MOST_STEPS: u64 = 1_000_000_000_000;
+
+/// The most line ends that a page may be asked to end after.
+pub const MOST_PAGE_LINES: u64 = 1_000_000_000;
 
 /// The version that the program tells.
 const VERSION: &str = "0.1.0";
@@ -28,8 +36,9 @@ and ends the program.";
 /// The usage, which the help and each faulty line show.
 const USAGE: &str = "teco [OPTIONS] <INPUT>";
 
-/// What the parser's error says of a line with a word and a file of commands.
-const BOTH: &str = "the argument '--execute <STRINGS>' cannot be used with '--file <FILE>'";
+/// What the parser's error says of a line that gives commands more than once.
+const MANY: &str =
+    "only one of '--execute <STRINGS>', '--pages <STRINGS>' and '--file <FILE>' can be used";
 
 /// Where the commands come from.
 #[derive(Drop)]
@@ -38,6 +47,8 @@ pub enum Commands {
     StandardInput,
     /// A word of the line, in which each `$` is ESC.
     Word(String),
+    /// A word of the same kind, whose strings are run on every page.
+    Pages(String),
     /// The file of this name.
     File(String),
 }
@@ -47,18 +58,24 @@ pub enum Commands {
 pub struct Line {
     /// The name of the input file.
     pub input: String,
+    /// The names of the input files after it.
+    pub more: Vec<String>,
     /// The name of the output file, if one is given.
     pub output: Option<String>,
     /// Where the commands come from.
     pub commands: Commands,
     /// The most steps that each command string may take, at most [`MOST_STEPS`].
     pub limit: u64,
+    /// Whether the output is written over the input.
+    pub in_place: bool,
     /// Whether a star is shown where commands are wanted.
     pub prompt: bool,
     /// Whether each code that is shown is explained on standard error.
     pub explain: bool,
     /// The most command strings that are kept to be undone, from 1 to [`DEPTH_LIMIT`]; without it all are kept.
     pub undo: Option<u64>,
+    /// The line ends after which a page ends, from 1 to [`MOST_PAGE_LINES`]; without it form feeds alone end pages.
+    pub page_lines: Option<u64>,
 }
 
 /// Why there is no [`Line`].
@@ -92,86 +109,6 @@ impl From<clap::Error> for LineFault {
     }
 }
 
-fn limit_arg<'a>(alloc: Global) -> Arg<'a>
-    ensures rule { rule_of result ≡ limit_rule }
-    ensures local { result.global ≡ false }
-{
-    Arg::new(alloc, "limit")
-        .long("limit")
-        .value_name("N")
-        .action(ArgAction::Set)
-        .value_parser(clap::value_parser!(u64).range(0..=MOST_STEPS as i64))
-        .default_value("1000000")
-        .help("The most steps that each command string may take, at most 1000000000000")
-}
-
-fn output_arg<'a>(alloc: Global) -> Arg<'a>
-    ensures rule { rule_of result ≡ output_rule }
-    ensures local { result.global ≡ false }
-{
-    Arg::new(alloc, "output")
-        .long("output")
-        .value_name("FILE")
-        .action(ArgAction::Set)
-        .help("Where the output goes after an exit; INPUT.out where it is not given")
-}
-
-fn prompt_arg<'a>(alloc: Global) -> Arg<'a>
-    ensures rule { rule_of result ≡ prompt_rule }
-    ensures local { result.global ≡ false }
-{
-    Arg::new(alloc, "prompt")
-        .long("prompt")
-        .action(ArgAction::SetTrue)
-        .help("Types * where a command string is awaited")
-}
-
-fn explain_arg<'a>(alloc: Global) -> Arg<'a>
-    ensures rule { rule_of result ≡ explain_rule }
-    ensures local { result.global ≡ false }
-{
-    Arg::new(alloc, "explain")
-        .long("explain")
-        .action(ArgAction::SetTrue)
-        .help("Explains each error, and with --prompt what was done, on standard error")
-}
-
-fn undo_arg<'a>(alloc: Global) -> Arg<'a>
-    ensures rule { rule_of result ≡ undo_rule }
-    ensures local { result.global ≡ false }
-{
-    Arg::new(alloc, "undo")
-        .long("undo")
-        .value_name("N")
-        .action(ArgAction::Set)
-        .value_parser(clap::value_parser!(u64).range(1..=DEPTH_LIMIT as i64))
-        .help("The most command strings kept to be undone, at most 100000; all without it")
-}
-
-fn execute_arg<'a>(alloc: Global) -> Arg<'a>
-    ensures rule { rule_of result ≡ execute_rule }
-    ensures local { result.global ≡ false }
-{
-    Arg::new(alloc, "execute")
-        .short('e')
-        .long("execute")
-        .value_name("STRINGS")
-        .action(ArgAction::Set)
-        .help("The command strings, in which $ is ESC")
-}
-
-fn file_arg<'a>(alloc: Global) -> Arg<'a>
-    ensures rule { rule_of result ≡ file_rule }
-    ensures local { result.global ≡ false }
-{
-    Arg::new(alloc, "file")
-        .short('f')
-        .long("file")
-        .value_name("FILE")
-        .action(ArgAction::Set)
-        .help("The file that the commands are read from, as they are")
-}
-
 fn input_arg<'a>(alloc: Global) -> Arg<'a>
     ensures rule { rule_of result ≡ input_rule }
     ensures local { result.global ≡ false }
@@ -181,6 +118,16 @@ fn input_arg<'a>(alloc: Global) -> Arg<'a>
         .required(true)
         .action(ArgAction::Set)
         .help("The file to edit; it stays as it is, unless --output names it too")
+}
+
+fn more_arg<'a>(alloc: Global) -> Arg<'a>
+    ensures rule { rule_of result ≡ more_rule }
+    ensures local { result.global ≡ false }
+{
+    Arg::new(alloc, "more")
+        .value_name("INPUT")
+        .action(ArgAction::Append)
+        .help("More files, each edited by itself")
 }
 
 /// The command without its arguments: its name, and what its help and its version tell.
@@ -196,33 +143,13 @@ fn described<'a>(alloc: Global) -> Command<'a>
         .version(VERSION)
 }
 
-/// The command with the options that say how its strings are served.
-fn with_options<'a>(alloc: Global, command: Command<'a>) -> Result<Command<'a>, NoMemory>
-    ensures { IfOk result (λ made. app_of made ≡ with_rules (app_of command.entry) option_rules) }
-{
-    command
-        .arg(limit_arg(alloc))?
-        .arg(output_arg(alloc))?
-        .arg(prompt_arg(alloc))?
-        .arg(explain_arg(alloc))?
-        .arg(undo_arg(alloc))
-}
-
-/// The command with what says where its strings and its input come from.
-fn with_sources<'a>(alloc: Global, command: Command<'a>) -> Result<Command<'a>, NoMemory>
-    ensures { IfOk result (λ made. app_of made ≡ with_rules (app_of command.entry) source_rules) }
-{
-    command
-        .arg(execute_arg(alloc))?
-        .arg(file_arg(alloc))?
-        .arg(input_arg(alloc))
-}
-
 /// The command that the parser reads the words by.
 fn command<'a>(alloc: Global) -> Result<Command<'a>, NoMemory>
     ensures { IfOk result (λ command. app_of command ≡ teco_app) }
 {
-    with_sources(alloc, with_options(alloc, described(alloc))?)
+    with_table(alloc, described(alloc), &OPTIONS)?
+        .arg(input_arg(alloc))?
+        .arg(more_arg(alloc))
 }
 
 /// The parser's error of this kind, with this text.
@@ -232,64 +159,93 @@ fn error_of(alloc: Global, kind: ErrorKind, text: &str) -> Result<clap::Error, N
     command(alloc)?.error(kind, text)
 }
 
-/// Where the commands come from, by the word and the file that are given. A line with both is faulty.
-fn commands_of(alloc: Global, word: Option<&str>, file: Option<&str>) -> Result<Commands, LineFault>
-    ensures commands { IfOk result (IsCommands (text_behind word.entry) (text_behind file.entry)) }
-    ensures fault { IfErr result (IsCommandsFault (text_behind word.entry) (text_behind file.entry)) }
+/// Where the commands come from, by the texts that are given. A line with more than one is faulty.
+fn commands_of(
+    alloc: Global,
+    word: Option<&str>,
+    pages: Option<&str>,
+    file: Option<&str>,
+) -> Result<Commands, LineFault>
+    ensures commands { IfOk result (IsCommands (text_behind word.entry) (text_behind pages.entry) (text_behind file.entry)) }
+    ensures fault { IfErr result (IsCommandsFault (text_behind word.entry) (text_behind pages.entry) (text_behind file.entry)) }
 {
-    match (word, file) {
-        (None, None) => Ok(Commands::StandardInput),
-        (Some(text), None) => Ok(Commands::Word(String::from_str(alloc, text)?)),
-        (None, Some(name)) => Ok(Commands::File(String::from_str(alloc, name)?)),
-        (Some(_), Some(_)) => Err(LineFault::Refused(error_of(
-            alloc,
-            ErrorKind::ArgumentConflict,
-            BOTH,
-        )?)),
+    match (word, pages, file) {
+        (None, None, None) => Ok(Commands::StandardInput),
+        (Some(text), None, None) => Ok(Commands::Word(String::from_str(alloc, text)?)),
+        (None, Some(text), None) => Ok(Commands::Pages(String::from_str(alloc, text)?)),
+        (None, None, Some(name)) => Ok(Commands::File(String::from_str(alloc, name)?)),
+        _ => Err(LineFault::Refused(error_of(alloc, ErrorKind::ArgumentConflict, MANY)?)),
     }
 }
 
-/// A text of the line, where it is given.
-fn text_given(alloc: Global, text: Option<&str>) -> Result<Option<String>, NoMemory>
-    ensures { IfOk result (λ given. option_map string_bytes given ≡ text_behind text.entry) }
+/// The line that a parse gives.
+fn line_in<'a>(alloc: Global, matches: &ArgMatches<'a>) -> Result<Line, LineFault>
+    requires given { IsGiven (rows_of (found_of matches.now)) }
+    ensures line { IfOk result (HasLine (rows_of (found_of matches.now))) }
+    ensures range { IfOk result (λ line. (line.limit ≤ 1000000000000) × IfSome line.undo IsDepth) }
+    ensures page_lines { IfOk result (λ line. IfSome line.page_lines IsPageLength) }
+    ensures refused { IfErr result (IsReadFault (rows_of (found_of matches.now))) }
 {
-    match text {
-        Some(text) => Ok(Some(String::from_str(alloc, text)?)),
-        None => Ok(None),
+    let word = matches.get_str("execute");
+    let pages = matches.get_str("pages");
+    let commands = commands_of(alloc, word, pages, matches.get_str("file"))?;
+    let input = String::from_str(alloc, matches.get_str("input").unwrap())?;
+    let more = texts_at(alloc, matches, "more")?;
+    let output = text_at(alloc, matches, "output")?;
+    let limit = number_at(matches, "limit").unwrap();
+    let undo = number_at(matches, "undo");
+    let page_lines = number_at(matches, "page-lines");
+    let prompt = flag_at(matches, "prompt");
+    let in_place = flag_at(matches, "in-place");
+    let explain = flag_at(matches, "explain");
+    Ok(Line {
+        input,
+        more,
+        output,
+        commands,
+        limit,
+        prompt,
+        in_place,
+        explain,
+        undo,
+        page_lines,
+    })
+}
+
+/// The line, if what it says goes together.
+fn fitting(alloc: Global, line: Line) -> Result<Line, LineFault>
+    ensures same { IfOk result (λ fit. fit ≡ line) }
+    ensures fits { IfOk result (λ fit. has_conflict fit ≡ false) }
+    ensures refused { IfErr result (IsMisfit line) }
+{
+    match conflict_in(&line) {
+        None => Ok(line),
+        Some(text) => Err(LineFault::Refused(error_of(alloc, ErrorKind::ArgumentConflict, text)?)),
     }
 }
 
 /// What the words say to the program's command.
 fn line_by<'a>(alloc: Global, command: Command<'a>, words: &'a [String]) -> Result<Line, LineFault>
     requires command { app_of command ≡ teco_app }
-    ensures line { IfOk result (IsLine (map string_bytes words.now)) }
+    ensures line { IfOk result (IsLineBy (map string_bytes words.now)) }
     ensures range { IfOk result (λ line. (line.limit ≤ 1000000000000) × IfSome line.undo IsDepth) }
+    ensures page_lines { IfOk result (λ line. IfSome line.page_lines IsPageLength) }
     ensures refused { IfErr result (IsFaultOnceMade (map string_bytes words.now)) }
 {
     let matches = command.try_get_matches_from(words)?;
-    let commands = commands_of(alloc, matches.get_str("execute"), matches.get_str("file"))?;
-    let input = String::from_str(alloc, matches.get_str("input").unwrap())?;
-    let output = text_given(alloc, matches.get_str("output"))?;
-    let limit = matches.get_one::<u64>("limit").unwrap();
-    Ok(Line {
-        input,
-        output,
-        commands,
-        limit,
-        prompt: matches.get_one::<bool>("prompt").unwrap_or(false),
-        undo: matches.get_one::<u64>("undo"),
-        explain: matches.get_one::<bool>("explain").unwrap_or(false),
-    })
+    let line = line_in(alloc, &matches)?;
+    fitting(alloc, line)
 }
 
-/// What the words say, the program's name first:
-/// `teco [--limit N] [--output FILE] [--prompt] [--explain] [--undo N] [--execute STRINGS | --file FILE] INPUT`.
+/// What the words say, the program's name first: `teco [OPTIONS] INPUT...`.
 pub fn line_of(alloc: Global, words: &[String]) -> Result<Line, LineFault>
     ensures line { IfOk result (IsLine (map string_bytes words.now)) }
     ensures range { IfOk result (λ line. (line.limit ≤ 1000000000000) × IfSome line.undo IsDepth) }
+    ensures page_lines { IfOk result (λ line. IfSome line.page_lines IsPageLength) }
     ensures refused { IfErr result (IsLineFault (map string_bytes words.now)) }
 {
-    line_by(alloc, command(alloc)?, words)
+    let made = joined(alloc, words)?;
+    line_by(alloc, command(alloc)?, made.as_slice())
 }
 
 /// The parser's error for an argument that is not UTF-8.
@@ -327,6 +283,12 @@ pub fn refused_status(error: &clap::Error) -> u8
     if error.use_stderr() { 3 } else { 0 }
 }
 
+mod conflict;
+mod joining;
+mod options;
+mod streams;
+mod values;
 mod word;
 
-pub use word::commands_in;
+pub use streams::{is_standard_input, is_standard_output};
+pub use word::{commands_in, commands_on_pages};

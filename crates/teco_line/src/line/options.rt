@@ -1,0 +1,160 @@
+//! The table of options.
+ghost use Rattle.clap.specs.Words.{app_of, rule_of};
+ghost use Rattle.std.specs.Prelude.{◌≡◌, IfOk, false, map};
+ghost use Rattle.teco_line.specs.OptionTable.{option, rule_by, with_rules};
+
+use super::{MOST_PAGE_LINES, MOST_STEPS};
+use clap::builder::ValueParser;
+use clap::{Arg, ArgAction, Command};
+use std::alloc::Global;
+use teco_core::{DEPTH_LIMIT, NoMemory};
+
+/// What an option takes.
+#[derive(Clone, Copy)]
+pub(crate) enum Takes {
+    /// Nothing: it is a flag.
+    Nothing,
+    /// A text.
+    Text,
+    /// A number from the first to the second.
+    Number(u64, u64),
+    /// The same; the option that is not given is the third, in digits.
+    NumberOr(u64, u64, &'static str),
+}
+
+/// One option.
+#[derive(Clone, Copy)]
+pub(crate) struct OptionRow {
+    /// What follows the two hyphens; it names the option.
+    pub(crate) name: &'static str,
+    /// What follows the one hyphen.
+    pub(crate) short: Option<char>,
+    /// What it takes.
+    pub(crate) takes: Takes,
+    /// What the help calls the value.
+    value: &'static str,
+    /// What the help says.
+    help: &'static str,
+}
+
+/// Every option, in the order of the help.
+pub(crate) const OPTIONS: [OptionRow; 10] = [
+    OptionRow {
+        name: "execute",
+        short: Some('e'),
+        takes: Takes::Text,
+        value: "STRINGS",
+        help: "The command strings, in which $ is ESC",
+    },
+    OptionRow {
+        name: "pages",
+        short: Some('p'),
+        takes: Takes::Text,
+        value: "STRINGS",
+        help: "The same on each page, and then an exit: -e 'Y<STRINGS$-1-^N;P>EX$$'",
+    },
+    OptionRow {
+        name: "file",
+        short: Some('f'),
+        takes: Takes::Text,
+        value: "FILE",
+        help: "The file that the commands are read from, as they are",
+    },
+    OptionRow {
+        name: "output",
+        short: Some('o'),
+        takes: Takes::Text,
+        value: "FILE",
+        help: "Where the output goes after an exit, or - for standard output; INPUT.out without it",
+    },
+    OptionRow {
+        name: "in-place",
+        short: Some('i'),
+        takes: Takes::Nothing,
+        value: "",
+        help: "Writes the output over each INPUT",
+    },
+    OptionRow {
+        name: "page-lines",
+        short: None,
+        takes: Takes::Number(1, MOST_PAGE_LINES),
+        value: "N",
+        help: "The line ends after which a page ends, at most 1000000000; form feeds alone without it",
+    },
+    OptionRow {
+        name: "limit",
+        short: None,
+        takes: Takes::NumberOr(0, MOST_STEPS, "1000000"),
+        value: "N",
+        help: "The most steps that each command string may take, at most 1000000000000",
+    },
+    OptionRow {
+        name: "undo",
+        short: None,
+        takes: Takes::Number(1, DEPTH_LIMIT as u64),
+        value: "N",
+        help: "The most command strings kept to be undone, at most 100000; all without it",
+    },
+    OptionRow {
+        name: "prompt",
+        short: None,
+        takes: Takes::Nothing,
+        value: "",
+        help: "Types * where a command string is awaited",
+    },
+    OptionRow {
+        name: "explain",
+        short: None,
+        takes: Takes::Nothing,
+        value: "",
+        help: "Explains each error, and with --prompt what was done, on standard error",
+    },
+];
+
+/// The argument by its name alone.
+fn named<'a>(alloc: Global, row: &OptionRow) -> Arg<'a>
+    ensures rule { rule_of result ≡ option row.now.name.now row.now.short }
+    ensures local { result.global ≡ false }
+{
+    let arg = Arg::new(alloc, row.name).long(row.name).help(row.help);
+    match row.short {
+        Some(letter) => arg.short(letter),
+        None => arg,
+    }
+}
+
+/// The argument of a row.
+fn arg_by<'a>(alloc: Global, row: &OptionRow) -> Arg<'a>
+    ensures rule { rule_of result ≡ rule_by row.now }
+    ensures local { result.global ≡ false }
+{
+    let arg = named(alloc, row);
+    match row.takes {
+        Takes::Nothing => arg.action(ArgAction::SetTrue),
+        Takes::Text => arg.action(ArgAction::Set).value_name(row.value),
+        Takes::Number(least, most) => arg
+            .action(ArgAction::Set)
+            .value_name(row.value)
+            .value_parser(ValueParser::Unsigned(least, most)),
+        Takes::NumberOr(least, most, default) => arg
+            .action(ArgAction::Set)
+            .value_name(row.value)
+            .value_parser(ValueParser::Unsigned(least, most))
+            .default_value(default),
+    }
+}
+
+/// The command with an option for each row.
+pub(crate) fn with_table<'a>(
+    alloc: Global,
+    command: Command<'a>,
+    rows: &[OptionRow],
+) -> Result<Command<'a>, NoMemory>
+    ensures { IfOk result (λ made. app_of made ≡ with_rules (app_of command.entry) (map rule_by rows.now)) }
+{
+    let mut command = command;
+    for row in rows {
+        command = command.arg(arg_by(alloc, row))?;
+    }
+    Ok(command)
+}
