@@ -3,7 +3,7 @@
  *
  *   teco-term [--limit N] [--output FILE] [--undo N] [--steps] INPUT
  *
- * Keys make command strings, which are run at ESC ESC by the library of teco.h; docs/LIBRARY.md tells of the keys. What a string types is
+ * Keys make command strings, which are run at ESC ESC by the library of teco.h; docs/TERM.md tells of the keys. What a string types is
  * shown when it has ended. Nothing here changes a text but through teco_where, teco_undo, teco_redo and teco_rewind.
  */
 #include "term.h"
@@ -64,6 +64,23 @@ static int conclude(const struct options *options, const char *output, enum fate
 
 static const char USAGE[] = "usage: teco-term [--limit N] [--output FILE] [--undo N] [--steps] INPUT\n";
 
+/* The completions of the shells are made of these lines, by bin/completions. */
+static const char HELP[] = "TECO for a person at a terminal: a command string is run at ESC ESC, and can be undone\n"
+                           "\n"
+                           "Usage: teco-term [OPTIONS] <INPUT>\n"
+                           "\n"
+                           "Arguments:\n"
+                           "  <INPUT>  The file to edit; it stays as it is, unless --output names it too\n"
+                           "\n"
+                           "Options:\n"
+                           "      --limit <N>      The most steps that each command string may take, at most 1000000000000; 1000000 without it\n"
+                           "      --output <FILE>  Where the output goes after an exit; INPUT.out where it is not given\n"
+                           "      --undo <N>       The most command strings kept to be undone, at most 100000; all without it\n"
+                           "      --steps          Shows after each string how many steps it took\n"
+                           "  -h, --help           Print help\n"
+                           "\n"
+                           "EX writes the output and ends the program, and Ctrl-D leaves with nothing written.\n";
+
 /* A number in this range, of digits alone. */
 static bool read_number(const char *text, uint64_t least, uint64_t most, uint64_t *number)
 {
@@ -98,7 +115,7 @@ int main(int count, char **words)
     struct options options = {.limit = 1000000};
     bool is_good = read_line(count, words, &options);
     if (!is_good || options.help)
-        return fputs(USAGE, is_good ? stdout : stderr) >= 0 && is_good ? 0 : 3;
+        return fputs(is_good ? HELP : USAGE, is_good ? stdout : stderr) >= 0 && is_good ? 0 : 3;
     (void)setlocale(LC_CTYPE, "");
     size_t size = strlen(options.input) + sizeof ".out";
     char *beside = malloc(size);

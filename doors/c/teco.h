@@ -2,7 +2,7 @@
  * teco.h - command strings with total undo and redo, as a library
  *
  * A session is an editor that runs command strings. Each one is kept, however it ended, and can be undone and redone; an undo and a
- * redo ask for no memory. Link with libteco_c.a and liblibc_c.a; docs/LIBRARY.md says where they are made.
+ * redo ask for no memory. Link with libteco_c.a; docs/LIBRARY.md says how it is made.
  *
  * THE HANDLE
  *   A `struct teco` is closed while it is all zero, so `struct teco t = {0};` is a closed one. teco_open opens it and teco_close closes

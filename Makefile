@@ -1,0 +1,144 @@
+# Builds, installs and checks what is here. `make help` lists what can be made.
+#
+# The programs and the library are proved as they are built, by the kit's rt: some half an hour from nothing on four cores. A program
+# that stands in its crate's out/ and is newer than every source, as rt ci leaves it, is taken as it is.
+.POSIX:
+
+PREFIX = /usr/local
+DESTDIR =
+BINDIR = $(PREFIX)/bin
+LIBDIR = $(PREFIX)/lib
+INCLUDEDIR = $(PREFIX)/include
+DATADIR = $(PREFIX)/share
+MANDIR = $(DATADIR)/man/man1
+DOCDIR = $(DATADIR)/doc/teco
+PCDIR = $(LIBDIR)/pkgconfig
+BASHDIR = $(DATADIR)/bash-completion/completions
+ZSHDIR = $(DATADIR)/zsh/site-functions
+FISHDIR = $(DATADIR)/fish/vendor_completions.d
+
+RT = rt
+CC = cc
+AR = ar
+CFLAGS = -O2
+INSTALL = install
+
+NAMES = teco teco-debug tecol teco-term
+PROGRAMS = out/teco out/teco-debug out/tecol out/teco-term
+LIBRARY = out/libteco_c.a out/teco.pc
+VERSION != sed -n 's/^const VERSION: &str = "\(.*\)";$$/\1/p' crates/teco_line/src/*.rt crates/teco_line/src/*/*.rt
+SOURCES != find crates.txt crates/*/src crates/*/specs crates/*/proofs -type f ! -path '*/src/tests/*'
+TERM_SOURCES != ls doors/c/teco-term.c doors/c/term-*.c
+
+## make               builds the programs teco, teco-debug, tecol and teco-term, the library and the completions, into out/
+all: $(PROGRAMS) $(LIBRARY) out/completions
+
+## make help          lists these lines
+help:
+	@sed -n 's/^## //p' Makefile
+
+## make try           a first look in a minute or two: runs the program on a small file, and proves nothing
+try:
+	@mkdir -p out
+	printf 'one\n\ftwo\n\fthree\n' > out/in
+	cd crates/teco && $(RT) try --data in=../../out/in -- -e 'YHT$$$$PHT$$$$HK$$$${$$$$HT$$$$EX$$$$' in
+
+## make test          runs all tests, unproved: some three minutes
+test:
+	cd crates/teco && $(RT) try --test
+
+## make gate          proves everything from nothing, then builds and tries the examples over the library: an hour
+gate:
+	.ci/run
+
+## make pages         runs every check of the pages, the examples and the scripts with the built programs
+pages: $(PROGRAMS) out/completions
+	docs/pages out
+
+## make bench         times the program beside its peers, as bench/README.md says
+bench: out/teco
+	TECO=$$PWD/out/teco bench/run
+
+crates/teco/out/teco: $(SOURCES)
+	@echo 'make: proving and building teco, which takes some 25 minutes from nothing'
+	cd crates/teco && printf 'EX\033\033' | $(RT) run -- --output /dev/null /dev/null
+	@touch $@
+
+crates/teco_debug/out/teco_debug: $(SOURCES)
+	@echo 'make: proving and building teco-debug, which takes some minutes after teco'
+	cd crates/teco_debug && $(RT) run -- /dev/null < /dev/null
+	@touch $@
+
+crates/teco_c/out/libteco_c.a: $(SOURCES)
+	@echo 'make: proving and building the library, which takes some minutes after teco, and some 20 from nothing'
+	cd crates/teco_c && $(RT) lib
+	@touch $@
+
+out/teco: crates/teco/out/teco
+	@mkdir -p out
+	cp crates/teco/out/teco $@
+
+out/teco-debug: crates/teco_debug/out/teco_debug
+	@mkdir -p out
+	cp crates/teco_debug/out/teco_debug $@
+
+out/tecol: bin/tecol
+	@mkdir -p out
+	cp bin/tecol $@
+
+# The library asks for memory through a library of the kit, which comes into the same archive, so that nothing else has to be linked.
+out/libteco_c.a: crates/teco_c/out/libteco_c.a
+	@mkdir -p out
+	kit=$$(dirname "$$($(RT) doc)") && \
+	    printf '%s\n' 'CREATE $@' 'ADDLIB crates/teco_c/out/libteco_c.a' "ADDLIB $$kit/c/liblibc_c.a" SAVE END | $(AR) -M
+
+out/teco-term: $(TERM_SOURCES) doors/c/term.h doors/c/teco.h out/libteco_c.a
+	$(CC) -std=c11 $(CFLAGS) $(TERM_SOURCES) out/libteco_c.a -o $@ $(LDFLAGS)
+
+# Where the library lies is said in teco.pc, so it is written anew each time.
+out/teco.pc: doors/c/teco.pc.in always
+	@mkdir -p out
+	@sed 's|@PREFIX@|$(PREFIX)|; s|@LIBDIR@|$(LIBDIR)|; s|@INCLUDEDIR@|$(INCLUDEDIR)|; s|@VERSION@|$(VERSION)|' doors/c/teco.pc.in > $@
+
+# What bash, zsh and fish complete, made of what each program's --help says.
+out/completions: $(PROGRAMS) bin/completions
+	@mkdir -p out/completions
+	for name in $(NAMES); do \
+	    for shell in bash zsh fish; do bin/completions $$shell out/$$name > out/completions/$$name.$$shell || exit 1; done; \
+	done
+	@touch $@
+
+## make install       puts programs, pages for man, docs, library and completions below PREFIX, /usr/local where it isn't given;
+##                    with DESTDIR=FOLDER into a folder that stands for the root
+install: all
+	$(INSTALL) -d '$(DESTDIR)$(BINDIR)' '$(DESTDIR)$(LIBDIR)' '$(DESTDIR)$(INCLUDEDIR)' '$(DESTDIR)$(MANDIR)' '$(DESTDIR)$(PCDIR)' \
+	    '$(DESTDIR)$(DOCDIR)/docs' '$(DESTDIR)$(DOCDIR)/examples' '$(DESTDIR)$(BASHDIR)' '$(DESTDIR)$(ZSHDIR)' '$(DESTDIR)$(FISHDIR)'
+	for name in $(NAMES); do \
+	    $(INSTALL) -m 755 out/$$name '$(DESTDIR)$(BINDIR)'/$$name && \
+	    $(INSTALL) -m 644 docs/$$name.1 '$(DESTDIR)$(MANDIR)'/$$name.1 && \
+	    $(INSTALL) -m 644 out/completions/$$name.bash '$(DESTDIR)$(BASHDIR)'/$$name && \
+	    $(INSTALL) -m 644 out/completions/$$name.zsh '$(DESTDIR)$(ZSHDIR)'/_$$name && \
+	    $(INSTALL) -m 644 out/completions/$$name.fish '$(DESTDIR)$(FISHDIR)'/$$name.fish || exit 1; \
+	done
+	$(INSTALL) -m 644 out/libteco_c.a '$(DESTDIR)$(LIBDIR)/libteco_c.a'
+	$(INSTALL) -m 644 doors/c/teco.h '$(DESTDIR)$(INCLUDEDIR)/teco.h'
+	$(INSTALL) -m 644 out/teco.pc '$(DESTDIR)$(PCDIR)/teco.pc'
+	$(INSTALL) -m 644 README.md CHANGELOG.md '$(DESTDIR)$(DOCDIR)'
+	$(INSTALL) -m 644 docs/*.md '$(DESTDIR)$(DOCDIR)/docs'
+	$(INSTALL) -m 644 examples/*.md examples/*.tec examples/*.in examples/*.out examples/*.typed '$(DESTDIR)$(DOCDIR)/examples'
+
+## make uninstall     takes away what make install put there; PREFIX and DESTDIR as there
+uninstall:
+	for name in $(NAMES); do \
+	    rm -f '$(DESTDIR)$(BINDIR)'/$$name '$(DESTDIR)$(MANDIR)'/$$name.1 '$(DESTDIR)$(BASHDIR)'/$$name \
+	        '$(DESTDIR)$(ZSHDIR)'/_$$name '$(DESTDIR)$(FISHDIR)'/$$name.fish; \
+	done
+	rm -f '$(DESTDIR)$(LIBDIR)/libteco_c.a' '$(DESTDIR)$(INCLUDEDIR)/teco.h' '$(DESTDIR)$(PCDIR)/teco.pc'
+	rm -rf '$(DESTDIR)$(DOCDIR)'
+
+## make clean         removes out/; what the crates keep of their proofs stays
+clean:
+	rm -rf out
+
+.PHONY: all help try test gate pages bench install uninstall clean always
+always:
