@@ -1,0 +1,7 @@
+pub mod Bytes
+pub mod Reading
+pub mod LinesRead
+pub mod Writing
+pub mod Written
+pub mod LayoutLaws
+pub mod Places
