@@ -5,3 +5,4 @@ pub mod Writing
 pub mod Written
 pub mod LayoutLaws
 pub mod Places
+mod SourceRows

@@ -1,12 +1,11 @@
 -- What a reader makes of a written line.
-use Rattle.std.proofs.Common.{◌≡◌, ℕ, zero, suc, Bool, true, false, List, [], ◌∷◌, ◌++◌, Option, Some, None, refl, sym, ap, subst, ◌∙◌, arith, eqb, eqb-true, append_assoc, map}
-use Rattle.std.specs.Prelude.{if◌then◌else◌}
+use Rattle.std.proofs.Common.{◌≡◌, ℕ, zero, suc, Bool, true, false, List, [], ◌∷◌, ◌++◌, Option, Some, None, refl, sym, ap, subst, ◌∙◌, eqb, eqb-true, append_assoc, map}
 use Rattle.std.proofs.lemmas.List.{append-nil}
 use Rattle.teco_source.specs.declared.reader.Mode.{Mode}
 use Rattle.teco_source.specs.declared.reader.Mode.TheVariants.{First, Margin, Blank, Text, Hash, Mark, Caret, Comment, Wrong}
 use Rattle.teco_source.specs.Source.{State, ends_line, line_begins, step, run}
 use Rattle.teco_source.specs.Listing.{spelling, spelled, mode_at_mark, mode_after, spaces, margin_of, note_of, line_mode, line_written, between, in_comment}
-use Rattle.teco_source.proofs.Bytes.{run-append, split, differs, at, unblanked, byte_reads, mark_reads}
+use Rattle.teco_source.proofs.Bytes.{run-append, split, at, unblanked, byte_reads, mark_reads}
 
 -- A reader in this mode has read this text.
 abbrev Holds : Mode → List ℕ → State → Type 0

@@ -1,8 +1,7 @@
 -- A text, from its parts.
-use Rattle.std.proofs.Common.{◌≡◌, ℕ, ◌+◌, ◌-◌, ◌≤◌, Bool, true, false, List, [], ◌∷◌, ◌++◌, Option, Some, None, Result, Ok, Err, take, drop, refl, sym, ap, ◌∙◌, arith}
+use Rattle.std.proofs.Common.{◌≡◌, ℕ, ◌+◌, ◌-◌, ◌≤◌, Bool, List, [], ◌∷◌, ◌++◌, Some, Result, Ok, Err, take, drop, refl, sym, ap, ◌∙◌, arith}
 use Rattle.std.proofs.Math.Seq.{take-add}
 use Rattle.std.specs.Prelude.{if◌then◌else◌}
-use Rattle.teco_source.specs.declared.reader.Mode.{Mode}
 use Rattle.teco_source.specs.declared.reader.Mode.TheVariants.{First, Margin, Blank}
 use Rattle.teco_source.specs.Source.{State, start, ends_line, run, ended, commands_of}
 use Rattle.teco_source.specs.Listing.{line_mode, between}

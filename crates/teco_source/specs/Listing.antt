@@ -3,7 +3,7 @@ use Rattle.std.specs.Prelude.{ℕ, ◌+◌, Bool, true, false, ◌&&◌, ◌||�
 use Rattle.teco_source.specs.declared.reader.Mode.{Mode}
 use Rattle.teco_source.specs.declared.reader.Mode.TheVariants.{First, Margin, Blank, Text, Mark}
 use Rattle.teco_source.specs.declared.writer.Note.{Note}
-use Rattle.teco_source.specs.Source.{State, ends_line, line_begins}
+use Rattle.teco_source.specs.Source.{State, ends_line}
 
 abbrev pub is_mark : Mode → Bool
 is_mark Mark = true

@@ -8,7 +8,7 @@ use Rattle.teco_source.specs.declared.reader.Marked.TheVariants as caret
 use Rattle.teco_source.specs.declared.reader.SourceFault.{SourceFault}
 use Rattle.teco_source.specs.declared.reader.SourceFault.TheVariants as fault
 use Rattle.teco_source.specs.declared.reader.Mode.TheVariants.{Text}
-use Rattle.teco_source.specs.Source.{State, commands_of}
+use Rattle.teco_source.specs.Source.{State}
 
 abbrev pub state_of : Reader → State
 state_of r = record { mode = r.mode; bytes = r.bytes.items; blanks = r.blanks.items }

@@ -74,7 +74,12 @@ pub fn listing(alloc: Global, text: &[u8], with_words: bool) -> Result<Vec<u8>, 
         if with_words {
             push_words(&mut words, text, at, line.told)?;
         }
-        let spaces = NOTES.saturating_sub(columns(&text[at..line.to], line.margin));
+        let margin = if matches!(line_mode(text, at), Mode::Margin) {
+            line.margin
+        } else {
+            0
+        };
+        let spaces = NOTES.saturating_sub(columns(&text[at..line.to], margin));
         let note = if words.is_empty() {
             None
         } else {
@@ -83,7 +88,7 @@ pub fn listing(alloc: Global, text: &[u8], with_words: bool) -> Result<Vec<u8>, 
                 text: &words,
             })
         };
-        push_part(&mut out, text, at, line.to, line.margin, note)?;
+        push_part(&mut out, text, at, line.to, margin, note)?;
         at = line.to;
     }
     Ok(out)

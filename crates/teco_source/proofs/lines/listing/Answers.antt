@@ -1,4 +1,4 @@
-use Rattle.std.proofs.Common.{◌≡◌, ℕ, List, [], ap, ◌∙◌, arith, take_all}
+use Rattle.std.proofs.Common.{ap, ◌∙◌, arith, take_all}
 use Rattle.teco_source.specs.Source.{start, run}
 use Rattle.teco_source.specs.Listing.{between}
 use Rattle.teco_source.proofs.Written.{at_start, all_is_read}

@@ -1,4 +1,4 @@
-use Rattle.std.proofs.Common.{◌≡◌, ℕ, List, OnOk, ap, subst, ◌∙◌, take, arith}
+use Rattle.std.proofs.Common.{◌≡◌, ℕ, List, OnOk, subst, take, arith}
 use Rattle.teco_source.specs.Source.{start, run}
 use Rattle.teco_source.specs.Listing.{between}
 use Rattle.teco_source.proofs.Written.{joined}

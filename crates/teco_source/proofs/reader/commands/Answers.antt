@@ -1,4 +1,4 @@
-use Rattle.std.proofs.Common.{◌≡◌, ℕ, ◌+◌, Bool, true, false, List, length, drop, get_or, Err, Result, sym, ap, subst, ◌∙◌, arith}
+use Rattle.std.proofs.Common.{◌≡◌, ℕ, ◌+◌, true, false, List, length, drop, get_or, Err, Result, sym, ap, subst, ◌∙◌, arith}
 use Rattle.teco_source.specs.Source.{State, step, is_wrong, ended, commands_of, commands_from}
 use Rattle.teco_source.specs.Seen.{state_of, IsReadAs}
 use Rattle.teco_source.proofs.Reading.{one_read, one_wrong, all_read}

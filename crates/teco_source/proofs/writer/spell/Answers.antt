@@ -1,6 +1,6 @@
-use Rattle.std.proofs.Common.{◌≡◌, ℕ, ◌+◌, List, [], ◌∷◌, ◌++◌, drop, get_or, OnOk, sym, ap, subst, ◌∙◌, arith}
+use Rattle.std.proofs.Common.{◌≡◌, ℕ, ◌+◌, List, ◌++◌, drop, get_or, OnOk, sym, ap, subst, ◌∙◌, arith}
 use Rattle.teco_source.specs.declared.reader.Mode.{Mode}
-use Rattle.teco_source.specs.Listing.{spelled, spelled_end, mode_after, spelling}
+use Rattle.teco_source.specs.Listing.{spelled, spelled_end, spelling}
 use Rattle.teco_source.proofs.Writing.{one_byte, none_left}
 use Rattle.teco_source.proofs.writer.spell.Goals as goal
 
