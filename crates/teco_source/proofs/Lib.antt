@@ -1,0 +1,8 @@
+pub mod Bytes
+pub mod Reading
+pub mod LinesRead
+pub mod Writing
+pub mod Written
+pub mod LayoutLaws
+pub mod Places
+mod SourceRows

@@ -1,0 +1,53 @@
+-- What holds of sources: comments and layout don't change what a source stands for.
+use Rattle.std.specs.Prelude.{◌≡◌, ℕ, suc, ◌≤◌, Bool, true, false, not, ◌&&◌, List, [], ◌∷◌, ◌++◌, take, Option, Some, None, Result, Ok, Err, is_ok, ◌==◌}
+use Rattle.std.specs.List.{list_all}
+use Rattle.teco_source.specs.declared.reader.Mode.TheVariants.{Text}
+use Rattle.teco_source.specs.Source.{is_blank, ends_line, start, run, commands_of}
+
+-- the bytes, if the source is read
+abbrev pub bytes_in : Result (List ℕ) ℕ → Option (List ℕ)
+bytes_in (Ok bytes) = Some bytes
+bytes_in (Err at) = None
+
+-- Both sources stand for the same bytes, or neither is read.
+abbrev pub AreSame : List ℕ → List ℕ → Type 0
+AreSame one two = bytes_in (commands_of one) ≡ bytes_in (commands_of two)
+
+abbrev pub is_one_line : List ℕ → Bool
+is_one_line note = list_all (λ b. not (b == 10)) note
+
+-- A comment after a blank, up to the end of the line, is nothing.
+abbrev pub CommentsAreNothing : Type 0
+CommentsAreNothing = (front note back : List ℕ) (blank : ℕ) → is_blank blank ≡ true → is_one_line note ≡ true
+    → AreSame (front ++ (blank ∷ 33 ∷ 33 ∷ (note ++ 10 ∷ back))) (front ++ 10 ∷ back)
+
+-- Neither is a line that is a comment.
+abbrev pub CommentLinesAreNothing : Type 0
+CommentLinesAreNothing = (front note back : List ℕ) → is_one_line note ≡ true
+    → AreSame (front ++ (10 ∷ 33 ∷ 33 ∷ (note ++ 10 ∷ back))) (front ++ 10 ∷ back)
+
+-- Blanks before the end of a line are nothing.
+abbrev pub BlanksBeforeAnEndAreNothing : Type 0
+BlanksBeforeAnEndAreNothing = (front blanks back : List ℕ) → list_all is_blank blanks ≡ true
+    → AreSame (front ++ (blanks ++ 10 ∷ back)) (front ++ 10 ∷ back)
+
+-- So is the margin of a line, if the text does not end with a line end there.
+abbrev pub MarginsAreNothing : Type 0
+MarginsAreNothing = (front blanks back text : List ℕ) → commands_of front ≡ Ok text → ends_line text ≡ false
+    → list_all is_blank blanks ≡ true → AreSame (front ++ 10 ∷ (blanks ++ back)) (front ++ 10 ∷ back)
+
+-- what is read alike within a line and at the beginning of one
+abbrev pub begins_alike : List ℕ → Bool
+begins_alike [] = true
+begins_alike (b ∷ []) = not (is_blank b)
+begins_alike (b ∷ c ∷ bs) = not (is_blank b) && not (b == 33 && c == 33)
+
+-- A line may be broken after a byte that is no blank, where neither a blank nor `!!` comes.
+abbrev pub BreaksAreNothing : Type 0
+BreaksAreNothing = (front back : List ℕ) → (run start front).mode ≡ Text → begins_alike back ≡ true
+    → AreSame (front ++ 10 ∷ back) (front ++ back)
+
+-- Where a caret cannot be read, the bytes before it are read, and no more.
+abbrev pub PlacesAreFirst : Type 0
+PlacesAreFirst = (source : List ℕ) (at : ℕ) → commands_of source ≡ Err at
+    → (is_ok (commands_of (take at source)) ≡ true) × ((n : ℕ) → suc at ≤ n → commands_of (take n source) ≡ Err at)

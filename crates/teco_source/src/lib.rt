@@ -1,0 +1,16 @@
+//! Sources of command strings: texts to read, to comment and to keep, and the bytes that they stand for.
+#![tactic(auto)]
+
+mod laws;
+mod layout;
+mod lines;
+mod notes;
+mod reader;
+mod words;
+mod writer;
+
+pub use laws::source_laws;
+pub use lines::listing;
+pub use reader::{SourceFault, commands};
+pub use words::{Words, words_of};
+pub use writer::{Note, push_line};

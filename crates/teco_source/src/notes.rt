@@ -1,0 +1,42 @@
+//! What the commands of a line do, as its note.
+ghost use Rattle.std.specs.Prelude.{◌≡◌, ◌≤◌, length};
+
+use crate::layout::{Part, part_of};
+use crate::words::words_of;
+use teco_core::NoMemory;
+use teco_scan::{Found, Token, TokenKind, token_at};
+
+/// Puts the words of a token at the end of a note.
+fn push_token(out: &mut Vec<u8>, token: &Token, has_number: bool) -> Result<(), NoMemory> {
+    let words = words_of(token.kind, token.modifiers.colons, has_number);
+    if !out.is_empty() {
+        out.extend_from_slice(b". ")?;
+    }
+    out.extend_from_slice(words.written.as_bytes())?;
+    out.extend_from_slice(b"  ")?;
+    out.extend_from_slice(words.does.as_bytes())
+}
+
+/// What the commands do that begin from one place up to another. What gives a number to a command is not
+/// told, and neither is a tag.
+pub fn push_words(out: &mut Vec<u8>, text: &[u8], at: usize, to: usize) -> Result<(), NoMemory>
+    requires { at ≤ length text.now }
+{
+    let mut place = at;
+    let mut has_number = false;
+    while place < text.len() {
+        let Found::Token(token) = token_at(text, place) else {
+            return Ok(());
+        };
+        if token.span.from >= to {
+            return Ok(());
+        }
+        place = token.span.to;
+        let is_value = matches!(part_of(token.kind, has_number), Part::Value);
+        if !is_value && !matches!(token.kind, TokenKind::Tag(_)) {
+            push_token(out, &token, has_number)?;
+        }
+        has_number = is_value;
+    }
+    Ok(())
+}
