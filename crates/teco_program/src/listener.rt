@@ -63,7 +63,8 @@ fn lines_of_run(
             Err(NoMemory) => None,
         };
         write!(lines, "string {n}")?;
-        show_stop(&mut lines, place, session.editor().registers(), text, code)?;
+        let registers = session.editor().registers();
+        show_stop(&mut lines, place, registers, text, code, None)?;
         lines.push_str("\n")?;
     }
     if counts && let Answer::Ended(outcome) = answered.answer {

@@ -1,6 +1,8 @@
 -- How bytes are spelled.
-use Rattle.std.specs.Prelude.{ℕ, ◌+◌, ◌/◌, ◌%◌, ◌==◌, List, [], ◌∷◌, nat_lt, if◌then◌else◌}
+use Rattle.std.specs.Prelude.{ℕ, ◌+◌, ◌/◌, ◌%◌, ◌==◌, List, [], ◌∷◌, ◌++◌, length, take, codes, nat_lt, if◌then◌else◌}
+use Rattle.std.specs.Fmt.{decimal}
 use Rattle.std.specs.List.{flat_map}
+use Rattle.teco_telling.specs.declared.spelling.TheConstants.{MOST_SHOWN}
 
 -- the digit of a number below 16
 abbrev pub hex_digit : ℕ → ℕ
@@ -18,3 +20,10 @@ spelling b =
 
 abbrev pub spelled : List ℕ → List ℕ
 spelled bytes = flat_map spelling bytes
+
+-- A token of more bytes than are shown is cut, and its length is told.
+abbrev pub token_shown : List ℕ → List ℕ
+token_shown bytes =
+    if nat_lt MOST_SHOWN (length bytes)
+    then spelled (take MOST_SHOWN bytes) ++ codes "... (" ++ decimal (length bytes) ++ codes " bytes)"
+    else spelled bytes

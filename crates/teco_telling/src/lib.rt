@@ -5,9 +5,12 @@ mod place;
 mod sentence;
 mod spelling;
 mod spot;
+mod stop;
+mod tokens;
 
-pub use place::{
-    letter, show_call, show_code, show_place, show_spot, show_stop, text_under, token,
-};
-pub use spelling::{spell, spell_byte};
+pub use place::{letter, show_call, show_place, show_spot, text_under};
+pub use sentence::{Limits, show_code, show_code_with_limits};
+pub use spelling::{spell, spell_byte, spell_token};
 pub use spot::{Spot, line_end, line_start, spot_of};
+pub use stop::show_stop;
+pub use tokens::token;

@@ -1,18 +1,21 @@
-//! A place of a run, and why it stopped there.
+//! A place of a run: its text, its calls, its line and column.
 
-use crate::sentence::sentence;
-use crate::spelling::spell;
+ghost use Rattle.std.specs.Prelude.{◌≡◌, ◌++◌, OnOk, Some};
+ghost use Rattle.std.specs.String.{string_bytes};
+ghost use Rattle.teco_core.specs.Register.{register_of};
+ghost use Rattle.teco_telling.specs.Placed.{call_in_shown, call_shown, letter_of, name_shown, standing_shown, text_under};
+ghost use Rattle.teco_telling.specs.Shown.{place_shown};
+
 use crate::spot::spot_of;
 use std::fmt::Write;
-use teco_core::{Code, ESC, NoMemory, Reg, Registers, is_filler};
-use teco_exec::Place;
-use teco_scan::{Found, token_at};
-
-/// The most bytes that are shown where no token is.
-const MOST_FAULTY: usize = 16;
+use teco_core::{NoMemory, Reg, Registers};
+use teco_exec::{Call, Place};
 
 /// The letter or the digit that names a register.
-pub fn letter(q: Reg) -> char {
+pub fn letter(q: Reg) -> char
+    ensures names { register_of result ≡ Some q }
+    ensures value { result ≡ letter_of q }
+{
     let index = q.index() as u8;
     char::from(if index < 26 {
         b'A' + index
@@ -27,43 +30,32 @@ pub fn text_under<'a>(
     depth: usize,
     registers: &'a Registers,
     string: &'a [u8],
-) -> &'a [u8] {
+) -> &'a [u8]
+    ensures { result.now ≡ text_under place.now depth registers.now string.now }
+{
     match place.calls.get(depth) {
         Some(call) => registers.text(call.register),
         None => string,
     }
 }
 
-/// How many bytes there are up to a filler or an ESC, at least one and at most `most`.
-fn word_len(bytes: &[u8], most: usize) -> usize {
-    bytes
-        .iter()
-        .take(most)
-        .take_while(|byte| !is_filler(**byte) && **byte != ESC)
-        .count()
-        .max(1)
-}
-
-/// The token at a place, as it is spelled; where none is there, at most `most` bytes.
-pub fn token(text: &[u8], at: usize, most: usize) -> &[u8] {
-    if at > text.len() {
-        return &[];
-    }
-    let whole = match token_at(text, at) {
-        Found::Token(token) => text.get(token.span.from..token.span.to),
-        Found::End => None,
-        Found::Fault(_) => text.get(at..at.saturating_add(word_len(&text[at..], most))),
-    };
-    whole.unwrap_or(&[])
-}
-
 /// Shows a place of a text as a line and a column; one that the text has no more, as what it is.
-pub fn show_spot(out: &mut String, text: &[u8], at: usize) -> Result<(), NoMemory> {
+pub fn show_spot(out: &mut String, text: &[u8], at: usize) -> Result<(), NoMemory>
+    ensures { OnOk result (string_bytes out.new ≡ string_bytes out.old ++ place_shown text.now at) }
+{
     if at > text.len() {
         return out.push_str("a text that is changed");
     }
     let spot = spot_of(text, at);
     write!(out, "{spot}")
+}
+
+/// Shows the letter of a register, and a space.
+fn show_name(out: &mut String, register: Reg) -> Result<(), NoMemory>
+    ensures { OnOk result (string_bytes out.new ≡ string_bytes out.old ++ name_shown register) }
+{
+    let name = letter(register);
+    write!(out, "{name} ")
 }
 
 /// Shows the register whose text is run, if one is called, and the place in the text that is run.
@@ -72,12 +64,23 @@ pub fn show_place(
     place: &Place,
     registers: &Registers,
     string: &[u8],
-) -> Result<(), NoMemory> {
+) -> Result<(), NoMemory>
+    ensures { OnOk result (string_bytes out.new
+        ≡ string_bytes out.old ++ standing_shown place.now registers.now string.now) }
+{
     if let Some(call) = place.calls.first() {
-        let name = letter(call.register);
-        write!(out, "{name} ")?;
+        show_name(out, call.register)?;
     }
     show_spot(out, text_under(place, 0, registers, string), place.at)
+}
+
+/// Shows an open call of a text.
+fn show_call_in(out: &mut String, call: &Call, text: &[u8]) -> Result<(), NoMemory>
+    ensures { OnOk result (string_bytes out.new ≡ string_bytes out.old ++ call_in_shown call.now text.now) }
+{
+    show_name(out, call.register)?;
+    out.push_str("is called at ")?;
+    show_spot(out, text, call.at)
 }
 
 /// Shows the register and the place of an open call, of which `k` are later.
@@ -87,51 +90,12 @@ pub fn show_call(
     k: usize,
     registers: &Registers,
     string: &[u8],
-) -> Result<(), NoMemory> {
-    let Some(call) = place.calls.get(k) else {
-        return Ok(());
-    };
-    let name = letter(call.register);
-    write!(out, "{name} is called at ")?;
-    show_spot(
-        out,
-        text_under(place, k.wrapping_add(1), registers, string),
-        call.at,
-    )
-}
-
-/// Shows a code and what it says.
-pub fn show_code(out: &mut String, code: Code) -> Result<(), NoMemory> {
-    let said = sentence(code);
-    write!(out, ": {code}, {said}")
-}
-
-/// Shows why a run stopped: the steps that were done and the place where it last stood, if it did, the token there, the open calls
-/// with the latest first, and the code.
-pub fn show_stop(
-    out: &mut String,
-    place: Option<&Place>,
-    registers: &Registers,
-    string: &[u8],
-    code: Code,
-) -> Result<(), NoMemory> {
-    if let Some(place) = place {
-        let steps = place.steps;
-        write!(out, ", step {steps}, ")?;
-        show_place(out, place, registers, string)?;
-        let token = token(
-            text_under(place, 0, registers, string),
-            place.at,
-            MOST_FAULTY,
-        );
-        if !token.is_empty() {
-            out.push_str(", ")?;
-            spell(out, token)?;
-        }
-        for k in 0..place.calls.len() {
-            out.push_str(", ")?;
-            show_call(out, place, k, registers, string)?;
-        }
+) -> Result<(), NoMemory>
+    ensures { OnOk result (string_bytes out.new
+        ≡ string_bytes out.old ++ call_shown place.now k registers.now string.now) }
+{
+    match place.calls.get(k) {
+        None => Ok(()),
+        Some(call) => show_call_in(out, call, text_under(place, k + 1, registers, string)),
     }
-    show_code(out, code)
 }

@@ -1,9 +1,25 @@
 //! What a code says.
 
-use teco_core::Code;
+ghost use Rattle.std.specs.Prelude.{◌≡◌, ◌++◌, OnOk};
+ghost use Rattle.std.specs.String.{string_bytes};
+ghost use Rattle.teco_telling.specs.Shown.{code_shown, code_shown_with, sentence_of};
+
+use std::fmt::Write;
+use teco_core::{Code, NoMemory};
+
+/// How large the limits are that a code may tell of.
+#[derive(Clone, Copy)]
+pub struct Limits {
+    /// The most steps that a string may take.
+    pub steps: u64,
+    /// The most bytes that a text may have.
+    pub bytes: u64,
+}
 
 /// A code in a few words.
-pub fn sentence(code: Code) -> &'static str {
+pub fn sentence(code: Code) -> &'static str
+    ensures { result.now ≡ sentence_of code }
+{
     match code {
         Code::Arg => "wrong argument, or wrong arithmetic",
         Code::Bni => "> without its iteration",
@@ -37,5 +53,33 @@ pub fn sentence(code: Code) -> &'static str {
         Code::Ntu => "nothing to undo",
         Code::Ntr => "nothing to redo",
         Code::End => "session is done",
+    }
+}
+
+/// Shows a code and what it says.
+pub fn show_code(out: &mut String, code: Code) -> Result<(), NoMemory>
+    ensures { OnOk result (string_bytes out.new ≡ string_bytes out.old ++ code_shown code) }
+{
+    let said = sentence(code);
+    write!(out, ": {code}, {said}")
+}
+
+/// Shows a code and what it says; where a limit is reached, how large it is and what helps.
+pub fn show_code_with_limits(out: &mut String, code: Code, limits: Limits) -> Result<(), NoMemory>
+    ensures { OnOk result (string_bytes out.new ≡ string_bytes out.old ++ code_shown_with limits code) }
+{
+    match code {
+        Code::Lim => {
+            let steps = limits.steps;
+            write!(out, ": LIM, {steps} steps are done: --limit N allows more")
+        }
+        Code::Big => {
+            let bytes = limits.bytes;
+            write!(
+                out,
+                ": BIG, a text may have {bytes} bytes: --page-lines N makes smaller pages"
+            )
+        }
+        _ => show_code(out, code),
     }
 }

@@ -1,9 +1,13 @@
 //! How bytes are spelled.
 ghost use Rattle.std.specs.Prelude.{◌≡◌, ◌<◌, ◌++◌, ◌∷◌, [], OnOk};
 ghost use Rattle.std.specs.String.{string_bytes};
-ghost use Rattle.teco_telling.specs.Spelling.{hex_digit, spelled, spelling};
+ghost use Rattle.teco_telling.specs.Spelling.{hex_digit, spelled, spelling, token_shown};
 
+use std::fmt::Write;
 use teco_core::{ESC, NoMemory};
+
+/// The most bytes of a token that are shown.
+pub(crate) const MOST_SHOWN: usize = 40;
 
 fn hex_digit(n: u8) -> u8
     requires { n < 16 }
@@ -50,4 +54,17 @@ pub fn spell(out: &mut String, bytes: &[u8]) -> Result<(), NoMemory>
         spell_byte(out, *byte)?;
     }
     Ok(())
+}
+
+/// Spells a token at the end of a text. One of more than 40 bytes is cut there, and its length is told.
+pub fn spell_token(out: &mut String, bytes: &[u8]) -> Result<(), NoMemory>
+    ensures { OnOk result (string_bytes out.new ≡ string_bytes out.old ++ token_shown bytes.now) }
+{
+    if bytes.len() <= MOST_SHOWN {
+        return spell(out, bytes);
+    }
+    let shown = &bytes[..MOST_SHOWN];
+    spell(out, shown)?;
+    let len = bytes.len();
+    write!(out, "... ({len} bytes)")
 }

@@ -13,6 +13,11 @@ pub struct Spot {
 }
 
 impl fmt::Display for Spot {
+    ghost use Rattle.std.specs.Prelude.{Some};
+    ghost use Rattle.teco_telling.specs.Shown.{spot_shown};
+
+    ghost output = { λ s. Some (spot_shown s) };
+
     fn fmt<W: fmt::Write>(&self, f: &mut fmt::Formatter<W>) -> fmt::Result {
         let line = self.line;
         let column = self.column;

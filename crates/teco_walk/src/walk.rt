@@ -1,8 +1,7 @@
 //! A walk over the steps of a command string.
-ghost use Rattle.std.specs.Prelude.{◌≡◌, ℕ, ◌≤◌, ◌<◌, OnOk, OnErr, IfOk, IfSome, length, vec_len};
+ghost use Rattle.std.specs.Prelude.{◌≡◌, ◌↔◌, None, ℕ, ◌≤◌, ◌<◌, OnOk, OnErr, IfOk, IfSome, length, vec_len};
 ghost use Rattle.teco_core.specs.declared.limits.TheConstants.{FILE_LIMIT};
-ghost use Rattle.teco_exec.specs.Places.{IsPlaceAfter};
-ghost use Rattle.teco_exec.specs.Telling.{told_of};
+ghost use Rattle.teco_exec.specs.Telling.{IsLastPlace};
 ghost use Rattle.teco_store.specs.State.{beginning, state_of};
 ghost use Rattle.teco_walk.specs.Walk.{SameString, lacks_memory, meant, state_there};
 
@@ -170,7 +169,8 @@ impl Walk {
     /// Runs the string from its beginning under a limit of `n` steps, apart from the walk, and tells what that shows.
     pub fn look(&self, n: u64) -> Result<Seen, NoMemory>
         ensures place { IfOk result (λ seen. IfSome seen.place
-            (λ p. IsPlaceAfter (beginning self.now.input) self.now.text seen.outcome.steps (told_of p))) }
+            (λ p. IsLastPlace (beginning self.now.input) self.now.text seen.outcome.steps p)) }
+        ensures told { IfOk result (λ seen. (seen.place ≡ None) ↔ (seen.outcome.code ≡ None)) }
         ensures steps { IfOk result (λ seen. seen.outcome.steps ≡ (meant self.now.input self.now.text n).steps) }
         ensures code { IfOk result (λ seen. seen.outcome.code ≡ (meant self.now.input self.now.text n).code) }
         ensures typed { IfOk result (λ seen. seen.typed.items ≡ (meant self.now.input self.now.text n).typed) }
@@ -183,7 +183,8 @@ impl Walk {
     fn look_on(&self, editor: &mut Editor, n: u64) -> Result<Seen, NoMemory>
         requires { state_of editor.old ≡ beginning self.now.input }
         ensures place { IfOk result (λ seen. IfSome seen.place
-            (λ p. IsPlaceAfter (beginning self.now.input) self.now.text seen.outcome.steps (told_of p))) }
+            (λ p. IsLastPlace (beginning self.now.input) self.now.text seen.outcome.steps p)) }
+        ensures told { IfOk result (λ seen. (seen.place ≡ None) ↔ (seen.outcome.code ≡ None)) }
         ensures steps { IfOk result (λ seen. seen.outcome.steps ≡ (meant self.now.input self.now.text n).steps) }
         ensures code { IfOk result (λ seen. seen.outcome.code ≡ (meant self.now.input self.now.text n).code) }
         ensures typed { IfOk result (λ seen. seen.typed.items ≡ (meant self.now.input self.now.text n).typed) }
