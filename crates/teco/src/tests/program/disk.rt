@@ -128,6 +128,19 @@ fn makes_where_links_end(rt: &HostRuntime) -> bool {
         && !writes(rt, "teco_disk_test/self", b"nowhere")
 }
 
+/// If standard output goes to a file, that is not replaced, by whichever name.
+fn refuses_standard_output(rt: &HostRuntime) -> bool {
+    let mut disk = FileDisk::new(rt);
+    let _ = fs::remove_file(rt, LINK);
+    symlink(rt, "/proc/self/fd/1", LINK).is_ok()
+        && match fs::metadata(rt, LINK) {
+            Ok(file) if file.is_file() => {
+                disk.target_of(LINK).is_err() && disk.why() == Some(ErrorKind::ResourceBusy)
+            }
+            _ => true,
+        }
+}
+
 /// Whether the disk says so of the file that it opened.
 fn is_as_read<D: Disk>(disk: &mut D, expected: bool) -> bool {
     matches!(disk.is_as_read(IN), Ok(same) if same == expected)
@@ -178,6 +191,7 @@ fn goes_where_it_leads(rt: &HostRuntime) -> bool {
     writes_on_a_pipe(rt)
         && replaces_by_its_descriptor(rt)
         && makes_where_links_end(rt)
+        && refuses_standard_output(rt)
         && sees_a_change(rt)
         && says_why(rt)
 }
