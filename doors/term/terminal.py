@@ -116,7 +116,10 @@ def shell(program, report, orders):
         os.setpgid(0, 0)
         os.tcsetpgrp(0, os.getpid())
         signal.signal(signal.SIGTTOU, signal.SIG_DFL)
-        os.execve(program[0], program, dict(os.environ, LC_ALL="C.UTF-8"))
+        try:
+            os.execve(program[0], program, dict(os.environ, LC_ALL="C.UTF-8"))
+        finally:
+            os._exit(127)
     os.write(report, b"pid %d\n" % child)
     while True:
         _, status = os.waitpid(child, os.WUNTRACED)
@@ -153,7 +156,10 @@ class Terminal:
             for place in range(3):
                 os.dup2(slave, place)
             os.close(self.master)
-            shell(program, report, orders)
+            try:
+                shell(program, report, orders)
+            finally:
+                os._exit(127)
         for unused in slave, report, orders:
             os.close(unused)
         self.program = int(self.reported("pid"))
