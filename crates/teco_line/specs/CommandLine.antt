@@ -1,8 +1,8 @@
 -- What the command line says: teco [OPTIONS] INPUT...
-use Rattle.std.specs.Prelude.{map, unwrap_or, ◌++◌, IfSome, IsSomeAnd, ◌<◌, ◌^◌, ◌≡◌, ◌≤◌, ◌==◌, ℕ, List, [], ◌∷◌, Option, Some, None, IsTrue, ◌↔◌, codes, true}
+use Rattle.std.specs.Prelude.{Bool, ◌-◌, length, take, map, unwrap_or, ◌++◌, IfSome, IsSomeAnd, ◌<◌, ◌^◌, ◌≡◌, ◌≤◌, ◌==◌, ℕ, List, [], ◌∷◌, Option, Some, None, IsTrue, ◌↔◌, codes, true}
 use Rattle.std.specs.Prelude.{false, option_map, is_some, ⊤, ◌⊎◌, Result, Ok, Err, if◌then◌else◌}
 use Rattle.std.specs.Borrow.{Bor}
-use Rattle.std.specs.List.{count_by}
+use Rattle.std.specs.List.{count_by, suffix_len}
 use Rattle.std.specs.String.{string_bytes}
 use Rattle.std.specs.Str.Parse.{IsNumeral, digits_value, without_leading_plus}
 use Rattle.clap.specs.Simple.{on_top}
@@ -59,11 +59,19 @@ number_of text = digits_value 10 (without_leading_plus text)
 abbrev pub typed : ℕ → ℕ
 typed byte = if byte == 36 then ESC else byte
 
+abbrev pub is_escape : ℕ → Bool
+is_escape byte = byte == ESC
+
+-- the bytes before the ESCs at the end
+abbrev pub without_last_escapes : List ℕ → List ℕ
+without_last_escapes bytes = take (length bytes - suffix_len is_escape bytes) bytes
+
 -- The commands that run the strings of a word on every page, and then exit: a page is read and the strings are
 -- run; -1-^N ends the loop where no page follows, and else P writes the page and reads the next. ^N is typed as
--- a caret and a letter.
+-- a caret and a letter. The word may end with ESCs, as it would for --execute: one ESC takes their place, since
+-- two would end the command string inside the loop.
 abbrev pub on_pages : Text → List ℕ
-on_pages word = codes "Y<" ++ map typed word ++ (ESC ∷ codes "-1-^N;P>EX" ++ (ESC ∷ ESC ∷ []))
+on_pages word = codes "Y<" ++ without_last_escapes (map typed word) ++ (ESC ∷ codes "-1-^N;P>EX" ++ (ESC ∷ ESC ∷ []))
 
 -- the text behind a reference, where there is one
 abbrev pub text_behind : Option (Bor Text) → Option Text

@@ -29,12 +29,12 @@ const VERSION: &str = "0.1.0";
 
 /// What the help says of the commands, after the options.
 const AFTER_HELP: &str =
-    "Commands are read from standard input where neither --execute nor --file gives them, and what they
-type goes to standard output. Two ESC end a command string, which is then run; EX writes the output
-and ends the program.";
+    "Commands are read from standard input where none of --execute, --pages and --file gives them, and what
+they type goes to standard output. Two ESC end a command string, which is then run; EX writes the output
+and ends the run. Each INPUT is a run of its own; several want --execute, --pages or --file.";
 
 /// The usage, which the help and each faulty line show.
-const USAGE: &str = "teco [OPTIONS] <INPUT>";
+const USAGE: &str = "teco [OPTIONS] <INPUT>...";
 
 /// What the parser's error says of a line that gives commands more than once.
 const MANY: &str =
@@ -117,7 +117,9 @@ fn input_arg<'a>(alloc: Global) -> Arg<'a>
         .value_name("INPUT")
         .required(true)
         .action(ArgAction::Set)
-        .help("The file to edit; it stays as it is, unless --output names it too")
+        .help(
+            "The file to edit, or - for standard input; only --in-place, or --output with its name, changes it",
+        )
 }
 
 fn more_arg<'a>(alloc: Global) -> Arg<'a>
@@ -127,7 +129,7 @@ fn more_arg<'a>(alloc: Global) -> Arg<'a>
     Arg::new(alloc, "more")
         .value_name("INPUT")
         .action(ArgAction::Append)
-        .help("More files, each edited by itself")
+        .help("More files, each edited by itself, in their order")
 }
 
 /// The command without its arguments: its name, and what its help and its version tell.

@@ -198,49 +198,113 @@ static HELP: [Row<'static>; 1] = [(
     Run {
         words: "teco --help",
         typed: "TECO, a text editor whose command strings are programs, each of which can be undone\n\n\
-                Usage: teco [OPTIONS] <INPUT>\n\n\
+                Usage: teco [OPTIONS] <INPUT>...\n\n\
                 Arguments:\n  \
-                <INPUT>  The file to edit; it stays as it is, unless --output names it too\n\n\
-                Options:\n      \
-                --limit <N>          The most steps that each command string may take, at most 1000000000000 [default: 1000000]\n      \
-                --output <FILE>      Where the output goes after an exit; INPUT.out where it is not given\n      \
-                --prompt             Types * where a command string is awaited\n      \
-                --explain            Explains each error, and with --prompt what was done, on standard error\n      \
-                --undo <N>           The most command strings kept to be undone, at most 100000; all without it\n  \
+                <INPUT>     The file to edit, or - for standard input; only --in-place, or --output with its name, changes it\n  \
+                [INPUT]...  More files, each edited by itself, in their order\n\n\
+                Options:\n  \
                 -e, --execute <STRINGS>  The command strings, in which $ is ESC\n  \
+                -p, --pages <STRINGS>    The same on each page, and then an exit: -e 'Y<STRINGS$-1-^N;P>EX$$'\n  \
                 -f, --file <FILE>        The file that the commands are read from, as they are\n  \
+                -o, --output <FILE>      Where the output goes after an exit, - for standard output; without it INPUT.out, or - if INPUT is -\n  \
+                -i, --in-place           Writes the output over each INPUT\n      \
+                --page-lines <N>     The most lines of a page, at most 1000000000; without it form feeds alone end pages\n      \
+                --limit <N>          The most steps that each command string may take, at most 1000000000000 [default: 1000000]\n      \
+                --undo <N>           The most command strings kept to be undone, at most 100000; all without it\n      \
+                --prompt             Types * where a command string is awaited\n      \
+                --explain            Explains each error, and with --prompt what was done, on standard error\n  \
                 -h, --help               Print help\n  \
                 -V, --version            Print version\n\n\
-                Commands are read from standard input where neither --execute nor --file gives them, and what they\n\
-                type goes to standard output. Two ESC end a command string, which is then run; EX writes the output\n\
-                and ends the program.\n",
+                Commands are read from standard input where none of --execute, --pages and --file gives them, and what\n\
+                they type goes to standard output. Two ESC end a command string, which is then run; EX writes the output\n\
+                and ends the run. Each INPUT is a run of its own; several want --execute, --pages or --file.\n",
         ..PAGE
     },
     &[IN],
     &[IN],
 )];
 
-/// A faulty line shows the options, as the help does.
-static FAULTY_LINES: [Row<'static>; 2] = [
+/// A faulty line says why, and shows the usage; nothing is read, run or written.
+static FAULTY_LINES: [(&str, &str); 8] = [
+    (
+        "teco -e EX$$ -f in in",
+        "error: only one of '--execute <STRINGS>', '--pages <STRINGS>' and '--file <FILE>' can be used\n\n\
+        Usage: teco [OPTIONS] <INPUT>...\n\nFor more information, try '--help'.\n",
+    ),
+    (
+        "teco -e EX$$ -p 0K in",
+        "error: only one of '--execute <STRINGS>', '--pages <STRINGS>' and '--file <FILE>' can be used\n\n\
+        Usage: teco [OPTIONS] <INPUT>...\n\nFor more information, try '--help'.\n",
+    ),
+    (
+        "teco -e EX$$ -i -o out in",
+        "error: the argument '--output <FILE>' cannot be used with '--in-place'\n\n\
+        Usage: teco [OPTIONS] <INPUT>...\n\nFor more information, try '--help'.\n",
+    ),
+    (
+        "teco -e EX$$ -o out in in",
+        "error: the argument '--output <FILE>' cannot be used with more than one INPUT\n\n\
+        Usage: teco [OPTIONS] <INPUT>...\n\nFor more information, try '--help'.\n",
+    ),
+    (
+        "teco in in",
+        "error: more than one INPUT wants one of '--execute <STRINGS>', '--pages <STRINGS>' and '--file <FILE>'\n\n\
+        Usage: teco [OPTIONS] <INPUT>...\n\nFor more information, try '--help'.\n",
+    ),
+    (
+        "teco -",
+        "error: standard input cannot be both the commands and an INPUT\n\n\
+        Usage: teco [OPTIONS] <INPUT>...\n\nFor more information, try '--help'.\n",
+    ),
+    (
+        "teco -e EX$$ -i in /dev/stdin",
+        "error: the argument '--in-place' cannot be used with an INPUT that is standard input\n\n\
+        Usage: teco [OPTIONS] <INPUT>...\n\nFor more information, try '--help'.\n",
+    ),
+    (
+        "teco",
+        "error: the following required arguments were not provided:\n  <INPUT>\n\n\
+        Usage: teco [OPTIONS] <INPUT>...\n\nFor more information, try '--help'.\n",
+    ),
+];
+
+/// Where memory was refused, a row holds the second time.
+#[test]
+fn tells_why_a_line_is_faulty(rt: HostRuntime) {
+    for (words, told) in &FAULTY_LINES {
+        let row = (
+            Run {
+                words,
+                told,
+                ..FAULTY
+            },
+            &[IN] as Files,
+            &[IN] as Files,
+        );
+        let held = runs(rt.alloc(), &row) || runs(rt.alloc(), &row);
+        assert_of(&rt, words, held);
+    }
+}
+
+/// The commands of a word for every page.
+static FROM_PAGES: [Row<'static>; 2] = [
     (
         Run {
-            words: "teco -e EX$$ -f in in",
-            told: "error: the argument '--execute <STRINGS>' cannot be used with '--file <FILE>'\n\n\
-                Usage: teco [OPTIONS] <INPUT>\n\nFor more information, try '--help'.\n",
-            ..FAULTY
+            words: "teco -p FSi$o$ in",
+            typed: "",
+            ..PAGE
         },
-        &[IN],
-        &[IN],
+        &[("in", "hi\n\x0chi\n")],
+        &[("in", "hi\n\x0chi\n"), ("in.out", "ho\n\x0cho\n")],
     ),
     (
         Run {
-            words: "teco",
-            told: "error: the following required arguments were not provided:\n  <INPUT>\n\n\
-                Usage: teco [OPTIONS] <INPUT>\n\nFor more information, try '--help'.\n",
-            ..FAULTY
+            words: "teco -p FSi$o$$ -i in",
+            typed: "",
+            ..PAGE
         },
         &[IN],
-        &[IN],
+        &[("in", "ho\n")],
     ),
 ];
 
@@ -260,5 +324,5 @@ fn takes_its_commands_from_the_line(rt: HostRuntime) {
     all_run(&rt, rt.alloc(), &EXPLAINED);
     all_run(&rt, rt.alloc(), &PROMPTED);
     all_run(&rt, rt.alloc(), &HELP);
-    all_run(&rt, rt.alloc(), &FAULTY_LINES);
+    all_run(&rt, rt.alloc(), &FROM_PAGES);
 }

@@ -65,7 +65,7 @@ pub(crate) const OPTIONS: [OptionRow; 10] = [
         short: Some('o'),
         takes: Takes::Text,
         value: "FILE",
-        help: "Where the output goes after an exit, or - for standard output; INPUT.out without it",
+        help: "Where the output goes after an exit, - for standard output; without it INPUT.out, or - if INPUT is -",
     },
     OptionRow {
         name: "in-place",
@@ -79,7 +79,7 @@ pub(crate) const OPTIONS: [OptionRow; 10] = [
         short: None,
         takes: Takes::Number(1, MOST_PAGE_LINES),
         value: "N",
-        help: "The line ends after which a page ends, at most 1000000000; form feeds alone without it",
+        help: "The most lines of a page, at most 1000000000; without it form feeds alone end pages",
     },
     OptionRow {
         name: "limit",

@@ -3,7 +3,10 @@ use crate::tests::assert_of;
 use std::alloc::Global;
 use std::io;
 use teco_core::NoMemory;
-use teco_line::{Commands, Line, LineFault, fault_of_words, line_of, not_text, refused_status};
+use teco_line::{
+    Commands, Line, LineFault, fault_of_words, is_standard_input, is_standard_output, line_of,
+    not_text, refused_status,
+};
 
 /// The status that an argument which is not UTF-8 leads to; none where memory was refused.
 fn status_without_text(alloc: Global) -> Option<u8> {
@@ -24,6 +27,7 @@ fn refuses_what_is_no_text(rt: HostRuntime) {
 enum Origin<'a> {
     StandardInput,
     Word(&'a str),
+    Pages(&'a str),
     File(&'a str),
 }
 
@@ -31,6 +35,7 @@ fn is_from(commands: &Commands, origin: &Origin) -> bool {
     match commands {
         Commands::StandardInput => matches!(origin, Origin::StandardInput),
         Commands::Word(text) => matches!(origin, Origin::Word(word) if text.as_str() == *word),
+        Commands::Pages(text) => matches!(origin, Origin::Pages(word) if text.as_str() == *word),
         Commands::File(name) => matches!(origin, Origin::File(file) if name.as_str() == *file),
     }
 }
@@ -45,14 +50,23 @@ fn comes_from(alloc: Global, words: &str, origin: &Origin) -> bool {
     }
 }
 
-static SOURCES: [(&str, Origin); 7] = [
+static SOURCES: [(&str, Origin); 15] = [
     ("teco in", Origin::StandardInput),
     ("teco -e Y$$EX$$ in", Origin::Word("Y$$EX$$")),
     ("teco in --execute ^EX$$", Origin::Word("^EX$$")),
     ("teco --execute=-C$$ in", Origin::Word("-C$$")),
+    // A value may begin with a hyphen, as any other.
+    ("teco -e -C$$ in", Origin::Word("-C$$")),
+    ("teco --execute -C$$ in", Origin::Word("-C$$")),
+    ("teco -e -- in", Origin::Word("--")),
+    ("teco -e -f in", Origin::Word("-f")),
+    ("teco -p 0K in", Origin::Pages("0K")),
+    ("teco in --pages=0K", Origin::Pages("0K")),
+    ("teco in more -p -C", Origin::Pages("-C")),
     ("teco -f a in", Origin::File("a")),
     ("teco in -fa", Origin::File("a")),
     ("teco in --file=a", Origin::File("a")),
+    ("teco -f - in", Origin::File("-")),
 ];
 
 /// Where memory was refused, a row holds the second time.
@@ -73,11 +87,29 @@ fn status_of(alloc: Global, words: &str) -> Option<u8> {
     }
 }
 
-static REFUSED: [(&str, u8); 4] = [
+static REFUSED: [(&str, u8); 22] = [
     ("teco -e EX$$ -f a in", 3),
+    ("teco -e EX$$ -p 0K in", 3),
+    ("teco -p 0K -f a in", 3),
     ("teco -e EX$$ -e EX$$ in", 3),
-    ("teco -e -C$$ in", 3),
+    ("teco -e EX$$ -o b -i in", 3),
+    ("teco -e EX$$ --output - --in-place in", 3),
+    ("teco -e EX$$ -o b in more", 3),
+    ("teco in more", 3),
+    ("teco -i in more", 3),
+    ("teco -", 3),
+    ("teco /dev/stdin", 3),
+    ("teco -f - -", 3),
+    ("teco -f /dev/stdin in /dev/fd/0", 3),
+    ("teco -i -e EX$$ -", 3),
+    ("teco -i -e EX$$ in /proc/self/fd/0", 3),
+    ("teco --limit -1 in", 3),
+    ("teco -o", 3),
+    ("teco -- -e EX$$ in", 3),
+    ("teco --what in", 3),
+    ("teco -i -i in", 3),
     ("teco --help", 0),
+    ("teco -V", 0),
 ];
 
 /// Where memory was refused, a row holds the second time.
@@ -89,8 +121,19 @@ fn gives_the_status_of_a_refused_line(rt: HostRuntime) {
     }
 }
 
-/// An input, an output, a limit, whether there is a prompt and whether errors are explained, and a depth.
-type Given<'a> = (&'a str, Option<&'a str>, u64, (bool, bool), Option<u64>);
+/// What a line says but for its commands.
+#[derive(Clone, Copy)]
+struct Given<'a> {
+    input: &'a str,
+    more: &'a [&'a str],
+    output: Option<&'a str>,
+    in_place: bool,
+    prompt: bool,
+    explain: bool,
+    limit: u64,
+    undo: Option<u64>,
+    page_lines: Option<u64>,
+}
 
 /// Words with blanks between them, and what they give; none where they are refused.
 type Row<'a> = (&'a str, Option<Given<'a>>);
@@ -103,14 +146,29 @@ fn words_of(alloc: Global, text: &str) -> Result<Vec<String>, NoMemory> {
     Ok(words)
 }
 
+fn are_names(names: &[String], given: &[&str]) -> bool {
+    names.len() == given.len()
+        && names
+            .iter()
+            .zip(given.iter())
+            .all(|(name, given)| name.as_str() == *given)
+}
+
+fn has_numbers(line: &Line, given: &Given) -> bool {
+    line.limit == given.limit && line.undo == given.undo && line.page_lines == given.page_lines
+}
+
+fn has_flags(line: &Line, given: &Given) -> bool {
+    line.in_place == given.in_place && line.prompt == given.prompt && line.explain == given.explain
+}
+
 fn is_line(line: &Line, given: &Given) -> bool {
-    let (input, output, limit, flags, undo) = *given;
     let named = line.output.as_ref().map(|name| name.as_str());
-    line.input.as_str() == input
-        && named == output
-        && line.limit == limit
-        && (line.prompt, line.explain) == flags
-        && line.undo == undo
+    line.input.as_str() == given.input
+        && are_names(line.more.as_slice(), given.more)
+        && named == given.output
+        && has_flags(line, given)
+        && has_numbers(line, given)
 }
 
 fn is_given(line: Result<Line, LineFault>, given: &Option<Given>) -> bool {
@@ -128,30 +186,100 @@ fn says(alloc: Global, row: &Row) -> bool {
     }
 }
 
-static ROWS: [Row<'static>; 8] = [
-    (
-        "teco in",
-        Some(("in", None, 1_000_000, (false, false), None)),
-    ),
+/// The line of an input alone.
+const IN: Given = Given {
+    input: "in",
+    more: &[],
+    output: None,
+    in_place: false,
+    prompt: false,
+    explain: false,
+    limit: 1_000_000,
+    undo: None,
+    page_lines: None,
+};
+
+static ROWS: [Row<'static>; 21] = [
+    ("teco in", Some(IN)),
     (
         "teco --limit 5 --output o --prompt in",
-        Some(("in", Some("o"), 5, (true, false), None)),
+        Some(Given {
+            limit: 5,
+            output: Some("o"),
+            prompt: true,
+            ..IN
+        }),
     ),
     (
-        "teco in --limit=1000000000000 --explain",
-        Some(("in", None, 1_000_000_000_000, (false, true), None)),
+        "teco in --limit=1000000000000 --explain -o -",
+        Some(Given {
+            limit: 1_000_000_000_000,
+            explain: true,
+            output: Some("-"),
+            ..IN
+        }),
     ),
     (
         "teco --undo 1 in",
-        Some(("in", None, 1_000_000, (false, false), Some(1))),
+        Some(Given {
+            undo: Some(1),
+            ..IN
+        }),
     ),
     (
         "teco in --undo=100000",
-        Some(("in", None, 1_000_000, (false, false), Some(100_000))),
+        Some(Given {
+            undo: Some(100_000),
+            ..IN
+        }),
     ),
+    (
+        "teco in -i",
+        Some(Given {
+            in_place: true,
+            ..IN
+        }),
+    ),
+    (
+        "teco -p 0K in --in-place a b -- -c",
+        Some(Given {
+            more: &["a", "b", "-c"],
+            in_place: true,
+            ..IN
+        }),
+    ),
+    ("teco -e EX$$ in -", Some(Given { more: &["-"], ..IN })),
+    ("teco -e EX$$ -", Some(Given { input: "-", ..IN })),
+    (
+        "teco -o -b in",
+        Some(Given {
+            output: Some("-b"),
+            ..IN
+        }),
+    ),
+    (
+        "teco --page-lines 1 in",
+        Some(Given {
+            page_lines: Some(1),
+            ..IN
+        }),
+    ),
+    (
+        "teco in --page-lines=1000000000",
+        Some(Given {
+            page_lines: Some(1_000_000_000),
+            ..IN
+        }),
+    ),
+    ("teco --page-lines 0 in", None),
+    ("teco --page-lines 1000000001 in", None),
+    ("teco --page-lines -1 in", None),
+    ("teco --limit 1000000000001 in", None),
+    ("teco --limit -1 in", None),
     ("teco --undo 0 in", None),
     ("teco --undo 100001 in", None),
     ("teco --undo x in", None),
+    ("teco -i=true in", None),
 ];
 
 // Where memory was refused, a row holds the second time.
@@ -159,5 +287,27 @@ static ROWS: [Row<'static>; 8] = [
 fn gives_what_the_words_say(rt: HostRuntime) {
     for row in &ROWS {
         assert_of(&rt, row.0, says(rt.alloc(), row) || says(rt.alloc(), row));
+    }
+}
+
+/// Names, and whether each is standard input's and standard output's.
+static NAMES: [(&str, bool, bool); 10] = [
+    ("-", true, true),
+    ("/dev/stdin", true, false),
+    ("/dev/fd/0", true, false),
+    ("/proc/self/fd/0", true, false),
+    ("/dev/stdout", false, true),
+    ("/dev/fd/1", false, true),
+    ("/proc/self/fd/1", false, true),
+    ("./-", false, false),
+    ("/dev/stderr", false, false),
+    ("", false, false),
+];
+
+#[test]
+fn knows_the_names_of_the_streams(rt: HostRuntime) {
+    for (name, input, output) in &NAMES {
+        let held = is_standard_input(name) == *input && is_standard_output(name) == *output;
+        assert_of(&rt, name, held);
     }
 }
