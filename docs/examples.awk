@@ -3,12 +3,18 @@
 # A block ```teco, perhaps with options after it, has commands as bin/tecol reads them, and then parts that begin with a line of their own:
 #   -- before   the input; empty where it isn't there      -- after   the output; none is written where it isn't there
 #   -- typed    what is typed                              -- status N   where it isn't 0 with an output, and 2 without one
+# A block ```sh has lines for the shell, which are run in a folder of its own, and then parts:
+#   -- file NAME   a file that is there before                 -- left NAME   a file as it is after; others may be there too
+#   -- typed       what comes on standard output               -- told        what comes on standard error; nothing where it isn't there
+#   -- status N    where it isn't 0                            -- needs TOOL  the example is left out where this isn't installed
 # A block ```session has lines that begin with "* ", each a command string, with what it types after it. The parts are the same.
 # A row of a table with four columns has commands in the third, and in the fourth the words that they type, perhaps over INPUT of `one`,
 # `two` and `three`, a page each, where its first column has a star after it.
 # In a man page, .Dl .. teco .. -e 'COMMANDS' .. comes after comments .\" before, .\" after and .\" typed, each with a text as printf reads it.
+# Another line after .Dl is one for the shell where comments .\" file NAME or .\" left NAME come before it.
 
 function put(name, text) {
+    if (name ~ /\//) system("mkdir -p '" folder "/" substr(name, 1, match(name, /\/[^\/]*$/)) "'")
     printf "%s", text > (folder "/" name)
     close(folder "/" name)
 }
@@ -36,7 +42,16 @@ function append(text) {
     parts[part] = parts[part] text "\n"
 }
 
+function end_shell(    name) {
+    for (name in parts) put(name, parts[name])
+    split("", parts)
+    put("shell", "")
+    put("status", status ? status - 1 : 0)
+    folder = ""
+}
+
 function end_block(    name) {
+    if (kind == "sh") { end_shell(); return }
     for (name in parts) {
         if (name == "session" && !has_exit) parts["typed"] = parts["typed"] "*^.\n"
     }
@@ -70,9 +85,23 @@ function row(    columns, k) {
 
 function printf_text(name) {
     sub(/^\.\\" [a-z]+ /, "")
+    if (name == "file" || name == "left") { name = name "/" $1; sub(/^[^ ]+ /, ""); is_shell = 1 }
     gsub(/\\n$/, "")
     gsub(/\\n/, "\n")
     held[name] = $0 "\n"
+}
+
+# A line of a man page for the shell.
+function shell_line(    name) {
+    begin("")
+    sub(/^\.Dl /, "")
+    put("line", $0 "\n")
+    for (name in held) put(name, held[name])
+    put("shell", "")
+    put("status", 0)
+    split("", held)
+    is_shell = 0
+    folder = ""
 }
 
 function display(    name) {
@@ -93,6 +122,7 @@ folder == "" && /^##/ {
     if (/^## /) { part_name = tolower(heading); gsub(/[^a-z]+/, "_", part_name) }
 }
 
+/^```sh$/ { kind = "sh"; begin(""); part = "line"; next }
 /^```teco/ || /^```session/ {
     kind = substr($1, 4)
     sub(/^```[a-z]* ?/, "")
@@ -103,6 +133,8 @@ folder == "" && /^##/ {
 }
 folder && /^```$/ { end_block(); next }
 folder && /^-- status / { status = $3 + 1; next }
+folder && kind == "sh" && /^-- (file|left) / { part = $2 "/" substr($0, 9); parts[part] = ""; next }
+folder && kind == "sh" && /^-- needs / { put("needs", $3); next }
 folder && /^-- / { part = $2; parts[part] = ""; if (part == "after") has_after = 1; next }
 folder && /^\* / && kind == "session" {
     if ($0 ~ /EX\$\$$/) has_exit = 1
@@ -113,5 +145,6 @@ folder && /^\* / && kind == "session" {
 }
 folder { append($0); next }
 /^\|/ { row() }
-/^\.\\" (before|after|typed) / { printf_text($2) }
+/^\.\\" (before|after|typed|file|left) / { printf_text($2) }
+/^\.Dl / && is_shell { shell_line(); next }
 /^\.Dl .*teco -e / { display() }

@@ -22,6 +22,16 @@ pub(super) static EXAMPLES: &[Group] = &[(
     banana\ncherry\nmango\nplum\n => Y<San$;0LK>EX$$ =>  => cherry\nplum\n
     // Only the lines that have a text?
     cherry\nbanana\nplum\nmango\nfig\n => Y<.UBSan$;0LQB,.KL>QB,ZKEX$$ =>  => banana\nmango\n
+    // The value of a key in a configuration?
+    name = a\nport = 80\nexport = 1\n => Y<.-Z;::Sport = $\"LKI8080\n$|L'>EX$$ =>  => name = a\nport = 8080\nexport = 1\n
+    // Only the lines m to n?
+    1\n2\n3\n4\n5\n => YLB,.K3L.,ZKEX$$ =>  => 2\n3\n4\n
+    // The n-th in each line?
+    banana\nana\nxx\n => Y<.-Z;.UBLZ-.UEQBJ2:Sa$\"LZ-.-QE+1\"G-DI4$''Z-QEJ>EX$$ =>  => ban4na\nan4\nxx\n
+    // On the lines that match?
+    Get eel\nBuy eel\nGet tree\n => Y<SGet$;0L.UBLZ-.UEQBJ<:Se$\"LZ-.-QE+1\"G-DI3$|0;'|0;'>Z-QEJ>EX$$ =>  => G3t 33l\nBuy eel\nG3t tr33\n
+    // The lines of blocks between marks?
+    a\nbegin\nb\nc\nend\nd\nbegin\ne\n => Y<Sbegin\n$;<.-Z;::Send\n$\"L0;'I> $L>>EX$$ =>  => a\nbegin\n> b\n> c\nend\nd\nbegin\n> e\n
     // Without empty lines?
     one\n\n\ntwo\n => Y<FS\n\n$\n$;R>EX$$ =>  => one\ntwo\n
     // Without the first byte of each line?

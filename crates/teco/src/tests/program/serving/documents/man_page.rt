@@ -7,7 +7,6 @@ pub(super) static EXAMPLES: &[Group] = &[(
     one colour\ntwo colours\n => Y<FScolour$color$;>EX$$ =>  => one color\ntwo colors\n
     one\ntwo\n => Y<.-Z;I> $L>EX$$ =>  => > one\n> two\n
     one\ntwo\nthree\n => Y<Se$;0LTL>$$ => one\nthree\n
-    one\none\n => Y<FSone$1$;>EX$$ =>  => 1\n1\n
      => 2*(3+4)=$$ => 14\n
     ",
 )];
