@@ -2,8 +2,8 @@
 use Rattle.std.specs.Prelude.{◌≡◌, ◌≢◌, ◌⊎◌, ◌++◌, ℕ, List, Option, Some, None, Result, Ok, Err, true, false}
 use Rattle.std.specs.String.{string_bytes}
 use Rattle.teco_step.specs.Terminal.{count_after}
-use Rattle.teco_files.specs.declared.place.Place.{Place}
-use Rattle.teco_files.specs.declared.place.Place.TheVariants as place
+use Rattle.teco_files.specs.declared.target.Target.{Target}
+use Rattle.teco_files.specs.declared.target.Target.TheVariants as target
 
 -- what is under each name: the bytes of a file, or that there is none
 abbrev pub Files : Type 0
@@ -74,7 +74,7 @@ abbrev pub Opens : Option Files → List ℕ → Option (List ℕ) → Type 0
 Opens files name coming = (before : Files) → files ≡ Some before
     → (bytes : List ℕ) × (before name ≡ Some bytes) × (coming ≡ Some bytes)
 
--- The place is the file of this name.
-abbrev pub IsPlaceOf : List ℕ → Place → Type 0
-IsPlaceOf name (place.File to) = string_bytes to ≡ name
-IsPlaceOf name place.Stream = ⊥
+-- The target is the file of this name.
+abbrev pub IsTargetOf : List ℕ → Target → Type 0
+IsTargetOf name (target.File to) = string_bytes to ≡ name
+IsTargetOf name target.Stream = ⊥

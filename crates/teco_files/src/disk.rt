@@ -1,12 +1,15 @@
 //! Where files are.
+ghost use Rattle.std.specs.IoError.{error_kind};
 ghost use Rattle.std.specs.Prelude.{◌≡◌, ◌≢◌, ◌⊎◌, ℕ, List, Option, IfErr, OnErr, OnOk};
 ghost use Rattle.std.specs.declared.io.Error.{Error};
-ghost use Rattle.std.specs.Prelude.{[], None, IfOk};
-ghost use Rattle.teco_files.specs.Disk.{Appends, Changes, Counts, Creates, Files, IsPlaceOf, Opens, Passes, Removes, Renames, Same, SameBut};
+ghost use Rattle.std.specs.declared.io.ErrorKind.{ErrorKind};
+ghost use Rattle.std.specs.Prelude.{[], None, Some, IfOk, true, false};
+ghost use Rattle.teco_files.specs.Disk.{Appends, Changes, Counts, Creates, Files, IsTargetOf, Opens, Passes, Removes, Renames, Same, SameBut};
 
-use crate::place::Place;
 use crate::source::Source;
+use crate::target::Target;
 use std::io;
+use std::io::ErrorKind;
 
 /// Where files are, by their names. Each call is one of the system's.
 pub trait Disk {
@@ -37,6 +40,9 @@ pub trait Disk {
     // a file of this name could not be removed
     ghost unremoved: { Self → List ℕ → Type 0 };
 
+    // the file of this name isn't what it was when it was opened
+    ghost changed: { Self → List ℕ → Type 0 };
+
     /// Opens a file, to be read from its beginning to its end.
     fn open(&mut self, name: &str) -> io::Result<Self::Input>
         ensures input { IfOk result (λ input. Opens (files self.old) name.now (Self.Input.coming input)) }
@@ -45,20 +51,29 @@ pub trait Disk {
         ensures count { Counts result (failures self.old) (failures self.new) }
         ensures error { IfErr result (gave self.new) };
 
-    /// Where the output of this name goes. A disk that tells its files has only files.
-    fn place_of(&mut self, name: &str) -> io::Result<Place>
-        ensures place { IfOk result (λ place. files self.old ≢ None → IsPlaceOf name.now place) }
+    /// Whether the file of this name is still what it was when it was opened, if it is the one that was opened last.
+    fn is_as_read(&mut self, name: &str) -> io::Result<bool>
+        ensures told { IfOk result (λ same. same ≡ false → changed self.new name.now) }
+        ensures right { IfOk result (λ same. same ≡ true → changed self.new name.now → ⊥) }
         ensures files { files self.new ≡ files self.old }
         ensures moments { (files : Files) → left self.new files → left self.old files }
         ensures count { Counts result (failures self.old) (failures self.new) }
         ensures error { IfErr result (gave self.new) };
 
-    /// Writes both parts after what a device, a pipe or an open file has.
+    /// Where the output of this name goes. A disk that tells its files has only files.
+    fn target_of(&mut self, name: &str) -> io::Result<Target>
+        ensures target { IfOk result (λ target. files self.old ≢ None → IsTargetOf name.now target) }
+        ensures files { files self.new ≡ files self.old }
+        ensures moments { (files : Files) → left self.new files → left self.old files }
+        ensures count { Counts result (failures self.old) (failures self.new) }
+        ensures error { IfErr result (gave self.new) };
+
+    /// Writes both parts after what a device, a pipe or a socket has.
     fn append(&mut self, name: &str, bytes: (&[u8], &[u8])) -> io::Result<()>
         ensures count { Counts result (failures self.old) (failures self.new) }
         ensures error { IfErr result (gave self.new) };
 
-    /// Makes a new file, which has no bytes yet. A file that has the name already is not touched, and the call fails.
+    /// Makes a new file, which has no bytes yet. A file or a link that has the name already is not touched, and the call fails.
     fn make(&mut self, name: &str) -> io::Result<Self::Draft>
         ensures ok { OnOk result (Changes (files self.old) (files self.new) (Creates name.now [])) }
         ensures draft { IfOk result (λ draft. is_of draft name.now) }
@@ -77,7 +92,8 @@ pub trait Disk {
         ensures count { Counts result (failures self.old) (failures self.new) }
         ensures error { IfErr result (gave self.new) };
 
-    /// Gives a draft the owner and the permissions of the file whose place it is to take, as far as the system lets us.
+    /// Gives a draft the owner and the permissions of the file whose place it is to take, as far as the system lets us. If no file
+    /// is there, the draft has the permissions of the file that was opened last.
     fn make_like(&mut self, draft: &Self::Draft, name: &str)
         requires { is_of draft.now name.now }
         ensures files { files self.new ≡ files self.old }
@@ -112,4 +128,8 @@ pub trait Disk {
         ensures moments { Passes (files self.old) (left self.old) (left self.new) (SameBut name.now) }
         ensures count { failures self.new ≡ failures self.old }
         ensures errors { (error : Error) → gave self.old error → gave self.new error };
+
+    /// What the last call failed by, of those whose failures are counted. None has failed if there is nothing.
+    fn why(&self) -> Option<ErrorKind>
+        ensures { (kind : ErrorKind) → result ≡ Some kind → (error : Error) × gave self.now error × (error_kind error ≡ kind) };
 }

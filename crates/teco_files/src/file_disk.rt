@@ -1,50 +1,67 @@
 //! The files of the system.
-ghost use Rattle.std.specs.IoError.{error_kind};
-ghost use Rattle.std.specs.Prelude.{◌≡◌, ⊤, IfErr, None, Some};
+ghost use Rattle.std.specs.Prelude.{◌≡◌, ⊤, true, IfErr, None, Some};
 ghost use Rattle.teco_files.specs.Disk.{Counts};
 
 use crate::disk::Disk;
-use crate::place::{Place, append, place_of};
+use crate::draft::{give_mode, make_like, open_new};
 use crate::reader_source::ReaderSource;
-use std::fs::{Files, Metadata, OpenFile, OpenOptions};
+use crate::target::{Target, append, is_same_file, target_of};
+use std::fs::{Files, Metadata, OpenFile};
 use std::io::{ErrorKind, Write};
-use std::os::unix::fs::{MetadataExt, OpenOptionsExt, chown};
+use std::os::fd::AsFd;
+use std::os::unix::fs::MetadataExt;
 use std::{fs, io};
 
 /// The files of the system, of which no clause tells what they hold.
 #[derive(Drop)]
 pub struct FileDisk<'a, R: Files> {
     rt: &'a R,
+    // the file that was opened last, as it was then
+    opened: Option<Metadata>,
     // the file whose place a new one is to take
     replaced: Option<Metadata>,
+    // whether the file that was last asked about was not as it was when it was opened
+    changed: bool,
     failures: u64,
-    // what the last failure was
-    failure: Option<ErrorKind>,
+    // the last failure
+    failure: Option<io::Error>,
 }
 
-/// Opens a new file. One that is to take the place of another is for its owner alone at first.
-fn open_new<R: Files>(rt: &R, name: &str, old: Option<&Metadata>) -> io::Result<R::File> {
-    let mut options = OpenOptions::new();
-    options.write(true).create_new(true);
-    if old.is_some() {
-        options.mode(0o600);
+/// Opens a file to be read, and tells what it is. A folder can't be read.
+fn open_known<R: Files>(rt: &R, name: &str) -> io::Result<(R::File, Metadata)> {
+    let file = fs::open(rt, name)?;
+    let about = file.metadata()?;
+    if about.is_dir() {
+        return Err(io::Error::from(ErrorKind::IsADirectory));
     }
-    options.open(rt, name)
+    Ok((file, about))
 }
 
-/// Gives a file the group, the owner and the permissions of another, as far as the system lets us.
-fn make_like<R: Files>(rt: &R, file: &R::File, name: &str, old: &Metadata) {
-    let _ = chown(rt, name, None, Some(old.gid()));
-    let _ = chown(rt, name, Some(old.uid()), None);
-    let _ = file.set_permissions(old.permissions());
+/// What is known of the file of this name, if it is there.
+fn known<R: Files>(rt: &R, name: &str) -> io::Result<Option<Metadata>> {
+    match fs::metadata(rt, name) {
+        Ok(about) => Ok(Some(about)),
+        Err(error) if error.kind() == ErrorKind::NotFound => Ok(None),
+        Err(error) => Err(error),
+    }
+}
+
+/// Whether it is the same file, of the same size, which nobody has written to since.
+fn is_unchanged(was: &Metadata, now: &Metadata) -> bool {
+    is_same_file(was, now)
+        && was.size() == now.size()
+        && was.mtime() == now.mtime()
+        && was.mtime_nsec() == now.mtime_nsec()
 }
 
 impl<'a, R: Files> FileDisk<'a, R> {
-    /// The files of the system; a new one is made like the one that it is to replace, if there is one.
+    /// The files of the system. A new one is made like the one that it is to replace, if there is one, and else has the permissions of the file that was opened last.
     pub fn new(rt: &'a R) -> FileDisk<'a, R> {
         FileDisk {
             rt,
+            opened: None,
             replaced: None,
+            changed: false,
             failures: 0,
             failure: None,
         }
@@ -54,17 +71,28 @@ impl<'a, R: Files> FileDisk<'a, R> {
     fn counted<A: Drop>(&mut self, done: io::Result<A>) -> io::Result<A>
         ensures same { result ≡ done }
         ensures count { Counts done self.old.failures self.new.failures }
-        ensures error { IfErr done (λ error. self.new.failure ≡ Some (error_kind error)) }
+        ensures error { IfErr done (λ error. self.new.failure ≡ Some error) }
     {
         if let Err(error) = &done {
             self.failures = self.failures.wrapping_add(1);
-            self.failure = Some(error.kind());
+            self.failure = Some(*error);
         }
         done
     }
+
+    /// The permissions that a new file is to have: those of the file that was opened last, if that was no device and no pipe.
+    fn mode_of_new(&self) -> Option<u32> {
+        match &self.opened {
+            Some(input) if input.is_file() => Some(input.mode() & 0o777),
+            _ => None,
+        }
+    }
 }
 
-impl<'a, R: Files + AllocGlobal> Disk for FileDisk<'a, R> {
+impl<'a, R: Files + AllocGlobal> Disk for FileDisk<'a, R>
+where
+    R::File: AsFd,
+{
     type Input = ReaderSource<R::File>;
 
     type Draft = R::File;
@@ -75,7 +103,7 @@ impl<'a, R: Files + AllocGlobal> Disk for FileDisk<'a, R> {
 
     ghost failures = { λ disk. disk.failures };
 
-    ghost gave = { λ disk error. disk.failure ≡ Some (error_kind error) };
+    ghost gave = { λ disk error. disk.failure ≡ Some error };
 
     ghost is_of = { λ _ _. ⊤ };
 
@@ -83,20 +111,40 @@ impl<'a, R: Files + AllocGlobal> Disk for FileDisk<'a, R> {
 
     ghost unremoved = { λ _ _. ⊤ };
 
+    ghost changed = { λ disk _. disk.changed ≡ true };
+
     fn open(&mut self, name: &str) -> io::Result<ReaderSource<R::File>> {
-        let opened = fs::open(self.rt, name);
+        let opened = open_known(self.rt, name);
         match self.counted(opened) {
-            Ok(file) => Ok(ReaderSource::new(file)),
+            Ok((file, about)) => {
+                self.opened = Some(about);
+                Ok(ReaderSource::new(file))
+            }
             Err(error) => Err(error),
         }
     }
 
-    fn place_of(&mut self, name: &str) -> io::Result<Place> {
-        let found = place_of(self.rt, name);
+    fn is_as_read(&mut self, name: &str) -> io::Result<bool> {
+        let now = known(self.rt, name);
+        match self.counted(now) {
+            Ok(now) => {
+                let same = match (&self.opened, &now) {
+                    (Some(was), Some(now)) => is_unchanged(was, now),
+                    _ => false,
+                };
+                self.changed = !same;
+                Ok(same)
+            }
+            Err(error) => Err(error),
+        }
+    }
+
+    fn target_of(&mut self, name: &str) -> io::Result<Target> {
+        let found = target_of(self.rt, name);
         match self.counted(found) {
             Ok(found) => {
                 self.replaced = found.replaced;
-                Ok(found.place)
+                Ok(found.target)
             }
             Err(error) => Err(error),
         }
@@ -108,7 +156,8 @@ impl<'a, R: Files + AllocGlobal> Disk for FileDisk<'a, R> {
     }
 
     fn make(&mut self, name: &str) -> io::Result<R::File> {
-        let made = open_new(self.rt, name, self.replaced.as_ref());
+        let is_private = self.replaced.is_some() || self.mode_of_new().is_some();
+        let made = open_new(self.rt, name, is_private);
         self.counted(made)
     }
 
@@ -117,9 +166,11 @@ impl<'a, R: Files + AllocGlobal> Disk for FileDisk<'a, R> {
         self.counted(written)
     }
 
-    fn make_like(&mut self, draft: &R::File, name: &str) {
+    fn make_like(&mut self, draft: &R::File, _name: &str) {
         if let Some(old) = &self.replaced {
-            make_like(self.rt, draft, name, old);
+            make_like(draft, old);
+        } else if let Some(mode) = self.mode_of_new() {
+            give_mode(draft, mode);
         }
     }
 
@@ -135,5 +186,12 @@ impl<'a, R: Files + AllocGlobal> Disk for FileDisk<'a, R> {
 
     fn remove(&mut self, name: &str) -> io::Result<()> {
         fs::remove_file(self.rt, name)
+    }
+
+    fn why(&self) -> Option<ErrorKind> {
+        match &self.failure {
+            Some(error) => Some(error.kind()),
+            None => None,
+        }
     }
 }

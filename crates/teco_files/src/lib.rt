@@ -2,13 +2,14 @@
 #![tactic(auto)]
 
 mod disk;
+mod draft;
 mod file_disk;
 mod input;
 mod memory_disk;
 mod memory_source;
-mod place;
 mod reader_source;
 mod source;
+mod target;
 mod word_source;
 
 pub use disk::Disk;
@@ -16,7 +17,7 @@ pub use file_disk::FileDisk;
 pub use input::{InputFault, read_input};
 pub use memory_disk::{MemoryDisk, Refused};
 pub use memory_source::MemorySource;
-pub use place::Place;
 pub use reader_source::ReaderSource;
 pub use source::{Source, SourceFault};
+pub use target::Target;
 pub use word_source::WordSource;

@@ -1,12 +1,12 @@
 //! Files in memory.
-ghost use Rattle.std.specs.IoError.{error_kind};
 ghost use Rattle.std.specs.Prelude.{◌≡◌, ⊤, true, IfErr, Some};
+ghost use Rattle.teco_files.specs.declared.memory_disk.Refused.TheVariants.{Changed};
 ghost use Rattle.teco_files.specs.Disk.{Counts};
 ghost use Rattle.teco_files.specs.FileLog.{WereOnce, files_of};
 
 use crate::disk::Disk;
 use crate::memory_source::MemorySource;
-use crate::place::Place;
+use crate::target::Target;
 use std::alloc::Global;
 use std::io;
 use std::io::ErrorKind;
@@ -29,24 +29,26 @@ pub enum Refused {
     Rename,
     /// A rename, and then that the draft is removed.
     RenameAndRemove,
+    /// To replace a file: it is told not to be what it was when it was opened.
+    Changed,
 }
 
 /// How often a call has failed, modulo 2^64, and what the last failure was.
 #[derive(Drop)]
 struct Failures {
     times: u64,
-    last: Option<ErrorKind>,
+    last: Option<io::Error>,
 }
 
 impl Failures {
     /// Counts a call that failed, and notes its error.
     fn count<A>(&mut self, done: &io::Result<A>)
         ensures count { Counts done.now self.old.times self.new.times }
-        ensures error { IfErr done.now (λ error. self.new.last ≡ Some (error_kind error)) }
+        ensures error { IfErr done.now (λ error. self.new.last ≡ Some error) }
     {
         if let Err(error) = done {
             self.times = self.times.wrapping_add(1);
-            self.last = Some(error.kind());
+            self.last = Some(*error);
         }
     }
 }
@@ -104,7 +106,7 @@ impl Disk for MemoryDisk {
 
     ghost failures = { λ disk. disk.failures.times };
 
-    ghost gave = { λ disk error. disk.failures.last ≡ Some (error_kind error) };
+    ghost gave = { λ disk error. disk.failures.last ≡ Some error };
 
     ghost is_of = { λ _ _. ⊤ };
 
@@ -113,19 +115,25 @@ impl Disk for MemoryDisk {
 
     ghost unremoved = { λ disk _. disk.unremoved ≡ true };
 
+    ghost changed = { λ disk _. disk.refused ≡ Changed };
+
     fn open(&mut self, name: &str) -> io::Result<MemorySource> {
         let opened = self.log.opened(self.refused, name);
         self.failures.count(&opened);
         opened
     }
 
-    fn place_of(&mut self, name: &str) -> io::Result<Place> {
-        let place = match String::from_str(self.alloc, name) {
-            Ok(name) => Ok(Place::File(name)),
+    fn is_as_read(&mut self, _name: &str) -> io::Result<bool> {
+        Ok(self.refused != Refused::Changed)
+    }
+
+    fn target_of(&mut self, name: &str) -> io::Result<Target> {
+        let target = match String::from_str(self.alloc, name) {
+            Ok(name) => Ok(Target::File(name)),
             Err(error) => Err(io::Error::from(error)),
         };
-        self.failures.count(&place);
-        place
+        self.failures.count(&target);
+        target
     }
 
     fn append(&mut self, _name: &str, _bytes: (&[u8], &[u8])) -> io::Result<()> {
@@ -167,5 +175,12 @@ impl Disk for MemoryDisk {
         let removed = self.log.removed(self.refused, name);
         self.unremoved = self.unremoved || removed.is_err();
         removed
+    }
+
+    fn why(&self) -> Option<ErrorKind> {
+        match &self.failures.last {
+            Some(error) => Some(error.kind()),
+            None => None,
+        }
     }
 }

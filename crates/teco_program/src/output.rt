@@ -10,7 +10,7 @@ use std::io;
 use std::io::ErrorKind;
 use std::path::Path;
 use teco_core::NoMemory;
-use teco_files::{Disk, Place};
+use teco_files::{Disk, Target};
 
 /// How many names are tried for a draft.
 const DRAFTS: u32 = 100;
@@ -161,8 +161,8 @@ pub fn write_output<D: Disk>(
         (IsWriting name.now (both output.entry)) }
     ensures error { IfErr result (IsWriteError (D.gave disk.new)) }
 {
-    match disk.place_of(name)? {
-        Place::Stream => disk.append(name, output),
-        Place::File(file) => replace_file(alloc, disk, file.as_str(), number, output),
+    match disk.target_of(name)? {
+        Target::Stream => disk.append(name, output),
+        Target::File(file) => replace_file(alloc, disk, file.as_str(), number, output),
     }
 }

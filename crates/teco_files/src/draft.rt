@@ -1,0 +1,39 @@
+//! Whose the new files are, and who may read and write them. What is changed is the file that was opened, and not what has its name.
+use std::fs::{Files, Metadata, OpenFile, OpenOptions, Permissions};
+use std::io;
+use std::os::fd::AsFd;
+use std::os::unix::fs::{MetadataExt, OpenOptionsExt, PermissionsExt, fchown};
+
+/// Opens a new file. What has the name already, a link too, is left as it is, and the call fails.
+/// If other permissions are to follow, it is for its owner alone at first; else it has those of each new file.
+pub fn open_new<R: Files>(rt: &R, name: &str, is_private: bool) -> io::Result<R::File> {
+    let mode = if is_private { 0o600 } else { 0o666 };
+    OpenOptions::new()
+        .write(true)
+        .create_new(true)
+        .mode(mode)
+        .open(rt, name)
+}
+
+/// The permissions of a file whose group could not be kept: the other group may do what everyone may.
+fn without_group(mode: u32) -> u32 {
+    (mode & 0o707) | ((mode & 0o7) << 3)
+}
+
+/// Gives a file these permissions, if the system lets us.
+pub fn give_mode<F: OpenFile>(file: &F, mode: u32) {
+    let _ = file.set_permissions(Permissions::from_mode(mode));
+}
+
+/// Gives a file the group, the owner and the permissions of another, as far as the system lets us. The permissions come last, so
+/// that nobody may meanwhile do more than in the end.
+pub fn make_like<F: OpenFile + AsFd>(file: &F, old: &Metadata) {
+    let has_group = fchown(file, None, Some(old.gid())).is_ok();
+    let has_owner = fchown(file, Some(old.uid()), None).is_ok();
+    let mode = match (has_owner, has_group) {
+        (true, true) => old.mode() & 0o7777,
+        (false, true) => old.mode() & 0o777,
+        (_, false) => without_group(old.mode()),
+    };
+    give_mode(file, mode);
+}

@@ -1,0 +1,101 @@
+//! What has the name of the output file.
+use std::fs::{Files, Metadata, OpenFile, OpenOptions};
+use std::io::{ErrorKind, Write};
+use std::os::unix::fs::MetadataExt;
+use std::path::Path;
+use std::{fs, io};
+
+/// How many links are followed, one after another. The system gives up after as many.
+const LINKS: u32 = 40;
+
+/// The names of the program's own standard output.
+const STANDARD_OUTPUT: [&str; 2] = ["/dev/fd/1", "/proc/self/fd/1"];
+
+/// Where the output goes.
+#[derive(Drop)]
+pub enum Target {
+    /// To a file of this name.
+    File(String),
+    /// To a device, a pipe or a socket.
+    Stream,
+}
+
+/// A target, and what is known of the file that is there now, if one is.
+#[derive(Drop)]
+pub struct Found {
+    pub target: Target,
+    pub replaced: Option<Metadata>,
+}
+
+/// Whether both tell of the same file, whatever its names are.
+pub fn is_same_file(one: &Metadata, other: &Metadata) -> bool {
+    one.dev() == other.dev() && one.ino() == other.ino()
+}
+
+/// Whether a file is the one that the program's own standard output goes to.
+fn is_standard_output<R: Files>(rt: &R, file: &Metadata) -> bool {
+    STANDARD_OUTPUT.iter().any(|name| {
+        matches!(fs::metadata(rt, *name), Ok(output) if is_same_file(&output, file))
+    })
+}
+
+/// The name at the end of the links that begin at this one; the name itself, if it is no link. There may be no file of it.
+fn end_of_links<R: Files + AllocGlobal>(rt: &R, name: &str) -> io::Result<String> {
+    let mut end = String::from_str(rt.alloc(), name)?;
+    for _ in 0..LINKS {
+        match fs::read_link(rt, end.as_str()) {
+            Ok(next) => {
+                let path = Path::new(end.as_str()).with_file_name(rt.alloc(), next.as_str())?;
+                end = path.into_string();
+            }
+            // what is there is no link, or nothing is there
+            Err(error) if matches!(error.kind(), ErrorKind::InvalidInput | ErrorKind::NotFound) => {
+                return Ok(end);
+            }
+            Err(error) => return Err(error),
+        }
+    }
+    Err(io::Error::from(ErrorKind::FilesystemLoop))
+}
+
+/// The target where a file is there. It has to be one that may be written. The file that standard output goes to is refused:
+/// replaced, it would lose what the program and its caller have put there.
+fn file_there<R: Files>(rt: &R, name: String) -> io::Result<Found> {
+    let file = OpenOptions::new().append(true).open(rt, name.as_str())?;
+    let replaced = file.metadata()?;
+    if is_standard_output(rt, &replaced) {
+        return Err(io::Error::from(ErrorKind::ResourceBusy));
+    }
+    Ok(Found {
+        target: Target::File(name),
+        replaced: Some(replaced),
+    })
+}
+
+/// Where the output of this name goes. What the file is tells that, and not where its name lies.
+///
+/// Links are followed to their end, so that they stay what they are. A link that leads to nothing makes the file that it leads
+/// to, as `> link` does in a shell. The links are those that the system followed just before: one that it doesn't follow, as
+/// another user's in /tmp, is an error.
+pub fn target_of<R: Files + AllocGlobal>(rt: &R, name: &str) -> io::Result<Found> {
+    match fs::metadata(rt, name) {
+        Ok(about) if about.is_file() => file_there(rt, end_of_links(rt, name)?),
+        Ok(about) if about.is_dir() => Err(io::Error::from(ErrorKind::IsADirectory)),
+        Ok(_) => Ok(Found {
+            target: Target::Stream,
+            replaced: None,
+        }),
+        Err(error) if error.kind() == ErrorKind::NotFound => Ok(Found {
+            target: Target::File(end_of_links(rt, name)?),
+            replaced: None,
+        }),
+        Err(error) => Err(error),
+    }
+}
+
+/// Writes both parts after what a device, a pipe or a socket has.
+pub fn append<R: Files>(rt: &R, name: &str, bytes: (&[u8], &[u8])) -> io::Result<()> {
+    let mut stream = OpenOptions::new().append(true).open(rt, name)?;
+    stream.write_all(bytes.0)?;
+    stream.write_all(bytes.1)
+}
