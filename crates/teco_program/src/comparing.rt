@@ -1,5 +1,5 @@
 //! Whether a file has the bytes that are to be written to it.
-ghost use Rattle.std.specs.Prelude.{◌≡◌, ◌+◌, ◌≤◌, Some, length, take, drop, true, false, IsTrue, ◌↔◌};
+ghost use Rattle.std.specs.Prelude.{◌≡◌, ◌+◌, ◌++◌, ◌≤◌, Some, length, take, drop, true, false, IsTrue, ◌↔◌};
 ghost use Rattle.teco_files.specs.Disk.{Files};
 ghost use Rattle.teco_files.specs.Source.{Gives, HasEnded};
 ghost use Rattle.teco_program.specs.Run.{KeepsDisk};
@@ -14,7 +14,7 @@ const PIECE: usize = 1 << 16;
 
 /// Whether the bytes from a place on, of two parts one after the other, begin with this piece.
 fn goes_on_with(bytes: (&[u8], &[u8]), at: usize, piece: &[u8]) -> bool
-    requires { at ≤ length (both bytes.entry) }
+    requires { at ≤ length (both bytes) }
     ensures { IsTrue result → (take (at + length piece.now) (both bytes.entry)
         ≡ take at (both bytes.entry) ++ piece.now) × (at + length piece.now ≤ length (both bytes.entry)) }
 {
@@ -23,7 +23,8 @@ fn goes_on_with(bytes: (&[u8], &[u8]), at: usize, piece: &[u8]) -> bool
         return false;
     }
     let (front, back) = part(bytes.0, bytes.1, at, at + piece.len());
-    piece[..front.len()] == *front && piece[front.len()..] == *back
+    let (first, last) = piece.split_at(front.len());
+    first == front && last == back
 }
 
 /// Whether a source gives these bytes, and no more.

@@ -119,7 +119,12 @@ fn text(alloc: Global, line: &Line, input: &str, fate: Fate) -> Result<String, N
         Fate::NoCommands => said_of(alloc, "cannot read ", commands_name(line), ""),
         Fate::NoInput => said_of(alloc, "cannot read ", input, ""),
         Fate::LargeInput => said_of(alloc, input, " is too large", ""),
-        Fate::NoMemory | Fate::Ended(Served::NoMemory) => said_about(alloc, line, input, "no memory"),
+        Fate::NoMemory | Fate::Ended(Served::NoMemory) => said_about(
+            alloc,
+            line,
+            input,
+            "no memory",
+        ),
         Fate::NoOutput => {
             let name = output_name(alloc, line, input)?;
             said_of(alloc, "cannot write ", name.as_str(), "")

@@ -20,7 +20,8 @@ use std::process::ExitCode;
 use teco_core::NoMemory;
 use teco_files::{Disk, Source, WordSource};
 use teco_line::{
-    Commands, Line, LineFault, commands_in, commands_on_pages, is_standard_input, line_of, refused_status,
+    Commands, Line, LineFault, commands_in, commands_on_pages, is_standard_input, line_of,
+    refused_status,
 };
 use teco_step::Terminal;
 
@@ -188,7 +189,13 @@ fn no_memory<E: Terminal>(errors: &mut E) -> u8
 }
 
 /// Tells how the run over this input of the line ends, and gives the status.
-pub fn conclude<E: Terminal>(alloc: Global, line: &Line, name: &str, fate: Fate, errors: &mut E) -> u8
+pub fn conclude<E: Terminal>(
+    alloc: Global,
+    line: &Line,
+    name: &str,
+    fate: Fate,
+    errors: &mut E,
+) -> u8
     ensures { Concludes line.now name.now fate (E.screen errors.old) (E.screen errors.new) result }
 {
     match ending_of(alloc, line, name, fate) {

@@ -85,12 +85,28 @@ fn edit_noted<S: Source, T: Terminal, N: Terminal, D: Disk>(
 {
     if !line.explain {
         return edit_by_copy(
-            alloc, line, name, number, bytes, commands, term, &mut Silent, disk,
+            alloc,
+            line,
+            name,
+            number,
+            bytes,
+            commands,
+            term,
+            &mut Silent,
+            disk,
         );
     }
     let mut explainer = Explainer::new(alloc, line.prompt, notes);
     let fate = edit_by_copy(
-        alloc, line, name, number, bytes, commands, term, &mut explainer, disk,
+        alloc,
+        line,
+        name,
+        number,
+        bytes,
+        commands,
+        term,
+        &mut explainer,
+        disk,
     );
     explainer.ended(line, name, fate, disk.why());
     fate
@@ -120,7 +136,9 @@ fn edit_told<S: Source, T: Terminal, E: Terminal, N: Terminal, D: Disk>(
         name.now ((host disk.old commands.old term.old), errors.old) ((host disk.new commands.new term.new), errors.new) result }
     ensures silent { line.now.explain ≡ false → notes.new ≡ notes.old }
 {
-    let fate = edit_noted(alloc, line, name, number, bytes, commands, term, notes, disk);
+    let fate = edit_noted(
+        alloc, line, name, number, bytes, commands, term, notes, disk,
+    );
     conclude(alloc, line, name, fate, errors)
 }
 
