@@ -83,17 +83,17 @@ module _ {name : List ℕ} where
   others_appended appends before told = let new_is = appends before told in (new_is.0, new_is.1, new_is.2.others)
 
   -- written to, and then written to once more
+  pub appends_both : {xs ys : List ℕ} {before mid after : Files} → Appends name xs before mid → Appends name ys mid after → Appends name (xs ++ ys) before after
+  appends_both {xs} {ys} first then = record {
+    whole = λ had is. then.whole (had ++ xs) (first.whole had is) ∙ ap (λ (l : List ℕ). Some l) (append_assoc had xs ys);
+    others = λ other apart. then.others other apart ∙ first.others other apart;
+  }
+
   appends_then : {xs ys : List ℕ} {old mid new : Option Files} → Changes old mid (Appends name xs) → Changes mid new (Appends name ys) → Changes old new (Appends name (xs ++ ys))
   appends_then {xs} {ys} first then before told =
       let mid_is = first before told in
-      let new_is = then mid_is.0 mid_is.1 in (
-        new_is.0,
-        new_is.1,
-        record {
-          whole = λ had is. new_is.2.whole (had ++ xs) (mid_is.2.whole had is) ∙ ap (λ (l : List ℕ). Some l) (append_assoc had xs ys);
-          others = λ other apart. new_is.2.others other apart ∙ mid_is.2.others other apart;
-        },
-      )
+      let new_is = then mid_is.0 mid_is.1 in
+      (new_is.0, new_is.1, appends_both mid_is.2 new_is.2)
 
   pub appends_if : {A E : Type 0} {xs : List ℕ} {old mid : Option Files} (ys : List ℕ) (new : Option Files) (result : Result A E) → Changes old mid (Appends name xs) → OnOk result (Changes mid new (Appends name ys))
       → OnOk result (Changes old new (Appends name (xs ++ ys)))

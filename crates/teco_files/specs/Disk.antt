@@ -74,7 +74,7 @@ abbrev pub Opens : Option Files → List ℕ → Option (List ℕ) → Type 0
 Opens files name coming = (before : Files) → files ≡ Some before
     → (bytes : List ℕ) × (before name ≡ Some bytes) × (coming ≡ Some bytes)
 
--- The target is the file of this name.
-abbrev pub IsTargetOf : List ℕ → Target → Type 0
-IsTargetOf name (target.File to) = string_bytes to ≡ name
-IsTargetOf name target.Stream = ⊥
+-- The target is the file of this name, which is no stream's; or it is a stream.
+abbrev pub IsTargetOf : Files → List ℕ → Target → Type 0
+IsTargetOf streams name (target.File to) = (string_bytes to ≡ name) × (streams name ≡ None)
+IsTargetOf streams name target.Stream = (given : List ℕ) × (streams name ≡ Some given)

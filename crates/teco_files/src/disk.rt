@@ -1,6 +1,6 @@
 //! Where files are.
 ghost use Rattle.std.specs.IoError.{error_kind};
-ghost use Rattle.std.specs.Prelude.{◌≡◌, ◌≢◌, ◌⊎◌, ℕ, List, Option, IfErr, OnErr, OnOk};
+ghost use Rattle.std.specs.Prelude.{◌≡◌, ◌≢◌, ◌⊎◌, ◌++◌, ℕ, List, Option, IfErr, OnErr, OnOk};
 ghost use Rattle.std.specs.declared.io.Error.{Error};
 ghost use Rattle.std.specs.declared.io.ErrorKind.{ErrorKind};
 ghost use Rattle.std.specs.Prelude.{[], None, Some, IfOk, true, false};
@@ -25,6 +25,9 @@ pub trait Disk {
     // what a crash at some moment so far might have left
     ghost left: { Self → Files → Type 0 };
 
+    // what each device, pipe and socket has been given, where the disk tells its files
+    ghost streams: { Self → Files };
+
     // how often a call has failed, modulo 2^64
     ghost failures: { Self → ℕ };
 
@@ -47,6 +50,7 @@ pub trait Disk {
     fn open(&mut self, name: &str) -> io::Result<Self::Input>
         ensures input { IfOk result (λ input. Opens (files self.old) name.now (Self.Input.coming input)) }
         ensures files { files self.new ≡ files self.old }
+        ensures streams { streams self.new ≡ streams self.old }
         ensures moments { (files : Files) → left self.new files → left self.old files }
         ensures count { Counts result (failures self.old) (failures self.new) }
         ensures error { IfErr result (gave self.new) };
@@ -56,20 +60,27 @@ pub trait Disk {
         ensures told { IfOk result (λ same. same ≡ false → changed self.new name.now) }
         ensures right { IfOk result (λ same. same ≡ true → changed self.new name.now → ⊥) }
         ensures files { files self.new ≡ files self.old }
+        ensures streams { streams self.new ≡ streams self.old }
         ensures moments { (files : Files) → left self.new files → left self.old files }
         ensures count { Counts result (failures self.old) (failures self.new) }
         ensures error { IfErr result (gave self.new) };
 
-    /// Where the output of this name goes. A disk that tells its files has only files.
+    /// Where the output of this name goes. A disk that tells its files tells too which names are no files.
     fn target_of(&mut self, name: &str) -> io::Result<Target>
-        ensures target { IfOk result (λ target. files self.old ≢ None → IsTargetOf name.now target) }
+        ensures target { IfOk result (λ target. files self.old ≢ None → IsTargetOf (streams self.old) name.now target) }
+        ensures files { files self.new ≡ files self.old }
+        ensures streams { streams self.new ≡ streams self.old }
+        ensures moments { (files : Files) → left self.new files → left self.old files }
+        ensures count { Counts result (failures self.old) (failures self.new) }
+        ensures error { IfErr result (gave self.new) };
+
+    /// Writes both parts after what a device, a pipe or a socket has been given, or some of their bytes where it fails.
+    fn append(&mut self, name: &str, bytes: (&[u8], &[u8])) -> io::Result<()>
+        ensures ok { OnOk result
+            (Appends name.now (bytes.entry.0.now ++ bytes.entry.1.now) (streams self.old) (streams self.new)) }
+        ensures others { SameBut name.now (streams self.old) (streams self.new) }
         ensures files { files self.new ≡ files self.old }
         ensures moments { (files : Files) → left self.new files → left self.old files }
-        ensures count { Counts result (failures self.old) (failures self.new) }
-        ensures error { IfErr result (gave self.new) };
-
-    /// Writes both parts after what a device, a pipe or a socket has.
-    fn append(&mut self, name: &str, bytes: (&[u8], &[u8])) -> io::Result<()>
         ensures count { Counts result (failures self.old) (failures self.new) }
         ensures error { IfErr result (gave self.new) };
 
@@ -78,6 +89,7 @@ pub trait Disk {
         ensures ok { OnOk result (Changes (files self.old) (files self.new) (Creates name.now [])) }
         ensures draft { IfOk result (λ draft. is_of draft name.now) }
         ensures err { OnErr result (Changes (files self.old) (files self.new) Same) }
+        ensures streams { streams self.new ≡ streams self.old }
         ensures moments { Passes (files self.old) (left self.old) (left self.new) (SameBut name.now) }
         ensures count { Counts result (failures self.old) (failures self.new) }
         ensures error { IfErr result (gave self.new) };
@@ -88,6 +100,7 @@ pub trait Disk {
         ensures ok { OnOk result (Changes (files self.old) (files self.new) (Appends name.now bytes.now)) }
         ensures draft { is_of draft.new name.now }
         ensures err { OnErr result (Changes (files self.old) (files self.new) (SameBut name.now)) }
+        ensures streams { streams self.new ≡ streams self.old }
         ensures moments { Passes (files self.old) (left self.old) (left self.new) (SameBut name.now) }
         ensures count { Counts result (failures self.old) (failures self.new) }
         ensures error { IfErr result (gave self.new) };
@@ -97,6 +110,7 @@ pub trait Disk {
     fn make_like(&mut self, draft: &Self::Draft, name: &str)
         requires { is_of draft.now name.now }
         ensures files { files self.new ≡ files self.old }
+        ensures streams { streams self.new ≡ streams self.old }
         ensures moments { (files : Files) → left self.new files → left self.old files }
         ensures count { failures self.new ≡ failures self.old }
         ensures errors { (error : Error) → gave self.old error → gave self.new error };
@@ -106,6 +120,7 @@ pub trait Disk {
         requires { is_of draft.now name.now }
         ensures kept { OnOk result (kept self.new name.now) }
         ensures files { files self.new ≡ files self.old }
+        ensures streams { streams self.new ≡ streams self.old }
         ensures moments { (files : Files) → left self.new files → left self.old files }
         ensures count { Counts result (failures self.old) (failures self.new) }
         ensures error { IfErr result (gave self.new) };
@@ -115,6 +130,7 @@ pub trait Disk {
         requires { from.now ≢ to.now }
         ensures ok { OnOk result (Changes (files self.old) (files self.new) (Renames from.now to.now)) }
         ensures err { OnErr result (Changes (files self.old) (files self.new) Same) }
+        ensures streams { streams self.new ≡ streams self.old }
         ensures moments { kept self.old from.now → Passes (files self.old) (left self.old) (left self.new)
             (λ before now. Same before now ⊎ Renames from.now to.now before now) }
         ensures count { Counts result (failures self.old) (failures self.new) }
@@ -125,6 +141,7 @@ pub trait Disk {
         ensures ok { OnOk result (Changes (files self.old) (files self.new) (Removes name.now)) }
         ensures err { OnErr result (unremoved self.new name.now) }
         ensures others { Changes (files self.old) (files self.new) (SameBut name.now) }
+        ensures streams { streams self.new ≡ streams self.old }
         ensures moments { Passes (files self.old) (left self.old) (left self.new) (SameBut name.now) }
         ensures count { failures self.new ≡ failures self.old }
         ensures errors { (error : Error) → gave self.old error → gave self.new error };

@@ -101,6 +101,8 @@ where
 
     ghost left = { λ _ _. ⊤ };
 
+    ghost streams = { λ _ _. None };
+
     ghost failures = { λ disk. disk.failures };
 
     ghost gave = { λ disk error. disk.failure ≡ Some error };

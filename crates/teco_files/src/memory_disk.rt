@@ -1,7 +1,7 @@
 //! Files in memory.
-ghost use Rattle.std.specs.Prelude.{◌≡◌, ⊤, true, IfErr, Some};
+ghost use Rattle.std.specs.Prelude.{◌≡◌, ⊤, true, IfErr, IfOk, Some};
 ghost use Rattle.teco_files.specs.declared.memory_disk.Refused.TheVariants.{Changed};
-ghost use Rattle.teco_files.specs.Disk.{Counts};
+ghost use Rattle.teco_files.specs.Disk.{Counts, IsTargetOf};
 ghost use Rattle.teco_files.specs.FileLog.{WereOnce, files_of};
 
 use crate::disk::Disk;
@@ -58,6 +58,8 @@ impl Failures {
 pub struct MemoryDisk {
     alloc: Global,
     log: Log,
+    // what each device was given
+    devices: Log,
     refused: Refused,
     failures: Failures,
     // whether a file could not be removed
@@ -69,6 +71,7 @@ impl MemoryDisk {
         MemoryDisk {
             alloc,
             log: Log::new(alloc),
+            devices: Log::new(alloc),
             refused,
             failures: Failures {
                 times: 0,
@@ -83,6 +86,16 @@ impl MemoryDisk {
         self.log.put(name, bytes)
     }
 
+    /// Puts a device there, which keeps what it is given.
+    pub fn put_device(&mut self, name: &str) -> Result<(), NoMemory> {
+        self.devices.put(name, &[])
+    }
+
+    /// What a device was given, if it is there.
+    pub fn given(&self, name: &str) -> Option<&[u8]> {
+        self.devices.bytes(name)
+    }
+
     /// The bytes of a file, if it is there.
     pub fn bytes(&self, name: &str) -> Option<&[u8]> {
         self.log.bytes(name)
@@ -91,6 +104,16 @@ impl MemoryDisk {
     /// Whether each file has one of these names.
     pub fn has_only(&self, names: &[(&str, &str)]) -> bool {
         self.log.has_only(names)
+    }
+}
+
+/// The target of this name, where these are the devices.
+fn target_among(devices: &Log, alloc: Global, name: &str) -> io::Result<Target>
+    ensures target { IfOk result (IsTargetOf (files_of devices.now) name.now) }
+{
+    match devices.bytes(name) {
+        Some(_) => Ok(Target::Stream),
+        None => Ok(Target::File(String::from_str(alloc, name)?)),
     }
 }
 
@@ -103,6 +126,8 @@ impl Disk for MemoryDisk {
 
     // Each call makes one note at most. So the files were at each moment as the log told them after some note.
     ghost left = { λ disk files. WereOnce disk.log files };
+
+    ghost streams = { λ disk. files_of disk.devices };
 
     ghost failures = { λ disk. disk.failures.times };
 
@@ -128,16 +153,13 @@ impl Disk for MemoryDisk {
     }
 
     fn target_of(&mut self, name: &str) -> io::Result<Target> {
-        let target = match String::from_str(self.alloc, name) {
-            Ok(name) => Ok(Target::File(name)),
-            Err(error) => Err(io::Error::from(error)),
-        };
+        let target = target_among(&self.devices, self.alloc, name);
         self.failures.count(&target);
         target
     }
 
-    fn append(&mut self, _name: &str, _bytes: (&[u8], &[u8])) -> io::Result<()> {
-        let appended = Err(io::Error::from(ErrorKind::Unsupported));
+    fn append(&mut self, name: &str, bytes: (&[u8], &[u8])) -> io::Result<()> {
+        let appended = self.devices.written_both(self.refused, name, bytes);
         self.failures.count(&appended);
         appended
     }

@@ -1,6 +1,6 @@
 //! The log of a disk in memory, which tells its files.
 ghost use Rattle.std.specs.Option.{option_copied, option_map};
-ghost use Rattle.std.specs.Prelude.{◌≡◌, ◌≢◌, ◌∷◌, [], IfOk, OnErr, OnOk, Some};
+ghost use Rattle.std.specs.Prelude.{◌≡◌, ◌≢◌, ◌∷◌, ◌++◌, [], IfOk, OnErr, OnOk, Some};
 ghost use Rattle.teco_files.specs.Disk.{Appends, Creates, Opens, Removes, Renames, Same, SameBut};
 ghost use Rattle.teco_files.specs.FileLog.{GrowsByOne, files_of};
 
@@ -159,6 +159,20 @@ impl Log {
         }
         all.extend_from_slice(bytes)?;
         Ok(self.note(name, name, Some(all))?)
+    }
+
+    pub(super) fn written_both(
+        &mut self,
+        refused: Refused,
+        name: &str,
+        bytes: (&[u8], &[u8]),
+    ) -> io::Result<()>
+        ensures ok { OnOk result
+            (Appends name.now (bytes.entry.0.now ++ bytes.entry.1.now) (files_of self.old) (files_of self.new)) }
+        ensures others { SameBut name.now (files_of self.old) (files_of self.new) }
+    {
+        self.written(refused, name, bytes.0)?;
+        self.written(refused, name, bytes.1)
     }
 
     pub(super) fn renamed(&mut self, refused: Refused, from: &str, to: &str) -> io::Result<()>
