@@ -1,12 +1,13 @@
 -- What a run has done leads to what it has done as seen from before, or over another input.
-use Rattle.std.proofs.Common.{◌≡◌, ◌≢◌, ◌⊎◌, inl, inr, ℕ, List, Bool, IsTrue, true, false, refl, sym, ◌∙◌, subst}
+use Rattle.std.proofs.Common.{◌≡◌, ◌≢◌, ◌⊎◌, inl, inr, ℕ, List, Bool, IsTrue, true, false, refl, ap, sym, ◌∙◌, subst}
 use Rattle.std.specs.declared.io.Error.{Error}
-use Rattle.teco_files.specs.Disk.{Files}
+use Rattle.teco_files.specs.Disk.{Changes, Files}
 use Rattle.teco_files.specs.declared.input.InputFault.{InputFault}
 use Rattle.teco_files.specs.declared.input.InputFault.TheVariants as input
 use Rattle.teco_line.specs.declared.line.Line.{Line}
 use Rattle.teco_line.specs.StreamNames.{is_standard_output}
 use Rattle.teco_step.specs.Terminal.{Screen}
+use Rattle.teco_program.specs.Writing.{IsPut}
 use Rattle.teco_program.specs.Ending.{fate_without_input, output_of}
 use Rattle.teco_program.specs.Seen.{CommandsSeen, DiskSeen, InputSeen, OutputSeen, RunSeen, SourceView, TerminalSeen, run_seen, terminal_seen}
 use Rattle.teco_program.specs.Run.{Doings, Edits, EndsBy, EndsIn, EndsOnTerminal, FailsToOpen, FailsToRead, FailsToStream, FailsToWrite, IsFateOf, IsInput, IsStreamed, KeepsDisk, LacksInput, ServesInput, WritesOutput, doings, doings_after, given_input, named_input, named_output, standard_input, standard_output}
@@ -82,17 +83,19 @@ ended_otherwise run served.NoMemory output other s k = (output, s, k)
 -- The disk is as it was before the input was read.
 module _ {I : Type 0} {old mid : DiskSeen I} (kept : KeepsDisk old mid) where
   pub keeps_after : {new : DiskSeen I} → KeepsDisk mid new → KeepsDisk old new
-  keeps_after k = record { files = k.files ∙ kept.files; moments = λ files left. kept.moments files (k.moments files left) }
+  keeps_after k = record { files = k.files ∙ kept.files; streams = k.streams ∙ kept.streams; moments = λ files left. kept.moments files (k.moments files left) }
 
   writes_after : {new : DiskSeen I} {name output : List ℕ} → WritesOutput mid new name output → WritesOutput old new name output
-  writes_after w = record {
-    files = λ before told. w.files before (kept.files ∙ told);
+  writes_after {new} {name} {output} w = record {
+    files = λ before told. subst (λ (streams : Files). Changes mid.files new.files (IsPut name output (streams name) (new.streams name))) kept.streams w.files before (kept.files ∙ told);
+    streams = λ other apart. w.streams other apart ∙ ap (λ (streams : Files). streams other) kept.streams;
     moments = λ before told files left. elim (w.moments before (kept.files ∙ told) files left) [ inl was ↦ inl (kept.moments files was) | inr now ↦ inr now ];
   }
 
   fails_after : {new : DiskSeen I} {name output : List ℕ} {fate : Fate} → FailsToWrite mid new name output fate → FailsToWrite old new name output fate
   fails_after f = record {
     files = λ before told. f.files before (kept.files ∙ told);
+    streams = λ other apart. f.streams other apart ∙ ap (λ (streams : Files). streams other) kept.streams;
     moments = λ before told files left. elim (f.moments before (kept.files ∙ told) files left) [ inl was ↦ inl (kept.moments files was) | inr now ↦ inr now ];
     error = f.error;
     given = f.given;
@@ -214,7 +217,7 @@ module _ {I T : Type 0} {line : Line} {name : List ℕ} {input : InputSeen} {com
   over_read kept given e = record { ends = read_to (is_standard_output (output_of line name)) (output_of line name) kept given e.ends }
 
 pub kept_same : {I : Type 0} {disk : DiskSeen I} → KeepsDisk disk disk
-kept_same = record { files = refl; moments = λ files left. left }
+kept_same = record { files = refl; streams = refl; moments = λ files left. left }
 
 -- without the input
 pub lacks_file : {I T : Type 0} {line : Line} {name : List ℕ} {commands : CommandsSeen} {old new : DiskSeen I} {screen : T → Screen} {term : T} {fate : Fate}

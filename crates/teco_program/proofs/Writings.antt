@@ -1,8 +1,8 @@
 -- Writing a file by one draft after another.
-use Rattle.std.proofs.Common.{◌≡◌, ◌≢◌, inl, inr, ℕ, List, Option, refl, sym, ◌∙◌}
-use Rattle.teco_files.specs.Disk.{Changes, Files, IsWhole, LeavesFiles, Passes, Replaces}
+use Rattle.std.proofs.Common.{◌≡◌, ◌≢◌, inl, inr, ℕ, List, Option, Some, None, Result, Ok, Err, OnErr, refl, sym, subst, ◌∙◌}
+use Rattle.teco_files.specs.Disk.{Appends, Changes, Files, IsWhole, LeavesFiles, Passes, Replaces}
 use Rattle.teco_program.specs.Draft.{draft_beside}
-use Rattle.teco_program.specs.Writing.{AddsDrafts, IsDraftOf, IsWriting, Writes}
+use Rattle.teco_program.specs.Writing.{AddsDrafts, IsDraftOf, IsPut, IsWriting, Writes}
 
 -- no draft yet
 pub adds_none : (file : List ℕ) (files : Option Files) → Changes files files (AddsDrafts file)
@@ -10,6 +10,42 @@ adds_none file files before told = (before, told, record { same = refl; files = 
 
 pub passes_none : (moment : Files → Files → Type 0) (files : Option Files) (left : Files → Type 0) → Passes files left left moment
 passes_none moment files left before told now is = inl is
+
+-- files that are as they were have no draft
+pub adds_same : (file : List ℕ) {old new : Option Files} → new ≡ old → Changes old new (AddsDrafts file)
+adds_same file same before told = (before, same ∙ told, record { same = refl; files = λ other there. refl; others = λ other apart. refl })
+
+-- what holds however a call ends
+pub on_err_by : {A E P : Type 0} (result : Result A E) → P → OnErr result P
+on_err_by (Ok done) p = tt
+on_err_by (Err fault) p = p
+
+-- The files are told.
+pub are_told : {old : Option Files} {before : Files} → old ≡ Some before → old ≢ None
+are_told told none = let e = sym told ∙ none in cc
+
+module _ {name output : List ℕ} {streams after : Files} {old new : Option Files} where
+  -- A stream was given the output.
+  pub puts_on : (old ≢ None → (given : List ℕ) × (streams name ≡ Some given)) → new ≡ old → Appends name output streams after
+      → Changes old new (IsPut name output (streams name) (after name))
+  puts_on is same appends before told =
+      let given = is (are_told told) in
+      (before, same ∙ told, subst (λ had. IsPut name output had (after name) before before) (sym given.1) (appends.whole given.0 given.1, λ other. refl))
+
+  -- The output was written to a file.
+  pub puts_in : {file : List ℕ} {mid : Option Files} → (old ≢ None → (file ≡ name) × (streams name ≡ None)) → mid ≡ old → Changes mid new (Writes file output)
+      → Changes old new (IsPut name output (streams name) (after name))
+  puts_in is same writes before told =
+      let named = is (are_told told) in
+      let done = writes before (same ∙ told) in
+      (done.0, done.1, subst (λ had. IsPut name output had (after name) before done.0) (sym named.1) (subst (λ file. Writes file output before done.0) named.0 done.2))
+
+  -- Drafts of a file were left.
+  pub adds_in : {file : List ℕ} {mid : Option Files} → (old ≢ None → (file ≡ name) × (streams name ≡ None)) → mid ≡ old → Changes mid new (AddsDrafts file)
+      → Changes old new (AddsDrafts name)
+  adds_in is same adds before told =
+      let done = adds before (same ∙ told) in
+      (done.0, done.1, subst (λ file. AddsDrafts file before done.0) (is (are_told told)).0 done.2)
 
 module _ {file draft : List ℕ} (number : ℕ) (named : draft ≡ draft_beside file number) (differ : draft ≢ file) where
   -- a name that is no draft's is not this draft's

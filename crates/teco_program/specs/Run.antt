@@ -17,14 +17,14 @@ use Rattle.std.specs.declared.io.Error.{Error}
 use Rattle.std.specs.declared.io.ErrorKind.TheVariants.{OutOfMemory}
 use Rattle.teco_core.specs.declared.limits.TheConstants.{FILE_LIMIT}
 use Rattle.teco_session.specs.History.{History, new_history, present}
-use Rattle.teco_files.specs.Disk.{Changes, Files, Opens, Passes}
+use Rattle.teco_files.specs.Disk.{Changes, Files, Opens, Passes, SameBut}
 use Rattle.teco_program.specs.Ending.{fate_without_input, output_of, said, status_of, text_of}
 use Rattle.teco_files.specs.Input.{IsFaultOf}
 use Rattle.teco_program.specs.Serving.{Serves}
 use Rattle.teco_program.specs.Seen.{CommandsSeen, DiskSeen, InputSeen, OutputSeen, RunSeen, SourceView, TerminalSeen}
 use Rattle.teco_program.specs.Seen.{commands_seen, terminal_seen}
 use Rattle.teco_files.specs.Source.{Gives, HasEnded}
-use Rattle.teco_program.specs.Writing.{AddsDrafts, IsWriteError, IsWriting, Writes}
+use Rattle.teco_program.specs.Writing.{AddsDrafts, IsPut, IsWriteError, IsWriting}
 use Rattle.teco_program.specs.declared.fate.Fate.{Fate}
 use Rattle.teco_program.specs.declared.fate.Fate.TheVariants.{NoCommands, NoInput, LargeInput, NoMemory, NoOutput}
 use Rattle.teco_program.specs.declared.fate.Fate.TheVariants.{Changed, Unchanged}
@@ -65,20 +65,24 @@ pub record FailsToOpen (gave : Error → Type 0) (fate : Fate) : Type 0 where
 abbrev pub LacksInput : {I : Type 0} → DiskSeen I → DiskSeen I → List ℕ → Fate → Type 0
 LacksInput old new name fate = FailsToOpen new.gave fate ⊎ FailsToRead new.input old.files name fate
 
--- The files are as they were, and a crash leaves no more than before.
+-- The files and the streams are as they were, and a crash leaves no more than before.
 pub record KeepsDisk {I : Type 0} (old new : DiskSeen I) : Type 0 where
   pub files : new.files ≡ old.files
+  pub streams : new.streams ≡ old.streams
   pub moments : (files : Files) → new.left files → old.left files
 
--- The output file has these bytes; and at each moment it was as before, or had them.
+-- The output file has these bytes, and at each moment it was as before, or had them; or the stream of this name
+-- was given them.
 pub record WritesOutput {I : Type 0} (old new : DiskSeen I) (name bytes : List ℕ) : Type 0 where
-  pub files : Changes old.files new.files (Writes name bytes)
+  pub files : Changes old.files new.files (IsPut name bytes (old.streams name) (new.streams name))
+  pub streams : SameBut name old.streams new.streams
   pub moments : Passes old.files old.left new.left (IsWriting name bytes)
 
 -- The output file is as it was; and at each moment it was so, or had these bytes. The fate is that of the
 -- error.
 pub record FailsToWrite {I : Type 0} (old new : DiskSeen I) (name bytes : List ℕ) (fate : Fate) : Type 0 where
   pub files : Changes old.files new.files (AddsDrafts name)
+  pub streams : SameBut name old.streams new.streams
   pub moments : Passes old.files old.left new.left (IsWriting name bytes)
   pub error : Error
   pub given : IsWriteError new.gave error

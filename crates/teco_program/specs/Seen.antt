@@ -25,6 +25,8 @@ source_view coming bound failures ended =
 pub record DiskSeen (I : Type 0) : Type 1 where
   -- the files, where the disk tells them
   pub files : Option Files
+  -- what each device, pipe and socket has been given, where the files are told
+  pub streams : Files
   -- what a crash at some moment so far might have left
   pub left : Files → Type 0
   -- which errors its calls have given
@@ -34,10 +36,11 @@ pub record DiskSeen (I : Type 0) : Type 1 where
   -- how a file that it has opened is seen
   pub input : SourceView I
 
-abbrev pub disk_seen : {D I : Type 0} → (D → Option Files) → (D → Files → Type 0) → (D → Error → Type 0)
+abbrev pub disk_seen : {D I : Type 0} → (D → Option Files) → (D → Files) → (D → Files → Type 0) → (D → Error → Type 0)
     → (D → List ℕ → Type 0) → SourceView I → D → DiskSeen I
-disk_seen files left gave changed input disk = record {
+disk_seen files streams left gave changed input disk = record {
   files = files disk;
+  streams = streams disk;
   left = left disk;
   gave = gave disk;
   changed = changed disk;

@@ -1,10 +1,10 @@
 -- Writing the output: what it leaves of the files, and what it may fail by.
-use Rattle.std.specs.Prelude.{◌≡◌, ◌≢◌, ◌⊎◌, ◌++◌, ℕ, List, Some, None}
+use Rattle.std.specs.Prelude.{◌≡◌, ◌≢◌, ◌⊎◌, ◌++◌, ℕ, List, Option, Some, None}
 use Rattle.std.specs.Borrow.{Bor}
 use Rattle.std.specs.IoError.{error_kind}
 use Rattle.std.specs.declared.io.Error.{Error}
 use Rattle.std.specs.declared.io.ErrorKind.TheVariants.{AlreadyExists, OutOfMemory}
-use Rattle.teco_files.specs.Disk.{Files}
+use Rattle.teco_files.specs.Disk.{Files, Same}
 use Rattle.teco_program.specs.Draft.{draft_beside}
 
 -- the bytes of two parts, one after the other
@@ -26,6 +26,12 @@ pub record Writes (file bytes : List ℕ) (before after : Files) : Type 0 where
   pub whole : after file ≡ Some bytes
   pub files : (other : List ℕ) → other ≢ file → before other ≢ None → after other ≡ before other
   pub others : (other : List ℕ) → other ≢ file → (IsDraftOf file other → ⊥) → after other ≡ before other
+
+-- The output is put under this name: in the file, which has it whole; or after what the stream of this name was
+-- given before, and then each file is as it was.
+abbrev pub IsPut : List ℕ → List ℕ → Option (List ℕ) → Option (List ℕ) → Files → Files → Type 0
+IsPut name output None given before after = Writes name output before after
+IsPut name output (Some had) given before after = (given ≡ Some (had ++ output)) × Same before after
 
 -- At a moment of the writing the file is as it was, or has all of these bytes. Under the names of drafts
 -- there may be anything.

@@ -54,7 +54,7 @@ fn gives_just<S: Source>(source: &mut S, bytes: (&[u8], &[u8])) -> bool
 pub fn has_bytes<D: Disk>(name: &str, bytes: (&[u8], &[u8]), disk: &mut D) -> bool
     ensures same { result ≡ true → (before : Files) → D.files disk.old ≡ Some before
         → before name.now ≡ Some (both bytes.entry) }
-    ensures keeps { let seen = disk_seen D.files D.left D.gave D.changed
+    ensures keeps { let seen = disk_seen D.files D.streams D.left D.gave D.changed
         (source_view D.Input.coming D.Input.bound D.Input.failures D.Input.ended) in
         KeepsDisk (seen disk.old) (seen disk.new) }
 {

@@ -42,10 +42,10 @@ pub fn fate_of(error: io::Error, other: Fate) -> Fate
 pub fn input_of_file<D: Disk>(alloc: Global, name: &str, disk: &mut D) -> Result<Vec<u8>, Fate>
     ensures input { IfOk result (λ input. IsInput (D.files disk.old) name.now input.items) }
     ensures small { IfOk result (λ input. vec_len input ≤ FILE_LIMIT) }
-    ensures fault { let seen = disk_seen D.files D.left D.gave D.changed
+    ensures fault { let seen = disk_seen D.files D.streams D.left D.gave D.changed
         (source_view D.Input.coming D.Input.bound D.Input.failures D.Input.ended) in
         IfErr result (LacksInput (seen disk.old) (seen disk.new) name.now) }
-    ensures keeps { let seen = disk_seen D.files D.left D.gave D.changed
+    ensures keeps { let seen = disk_seen D.files D.streams D.left D.gave D.changed
         (source_view D.Input.coming D.Input.bound D.Input.failures D.Input.ended) in
         KeepsDisk (seen disk.old) (seen disk.new) }
 {
@@ -125,7 +125,7 @@ fn finish_in_file<D: Disk>(
     output: (&[u8], &[u8]),
     disk: &mut D,
 ) -> Fate
-    ensures { let seen = disk_seen D.files D.left D.gave D.changed
+    ensures { let seen = disk_seen D.files D.streams D.left D.gave D.changed
         (source_view D.Input.coming D.Input.bound D.Input.failures D.Input.ended) in
         EndsBy (doings_after Served.Exit (both output.entry) (IsTrue in_place)
         (named_output (seen disk.old) (seen disk.new) name.now)) result }
@@ -174,7 +174,7 @@ fn edit_over<S: Source, T: Terminal, L: Listens, D: Disk>(
 ) -> Fate
     requires small { vec_len input ≤ FILE_LIMIT }
     requires depth { IfSome line.now.undo IsDepth }
-    ensures { let seen = disk_seen D.files D.left D.gave D.changed
+    ensures { let seen = disk_seen D.files D.streams D.left D.gave D.changed
         (source_view D.Input.coming D.Input.bound D.Input.failures D.Input.ended) in
         Edits line.now name.now (run_seen (given_input input.items)
         (commands_seen (source_view S.coming S.bound S.failures S.ended) commands.old commands.new)
@@ -208,7 +208,7 @@ pub fn edit_file<S: Source, T: Terminal, L: Listens, D: Disk>(
     disk: &mut D,
 ) -> Fate
     requires depth { IfSome line.now.undo IsDepth }
-    ensures { let seen = disk_seen D.files D.left D.gave D.changed
+    ensures { let seen = disk_seen D.files D.streams D.left D.gave D.changed
         (source_view D.Input.coming D.Input.bound D.Input.failures D.Input.ended) in
         Edits line.now name.now (run_seen (named_input (seen disk.old) (seen disk.new) name.now)
         (commands_seen (source_view S.coming S.bound S.failures S.ended) commands.old commands.new)
@@ -235,7 +235,7 @@ fn edit_stream<C: Source, S: Source, T: Terminal, L: Listens, D: Disk>(
     disk: &mut D,
 ) -> Fate
     requires depth { IfSome line.now.undo IsDepth }
-    ensures { let seen = disk_seen D.files D.left D.gave D.changed
+    ensures { let seen = disk_seen D.files D.streams D.left D.gave D.changed
         (source_view D.Input.coming D.Input.bound D.Input.failures D.Input.ended) in
         Edits line.now name.now (run_seen
         (standard_input (source_view S.coming S.bound S.failures S.ended) stream.old stream.new)
@@ -263,7 +263,7 @@ pub fn edit_input<C: Source, S: Source, T: Terminal, L: Listens, D: Disk>(
     disk: &mut D,
 ) -> Fate
     requires depth { IfSome line.now.undo IsDepth }
-    ensures edits { let seen = disk_seen D.files D.left D.gave D.changed
+    ensures edits { let seen = disk_seen D.files D.streams D.left D.gave D.changed
         (source_view D.Input.coming D.Input.bound D.Input.failures D.Input.ended) in
         Edits line.now name.now (run_seen (input_from (is_standard_input name.now)
         (standard_input (source_view S.coming S.bound S.failures S.ended) stream.old stream.new)

@@ -3,7 +3,7 @@ ghost use Rattle.std.specs.Prelude.{◌≡◌, ◌≢◌, ◌⊎◌, IfErr, IfOk
 ghost use Rattle.std.specs.String.{string_bytes};
 ghost use Rattle.teco_program.specs.Draft.{draft_beside};
 ghost use Rattle.teco_files.specs.Disk.{Appends, Changes, Counts, Creates, IsWhole, LeavesFiles, Passes, Replaces, Same, SameBut};
-ghost use Rattle.teco_program.specs.Writing.{AddsDrafts, IsWriteError, IsWriting, Writes, both};
+ghost use Rattle.teco_program.specs.Writing.{AddsDrafts, IsPut, IsWriteError, IsWriting, Writes, both};
 
 use std::alloc::Global;
 use std::io;
@@ -27,6 +27,7 @@ fn write_both<D: Disk>(
         (Appends name.now (both bytes.entry))) }
     ensures draft { D.is_of draft.new name.now }
     ensures err { OnErr result (Changes (D.files disk.old) (D.files disk.new) (SameBut name.now)) }
+    ensures streams { D.streams disk.new ≡ D.streams disk.old }
     ensures moments { Passes (D.files disk.old) (D.left disk.old) (D.left disk.new) (SameBut name.now) }
     ensures count { Counts result (D.failures disk.old) (D.failures disk.new) }
     ensures error { IfErr result (D.gave disk.new) }
@@ -47,6 +48,7 @@ fn fill<D: Disk>(
         (Appends name.now (both bytes.entry))) }
     ensures kept { OnOk result (D.kept disk.new name.now) }
     ensures err { OnErr result (Changes (D.files disk.old) (D.files disk.new) (SameBut name.now)) }
+    ensures streams { D.streams disk.new ≡ D.streams disk.old }
     ensures moments { Passes (D.files disk.old) (D.left disk.old) (D.left disk.new) (SameBut name.now) }
     ensures count { Counts result (D.failures disk.old) (D.failures disk.new) }
     ensures error { IfErr result (D.gave disk.new) }
@@ -64,6 +66,7 @@ fn create<D: Disk>(disk: &mut D, name: &str, bytes: (&[u8], &[u8])) -> io::Resul
     ensures err { OnErr result (Changes (D.files disk.old) (D.files disk.new) (LeavesFiles name.now)) }
     ensures removed { OnErr result (Changes (D.files disk.old) (D.files disk.new) Same
         ⊎ D.unremoved disk.new name.now) }
+    ensures streams { D.streams disk.new ≡ D.streams disk.old }
     ensures moments { Passes (D.files disk.old) (D.left disk.old) (D.left disk.new) (SameBut name.now) }
     ensures count { Counts result (D.failures disk.old) (D.failures disk.new) }
     ensures error { IfErr result (D.gave disk.new) }
@@ -92,6 +95,7 @@ pub fn replace<D: Disk>(
     ensures err { OnErr result (Changes (D.files disk.old) (D.files disk.new) (LeavesFiles draft.now)) }
     ensures removed { OnErr result (Changes (D.files disk.old) (D.files disk.new) Same
         ⊎ D.unremoved disk.new draft.now) }
+    ensures streams { D.streams disk.new ≡ D.streams disk.old }
     ensures moments { Passes (D.files disk.old) (D.left disk.old) (D.left disk.new)
         (IsWhole file.now draft.now (both bytes.entry)) }
     ensures count { Counts result (D.failures disk.old) (D.failures disk.new) }
@@ -131,6 +135,7 @@ fn replace_file<D: Disk>(
     ensures ok { OnOk result (Changes (D.files disk.old) (D.files disk.new)
         (Writes file.now (both bytes.entry))) }
     ensures err { OnErr result (Changes (D.files disk.old) (D.files disk.new) (AddsDrafts file.now)) }
+    ensures streams { D.streams disk.new ≡ D.streams disk.old }
     ensures moments { Passes (D.files disk.old) (D.left disk.old) (D.left disk.new)
         (IsWriting file.now (both bytes.entry)) }
     ensures error { IfErr result (IsWriteError (D.gave disk.new)) }
@@ -146,7 +151,7 @@ fn replace_file<D: Disk>(
 }
 
 /// Writes the output, which is in two parts. A file that is new or is replaced has it whole or stays as it was; a device, a pipe
-/// and an open file get it after what they have. The number is for the name of a draft.
+/// or a socket is given it after what it was given before. The number is for the name of a draft.
 pub fn write_output<D: Disk>(
     alloc: Global,
     disk: &mut D,
@@ -155,8 +160,9 @@ pub fn write_output<D: Disk>(
     output: (&[u8], &[u8]),
 ) -> io::Result<()>
     ensures ok { OnOk result (Changes (D.files disk.old) (D.files disk.new)
-        (Writes name.now (both output.entry))) }
+        (IsPut name.now (both output.entry) (D.streams disk.old name.now) (D.streams disk.new name.now))) }
     ensures err { OnErr result (Changes (D.files disk.old) (D.files disk.new) (AddsDrafts name.now)) }
+    ensures streams { SameBut name.now (D.streams disk.old) (D.streams disk.new) }
     ensures moments { Passes (D.files disk.old) (D.left disk.old) (D.left disk.new)
         (IsWriting name.now (both output.entry)) }
     ensures error { IfErr result (IsWriteError (D.gave disk.new)) }

@@ -38,7 +38,7 @@ pub fn edit_by_bytes<S: Source, T: Terminal, L: Listens, D: Disk>(
     disk: &mut D,
 ) -> Fate
     requires depth { IfSome line.now.undo IsDepth }
-    ensures { let view = host_view (disk_seen D.files D.left D.gave D.changed
+    ensures { let view = host_view (disk_seen D.files D.streams D.left D.gave D.changed
         (source_view D.Input.coming D.Input.bound D.Input.failures D.Input.ended))
         (source_view S.coming S.bound S.failures S.ended) T.screen
         (source_view ⟦<WordSource as Source>⟧.coming ⟦<WordSource as Source>⟧.bound
@@ -64,7 +64,7 @@ fn edit_by_file<S: Source, T: Terminal, L: Listens, D: Disk>(
     disk: &mut D,
 ) -> Fate
     requires depth { IfSome line.now.undo IsDepth }
-    ensures { let view = host_view (disk_seen D.files D.left D.gave D.changed
+    ensures { let view = host_view (disk_seen D.files D.streams D.left D.gave D.changed
         (source_view D.Input.coming D.Input.bound D.Input.failures D.Input.ended))
         (source_view S.coming S.bound S.failures S.ended) T.screen
         (source_view ⟦<WordSource as Source>⟧.coming ⟦<WordSource as Source>⟧.bound
@@ -95,7 +95,7 @@ fn edit_by_name<S: Source, T: Terminal, L: Listens, D: Disk>(
 ) -> Fate
     requires depth { IfSome line.now.undo IsDepth }
     requires apart { is_standard_input file.now ≡ true → is_standard_input (string_bytes line.now.input) ≡ false }
-    ensures { let view = host_view (disk_seen D.files D.left D.gave D.changed
+    ensures { let view = host_view (disk_seen D.files D.streams D.left D.gave D.changed
         (source_view D.Input.coming D.Input.bound D.Input.failures D.Input.ended))
         (source_view S.coming S.bound S.failures S.ended) T.screen
         (source_view ⟦<WordSource as Source>⟧.coming ⟦<WordSource as Source>⟧.bound
@@ -122,7 +122,7 @@ fn edit_by_line<S: Source, T: Terminal, L: Listens, D: Disk>(
 ) -> Fate
     requires depth { IfSome line.now.undo IsDepth }
     requires fits { has_conflict line.now ≡ false }
-    ensures { let view = host_view (disk_seen D.files D.left D.gave D.changed
+    ensures { let view = host_view (disk_seen D.files D.streams D.left D.gave D.changed
         (source_view D.Input.coming D.Input.bound D.Input.failures D.Input.ended))
         (source_view S.coming S.bound S.failures S.ended) T.screen
         (source_view ⟦<WordSource as Source>⟧.coming ⟦<WordSource as Source>⟧.bound
@@ -162,7 +162,7 @@ fn edit_noted<S: Source, T: Terminal, N: Terminal, D: Disk>(
 ) -> Fate
     requires depth { IfSome line.now.undo IsDepth }
     requires fits { has_conflict line.now ≡ false }
-    ensures edits { let view = host_view (disk_seen D.files D.left D.gave D.changed
+    ensures edits { let view = host_view (disk_seen D.files D.streams D.left D.gave D.changed
         (source_view D.Input.coming D.Input.bound D.Input.failures D.Input.ended))
         (source_view S.coming S.bound S.failures S.ended) T.screen
         (source_view ⟦<WordSource as Source>⟧.coming ⟦<WordSource as Source>⟧.bound
@@ -249,7 +249,7 @@ fn run_over<S: Source, T: Terminal, E: Terminal, N: Terminal, D: Disk>(
 ) -> u8
     requires depth { IfSome line.now.undo IsDepth }
     requires fits { has_conflict line.now ≡ false }
-    ensures runs { let view = host_view (disk_seen D.files D.left D.gave D.changed
+    ensures runs { let view = host_view (disk_seen D.files D.streams D.left D.gave D.changed
         (source_view D.Input.coming D.Input.bound D.Input.failures D.Input.ended))
         (source_view S.coming S.bound S.failures S.ended) T.screen
         (source_view ⟦<WordSource as Source>⟧.coming ⟦<WordSource as Source>⟧.bound
@@ -279,7 +279,7 @@ pub fn program<S: Source, T: Terminal, E: Terminal, N: Terminal, D: Disk>(
     notes: &mut N,
     disk: &mut D,
 ) -> ExitCode
-    ensures run { let view = host_view (disk_seen D.files D.left D.gave D.changed
+    ensures run { let view = host_view (disk_seen D.files D.streams D.left D.gave D.changed
         (source_view D.Input.coming D.Input.bound D.Input.failures D.Input.ended))
         (source_view S.coming S.bound S.failures S.ended) T.screen
         (source_view ⟦<WordSource as Source>⟧.coming ⟦<WordSource as Source>⟧.bound

@@ -45,7 +45,7 @@ fn edit_by_copy<S: Source, T: Terminal, L: Listens, D: Disk>(
     disk: &mut D,
 ) -> Fate
     requires depth { IfSome line.now.undo IsDepth }
-    ensures { let view = host_view (disk_seen D.files D.left D.gave D.changed
+    ensures { let view = host_view (disk_seen D.files D.streams D.left D.gave D.changed
         (source_view D.Input.coming D.Input.bound D.Input.failures D.Input.ended))
         (source_view S.coming S.bound S.failures S.ended) T.screen
         (source_view ⟦<WordSource as Source>⟧.coming ⟦<WordSource as Source>⟧.bound
@@ -74,7 +74,7 @@ fn edit_noted<S: Source, T: Terminal, N: Terminal, D: Disk>(
     disk: &mut D,
 ) -> Fate
     requires depth { IfSome line.now.undo IsDepth }
-    ensures edits { let view = host_view (disk_seen D.files D.left D.gave D.changed
+    ensures edits { let view = host_view (disk_seen D.files D.streams D.left D.gave D.changed
         (source_view D.Input.coming D.Input.bound D.Input.failures D.Input.ended))
         (source_view S.coming S.bound S.failures S.ended) T.screen
         (source_view ⟦<WordSource as Source>⟧.coming ⟦<WordSource as Source>⟧.bound
@@ -126,7 +126,7 @@ fn edit_told<S: Source, T: Terminal, E: Terminal, N: Terminal, D: Disk>(
     disk: &mut D,
 ) -> u8
     requires depth { IfSome line.now.undo IsDepth }
-    ensures link { let view = host_view (disk_seen D.files D.left D.gave D.changed
+    ensures link { let view = host_view (disk_seen D.files D.streams D.left D.gave D.changed
         (source_view D.Input.coming D.Input.bound D.Input.failures D.Input.ended))
         (source_view S.coming S.bound S.failures S.ended) T.screen
         (source_view ⟦<WordSource as Source>⟧.coming ⟦<WordSource as Source>⟧.bound
@@ -155,7 +155,7 @@ fn edit_each<S: Source, T: Terminal, E: Terminal, N: Terminal, D: Disk>(
     disk: &mut D,
 ) -> u8
     requires depth { IfSome line.now.undo IsDepth }
-    ensures runs { let view = host_view (disk_seen D.files D.left D.gave D.changed
+    ensures runs { let view = host_view (disk_seen D.files D.streams D.left D.gave D.changed
         (source_view D.Input.coming D.Input.bound D.Input.failures D.Input.ended))
         (source_view S.coming S.bound S.failures S.ended) T.screen
         (source_view ⟦<WordSource as Source>⟧.coming ⟦<WordSource as Source>⟧.bound
@@ -188,7 +188,7 @@ fn commands_in_file<S: Source, D: Disk>(
     ensures whole { IfOk result (λ bytes. IsWholeOf (is_standard_input name.now)
         (source_view S.coming S.bound S.failures S.ended) (D.files disk.old) name.now
         stream.old stream.new bytes.items) }
-    ensures keeps { let seen = disk_seen D.files D.left D.gave D.changed
+    ensures keeps { let seen = disk_seen D.files D.streams D.left D.gave D.changed
         (source_view D.Input.coming D.Input.bound D.Input.failures D.Input.ended) in
         KeepsDisk (seen disk.old) (seen disk.new) }
 {
@@ -214,7 +214,7 @@ fn commands_given<S: Source, D: Disk>(
     requires { are_awaited line.now.commands ≡ false }
     ensures given { IfOk result (λ bytes. IsGivenBy (source_view S.coming S.bound S.failures S.ended)
         line.now.commands (D.files disk.old) stream.old stream.new bytes.items) }
-    ensures keeps { let seen = disk_seen D.files D.left D.gave D.changed
+    ensures keeps { let seen = disk_seen D.files D.streams D.left D.gave D.changed
         (source_view D.Input.coming D.Input.bound D.Input.failures D.Input.ended) in
         KeepsDisk (seen disk.old) (seen disk.new) }
 {
@@ -244,7 +244,7 @@ pub fn edit_several<S: Source, T: Terminal, E: Terminal, N: Terminal, D: Disk>(
     requires several { has_more line.now ≡ true }
     requires depth { IfSome line.now.undo IsDepth }
     requires given { are_awaited line.now.commands ≡ false }
-    ensures runs { let view = host_view (disk_seen D.files D.left D.gave D.changed
+    ensures runs { let view = host_view (disk_seen D.files D.streams D.left D.gave D.changed
         (source_view D.Input.coming D.Input.bound D.Input.failures D.Input.ended))
         (source_view S.coming S.bound S.failures S.ended) T.screen
         (source_view ⟦<WordSource as Source>⟧.coming ⟦<WordSource as Source>⟧.bound

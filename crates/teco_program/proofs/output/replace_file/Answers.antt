@@ -30,5 +30,6 @@ drafts-preserved g c =
     let differ : c.as_str.result.now ≢ c.args.file.now = λ e. c.in_ok-draft.ensures.another (sym c.as_str.ensures.value ∙ e) in
     record {
       adds = adds_more c.drafts.draft_number named differ c.drafts.invariant.adds c.in-Err.ensures.err;
+      streams = c.replace.ensures.streams ∙ c.drafts.invariant.streams;
       moments = passes_more c.drafts.draft_number named differ c.drafts.invariant.adds c.drafts.invariant.moments c.replace.ensures.moments;
     }

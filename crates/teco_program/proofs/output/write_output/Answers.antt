@@ -1,13 +1,48 @@
-use Rattle.std.proofs.Common.{◌≡◌, ◌≢◌, ◌∙◌, sym, subst, inl, inr, None}
-use Rattle.teco_files.specs.Disk.{IsTargetOf}
+use Rattle.std.proofs.Common.{◌≡◌, ◌≢◌, ◌×◌, ◌∙◌, ap, sym, subst, inl, inr, List, ℕ, None, Some}
+use Rattle.std.proofs.lemmas.Result.{on_err_weaker, on_ok_weaker}
+use Rattle.std.specs.String.{string_bytes}
+use Rattle.teco_files.specs.Disk.{Files, IsTargetOf}
 use Rattle.teco_program.specs.Writing.{IsWriting, both}
+use Rattle.teco_program.proofs.Writings.{adds_in, adds_same, are_told, on_err_by, puts_in, puts_on}
 use Rattle.teco_program.proofs.output.write_output.Goals as goal
+
+pub returns-in-Stream-clause-ok : goal.returns-in-Stream-clause-ok
+returns-in-Stream-clause-ok g c =
+    let is : g.D.Disk.files c.args.disk.now ≢ None → (given : List ℕ) × (g.D.Disk.streams c.args.disk.now c.args.name.now ≡ Some given) =
+    λ there. subst (IsTargetOf (g.D.Disk.streams c.args.disk.now) c.args.name.now) c.in-Stream.is (c.in_ok-target_of.ensures.target there) in
+    on_ok_weaker c.append.result (λ appends. puts_on is (c.append.ensures.files ∙ c.target_of.ensures.files) appends) (rw c.target_of.ensures.streams at c.append.ensures.ok)
+
+pub returns-in-Stream-clause-err : goal.returns-in-Stream-clause-err
+returns-in-Stream-clause-err g c = on_err_by c.append.result (adds_same c.args.name.now (c.append.ensures.files ∙ c.target_of.ensures.files))
+
+pub returns-in-Stream-clause-moments : goal.returns-in-Stream-clause-moments
+returns-in-Stream-clause-moments g c before told files left = inl (c.target_of.ensures.moments files (c.append.ensures.moments files left))
+
+pub returns-in-Stream-clause-streams : goal.returns-in-Stream-clause-streams
+returns-in-Stream-clause-streams g c other apart = c.append.ensures.others other apart ∙ ap (λ (streams : Files). streams other) c.target_of.ensures.streams
 
 pub returns-in-File-clause-moments : goal.returns-in-File-clause-moments
 returns-in-File-clause-moments g c before told files left =
-    let there : g.D.Disk.files c.args.disk.now ≢ None = λ none. let e = sym told ∙ none in cc in
-    let here : c.as_str.result.now ≡ c.args.name.now = c.as_str.ensures.value ∙ subst (IsTargetOf c.args.name.now) c.in-File.is (c.in_ok-target_of.ensures.target there) in
+    let is = subst (IsTargetOf (g.D.Disk.streams c.args.disk.now) c.args.name.now) c.in-File.is (c.in_ok-target_of.ensures.target (are_told told)) in
+    let here : c.as_str.result.now ≡ c.args.name.now = c.as_str.ensures.value ∙ is.0 in
     elim (c.replace_file.ensures.moments before (c.target_of.ensures.files ∙ told) files left) [
       | inl was ↦ inl (c.target_of.ensures.moments files was)
       | inr now ↦ inr (subst (λ name. IsWriting name (both c.args.output) before files) here now)
     ]
+
+pub returns-in-File-clause-err : goal.returns-in-File-clause-err
+returns-in-File-clause-err g c =
+    let is : g.D.Disk.files c.args.disk.now ≢ None → (c.as_str.result.now ≡ c.args.name.now) × (g.D.Disk.streams c.args.disk.now c.args.name.now ≡ None) = λ there.
+    let it = subst (IsTargetOf (g.D.Disk.streams c.args.disk.now) c.args.name.now) c.in-File.is (c.in_ok-target_of.ensures.target there) in
+    (c.as_str.ensures.value ∙ it.0, it.1) in
+    on_err_weaker c.replace_file.result (adds_in {output = both c.args.output} {after = g.D.Disk.streams c.replace_file.new.disk} is c.target_of.ensures.files) c.replace_file.ensures.err
+
+pub returns-in-File-clause-ok : goal.returns-in-File-clause-ok
+returns-in-File-clause-ok g c =
+    let is : g.D.Disk.files c.args.disk.now ≢ None → (c.as_str.result.now ≡ c.args.name.now) × (g.D.Disk.streams c.args.disk.now c.args.name.now ≡ None) = λ there.
+    let it = subst (IsTargetOf (g.D.Disk.streams c.args.disk.now) c.args.name.now) c.in-File.is (c.in_ok-target_of.ensures.target there) in
+    (c.as_str.ensures.value ∙ it.0, it.1) in
+    on_ok_weaker c.replace_file.result (puts_in is c.target_of.ensures.files) c.replace_file.ensures.ok
+
+pub returns-in-File-clause-streams : goal.returns-in-File-clause-streams
+returns-in-File-clause-streams g c other apart = ap (λ (streams : Files). streams other) (c.replace_file.ensures.streams ∙ c.target_of.ensures.streams)
