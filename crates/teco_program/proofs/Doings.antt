@@ -1,5 +1,6 @@
 -- What a run has done leads to what it has done as seen from before, or over another input.
 use Rattle.std.proofs.Common.{◌≡◌, ◌≢◌, ◌⊎◌, inl, inr, ℕ, List, Bool, IsTrue, true, false, refl, ap, sym, ◌∙◌, subst}
+use Rattle.std.specs.Prelude.{⊤}
 use Rattle.std.specs.declared.io.Error.{Error}
 use Rattle.teco_files.specs.Disk.{Changes, Files}
 use Rattle.teco_files.specs.declared.input.InputFault.{InputFault}
@@ -10,11 +11,14 @@ use Rattle.teco_step.specs.Terminal.{Screen}
 use Rattle.teco_program.specs.Writing.{IsPut}
 use Rattle.teco_program.specs.Ending.{fate_without_input, output_of}
 use Rattle.teco_program.specs.Seen.{CommandsSeen, DiskSeen, InputSeen, OutputSeen, RunSeen, SourceView, TerminalSeen, run_seen, terminal_seen}
-use Rattle.teco_program.specs.Run.{Doings, Edits, EndsBy, EndsIn, EndsOnTerminal, FailsToOpen, FailsToRead, FailsToStream, FailsToWrite, IsFateOf, IsInput, IsStreamed, KeepsDisk, LacksInput, ServesInput, WritesOutput, doings, doings_after, given_input, named_input, named_output, standard_input, standard_output}
+use Rattle.teco_program.specs.Run.{Doings, Edits, EndsBy, EndsIn, EndsOnTerminal, FinishesIn, FailsToOpen, FailsToRead, FailsToStream, FailsToWrite, IsFateOf, IsInput, IsStreamed, KeepsDisk, LacksInput, ServesInput, WritesOutput, doings, doings_after, given_input, named_input, named_output, standard_input, standard_output}
 use Rattle.teco_program.specs.declared.fate.Fate.{Fate}
 use Rattle.teco_program.specs.declared.fate.Fate.TheVariants.{NoCommands, NoInput, LargeInput, NoMemory, NoOutput, Changed, Unchanged, Ended}
 use Rattle.teco_program.specs.declared.served.Served.{Served}
 use Rattle.teco_program.specs.declared.served.Served.TheVariants as served
+
+pub kept_same : {I : Type 0} {disk : DiskSeen I} → KeepsDisk disk disk
+kept_same = record { files = refl; streams = refl; moments = λ files left. left }
 
 -- each thing that the one may have done, the other has done too
 pub record Leads (a b : Doings) : Type 0 where
@@ -58,7 +62,7 @@ after_serving {line} {input} {to} {commands} {term} {end} {output} s = record {
 }
 
 -- to a terminal nothing is written in place
-pub on_terminal : {T : Type 0} {line : Line} {input : InputSeen} {to : OutputSeen} {commands : CommandsSeen} {term : TerminalSeen} {end : Served} {output : List ℕ}
+pub on_terminal : {line : Line} {input : InputSeen} {to : OutputSeen} {commands : CommandsSeen} {term : TerminalSeen} {end : Served} {output : List ℕ}
     → ServesInput line input.is_input commands term end output
     → Leads (doings_after end output ⊥ to) (doings line input to commands term)
 on_terminal {line} {input} {to} {commands} {term} {end} {output} s = record {
@@ -121,6 +125,32 @@ module _ {I : Type 0} {old mid : DiskSeen I} (kept : KeepsDisk old mid) where
     same = λ output h. (h.0, λ before told. h.1 before (kept.files ∙ told));
     changed = λ h. h;
   }
+
+  -- what was done after a look at the disk
+  pub after_look : {in_place : Type 0} {end : Served} {output : List ℕ} (new : DiskSeen I) (name : List ℕ)
+      → Leads (doings_after end output ⊥ (named_output mid new name)) (doings_after end output in_place (named_output old new name))
+  after_look new name = record {
+    lacks = λ fate none. none;
+    idle = λ none. none;
+    keeps = keeps_after;
+    serves = λ e o is. is;
+    writes = λ o w. writes_after w;
+    fails = λ o fate f. fails_after f;
+    same = λ o h. absurd h.0;
+    changed = λ h. absurd h.0;
+  }
+
+pub in_place_so : {in_place : Type 0} {end : Served} {output : List ℕ} {to : OutputSeen} → in_place → Leads (doings_after end output ⊤ to) (doings_after end output in_place to)
+in_place_so so = record {
+  lacks = λ fate none. none;
+  idle = λ none. none;
+  keeps = λ k. k;
+  serves = λ e o is. is;
+  writes = λ o w. w;
+  fails = λ o fate f. f;
+  same = λ o h. (so, h.1);
+  changed = λ h. (so, h.1);
+}
 
 pub to_terminal : {line : Line} {bytes : List ℕ} {input : InputSeen} {to : OutputSeen} {commands : CommandsSeen} {term : TerminalSeen} → input.is_input bytes
     → Leads (doings line (given_input bytes) to commands term) (doings line input to commands term)
@@ -193,7 +223,7 @@ lacks_stream run input.TooLarge fate e l i k = subst (EndsBy run) (sym e) (subst
 lacks_stream run input.Memory fate e l i k = subst (EndsBy run) (sym e) (inl (i, k))
 
 -- A run, wherever its output goes.
-module _ {I T : Type 0} {line : Line} {name : List ℕ} {input : InputSeen} {commands : CommandsSeen} {old new : DiskSeen I} {screen : T → Screen} {before after : T} {fate : Fate} where
+module _ {I T : Type 0} (line : Line) (name : List ℕ) (input : InputSeen) (commands : CommandsSeen) (old new : DiskSeen I) (screen : T → Screen) (before after : T) (fate : Fate) where
   to_place : (b : Bool) (to : List ℕ)
       → ((term : TerminalSeen) (place : OutputSeen) → term.still → place.keeps → EndsBy (doings line input place commands term) fate)
       → after ≡ before → KeepsDisk old new → EndsIn b line to (run_seen input commands old new screen before after) fate
@@ -205,32 +235,50 @@ module _ {I T : Type 0} {line : Line} {name : List ℕ} {input : InputSeen} {com
       → after ≡ before → KeepsDisk old new → Edits line name (run_seen input commands old new screen before after) fate
   idle_ends ends still kept = record { ends = to_place (is_standard_output (output_of line name)) (output_of line name) ends still kept }
 
-  read_to : {mid : DiskSeen I} {bytes : List ℕ} (b : Bool) (to : List ℕ) → KeepsDisk old mid → input.is_input bytes
+  read_to : (mid : DiskSeen I) (bytes : List ℕ) (b : Bool) (to : List ℕ) → KeepsDisk old mid → input.is_input bytes
       → EndsIn b line to (run_seen (given_input bytes) commands mid new screen before after) fate → EndsIn b line to (run_seen input commands old new screen before after) fate
-  read_to true to kept given e = record { between = e.between; ends = ends_so (to_terminal given) fate e.ends; files = keeps_after kept e.files }
-  read_to false to kept given e = ends_so (to_file kept new to given) fate e
+  read_to mid bytes true to kept given e = record { between = e.between; ends = ends_so (to_terminal {line = line} {bytes = bytes} {input = input} {to = standard_output screen e.between after} {commands = commands} {term = terminal_seen screen before e.between} given) fate e.ends; files = keeps_after kept e.files }
+  read_to mid bytes false to kept given e = ends_so (to_file kept {line = line} {bytes = bytes} {input = input} {commands = commands} {term = terminal_seen screen before after} new to given) fate e
+
+  -- After a serving that ended so, from where nothing was written.
+  served_to : (output : List ℕ) (between : T) (end : Served) (place : List ℕ) (b : Bool)
+      → ServesInput line input.is_input commands (terminal_seen screen before between) end output
+      → FinishesIn b end output line.in_place place old new screen between after fate
+      → EndsIn b line place (run_seen input commands old new screen before after) fate
+  served_to output between end place true s f = record { between = between; ends = ends_so (on_terminal {line = line} {input = input} {to = standard_output screen between after} {commands = commands} {term = terminal_seen screen before between} {end = end} {output = output} s) fate f.0; files = f.1 }
+  served_to output between end place false s f =
+      ends_so (after_serving {line = line} {input = input} {to = named_output old new place} {commands = commands} {term = terminal_seen screen before after} {end = end} {output = output} (subst (λ t. ServesInput line input.is_input commands (terminal_seen screen before t) end output) (sym f.1) s)) fate f.0
+
+  pub over_served : {output : List ℕ} {between : T} {end : Served} {place : List ℕ} → place ≡ output_of line name
+      → ServesInput line input.is_input commands (terminal_seen screen before between) end output
+      → FinishesIn (is_standard_output place) end output line.in_place place old new screen between after fate
+      → Edits line name (run_seen input commands old new screen before after) fate
+  over_served {output} {between} {end} {place} named s f =
+      record { ends = subst (λ to. EndsIn (is_standard_output to) line to (run_seen input commands old new screen before after) fate) named (served_to output between end place (is_standard_output place) s f) }
 
   -- The input was read, and then the run was over it.
   pub over_read : {mid : DiskSeen I} {bytes : List ℕ} → KeepsDisk old mid → input.is_input bytes
       → Edits line name (run_seen (given_input bytes) commands mid new screen before after) fate
       → Edits line name (run_seen input commands old new screen before after) fate
-  over_read kept given e = record { ends = read_to (is_standard_output (output_of line name)) (output_of line name) kept given e.ends }
+  over_read {mid} {bytes} kept given e = record { ends = read_to mid bytes (is_standard_output (output_of line name)) (output_of line name) kept given e.ends }
 
-pub kept_same : {I : Type 0} {disk : DiskSeen I} → KeepsDisk disk disk
-kept_same = record { files = refl; streams = refl; moments = λ files left. left }
+pub finishes_otherwise : {I T : Type 0} (output name : List ℕ) (in_place : Bool) (disk : DiskSeen I) (screen : T → Screen) (term : T) (b : Bool) (end : Served) → end ≢ served.Exit
+    → FinishesIn b end output in_place name disk disk screen term term (Ended end)
+finishes_otherwise output name in_place disk screen term true end other = (ended_otherwise (doings_after end output ⊥ (standard_output screen term term)) end output other (refl, refl) refl, kept_same)
+finishes_otherwise output name in_place disk screen term false end other = (ended_otherwise (doings_after end output (IsTrue in_place) (named_output disk disk name)) end output other (refl, refl) kept_same, refl)
 
 -- without the input
 pub lacks_file : {I T : Type 0} {line : Line} {name : List ℕ} {commands : CommandsSeen} {old new : DiskSeen I} {screen : T → Screen} {term : T} {fate : Fate}
     → LacksInput old new name fate → commands.still → KeepsDisk old new
     → Edits line name (run_seen (named_input old new name) commands old new screen term term) fate
-lacks_file {line} {name} {old} {new} {fate} l still kept =
-    idle_ends (λ term place quiet keeps. lacks_by old new name (doings line (named_input old new name) place _ term) fate l l (still, quiet) keeps) refl kept
+lacks_file {line} {name} {commands} {old} {new} {screen} {term} {fate} l still kept =
+    idle_ends line name (named_input old new name) commands old new screen term term fate (λ seen place quiet keeps. lacks_by old new name (doings line (named_input old new name) place commands seen) fate l l (still, quiet) keeps) refl kept
 
 pub lacks_streamed : {I S T : Type 0} {line : Line} {name : List ℕ} {source : SourceView S} {first last : S} {commands : CommandsSeen} {disk : DiskSeen I} {screen : T → Screen} {term : T} {fate : Fate}
     → FailsToStream source first last fate → commands.still
     → Edits line name (run_seen (standard_input source first last) commands disk disk screen term term) fate
-lacks_streamed {line} {source} {first} {last} {fate} l still =
-    idle_ends (λ term place quiet keeps. lacks_stream (doings line (standard_input source first last) place _ term) l.fault fate l.fate_is l (still, quiet) keeps) refl kept_same
+lacks_streamed {line} {name} {source} {first} {last} {commands} {disk} {screen} {term} {fate} l still =
+    idle_ends line name (standard_input source first last) commands disk disk screen term term fate (λ seen place quiet keeps. lacks_stream (doings line (standard_input source first last) place commands seen) l.fault fate l.fate_is l (still, quiet) keeps) refl kept_same
 
 -- A failed write after an exit, and one that was done.
 pub failed_write : (run : Doings) (output : List ℕ) (fate : Fate) {error : Error} → IsFateOf error NoOutput fate → run.serves served.Exit output → run.fails output fate → EndsBy run fate
@@ -244,11 +292,25 @@ failed_write run output Unchanged is s f = absurd (no_other is (λ e. cc) (λ e.
 failed_write run output (Ended end) is s f = absurd (no_other is (λ e. cc) (λ e. cc))
 
 -- Where no read of the commands can fail, no run ends by a failed read.
-reads_to : {I T : Type 0} {line : Line} {to : List ℕ} {run : RunSeen I T} (b : Bool) → ((bytes : List ℕ) → run.commands.gave bytes true → ⊥)
+reads_to : {I T : Type 0} (line : Line) (to : List ℕ) (run : RunSeen I T) (b : Bool) → ((bytes : List ℕ) → run.commands.gave bytes true → ⊥)
     → EndsIn b line to run (Ended served.ReadFault) → ⊥
-reads_to true never e = never e.ends.1.serves.bytes e.ends.1.serves.read
-reads_to false never e = never e.1.serves.bytes e.1.serves.read
+reads_to line to run true never e = never e.ends.1.serves.bytes e.ends.1.serves.read
+reads_to line to run false never e = never e.1.serves.bytes e.1.serves.read
 
 pub reads_all : {I T : Type 0} {line : Line} {name : List ℕ} {run : RunSeen I T} {fate : Fate} → ((bytes : List ℕ) → run.commands.gave bytes true → ⊥)
     → Edits line name run fate → fate ≢ Ended served.ReadFault
-reads_all {line} {name} {run} never e is = reads_to (is_standard_output (output_of line name)) never (subst (EndsIn (is_standard_output (output_of line name)) line (output_of line name) run) is e.ends)
+reads_all {line} {name} {run} never e is = reads_to line (output_of line name) run (is_standard_output (output_of line name)) never (subst (EndsIn (is_standard_output (output_of line name)) line (output_of line name) run) is e.ends)
+
+-- With an output in a file, from where nothing else was shown.
+pub finishes_in_file : {I T : Type 0} (output name : List ℕ) (in_place : Bool) (before after : DiskSeen I) (screen : T → Screen) (term : T) (fate : Fate)
+    → is_standard_output name ≡ false → EndsBy (doings_after served.Exit output (IsTrue in_place) (named_output before after name)) fate
+    → FinishesIn (is_standard_output name) served.Exit output in_place name before after screen term term fate
+finishes_in_file output name in_place before after screen term fate apart e =
+    subst (λ b. FinishesIn b served.Exit output in_place name before after screen term term fate) (sym apart) (e, refl)
+
+-- With an output on the terminal.
+pub finishes_on_terminal : {I T : Type 0} (output name : List ℕ) (in_place : Bool) (disk : DiskSeen I) (screen : T → Screen) (old new : T) (fate : Fate)
+    → is_standard_output name ≡ true → EndsBy (doings_after served.Exit output ⊥ (standard_output screen old new)) fate
+    → FinishesIn (is_standard_output name) served.Exit output in_place name disk disk screen old new fate
+finishes_on_terminal output name in_place disk screen old new fate here e =
+    subst (λ b. FinishesIn b served.Exit output in_place name disk disk screen old new fate) (sym here) (e, kept_same)

@@ -24,28 +24,27 @@ on_err_by (Err fault) p = p
 pub are_told : {old : Option Files} {before : Files} → old ≡ Some before → old ≢ None
 are_told told none = let e = sym told ∙ none in cc
 
-module _ {name output : List ℕ} {streams after : Files} {old new : Option Files} where
+module _ {old new : Option Files} where
   -- A stream was given the output.
-  pub puts_on : (old ≢ None → (given : List ℕ) × (streams name ≡ Some given)) → new ≡ old → Appends name output streams after
+  pub puts_on : {name output : List ℕ} {streams after : Files} → (old ≢ None → (given : List ℕ) × (streams name ≡ Some given)) → new ≡ old → Appends name output streams after
       → Changes old new (IsPut name output (streams name) (after name))
-  puts_on is same appends before told =
+  puts_on {name} {output} {after} is same appends before told =
       let given = is (are_told told) in
       (before, same ∙ told, subst (λ had. IsPut name output had (after name) before before) (sym given.1) (appends.whole given.0 given.1, λ other. refl))
 
   -- The output was written to a file.
-  pub puts_in : {file : List ℕ} {mid : Option Files} → (old ≢ None → (file ≡ name) × (streams name ≡ None)) → mid ≡ old → Changes mid new (Writes file output)
-      → Changes old new (IsPut name output (streams name) (after name))
-  puts_in is same writes before told =
+  pub puts_in : {name file output : List ℕ} {had : Option (List ℕ)} {mid : Option Files} (given : Option (List ℕ)) → (old ≢ None → (file ≡ name) × (had ≡ None)) → mid ≡ old
+      → Changes mid new (Writes file output) → Changes old new (IsPut name output had given)
+  puts_in {name} {output} given is same writes before told =
       let named = is (are_told told) in
       let done = writes before (same ∙ told) in
-      (done.0, done.1, subst (λ had. IsPut name output had (after name) before done.0) (sym named.1) (subst (λ file. Writes file output before done.0) named.0 done.2))
+      (done.0, done.1, subst (λ had. IsPut name output had given before done.0) (sym named.1) (subst (λ file. Writes file output before done.0) named.0 done.2))
 
   -- Drafts of a file were left.
-  pub adds_in : {file : List ℕ} {mid : Option Files} → (old ≢ None → (file ≡ name) × (streams name ≡ None)) → mid ≡ old → Changes mid new (AddsDrafts file)
-      → Changes old new (AddsDrafts name)
+  pub adds_in : {name file : List ℕ} {mid : Option Files} → (old ≢ None → file ≡ name) → mid ≡ old → Changes mid new (AddsDrafts file) → Changes old new (AddsDrafts name)
   adds_in is same adds before told =
       let done = adds before (same ∙ told) in
-      (done.0, done.1, subst (λ file. AddsDrafts file before done.0) (is (are_told told)).0 done.2)
+      (done.0, done.1, subst (λ file. AddsDrafts file before done.0) (is (are_told told)) done.2)
 
 module _ {file draft : List ℕ} (number : ℕ) (named : draft ≡ draft_beside file number) (differ : draft ≢ file) where
   -- a name that is no draft's is not this draft's

@@ -239,6 +239,14 @@ abbrev pub EndsIn : {I T : Type 0} → Bool → Line → List ℕ → RunSeen I 
 EndsIn true line name run fate = EndsOnTerminal line run fate
 EndsIn false line name run fate = EndsInFile line name run fate
 
+-- After a serving a run ends so, with its output on the terminal, or in the file of this name.
+abbrev pub FinishesIn : {I T : Type 0} → Bool → Served → List ℕ → Bool → List ℕ → DiskSeen I → DiskSeen I → (T → Screen)
+    → T → T → Fate → Type 0
+FinishesIn true served output in_place name before after screen old new fate =
+    EndsBy (doings_after served output ⊥ (standard_output screen old new)) fate × KeepsDisk before after
+FinishesIn false served output in_place name before after screen old new fate =
+    EndsBy (doings_after served output (IsTrue in_place) (named_output before after name)) fate × (new ≡ old)
+
 -- A run of the program over this input of its line ends so.
 pub record Edits {I T : Type 0} (line : Line) (input : List ℕ) (run : RunSeen I T) (fate : Fate) : Type 0 where
   pub ends : EndsIn (is_standard_output (output_of line input)) line (output_of line input) run fate

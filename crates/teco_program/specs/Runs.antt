@@ -125,13 +125,18 @@ Chain {W} link (input ∷ inputs) old new statuses = (mid : W) × (status : ℕ)
 abbrev pub inputs_of : Line → List (List ℕ)
 inputs_of line = map string_bytes (line.input ∷ line.more.items)
 
+-- One input of several is run over by these bytes as commands, and that is told.
+abbrev pub LinkOver : {D I S T W E : Type 0} → HostView D I S T W → (E → Screen) → Line → List ℕ → List ℕ
+    → Host D S T × E → Host D S T × E → ℕ → Type 0
+LinkOver {D} {I} {S} {T} {W} {E} view errors line bytes = Link {W = Host D S T × E}
+    (λ input old new fate. EditsByBytes view line input bytes old.0 new.0 fate)
+    (λ input fate old new status. Concludes line input fate (errors old.1) (errors new.1) status)
+
 -- Each of these inputs is run over in order, by these bytes as commands, and that is told. The status is the worst.
 pub record RunsInOrder {D I S T W E : Type 0} (view : HostView D I S T W) (errors : E → Screen) (line : Line)
     (bytes : List ℕ) (inputs : List (List ℕ)) (old new : Host D S T × E) (status : ℕ) : Type 0 where
   pub statuses : List ℕ
-  pub runs : Chain (Link (λ input old new fate. EditsByBytes view line input bytes old.0 new.0 fate)
-      (λ input fate old new status. Concludes line input fate (errors old.1) (errors new.1) status))
-      inputs old new statuses
+  pub runs : Chain (LinkOver view errors line bytes) inputs old new statuses
   pub status_is : status ≡ worst 0 statuses
 
 -- The bytes are all that standard input has, or all that the file of this name has, where the files are told.

@@ -1,10 +1,10 @@
 //! One run of the program: an input is read, commands are served over it, and the output is written.
-ghost use Rattle.std.specs.Prelude.{◌≡◌, ◌≤◌, IsTrue, IfErr, IfOk, IfSome, OnErr, false, vec_len};
+ghost use Rattle.std.specs.Prelude.{◌≡◌, ◌≤◌, ⊤, IfErr, IfOk, IfSome, OnErr, false, vec_len};
 ghost use Rattle.teco_core.specs.declared.limits.TheConstants.{FILE_LIMIT};
 ghost use Rattle.teco_files.specs.Source.{Gives, HasEnded};
 ghost use Rattle.teco_line.specs.CommandLine.{IsDepth};
-ghost use Rattle.teco_line.specs.StreamNames.{is_standard_input};
-ghost use Rattle.teco_program.specs.Run.{Edits, EndsBy, FailsToStream, IsFateOf, IsInput, IsStreamed, KeepsDisk, LacksInput, doings_after, given_input, input_from, named_input, named_output, standard_input, standard_output};
+ghost use Rattle.teco_line.specs.StreamNames.{is_standard_input, is_standard_output};
+ghost use Rattle.teco_program.specs.Run.{Edits, EndsBy, FinishesIn, FailsToStream, IsFateOf, IsInput, IsStreamed, KeepsDisk, LacksInput, doings_after, given_input, input_from, named_input, named_output, standard_input, standard_output};
 ghost use Rattle.teco_program.specs.Seen.{commands_seen, disk_seen, run_seen, source_view};
 ghost use Rattle.teco_program.specs.Serving.{Serves};
 ghost use Rattle.teco_program.specs.Writing.{both};
@@ -116,10 +116,9 @@ fn serve_over<S: Source, T: Terminal, L: Listens>(
     Ok((session, served))
 }
 
-/// Writes the output to a file after an exit. In place it isn't written if the file has changed since it was read, or has these bytes already.
-fn finish_in_file<D: Disk>(
+/// Writes the output to a file after an exit.
+fn put_in_file<D: Disk>(
     alloc: Global,
-    in_place: bool,
     name: &str,
     number: u32,
     output: (&[u8], &[u8]),
@@ -127,27 +126,41 @@ fn finish_in_file<D: Disk>(
 ) -> Fate
     ensures { let seen = disk_seen D.files D.streams D.left D.gave D.changed
         (source_view D.Input.coming D.Input.bound D.Input.failures D.Input.ended) in
-        EndsBy (doings_after Served.Exit (both output.entry) (IsTrue in_place)
+        EndsBy (doings_after Served.Exit (both output.entry) ⊥
         (named_output (seen disk.old) (seen disk.new) name.now)) result }
 {
-    if in_place {
-        match disk.is_as_read(name) {
-            Ok(true) => {}
-            Ok(false) => return Fate::Changed,
-            Err(error) => return fate_of(error, Fate::NoOutput),
-        }
-        if has_bytes(name, output, disk) {
-            return Fate::Unchanged;
-        }
-    }
     match write_output(alloc, disk, name, number, output) {
         Ok(()) => Fate::Ended(Served::Exit),
         Err(error) => fate_of(error, Fate::NoOutput),
     }
 }
 
-/// Shows the output after an exit.
-fn finish_on_terminal<T: Terminal>(output: (&[u8], &[u8]), term: &mut T) -> Fate
+/// Writes the output over the file that was read, unless that has changed since, or has these bytes already.
+fn put_in_place<D: Disk>(
+    alloc: Global,
+    name: &str,
+    number: u32,
+    output: (&[u8], &[u8]),
+    disk: &mut D,
+) -> Fate
+    ensures { let seen = disk_seen D.files D.streams D.left D.gave D.changed
+        (source_view D.Input.coming D.Input.bound D.Input.failures D.Input.ended) in
+        EndsBy (doings_after Served.Exit (both output.entry) ⊤
+        (named_output (seen disk.old) (seen disk.new) name.now)) result }
+{
+    match disk.is_as_read(name) {
+        Ok(true) => {}
+        Ok(false) => return Fate::Changed,
+        Err(error) => return fate_of(error, Fate::NoOutput),
+    }
+    if has_bytes(name, output, disk) {
+        return Fate::Unchanged;
+    }
+    put_in_file(alloc, name, number, output, disk)
+}
+
+/// Shows the output after an exit, after all that was typed.
+fn put_on_terminal<T: Terminal>(output: (&[u8], &[u8]), term: &mut T) -> Fate
     ensures { EndsBy (doings_after Served.Exit (both output.entry) ⊥
         (standard_output T.screen term.old term.new)) result }
 {
@@ -157,6 +170,52 @@ fn finish_on_terminal<T: Terminal>(output: (&[u8], &[u8]), term: &mut T) -> Fate
     match term.put(output.1) {
         Ok(()) => Fate::Ended(Served::Exit),
         Err(TerminalFault) => Fate::NoOutput,
+    }
+}
+
+/// Writes the output to where the line says, after an exit.
+fn put_output<T: Terminal, D: Disk>(
+    alloc: Global,
+    in_place: bool,
+    name: &str,
+    number: u32,
+    output: (&[u8], &[u8]),
+    term: &mut T,
+    disk: &mut D,
+) -> Fate
+    ensures { let seen = disk_seen D.files D.streams D.left D.gave D.changed
+        (source_view D.Input.coming D.Input.bound D.Input.failures D.Input.ended) in
+        FinishesIn (is_standard_output name.now) Served.Exit (both output.entry) in_place name.now
+        (seen disk.old) (seen disk.new) T.screen term.old term.new result }
+{
+    if is_standard_output(name) {
+        return put_on_terminal(output, term);
+    }
+    if in_place {
+        return put_in_place(alloc, name, number, output, disk);
+    }
+    put_in_file(alloc, name, number, output, disk)
+}
+
+/// What is done after a serving: after an exit the output is written.
+fn finish<T: Terminal, D: Disk>(
+    alloc: Global,
+    in_place: bool,
+    name: &str,
+    number: u32,
+    served: Served,
+    output: (&[u8], &[u8]),
+    term: &mut T,
+    disk: &mut D,
+) -> Fate
+    ensures { let seen = disk_seen D.files D.streams D.left D.gave D.changed
+        (source_view D.Input.coming D.Input.bound D.Input.failures D.Input.ended) in
+        FinishesIn (is_standard_output name.now) served (both output.entry) in_place name.now
+        (seen disk.old) (seen disk.new) T.screen term.old term.new result }
+{
+    match served {
+        Served::Exit => put_output(alloc, in_place, name, number, output, term, disk),
+        other => Fate::Ended(other),
     }
 }
 
@@ -186,14 +245,16 @@ fn edit_over<S: Source, T: Terminal, L: Listens, D: Disk>(
     let Ok((session, served)) = serve_over(alloc, line, input, commands, term, listener) else {
         return Fate::NoMemory;
     };
-    if served != Served::Exit {
-        return Fate::Ended(served);
-    }
-    let output = session.editor().output();
-    if is_standard_output(to.as_str()) {
-        return finish_on_terminal(output, term);
-    }
-    finish_in_file(alloc, line.in_place, to.as_str(), number, output, disk)
+    finish(
+        alloc,
+        line.in_place,
+        to.as_str(),
+        number,
+        served,
+        session.editor().output(),
+        term,
+        disk,
+    )
 }
 
 /// Reads an input that is a file, and edits it by these commands.

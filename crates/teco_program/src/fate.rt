@@ -118,7 +118,7 @@ fn text(alloc: Global, line: &Line, input: &str, fate: Fate) -> Result<String, N
     match fate {
         Fate::NoCommands => said_of(alloc, "cannot read ", commands_name(line), ""),
         Fate::NoInput => said_of(alloc, "cannot read ", input, ""),
-        Fate::LargeInput => said_of(alloc, input, " is too large", ""),
+        Fate::LargeInput => said_of(alloc, "", input, " is too large"),
         Fate::NoMemory | Fate::Ended(Served::NoMemory) => said_about(
             alloc,
             line,
@@ -129,7 +129,7 @@ fn text(alloc: Global, line: &Line, input: &str, fate: Fate) -> Result<String, N
             let name = output_name(alloc, line, input)?;
             said_of(alloc, "cannot write ", name.as_str(), "")
         }
-        Fate::Changed => said_of(alloc, input, " has changed", ""),
+        Fate::Changed => said_of(alloc, "", input, " has changed"),
         Fate::Ended(Served::ReadFault) => said_about(alloc, line, input, "cannot read commands"),
         Fate::Ended(Served::ShowFault) => said_about(alloc, line, input, "cannot show"),
         Fate::Unchanged | Fate::Ended(Served::Exit) | Fate::Ended(Served::EndOfCommands) => Ok(

@@ -170,17 +170,20 @@ fn line_of_end(
     Ok(told)
 }
 
+/// Whether a change is for the buffer's text or for pages.
+fn is_of_pages(change: &Change) -> bool {
+    matches!(change.kind(), ChangeKind::Splice { .. } | ChangeKind::Pages)
+}
+
+/// Whether a change put bytes into the buffer.
+fn brings_bytes(change: &Change) -> bool {
+    matches!(change.kind(), ChangeKind::Splice { came, .. } if came > 0)
+}
+
 /// Whether a string that exited has brought no byte into the buffer: its exit alone changed text, input or output.
 fn is_bare_exit(changes: &[Change]) -> bool {
-    let mut pages = 0;
-    for change in changes {
-        match change.kind() {
-            ChangeKind::Splice { came, .. } if came > 0 => return false,
-            ChangeKind::Splice { .. } | ChangeKind::Pages => pages += 1,
-            _ => {}
-        }
-    }
-    pages <= 1
+    !changes.iter().any(brings_bytes)
+        && changes.iter().filter(|change| is_of_pages(change)).count() <= 1
 }
 
 impl<'a, N: Terminal> Explainer<'a, N> {

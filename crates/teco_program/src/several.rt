@@ -5,8 +5,8 @@ ghost use Rattle.teco_line.specs.CommandLine.{IsDepth};
 ghost use Rattle.teco_line.specs.Conflict.{are_awaited, has_more};
 ghost use Rattle.teco_line.specs.StreamNames.{is_standard_input};
 ghost use Rattle.teco_program.specs.Ending.{worse};
-ghost use Rattle.teco_program.specs.Run.{Concludes, KeepsDisk};
-ghost use Rattle.teco_program.specs.Runs.{EditsByBytes, IsGivenBy, IsWholeOf, Link, RunsInOrder, RunsOverSeveral, host, host_view, inputs_of};
+ghost use Rattle.teco_program.specs.Run.{KeepsDisk};
+ghost use Rattle.teco_program.specs.Runs.{EditsByBytes, IsGivenBy, IsWholeOf, LinkOver, RunsInOrder, RunsOverSeveral, host, host_view, inputs_of};
 ghost use Rattle.teco_program.specs.Seen.{disk_seen, source_view};
 
 use crate::editing::{input_of_file, input_of_stream};
@@ -131,9 +131,8 @@ fn edit_told<S: Source, T: Terminal, E: Terminal, N: Terminal, D: Disk>(
         (source_view S.coming S.bound S.failures S.ended) T.screen
         (source_view ⟦<WordSource as Source>⟧.coming ⟦<WordSource as Source>⟧.bound
         ⟦<WordSource as Source>⟧.failures ⟦<WordSource as Source>⟧.ended) in
-        Link (λ input old new fate. EditsByBytes view line.now input bytes.now old.0 new.0 fate)
-        (λ input fate old new status. Concludes line.now input fate (E.screen old.1) (E.screen new.1) status)
-        name.now ((host disk.old commands.old term.old), errors.old) ((host disk.new commands.new term.new), errors.new) result }
+        LinkOver view E.screen line.now bytes.now name.now (host disk.old commands.old term.old, errors.old)
+        (host disk.new commands.new term.new, errors.new) result }
     ensures silent { line.now.explain ≡ false → notes.new ≡ notes.old }
 {
     let fate = edit_noted(
@@ -161,7 +160,8 @@ fn edit_each<S: Source, T: Terminal, E: Terminal, N: Terminal, D: Disk>(
         (source_view ⟦<WordSource as Source>⟧.coming ⟦<WordSource as Source>⟧.bound
         ⟦<WordSource as Source>⟧.failures ⟦<WordSource as Source>⟧.ended) in
         RunsInOrder view E.screen line.now bytes.now (inputs_of line.now)
-        ((host disk.old commands.old term.old), errors.old) ((host disk.new commands.new term.new), errors.new) result }
+        (host disk.old commands.old term.old, errors.old)
+        (host disk.new commands.new term.new, errors.new) result }
     ensures silent { line.now.explain ≡ false → notes.new ≡ notes.old }
 {
     let first = line.input.as_str();

@@ -1,4 +1,4 @@
-use Rattle.std.proofs.Common.{◌≡◌, ◌≢◌, ◌×◌, ◌∙◌, ap, sym, subst, inl, inr, List, ℕ, None, Some}
+use Rattle.std.proofs.Common.{◌≡◌, ◌≢◌, ◌∙◌, ap, sym, subst, inl, inr, List, ℕ, None, Some}
 use Rattle.std.proofs.lemmas.Result.{on_err_weaker, on_ok_weaker}
 use Rattle.std.specs.String.{string_bytes}
 use Rattle.teco_files.specs.Disk.{Files, IsTargetOf}
@@ -32,17 +32,16 @@ returns-in-File-clause-moments g c before told files left =
 
 pub returns-in-File-clause-err : goal.returns-in-File-clause-err
 returns-in-File-clause-err g c =
-    let is : g.D.Disk.files c.args.disk.now ≢ None → (c.as_str.result.now ≡ c.args.name.now) × (g.D.Disk.streams c.args.disk.now c.args.name.now ≡ None) = λ there.
-    let it = subst (IsTargetOf (g.D.Disk.streams c.args.disk.now) c.args.name.now) c.in-File.is (c.in_ok-target_of.ensures.target there) in
-    (c.as_str.ensures.value ∙ it.0, it.1) in
-    on_err_weaker c.replace_file.result (adds_in {output = both c.args.output} {after = g.D.Disk.streams c.replace_file.new.disk} is c.target_of.ensures.files) c.replace_file.ensures.err
+    let is : g.D.Disk.files c.args.disk.now ≢ None → c.as_str.result.now ≡ c.args.name.now = λ there.
+    c.as_str.ensures.value ∙ (subst (IsTargetOf (g.D.Disk.streams c.args.disk.now) c.args.name.now) c.in-File.is (c.in_ok-target_of.ensures.target there)).0 in
+    on_err_weaker c.replace_file.result (adds_in is c.target_of.ensures.files) c.replace_file.ensures.err
 
 pub returns-in-File-clause-ok : goal.returns-in-File-clause-ok
 returns-in-File-clause-ok g c =
     let is : g.D.Disk.files c.args.disk.now ≢ None → (c.as_str.result.now ≡ c.args.name.now) × (g.D.Disk.streams c.args.disk.now c.args.name.now ≡ None) = λ there.
     let it = subst (IsTargetOf (g.D.Disk.streams c.args.disk.now) c.args.name.now) c.in-File.is (c.in_ok-target_of.ensures.target there) in
     (c.as_str.ensures.value ∙ it.0, it.1) in
-    on_ok_weaker c.replace_file.result (puts_in is c.target_of.ensures.files) c.replace_file.ensures.ok
+    on_ok_weaker c.replace_file.result (puts_in (g.D.Disk.streams c.replace_file.new.disk c.args.name.now) is c.target_of.ensures.files) c.replace_file.ensures.ok
 
 pub returns-in-File-clause-streams : goal.returns-in-File-clause-streams
 returns-in-File-clause-streams g c other apart = ap (λ (streams : Files). streams other) (c.replace_file.ensures.streams ∙ c.target_of.ensures.streams)
