@@ -1,6 +1,7 @@
 //! Where commands and files come from: those of the system, and those in memory.
 #![tactic(auto)]
 
+mod comparing;
 mod disk;
 mod draft;
 mod file_disk;
@@ -12,6 +13,7 @@ mod source;
 mod target;
 mod word_source;
 
+pub use comparing::gives_just;
 pub use disk::Disk;
 pub use file_disk::FileDisk;
 pub use input::{InputFault, read_input};

@@ -4,5 +4,6 @@ pub mod Exchanges
 pub mod Servings
 pub mod Texts
 pub mod Writings
+pub mod Doings
 pub mod Runs
 mod StreamRows

@@ -9,3 +9,4 @@ pub mod Draft
 pub mod Writing
 pub mod Seen
 pub mod Run
+pub mod Runs

@@ -1,16 +1,15 @@
 -- A run of the program over its line: what it reads, serves and writes, and how it ends.
-use Rattle.std.specs.Prelude.{◌≡◌, ◌≢◌, ◌≤◌, ◌⊎◌, ℕ, List, length, map, codes, Option, Some, true, false}
+use Rattle.std.specs.Prelude.{◌≡◌, ◌≢◌, ◌≤◌, ◌⊎◌, ℕ, List, length, map, codes, Option, Some, Bool, IsTrue, true, false}
 use Rattle.std.specs.Prelude.{Result, Ok, Err}
-use Rattle.std.specs.Process.{exit_status}
 use Rattle.std.specs.String.{string_bytes}
-use Rattle.std.specs.declared.process.ExitCode.{ExitCode}
 use Rattle.std.specs.declared.string.String.{String}
 use Rattle.std.specs.declared.vec.Vec.{Vec}
 use Rattle.std.specs.declared.alloc.Global.{Global}
 use Rattle.clap.specs.Words.{kind_of}
 use Rattle.clap.specs.declared.error.kind.ErrorKind.TheVariants as kind
 use Rattle.teco_step.specs.Terminal.{IsFrontOf, Screen, Shows}
-use Rattle.teco_line.specs.CommandLine.{IsLine, IsLineFault, typed}
+use Rattle.teco_line.specs.CommandLine.{IsLine, IsLineFault}
+use Rattle.teco_line.specs.StreamNames.{is_standard_output}
 use Rattle.teco_line.specs.declared.line.LineFault.{LineFault}
 use Rattle.teco_line.specs.declared.line.LineFault.TheVariants as line_fault
 use Rattle.std.specs.IoError.{error_kind}
@@ -22,15 +21,15 @@ use Rattle.teco_files.specs.Disk.{Changes, Files, Opens, Passes, SameBut}
 use Rattle.teco_program.specs.Ending.{fate_without_input, output_of, said, status_of, text_of}
 use Rattle.teco_files.specs.Input.{IsFaultOf}
 use Rattle.teco_program.specs.Serving.{Serves}
-use Rattle.teco_program.specs.Seen.{CommandsSeen, DiskSeen, SourceView, TerminalSeen, commands_seen}
-use Rattle.teco_files.specs.Source.{Gives}
+use Rattle.teco_program.specs.Seen.{CommandsSeen, DiskSeen, InputSeen, OutputSeen, RunSeen, SourceView, TerminalSeen}
+use Rattle.teco_program.specs.Seen.{commands_seen, terminal_seen}
+use Rattle.teco_files.specs.Source.{Gives, HasEnded}
 use Rattle.teco_program.specs.Writing.{AddsDrafts, IsPut, IsWriteError, IsWriting}
 use Rattle.teco_program.specs.declared.fate.Fate.{Fate}
 use Rattle.teco_program.specs.declared.fate.Fate.TheVariants.{NoCommands, NoInput, LargeInput, NoMemory, NoOutput}
+use Rattle.teco_program.specs.declared.fate.Fate.TheVariants.{Changed, Unchanged}
 use Rattle.teco_program.specs.declared.fate.Fate.TheVariants.{Ended}
 use Rattle.teco_files.specs.declared.input.InputFault.{InputFault}
-use Rattle.teco_line.specs.declared.line.Commands.{Commands}
-use Rattle.teco_line.specs.declared.line.Commands.TheVariants.{StandardInput, Word, File}
 use Rattle.teco_line.specs.declared.line.Line.{Line}
 use Rattle.teco_program.specs.declared.served.Served.{Served}
 use Rattle.teco_program.specs.declared.served.Served.TheVariants as served
@@ -100,32 +99,13 @@ pub record ServesInput (line : Line) (is_input : List ℕ → Type 0) (commands 
       (new_history line.undo input) history served
   pub output_is : output ≡ (present history).output
 
--- How a run ends after its serving: after an exit the output is written, or that fails; and otherwise no file
--- has changed.
-abbrev pub FinishesBy : Type 0 → Type 0 → (Fate → Type 0) → Served → Fate → Type 0
-FinishesBy keeps writes fails served.Exit fate = elim fate [
-  | Ended served.Exit ↦ writes
-  | NoOutput ↦ fails NoOutput
-  | NoMemory ↦ fails NoMemory
-  | _ ↦ ⊥
-]
-FinishesBy keeps writes fails served.EndOfCommands fate = (fate ≡ Ended served.EndOfCommands) × keeps
-FinishesBy keeps writes fails served.ReadFault fate = (fate ≡ Ended served.ReadFault) × keeps
-FinishesBy keeps writes fails served.ShowFault fate = (fate ≡ Ended served.ShowFault) × keeps
-FinishesBy keeps writes fails served.NoMemory fate = (fate ≡ Ended served.NoMemory) × keeps
-
-pub record Finishes {I : Type 0} (old new : DiskSeen I) (name output : List ℕ) (served : Served)
-    (fate : Fate) : Type 0 where
-  pub ends : FinishesBy (KeepsDisk old new) (WritesOutput old new name output)
-      (FailsToWrite old new name output) served fate
-
 -- What a run may have done. How it ends says which of these it did.
 pub record Doings : Type 1 where
   -- there was no input: why, by the fate
   pub lacks : Fate → Type 0
   -- nothing was read of the commands or shown
   pub idle : Type 0
-  -- no file has changed
+  -- nothing was written
   pub keeps : Type 0
   -- the commands were served, and that ended so with this output
   pub serves : Served → List ℕ → Type 0
@@ -133,6 +113,10 @@ pub record Doings : Type 1 where
   pub writes : List ℕ → Type 0
   -- writing the output failed
   pub fails : List ℕ → Fate → Type 0
+  -- the output was to be written over a file that has these bytes already
+  pub same : List ℕ → Type 0
+  -- the output was to be written over a file that has changed since it was read
+  pub changed : Type 0
 
 -- How a run ends, and what it has done then.
 abbrev pub EndsBy : Doings → Fate → Type 0
@@ -144,63 +128,128 @@ EndsBy run LargeInput = run.lacks LargeInput × run.idle × run.keeps
 EndsBy run NoMemory = (run.idle × run.keeps)
     ⊎ ((output : List ℕ) × run.serves served.Exit output × run.fails output NoMemory)
 EndsBy run NoOutput = (output : List ℕ) × run.serves served.Exit output × run.fails output NoOutput
+-- what was to be written over stays as it is
+EndsBy run Changed = (output : List ℕ) × run.serves served.Exit output × run.changed × run.keeps
+EndsBy run Unchanged = (output : List ℕ) × run.serves served.Exit output × run.same output × run.keeps
 -- after an exit the output is written
 EndsBy run (Ended served.Exit) = (output : List ℕ) × run.serves served.Exit output × run.writes output
--- and otherwise no file has changed
+-- and otherwise nothing is
 EndsBy run (Ended served.EndOfCommands) = (output : List ℕ) × run.serves served.EndOfCommands output
     × run.keeps
 EndsBy run (Ended served.ReadFault) = (output : List ℕ) × run.serves served.ReadFault output × run.keeps
 EndsBy run (Ended served.ShowFault) = (output : List ℕ) × run.serves served.ShowFault output × run.keeps
 EndsBy run (Ended served.NoMemory) = (output : List ℕ) × run.serves served.NoMemory output × run.keeps
 
--- what a run over a line may have done: `old` and `new` are the disk before and after
-abbrev pub doings : {I : Type 0} → Line → DiskSeen I → DiskSeen I → CommandsSeen → TerminalSeen → Doings
-doings line old new commands term = record {
-  lacks = LacksInput old new (string_bytes line.input);
+-- what a run over a line may have done, wherever its input comes from and its output goes
+abbrev pub doings : Line → InputSeen → OutputSeen → CommandsSeen → TerminalSeen → Doings
+doings line input output commands term = record {
+  lacks = input.lacks;
   idle = commands.still × term.still;
-  keeps = KeepsDisk old new;
-  serves = ServesInput line (IsInput old.files (string_bytes line.input)) commands term;
-  writes = WritesOutput old new (output_of line);
-  fails = FailsToWrite old new (output_of line);
+  keeps = output.keeps;
+  serves = ServesInput line input.is_input commands term;
+  writes = output.writes;
+  fails = output.fails;
+  same = λ bytes. IsTrue line.in_place × output.has bytes;
+  changed = IsTrue line.in_place × output.changed;
 }
 
--- A run of the program over its line ends so.
-pub record Edits {I : Type 0} (line : Line) (old new : DiskSeen I) (commands : CommandsSeen)
-    (term : TerminalSeen) (fate : Fate) : Type 0 where
-  pub ends : EndsBy (doings line old new commands term) fate
+-- what may be done after a serving that ended so, with this output
+abbrev pub doings_after : Served → List ℕ → Type 0 → OutputSeen → Doings
+doings_after served output in_place to = record {
+  lacks = λ fate. ⊥;
+  idle = ⊥;
+  keeps = to.keeps;
+  serves = λ end bytes. (end ≡ served) × (bytes ≡ output);
+  writes = to.writes;
+  fails = to.fails;
+  same = λ bytes. in_place × to.has bytes;
+  changed = in_place × to.changed;
+}
 
--- A run was given the commands of a source: `edits` says what it did, by what was seen of them.
-pub record RunsOn {S : Type 0} (source : SourceView S) (begins : Option (List ℕ) → Type 0)
-    (edits : CommandsSeen → Type 0) : Type 0 where
-  pub first : S
-  pub last : S
-  pub begins_so : begins (source.coming first)
-  pub run : edits (commands_seen source first last)
+-- A file as the input, and a file as the output.
+abbrev pub named_input : {I : Type 0} → DiskSeen I → DiskSeen I → List ℕ → InputSeen
+named_input old new name = record { lacks = LacksInput old new name; is_input = IsInput old.files name }
 
--- The disk refused to open the file of the commands.
-pub record LacksCommands (gave : Error → Type 0) (fate : Fate) : Type 0 where
-  pub error : Error
-  pub given : gave error
-  pub fate_is : IsFateOf error NoCommands fate
+abbrev pub named_output : {I : Type 0} → DiskSeen I → DiskSeen I → List ℕ → OutputSeen
+named_output old new name = record {
+  keeps = KeepsDisk old new;
+  writes = WritesOutput old new name;
+  fails = FailsToWrite old new name;
+  has = λ bytes. (before : Files) → old.files ≡ Some before → before name ≡ Some bytes;
+  changed = new.changed name;
+}
 
--- By commands of the line's own: nothing is done where memory is refused for the word or the file is not
--- opened; else the run is over the bytes of the word, of which no read fails, or over the file's.
-abbrev pub EditsByWord : Type 0 → (List ℕ → Type 0) → Fate → List ℕ → Type 0
-EditsByWord idle word fate text = ((fate ≡ NoMemory) × idle)
-    ⊎ (word (map typed text) × (fate ≢ Ended served.ReadFault))
+-- The input was read already, and is this.
+abbrev pub given_input : List ℕ → InputSeen
+given_input bytes = record { lacks = λ fate. ⊥; is_input = λ input. input ≡ bytes }
 
-abbrev pub EditsByFile : (Error → Type 0) → Type 0 → (List ℕ → Type 0) → Fate → List ℕ → Type 0
-EditsByFile gave idle file fate name = (LacksCommands gave fate × idle) ⊎ file name
+-- The bytes are all that the source gave, to its end, and no more than a file may have.
+pub record IsStreamed {S : Type 0} (source : SourceView S) (old new : S) (bytes : List ℕ) : Type 0 where
+  pub small : length bytes ≤ FILE_LIMIT
+  pub given : Gives source.coming source.bound source.failures old new bytes false
+  pub ended : HasEnded (source.coming new) (source.ended new)
 
--- The commands come from where the line says. Those on standard input stay as they are where they come from
--- elsewhere.
-abbrev pub EditsByCommands : Type 0 → Type 0 → (List ℕ → Type 0) → (List ℕ → Type 0) → Commands → Type 0
-EditsByCommands still standard word file StandardInput = standard
-EditsByCommands still standard word file (Word text) = still × word (string_bytes text)
-EditsByCommands still standard word file (File name) = still × file (string_bytes name)
+-- The source was read, and that ended by a fault.
+pub record FailsToStream {S : Type 0} (source : SourceView S) (old new : S) (fate : Fate) : Type 0 where
+  pub fault : InputFault
+  pub fault_is : IsFaultOf FILE_LIMIT (Gives source.coming source.bound source.failures old new) fault
+  pub fate_is : fate ≡ fate_without_input fault
 
-pub record EditsByLine (line : Line) (still standard : Type 0) (word file : List ℕ → Type 0) : Type 0 where
-  pub edits : EditsByCommands still standard word file line.commands
+-- the program's own standard input
+abbrev pub standard_input : {S : Type 0} → SourceView S → S → S → InputSeen
+standard_input source old new =
+    record { lacks = FailsToStream source old new; is_input = IsStreamed source old new }
+
+-- a stream, or a file
+abbrev pub input_from : Bool → InputSeen → InputSeen → InputSeen
+input_from true stream file = stream
+input_from false stream file = file
+
+-- A beginning of the bytes was put, and then the terminal failed.
+pub record FailsToPut (old new : Screen) (bytes : List ℕ) (fate : Fate) : Type 0 where
+  pub front : List ℕ
+  pub beginning : IsFrontOf front bytes
+  pub shows : Shows old new front true
+  pub fate_is : fate ≡ NoOutput
+
+-- The program's own standard output: `between` is the terminal after the serving, so the output comes after all
+-- that was typed.
+abbrev pub standard_output : {T : Type 0} → (T → Screen) → T → T → OutputSeen
+standard_output screen between new = record {
+  keeps = new ≡ between;
+  writes = λ bytes. Shows (screen between) (screen new) bytes false;
+  fails = FailsToPut (screen between) (screen new);
+  has = λ bytes. ⊥;
+  changed = ⊥;
+}
+
+-- A run ends so, with its output in the file of this name, or on the terminal; then no file changes.
+abbrev pub EndsInFile : {I T : Type 0} → Line → List ℕ → RunSeen I T → Fate → Type 0
+EndsInFile line name run fate = EndsBy
+    (doings line run.input (named_output run.before run.after name) run.commands
+    (terminal_seen run.screen run.old run.new)) fate
+
+pub record EndsOnTerminal {I T : Type 0} (line : Line) (run : RunSeen I T) (fate : Fate) : Type 0 where
+  pub between : T
+  pub ends : EndsBy (doings line run.input (standard_output run.screen between run.new) run.commands
+      (terminal_seen run.screen run.old between)) fate
+  pub files : KeepsDisk run.before run.after
+
+abbrev pub EndsIn : {I T : Type 0} → Bool → Line → List ℕ → RunSeen I T → Fate → Type 0
+EndsIn true line name run fate = EndsOnTerminal line run fate
+EndsIn false line name run fate = EndsInFile line name run fate
+
+-- After a serving a run ends so, with its output on the terminal, or in the file of this name.
+abbrev pub FinishesIn : {I T : Type 0} → Bool → Served → List ℕ → Bool → List ℕ → DiskSeen I → DiskSeen I → (T → Screen)
+    → T → T → Fate → Type 0
+FinishesIn true served output in_place name before after screen old new fate =
+    EndsBy (doings_after served output ⊥ (standard_output screen old new)) fate × KeepsDisk before after
+FinishesIn false served output in_place name before after screen old new fate =
+    EndsBy (doings_after served output (IsTrue in_place) (named_output before after name)) fate × (new ≡ old)
+
+-- A run of the program over this input of its line ends so.
+pub record Edits {I T : Type 0} (line : Line) (input : List ℕ) (run : RunSeen I T) (fate : Fate) : Type 0 where
+  pub ends : EndsIn (is_standard_output (output_of line input)) line (output_of line input) run fate
 
 -- All of the text is shown, or a beginning of it and then the terminal fails.
 abbrev pub Tells : Screen → Screen → List ℕ → Type 0
@@ -209,9 +258,9 @@ Tells old new text = Shows old new text false
 
 -- The status is that of the fate, and its line is told on standard error; or that there is no memory for the
 -- line, where there is one.
-pub record Concludes (line : Line) (fate : Fate) (old new : Screen) (exit : ExitCode) : Type 0 where
-  pub status : exit_status exit ≡ status_of fate
-  pub told : Tells old new (text_of line fate)
+pub record Concludes (line : Line) (input : List ℕ) (fate : Fate) (old new : Screen) (status : ℕ) : Type 0 where
+  pub status_is : status ≡ status_of fate
+  pub told : Tells old new (text_of line input fate)
       ⊎ ((status_of fate ≡ 1) × Tells old new (said (codes "no memory")))
 
 -- The words, where they were given, say this line.
@@ -225,25 +274,16 @@ IsFaultIn (Ok words) fault = IsLineFault (map string_bytes words.items) fault
 IsFaultIn (Err given) fault = fault ≡ given
 
 -- The status of a line that is refused: 3, or 0 for the help and the version; 1 where memory was refused.
-abbrev pub IsRefusedBy : LineFault → ExitCode → Type 0
-IsRefusedBy line_fault.NoMemory exit = exit_status exit ≡ 1
-IsRefusedBy (line_fault.Refused error) exit = (kind_of error ≡ kind.DisplayHelp → exit_status exit ≡ 0)
-    × (kind_of error ≡ kind.DisplayVersion → exit_status exit ≡ 0)
-    × (kind_of error ≢ kind.DisplayHelp → kind_of error ≢ kind.DisplayVersion → exit_status exit ≡ 3)
+abbrev pub IsRefusedBy : LineFault → ℕ → Type 0
+IsRefusedBy line_fault.NoMemory status = status ≡ 1
+IsRefusedBy (line_fault.Refused error) status = (kind_of error ≡ kind.DisplayHelp → status ≡ 0)
+    × (kind_of error ≡ kind.DisplayVersion → status ≡ 0)
+    × (kind_of error ≢ kind.DisplayHelp → kind_of error ≢ kind.DisplayVersion → status ≡ 3)
 
 -- The words say no line, and nothing is done but that that is told.
 pub record Refuses (words : Result (Vec (String Global) Global) LineFault) (still : Type 0)
-    (exit : ExitCode) : Type 0 where
+    (status : ℕ) : Type 0 where
   pub fault : LineFault
   pub fault_is : IsFaultIn words fault
-  pub status : IsRefusedBy fault exit
+  pub status_is : IsRefusedBy fault status
   pub kept : still
-
--- The words say a line, and it is run over, and that is told.
-pub record RunsOver (words : Result (Vec (String Global) Global) LineFault) (edits : Line → Fate → Type 0)
-    (concludes : Line → Fate → Type 0) : Type 0 where
-  pub line : Line
-  pub line_is : IsLineIn words line
-  pub fate : Fate
-  pub run : edits line fate
-  pub end : concludes line fate

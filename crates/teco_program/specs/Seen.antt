@@ -3,6 +3,7 @@ use Rattle.std.specs.Prelude.{◌≡◌, ℕ, List, Option, Bool}
 use Rattle.std.specs.declared.io.Error.{Error}
 use Rattle.teco_files.specs.Disk.{Files}
 use Rattle.teco_files.specs.Source.{Gives, HasEnded}
+use Rattle.teco_program.specs.declared.fate.Fate.{Fate}
 use Rattle.teco_step.specs.Terminal.{Screen, Shows}
 
 -- how a source is seen at each of its states
@@ -30,13 +31,21 @@ pub record DiskSeen (I : Type 0) : Type 1 where
   pub left : Files → Type 0
   -- which errors its calls have given
   pub gave : Error → Type 0
+  -- the file of this name isn't what it was when it was opened
+  pub changed : List ℕ → Type 0
   -- how a file that it has opened is seen
   pub input : SourceView I
 
 abbrev pub disk_seen : {D I : Type 0} → (D → Option Files) → (D → Files) → (D → Files → Type 0) → (D → Error → Type 0)
-    → SourceView I → D → DiskSeen I
-disk_seen files streams left gave input disk =
-    record { files = files disk; streams = streams disk; left = left disk; gave = gave disk; input = input }
+    → (D → List ℕ → Type 0) → SourceView I → D → DiskSeen I
+disk_seen files streams left gave changed input disk = record {
+  files = files disk;
+  streams = streams disk;
+  left = left disk;
+  gave = gave disk;
+  changed = changed disk;
+  input = input;
+}
 
 -- what is seen of the commands of a run
 pub record CommandsSeen : Type 1 where
@@ -63,3 +72,45 @@ pub record TerminalSeen : Type 1 where
 
 abbrev pub terminal_seen : {T : Type 0} → (T → Screen) → T → T → TerminalSeen
 terminal_seen screen old new = record { still = new ≡ old; showed = Shows (screen old) (screen new) }
+
+-- what is seen of where the input comes from
+pub record InputSeen : Type 1 where
+  -- why there is no input: by how the run ends
+  pub lacks : Fate → Type 0
+  -- these bytes are the input
+  pub is_input : List ℕ → Type 0
+
+-- what is seen of where the output goes
+pub record OutputSeen : Type 1 where
+  -- nothing was written
+  pub keeps : Type 0
+  -- these bytes were written
+  pub writes : List ℕ → Type 0
+  -- these bytes could not be written: why, by how the run ends
+  pub fails : List ℕ → Fate → Type 0
+  -- these bytes are there already
+  pub has : List ℕ → Type 0
+  -- what is there has changed since it was read
+  pub changed : Type 0
+
+-- What is seen of one run: where its input comes from, its commands, and its disk and terminal before and after it.
+pub record RunSeen (I T : Type 0) : Type 1 where
+  pub input : InputSeen
+  pub commands : CommandsSeen
+  pub before : DiskSeen I
+  pub after : DiskSeen I
+  pub screen : T → Screen
+  pub old : T
+  pub new : T
+
+abbrev pub run_seen : {I T : Type 0} → InputSeen → CommandsSeen → DiskSeen I → DiskSeen I → (T → Screen) → T → T
+    → RunSeen I T
+run_seen input commands before after screen old new = record {
+  input = input;
+  commands = commands;
+  before = before;
+  after = after;
+  screen = screen;
+  old = old;
+  new = new;
+}

@@ -1,6 +1,8 @@
 //! A run of the program, from the words of its command line to its status, over any files and streams.
 #![tactic(auto)]
 
+mod comparing;
+mod editing;
 mod exchange;
 mod fate;
 mod listener;
@@ -8,6 +10,7 @@ mod output;
 mod running;
 mod served;
 mod serving;
+mod several;
 mod splitter;
 mod text_on;
 

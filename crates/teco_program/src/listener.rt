@@ -4,12 +4,16 @@ use crate::fate::{Fate, output_name};
 use crate::served::Served;
 use std::alloc::Global;
 use std::fmt::Write;
-use teco_core::{Code, NoMemory};
+use std::io::ErrorKind;
+use teco_core::{Code, NoMemory, is_filler};
 use teco_line::Line;
 use teco_session::{Answer, Answered, Session};
 use teco_step::Terminal;
-use teco_store::Desk;
+use teco_store::{Change, ChangeKind, Desk};
 use teco_telling::{show_code, show_stop};
+
+/// What is told of an exit before any page was read.
+const COPIED: &str = "EX came before any page was read: the input is copied\n";
 
 /// Who hears what is done for each text of the stream.
 pub trait Listens {
@@ -21,6 +25,9 @@ pub trait Listens {
 
     /// Undos, redos or a rewind were asked for, and the code of a refusal is shown, if there was one.
     fn moved(&mut self, code: Option<Code>, session: &Session);
+
+    /// The commands ended, and these bytes come after the last pair of ESC.
+    fn left(&mut self, bytes: &[u8]);
 }
 
 /// Tells nothing.
@@ -35,6 +42,8 @@ impl Listens for Silent {
     fn ran(&mut self, _text: &[u8], _answered: &Answered, _session: &Session) {}
 
     fn moved(&mut self, _code: Option<Code>, _session: &Session) {}
+
+    fn left(&mut self, _bytes: &[u8]) {}
 }
 
 /// Tells each code that is shown in a line of notes, and where counts are wanted what was done for each text.
@@ -45,6 +54,8 @@ pub struct Explainer<'a, N: Terminal> {
     notes: &'a mut N,
     /// How many texts were done.
     texts: u64,
+    /// How much of the input was read when the last one was done.
+    place: usize,
 }
 
 /// What is told of the text of number `n` that was run.
@@ -99,17 +110,81 @@ fn lines_of_move(
     Ok(lines)
 }
 
-/// What is told of how the program ended.
-fn line_of_end(alloc: Global, line: &Line, fate: Fate) -> Result<String, NoMemory> {
-    match fate {
-        Fate::Ended(Served::Exit) => {
-            let mut text = output_name(alloc, line)?;
-            text.push_str(" is written\n")?;
-            Ok(text)
-        }
-        Fate::Ended(Served::EndOfCommands) => String::from_str(alloc, "nothing is written\n"),
-        _ => Ok(String::new(alloc)),
+/// What is told of bytes after the last pair of ESC, of which each but a filler was to be run.
+fn line_of_left(alloc: Global, bytes: &[u8]) -> Result<String, NoMemory> {
+    let mut line = String::new(alloc);
+    let n = bytes.len();
+    if bytes.iter().any(|byte| !is_filler(*byte)) {
+        writeln!(line, "{n} bytes after the last ESC ESC were not run")?;
     }
+    Ok(line)
+}
+
+/// Why a file cannot be read or written, in words.
+fn reason(kind: ErrorKind) -> &'static str {
+    match kind {
+        ErrorKind::NotFound => "there is no such file or folder",
+        ErrorKind::PermissionDenied => "permission is denied",
+        ErrorKind::IsADirectory => "it is a folder",
+        ErrorKind::NotADirectory => "a part of its path is no folder",
+        ErrorKind::StorageFull | ErrorKind::QuotaExceeded => "there is no room on the disk",
+        ErrorKind::ReadOnlyFilesystem => "the file system is read only",
+        ErrorKind::FilesystemLoop => "its links lead in a circle",
+        ErrorKind::InvalidFilename => "its name is too long",
+        ErrorKind::ResourceBusy => "it is the program's own standard output",
+        _ => "the system refused it",
+    }
+}
+
+/// What is told of a file that failed: its name, and why, if the disk told that.
+fn line_of_fault(alloc: Global, name: &str, why: Option<ErrorKind>) -> Result<String, NoMemory> {
+    let mut line = String::new(alloc);
+    if let Some(kind) = why {
+        let reason = reason(kind);
+        writeln!(line, "{name}: {reason}")?;
+    }
+    Ok(line)
+}
+
+/// What is told of how the run over this input ended. `why` is the error that the disk gave last, if it gave one.
+fn line_of_end(
+    alloc: Global,
+    line: &Line,
+    input: &str,
+    fate: Fate,
+    why: Option<ErrorKind>,
+) -> Result<String, NoMemory> {
+    let output = output_name(alloc, line, input)?;
+    let name = output.as_str();
+    let mut told = String::new(alloc);
+    match fate {
+        Fate::NoInput => return line_of_fault(alloc, input, why),
+        Fate::NoOutput => return line_of_fault(alloc, name, why),
+        Fate::NoCommands => {}
+        Fate::Ended(Served::Exit) => writeln!(told, "{name} is written")?,
+        Fate::Unchanged => writeln!(told, "{name} is unchanged")?,
+        Fate::Ended(Served::EndOfCommands) => {
+            writeln!(told, "the commands ended without EX: {name} is not written")?;
+        }
+        _ => writeln!(told, "{name} is not written")?,
+    }
+    Ok(told)
+}
+
+/// Whether a change is for the buffer's text or for pages.
+fn is_of_pages(change: &Change) -> bool {
+    matches!(change.kind(), ChangeKind::Splice { .. } | ChangeKind::Pages)
+}
+
+/// Whether a change put bytes into the buffer.
+fn brings_bytes(change: &Change) -> bool {
+    matches!(change.kind(), ChangeKind::Splice { came, .. } if came > 0)
+}
+
+/// Whether a string that exited has brought no byte into the buffer: its exit alone changed text, input or output.
+fn is_bare_exit(changes: &[Change]) -> bool {
+    !changes.iter().any(brings_bytes)
+        && changes.iter().filter(|change| is_of_pages(change)).count() <= 1
 }
 
 impl<'a, N: Terminal> Explainer<'a, N> {
@@ -120,6 +195,7 @@ impl<'a, N: Terminal> Explainer<'a, N> {
             counts,
             notes,
             texts: 0,
+            place: 0,
         }
     }
 
@@ -130,10 +206,17 @@ impl<'a, N: Terminal> Explainer<'a, N> {
         };
     }
 
-    /// The program ends so.
-    pub fn ended(&mut self, line: &Line, fate: Fate) {
-        if self.counts {
-            self.tell(line_of_end(self.alloc, line, fate));
+    /// The run over this input of the line ends so. `why` is the error that the disk gave last, if it gave one.
+    pub fn ended(&mut self, line: &Line, input: &str, fate: Fate, why: Option<ErrorKind>) {
+        self.tell(line_of_end(self.alloc, line, input, fate, why));
+    }
+
+    /// Tells of an exit before any page was read, since most of them were meant to come after one.
+    fn tell_of_exit(&mut self, session: &Session) {
+        let last = session.cursor().saturating_sub(1);
+        if self.place == 0 && last < session.strings() && is_bare_exit(session.entry(last)) {
+            let line = String::from_str(self.alloc, COPIED);
+            self.tell(line);
         }
     }
 }
@@ -146,10 +229,19 @@ impl<'a, N: Terminal> Listens for Explainer<'a, N> {
     fn ran(&mut self, text: &[u8], answered: &Answered, session: &Session) {
         self.texts = self.texts.saturating_add(1);
         self.tell(lines_of_run(self.alloc, self.texts, self.counts, text, answered, session));
+        if session.editor().done() && matches!(answered.answer, Answer::Ended(_)) {
+            self.tell_of_exit(session);
+        }
+        self.place = session.editor().place();
     }
 
     fn moved(&mut self, code: Option<Code>, session: &Session) {
         self.texts = self.texts.saturating_add(1);
         self.tell(lines_of_move(self.alloc, self.texts, self.counts, code, session));
+        self.place = session.editor().place();
+    }
+
+    fn left(&mut self, bytes: &[u8]) {
+        self.tell(line_of_left(self.alloc, bytes));
     }
 }

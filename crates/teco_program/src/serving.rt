@@ -78,6 +78,7 @@ pub fn serve<S: Source, T: Terminal, L: Listens>(
             Ok(n) => n,
         };
         if n == 0 {
+            listener.left(splitter.held());
             return Served::EndOfCommands;
         }
         if splitter.feed(&piece[..n]).is_err() {

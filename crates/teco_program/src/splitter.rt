@@ -175,6 +175,13 @@ impl Splitter {
         }
     }
 
+    /// The held bytes. Takes no memory.
+    pub fn held(&self) -> &[u8]
+        ensures { result.now ≡ self.now }
+    {
+        &self.bytes.as_slice()[self.start..]
+    }
+
     /// The next piece of the stream. Where memory is refused, the held bytes are as before.
     pub fn feed(&mut self, piece: &[u8]) -> Result<(), NoMemory>
         ensures ok { OnOk result (self.new ≡ self.old ++ piece.now) }

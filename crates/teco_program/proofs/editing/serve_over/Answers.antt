@@ -4,7 +4,7 @@ use Rattle.teco_session.specs.Kept.{history_of}
 use Rattle.teco_step.specs.Terminal.{Shows}
 use Rattle.teco_program.specs.Serving.{Serves}
 use Rattle.teco_files.specs.Source.{Gives, HasEnded}
-use Rattle.teco_program.proofs.running.serve_over.Goals as goal
+use Rattle.teco_program.proofs.editing.serve_over.Goals as goal
 
 pub returns-clause-serves : goal.returns-clause-serves
 returns-clause-serves g c =

@@ -2,7 +2,7 @@ use Rattle.std.proofs.Common.{◌≡◌, sym, subst, ℕ, Option}
 use Rattle.std.specs.Prelude.{IfOk}
 use Rattle.teco_session.specs.History.{new_history}
 use Rattle.teco_session.specs.Kept.{history_of}
-use Rattle.teco_program.proofs.running.session_over.Goals as goal
+use Rattle.teco_program.proofs.editing.session_over.Goals as goal
 
 pub returns-in-Some : goal.returns-in-Some
 returns-in-Some c =

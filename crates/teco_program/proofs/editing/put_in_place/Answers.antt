@@ -1,0 +1,19 @@
+use Rattle.std.proofs.Common.{◌∙◌}
+use Rattle.std.specs.Prelude.{⊤}
+use Rattle.teco_program.specs.Writing.{both}
+use Rattle.teco_program.specs.declared.served.Served.TheVariants.{Exit}
+use Rattle.teco_program.specs.Run.{KeepsDisk}
+use Rattle.teco_program.specs.Seen.{disk_seen, source_view}
+use Rattle.teco_program.proofs.Doings.{after_look, ends_so, keeps_after}
+use Rattle.teco_program.proofs.editing.put_in_place.Goals as goal
+
+pub returns : goal.returns
+returns g c =
+    let seen = disk_seen g.D.Disk.files g.D.Disk.streams g.D.Disk.left g.D.Disk.gave g.D.Disk.changed
+    (source_view g.D.Input.Source.coming g.D.Input.Source.bound g.D.Input.Source.failures g.D.Input.Source.ended) in
+    let looked : KeepsDisk (seen c.args.disk.now) (seen c.is_as_read.new.self) = record {
+      files = c.is_as_read.ensures.files;
+      streams = c.is_as_read.ensures.streams;
+      moments = c.is_as_read.ensures.moments;
+    } in
+    ends_so (after_look (keeps_after looked c.has_bytes.ensures.keeps) {in_place = ⊤} {end = Exit} {output = both c.args.output} (seen c.put_in_file.new.disk) c.args.name.now) c.put_in_file.result c.put_in_file.ensures

@@ -1,0 +1,17 @@
+use Rattle.std.proofs.Common.{◌++◌, refl}
+use Rattle.teco_program.specs.Writing.{both}
+use Rattle.teco_program.proofs.Showing.{Shows-trans, front-after}
+use Rattle.teco_program.proofs.editing.put_on_terminal.Goals as goal
+
+pub returns-in-Err-put : goal.returns-in-Err-put
+returns-in-Err-put g c =
+    let second = c.in-Err-put.ensures in (
+      both c.args.output,
+      (refl, refl),
+      record {
+        front = c.args.output.0.now ++ second.0;
+        beginning = front-after c.args.output.0.now second.0 c.args.output.1.now second.1;
+        shows = Shows-trans c.in_default.ensures second.2;
+        fate_is = refl;
+      },
+    )

@@ -1,0 +1,182 @@
+-- The runs of the program: over one input by the commands of its line, or over several, one after another.
+use Rattle.std.specs.Prelude.{◌≡◌, ◌≢◌, ◌⊎◌, ℕ, List, [], ◌∷◌, map, Option, Some, Result, Bool, true, false}
+use Rattle.std.specs.String.{string_bytes}
+use Rattle.std.specs.declared.string.String.{String}
+use Rattle.std.specs.declared.vec.Vec.{Vec}
+use Rattle.std.specs.declared.alloc.Global.{Global}
+use Rattle.std.specs.declared.io.Error.{Error}
+use Rattle.teco_files.specs.Disk.{Files, Opens}
+use Rattle.teco_step.specs.Terminal.{Screen}
+use Rattle.teco_line.specs.CommandLine.{on_pages, typed}
+use Rattle.teco_line.specs.Conflict.{has_more}
+use Rattle.teco_line.specs.StreamNames.{is_standard_input}
+use Rattle.teco_line.specs.declared.line.Commands.{Commands}
+use Rattle.teco_line.specs.declared.line.Commands.TheVariants.{StandardInput, Word, Pages, File}
+use Rattle.teco_line.specs.declared.line.Line.{Line}
+use Rattle.teco_line.specs.declared.line.LineFault.{LineFault}
+use Rattle.teco_program.specs.Ending.{worst}
+use Rattle.teco_program.specs.Run.{Concludes, Edits, IsFateOf, IsInput, IsLineIn, IsStreamed, KeepsDisk, Refuses, input_from, named_input, standard_input}
+use Rattle.teco_program.specs.Seen.{CommandsSeen, DiskSeen, SourceView, commands_seen, run_seen}
+use Rattle.teco_program.specs.declared.fate.Fate.{Fate}
+use Rattle.teco_program.specs.declared.fate.Fate.TheVariants.{NoCommands, NoMemory, Ended}
+use Rattle.teco_program.specs.declared.served.Served.TheVariants as served
+
+-- what a run changes: its disk, its standard input and its terminal, at a moment
+pub record Host (D S T : Type 0) : Type 0 where
+  pub disk : D
+  pub stream : S
+  pub term : T
+
+abbrev pub host : {D S T : Type 0} → D → S → T → Host D S T
+host disk stream term = record { disk = disk; stream = stream; term = term }
+
+-- how these are seen, and how a source over the bytes of a word is
+pub record HostView (D I S T W : Type 0) : Type 1 where
+  pub disk : D → DiskSeen I
+  pub stream : SourceView S
+  pub screen : T → Screen
+  pub word : SourceView W
+
+abbrev pub host_view : {D I S T W : Type 0} → (D → DiskSeen I) → SourceView S → (T → Screen) → SourceView W
+    → HostView D I S T W
+host_view disk stream screen word = record { disk = disk; stream = stream; screen = screen; word = word }
+
+-- A run over this input of the line, a file or standard input, by the commands that were given.
+abbrev pub EditsInput : {D I S T W : Type 0} → HostView D I S T W → Line → List ℕ → CommandsSeen → Host D S T
+    → Host D S T → Fate → Type 0
+EditsInput view line input given old new fate = Edits line input
+    (run_seen
+    (input_from (is_standard_input input) (standard_input view.stream old.stream new.stream)
+    (named_input (view.disk old.disk) (view.disk new.disk) input))
+    given (view.disk old.disk) (view.disk new.disk) view.screen old.term new.term) fate
+
+-- Nothing was done.
+abbrev pub IsIdle : {D I S T W : Type 0} → HostView D I S T W → Host D S T → Host D S T → Type 0
+IsIdle view old new = (new.term ≡ old.term) × KeepsDisk (view.disk old.disk) (view.disk new.disk)
+
+-- What comes on standard input stays as it is, unless the input comes from there.
+abbrev pub KeepsStream : {D S T : Type 0} → List ℕ → Host D S T → Host D S T → Type 0
+KeepsStream input old new = is_standard_input input ≡ false → new.stream ≡ old.stream
+
+-- By commands in memory: nothing is done if memory is refused for them; else the run is over these bytes, of
+-- which no read fails.
+pub record EditsByBytes {D I S T W : Type 0} (view : HostView D I S T W) (line : Line) (input bytes : List ℕ)
+    (old new : Host D S T) (fate : Fate) : Type 0 where
+  pub kept : KeepsStream input old new
+  pub edits : ((fate ≡ NoMemory) × IsIdle view old new)
+      ⊎ ((first : W) × (last : W) × (view.word.coming first ≡ Some bytes)
+      × EditsInput view line input (commands_seen view.word first last) old new fate
+      × (fate ≢ Ended served.ReadFault))
+
+-- By the commands of a file: nothing is done if the disk refuses to open it; else the run is over what it opened.
+pub record EditsByFile {D I S T W : Type 0} (view : HostView D I S T W) (line : Line) (input name : List ℕ)
+    (old new : Host D S T) (fate : Fate) : Type 0 where
+  pub kept : KeepsStream input old new
+  pub edits : ((error : Error) × (view.disk new.disk).gave error × IsFateOf error NoCommands fate
+      × IsIdle view old new)
+      ⊎ ((first : I) × (last : I) × Opens (view.disk old.disk).files name ((view.disk old.disk).input.coming first)
+      × EditsInput view line input (commands_seen (view.disk old.disk).input first last) old new fate)
+
+-- By the commands of standard input, which come as they are wanted.
+abbrev pub EditsByStream : {D I S T W : Type 0} → HostView D I S T W → Line → List ℕ → Host D S T → Host D S T → Fate
+    → Type 0
+EditsByStream view line input old new fate =
+    EditsInput view line input (commands_seen view.stream old.stream new.stream) old new fate
+
+-- A file of commands that has a name of standard input is that.
+abbrev pub EditsByNamed : {D I S T W : Type 0} → Bool → HostView D I S T W → Line → List ℕ → List ℕ → Host D S T
+    → Host D S T → Fate → Type 0
+EditsByNamed true view line input name old new fate = EditsByStream view line input old new fate
+EditsByNamed false view line input name old new fate = EditsByFile view line input name old new fate
+
+-- The commands come from where the line says.
+abbrev pub EditsBy : {D I S T W : Type 0} → HostView D I S T W → Line → List ℕ → Commands → Host D S T → Host D S T
+    → Fate → Type 0
+EditsBy view line input StandardInput old new fate = EditsByStream view line input old new fate
+EditsBy view line input (Word text) old new fate =
+    EditsByBytes view line input (map typed (string_bytes text)) old new fate
+EditsBy view line input (Pages text) old new fate =
+    EditsByBytes view line input (on_pages (string_bytes text)) old new fate
+EditsBy view line input (File name) old new fate =
+    EditsByNamed (is_standard_input (string_bytes name)) view line input (string_bytes name) old new fate
+
+-- A line of one input: it is run over, and that is told.
+pub record RunsOverOne {D I S T W E : Type 0} (view : HostView D I S T W) (errors : E → Screen) (line : Line)
+    (old new : Host D S T) (told telling : E) (status : ℕ) : Type 0 where
+  pub one : has_more line ≡ false
+  pub fate : Fate
+  pub run : EditsBy view line (string_bytes line.input) line.commands old new fate
+  pub end : Concludes line (string_bytes line.input) fate (errors told) (errors telling) status
+
+-- One of several runs: what it did, how it ended, and what was told of that. `W` is all that a run changes.
+pub record Link {W : Type 0} (edits : List ℕ → W → W → Fate → Type 0)
+    (concludes : List ℕ → Fate → W → W → ℕ → Type 0) (input : List ℕ) (old new : W) (status : ℕ) : Type 0 where
+  pub fate : Fate
+  pub run : edits input old new fate
+  pub end : concludes input fate old new status
+
+-- Runs in order, each over the world that the one before it left.
+abbrev pub Chain : {W : Type 0} → (List ℕ → W → W → ℕ → Type 0) → List (List ℕ) → W → W → List ℕ → Type 0
+Chain link [] old new statuses = (new ≡ old) × (statuses ≡ [])
+Chain {W} link (input ∷ inputs) old new statuses = (mid : W) × (status : ℕ) × (rest : List ℕ)
+    × (statuses ≡ status ∷ rest) × link input old mid status × Chain link inputs mid new rest
+
+-- the names of the inputs of a line, in order
+abbrev pub inputs_of : Line → List (List ℕ)
+inputs_of line = map string_bytes (line.input ∷ line.more.items)
+
+-- One input of several is run over by these bytes as commands, and that is told.
+abbrev pub LinkOver : {D I S T W E : Type 0} → HostView D I S T W → (E → Screen) → Line → List ℕ → List ℕ
+    → Host D S T × E → Host D S T × E → ℕ → Type 0
+LinkOver {D} {I} {S} {T} {W} {E} view errors line bytes = Link {W = Host D S T × E}
+    (λ input old new fate. EditsByBytes view line input bytes old.0 new.0 fate)
+    (λ input fate old new status. Concludes line input fate (errors old.1) (errors new.1) status)
+
+-- Each of these inputs is run over in order, by these bytes as commands, and that is told. The status is the worst.
+pub record RunsInOrder {D I S T W E : Type 0} (view : HostView D I S T W) (errors : E → Screen) (line : Line)
+    (bytes : List ℕ) (inputs : List (List ℕ)) (old new : Host D S T × E) (status : ℕ) : Type 0 where
+  pub statuses : List ℕ
+  pub runs : Chain (LinkOver view errors line bytes) inputs old new statuses
+  pub status_is : status ≡ worst 0 statuses
+
+-- The bytes are all that standard input has, or all that the file of this name has, where the files are told.
+abbrev pub IsWholeOf : {S : Type 0} → Bool → SourceView S → Option Files → List ℕ → S → S → List ℕ → Type 0
+IsWholeOf true source files name old new bytes = IsStreamed source old new bytes
+IsWholeOf false source files name old new bytes = IsInput files name bytes
+
+-- The bytes are the commands of the line.
+abbrev pub IsGivenBy : {S : Type 0} → SourceView S → Commands → Option Files → S → S → List ℕ → Type 0
+IsGivenBy source StandardInput files old new bytes = ⊥
+IsGivenBy source (Word text) files old new bytes = bytes ≡ map typed (string_bytes text)
+IsGivenBy source (Pages text) files old new bytes = bytes ≡ on_pages (string_bytes text)
+IsGivenBy source (File name) files old new bytes =
+    IsWholeOf (is_standard_input (string_bytes name)) source files (string_bytes name) old new bytes
+
+-- Their commands are had once, by which no file changes. If that fails, no input is read, and that is told.
+pub record RunsOverAll {D I S T W E : Type 0} (view : HostView D I S T W) (errors : E → Screen) (line : Line)
+    (old new : Host D S T) (told telling : E) (status : ℕ) : Type 0 where
+  pub mid : Host D S T
+  pub idle : IsIdle view old mid
+  pub runs : ((fate : Fate) × (new ≡ mid)
+      × Concludes line (string_bytes line.input) fate (errors told) (errors telling) status)
+      ⊎ ((bytes : List ℕ) × IsGivenBy view.stream line.commands (view.disk old.disk).files old.stream mid.stream bytes
+      × RunsInOrder view errors line bytes (inputs_of line) (mid, told) (new, telling) status)
+
+pub record RunsOverSeveral {D I S T W E : Type 0} (view : HostView D I S T W) (errors : E → Screen) (line : Line)
+    (old new : Host D S T) (told telling : E) (status : ℕ) : Type 0 where
+  pub several : has_more line ≡ true
+  pub runs : RunsOverAll view errors line old new told telling status
+
+-- The words say a line, and it is run over; or they say none, and nothing is done but that that is told.
+pub record RunsOverLine {D I S T W E : Type 0} (view : HostView D I S T W) (errors : E → Screen) (words : Result (Vec (String Global) Global) LineFault)
+    (old new : Host D S T) (told telling : E) (status : ℕ) : Type 0 where
+  pub line : Line
+  pub line_is : IsLineIn words line
+  pub runs : RunsOverOne view errors line old new told telling status
+      ⊎ RunsOverSeveral view errors line old new told telling status
+
+abbrev pub Runs : {D I S T W E : Type 0} → HostView D I S T W → (E → Screen) → Result (Vec (String Global) Global) LineFault
+    → Host D S T → Host D S T → E → E → ℕ → Type 0
+Runs view errors words old new told telling status =
+    Refuses words ((new.stream ≡ old.stream) × (new.disk ≡ old.disk)) status
+    ⊎ RunsOverLine view errors words old new told telling status

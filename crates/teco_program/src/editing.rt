@@ -1,0 +1,342 @@
+//! One run of the program: an input is read, commands are served over it, and the output is written.
+ghost use Rattle.std.specs.Prelude.{◌≡◌, ◌≤◌, ⊤, IfErr, IfOk, IfSome, OnErr, false, vec_len};
+ghost use Rattle.teco_core.specs.declared.limits.TheConstants.{FILE_LIMIT};
+ghost use Rattle.teco_files.specs.Source.{Gives, HasEnded};
+ghost use Rattle.teco_line.specs.CommandLine.{IsDepth};
+ghost use Rattle.teco_line.specs.StreamNames.{is_standard_input, is_standard_output};
+ghost use Rattle.teco_program.specs.Run.{Edits, EndsBy, FinishesIn, FailsToStream, IsFateOf, IsInput, IsStreamed, KeepsDisk, LacksInput, doings_after, given_input, input_from, named_input, named_output, standard_input, standard_output};
+ghost use Rattle.teco_program.specs.Seen.{commands_seen, disk_seen, run_seen, source_view};
+ghost use Rattle.teco_program.specs.Serving.{Serves};
+ghost use Rattle.teco_program.specs.Writing.{both};
+ghost use Rattle.teco_session.specs.History.{new_history};
+ghost use Rattle.teco_session.specs.Kept.{history_of};
+ghost use Rattle.teco_step.specs.Terminal.{Shows};
+
+use crate::comparing::has_bytes;
+use crate::fate::{Fate, output_name};
+use crate::listener::Listens;
+use crate::output::write_output;
+use crate::served::Served;
+use crate::serving::serve;
+use std::alloc::Global;
+use std::io;
+use std::io::ErrorKind;
+use teco_core::{FILE_LIMIT, NoMemory};
+use teco_files::{Disk, Source, read_input};
+use teco_line::{Line, is_standard_input, is_standard_output};
+use teco_session::Session;
+use teco_step::{Terminal, TerminalFault};
+use teco_store::Desk;
+
+/// How the program ends at an error of the system: by want of memory where the error is that, otherwise as given.
+pub fn fate_of(error: io::Error, other: Fate) -> Fate
+    ensures { IsFateOf error other result }
+{
+    match error.kind() {
+        ErrorKind::OutOfMemory => Fate::NoMemory,
+        _ => other,
+    }
+}
+
+/// Reads a file whole.
+pub fn input_of_file<D: Disk>(alloc: Global, name: &str, disk: &mut D) -> Result<Vec<u8>, Fate>
+    ensures input { IfOk result (λ input. IsInput (D.files disk.old) name.now input.items) }
+    ensures small { IfOk result (λ input. vec_len input ≤ FILE_LIMIT) }
+    ensures fault { let seen = disk_seen D.files D.streams D.left D.gave D.changed
+        (source_view D.Input.coming D.Input.bound D.Input.failures D.Input.ended) in
+        IfErr result (LacksInput (seen disk.old) (seen disk.new) name.now) }
+    ensures keeps { let seen = disk_seen D.files D.streams D.left D.gave D.changed
+        (source_view D.Input.coming D.Input.bound D.Input.failures D.Input.ended) in
+        KeepsDisk (seen disk.old) (seen disk.new) }
+{
+    let mut source = match disk.open(name) {
+        Ok(source) => source,
+        Err(error) => return Err(fate_of(error, Fate::NoInput)),
+    };
+    match read_input(alloc, &mut source, FILE_LIMIT) {
+        Ok(input) => Ok(input),
+        Err(fault) => Err(Fate::from(fault)),
+    }
+}
+
+/// Reads standard input to its end.
+pub fn input_of_stream<S: Source>(alloc: Global, source: &mut S) -> Result<Vec<u8>, Fate>
+    ensures input { IfOk result (λ input. IsStreamed (source_view S.coming S.bound S.failures S.ended)
+        source.old source.new input.items) }
+    ensures small { IfOk result (λ input. vec_len input ≤ FILE_LIMIT) }
+    ensures fault { IfErr result (FailsToStream (source_view S.coming S.bound S.failures S.ended)
+        source.old source.new) }
+{
+    match read_input(alloc, source, FILE_LIMIT) {
+        Ok(input) => Ok(input),
+        Err(fault) => Err(Fate::from(fault)),
+    }
+}
+
+/// A session over the input, which keeps as many strings as the line says.
+fn session_over(line: &Line, input: Vec<u8>) -> Result<Session, NoMemory>
+    requires small { vec_len input ≤ FILE_LIMIT }
+    requires depth { IfSome line.now.undo IsDepth }
+    ensures { IfOk result (λ session. history_of session ≡ new_history line.now.undo input.items) }
+{
+    match line.undo {
+        Some(depth) => Session::with_depth(input, depth as usize),
+        None => Ok(Session::new(input)),
+    }
+}
+
+/// Serves the commands over the input. Gives the session that is left, and how the serving ended.
+fn serve_over<S: Source, T: Terminal, L: Listens>(
+    alloc: Global,
+    line: &Line,
+    input: Vec<u8>,
+    commands: &mut S,
+    term: &mut T,
+    listener: &mut L,
+) -> Result<(Session, Served), NoMemory>
+    requires small { vec_len input ≤ FILE_LIMIT }
+    requires depth { IfSome line.now.undo IsDepth }
+    ensures serves { IfOk result (λ ended. Serves line.now.limit line.now.prompt
+        (Gives S.coming S.bound S.failures commands.old commands.new)
+        (HasEnded (S.coming commands.new) (S.ended commands.new))
+        (Shows (T.screen term.old) (T.screen term.new))
+        (new_history line.now.undo input.items) (history_of ended.0) ended.1) }
+    ensures err { OnErr result ((commands.new ≡ commands.old) × (term.new ≡ term.old)) }
+{
+    let mut session = session_over(line, input)?;
+    let served = serve(
+        alloc,
+        commands,
+        &mut session,
+        line.limit,
+        line.prompt,
+        term,
+        listener,
+    );
+    Ok((session, served))
+}
+
+/// Writes the output to a file after an exit.
+fn put_in_file<D: Disk>(
+    alloc: Global,
+    name: &str,
+    number: u32,
+    output: (&[u8], &[u8]),
+    disk: &mut D,
+) -> Fate
+    ensures { let seen = disk_seen D.files D.streams D.left D.gave D.changed
+        (source_view D.Input.coming D.Input.bound D.Input.failures D.Input.ended) in
+        EndsBy (doings_after Served.Exit (both output.entry) ⊥
+        (named_output (seen disk.old) (seen disk.new) name.now)) result }
+{
+    match write_output(alloc, disk, name, number, output) {
+        Ok(()) => Fate::Ended(Served::Exit),
+        Err(error) => fate_of(error, Fate::NoOutput),
+    }
+}
+
+/// Writes the output over the file that was read, unless that has changed since, or has these bytes already.
+fn put_in_place<D: Disk>(
+    alloc: Global,
+    name: &str,
+    number: u32,
+    output: (&[u8], &[u8]),
+    disk: &mut D,
+) -> Fate
+    ensures { let seen = disk_seen D.files D.streams D.left D.gave D.changed
+        (source_view D.Input.coming D.Input.bound D.Input.failures D.Input.ended) in
+        EndsBy (doings_after Served.Exit (both output.entry) ⊤
+        (named_output (seen disk.old) (seen disk.new) name.now)) result }
+{
+    match disk.is_as_read(name) {
+        Ok(true) => {}
+        Ok(false) => return Fate::Changed,
+        Err(error) => return fate_of(error, Fate::NoOutput),
+    }
+    if has_bytes(name, output, disk) {
+        return Fate::Unchanged;
+    }
+    put_in_file(alloc, name, number, output, disk)
+}
+
+/// Shows the output after an exit, after all that was typed.
+fn put_on_terminal<T: Terminal>(output: (&[u8], &[u8]), term: &mut T) -> Fate
+    ensures { EndsBy (doings_after Served.Exit (both output.entry) ⊥
+        (standard_output T.screen term.old term.new)) result }
+{
+    if let Err(TerminalFault) = term.put(output.0) {
+        return Fate::NoOutput;
+    }
+    match term.put(output.1) {
+        Ok(()) => Fate::Ended(Served::Exit),
+        Err(TerminalFault) => Fate::NoOutput,
+    }
+}
+
+/// Writes the output to where the line says, after an exit.
+fn put_output<T: Terminal, D: Disk>(
+    alloc: Global,
+    in_place: bool,
+    name: &str,
+    number: u32,
+    output: (&[u8], &[u8]),
+    term: &mut T,
+    disk: &mut D,
+) -> Fate
+    ensures { let seen = disk_seen D.files D.streams D.left D.gave D.changed
+        (source_view D.Input.coming D.Input.bound D.Input.failures D.Input.ended) in
+        FinishesIn (is_standard_output name.now) Served.Exit (both output.entry) in_place name.now
+        (seen disk.old) (seen disk.new) T.screen term.old term.new result }
+{
+    if is_standard_output(name) {
+        return put_on_terminal(output, term);
+    }
+    if in_place {
+        return put_in_place(alloc, name, number, output, disk);
+    }
+    put_in_file(alloc, name, number, output, disk)
+}
+
+/// What is done after a serving: after an exit the output is written.
+fn finish<T: Terminal, D: Disk>(
+    alloc: Global,
+    in_place: bool,
+    name: &str,
+    number: u32,
+    served: Served,
+    output: (&[u8], &[u8]),
+    term: &mut T,
+    disk: &mut D,
+) -> Fate
+    ensures { let seen = disk_seen D.files D.streams D.left D.gave D.changed
+        (source_view D.Input.coming D.Input.bound D.Input.failures D.Input.ended) in
+        FinishesIn (is_standard_output name.now) served (both output.entry) in_place name.now
+        (seen disk.old) (seen disk.new) T.screen term.old term.new result }
+{
+    match served {
+        Served::Exit => put_output(alloc, in_place, name, number, output, term, disk),
+        other => Fate::Ended(other),
+    }
+}
+
+/// Serves the commands over an input that was read, and after an exit writes the output. The number is for the name of a draft.
+fn edit_over<S: Source, T: Terminal, L: Listens, D: Disk>(
+    alloc: Global,
+    line: &Line,
+    name: &str,
+    number: u32,
+    input: Vec<u8>,
+    commands: &mut S,
+    term: &mut T,
+    listener: &mut L,
+    disk: &mut D,
+) -> Fate
+    requires small { vec_len input ≤ FILE_LIMIT }
+    requires depth { IfSome line.now.undo IsDepth }
+    ensures { let seen = disk_seen D.files D.streams D.left D.gave D.changed
+        (source_view D.Input.coming D.Input.bound D.Input.failures D.Input.ended) in
+        Edits line.now name.now (run_seen (given_input input.items)
+        (commands_seen (source_view S.coming S.bound S.failures S.ended) commands.old commands.new)
+        (seen disk.old) (seen disk.new) T.screen term.old term.new) result }
+{
+    let Ok(to) = output_name(alloc, line, name) else {
+        return Fate::NoMemory;
+    };
+    let Ok((session, served)) = serve_over(alloc, line, input, commands, term, listener) else {
+        return Fate::NoMemory;
+    };
+    finish(
+        alloc,
+        line.in_place,
+        to.as_str(),
+        number,
+        served,
+        session.editor().output(),
+        term,
+        disk,
+    )
+}
+
+/// Reads an input that is a file, and edits it by these commands.
+pub fn edit_file<S: Source, T: Terminal, L: Listens, D: Disk>(
+    alloc: Global,
+    line: &Line,
+    name: &str,
+    number: u32,
+    commands: &mut S,
+    term: &mut T,
+    listener: &mut L,
+    disk: &mut D,
+) -> Fate
+    requires depth { IfSome line.now.undo IsDepth }
+    ensures { let seen = disk_seen D.files D.streams D.left D.gave D.changed
+        (source_view D.Input.coming D.Input.bound D.Input.failures D.Input.ended) in
+        Edits line.now name.now (run_seen (named_input (seen disk.old) (seen disk.new) name.now)
+        (commands_seen (source_view S.coming S.bound S.failures S.ended) commands.old commands.new)
+        (seen disk.old) (seen disk.new) T.screen term.old term.new) result }
+{
+    match input_of_file(alloc, name, disk) {
+        Ok(input) => edit_over(
+            alloc, line, name, number, input, commands, term, listener, disk,
+        ),
+        Err(fate) => fate,
+    }
+}
+
+/// Reads an input that is standard input, and edits it by these commands.
+fn edit_stream<C: Source, S: Source, T: Terminal, L: Listens, D: Disk>(
+    alloc: Global,
+    line: &Line,
+    name: &str,
+    number: u32,
+    commands: &mut C,
+    stream: &mut S,
+    term: &mut T,
+    listener: &mut L,
+    disk: &mut D,
+) -> Fate
+    requires depth { IfSome line.now.undo IsDepth }
+    ensures { let seen = disk_seen D.files D.streams D.left D.gave D.changed
+        (source_view D.Input.coming D.Input.bound D.Input.failures D.Input.ended) in
+        Edits line.now name.now (run_seen
+        (standard_input (source_view S.coming S.bound S.failures S.ended) stream.old stream.new)
+        (commands_seen (source_view C.coming C.bound C.failures C.ended) commands.old commands.new)
+        (seen disk.old) (seen disk.new) T.screen term.old term.new) result }
+{
+    match input_of_stream(alloc, stream) {
+        Ok(input) => edit_over(
+            alloc, line, name, number, input, commands, term, listener, disk,
+        ),
+        Err(fate) => fate,
+    }
+}
+
+/// Reads an input, standard input or a file, and edits it by these commands.
+pub fn edit_input<C: Source, S: Source, T: Terminal, L: Listens, D: Disk>(
+    alloc: Global,
+    line: &Line,
+    name: &str,
+    number: u32,
+    commands: &mut C,
+    stream: &mut S,
+    term: &mut T,
+    listener: &mut L,
+    disk: &mut D,
+) -> Fate
+    requires depth { IfSome line.now.undo IsDepth }
+    ensures edits { let seen = disk_seen D.files D.streams D.left D.gave D.changed
+        (source_view D.Input.coming D.Input.bound D.Input.failures D.Input.ended) in
+        Edits line.now name.now (run_seen (input_from (is_standard_input name.now)
+        (standard_input (source_view S.coming S.bound S.failures S.ended) stream.old stream.new)
+        (named_input (seen disk.old) (seen disk.new) name.now))
+        (commands_seen (source_view C.coming C.bound C.failures C.ended) commands.old commands.new)
+        (seen disk.old) (seen disk.new) T.screen term.old term.new) result }
+    ensures still { is_standard_input name.now ≡ false → stream.new ≡ stream.old }
+{
+    if is_standard_input(name) {
+        return edit_stream(
+            alloc, line, name, number, commands, stream, term, listener, disk,
+        );
+    }
+    edit_file(alloc, line, name, number, commands, term, listener, disk)
+}
