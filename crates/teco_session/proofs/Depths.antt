@@ -29,7 +29,7 @@ parts s [] (suc n) m = record { first = tt; last = refl; rest = tt }
 parts s (x ∷ notes) (suc n) m = let p = parts x.state notes n m.1 in record { first = (m.0, p.first); last = p.last; rest = p.rest }
 
 -- The first state is where the strings that are dropped now have led, and before them those that were dropped before.
-has_begun : (depth : Option ℕ) (s : State) (notes : List NotedString) (n : ℕ) → (depth ≡ None → n ≡ 0) → AreMeant s notes → HasBegun depth s → HasBegun depth (state_after s notes n)
+pub has_begun : (depth : Option ℕ) (s : State) (notes : List NotedString) (n : ℕ) → (depth ≡ None → n ≡ 0) → AreMeant s notes → HasBegun depth s → HasBegun depth (state_after s notes n)
 has_begun None s notes n none m b = rw (none refl) b
 has_begun (Some depth) s notes n none m b =
     let first : State = paged_beginning b.0 b.1 in

@@ -1,6 +1,7 @@
 -- Sessions after each request, as what their parts have become.
-use Rattle.std.proofs.Common.{◌≡◌, ℕ, ◌+◌, ◌-◌, ◌<◌, ◌≤◌, Option, None, Some, List, [], ◌∷◌, ◌++◌, length, take, min, get_or, set, refl, sym, ◌∙◌, ap, subst, arith, rules, length-append}
+use Rattle.std.proofs.Common.{◌≡◌, ℕ, ◌+◌, ◌-◌, ◌<◌, ◌≤◌, true, Option, None, Some, List, [], ◌∷◌, ◌++◌, length, take, min, get_or, set, refl, sym, ◌∙◌, ap, subst, arith, rules, length-append}
 use Rattle.std.proofs.Math.Nat.{min-le_right}
+use Rattle.std.proofs.lemmas.Bool.{true≢false, eqb-true}
 use Rattle.std.proofs.lemmas.Int.{ints}
 use Rattle.std.proofs.lemmas.Option.{none-some}
 use Rattle.std.proofs.lemmas.List.Elements.{All-replicate}
@@ -8,18 +9,18 @@ use Rattle.teco_core.specs.Number.{IsNumber}
 use Rattle.teco_core.specs.Register.{Content, blank}
 use Rattle.std.proofs.lemmas.List.{get_or_default, take_more_set, length-take-le, length-drop}
 use Rattle.teco_core.specs.declared.limits.TheConstants.{FILE_LIMIT, TEXT_LIMIT}
-use Rattle.teco_store.specs.State.{Full, state_of, with_body, paged_beginning, new_paged_full}
+use Rattle.teco_store.specs.State.{Full, IsSound, state_of, with_body, paged_beginning, new_paged_full}
 use Rattle.teco_store.specs.Entry.{body_back, body_forth, since}
 use Rattle.teco_store.specs.Follows.{LeadsBack}
 use Rattle.teco_store.specs.RecordLaws.{BackThenForth, ForthThenBack, ComesSoExtended, ComesSoFarCut}
 use Rattle.teco_exec.specs.StringMeaning.{string_meaning}
-use Rattle.teco_session.specs.History.{History, HasBegun, note_at, present, beyond, without_first, appended, noted, undone, redone, with_steps, rewound}
+use Rattle.teco_session.specs.History.{History, NotedString, HasBegun, keeps_none, note_at, present, beyond, without_first, appended, noted, undone, redone, with_steps, rewound}
 use Rattle.teco_session.specs.Kept.{KeptString, KeptSession, string_at, string_back, string_cut, string_forth, cut_to, new_paged_session, newest, noted_as, IsSession, HasRun, history_of, reverted, applied}
 use Rattle.teco_session.proofs.Turning.{Turned, length-notes, session_back, session_forth}
 use Rattle.teco_session.proofs.Headings.{has_steps}
 use Rattle.teco_session.proofs.Rewinding.{session_cut}
 use Rattle.teco_session.proofs.Running.{Appended, session_appended}
-use Rattle.teco_session.proofs.Depths.{Dropped, session_dropped, without_oldest}
+use Rattle.teco_session.proofs.Depths.{has_begun, Dropped, session_dropped, without_oldest}
 
 abbrev pub session_with : (f : Full) (xs : List KeptString) (c : ℕ) (depth : Option ℕ) → KeptSession
 session_with f xs c depth = record { editor = f; strings = xs; cursor = c; depth = depth }
@@ -153,3 +154,49 @@ session_rewound back more law n s g xs depth pos ok parts same =
       value = new;
       history = ap history_of new ∙ z.history ∙ ap (λ j. appended (undone h) (with_steps j (present (undone h)) (note_at h i))) (ap (min n) steps);
     }
+
+-- a session that keeps no string, after one that has begun
+pub record Went (s t : KeptSession) (note : NotedString) : Type 0 where
+  pub holds : IsSession t
+  pub history : history_of t ≡ noted (history_of s) note
+
+abbrev bare : Full → KeptSession
+bare f = session_with f [] 0 (Some 0)
+
+bare_went : (f g : Full) (text : List ℕ) (k : ℕ) → IsSession (bare f) → IsSound g.room (length g.stored) g.body
+    → state_of g ≡ (string_meaning (state_of f) text k).state → Went (bare f) (bare g) (record { text = text; steps = k; state = state_of g })
+bare_went f g text k ok sound again =
+    let note : NotedString = record { text = text; steps = k; state = state_of g } in
+    let begins : HasBegun (Some 0) (state_of f) = ok.history.begins in
+    record {
+      holds = record {
+        within = omega arith;
+        sound = sound;
+        back = tt;
+        forth = tt;
+        history = record { begins = has_begun (Some 0) (state_of f) (note ∷ []) 1 (λ e. absurd (none-some 0 (sym e))) (again, tt) begins; states = tt; within = omega arith };
+      };
+      history = refl;
+    }
+
+depth_none : (depth : Option ℕ) → keeps_none depth ≡ true → depth ≡ Some 0
+depth_none None e = absurd (true≢false (sym e))
+depth_none (Some depth) e = ap Some (eqb-true depth 0 e)
+
+is_nil : (xs : List KeptString) → length xs ≤ 0 → xs ≡ []
+is_nil [] h = refl
+is_nil (x ∷ xs) h = absurd (omega arith)
+
+pub session_went : (s : KeptSession) (g : Full) (text : List ℕ) (k : ℕ) → keeps_none s.depth ≡ true → length s.strings ≤ 0 → IsSession s
+    → IsSound g.room (length g.stored) g.body → state_of g ≡ (string_meaning (state_of s.editor) text k).state
+    → Went s (session_with g s.strings s.cursor s.depth) (record { text = text; steps = k; state = state_of g })
+session_went s g text k none few ok sound again =
+    let strings : s.strings ≡ [] = is_nil s.strings few in
+    let depth : s.depth ≡ Some 0 = depth_none s.depth none in
+    let within = ok.within in
+    let cursor : s.cursor ≡ 0 = omega arith in
+    let old : s ≡ bare s.editor = same_session _ _ _ _ _ _ _ _ refl strings cursor depth in
+    let new : session_with g s.strings s.cursor s.depth ≡ bare g = same_session _ _ _ _ _ _ _ _ refl strings cursor depth in
+    let note : NotedString = record { text = text; steps = k; state = state_of g } in
+    let w = bare_went s.editor g text k (subst IsSession old ok) sound again in
+    record { holds = subst IsSession (sym new) w.holds; history = ap history_of new ∙ w.history ∙ ap (λ (z : KeptSession). noted (history_of z) note) (sym old) }

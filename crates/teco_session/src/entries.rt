@@ -1,10 +1,10 @@
 //! The entries of a session: of every string that has begun, or of the last ones.
-ghost use Rattle.std.specs.Prelude.{◌≡◌, [], ◌∷◌, ◌++◌, ◌<◌, length, take, None, Some, IfOk, IsOk, OnOk};
+ghost use Rattle.std.specs.Prelude.{◌≡◌, [], ◌∷◌, ◌++◌, ◌<◌, ◌≤◌, true, length, take, None, Some, IfOk, IsOk, OnOk};
 ghost use Rattle.std.proofs.Common.{set};
 ghost use Rattle.teco_store.specs.Entry.{body_back, body_forth, since, FitsBack, FitsForth};
 ghost use Rattle.teco_store.specs.Follows.{IsInOrder};
 ghost use Rattle.teco_store.specs.State.{with_body};
-ghost use Rattle.teco_session.specs.History.{IsWithinDepth};
+ghost use Rattle.teco_session.specs.History.{IsWithinDepth, keeps_none};
 ghost use Rattle.teco_session.specs.Kept.{string_back, string_cut, string_forth, entry_at, newest};
 ghost use Rattle.teco_session.specs.Entries.{kept_string, strings_of, depth_of, HasPlace};
 
@@ -39,6 +39,17 @@ impl Entries {
         match depth {
             None => Ok(Entries::All(Vec::new(alloc))),
             Some(depth) => Entries::with_depth(alloc, depth),
+        }
+    }
+
+    /// Whether no string is kept, since the depth is 0. Takes no memory.
+    pub fn keeps_none(&self) -> bool
+        ensures depth { result ≡ keeps_none (depth_of self.now) }
+        ensures none { result ≡ true → length (strings_of self.now) ≤ 0 }
+    {
+        match self {
+            Entries::All(_) => false,
+            Entries::Last(ring) => ring.capacity() == 0,
         }
     }
 

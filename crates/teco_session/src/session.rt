@@ -25,7 +25,7 @@ use std::mem;
 use teco_core::{DEPTH_LIMIT, FILE_LIMIT, NoMemory};
 use teco_exec::{Outcome, meaning_laws};
 use teco_step::Terminal;
-use teco_store::{Change, Desk, Editor, Recorder, record_laws};
+use teco_store::{Change, Desk, Editor, Recorder, editor_laws, record_laws};
 
 /// Command strings one after another, each of which can be undone and redone.
 ///
@@ -84,6 +84,28 @@ fn record_run<T: Terminal, R: Runner>(
     (changes, outcome)
 }
 
+/// Runs a string on an editor, and notes no change: it can't be undone.
+fn run_unnoted<T: Terminal, R: Runner>(
+    editor: &mut Editor,
+    text: &[u8],
+    limit: u64,
+    term: &mut T,
+    runner: &mut R,
+) -> Outcome
+    ensures run { (typed : List ℕ)
+        × Runs (state_of editor.old) text.now limit result typed (state_of editor.new)
+        × Shows (T.screen term.old) (T.screen term.new) typed (is_tty result) }
+    ensures again { state_of editor.new ≡ (string_meaning (state_of editor.old) text.now result.steps).state }
+    ensures exit { (state_of editor.old).is_done ≡ false → (state_of editor.new).is_done ≡ true
+        → result.code ≡ None }
+    ensures sound { IsSound editor.new.room (length editor.new.stored) editor.new.body }
+    ensures tells { R.tells runner.new (state_of editor.old) text.now result }
+{
+    let outcome = runner.run_on(editor, text, limit, term);
+    editor_laws(editor);
+    outcome
+}
+
 impl Session {
     /// A new session over this input, of at most 2^30 bytes, that keeps every string. Takes no memory.
     pub fn new(input: Vec<u8>) -> Session
@@ -116,13 +138,14 @@ impl Session {
 
     /// A new session over this input, of at most 2^30 bytes, whose pages end after so many lines too; 0 is any number of lines. It keeps
     /// the last `depth` strings, for whose entries room is found here, or every string where there is no depth: then it takes no memory.
+    /// With a depth of 0 none can be undone, and their runs take no memory for an undo.
     pub fn with_pages(
         input: Vec<u8>,
         lines: usize,
         depth: Option<usize>,
     ) -> Result<Session, NoMemory>
         requires input { vec_len input ≤ FILE_LIMIT }
-        requires depth { ForSome depth (λ depth. (1 ≤ depth) × (depth ≤ DEPTH_LIMIT)) }
+        requires depth { ForSome depth (λ depth. depth ≤ DEPTH_LIMIT) }
         ensures value { IfOk result (λ session. session ≡ new_paged_session lines depth input.items) }
         ensures history { IfOk result (λ session. history_of session
             ≡ new_paged_history lines depth input.items) }
@@ -249,7 +272,7 @@ impl Session {
     }
 
     /// Runs a command string under a limit of steps, and notes it, however it ends; strings that are undone are dropped, and with a depth
-    /// the first string where there is one too many.
+    /// the first string where there is one too many. With a depth of 0 that is the string itself.
     ///
     /// Where memory is refused for the history the answer is [`Answer::NotBegun`], and after an exit [`Answer::AfterExit`]: then
     /// nothing has changed, and the undone strings are kept. A string that makes the session done ends with no code.
@@ -309,6 +332,10 @@ impl Session {
     {
         if self.editor().done() {
             return Answer::AfterExit;
+        }
+        if self.entries.keeps_none() {
+            let outcome = run_unnoted(&mut self.editor, text, limit, term, runner);
+            return Answer::Ended(outcome);
         }
         let alloc = self.entries.alloc();
         let Ok(kept) = Text::copied(alloc, text) else {

@@ -18,7 +18,7 @@ pub use change::Change;
 pub use change_kind::ChangeKind;
 pub use desk::{Desk, Refused};
 pub use editor::Editor;
-pub use laws::{page_laws, record_laws};
+pub use laws::{editor_laws, page_laws, record_laws};
 pub use pages::part;
 pub use recorder::Recorder;
 pub use turning::{apply, apply_all, revert, revert_all, rewind};

@@ -24,7 +24,7 @@ fn all_end_so(rt: &impl Abort, alloc: Global, rows: &[Ends]) {
     }
 }
 
-static ROWS: [Ends<'static>; 19] = [
+static ROWS: [Ends<'static>; 20] = [
     // A page has two lines, and the last one has what is left.
     ("a\nb\nc\nd\ne", "YHT", "a\nb\n", "", false),
     ("a\nb\nc\nd\ne", "2PHT^N=", "c\nd\n0\r\n", "a\nb\n", false),
@@ -34,9 +34,10 @@ static ROWS: [Ends<'static>; 19] = [
     ("", "YZ=^N=", "0\r\n-1\r\n", "", false),
     // VT ends a line as LF does.
     ("a\x0bb\x0bc", "YHT", "a\x0bb\x0b", "", false),
-    // No form feed ended the page, so none is written after it.
+    // No form feed ended the page, so none is written after it, but for the one that PW writes always.
     ("a\nb\nc", "Y^E=P^E=", "0\r\n0\r\n", "a\nb\n", false),
-    ("a\nb\nc", "YPW", "", "a\nb\n", false),
+    ("a\nb\nc", "YHPW", "", "a\nb\n", false),
+    ("a\nb\nc", "YPW", "", "a\nb\n\x0c", false),
     ("a\nb\nc", "YHK.,.PWEX", "", "c", true),
     // One that comes before the second line end does, and is written.
     ("a\n\x0cb\nc", "Y^E=PHT", "-1\r\nb\nc", "a\n\x0c", false),

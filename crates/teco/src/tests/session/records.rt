@@ -257,15 +257,29 @@ fn last_page_turns_back(session: &mut Session, term: &mut MemoryTerminal) -> boo
         && has(session, b"three\n", b"one\ntwo\n")
 }
 
+/// Whether a session that keeps no string goes on from each, and back to none.
+fn no_page_turns_back(session: &mut Session, term: &mut MemoryTerminal) -> bool {
+    runs(session, &[b"Y\x1b", b"P\x1b"], term)
+        && has(session, b"three\n", b"one\ntwo\n")
+        && session.strings() == 0
+        && session.undo().is_err()
+        && session.redo().is_err()
+        && session.rewind(0).is_err()
+        && has(session, b"three\n", b"one\ntwo\n")
+}
+
 fn pages_of_lines_once(alloc: Global) -> bool {
     let mut term = MemoryTerminal::new(alloc);
-    let (Some(mut session), Some(mut last)) = (
+    let (Some(mut session), Some(mut last), Some(mut none)) = (
         Session::with_pages(three_lines(alloc), 2, None).ok(),
         Session::with_pages(three_lines(alloc), 2, Some(1)).ok(),
+        Session::with_pages(three_lines(alloc), 2, Some(0)).ok(),
     ) else {
         return false;
     };
-    page_of_lines_turns_back(&mut session, &mut term) && last_page_turns_back(&mut last, &mut term)
+    page_of_lines_turns_back(&mut session, &mut term)
+        && last_page_turns_back(&mut last, &mut term)
+        && no_page_turns_back(&mut none, &mut term)
 }
 
 #[test]

@@ -5,14 +5,14 @@ use Rattle.teco_exec.specs.Runs.{Runs}
 use Rattle.teco_store.specs.Follows.{LeadsBack}
 use Rattle.teco_store.specs.State.{State, Full, state_of}
 use Rattle.teco_store.specs.Turn.{Note as Change}
-use Rattle.teco_session.specs.History.{History, present, noted}
+use Rattle.teco_session.specs.History.{History, NotedString, present, noted}
 use Rattle.teco_session.specs.Kept.{KeptSession, KeptString, HasRun, newest, history_of, noted_as}
 use Rattle.teco_session.specs.Entries.{kept_string, strings_of, depth_of, kept_session}
 use Rattle.teco_session.specs.declared.entry.Entry.{Entry}
 use Rattle.teco_session.proofs.Histories.{Shows-nil}
 use Rattle.teco_session.proofs.Records.{kept_run}
 use Rattle.teco_session.proofs.Turning.{present_is}
-use Rattle.teco_session.proofs.Sessions.{Ran, session_noted, session_with}
+use Rattle.teco_session.proofs.Sessions.{Ran, Went, session_noted, session_went, session_with}
 use Rattle.teco_session.proofs.session.Session.run_by.Given as given
 use Rattle.teco_session.proofs.session.Session.run_by.Goals as goal
 
@@ -110,3 +110,25 @@ returns-clause-exit g c = λ going over.
 pub returns-clause-tells : goal.returns-clause-tells
 returns-clause-tells g c =
     subst (λ (s : State). g.R.Runner.tells c.record_run-changes.new.runner s c.args.text.now c.record_run-changes.result.1) (state_now g c) c.record_run-changes.ensures.tells
+
+-- With a depth of 0 nothing is noted.
+went_now : (g : given.Over) (c : goal.After-run_unnoted-outcome g) → Went (kept_session c.self.inside) (session_with c.run_unnoted-outcome.new.editor (strings_of c.self.inside.entries) c.self.inside.cursor (depth_of c.self.inside.entries))
+    (record { text = c.args.text.now; steps = c.run_unnoted-outcome.result.steps; state = state_of c.run_unnoted-outcome.new.editor })
+went_now g c =
+    let kept = c.if-keeps_none.true in
+    session_went (kept_session c.self.inside) c.run_unnoted-outcome.new.editor c.args.text.now c.run_unnoted-outcome.result.steps (sym c.keeps_none.ensures.depth ∙ kept) (c.keeps_none.ensures.none kept)
+    c.self.invariant c.run_unnoted-outcome.ensures.sound c.run_unnoted-outcome.ensures.again
+
+pub invariant_of-self : goal.invariant_of-self
+invariant_of-self g c = (went_now g c).holds
+
+pub returns-then-keeps_none-clause-step : goal.returns-then-keeps_none-clause-step
+returns-then-keeps_none-clause-step g c =
+    let ran = c.run_unnoted-outcome.ensures.run in
+    let old = history_of c.args.self.now in
+    let new = state_of c.run_unnoted-outcome.new.editor in
+    let here : state_of c.self.inside.editor ≡ present old = sym (present_is (kept_session c.self.inside) c.self.invariant.within) ∙ ap (λ (s : KeptSession). present (history_of s)) c.self.view_is in
+    let going : (present old).is_done ≡ false = ap (λ (s : State). s.is_done) (sym c.editor.ensures.present) ∙ sym c.done.ensures ∙ c.if-done.false in
+    let run = subst (λ (s : State). Runs s c.args.text.now c.args.limit c.run_unnoted-outcome.result ran.0 new) here ran.1 in
+    let note : NotedString = record { text = c.args.text.now; steps = c.run_unnoted-outcome.result.steps; state = new } in
+    (ran.0, (new, going, run, (went_now g c).history ∙ ap (λ (s : KeptSession). noted (history_of s) note) c.self.view_is), ran.2)
