@@ -1,5 +1,5 @@
 -- A run of the program over its line: what it reads, serves and writes, and how it ends.
-use Rattle.std.specs.Prelude.{◌≡◌, ◌≢◌, ◌≤◌, ◌⊎◌, ℕ, List, length, map, codes, Option, Some, Bool, IsTrue, true, false}
+use Rattle.std.specs.Prelude.{◌≡◌, ◌≢◌, ◌≤◌, ◌⊎◌, ℕ, List, length, map, codes, Option, Some, unwrap_or, Bool, IsTrue, true, false}
 use Rattle.std.specs.Prelude.{Result, Ok, Err}
 use Rattle.std.specs.String.{string_bytes}
 use Rattle.std.specs.declared.string.String.{String}
@@ -16,7 +16,7 @@ use Rattle.std.specs.IoError.{error_kind}
 use Rattle.std.specs.declared.io.Error.{Error}
 use Rattle.std.specs.declared.io.ErrorKind.TheVariants.{OutOfMemory}
 use Rattle.teco_core.specs.declared.limits.TheConstants.{FILE_LIMIT}
-use Rattle.teco_session.specs.History.{History, new_history, present}
+use Rattle.teco_session.specs.History.{History, new_paged_history, present}
 use Rattle.teco_files.specs.Disk.{Changes, Files, Opens, Passes, SameBut}
 use Rattle.teco_program.specs.Ending.{fate_without_input, output_of, said, status_of, text_of}
 use Rattle.teco_files.specs.Input.{IsFaultOf}
@@ -88,7 +88,11 @@ pub record FailsToWrite {I : Type 0} (old new : DiskSeen I) (name bytes : List �
   pub given : IsWriteError new.gave error
   pub fate_is : IsFateOf error NoOutput fate
 
--- The commands were served over an input, from its first state, by the line's limit, prompt and depth. This
+-- the history that a run over this input begins with: its pages end after as many lines too as the line says
+abbrev pub history_over : Line → List ℕ → History
+history_over line input = new_paged_history (unwrap_or line.page_lines 0) line.undo input
+
+-- The commands were served over an input, from its first state, by the line's limit, prompt, pages and depth. This
 -- ended so, with this output.
 pub record ServesInput (line : Line) (is_input : List ℕ → Type 0) (commands : CommandsSeen)
     (term : TerminalSeen) (served : Served) (output : List ℕ) : Type 0 where
@@ -96,7 +100,7 @@ pub record ServesInput (line : Line) (is_input : List ℕ → Type 0) (commands 
   pub input_is : is_input input
   pub history : History
   pub serves : Serves line.limit line.prompt commands.gave commands.ended term.showed
-      (new_history line.undo input) history served
+      (history_over line input) history served
   pub output_is : output ≡ (present history).output
 
 -- What a run may have done. How it ends says which of these it did.

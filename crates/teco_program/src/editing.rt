@@ -4,11 +4,10 @@ ghost use Rattle.teco_core.specs.declared.limits.TheConstants.{FILE_LIMIT};
 ghost use Rattle.teco_files.specs.Source.{Gives, HasEnded};
 ghost use Rattle.teco_line.specs.CommandLine.{IsDepth};
 ghost use Rattle.teco_line.specs.StreamNames.{is_standard_input, is_standard_output};
-ghost use Rattle.teco_program.specs.Run.{Edits, EndsBy, FinishesIn, FailsToStream, IsFateOf, IsInput, IsStreamed, KeepsDisk, LacksInput, doings_after, given_input, input_from, named_input, named_output, standard_input, standard_output};
+ghost use Rattle.teco_program.specs.Run.{Edits, EndsBy, FinishesIn, FailsToStream, IsFateOf, IsInput, IsStreamed, KeepsDisk, LacksInput, doings_after, given_input, history_over, input_from, named_input, named_output, standard_input, standard_output};
 ghost use Rattle.teco_program.specs.Seen.{commands_seen, disk_seen, run_seen, source_view};
 ghost use Rattle.teco_program.specs.Serving.{Serves};
 ghost use Rattle.teco_program.specs.Writing.{both};
-ghost use Rattle.teco_session.specs.History.{new_history};
 ghost use Rattle.teco_session.specs.Kept.{history_of};
 ghost use Rattle.teco_step.specs.Terminal.{Shows};
 
@@ -73,15 +72,16 @@ pub fn input_of_stream<S: Source>(alloc: Global, source: &mut S) -> Result<Vec<u
     }
 }
 
-/// A session over the input, which keeps as many strings as the line says.
+/// A session over the input, with pages of as many lines and as many strings kept as the line says.
 fn session_over(line: &Line, input: Vec<u8>) -> Result<Session, NoMemory>
     requires small { vec_len input ≤ FILE_LIMIT }
     requires depth { IfSome line.now.undo IsDepth }
-    ensures { IfOk result (λ session. history_of session ≡ new_history line.now.undo input.items) }
+    ensures { IfOk result (λ session. history_of session ≡ history_over line.now input.items) }
 {
+    let lines = line.page_lines.unwrap_or(0) as usize;
     match line.undo {
-        Some(depth) => Session::with_depth(input, depth as usize),
-        None => Ok(Session::new(input)),
+        Some(depth) => Session::with_pages(input, lines, Some(depth as usize)),
+        None => Session::with_pages(input, lines, None),
     }
 }
 
@@ -100,7 +100,7 @@ fn serve_over<S: Source, T: Terminal, L: Listens>(
         (Gives S.coming S.bound S.failures commands.old commands.new)
         (HasEnded (S.coming commands.new) (S.ended commands.new))
         (Shows (T.screen term.old) (T.screen term.new))
-        (new_history line.now.undo input.items) (history_of ended.0) ended.1) }
+        (history_over line.now input.items) (history_of ended.0) ended.1) }
     ensures err { OnErr result ((commands.new ≡ commands.old) × (term.new ≡ term.old)) }
 {
     let mut session = session_over(line, input)?;

@@ -5,12 +5,12 @@ use crate::served::Served;
 use std::alloc::Global;
 use std::fmt::Write;
 use std::io::ErrorKind;
-use teco_core::{Code, NoMemory, is_filler};
+use teco_core::{Code, NoMemory, TEXT_LIMIT, is_filler};
 use teco_line::Line;
 use teco_session::{Answer, Answered, Session};
 use teco_step::Terminal;
 use teco_store::{Change, ChangeKind, Desk};
-use teco_telling::{show_code, show_stop};
+use teco_telling::{Limits, show_code, show_stop};
 
 /// What is told of an exit before any page was read.
 const COPIED: &str = "EX came before any page was read: the input is copied\n";
@@ -46,11 +46,20 @@ impl Listens for Silent {
     fn left(&mut self, _bytes: &[u8]) {}
 }
 
+/// What is told besides the codes.
+#[derive(Clone, Copy)]
+struct Wanted {
+    /// Whether what was done for each text is told too.
+    counts: bool,
+    /// How large the limits are.
+    limits: Limits,
+}
+
 /// Tells each code that is shown in a line of notes, and where counts are wanted what was done for each text.
 #[derive(Drop)]
 pub struct Explainer<'a, N: Terminal> {
     alloc: Global,
-    counts: bool,
+    wanted: Wanted,
     notes: &'a mut N,
     /// How many texts were done.
     texts: u64,
@@ -62,7 +71,7 @@ pub struct Explainer<'a, N: Terminal> {
 fn lines_of_run(
     alloc: Global,
     n: u64,
-    counts: bool,
+    wanted: Wanted,
     text: &[u8],
     answered: &Answered,
     session: &Session,
@@ -75,10 +84,19 @@ fn lines_of_run(
         };
         write!(lines, "string {n}")?;
         let registers = session.editor().registers();
-        show_stop(&mut lines, place, registers, text, code, None)?;
+        show_stop(
+            &mut lines,
+            place,
+            registers,
+            text,
+            code,
+            Some(wanted.limits),
+        )?;
         lines.push_str("\n")?;
     }
-    if counts && let Answer::Ended(outcome) = answered.answer {
+    if wanted.counts
+        && let Answer::Ended(outcome) = answered.answer
+    {
         let steps = outcome.steps;
         writeln!(lines, "string {n}: steps taken {steps}")?;
     }
@@ -189,10 +207,17 @@ fn is_bare_exit(changes: &[Change]) -> bool {
 
 impl<'a, N: Terminal> Explainer<'a, N> {
     /// No text is done yet.
-    pub fn new(alloc: Global, counts: bool, notes: &'a mut N) -> Explainer<'a, N> {
+    pub fn new(alloc: Global, line: &Line, notes: &'a mut N) -> Explainer<'a, N> {
+        let limits = Limits {
+            steps: line.limit,
+            bytes: TEXT_LIMIT as u64,
+        };
         Explainer {
             alloc,
-            counts,
+            wanted: Wanted {
+                counts: line.prompt,
+                limits,
+            },
             notes,
             texts: 0,
             place: 0,
@@ -228,7 +253,7 @@ impl<'a, N: Terminal> Listens for Explainer<'a, N> {
 
     fn ran(&mut self, text: &[u8], answered: &Answered, session: &Session) {
         self.texts = self.texts.saturating_add(1);
-        self.tell(lines_of_run(self.alloc, self.texts, self.counts, text, answered, session));
+        self.tell(lines_of_run(self.alloc, self.texts, self.wanted, text, answered, session));
         if session.editor().done() && matches!(answered.answer, Answer::Ended(_)) {
             self.tell_of_exit(session);
         }
@@ -237,7 +262,7 @@ impl<'a, N: Terminal> Listens for Explainer<'a, N> {
 
     fn moved(&mut self, code: Option<Code>, session: &Session) {
         self.texts = self.texts.saturating_add(1);
-        self.tell(lines_of_move(self.alloc, self.texts, self.counts, code, session));
+        self.tell(lines_of_move(self.alloc, self.texts, self.wanted.counts, code, session));
         self.place = session.editor().place();
     }
 

@@ -174,7 +174,7 @@ fn edit_noted<S: Source, T: Terminal, N: Terminal, D: Disk>(
     if !line.explain {
         return edit_by_line(alloc, line, number, commands, term, &mut Silent, disk);
     }
-    let mut explainer = Explainer::new(alloc, line.prompt, notes);
+    let mut explainer = Explainer::new(alloc, line, notes);
     let fate = edit_by_line(alloc, line, number, commands, term, &mut explainer, disk);
     explainer.ended(line, line.input.as_str(), fate, disk.why());
     fate

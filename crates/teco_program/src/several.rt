@@ -96,7 +96,7 @@ fn edit_noted<S: Source, T: Terminal, N: Terminal, D: Disk>(
             disk,
         );
     }
-    let mut explainer = Explainer::new(alloc, line.prompt, notes);
+    let mut explainer = Explainer::new(alloc, line, notes);
     let fate = edit_by_copy(
         alloc,
         line,

@@ -1,6 +1,7 @@
 //! Of teco_exec: command strings, run on an editor.
 mod block_forms;
 mod conditionals;
+mod faults;
 mod iterations;
 mod jumps;
 mod laws;

@@ -133,7 +133,7 @@ static UNREADABLE: [Row<'static>; 2] = [
 ];
 
 /// A code that is typed is explained in a line: where its command stands, in which registers, and what it says.
-static EXPLAINED: [Row<'static>; 2] = [
+static EXPLAINED: [Row<'static>; 4] = [
     (
         Run {
             words: "teco --explain -e Y$$CFSx$y$$EX$$ in",
@@ -149,7 +149,7 @@ static EXPLAINED: [Row<'static>; 2] = [
             words: "teco --explain -e @^UA/0J9D/@^UB/MA/MB$$1<2$${{$$help$$?$$ in",
             typed: "?DTB\r\n?UTC\r\n?ILL\r\n?ILL\r\n?ILL\r\n",
             noted: "string 1, step 7, A 1:4, D, A is called at 1:1, B is called at 1:19: DTB, delete past the buffer\n\
-                string 2, step 3, 1:5: UTC, text ends inside a command or block\n\
+                string 2, step 3, 1:5, the text ends inside < at 1:2: UTC, text ends inside a command or block\n\
                 string 3, step 0, 1:1, {{: ILL, no such command\n\
                 string 4, step 1, 1:2, elp: ILL, no such command\n\
                 string 5, step 0, 1:1, ?: ILL, no such command\n",
@@ -158,6 +158,28 @@ static EXPLAINED: [Row<'static>; 2] = [
         },
         &[IN],
         &[IN],
+    ),
+    (
+        Run {
+            words: "teco --explain -e Y0\"GZZZ?~'EX$$Oa$?!a!$$0<1\"E2|3$$EX$$ in",
+            typed: "?ILL\r\n?TAG\r\n?UTC\r\n",
+            noted: "string 1, step 2, 1:3, \"G, fault at 1:8, ?~'EX: ILL, no such command\n\
+                string 2, step 0, 1:1, Oa$, fault ILL at 1:4, ?!a!: TAG, no such tag to go to\n\
+                string 3, step 1, 1:2, <, the text ends inside | at 1:7: UTC, text ends inside a command or block\n",
+            ..PAGE
+        },
+        &[IN],
+        WRITTEN,
+    ),
+    (
+        Run {
+            words: "teco --explain -e Y$$FSabcdefghijklmnopqrstuvwxyzabcdefghijklmnopqrstuvwxyz$y$$EX$$ in",
+            typed: "?SRH\r\n",
+            noted: "string 2, step 0, 1:1, FSabcdefghijklmnopqrstuvwxyzabcdefghijkl... (57 bytes): SRH, search failed\n",
+            ..PAGE
+        },
+        &[IN],
+        WRITTEN,
     ),
 ];
 
