@@ -76,15 +76,15 @@ crates/teco_c/out/libteco_c.a: $(SOURCES)
 
 out/teco: crates/teco/out/teco
 	@mkdir -p out
-	cp crates/teco/out/teco $@
+	$(INSTALL) -m 755 crates/teco/out/teco $@
 
 out/teco-debug: crates/teco_debug/out/teco_debug
 	@mkdir -p out
-	cp crates/teco_debug/out/teco_debug $@
+	$(INSTALL) -m 755 crates/teco_debug/out/teco_debug $@
 
 out/tecol: bin/tecol
 	@mkdir -p out
-	cp bin/tecol $@
+	$(INSTALL) -m 755 bin/tecol $@
 
 # The library asks for memory through a library of the kit, which comes into the same archive, so that nothing else has to be linked.
 out/libteco_c.a: crates/teco_c/out/libteco_c.a
