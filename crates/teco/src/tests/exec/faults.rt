@@ -49,8 +49,7 @@ const FAULTS: &str = "
     J5J => POP at 2
     // In a text that is called.
     @^UA/0<J?>/MA? => ILL at 1 => ILL at 3
-    @^UA/5J/MA? => POP at 1
-";
+    @^UA/5J/MA? => POP at 1";
 
 /// A fault, as a row tells it.
 fn write_fault(out: &mut String, place: &Place) -> Result<(), NoMemory> {
