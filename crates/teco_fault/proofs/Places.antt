@@ -14,7 +14,7 @@ no_front (x ∷ xs) zero h = absurd (omega arith)
 no_front (x ∷ xs) (suc at) h = no_front xs at (omega arith)
 
 -- after fillers there are none
-none_more : (bs : List ℕ) → after_fillers (after_fillers bs) ≡ after_fillers bs
+pub none_more : (bs : List ℕ) → after_fillers (after_fillers bs) ≡ after_fillers bs
 unfolding after_fillers
 none_more [] = refl
 none_more (b ∷ bs) = cases (is_filler b) refl (none_more bs)

@@ -14,9 +14,11 @@ use Rattle.teco_fault.specs.declared.faults.Fault.{Fault}
 use Rattle.teco_fault.specs.declared.faults.Wrong.{Wrong}
 use Rattle.teco_fault.specs.declared.faults.Wrong.TheVariants as wrongs
 use Rattle.teco_fault.specs.Checked.{lands_below}
-use Rattle.teco_fault.specs.Walk.{OpenList, Walker, lands_in, wrong_with, place, fault_at, after_item, in_block, out_of, at_mark, at_instruction, at_end, at_scan, walk_within, walk}
+use Rattle.teco_fault.specs.Walk.{CodeRule, OpenList, Walker, lands_in, wrong_with, place, fault_at, after_item, in_block, out_of, at_mark, at_instruction, at_end, at_scan, walk_within, walk}
 use Rattle.teco_fault.specs.Walked.{BeginThere}
 use Rattle.teco_fault.proofs.Open.{below_kept}
+use Rattle.teco_fault.proofs.Places.{place_is}
+use Rattle.std.proofs.lemmas.Bool.{eqb-true, false_from_ne_true}
 
 -- two walkers that agree on these bytes
 record Agree (f g : Walker) (rest : List ℕ) : Type 0 where
@@ -49,34 +51,34 @@ same_mark f g bytes EndTest (Some Else) at o os rest h = same_out f g os rest h
 same_mark f g bytes EndTest (Some Iter) at o os rest h = refl
 same_mark f g bytes EndTest None at o os rest h = refl
 
-same_instruction : (f g : Walker) (bytes : List ℕ) (i : Instruction) (at : ℕ) (o : OpenList) (os : List OpenList) (rest : List ℕ) → Agree f g rest → at_instruction f bytes i at o os rest ≡ at_instruction g bytes i at o os rest
-same_instruction f g bytes (token.step i) at o os rest h = same_item f g at (wrong_with bytes (o ∷ os) i) o os rest h
-same_instruction f g bytes (token.mark b) at o os rest h = same_mark f g bytes b o.kind at o os rest h
-same_instruction f g bytes (token.decide t) at o os rest h = same_block f g bytes Then at o os rest h
-same_instruction f g bytes (token.tag name) at o os rest h = h.same o os
-same_instruction f g bytes token.escape at o os rest h = h.same o os
+same_instruction : (code : CodeRule) (f g : Walker) (bytes : List ℕ) (i : Instruction) (at : ℕ) (o : OpenList) (os : List OpenList) (rest : List ℕ) → Agree f g rest → at_instruction code f bytes i at o os rest ≡ at_instruction code g bytes i at o os rest
+same_instruction code f g bytes (token.step i) at o os rest h = same_item f g at (wrong_with code bytes (o ∷ os) i) o os rest h
+same_instruction code f g bytes (token.mark b) at o os rest h = same_mark f g bytes b o.kind at o os rest h
+same_instruction code f g bytes (token.decide t) at o os rest h = same_block f g bytes Then at o os rest h
+same_instruction code f g bytes (token.tag name) at o os rest h = h.same o os
+same_instruction code f g bytes token.escape at o os rest h = h.same o os
 
-same_scan : (f g : Walker) (bytes : List ℕ) (s : Scanned) (at : ℕ) (o : OpenList) (os : List OpenList) → ((t : TokenMeaning) (rest : List ℕ) → s ≡ found t rest → Agree f g rest) → at_scan f bytes s at o os ≡ at_scan g bytes s at o os
-same_scan f g bytes (found t rest) at o os h = same_instruction f g bytes t.instruction at o os rest (h t rest refl)
-same_scan f g bytes ended at o os h = refl
-same_scan f g bytes (fault c) at o os h = refl
+same_scan : (code : CodeRule) (f g : Walker) (bytes : List ℕ) (s : Scanned) (at : ℕ) (o : OpenList) (os : List OpenList) → ((t : TokenMeaning) (rest : List ℕ) → s ≡ found t rest → Agree f g rest) → at_scan code f bytes s at o os ≡ at_scan code g bytes s at o os
+same_scan code f g bytes (found t rest) at o os h = same_instruction code f g bytes t.instruction at o os rest (h t rest refl)
+same_scan code f g bytes ended at o os h = refl
+same_scan code f g bytes (fault c) at o os h = refl
 
-enough : (laws : BlockLaws) (bytes : List ℕ) (n m : ℕ) (bs : List ℕ) (o : OpenList) (os : List OpenList) → length bs < n → length bs < m → walk_within n bytes o os bs ≡ walk_within m bytes o os bs
+enough : (laws : BlockLaws) (code : CodeRule) (bytes : List ℕ) (n m : ℕ) (bs : List ℕ) (o : OpenList) (os : List OpenList) → length bs < n → length bs < m → walk_within n code bytes o os bs ≡ walk_within m code bytes o os bs
 unfolding walk_within
-enough laws bytes zero m bs o os p q = absurd (omega (arith, p))
-enough laws bytes (suc n) zero bs o os p q = absurd (omega (arith, q))
-enough laws bytes (suc n) (suc m) bs o os p q =
-    same_scan (walk_within n bytes) (walk_within m bytes) bytes (scan bs) (place bytes (after_fillers bs)) o os
+enough laws code bytes zero m bs o os p q = absurd (omega (arith, p))
+enough laws code bytes (suc n) zero bs o os p q = absurd (omega (arith, q))
+enough laws code bytes (suc n) (suc m) bs o os p q =
+    same_scan code (walk_within n code bytes) (walk_within m code bytes) bytes (scan bs) (place bytes (after_fillers bs)) o os
     (λ t rest e. let lt : length rest < length bs = laws.token_shortens bs t rest e in
-    record { same = λ a around. enough laws bytes n m rest a around (omega (arith, p, lt)) (omega (arith, q, lt)) })
+    record { same = λ a around. enough laws code bytes n m rest a around (omega (arith, p, lt)) (omega (arith, q, lt)) })
 
-pub unrolls : (laws : BlockLaws) (bytes bs : List ℕ) (o : OpenList) (os : List OpenList)
-    → walk bytes o os bs ≡ at_scan (walk bytes) bytes (scan bs) (place bytes (after_fillers bs)) o os
+pub unrolls : (laws : BlockLaws) (code : CodeRule) (bytes bs : List ℕ) (o : OpenList) (os : List OpenList)
+    → walk code bytes o os bs ≡ at_scan code (walk code bytes) bytes (scan bs) (place bytes (after_fillers bs)) o os
 unfolding walk walk_within
-unrolls laws bytes bs o os =
-    same_scan (walk_within (length bs) bytes) (walk bytes) bytes (scan bs) (place bytes (after_fillers bs)) o os
+unrolls laws code bytes bs o os =
+    same_scan code (walk_within (length bs) code bytes) (walk code bytes) bytes (scan bs) (place bytes (after_fillers bs)) o os
     (λ t rest e. let lt : length rest < length bs = laws.token_shortens bs t rest e in
-    record { same = λ a around. enough laws bytes (length bs) (suc (length rest)) rest a around (omega (arith, lt)) (omega arith) })
+    record { same = λ a around. enough laws code bytes (length bs) (suc (length rest)) rest a around (omega (arith, lt)) (omega arith) })
 
 -- one list more: the one that begins at this place
 pub begins_more : (bytes starts : List ℕ) (d : ℕ) (o : OpenList) (os : List OpenList) → d < length starts → length os ≡ d → BeginThere bytes starts os → BeginThere bytes (set starts d o.start) (o ∷ os)
@@ -87,9 +89,20 @@ begins_more bytes starts d o os lt is h name =
     (sym (ap (λ (n : ℕ). slice_index (set starts d o.start) n) is ∙ get_or-set_same starts d o.start 0 lt))
 
 -- from what was scanned on
-pub scanned_at : (laws : BlockLaws) (bytes bs : List ℕ) (o : OpenList) (os : List OpenList) (s : Scanned) (at : ℕ) → s ≡ scan bs → place bytes (after_fillers bs) ≡ at
-    → walk bytes o os bs ≡ at_scan (walk bytes) bytes s at o os
-scanned_at laws bytes bs o os s at e p =
-    unrolls laws bytes bs o os
-    ∙ ap (λ (x : Scanned). at_scan (walk bytes) bytes x (place bytes (after_fillers bs)) o os) (sym e)
-    ∙ ap (λ (n : ℕ). at_scan (walk bytes) bytes s n o os) p
+pub scanned_at : (laws : BlockLaws) (code : CodeRule) (bytes bs : List ℕ) (o : OpenList) (os : List OpenList) (s : Scanned) (at : ℕ) → s ≡ scan bs → place bytes (after_fillers bs) ≡ at
+    → walk code bytes o os bs ≡ at_scan code (walk code bytes) bytes s at o os
+scanned_at laws code bytes bs o os s at e p =
+    unrolls laws code bytes bs o os
+    ∙ ap (λ (x : Scanned). at_scan code (walk code bytes) bytes x (place bytes (after_fillers bs)) o os) (sym e)
+    ∙ ap (λ (n : ℕ). at_scan code (walk code bytes) bytes s n o os) p
+
+-- a block that is opened, where fewer are open than may be
+pub block_opens : (go : Walker) (bytes : List ℕ) (kind : Kind) (at : ℕ) (o : OpenList) (os : List OpenList) (to : ℕ) → (length os ≡ 64 → ⊥) → to ≤ length bytes
+    → in_block go bytes kind at o os (drop to bytes) ≡ go (record { kind = Some kind; opening = at; start = to }) (o ∷ os) (drop to bytes)
+block_opens go bytes kind at o os to few inside =
+    ap (λ (b : Bool). choose b (fault_at at wrongs.TooDeep) (go (record { kind = Some kind; opening = at; start = place bytes (drop to bytes) }) (o ∷ os) (drop to bytes)))
+    (false_from_ne_true (eqb (length os) 64) (λ e. few (eqb-true (length os) 64 e)))
+    ∙ ap (λ (p : ℕ). go (record { kind = Some kind; opening = at; start = p }) (o ∷ os) (drop to bytes)) (place_is bytes (drop to bytes) to inside refl)
+
+pub one_more : (o : OpenList) (os : List OpenList) (d : ℕ) → length os ≡ d → length (o ∷ os) ≡ d + 1
+one_more o os d e = omega (arith, e)

@@ -11,6 +11,7 @@ use Rattle.teco_scan.specs.declared.blocks.Kind.TheVariants.{Iter, Then, Else}
 use Rattle.teco_scan.specs.Scan.{Item, Instruction, Scanned, found, ended, fault, scan, after_fillers}
 use Rattle.teco_scan.specs.Scan as token
 use Rattle.teco_scan.specs.Lists.{tag_at}
+use Rattle.teco_fault.specs.Checked.{held, may_hold}
 use Rattle.teco_fault.specs.declared.faults.Fault.{Fault}
 use Rattle.teco_fault.specs.declared.faults.Wrong.{Wrong}
 use Rattle.teco_fault.specs.declared.faults.Wrong.TheVariants as wrongs
@@ -26,11 +27,20 @@ unfoldable pub lands_in : List ℕ → List OpenList → List ℕ → Bool
 lands_in bytes [] name = false
 lands_in bytes (o ∷ os) name = is_some (tag_at name (length os) (drop o.start bytes)) || lands_in bytes os name
 
--- What is wrong with an item: a jump lands nowhere, or a register is called.
-abbrev pub wrong_with : List ℕ → List OpenList → Item → Option Wrong
-wrong_with bytes lists (token.text texts.Go name) = if lands_in bytes lists name then None else Some wrongs.NoTag
-wrong_with bytes lists (token.register registers.Macro q) = Some wrongs.Calls
-wrong_with bytes lists i = None
+-- which registers hold code, and which texts may be put there
+pub record CodeRule : Type 0 where
+  pub holds : ℕ → Bool
+  pub may : List ℕ → Bool
+
+-- What is wrong with an item: a jump lands nowhere; a register is called that holds no code; what is in the buffer or was pushed is
+-- put where code is; or so is a text that has a fault.
+abbrev pub wrong_with : CodeRule → List ℕ → List OpenList → Item → Option Wrong
+wrong_with code bytes lists (token.text texts.Go name) = if lands_in bytes lists name then None else Some wrongs.NoTag
+wrong_with code bytes lists (token.register registers.Macro q) = if code.holds q then None else Some wrongs.Calls
+wrong_with code bytes lists (token.register registers.Extract q) = if code.holds q then Some wrongs.Loads else None
+wrong_with code bytes lists (token.register registers.Pop q) = if code.holds q then Some wrongs.Loads else None
+wrong_with code bytes lists (token.set_text q t) = if code.holds q then (if code.may t then None else Some wrongs.InText) else None
+wrong_with code bytes lists i = None
 
 -- the place at which the rest of the bytes begins
 abbrev pub place : List ℕ → List ℕ → ℕ
@@ -69,12 +79,12 @@ at_mark go bytes EndTest (Some Then) at o os rest = out_of go os rest
 at_mark go bytes EndTest (Some Else) at o os rest = out_of go os rest
 at_mark go bytes EndTest kind at o os rest = fault_at at (wrongs.Stray Ill)
 
-abbrev pub at_instruction : Walker → List ℕ → Instruction → ℕ → Walker
-at_instruction go bytes (token.step i) at o os rest = after_item go at (wrong_with bytes (o ∷ os) i) o os rest
-at_instruction go bytes (token.mark b) at o os rest = at_mark go bytes b o.kind at o os rest
-at_instruction go bytes (token.decide t) at o os rest = in_block go bytes Then at o os rest
-at_instruction go bytes (token.tag name) at o os rest = go o os rest
-at_instruction go bytes token.escape at o os rest = go o os rest
+abbrev pub at_instruction : CodeRule → Walker → List ℕ → Instruction → ℕ → Walker
+at_instruction code go bytes (token.step i) at o os rest = after_item go at (wrong_with code bytes (o ∷ os) i) o os rest
+at_instruction code go bytes (token.mark b) at o os rest = at_mark go bytes b o.kind at o os rest
+at_instruction code go bytes (token.decide t) at o os rest = in_block go bytes Then at o os rest
+at_instruction code go bytes (token.tag name) at o os rest = go o os rest
+at_instruction code go bytes token.escape at o os rest = go o os rest
 
 -- At the end of the text no block may be open; the innermost that is has no end.
 abbrev pub at_end : Option Kind → ℕ → Option Fault
@@ -82,23 +92,30 @@ at_end None opening = None
 at_end (Some kind) opening = fault_at opening wrongs.Unended
 
 -- from what was scanned on, which begins at this place
-abbrev pub at_scan : Walker → List ℕ → Scanned → ℕ → OpenList → List OpenList → Option Fault
-at_scan go bytes (found t rest) at o os = at_instruction go bytes t.instruction at o os rest
-at_scan go bytes ended at o os = at_end o.kind o.opening
-at_scan go bytes (fault c) at o os = fault_at at (wrongs.Unreadable c)
+abbrev pub at_scan : CodeRule → Walker → List ℕ → Scanned → ℕ → OpenList → List OpenList → Option Fault
+at_scan code go bytes (found t rest) at o os = at_instruction code go bytes t.instruction at o os rest
+at_scan code go bytes ended at o os = at_end o.kind o.opening
+at_scan code go bytes (fault c) at o os = fault_at at (wrongs.Unreadable c)
 
 -- within so many tokens
-unfoldable pub walk_within : ℕ → List ℕ → Walker
-walk_within zero bytes o os bs = None
-walk_within (suc n) bytes o os bs = at_scan (walk_within n bytes) bytes (scan bs) (place bytes (after_fillers bs)) o os
+unfoldable pub walk_within : ℕ → CodeRule → List ℕ → Walker
+walk_within zero code bytes o os bs = None
+walk_within (suc n) code bytes o os bs = at_scan code (walk_within n code bytes) bytes (scan bs) (place bytes (after_fillers bs)) o os
 
 -- Each token has a byte, so this is every token.
-unfoldable pub walk : List ℕ → Walker
-walk bytes o os bs = walk_within (suc (length bs)) bytes o os bs
+unfoldable pub walk : CodeRule → List ℕ → Walker
+walk code bytes o os bs = walk_within (suc (length bs)) code bytes o os bs
 
 abbrev pub own_list : OpenList
 own_list = record { kind = None; opening = 0; start = 0 }
 
--- the first fault of a text, if it has one
-abbrev pub first_of : List ℕ → Option Fault
-first_of bytes = walk bytes own_list [] bytes
+-- the code registers, where texts are looked into so many deep
+abbrev pub rule : ℕ → List Bool → CodeRule
+rule n code = record { holds = held code; may = may_hold n code }
+
+-- The first fault of a text, if it has one. No text is deeper in another than that has bytes.
+abbrev pub first_within : ℕ → List Bool → List ℕ → Option Fault
+first_within n code bytes = walk (rule n code) bytes own_list [] bytes
+
+abbrev pub first_of : List Bool → List ℕ → Option Fault
+first_of code bytes = first_within (length bytes) code bytes
