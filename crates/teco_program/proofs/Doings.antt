@@ -11,7 +11,7 @@ use Rattle.teco_step.specs.Terminal.{Screen}
 use Rattle.teco_program.specs.Writing.{IsPut}
 use Rattle.teco_program.specs.Ending.{fate_without_input, output_of}
 use Rattle.teco_program.specs.Seen.{CommandsSeen, DiskSeen, InputSeen, OutputSeen, RunSeen, SourceView, TerminalSeen, run_seen, terminal_seen}
-use Rattle.teco_program.specs.Run.{Doings, Edits, EndsBy, EndsIn, EndsOnTerminal, FinishesIn, FailsToOpen, FailsToRead, FailsToStream, FailsToWrite, IsFateOf, IsInput, IsStreamed, KeepsDisk, LacksInput, ServesInput, WritesOutput, doings, doings_after, given_input, named_input, named_output, standard_input, standard_output}
+use Rattle.teco_program.specs.Run.{Doings, Edits, EndsBy, EndsIn, EndsOnTerminal, FinishesIn, FailsToOpen, FailsToRead, FailsToStream, FailsToWrite, IsFateOf, IsInput, IsStreamed, KeepsDisk, LacksInput, ServesInput, WritesOutput, doings, doings_after, given_input, input_from, named_input, named_output, standard_input, standard_output}
 use Rattle.teco_program.specs.declared.fate.Fate.{Fate}
 use Rattle.teco_program.specs.declared.fate.Fate.TheVariants.{NoCommands, NoInput, LargeInput, NoMemory, NoOutput, Changed, Unchanged, Ended}
 use Rattle.teco_program.specs.declared.served.Served.{Served}
@@ -89,14 +89,14 @@ module _ {I : Type 0} {old mid : DiskSeen I} (kept : KeepsDisk old mid) where
   pub keeps_after : {new : DiskSeen I} → KeepsDisk mid new → KeepsDisk old new
   keeps_after k = record { files = k.files ∙ kept.files; streams = k.streams ∙ kept.streams; moments = λ files left. kept.moments files (k.moments files left) }
 
-  writes_after : {new : DiskSeen I} {name output : List ℕ} → WritesOutput mid new name output → WritesOutput old new name output
+  pub writes_after : {new : DiskSeen I} {name output : List ℕ} → WritesOutput mid new name output → WritesOutput old new name output
   writes_after {new} {name} {output} w = record {
     files = λ before told. subst (λ (streams : Files). Changes mid.files new.files (IsPut name output (streams name) (new.streams name))) kept.streams w.files before (kept.files ∙ told);
     streams = λ other apart. w.streams other apart ∙ ap (λ (streams : Files). streams other) kept.streams;
     moments = λ before told files left. elim (w.moments before (kept.files ∙ told) files left) [ inl was ↦ inl (kept.moments files was) | inr now ↦ inr now ];
   }
 
-  fails_after : {new : DiskSeen I} {name output : List ℕ} {fate : Fate} → FailsToWrite mid new name output fate → FailsToWrite old new name output fate
+  pub fails_after : {new : DiskSeen I} {name output : List ℕ} {fate : Fate} → FailsToWrite mid new name output fate → FailsToWrite old new name output fate
   fails_after f = record {
     files = λ before told. f.files before (kept.files ∙ told);
     streams = λ other apart. f.streams other apart ∙ ap (λ (streams : Files). streams other) kept.streams;
@@ -314,3 +314,73 @@ pub finishes_on_terminal : {I T : Type 0} (output name : List ℕ) (in_place : B
     → FinishesIn (is_standard_output name) served.Exit output in_place name disk disk screen old new fate
 finishes_on_terminal output name in_place disk screen old new fate here e =
     subst (λ b. FinishesIn b served.Exit output in_place name disk disk screen old new fate) (sym here) (e, kept_same)
+
+-- The commands were opened on the disk before: a run from there on is one from before.
+module _ {I : Type 0} (old mid new : DiskSeen I) (kept : KeepsDisk old mid) (stream : InputSeen) (name : List ℕ) where
+  lacks_from : (b : Bool) (fate : Fate) → (input_from b stream (named_input mid new name)).lacks fate → (input_from b stream (named_input old new name)).lacks fate
+  lacks_from true fate l = l
+  lacks_from false fate (inl opens) = inl opens
+  lacks_from false fate (inr reads) = inr (record {
+    first = reads.first;
+    last = reads.last;
+    fault = reads.fault;
+    opened = λ before told. reads.opened before (kept.files ∙ told);
+    fault_is = reads.fault_is;
+    fate_is = reads.fate_is;
+  })
+
+  is_input_from : (b : Bool) (bytes : List ℕ) → (input_from b stream (named_input mid new name)).is_input bytes → (input_from b stream (named_input old new name)).is_input bytes
+  is_input_from true bytes i = i
+  is_input_from false bytes i = record { small = i.small; whole = λ before told. i.whole before (kept.files ∙ told) }
+
+  serves_from : (b : Bool) (line : Line) (commands : CommandsSeen) (term : TerminalSeen) (end : Served) (output : List ℕ)
+      → ServesInput line (input_from b stream (named_input mid new name)).is_input commands term end output → ServesInput line (input_from b stream (named_input old new name)).is_input commands term end output
+  serves_from b line commands term end output s = record {
+    input = s.input;
+    input_is = is_input_from b s.input s.input_is;
+    history = s.history;
+    serves = s.serves;
+    output_is = s.output_is;
+  }
+
+  in_file_from : (b : Bool) (line : Line) (to : List ℕ) (commands : CommandsSeen) (term : TerminalSeen)
+      → Leads (doings line (input_from b stream (named_input mid new name)) (named_output mid new to) commands term) (doings line (input_from b stream (named_input old new name)) (named_output old new to) commands term)
+  in_file_from b line to commands term = record {
+    lacks = lacks_from b;
+    idle = λ i. i;
+    keeps = keeps_after kept;
+    serves = serves_from b line commands term;
+    writes = λ output w. writes_after kept w;
+    fails = λ output fate f. fails_after kept f;
+    same = λ output h. (h.0, λ before told. h.1 before (kept.files ∙ told));
+    changed = λ h. h;
+  }
+
+  on_terminal_from : (b : Bool) (line : Line) (to : OutputSeen) (commands : CommandsSeen) (term : TerminalSeen)
+      → Leads (doings line (input_from b stream (named_input mid new name)) to commands term) (doings line (input_from b stream (named_input old new name)) to commands term)
+  on_terminal_from b line to commands term = record {
+    lacks = lacks_from b;
+    idle = λ i. i;
+    keeps = λ k. k;
+    serves = serves_from b line commands term;
+    writes = λ output w. w;
+    fails = λ output fate f. f;
+    same = λ output h. h;
+    changed = λ h. h;
+  }
+
+  ends_from : {T : Type 0} (place b : Bool) (line : Line) (to : List ℕ) (commands : CommandsSeen) (screen : T → Screen) (before after : T) (fate : Fate)
+      → EndsIn place line to (run_seen (input_from b stream (named_input mid new name)) commands mid new screen before after) fate
+      → EndsIn place line to (run_seen (input_from b stream (named_input old new name)) commands old new screen before after) fate
+  ends_from true b line to commands screen before after fate e = record {
+    between = e.between;
+    ends = ends_so (on_terminal_from b line (standard_output screen e.between after) commands (terminal_seen screen before e.between)) fate e.ends;
+    files = keeps_after kept e.files;
+  }
+  ends_from false b line to commands screen before after fate e = ends_so (in_file_from b line to commands (terminal_seen screen before after)) fate e
+
+  pub edits_from : {T : Type 0} (b : Bool) (line : Line) (commands : CommandsSeen) (screen : T → Screen) (before after : T) (fate : Fate)
+      → Edits line name (run_seen (input_from b stream (named_input mid new name)) commands mid new screen before after) fate
+      → Edits line name (run_seen (input_from b stream (named_input old new name)) commands old new screen before after) fate
+  edits_from b line commands screen before after fate e =
+      record { ends = ends_from (is_standard_output (output_of line name)) b line (output_of line name) commands screen before after fate e.ends }

@@ -189,20 +189,12 @@ fn line_of_end(
     Ok(told)
 }
 
-/// Whether a change is for the buffer's text or for pages.
-fn is_of_pages(change: &Change) -> bool {
-    matches!(change.kind(), ChangeKind::Splice { .. } | ChangeKind::Pages)
-}
-
-/// Whether a change put bytes into the buffer.
-fn brings_bytes(change: &Change) -> bool {
-    matches!(change.kind(), ChangeKind::Splice { came, .. } if came > 0)
-}
-
-/// Whether a string that exited has brought no byte into the buffer: its exit alone changed text, input or output.
+/// Whether a string that exited has read no page: its exit alone moved the place in the input.
 fn is_bare_exit(changes: &[Change]) -> bool {
-    !changes.iter().any(brings_bytes)
-        && changes.iter().filter(|change| is_of_pages(change)).count() <= 1
+    let pages = changes
+        .iter()
+        .filter(|change| matches!(change.kind(), ChangeKind::Pages));
+    pages.count() <= 1
 }
 
 impl<'a, N: Terminal> Explainer<'a, N> {

@@ -288,9 +288,10 @@ pub fn program<S: Source, T: Terminal, E: Terminal, N: Terminal, D: Disk>(
         errors.old errors.new (exit_status result) }
     ensures silent { (line : Line) → IsLineIn words line → line.explain ≡ false → notes.new ≡ notes.old }
 {
-    let status = match line_in(alloc, words) {
-        Ok(line) => run_over(alloc, &line, number, commands, term, errors, notes, disk),
-        Err(fault) => refuse(&fault, term, errors),
-    };
-    ExitCode::from(status)
+    match line_in(alloc, words) {
+        Ok(line) => ExitCode::from(run_over(
+            alloc, &line, number, commands, term, errors, notes, disk,
+        )),
+        Err(fault) => ExitCode::from(refuse(&fault, term, errors)),
+    }
 }

@@ -164,10 +164,11 @@ fn edit_each<S: Source, T: Terminal, E: Terminal, N: Terminal, D: Disk>(
         (host disk.new commands.new term.new, errors.new) result }
     ensures silent { line.now.explain ≡ false → notes.new ≡ notes.old }
 {
-    let first = line.input.as_str();
-    let mut status = edit_told(
-        alloc, line, first, number, bytes, commands, term, errors, notes, disk,
+    let name = line.input.as_str();
+    let first = edit_told(
+        alloc, line, name, number, bytes, commands, term, errors, notes, disk,
     );
+    let mut status = worse(0, first);
     for name in line.more.iter() {
         let name = name.as_str();
         let next = edit_told(

@@ -10,7 +10,9 @@ pub returns-in_default : goal.returns-in_default
 returns-in_default g c = idle_ends _ _ _ _ _ _ _ _ _ _ (λ term place quiet keeps. inl ((refl, quiet), keeps)) refl kept_same
 
 pub returns-in_default-serve_over : goal.returns-in_default-serve_over
-returns-in_default-serve_over g c = ?
+returns-in_default-serve_over g c =
+    let kept = c.in_default-serve_over.ensures.err in
+    idle_ends _ _ _ _ _ _ _ _ _ _ (λ term place quiet keeps. inl ((kept.0, quiet), keeps)) kept.1 kept_same
 
 pub returns : goal.returns
 returns g c =

@@ -1,0 +1,33 @@
+use Rattle.std.proofs.Common.{ℕ, List, ◌∙◌, ap, inr, subst}
+use Rattle.teco_line.specs.StreamNames.{is_standard_input}
+use Rattle.teco_program.specs.Run.{Edits, KeepsDisk, input_from, named_input, standard_input}
+use Rattle.teco_program.specs.Seen.{commands_seen, disk_seen, run_seen, source_view}
+use Rattle.teco_program.proofs.Doings.{edits_from}
+use Rattle.teco_program.proofs.running.edit_by_file.Goals as goal
+
+pub returns : goal.returns
+returns g c =
+    let seen = disk_seen g.D.Disk.files g.D.Disk.streams g.D.Disk.left g.D.Disk.gave g.D.Disk.changed
+    (source_view g.D.Input.Source.coming g.D.Input.Source.bound g.D.Input.Source.failures g.D.Input.Source.ended) in
+    let stream = standard_input (source_view g.S.Source.coming g.S.Source.bound g.S.Source.failures g.S.Source.ended) c.args.commands.now c.edit_input.new.stream in
+    let old = seen c.args.disk.now in
+    let mid = seen c.open.new.self in
+    let new = seen c.edit_input.new.disk in
+    let given = commands_seen (source_view g.D.Input.Source.coming g.D.Input.Source.bound g.D.Input.Source.failures g.D.Input.Source.ended) c.in-Ok.given c.edit_input.new.commands in
+    let kept : KeepsDisk old mid = record {
+      files = c.open.ensures.files;
+      streams = c.open.ensures.streams;
+      moments = c.open.ensures.moments;
+    } in
+    let name = c.as_str-name.result.now in
+    let named = c.as_str-name.ensures.value in
+    record {
+      kept = λ apart. c.edit_input.ensures.still (ap is_standard_input named ∙ apart);
+      edits = inr (
+        c.in-Ok.given,
+        c.edit_input.new.commands,
+        c.in-Ok.ensures.input,
+        subst (λ (n : List ℕ). Edits c.args.line.now n (run_seen (input_from (is_standard_input n) stream (named_input old new n)) given old new g.T.Terminal.screen c.args.term.now c.edit_input.new.term) c.edit_input.result) named
+            (edits_from old mid new kept stream name (is_standard_input name) c.args.line.now given g.T.Terminal.screen c.args.term.now c.edit_input.new.term c.edit_input.result c.edit_input.ensures.edits),
+      );
+    }

@@ -1,0 +1,70 @@
+use Rattle.std.proofs.Common.{◌≡◌, ◌∙◌, ◌++◌, ◌+◌, ◌≤◌, ℕ, List, String, Global, [], ◌∷◌, map, take, length, refl, sym, ap, subst, add-one, take-suc, arith}
+use Rattle.std.proofs.lemmas.List.{take_all, map-append}
+use Rattle.std.specs.String.{string_bytes}
+use Rattle.teco_files.specs.contracts.word_source.WordSourceSource.TheImpl as word
+use Rattle.teco_program.specs.Ending.{worse, worst}
+use Rattle.teco_program.specs.Runs.{Chain, LinkOver, host, host_view}
+use Rattle.teco_program.specs.Seen.{disk_seen, source_view}
+use Rattle.teco_program.proofs.Runs.{chain_more, worst_more}
+use Rattle.teco_program.proofs.several.edit_each.Goals as goal
+
+pub loop-name-init : goal.loop-name-init
+loop-name-init g c =
+    let view = host_view (disk_seen g.D.Disk.files g.D.Disk.streams g.D.Disk.left g.D.Disk.gave g.D.Disk.changed
+    (source_view g.D.Input.Source.coming g.D.Input.Source.bound g.D.Input.Source.failures g.D.Input.Source.ended))
+    (source_view g.S.Source.coming g.S.Source.bound g.S.Source.failures g.S.Source.ended) g.T.Terminal.screen
+    (source_view (word.coming-value).it (word.bound-value).it (word.failures-value).it (word.ended-value).it) in
+    let old = (host c.args.disk.now c.args.commands.now c.args.term.now, c.args.errors.now) in
+    let new = (host c.edit_told-first.new.disk c.edit_told-first.new.commands c.edit_told-first.new.term, c.edit_told-first.new.errors) in
+    let status = c.edit_told-first.result in
+    let linked = subst (λ (name : List ℕ). LinkOver view g.E.Terminal.screen c.args.line.now c.args.bytes.now name old new status) c.as_str-name.ensures.value c.edit_told-first.ensures.link in
+    (status ∷ [], (new, status, [], refl, linked, (refl, refl)), c.worse-status.ensures, c.edit_told-first.ensures.silent)
+
+pub loop-name-preserved : goal.loop-name-preserved
+loop-name-preserved g c =
+    let view = host_view (disk_seen g.D.Disk.files g.D.Disk.streams g.D.Disk.left g.D.Disk.gave g.D.Disk.changed
+    (source_view g.D.Input.Source.coming g.D.Input.Source.bound g.D.Input.Source.failures g.D.Input.Source.ended))
+    (source_view g.S.Source.coming g.S.Source.bound g.S.Source.failures g.S.Source.ended) g.T.Terminal.screen
+    (source_view (word.coming-value).it (word.bound-value).it (word.failures-value).it (word.ended-value).it) in
+    let link = LinkOver view g.E.Terminal.screen c.args.line.now c.args.bytes.now in
+    let h = c.loop-name.invariant in
+    let i = c.loop-name.name-index in
+    let items = c.deref-name-items.result.now in
+    let more = c.args.line.now.more.items in
+    let item = c.name-item.result in
+    let old = (host c.args.disk.now c.args.commands.now c.args.term.now, c.args.errors.now) in
+    let mid = (host c.loop-name.disk c.loop-name.commands c.loop-name.term, c.loop-name.errors) in
+    let new = (host c.edit_told-next.new.disk c.edit_told-next.new.commands c.edit_told-next.new.term, c.edit_told-next.new.errors) in
+    let next = c.edit_told-next.result in
+    let input = string_bytes c.args.line.now.input in
+    let name = string_bytes item in
+    let taken : take (i + 1) items ≡ take i items ++ item ∷ [] =
+    ap (λ k. take k items) (add-one i) ∙ (take-suc items i item c.loop-name-test.true ∙ ap (λ x. take i items ++ x ∷ []) (sym c.name-item.is)) in
+    let front : take (i + 1) more ≡ take i more ++ item ∷ [] = subst (λ xs. take (i + 1) xs ≡ take i xs ++ item ∷ []) c.deref-name-items.ensures.value taken in
+    let names : map string_bytes (take i more) ++ name ∷ [] ≡ map string_bytes (take (i + 1) more) =
+    sym (map-append string_bytes (take i more) (item ∷ [])) ∙ ap (map string_bytes) (sym front) in
+    let linked = subst (λ (n : List ℕ). link n mid new next) c.as_str-name-in-loop-name.ensures.value c.edit_told-next.ensures.link in
+    let all = chain_more link (input ∷ map string_bytes (take i more)) name old mid new h.0 next h.1 linked in (
+      h.0 ++ next ∷ [],
+      subst (λ (ns : List (List ℕ)). Chain link (input ∷ ns) old new (h.0 ++ next ∷ [])) names all,
+      c.worse-status-in-loop-name.ensures ∙ (ap (λ s. worse s next) h.2 ∙ sym (worst_more 0 h.0 next)),
+      λ off. c.edit_told-next.ensures.silent off ∙ h.3 off,
+    )
+
+pub returns-clause-runs : goal.returns-clause-runs
+returns-clause-runs g c =
+    let view = host_view (disk_seen g.D.Disk.files g.D.Disk.streams g.D.Disk.left g.D.Disk.gave g.D.Disk.changed
+    (source_view g.D.Input.Source.coming g.D.Input.Source.bound g.D.Input.Source.failures g.D.Input.Source.ended))
+    (source_view g.S.Source.coming g.S.Source.bound g.S.Source.failures g.S.Source.ended) g.T.Terminal.screen
+    (source_view (word.coming-value).it (word.bound-value).it (word.failures-value).it (word.ended-value).it) in
+    let link = LinkOver view g.E.Terminal.screen c.args.line.now c.args.bytes.now in
+    let h = c.loop-name.invariant in
+    let old = (host c.args.disk.now c.args.commands.now c.args.term.now, c.args.errors.now) in
+    let new = (host c.loop-name.disk c.loop-name.commands c.loop-name.term, c.loop-name.errors) in
+    let more = c.args.line.now.more.items in
+    let past : length more ≤ c.loop-name.name-index = subst (λ xs. length xs ≤ c.loop-name.name-index) c.deref-name-items.ensures.value c.loop-name-test.false in
+    record {
+      statuses = h.0;
+      runs = subst (λ (xs : List (String Global)). Chain link (string_bytes c.args.line.now.input ∷ map string_bytes xs) old new h.0) (take_all c.loop-name.name-index more past) h.1;
+      status_is = h.2;
+    }
