@@ -121,12 +121,12 @@ both_given : map commands_of ((codes "teco" ∷ codes "-e" ∷ codes "b" ∷ cod
 unfolding clap_on_literals
 both_given = refl
 
--- teco -p 0K a runs Y<0K$-1-^N;P>EX$$, where each $ is ESC; those at the end of the word are one
+-- teco -p 0K a runs Y<0K$ $-1-^N;P>EX$$, where each $ is ESC; those at the end of the word are one
 pages_are : map on_pages (codes "0K" ∷ codes "FSa$b$" ∷ codes "FSa$b$$" ∷ codes "$" ∷ [])
-    ≡ (codes "Y<0K" ++ (27 ∷ codes "-1-^N;P>EX") ++ (27 ∷ 27 ∷ []))
-    ∷ (codes "Y<FSa" ++ (27 ∷ codes "b") ++ (27 ∷ codes "-1-^N;P>EX") ++ (27 ∷ 27 ∷ []))
-    ∷ (codes "Y<FSa" ++ (27 ∷ codes "b") ++ (27 ∷ codes "-1-^N;P>EX") ++ (27 ∷ 27 ∷ []))
-    ∷ (codes "Y<" ++ (27 ∷ codes "-1-^N;P>EX") ++ (27 ∷ 27 ∷ []))
+    ≡ (codes "Y<0K" ++ (27 ∷ 32 ∷ 27 ∷ codes "-1-^N;P>EX") ++ (27 ∷ 27 ∷ []))
+    ∷ (codes "Y<FSa" ++ (27 ∷ codes "b") ++ (27 ∷ 32 ∷ 27 ∷ codes "-1-^N;P>EX") ++ (27 ∷ 27 ∷ []))
+    ∷ (codes "Y<FSa" ++ (27 ∷ codes "b") ++ (27 ∷ 32 ∷ 27 ∷ codes "-1-^N;P>EX") ++ (27 ∷ 27 ∷ []))
+    ∷ (codes "Y<" ++ (27 ∷ 32 ∷ 27 ∷ codes "-1-^N;P>EX") ++ (27 ∷ 27 ∷ []))
     ∷ []
 pages_are = refl
 

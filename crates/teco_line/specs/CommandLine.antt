@@ -69,9 +69,10 @@ without_last_escapes bytes = take (length bytes - suffix_len is_escape bytes) by
 -- The commands that run the strings of a word on every page, and then exit: a page is read and the strings are
 -- run; -1-^N ends the loop where no page follows, and else P writes the page and reads the next. ^N is typed as
 -- a caret and a letter. The word may end with ESCs, as it would for --execute: one ESC takes their place, since
--- two would end the command string inside the loop.
+-- two would end the command string inside the loop. After it come a space and an ESC, which drops what the last
+-- command gave.
 abbrev pub on_pages : Text → List ℕ
-on_pages word = codes "Y<" ++ without_last_escapes (map typed word) ++ (ESC ∷ codes "-1-^N;P>EX" ++ (ESC ∷ ESC ∷ []))
+on_pages word = codes "Y<" ++ without_last_escapes (map typed word) ++ (ESC ∷ 32 ∷ ESC ∷ codes "-1-^N;P>EX" ++ (ESC ∷ ESC ∷ []))
 
 -- the text behind a reference, where there is one
 abbrev pub text_behind : Option (Bor Text) → Option Text

@@ -138,7 +138,7 @@ static EXPLAINED: [Row<'static>; 4] = [
         Run {
             words: "teco --explain -e Y$$CFSx$y$$EX$$ in",
             typed: "?SRH\r\n",
-            noted: "string 2, step 1, 1:2, FSx$y$: SRH, search failed\n",
+            noted: "string 2, step 1, 1:2, FSx$y$: SRH, search failed\nin.out is written\n",
             ..PAGE
         },
         &[IN],
@@ -152,7 +152,8 @@ static EXPLAINED: [Row<'static>; 4] = [
                 string 2, step 3, 1:5, the text ends inside < at 1:2: UTC, text ends inside a command or block\n\
                 string 3, step 0, 1:1, {{: ILL, no such command\n\
                 string 4, step 1, 1:2, elp: ILL, no such command\n\
-                string 5, step 0, 1:1, ?: ILL, no such command\n",
+                string 5, step 0, 1:1, ?: ILL, no such command\n\
+                the commands ended without EX: in.out is not written\n",
             status: 2,
             ..PAGE
         },
@@ -165,7 +166,8 @@ static EXPLAINED: [Row<'static>; 4] = [
             typed: "?ILL\r\n?TAG\r\n?UTC\r\n",
             noted: "string 1, step 2, 1:3, \"G, fault at 1:8, ?~'EX: ILL, no such command\n\
                 string 2, step 0, 1:1, Oa$, fault ILL at 1:4, ?!a!: TAG, no such tag to go to\n\
-                string 3, step 1, 1:2, <, the text ends inside | at 1:7: UTC, text ends inside a command or block\n",
+                string 3, step 1, 1:2, <, the text ends inside | at 1:7: UTC, text ends inside a command or block\n\
+                in.out is written\n",
             ..PAGE
         },
         &[IN],
@@ -175,11 +177,83 @@ static EXPLAINED: [Row<'static>; 4] = [
         Run {
             words: "teco --explain -e Y$$FSabcdefghijklmnopqrstuvwxyzabcdefghijklmnopqrstuvwxyz$y$$EX$$ in",
             typed: "?SRH\r\n",
-            noted: "string 2, step 0, 1:1, FSabcdefghijklmnopqrstuvwxyzabcdefghijkl... (57 bytes): SRH, search failed\n",
+            noted: "string 2, step 0, 1:1, FSabcdefghijklmnopqrstuvwxyzabcdefghijkl... (57 bytes): SRH, search failed\nin.out is written\n",
             ..PAGE
         },
         &[IN],
         WRITTEN,
+    ),
+];
+
+/// How the commands ended is told too: what was not run of them, an exit that nothing came before, why a file can't be had, and which
+/// limit a string came to.
+static ENDED: [Row<'static>; 6] = [
+    (
+        Run {
+            words: "teco --explain -e Y$$HK$$EX in",
+            typed: "",
+            noted: "3 bytes after the last ESC ESC were not run\nthe commands ended without EX: in.out is not written\n",
+            status: 2,
+            ..PAGE
+        },
+        &[IN],
+        &[IN],
+    ),
+    (
+        Run {
+            words: "teco --explain -e EX$$ in",
+            typed: "",
+            noted: "EX came before any page was read: the input is copied\nin.out is written\n",
+            ..PAGE
+        },
+        &[IN],
+        WRITTEN,
+    ),
+    (
+        Run {
+            words: "teco --explain -e YEX$$ in",
+            typed: "",
+            noted: "in.out is written\n",
+            ..PAGE
+        },
+        &[IN],
+        WRITTEN,
+    ),
+    (
+        Run {
+            words: "teco --explain -e EX$$ none",
+            typed: "",
+            told: "teco: cannot read none\n",
+            noted: "none: there is no such file or folder\n",
+            status: 1,
+            ..PAGE
+        },
+        &[IN],
+        &[IN],
+    ),
+    (
+        Run {
+            words: "teco --explain --limit 2 -e YJJ$$ in",
+            typed: "?LIM\r\n",
+            noted: "string 1, step 2, 1:3, J: LIM, 2 steps are done: --limit N allows more\n\
+                the commands ended without EX: in.out is not written\n",
+            status: 2,
+            ..PAGE
+        },
+        &[IN],
+        &[IN],
+    ),
+    (
+        Run {
+            words: "teco --explain -e <Y>$$ in",
+            typed: "?YCA\r\n",
+            noted: "string 1, step 3, 1:2, Y: YCA, page would replace a nonempty buffer\n\
+                the commands ended without EX: in.out is not written\n",
+            status: 2,
+            ..PAGE
+        },
+        &[IN],
+        &[IN],
     ),
 ];
 
@@ -207,7 +281,7 @@ static PROMPTED: [Row<'static>; 2] = [
             typed: "*?NTU\r\n*",
             noted: "string 1: NTU, nothing to undo\n\
                 string 1: strings to undo 0, to redo 0\n\
-                nothing is written\n",
+                the commands ended without EX: in.out is not written\n",
             status: 2,
             ..PAGE
         },
@@ -226,7 +300,7 @@ static HELP: [Row<'static>; 1] = [(
                 [INPUT]...  More files, each edited by itself, in their order\n\n\
                 Options:\n  \
                 -e, --execute <STRINGS>  The command strings, in which $ is ESC\n  \
-                -p, --pages <STRINGS>    The same on each page, and then an exit: -e 'Y<STRINGS$-1-^N;P>EX$$'\n  \
+                -p, --pages <STRINGS>    The same on each page, and then an exit: -e 'Y<STRINGS$ $-1-^N;P>EX$$'\n  \
                 -f, --file <FILE>        The file that the commands are read from, as they are\n  \
                 -o, --output <FILE>      Where the output goes after an exit, - for standard output; without it INPUT.out, or - if INPUT is -\n  \
                 -i, --in-place           Writes the output over each INPUT\n      \
@@ -344,6 +418,7 @@ fn takes_its_commands_from_the_line(rt: HostRuntime) {
     all_run(&rt, rt.alloc(), &FROM_A_FILE);
     all_run(&rt, rt.alloc(), &UNREADABLE);
     all_run(&rt, rt.alloc(), &EXPLAINED);
+    all_run(&rt, rt.alloc(), &ENDED);
     all_run(&rt, rt.alloc(), &PROMPTED);
     all_run(&rt, rt.alloc(), &HELP);
     all_run(&rt, rt.alloc(), &FROM_PAGES);

@@ -51,7 +51,7 @@ pub(crate) const OPTIONS: [OptionRow; 10] = [
         short: Some('p'),
         takes: Takes::Text,
         value: "STRINGS",
-        help: "The same on each page, and then an exit: -e 'Y<STRINGS$-1-^N;P>EX$$'",
+        help: "The same on each page, and then an exit: -e 'Y<STRINGS$ $-1-^N;P>EX$$'",
     },
     OptionRow {
         name: "file",

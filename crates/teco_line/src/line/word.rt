@@ -30,13 +30,14 @@ fn before_escapes(bytes: &[u8]) -> &[u8]
     &bytes[..end]
 }
 
-/// The bytes of the commands that run the strings of a word on every page, and then exit.
+/// The bytes of the commands that run the strings of a word on every page, and then exit. The first ESC after the strings closes a
+/// text that is still open, and the second one drops what the last command gave.
 pub fn commands_on_pages(alloc: Global, word: &str) -> Result<Vec<u8>, NoMemory>
     ensures { IfOk result (λ commands. commands.items ≡ on_pages word.now) }
 {
     let strings = commands_in(alloc, word)?;
     let mut commands = Vec::from_slice(alloc, b"Y<")?;
     commands.extend_from_slice(before_escapes(strings.as_slice()))?;
-    commands.extend_from_slice(b"\x1b-1-^N;P>EX\x1b\x1b")?;
+    commands.extend_from_slice(b"\x1b \x1b-1-^N;P>EX\x1b\x1b")?;
     Ok(commands)
 }

@@ -3,16 +3,35 @@ use crate::tests::assert_of;
 use std::alloc::Global;
 use teco_core::NoMemory;
 use teco_line::{Commands, Line};
-use teco_program::{Fate, Served, ending};
+use teco_program::{Fate, Served, ending, ending_of};
 
-fn line(alloc: Global, output: Option<&str>) -> Result<Line, NoMemory> {
-    let output = match output {
+/// What is given to a line: its output, the inputs after the first, and whether they are edited in place.
+#[derive(Clone, Copy)]
+struct Given<'a> {
+    output: Option<&'a str>,
+    more: &'a [&'a str],
+    in_place: bool,
+}
+
+fn owned(alloc: Global, names: &[&str]) -> Result<Vec<String>, NoMemory> {
+    let mut owned = Vec::new(alloc);
+    for name in names {
+        owned.push(String::from_str(alloc, name)?)?;
+    }
+    Ok(owned)
+}
+
+fn line(alloc: Global, given: Given) -> Result<Line, NoMemory> {
+    let output = match given.output {
         Some(name) => Some(String::from_str(alloc, name)?),
         None => None,
     };
     Ok(Line {
         input: String::from_str(alloc, "in")?,
+        more: owned(alloc, given.more)?,
         output,
+        in_place: given.in_place,
+        page_lines: None,
         commands: Commands::File(String::from_str(alloc, "strings")?),
         limit: 0,
         prompt: false,
@@ -21,12 +40,33 @@ fn line(alloc: Global, output: Option<&str>) -> Result<Line, NoMemory> {
     })
 }
 
-/// The output that is named, how the program ends, and its status and text.
-type Row<'a> = (Option<&'a str>, Fate, u8, &'a str);
+/// What is given to the line, how the program ends, and its status and text.
+type Row<'a> = (Given<'a>, Fate, u8, &'a str);
+
+/// Nothing but the input.
+const ALONE: Given = Given {
+    output: None,
+    more: &[],
+    in_place: false,
+};
+
+/// Two inputs, of which the first is spoken of.
+const TWO: Given = Given {
+    more: &["two"],
+    ..ALONE
+};
+
+const IN_PLACE: Given = Given {
+    in_place: true,
+    ..ALONE
+};
 
 fn ended(alloc: Global, row: &Row) -> Result<(u8, String), NoMemory> {
     let line = line(alloc, row.0)?;
-    ending(alloc, &line, row.1)
+    if row.0.more.is_empty() {
+        return ending(alloc, &line, row.1);
+    }
+    ending_of(alloc, &line, "in", row.1)
 }
 
 fn ends_so(alloc: Global, row: &Row) -> bool {
@@ -36,28 +76,55 @@ fn ends_so(alloc: Global, row: &Row) -> bool {
     }
 }
 
-static ROWS: [Row<'static>; 11] = [
-    (None, Fate::NoCommands, 1, "teco: cannot read strings\n"),
-    (None, Fate::NoInput, 1, "teco: cannot read in\n"),
-    (None, Fate::LargeInput, 1, "teco: in is too large\n"),
-    (None, Fate::NoMemory, 1, "teco: no memory\n"),
-    (None, Fate::NoOutput, 1, "teco: cannot write in.out\n"),
-    (Some("out"), Fate::NoOutput, 1, "teco: cannot write out\n"),
-    (None, Fate::Ended(Served::Exit), 0, ""),
-    (None, Fate::Ended(Served::EndOfCommands), 2, ""),
+static ROWS: [Row<'static>; 19] = [
+    (ALONE, Fate::NoCommands, 1, "teco: cannot read strings\n"),
+    (ALONE, Fate::NoInput, 1, "teco: cannot read in\n"),
+    (ALONE, Fate::LargeInput, 1, "teco: in is too large\n"),
+    (ALONE, Fate::NoMemory, 1, "teco: no memory\n"),
+    (ALONE, Fate::NoOutput, 1, "teco: cannot write in.out\n"),
     (
-        None,
+        Given {
+            output: Some("out"),
+            ..ALONE
+        },
+        Fate::NoOutput,
+        1,
+        "teco: cannot write out\n",
+    ),
+    (ALONE, Fate::Ended(Served::Exit), 0, ""),
+    (ALONE, Fate::Ended(Served::EndOfCommands), 2, ""),
+    (
+        ALONE,
         Fate::Ended(Served::ReadFault),
         1,
         "teco: cannot read commands\n",
     ),
     (
-        None,
+        ALONE,
         Fate::Ended(Served::ShowFault),
         1,
         "teco: cannot show\n",
     ),
-    (None, Fate::Ended(Served::NoMemory), 1, "teco: no memory\n"),
+    (ALONE, Fate::Ended(Served::NoMemory), 1, "teco: no memory\n"),
+    (IN_PLACE, Fate::NoOutput, 1, "teco: cannot write in\n"),
+    (IN_PLACE, Fate::Changed, 1, "teco: in has changed\n"),
+    (IN_PLACE, Fate::Unchanged, 0, ""),
+    // Of several inputs each line names one.
+    (TWO, Fate::NoInput, 1, "teco: cannot read in\n"),
+    (TWO, Fate::NoOutput, 1, "teco: cannot write in.out\n"),
+    (TWO, Fate::NoMemory, 1, "teco: in: no memory\n"),
+    (
+        TWO,
+        Fate::Ended(Served::ShowFault),
+        1,
+        "teco: in: cannot show\n",
+    ),
+    (
+        TWO,
+        Fate::Ended(Served::NoMemory),
+        1,
+        "teco: in: no memory\n",
+    ),
 ];
 
 // Where memory was refused, a row holds the second time.

@@ -36,10 +36,10 @@ fn gives_on_pages(alloc: Global, word: &str, bytes: &[u8]) -> bool {
 
 /// The ESCs at the end of the word are one: two would end the command string inside the loop.
 static ON_PAGES: [(&str, &[u8]); 4] = [
-    ("0K", b"Y<0K\x1b-1-^N;P>EX\x1b\x1b"),
-    ("FSa$b$", b"Y<FSa\x1bb\x1b-1-^N;P>EX\x1b\x1b"),
-    ("FSa$b$$", b"Y<FSa\x1bb\x1b-1-^N;P>EX\x1b\x1b"),
-    ("", b"Y<\x1b-1-^N;P>EX\x1b\x1b"),
+    ("0K", b"Y<0K\x1b \x1b-1-^N;P>EX\x1b\x1b"),
+    ("FSa$b$", b"Y<FSa\x1bb\x1b \x1b-1-^N;P>EX\x1b\x1b"),
+    ("FSa$b$$", b"Y<FSa\x1bb\x1b \x1b-1-^N;P>EX\x1b\x1b"),
+    ("", b"Y<\x1b \x1b-1-^N;P>EX\x1b\x1b"),
 ];
 
 /// Where memory was refused, a row holds the second time.

@@ -3,7 +3,7 @@ use Rattle.std.proofs.lemmas.List.{take_all, map-append}
 use Rattle.std.specs.String.{string_bytes}
 use Rattle.teco_files.specs.contracts.word_source.WordSourceSource.TheImpl as word
 use Rattle.teco_program.specs.Ending.{worse, worst}
-use Rattle.teco_program.specs.Runs.{Chain, LinkOver, host, host_view}
+use Rattle.teco_program.specs.Runs.{Chain, Host, LinkOver, host, host_view}
 use Rattle.teco_program.specs.Seen.{disk_seen, source_view}
 use Rattle.teco_program.proofs.Runs.{chain_more, worst_more}
 use Rattle.teco_program.proofs.several.edit_each.Goals as goal
@@ -14,8 +14,8 @@ loop-name-init g c =
     (source_view g.D.Input.Source.coming g.D.Input.Source.bound g.D.Input.Source.failures g.D.Input.Source.ended))
     (source_view g.S.Source.coming g.S.Source.bound g.S.Source.failures g.S.Source.ended) g.T.Terminal.screen
     (source_view (word.coming-value).it (word.bound-value).it (word.failures-value).it (word.ended-value).it) in
-    let old = (host c.args.disk.now c.args.commands.now c.args.term.now, c.args.errors.now) in
-    let new = (host c.edit_told-first.new.disk c.edit_told-first.new.commands c.edit_told-first.new.term, c.edit_told-first.new.errors) in
+    let old : Host g.row.D.Denot g.row.S.Denot g.row.T.Denot × g.row.E.Denot = (host c.args.disk.now c.args.commands.now c.args.term.now, c.args.errors.now) in
+    let new : Host g.row.D.Denot g.row.S.Denot g.row.T.Denot × g.row.E.Denot = (host c.edit_told-first.new.disk c.edit_told-first.new.commands c.edit_told-first.new.term, c.edit_told-first.new.errors) in
     let status = c.edit_told-first.result in
     let linked = subst (λ (name : List ℕ). LinkOver view g.E.Terminal.screen c.args.line.now c.args.bytes.now name old new status) c.as_str-name.ensures.value c.edit_told-first.ensures.link in
     (status ∷ [], (new, status, [], refl, linked, (refl, refl)), c.worse-status.ensures, c.edit_told-first.ensures.silent)
@@ -32,9 +32,9 @@ loop-name-preserved g c =
     let items = c.deref-name-items.result.now in
     let more = c.args.line.now.more.items in
     let item = c.name-item.result in
-    let old = (host c.args.disk.now c.args.commands.now c.args.term.now, c.args.errors.now) in
-    let mid = (host c.loop-name.disk c.loop-name.commands c.loop-name.term, c.loop-name.errors) in
-    let new = (host c.edit_told-next.new.disk c.edit_told-next.new.commands c.edit_told-next.new.term, c.edit_told-next.new.errors) in
+    let old : Host g.row.D.Denot g.row.S.Denot g.row.T.Denot × g.row.E.Denot = (host c.args.disk.now c.args.commands.now c.args.term.now, c.args.errors.now) in
+    let mid : Host g.row.D.Denot g.row.S.Denot g.row.T.Denot × g.row.E.Denot = (host c.loop-name.disk c.loop-name.commands c.loop-name.term, c.loop-name.errors) in
+    let new : Host g.row.D.Denot g.row.S.Denot g.row.T.Denot × g.row.E.Denot = (host c.edit_told-next.new.disk c.edit_told-next.new.commands c.edit_told-next.new.term, c.edit_told-next.new.errors) in
     let next = c.edit_told-next.result in
     let input = string_bytes c.args.line.now.input in
     let name = string_bytes item in
@@ -59,8 +59,8 @@ returns-clause-runs g c =
     (source_view (word.coming-value).it (word.bound-value).it (word.failures-value).it (word.ended-value).it) in
     let link = LinkOver view g.E.Terminal.screen c.args.line.now c.args.bytes.now in
     let h = c.loop-name.invariant in
-    let old = (host c.args.disk.now c.args.commands.now c.args.term.now, c.args.errors.now) in
-    let new = (host c.loop-name.disk c.loop-name.commands c.loop-name.term, c.loop-name.errors) in
+    let old : Host g.row.D.Denot g.row.S.Denot g.row.T.Denot × g.row.E.Denot = (host c.args.disk.now c.args.commands.now c.args.term.now, c.args.errors.now) in
+    let new : Host g.row.D.Denot g.row.S.Denot g.row.T.Denot × g.row.E.Denot = (host c.loop-name.disk c.loop-name.commands c.loop-name.term, c.loop-name.errors) in
     let more = c.args.line.now.more.items in
     let past : length more ≤ c.loop-name.name-index = subst (λ xs. length xs ≤ c.loop-name.name-index) c.deref-name-items.ensures.value c.loop-name-test.false in
     record {
