@@ -1,5 +1,6 @@
 //! How a command string is run: alone, or so that its place is told.
-ghost use Rattle.std.specs.Prelude.{◌≡◌, ℕ, List, None, Ok, true, false};
+ghost use Rattle.std.specs.Prelude.{◌≡◌, ℕ, List, length, None, Ok, true, false};
+ghost use Rattle.teco_store.specs.State.{IsSound, state_of};
 ghost use Rattle.teco_exec.specs.Runs.{Runs, is_tty, trail_of};
 ghost use Rattle.teco_exec.specs.StringMeaning.{string_meaning};
 ghost use Rattle.teco_step.specs.Terminal.{Shows};
@@ -8,7 +9,7 @@ use std::alloc::Global;
 use teco_core::NoMemory;
 use teco_exec::{Outcome, Place, run, run_where};
 use teco_step::Terminal;
-use teco_store::Desk;
+use teco_store::{Desk, Editor, editor_laws};
 
 /// What runs a string, and may tell more than how it ended.
 pub(crate) trait Runner {
@@ -79,4 +80,26 @@ impl Runner for Placing {
         self.place = stopped.place;
         stopped.outcome
     }
+}
+
+/// Runs a string on an editor, and notes no change: it can't be undone.
+pub(crate) fn run_unnoted<T: Terminal, R: Runner>(
+    editor: &mut Editor,
+    text: &[u8],
+    limit: u64,
+    term: &mut T,
+    runner: &mut R,
+) -> Outcome
+    ensures run { (typed : List ℕ)
+        × Runs (state_of editor.old) text.now limit result typed (state_of editor.new)
+        × Shows (T.screen term.old) (T.screen term.new) typed (is_tty result) }
+    ensures again { state_of editor.new ≡ (string_meaning (state_of editor.old) text.now result.steps).state }
+    ensures exit { (state_of editor.old).is_done ≡ false → (state_of editor.new).is_done ≡ true
+        → result.code ≡ None }
+    ensures sound { IsSound editor.new.room (length editor.new.stored) editor.new.body }
+    ensures tells { R.tells runner.new (state_of editor.old) text.now result }
+{
+    let outcome = runner.run_on(editor, text, limit, term);
+    editor_laws(editor);
+    outcome
 }

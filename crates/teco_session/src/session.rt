@@ -17,7 +17,7 @@ use crate::changes::Changes;
 use crate::entries::Entries;
 use crate::entry::Entry;
 use crate::request::{Answer, Answered, NothingToRedo, NothingToUndo, Request};
-use crate::runner::{Placing, Plain, Runner};
+use crate::runner::{Placing, Plain, Runner, run_unnoted};
 use crate::text::Text;
 use std::alloc::Global;
 use std::marker::Model;
@@ -25,7 +25,7 @@ use std::mem;
 use teco_core::{DEPTH_LIMIT, FILE_LIMIT, NoMemory};
 use teco_exec::{Outcome, meaning_laws};
 use teco_step::Terminal;
-use teco_store::{Change, Desk, Editor, Recorder, editor_laws, record_laws};
+use teco_store::{Change, Desk, Editor, Recorder, record_laws};
 
 /// Command strings one after another, each of which can be undone and redone.
 ///
@@ -82,28 +82,6 @@ fn record_run<T: Terminal, R: Runner>(
     let (after, changes) = recorder.into_parts();
     *editor = after;
     (changes, outcome)
-}
-
-/// Runs a string on an editor, and notes no change: it can't be undone.
-fn run_unnoted<T: Terminal, R: Runner>(
-    editor: &mut Editor,
-    text: &[u8],
-    limit: u64,
-    term: &mut T,
-    runner: &mut R,
-) -> Outcome
-    ensures run { (typed : List ℕ)
-        × Runs (state_of editor.old) text.now limit result typed (state_of editor.new)
-        × Shows (T.screen term.old) (T.screen term.new) typed (is_tty result) }
-    ensures again { state_of editor.new ≡ (string_meaning (state_of editor.old) text.now result.steps).state }
-    ensures exit { (state_of editor.old).is_done ≡ false → (state_of editor.new).is_done ≡ true
-        → result.code ≡ None }
-    ensures sound { IsSound editor.new.room (length editor.new.stored) editor.new.body }
-    ensures tells { R.tells runner.new (state_of editor.old) text.now result }
-{
-    let outcome = runner.run_on(editor, text, limit, term);
-    editor_laws(editor);
-    outcome
 }
 
 impl Session {
