@@ -1,5 +1,5 @@
 -- The first fault of a text: its tokens one after another, from the left, and the lists that are open at each.
-use Rattle.std.specs.Prelude.{ℕ, zero, suc, ◌-◌, Bool, true, false, ◌||◌, List, [], ◌∷◌, length, drop, Option, Some, None, is_some, ◌==◌, if◌then◌else◌}
+use Rattle.std.specs.Prelude.{ℕ, zero, suc, ◌-◌, Bool, false, ◌||◌, List, [], ◌∷◌, length, drop, Option, Some, None, is_some, ◌==◌, if◌then◌else◌}
 use Rattle.teco_core.specs.declared.code.Code.TheVariants.{Bni, Ill}
 use Rattle.teco_core.specs.declared.limits.TheConstants.{BLOCK_LIMIT}
 use Rattle.teco_scan.specs.declared.command.BlockMark.{BlockMark}
