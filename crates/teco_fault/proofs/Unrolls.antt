@@ -1,6 +1,6 @@
 -- The walk unrolls over its tokens.
-use Rattle.std.proofs.Common.{◌≡◌, ℕ, zero, suc, ◌+◌, ◌-◌, ◌<◌, ◌≤◌, Bool, true, false, List, [], ◌∷◌, length, drop, set, Option, Some, None, is_some, eqb, cond as choose, refl, sym, ap, ◌∙◌, arith}
-use Rattle.std.specs.Prelude.{◌||◌, slice_index, ◌==◌, if◌then◌else◌}
+use Rattle.std.proofs.Common.{◌≡◌, ℕ, zero, suc, ◌+◌, ◌<◌, ◌≤◌, Bool, List, [], ◌∷◌, length, drop, set, Option, Some, None, is_some, eqb, cond as choose, refl, sym, ap, ◌∙◌, arith}
+use Rattle.std.specs.Prelude.{◌||◌, slice_index, ◌==◌}
 use Rattle.std.proofs.lemmas.List.{get_or-set_same}
 use Rattle.teco_scan.specs.declared.command.BlockMark.{BlockMark}
 use Rattle.teco_scan.specs.declared.command.BlockMark.TheVariants.{Iterate, EndIteration, Otherwise, EndTest}
@@ -14,7 +14,7 @@ use Rattle.teco_fault.specs.declared.faults.Fault.{Fault}
 use Rattle.teco_fault.specs.declared.faults.Wrong.{Wrong}
 use Rattle.teco_fault.specs.declared.faults.Wrong.TheVariants as wrongs
 use Rattle.teco_fault.specs.Checked.{lands_below}
-use Rattle.teco_fault.specs.Walk.{CodeRule, OpenList, Walker, lands_in, wrong_with, place, fault_at, after_item, in_block, out_of, at_mark, at_instruction, at_end, at_scan, walk_within, walk}
+use Rattle.teco_fault.specs.Walk.{CodeRule, OpenList, Walker, lands_in, wrong_with, place, fault_at, after_item, in_block, out_of, at_mark, at_instruction, at_scan, walk_within, walk}
 use Rattle.teco_fault.specs.Walked.{BeginThere}
 use Rattle.teco_fault.proofs.Open.{below_kept}
 use Rattle.teco_fault.proofs.Places.{place_is}

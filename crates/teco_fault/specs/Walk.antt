@@ -1,5 +1,5 @@
 -- The first fault of a text: its tokens one after another, from the left, and the lists that are open at each.
-use Rattle.std.specs.Prelude.{ℕ, zero, suc, ◌-◌, Bool, true, false, ◌||◌, List, [], ◌∷◌, length, drop, Option, Some, None, is_some, ◌==◌, if◌then◌else◌}
+use Rattle.std.specs.Prelude.{ℕ, zero, suc, ◌-◌, Bool, false, ◌||◌, List, [], ◌∷◌, length, drop, Option, Some, None, is_some, ◌==◌, if◌then◌else◌}
 use Rattle.teco_core.specs.declared.code.Code.TheVariants.{Bni, Ill}
 use Rattle.teco_core.specs.declared.limits.TheConstants.{BLOCK_LIMIT}
 use Rattle.teco_scan.specs.declared.command.BlockMark.{BlockMark}
@@ -68,16 +68,21 @@ abbrev pub out_of : Walker → List OpenList → List ℕ → Option Fault
 out_of go [] rest = None
 out_of go (o ∷ os) rest = go o os rest
 
+-- where a list is opened, if it is a block's
+abbrev pub opened_at : Option Kind → ℕ → Option ℕ
+opened_at None opening = None
+opened_at (Some kind) opening = Some opening
+
 -- `>` ends an iteration, `|` divides a conditional, and `'` ends either part of one. Elsewhere they are stray.
 abbrev pub at_mark : Walker → List ℕ → BlockMark → Option Kind → ℕ → Walker
 at_mark go bytes Iterate kind at o os rest = in_block go bytes Iter at o os rest
 at_mark go bytes EndIteration (Some Iter) at o os rest = out_of go os rest
-at_mark go bytes EndIteration kind at o os rest = fault_at at (wrongs.Stray Bni)
+at_mark go bytes EndIteration kind at o os rest = fault_at at (wrongs.Stray Bni (opened_at kind o.opening))
 at_mark go bytes Otherwise (Some Then) at o os rest = go (record o { kind = Some Else; start = place bytes rest }) os rest
-at_mark go bytes Otherwise kind at o os rest = fault_at at (wrongs.Stray Ill)
+at_mark go bytes Otherwise kind at o os rest = fault_at at (wrongs.Stray Ill (opened_at kind o.opening))
 at_mark go bytes EndTest (Some Then) at o os rest = out_of go os rest
 at_mark go bytes EndTest (Some Else) at o os rest = out_of go os rest
-at_mark go bytes EndTest kind at o os rest = fault_at at (wrongs.Stray Ill)
+at_mark go bytes EndTest kind at o os rest = fault_at at (wrongs.Stray Ill (opened_at kind o.opening))
 
 abbrev pub at_instruction : CodeRule → Walker → List ℕ → Instruction → ℕ → Walker
 at_instruction code go bytes (token.step i) at o os rest = after_item go at (wrong_with code bytes (o ∷ os) i) o os rest

@@ -8,7 +8,7 @@ ghost use Rattle.teco_scan.specs.Seen.{instruction_in, close_of};
 ghost use Rattle.teco_scan.specs.Lists.{at_mark, at_scan, broken, list_at};
 ghost use Rattle.teco_fault.specs.Clean.{is_clean};
 ghost use Rattle.teco_fault.specs.Checked.{is_stray, code_of};
-ghost use Rattle.teco_fault.specs.Walk.{CodeRule, OpenList, at_end, walk};
+ghost use Rattle.teco_fault.specs.Walk.{CodeRule, OpenList, opened_at, at_end, walk};
 ghost use Rattle.teco_fault.specs.Walk as walked;
 ghost use Rattle.teco_fault.specs.Walked.{after_list};
 
@@ -28,10 +28,21 @@ pub fn closing_mark(kind: TokenKind) -> Option<BlockMark>
     }
 }
 
+/// The place at which the innermost list was opened, if it is a block's.
+fn opened_at(kind: Option<Kind>, opening: usize) -> Option<usize>
+    ensures { result ≡ opened_at kind opening }
+{
+    match kind {
+        Some(_) => Some(opening),
+        None => None,
+    }
+}
+
 /// What a closing mark does to the innermost list, where the mark ends at this place.
 #[tactic(auto, unfolding(crate::specs::Clean::is_clean))]
 pub fn end_of_list(
     kind: Option<Kind>,
+    opening: usize,
     mark: BlockMark,
     from: usize,
     to: usize,
@@ -41,7 +52,7 @@ pub fn end_of_list(
         → is_clean code may lists (at_mark list_at mark (drop to text) kind d).0 ≡ is_ok result }
     ensures closes { (text : List ℕ) (d : ℕ)
         → IfOk result (λ stop. (at_mark list_at mark (drop to text) kind d).1 ≡ close_of text (Ok stop)) }
-    ensures first { (code : CodeRule) (text : List ℕ) (opening start : ℕ) (os : List OpenList) → to ≤ length text
+    ensures first { (code : CodeRule) (text : List ℕ) (start : ℕ) (os : List OpenList) → to ≤ length text
         → walked.at_mark (walk code text) text mark kind from (record { kind = kind; opening = opening; start = start }) os (drop to text)
         ≡ after_list code text kind opening os result }
     ensures place { IfOk result (λ stop. stop.to ≡ to) }
@@ -49,19 +60,20 @@ pub fn end_of_list(
     ensures breaks { (text : List ℕ) (d : ℕ) (code : Code)
         → IfErr result (λ fault. code_of fault.wrong ≡ Some code → (at_mark list_at mark (drop to text) kind d).1 ≡ broken code) }
 {
+    let innermost = opened_at(kind, opening);
     let whole = Stop { to, divided: false };
     match (mark, kind) {
         (BlockMark::EndIteration, Some(Kind::Iter)) => Ok(whole),
         (BlockMark::EndIteration, _) => Err(Fault {
             at: from,
-            wrong: Wrong::Stray(Code::Bni),
+            wrong: Wrong::Stray(Code::Bni, innermost),
         }),
         (BlockMark::Otherwise, Some(Kind::Then)) => Ok(Stop { to, divided: true }),
         (BlockMark::EndTest, Some(Kind::Then)) => Ok(whole),
         (BlockMark::EndTest, Some(Kind::Else)) => Ok(whole),
         _ => Err(Fault {
             at: from,
-            wrong: Wrong::Stray(Code::Ill),
+            wrong: Wrong::Stray(Code::Ill, innermost),
         }),
     }
 }
