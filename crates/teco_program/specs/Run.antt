@@ -1,5 +1,5 @@
 -- A run of the program over its line: what it reads, serves and writes, and how it ends.
-use Rattle.std.specs.Prelude.{◌≡◌, ◌≢◌, ◌≤◌, ◌⊎◌, ℕ, List, length, map, codes, Option, Some, unwrap_or, Bool, IsTrue, true, false}
+use Rattle.std.specs.Prelude.{◌≡◌, ◌≢◌, ◌≤◌, ◌⊎◌, ℕ, List, length, map, codes, Option, Some, None, unwrap_or, Bool, IsTrue, true, false}
 use Rattle.std.specs.Prelude.{Result, Ok, Err}
 use Rattle.std.specs.String.{string_bytes}
 use Rattle.std.specs.declared.string.String.{String}
@@ -30,6 +30,8 @@ use Rattle.teco_program.specs.declared.fate.Fate.TheVariants.{NoCommands, NoInpu
 use Rattle.teco_program.specs.declared.fate.Fate.TheVariants.{Changed, Unchanged}
 use Rattle.teco_program.specs.declared.fate.Fate.TheVariants.{Ended}
 use Rattle.teco_files.specs.declared.input.InputFault.{InputFault}
+use Rattle.teco_line.specs.declared.line.Commands.{Commands}
+use Rattle.teco_line.specs.declared.line.Commands.TheVariants.{StandardInput, Word, Pages, File}
 use Rattle.teco_line.specs.declared.line.Line.{Line}
 use Rattle.teco_program.specs.declared.served.Served.{Served}
 use Rattle.teco_program.specs.declared.served.Served.TheVariants as served
@@ -88,9 +90,20 @@ pub record FailsToWrite {I : Type 0} (old new : DiskSeen I) (name bytes : List �
   pub given : IsWriteError new.gave error
   pub fate_is : IsFateOf error NoOutput fate
 
+-- how many strings are kept of commands that come from there, if the line says no number: none of those for every
+-- page, which nothing could undo, and all of others
+abbrev pub depth_by : Commands → Option ℕ
+depth_by StandardInput = None
+depth_by (Word text) = None
+depth_by (Pages text) = Some 0
+depth_by (File name) = None
+
+abbrev pub depth_of : Line → Option ℕ
+depth_of line = elim line.undo [ Some depth ↦ Some depth | None ↦ depth_by line.commands ]
+
 -- the history that a run over this input begins with: its pages end after as many lines too as the line says
 abbrev pub history_over : Line → List ℕ → History
-history_over line input = new_paged_history (unwrap_or line.page_lines 0) line.undo input
+history_over line input = new_paged_history (unwrap_or line.page_lines 0) (depth_of line) input
 
 -- The commands were served over an input, from its first state, by the line's limit, prompt, pages and depth. This
 -- ended so, with this output.

@@ -1,10 +1,10 @@
 //! One run of the program: an input is read, commands are served over it, and the output is written.
-ghost use Rattle.std.specs.Prelude.{◌≡◌, ◌≤◌, ⊤, IfErr, IfOk, IfSome, OnErr, false, vec_len};
-ghost use Rattle.teco_core.specs.declared.limits.TheConstants.{FILE_LIMIT};
+ghost use Rattle.std.specs.Prelude.{◌≡◌, ◌≤◌, ⊤, ForSome, IfErr, IfOk, IfSome, OnErr, false, vec_len};
+ghost use Rattle.teco_core.specs.declared.limits.TheConstants.{DEPTH_LIMIT, FILE_LIMIT};
 ghost use Rattle.teco_files.specs.Source.{Gives, HasEnded};
 ghost use Rattle.teco_line.specs.CommandLine.{IsDepth};
 ghost use Rattle.teco_line.specs.StreamNames.{is_standard_input, is_standard_output};
-ghost use Rattle.teco_program.specs.Run.{Edits, EndsBy, FinishesIn, FailsToStream, IsFateOf, IsInput, IsStreamed, KeepsDisk, LacksInput, doings_after, given_input, history_over, input_from, named_input, named_output, standard_input, standard_output};
+ghost use Rattle.teco_program.specs.Run.{Edits, EndsBy, FinishesIn, FailsToStream, IsFateOf, IsInput, IsStreamed, KeepsDisk, LacksInput, depth_of, doings_after, given_input, history_over, input_from, named_input, named_output, standard_input, standard_output};
 ghost use Rattle.teco_program.specs.Seen.{commands_seen, disk_seen, run_seen, source_view};
 ghost use Rattle.teco_program.specs.Serving.{Serves};
 ghost use Rattle.teco_program.specs.Writing.{both};
@@ -22,7 +22,7 @@ use std::io;
 use std::io::ErrorKind;
 use teco_core::{FILE_LIMIT, NoMemory};
 use teco_files::{Disk, Source, read_input};
-use teco_line::{Line, is_standard_input, is_standard_output};
+use teco_line::{Commands, Line, is_standard_input, is_standard_output};
 use teco_session::Session;
 use teco_step::{Terminal, TerminalFault};
 use teco_store::Desk;
@@ -72,17 +72,27 @@ pub fn input_of_stream<S: Source>(alloc: Global, source: &mut S) -> Result<Vec<u
     }
 }
 
-/// A session over the input, with pages of as many lines and as many strings kept as the line says.
+/// How many strings the history keeps: as many as the line says, all if it says none, and none of the strings for every page.
+fn depth_of(line: &Line) -> Option<usize>
+    requires { IfSome line.now.undo IsDepth }
+    ensures depth { result ≡ depth_of line.now }
+    ensures most { ForSome result (λ depth. depth ≤ DEPTH_LIMIT) }
+{
+    match (line.undo, &line.commands) {
+        (Some(depth), _) => Some(depth as usize),
+        (None, Commands::Pages(_)) => Some(0),
+        (None, _) => None,
+    }
+}
+
+/// A session over the input, with pages of as many lines as the line says, and with its depth.
 fn session_over(line: &Line, input: Vec<u8>) -> Result<Session, NoMemory>
     requires small { vec_len input ≤ FILE_LIMIT }
     requires depth { IfSome line.now.undo IsDepth }
     ensures { IfOk result (λ session. history_of session ≡ history_over line.now input.items) }
 {
     let lines = line.page_lines.unwrap_or(0) as usize;
-    match line.undo {
-        Some(depth) => Session::with_pages(input, lines, Some(depth as usize)),
-        None => Session::with_pages(input, lines, None),
-    }
+    Session::with_pages(input, lines, depth_of(line))
 }
 
 /// Serves the commands over the input. Gives the session that is left, and how the serving ended.
