@@ -14,7 +14,7 @@ mod several;
 mod splitter;
 mod text_on;
 
-pub use fate::{Fate, ending};
+pub use fate::{Fate, ending, ending_of};
 pub use listener::Silent;
 pub use output::write_output;
 pub use running::program;

@@ -12,6 +12,7 @@ use teco_step::MemoryTerminal;
 mod disk;
 mod ending;
 mod input;
+mod inputs;
 mod line;
 mod output;
 mod reader_source;
@@ -20,6 +21,7 @@ mod splitter;
 mod word;
 
 /// The words of a run, with blanks between them, its commands, and what it types, tells on standard error, notes there besides and ends with.
+#[derive(Clone, Copy)]
 pub(super) struct Run<'a> {
     pub(super) words: &'a str,
     pub(super) commands: &'a str,
