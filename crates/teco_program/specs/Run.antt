@@ -6,6 +6,7 @@ use Rattle.std.specs.declared.string.String.{String}
 use Rattle.std.specs.declared.vec.Vec.{Vec}
 use Rattle.std.specs.declared.alloc.Global.{Global}
 use Rattle.clap.specs.Words.{kind_of}
+use Rattle.clap.specs.declared.error.kind.ErrorKind.{ErrorKind}
 use Rattle.clap.specs.declared.error.kind.ErrorKind.TheVariants as kind
 use Rattle.teco_step.specs.Terminal.{IsFrontOf, Screen, Shows}
 use Rattle.teco_line.specs.CommandLine.{IsLine, IsLineFault}
@@ -290,17 +291,26 @@ abbrev pub IsFaultIn : Result (Vec (String Global) Global) LineFault → LineFau
 IsFaultIn (Ok words) fault = IsLineFault (map string_bytes words.items) fault
 IsFaultIn (Err given) fault = fault ≡ given
 
--- The status of a line that is refused: 3, or 0 for the help and the version; 1 where memory was refused.
-abbrev pub IsRefusedBy : LineFault → ℕ → Type 0
-IsRefusedBy line_fault.NoMemory status = status ≡ 1
-IsRefusedBy (line_fault.Refused error) status = (kind_of error ≡ kind.DisplayHelp → status ≡ 0)
-    × (kind_of error ≡ kind.DisplayVersion → status ≡ 0)
-    × (kind_of error ≢ kind.DisplayHelp → kind_of error ≢ kind.DisplayVersion → status ≡ 3)
+-- What was asked for was shown; or the status is 1, since it could not be.
+abbrev pub IsAnswered : Screen → Screen → ℕ → Type 0
+IsAnswered old new status = ((status ≡ 0) × (new.failures ≡ old.failures)) ⊎ (status ≡ 1)
+
+-- The status of a line that the parser refuses: 3, but for the help and the version. The screens are those of
+-- the terminal, before and after.
+pub record IsRefused (error : ErrorKind) (old new : Screen) (status : ℕ) : Type 0 where
+  pub help : error ≡ kind.DisplayHelp → IsAnswered old new status
+  pub version : error ≡ kind.DisplayVersion → IsAnswered old new status
+  pub faulty : error ≢ kind.DisplayHelp → error ≢ kind.DisplayVersion → status ≡ 3
+
+-- The status of a line that is refused; 1 where memory was refused.
+abbrev pub IsRefusedBy : LineFault → Screen → Screen → ℕ → Type 0
+IsRefusedBy line_fault.NoMemory old new status = status ≡ 1
+IsRefusedBy (line_fault.Refused error) old new status = IsRefused (kind_of error) old new status
 
 -- The words say no line, and nothing is done but that that is told.
 pub record Refuses (words : Result (Vec (String Global) Global) LineFault) (still : Type 0)
-    (status : ℕ) : Type 0 where
+    (old new : Screen) (status : ℕ) : Type 0 where
   pub fault : LineFault
   pub fault_is : IsFaultIn words fault
-  pub status_is : IsRefusedBy fault status
+  pub status_is : IsRefusedBy fault old new status
   pub kept : still

@@ -26,8 +26,8 @@ pub trait Listens {
     /// Undos, redos or a rewind were asked for, and the code of a refusal is shown, if there was one.
     fn moved(&mut self, code: Option<Code>, session: &Session);
 
-    /// The commands ended, and these bytes come after the last pair of ESC.
-    fn left(&mut self, bytes: &[u8]);
+    /// The serving ended before these bytes were run: in an exit or a fault, or since they come after the last pair of ESC.
+    fn left(&mut self, bytes: &[u8], broken_off: bool);
 }
 
 /// Tells nothing.
@@ -43,7 +43,7 @@ impl Listens for Silent {
 
     fn moved(&mut self, _code: Option<Code>, _session: &Session) {}
 
-    fn left(&mut self, _bytes: &[u8]) {}
+    fn left(&mut self, _bytes: &[u8], _broken_off: bool) {}
 }
 
 /// What is told besides the codes.
@@ -128,13 +128,24 @@ fn lines_of_move(
     Ok(lines)
 }
 
-/// What is told of bytes after the last pair of ESC, of which each but a filler was to be run.
-fn line_of_left(alloc: Global, bytes: &[u8]) -> Result<String, NoMemory> {
+/// What is told of bytes that were not run, if they are not fillers alone.
+fn line_of_left(alloc: Global, bytes: &[u8], broken_off: bool) -> Result<String, NoMemory> {
     let mut line = String::new(alloc);
-    let n = bytes.len();
-    if bytes.iter().any(|byte| !is_filler(*byte)) {
-        writeln!(line, "{n} bytes after the last ESC ESC were not run")?;
+    if bytes.iter().all(|byte| is_filler(*byte)) {
+        return Ok(line);
     }
+    let n = bytes.len();
+    let (unit, were) = if n == 1 {
+        ("byte", "was")
+    } else {
+        ("bytes", "were")
+    };
+    let after = if broken_off {
+        "the last string that ran"
+    } else {
+        "the last ESC ESC"
+    };
+    writeln!(line, "{n} {unit} after {after} {were} not run")?;
     Ok(line)
 }
 
@@ -258,7 +269,7 @@ impl<'a, N: Terminal> Listens for Explainer<'a, N> {
         self.place = session.editor().place();
     }
 
-    fn left(&mut self, bytes: &[u8]) {
-        self.tell(line_of_left(self.alloc, bytes));
+    fn left(&mut self, bytes: &[u8], broken_off: bool) {
+        self.tell(line_of_left(self.alloc, bytes, broken_off));
     }
 }

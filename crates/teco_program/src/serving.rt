@@ -78,13 +78,14 @@ pub fn serve<S: Source, T: Terminal, L: Listens>(
             Ok(n) => n,
         };
         if n == 0 {
-            listener.left(splitter.held());
+            listener.left(splitter.held(), false);
             return Served::EndOfCommands;
         }
         if splitter.feed(&piece[..n]).is_err() {
             return Served::NoMemory;
         }
         if let Some(served) = serve_held(&mut splitter, session, limit, prompt, term, listener) {
+            listener.left(splitter.held(), true);
             return served;
         }
     }

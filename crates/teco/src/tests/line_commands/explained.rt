@@ -57,7 +57,7 @@ pub(super) static EXPLAINED: [Row<'static>; 4] = [
 
 /// How the commands ended is told too: what was not run of them, an exit that nothing came before, why a file can't be had, and which
 /// limit a string came to.
-pub(super) static ENDED: [Row<'static>; 6] = [
+pub(super) static ENDED: [Row<'static>; 7] = [
     (
         Run {
             words: "teco --explain -e Y$$HK$$EX in",
@@ -68,6 +68,16 @@ pub(super) static ENDED: [Row<'static>; 6] = [
         },
         &[IN],
         &[IN],
+    ),
+    (
+        Run {
+            words: "teco --explain -e YEX$$x in",
+            typed: "",
+            noted: "1 byte after the last string that ran was not run\nin.out is written\n",
+            ..PAGE
+        },
+        &[IN],
+        WRITTEN,
     ),
     (
         Run {
