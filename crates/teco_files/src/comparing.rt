@@ -28,6 +28,8 @@ fn after_piece<'a>(parts: (&'a [u8], &'a [u8]), piece: &[u8]) -> Option<(&'a [u8
 }
 
 /// Whether a source gives the bytes of these two parts, one after the other, and no more.
+// Out of line, so that its piece is on the stack for this call alone.
+#[inline(never)]
 pub fn gives_just<S: Source>(source: &mut S, bytes: (&[u8], &[u8])) -> bool
     ensures given { result ≡ true → Gives S.coming S.bound S.failures source.old source.new
         (bytes.entry.0.now ++ bytes.entry.1.now) false }

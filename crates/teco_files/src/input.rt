@@ -48,6 +48,8 @@ impl From<NoMemory> for InputFault {
 }
 
 /// Reads the source to its end, and gives all the bytes, which are at most `max`. After more bytes it reads no further.
+// Out of line, so that its piece is on the stack for this call alone.
+#[inline(never)]
 pub fn read_input<S: Source>(
     alloc: Global,
     source: &mut S,
