@@ -268,18 +268,40 @@ fn no_page_turns_back(session: &mut Session, term: &mut MemoryTerminal) -> bool 
         && has(session, b"three\n", b"one\ntwo\n")
 }
 
-fn pages_of_lines_once(alloc: Global) -> bool {
+fn comes_back_through_every_string(alloc: Global) -> bool {
     let mut term = MemoryTerminal::new(alloc);
-    let (Some(mut session), Some(mut last), Some(mut none)) = (
-        Session::with_pages(three_lines(alloc), 2, None).ok(),
-        Session::with_pages(three_lines(alloc), 2, Some(1)).ok(),
-        Session::with_pages(three_lines(alloc), 2, Some(0)).ok(),
-    ) else {
-        return false;
-    };
-    page_of_lines_turns_back(&mut session, &mut term)
-        && last_page_turns_back(&mut last, &mut term)
-        && no_page_turns_back(&mut none, &mut term)
+    let mut input = three_lines(alloc);
+    input.truncate(FILE_LIMIT);
+    match Session::with_pages(input, 2, None) {
+        Ok(mut session) => page_of_lines_turns_back(&mut session, &mut term),
+        Err(_) => false,
+    }
+}
+
+fn comes_back_through_one_string(alloc: Global) -> bool {
+    let mut term = MemoryTerminal::new(alloc);
+    let mut input = three_lines(alloc);
+    input.truncate(FILE_LIMIT);
+    match Session::with_pages(input, 2, Some(1)) {
+        Ok(mut session) => last_page_turns_back(&mut session, &mut term),
+        Err(_) => false,
+    }
+}
+
+fn comes_back_through_no_string(alloc: Global) -> bool {
+    let mut term = MemoryTerminal::new(alloc);
+    let mut input = three_lines(alloc);
+    input.truncate(FILE_LIMIT);
+    match Session::with_pages(input, 2, Some(0)) {
+        Ok(mut session) => no_page_turns_back(&mut session, &mut term),
+        Err(_) => false,
+    }
+}
+
+fn pages_of_lines_once(alloc: Global) -> bool {
+    comes_back_through_every_string(alloc)
+        && comes_back_through_one_string(alloc)
+        && comes_back_through_no_string(alloc)
 }
 
 #[test]
