@@ -9,7 +9,6 @@ use teco_line::LineFault;
 use teco_program::program;
 use teco_step::MemoryTerminal;
 
-mod disk;
 mod ending;
 mod input;
 mod inputs;
