@@ -23,14 +23,20 @@ AR = ar
 CFLAGS = -O2
 INSTALL = install
 
-NAMES = teco teco-debug tecol teco-term
-PROGRAMS = out/teco out/teco-debug out/tecol out/teco-term
+NAMES = teco teco-debug tecol teco-term teco-screen
+PROGRAMS = out/teco out/teco-debug out/tecol out/teco-term out/teco-screen
 LIBRARY = out/libteco_c.a out/teco.pc
 VERSION != sed -n 's/^const VERSION: &str = "\(.*\)";$$/\1/p' crates/teco_line/src/*.rt crates/teco_line/src/*/*.rt
 SOURCES != find crates.txt crates/*/src crates/*/specs crates/*/proofs -type f ! -path '*/src/tests/*'
-TERM_SOURCES != ls doors/c/teco-term.c doors/c/term-*.c
+# What teco-term and teco-screen share, and what each has beside it.
+SHARED = doors/c/term-codes.c doors/c/term-file.c doors/c/term-journal.c doors/c/term-keys.c doors/c/term-options.c doors/c/term-tty.c \
+    doors/c/term-work.c
+TERM_SOURCES = doors/c/teco-term.c doors/c/term-line.c doors/c/term-press.c doors/c/term-strings.c $(SHARED)
+SCREEN_SOURCES != ls doors/screen/*.c
+NCURSES != pkg-config --cflags --libs ncursesw 2> /dev/null || echo -lncursesw
 
-## make               builds the programs teco, teco-debug, tecol and teco-term, the library and the completions, into out/
+## make               builds the programs teco, teco-debug, tecol, teco-term and teco-screen, the library and the completions, into out/;
+##                    it wants ncursesw, which is libncurses-dev in Debian
 all: $(PROGRAMS) $(LIBRARY) out/completions
 
 ## make help          lists these lines
@@ -69,6 +75,11 @@ crates/teco_debug/out/teco_debug: $(SOURCES)
 	cd crates/teco_debug && $(RT) run -- /dev/null < /dev/null
 	@touch $@
 
+crates/tecol/out/tecol: $(SOURCES)
+	@echo 'make: proving and building tecol, which takes some minutes after teco'
+	cd crates/tecol && $(RT) run -- /dev/null
+	@touch $@
+
 crates/teco_c/out/libteco_c.a: $(SOURCES)
 	@echo 'make: proving and building the library, which takes some minutes after teco, and some 20 from nothing'
 	cd crates/teco_c && $(RT) lib
@@ -82,9 +93,9 @@ out/teco-debug: crates/teco_debug/out/teco_debug
 	@mkdir -p out
 	$(INSTALL) -m 755 crates/teco_debug/out/teco_debug $@
 
-out/tecol: bin/tecol
+out/tecol: crates/tecol/out/tecol
 	@mkdir -p out
-	$(INSTALL) -m 755 bin/tecol $@
+	$(INSTALL) -m 755 crates/tecol/out/tecol $@
 
 # The library asks for memory through a library of the kit, which comes into the same archive, so that nothing else has to be linked.
 out/libteco_c.a: crates/teco_c/out/libteco_c.a
@@ -92,8 +103,16 @@ out/libteco_c.a: crates/teco_c/out/libteco_c.a
 	kit=$$(dirname "$$($(RT) doc)") && \
 	    printf '%s\n' 'CREATE $@' 'ADDLIB crates/teco_c/out/libteco_c.a' "ADDLIB $$kit/c/liblibc_c.a" SAVE END | $(AR) -M
 
-out/teco-term: $(TERM_SOURCES) doors/c/term.h doors/c/teco.h out/libteco_c.a
+out/teco-term: $(TERM_SOURCES) doors/c/terminal.h doors/c/term-editor.h doors/c/teco.h out/libteco_c.a
 	$(CC) -std=c11 $(CFLAGS) $(TERM_SOURCES) out/libteco_c.a -o $@ $(LDFLAGS)
+
+# The rows of the reference, which F1 shows.
+out/reference.h: docs/REFERENCE.md doors/screen/reference
+	@mkdir -p out
+	doors/screen/reference > $@
+
+out/teco-screen: $(SCREEN_SOURCES) $(SHARED) doors/screen/screen.h doors/c/terminal.h doors/c/teco.h out/reference.h out/libteco_c.a
+	$(CC) -std=c11 $(CFLAGS) -Idoors/screen -Idoors/c -Iout $(SCREEN_SOURCES) $(SHARED) out/libteco_c.a -o $@ $(NCURSES) $(LDFLAGS)
 
 # Where the library lies is said in teco.pc, so it is written anew each time.
 out/teco.pc: doors/c/teco.pc.in always
@@ -123,7 +142,7 @@ install: all
 	$(INSTALL) -m 644 out/libteco_c.a '$(DESTDIR)$(LIBDIR)/libteco_c.a'
 	$(INSTALL) -m 644 doors/c/teco.h '$(DESTDIR)$(INCLUDEDIR)/teco.h'
 	$(INSTALL) -m 644 out/teco.pc '$(DESTDIR)$(PCDIR)/teco.pc'
-	$(INSTALL) -m 644 README.md CHANGELOG.md '$(DESTDIR)$(DOCDIR)'
+	$(INSTALL) -m 644 README.md CHANGELOG.md SECURITY.md '$(DESTDIR)$(DOCDIR)'
 	$(INSTALL) -m 644 docs/*.md '$(DESTDIR)$(DOCDIR)/docs'
 	$(INSTALL) -m 644 examples/*.md examples/*.tec examples/*.in examples/*.out examples/*.typed '$(DESTDIR)$(DOCDIR)/examples'
 

@@ -20,6 +20,7 @@ build() {
             { cat "$work/build" >&2; exit 2; }
     fi
     export TECO
+    export TECOL="${TECOL:-$BENCH/../crates/tecol/out/tecol}"
 }
 
 # The command that must be installed for a peer.
@@ -27,7 +28,7 @@ command_of() {
     case $1 in
         rust) echo rustc ;;
         other) echo "${OTHER:-no other build, which OTHER would name}" ;;
-        run) echo sh ;;
+        run | script) echo sh ;;
         *) echo "$1" ;;
     esac
 }

@@ -2,7 +2,7 @@
 # WORK is how much is to be done, in hundredths of the work that the line is named for.
 #
 # A goal is a line of text: `user PEER RATIO` of the user time, `all PEER RATIO` of user and system time together, `peak PEER RATIO` of the
-# peak of memory, or `held BYTES`, which is the peak of memory beyond what the program takes over an empty file.
+# peak of memory, `held BYTES`, which is the peak of memory beyond what the program takes over an empty file, or `seconds N` of user time.
 WORK=${WORK:-100}
 limit=1000000000000
 peers=

@@ -64,6 +64,7 @@ END {
         if (!(first in u)) first = part[1] " once ours"
         peer = part[1] " once " part[3]
         if (part[2] == "held" && first in u) judge(part[1] ", bytes held", (peak[first] - base) * 1024, part[3])
+        if (part[2] == "seconds" && first in u) judge(part[1] ", user time in seconds", u[first], part[3])
         if (part[2] == "user" && peer in u && !u[peer]) goal[++judged] = "not judged " part[1] ": the user time of " part[3] " is too short to be told"
         if (part[2] == "user" && u[peer] > 0) judge(part[1] ", user time beside " part[3], u[first] / u[peer], part[4])
         if (part[2] == "peak" && peak[peer] > 0) judge(part[1] ", peak of memory beside " part[3], peak[first] / peak[peer], part[4])

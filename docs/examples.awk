@@ -1,6 +1,6 @@
 # Puts each example of a page into a folder of its own below `work`, for docs/check.
 #
-# A block ```teco, perhaps with options after it, has commands as bin/tecol reads them, and then parts that begin with a line of their own:
+# A block ```teco, perhaps with options after it, has commands as tecol reads them, and then parts that begin with a line of their own:
 #   -- before   the input; empty where it isn't there      -- after   the output; none is written where it isn't there
 #   -- typed    what is typed                              -- status N   where it isn't 0 with an output, and 2 without one
 # A block ```sh has lines for the shell, which are run in a folder of its own, and then parts:
@@ -11,7 +11,7 @@
 # A row of a table with four columns has commands in the third, and in the fourth the words that they type, perhaps over INPUT of `one`,
 # `two` and `three`, a page each, where its first column has a star after it.
 # In a man page, .Dl .. teco .. -e 'COMMANDS' .. comes after comments .\" before, .\" after and .\" typed, each with a text as printf reads it.
-# Another line after .Dl is one for the shell where comments .\" file NAME or .\" left NAME come before it.
+# Another line after .Dl is one for the shell where comments .\" file NAME or .\" left NAME come before it, and perhaps .\" status N.
 
 function put(name, text) {
     if (name ~ /\//) system("mkdir -p '" folder "/" substr(name, 1, match(name, /\/[^\/]*$/)) "'")
@@ -98,9 +98,9 @@ function shell_line(    name) {
     put("line", $0 "\n")
     for (name in held) put(name, held[name])
     put("shell", "")
-    put("status", 0)
+    put("status", held_status + 0)
     split("", held)
-    is_shell = 0
+    is_shell = held_status = 0
     folder = ""
 }
 
@@ -146,5 +146,6 @@ folder && /^\* / && kind == "session" {
 folder { append($0); next }
 /^\|/ { row() }
 /^\.\\" (before|after|typed|file|left) / { printf_text($2) }
+/^\.\\" status / { held_status = $3 }
 /^\.Dl / && is_shell { shell_line(); next }
 /^\.Dl .*teco -e / { display() }

@@ -108,6 +108,52 @@ static void wheres(void)
     teco_close(&t);
 }
 
+static size_t from, to, size;
+static uint8_t kind;
+
+static uint8_t token(const char *text, size_t place)
+{
+    from = to = size = 99;
+    kind = 99;
+    return teco_token(bytes(text), strlen(text), place, &from, &to, &kind, &size);
+}
+
+/* Whether a token was read between two places, with a text of so many bytes. */
+static int read_there(size_t begins, size_t ends, uint8_t is, size_t text)
+{
+    return from == begins && to == ends && kind == is && size == text;
+}
+
+static void tokens(void)
+{
+    HOLDS(token(" \r\n12A", 0) == 0 && read_there(3, 5, TECO_TOKEN_DIGITS, 0));
+    HOLDS(token(" \r\n12A", 4) == 0 && read_there(4, 5, TECO_TOKEN_DIGITS, 0));
+    HOLDS(token(" \r\n12A", 5) == 0 && read_there(5, 6, TECO_TOKEN_LEVEL, 0));
+    HOLDS(token("12A \n", 3) == TECO_NO_TOKEN && read_there(5, 5, 0, 0));
+    HOLDS(token("12A", 4) == TECO_NO_TOKEN && read_there(3, 3, 0, 0));
+    HOLDS(token("12A", SIZE_MAX) == TECO_NO_TOKEN && read_there(3, 3, 0, 0) && token("", 0) == TECO_NO_TOKEN);
+    HOLDS(token("Z", 0) == 0 && read_there(0, 1, TECO_TOKEN_VALUE, 0));
+    HOLDS(token("H", 0) == 0 && read_there(0, 1, TECO_TOKEN_ARITHMETIC, 0));
+    HOLDS(token("ex", 0) == 0 && read_there(0, 2, TECO_TOKEN_COMMAND, 0));
+    HOLDS(token(" ==J", 0) == 0 && read_there(1, 3, TECO_TOKEN_COMMAND, 0));
+    HOLDS(token(":QA", 0) == 0 && read_there(0, 3, TECO_TOKEN_REGISTER, 0));
+    HOLDS(token("^^\033J", 0) == 0 && read_there(0, 3, TECO_TOKEN_BYTE, 0));
+    HOLDS(token("Iab\033J", 0) == 0 && read_there(0, 4, TECO_TOKEN_TEXT, 2));
+    HOLDS(token("@I/a\033b/", 0) == 0 && read_there(0, 7, TECO_TOKEN_TEXT, 3));
+    HOLDS(token("S\033", 0) == 0 && read_there(0, 2, TECO_TOKEN_TEXT, 0));
+    HOLDS(token("Otag\033", 0) == 0 && read_there(0, 5, TECO_TOKEN_JUMP, 3));
+    HOLDS(token("^UAxyz\033", 0) == 0 && read_there(0, 7, TECO_TOKEN_SET_TEXT, 3));
+    HOLDS(token("FSone\033two!\033", 0) == 0 && read_there(0, 11, TECO_TOKEN_REPLACE, 4));
+    HOLDS(token("<", 0) == 0 && read_there(0, 1, TECO_TOKEN_MARK, 0));
+    HOLDS(token("\"nJ'", 0) == 0 && read_there(0, 2, TECO_TOKEN_TEST, 0));
+    HOLDS(token("!tag!", 0) == 0 && read_there(0, 5, TECO_TOKEN_TAG, 3));
+    HOLDS(token("\033\033", 1) == 0 && read_there(1, 2, TECO_TOKEN_ESCAPE, 0));
+    HOLDS(token("  Iab", 0) == TECO_UTC && read_there(2, 5, 0, 0));
+    HOLDS(token("JW", 1) == TECO_ILL && read_there(1, 2, 0, 0));
+    HOLDS(token("Q!", 0) == TECO_IQN && read_there(0, 2, 0, 0));
+    HOLDS(token("\"x", 0) == TECO_IQC && read_there(0, 2, 0, 0));
+}
+
 static void turns(void)
 {
     struct teco t = {0};
@@ -155,6 +201,10 @@ static void looks(void)
     HOLDS(run(&t, "P", 0) == 0 && teco_output(&t, 0, room, 64, &n) == 0 && has("one\f"));
     HOLDS(teco_output(&t, 3, room, 64, &n) == 0 && has("\f") && teco_output(&t, 9, room, 64, &n) == 0 && has(""));
     HOLDS(teco_form_feed(&t) == 0 && teco_either_case(&t) == 0 && teco_done(&t) == 0);
+    HOLDS(run(&t, "HKIa\nb\013c\014d\n\0332JIx\033", 0) == 0);
+    HOLDS(teco_lines(&t, 0, SIZE_MAX, &n) == 0 && n == 4 && teco_lines(&t, 0, 9, &n) == 0 && n == 4);
+    HOLDS(teco_lines(&t, 2, 5, &n) == 0 && n == 1 && teco_lines(&t, 1, 2, &n) == 0 && n == 1 && teco_lines(&t, 2, 4, &n) == 0 && n == 0);
+    HOLDS(teco_lines(&t, 5, 2, &n) == 0 && n == 0 && teco_lines(&t, 0, 0, &n) == 0 && n == 0 && teco_lines(&t, 9, 99, &n) == 0 && n == 0);
     teco_close(&t);
 }
 
@@ -213,6 +263,7 @@ static void closed(void)
     n = steps = at = calls = 1;
     HOLDS(where(&t, "9J", 64) == TECO_CLOSED && n == 0 && steps == 0 && stopped(TECO_NOWHERE, 0));
     HOLDS(teco_undo(&t) == TECO_CLOSED && teco_redo(&t) == TECO_CLOSED && teco_rewind(&t, 0) == TECO_CLOSED);
+    HOLDS((one = 1, teco_lines(&t, 0, 9, &one)) == TECO_CLOSED && one == 0);
     HOLDS(teco_strings(&t, &one) == TECO_CLOSED && one == 0);
     HOLDS((one = 1, teco_cursor(&t, &one)) == TECO_CLOSED && one == 0);
     HOLDS(teco_steps(&t, 0, &k) == TECO_CLOSED && k == 0);
@@ -246,7 +297,8 @@ static int told(const struct teco *t)
         + (teco_splice(t, 0, 0, &n, &one, &two) == 0) + (teco_length(t, &n) == 0) + (teco_pointer(t, &n) == 0)
         + (teco_text(t, 0, room, 64, &n) == 0) + (teco_output(t, 0, room, 64, &n) == 0) + (teco_number(t, 'A', &number) == 0)
         + (teco_register(t, 'A', room, 64, &n) == 0) + (teco_search(t, room, 64, &n) == 0) + (teco_pushed(t, &n) == 0)
-        + (teco_place(t, &n) == 0) + (teco_done(t) <= 1) + (teco_found(t) <= 1) + (teco_form_feed(t) <= 1) + (teco_either_case(t) <= 1);
+        + (teco_place(t, &n) == 0) + (teco_lines(t, 0, 9, &n) == 0)
+        + (teco_done(t) <= 1) + (teco_found(t) <= 1) + (teco_form_feed(t) <= 1) + (teco_either_case(t) <= 1);
 }
 
 /* No call but an open and a close writes the handle: each other one at a handle in memory that can't be written, closed and open. */
@@ -257,7 +309,7 @@ static void unwritten(void)
     HOLDS(teco_undo(t) == TECO_CLOSED && teco_redo(t) == TECO_CLOSED && teco_rewind(t, 0) == TECO_CLOSED);
     HOLDS(mprotect(t, sizeof *t, PROT_READ | PROT_WRITE) == 0 && teco_open(t, bytes("one"), 3, 0) == 0);
     HOLDS(mprotect(t, sizeof *t, PROT_READ) == 0);
-    HOLDS(run(t, "YSe\033I.\033", 64) == 0 && told(t) == 20);
+    HOLDS(run(t, "YSe\033I.\033", 64) == 0 && told(t) == 21);
     HOLDS(teco_undo(t) == 0 && teco_redo(t) == 0 && teco_rewind(t, 1) == 0 && teco_undo(t) == 0);
     HOLDS(where(t, "J9J", 64) == 20 && stopped(2, 0));
     HOLDS(mprotect(t, sizeof *t, PROT_READ | PROT_WRITE) == 0);
@@ -283,6 +335,7 @@ int main(void)
     opens();
     runs();
     wheres();
+    tokens();
     turns();
     looks();
     changes();

@@ -72,10 +72,12 @@ static int same(struct teco *a, struct teco *b)
 /* Calls that may ask for nothing, where all is refused. They come back to where they began. */
 static void turn(struct teco *t, long nth, int i)
 {
-    uint8_t room[64];
-    size_t n;
+    uint8_t room[64], kind;
+    size_t n, from, to;
     begin(1, LONG_MAX);
     int undone = teco_undo(t), redone = undone == 0 ? teco_redo(t) : 0;
+    teco_token((const uint8_t *)strings[i], strlen(strings[i]), 0, &from, &to, &kind, &n);
+    teco_lines(t, 0, SIZE_MAX, &n);
     teco_text(t, 0, room, sizeof room, &n);
     teco_string(t, 0, room, sizeof room, &n);
     teco_output(t, 0, room, sizeof room, &n);

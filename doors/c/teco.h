@@ -26,10 +26,9 @@
  *   are what a limit counts. Nothing ends with a zero byte.
  *
  * ANSWERS
- *   0 is success. 1 to 32 are the numbers of the codes by which a command string, or a call, ends; TECO_MEM, TECO_TTY, TECO_NTU,
- *   TECO_NTR and TECO_END are those that a call itself can lead to. Others are below. The four calls at the end answer 1 and 0 for yes
- *   and no. Each other call that answers something else than 0, and is neither teco_run nor teco_where, has changed nothing, told 0 and
- *   copied nothing.
+ *   0 is success. 1 to 32 are the numbers of the codes by which a command string, or a call, ends; those that a call itself can lead
+ *   to have their names below. The four calls at the end answer 1 and 0 for yes and no. Each other call that answers something else
+ *   than 0 has changed nothing, told 0 and copied nothing. Only teco_run, teco_where and teco_token say otherwise.
  *
  * THREADS AND SIGNALS
  *   A handle stays on the thread that opened it. Different handles share nothing, and may be in calls at the same time on different
@@ -55,11 +54,16 @@ struct teco {
 #define TECO_TEXT_LIMIT 16777216
 
 enum {
+    TECO_ILL = 7,         /* no command begins so */
+    TECO_IQC = 9,         /* no test is named so */
+    TECO_IQN = 10,        /* no register is named so */
+    TECO_UTC = 24,        /* the text ends inside of a command */
     TECO_MEM = 28,        /* memory was refused */
     TECO_TTY = 29,        /* the room was too small for what was typed */
     TECO_NTU = 30,        /* there is nothing to undo */
     TECO_NTR = 31,        /* there is nothing to redo */
     TECO_END = 32,        /* an exit has ended the session */
+    TECO_NO_TOKEN = 250,  /* no token is left in the text */
     TECO_OUTSIDE = 251,   /* there is no such string, change, splice, register or search text */
     TECO_NOT_BEGUN = 252, /* the history found no memory for the string: it wasn't begun, and nothing changed */
     TECO_DEEP = 253,      /* the depth is above TECO_DEPTH_LIMIT */
@@ -69,6 +73,25 @@ enum {
 
 /* The place of a string that ended well, or of which none is told. */
 #define TECO_NOWHERE SIZE_MAX
+
+/* What a token is. */
+enum {
+    TECO_TOKEN_DIGITS = 1,      /* a run of digits */
+    TECO_TOKEN_VALUE = 2,       /* B Z . ^E ^N */
+    TECO_TOKEN_ARITHMETIC = 3,  /* H + - * / & # ( ) , */
+    TECO_TOKEN_LEVEL = 4,       /* A and \, each a value or a command */
+    TECO_TOKEN_COMMAND = 5,     /* J C R L D K T V ^T = == Y P PW EX ; ^X */
+    TECO_TOKEN_REGISTER = 6,    /* Q % U X G M [ ], with the name of a register */
+    TECO_TOKEN_BYTE = 7,        /* ^^ and a byte */
+    TECO_TOKEN_TEXT = 8,        /* I TAB ^A S N _, with a text */
+    TECO_TOKEN_JUMP = 9,        /* O, with the name of a tag */
+    TECO_TOKEN_SET_TEXT = 10,   /* ^U, with the name of a register and a text */
+    TECO_TOKEN_REPLACE = 11,    /* FS, with two texts */
+    TECO_TOKEN_MARK = 12,       /* < > | ' */
+    TECO_TOKEN_TEST = 13,       /* a quotation mark, with the letter of a test */
+    TECO_TOKEN_TAG = 14,        /* a tag between two exclamation marks */
+    TECO_TOKEN_ESCAPE = 15      /* ESC between tokens */
+};
 
 /* What a change of a string is for. */
 enum {
@@ -130,6 +153,15 @@ uint8_t teco_redo(struct teco *t);
  */
 uint8_t teco_rewind(struct teco *t, uint64_t n);
 
+/*
+ * Reads a text of n bytes, of no session: what stands at the place `at` after fillers, which are SP, CR, LF and NUL.
+ * 0 for a token: its first byte is at `from`, and `to` is the place behind its last; `kind` is its number above, and `size` says how
+ * many bytes its last text has, or the name of its tag, which ends at to - 1, where its delimiter stands; it is 0 where it has none.
+ * TECO_NO_TOKEN where none is left, also where `at` is beyond n; TECO_UTC, TECO_ILL, TECO_IQN or TECO_IQC where none can be read. Then
+ * `from` is the place after the fillers, `to` is n, and `kind` and `size` are 0. Asks for no memory.
+ */
+uint8_t teco_token(const uint8_t *text, size_t n, size_t at, size_t *from, size_t *to, uint8_t *kind, size_t *size);
+
 /* All that follows looks: it asks for no memory and changes nothing, neither the handle nor what it leads to. */
 
 /* How many strings are kept, and how many of them are not undone. */
@@ -180,6 +212,9 @@ uint8_t teco_pointer(const struct teco *t, size_t *pointer);
 /* The text of the buffer from a place on, and the output so far from a place on. Past the end there is nothing, of length 0. */
 uint8_t teco_text(const struct teco *t, size_t from, uint8_t *room, size_t size, size_t *length);
 uint8_t teco_output(const struct teco *t, size_t from, uint8_t *room, size_t size, size_t *length);
+
+/* How many line ends, LF, VT and FF, the text of the buffer has between two places. It takes the time of the way between them. */
+uint8_t teco_lines(const struct teco *t, size_t from, size_t to, size_t *count);
 
 /* The number and the text of the register of this name, A to Z in either case or 0 to 9: 0 or TECO_OUTSIDE. */
 uint8_t teco_number(const struct teco *t, uint8_t name, int32_t *number);

@@ -1,5 +1,5 @@
 /* Reading INPUT, and writing the output as teco does: to a draft beside the file, which takes its name. */
-#include "term.h"
+#include "terminal.h"
 #include <errno.h>
 #include <fcntl.h>
 #include <stdio.h>
@@ -45,15 +45,31 @@ static enum fate read_all(int file, struct bytes *to)
     return n == 0 ? GOES_ON : NO_INPUT;
 }
 
-enum fate file_read(const char *name, struct bytes *to)
+enum fate file_read(const char *name, struct bytes *to, struct stat *about)
 {
     int file = open(name, O_RDONLY | O_CLOEXEC);
     if (file < 0)
         return NO_INPUT;
-    enum fate fate = read_all(file, to);
+    enum fate fate = fstat(file, about) == 0 ? read_all(file, to) : NO_INPUT;
     if (close(file) != 0 && fate == GOES_ON)
         fate = NO_INPUT;
     return fate;
+}
+
+bool file_is_same(const struct stat *one, const struct stat *other)
+{
+    return one->st_dev == other->st_dev && one->st_ino == other->st_ino && one->st_size == other->st_size
+        && one->st_mtim.tv_sec == other->st_mtim.tv_sec && one->st_mtim.tv_nsec == other->st_mtim.tv_nsec;
+}
+
+/* Closes a file. Where that fails, or it failed before, errno says why. */
+static bool end_file(int file, bool has_worked)
+{
+    int why = errno;
+    bool is_closed = close(file) == 0;
+    if (!has_worked)
+        errno = why;
+    return has_worked && is_closed;
 }
 
 static bool write_all(int file, const uint8_t *bytes, size_t n)
@@ -88,8 +104,7 @@ static bool append(const char *name, struct teco *session)
     int file = open(name, O_WRONLY | O_APPEND | O_CREAT | O_CLOEXEC, 0666);
     if (file < 0)
         return false;
-    bool written = write_output(file, session);
-    return close(file) == 0 && written;
+    return end_file(file, write_output(file, session));
 }
 
 /* The group, the owner and the permissions of the file whose place it takes, as far as the system lets us. */
@@ -121,13 +136,14 @@ static int make_draft(const char *name, char *draft, size_t size, mode_t mode)
 static bool fill_draft(int file, const char *draft, const char *name, const struct stat *old, struct teco *session)
 {
     bool written = write_output(file, session);
-    if (old != NULL)
+    if (written && old != NULL)
         make_like(file, old);
-    written = written && fsync(file) == 0;
-    written = close(file) == 0 && written;
+    written = end_file(file, written && fsync(file) == 0);
     if (written && rename(draft, name) == 0)
         return true;
+    int why = errno;
     (void)unlink(draft);
+    errno = why;
     return false;
 }
 

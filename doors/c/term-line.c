@@ -1,10 +1,11 @@
 /* The string that is being typed, and how it is drawn: rows and columns are counted from the prompt on, and what changed is drawn anew. */
-#include "term.h"
+#include "term-editor.h"
 #include <stdio.h>
 #include <string.h>
 #include <wchar.h>
+#include <wctype.h>
 
-enum { TAB = 9, TAB_STOP = 8 };
+enum { TAB_STOP = 8, LEAST_ROWS = 2, LEAST_COLUMNS = 16 };
 
 /* Where the next cell comes, and the bytes that draw the cells from a row on. */
 struct pen {
@@ -63,8 +64,9 @@ static size_t draw_wide(struct pen *pen, const uint8_t *text, size_t n)
     mbstate_t state = {0};
     char number[8];
     size_t taken = mbrtowc(&wide, (const char *)text, n, &state);
-    int cells = taken > 0 && taken <= n ? wcwidth(wide) : 0;
-    if (cells > 0) {
+    int cells = taken > 0 && taken <= n ? wcwidth(wide) : -1;
+    bool combines = cells == 0 && iswprint((wint_t)wide) && pen->column > 0;
+    if (cells > 0 || combines) {
         draw_cells(pen, (const char *)text, taken, (size_t)cells);
         return taken;
     }
@@ -112,10 +114,37 @@ static size_t unchanged(const struct line *line)
     return length > back ? at - back : at;
 }
 
+/* Where the character before a place begins with what it combines with, since that is one cell: it is drawn anew with them. */
+static size_t whole_cell(const struct line *line, size_t at)
+{
+    const uint8_t *text = line->text.at;
+    wchar_t wide = L'a';
+    if (at == 0 || at == line->drawn || text[at - 1] == LINE_FEED)
+        return at;
+    do {
+        size_t from = at - 1;
+        while (from > 0 && at - from < 4 && (text[from] & 0xC0) == 0x80)
+            from--;
+        mbstate_t state = {0};
+        bool is_whole = mbrtowc(&wide, (const char *)text + from, at - from, &state) == at - from;
+        wide = is_whole ? wide : L'a';
+        at = is_whole ? from : at - 1;
+    } while (at > 0 && text[at - 1] != LINE_FEED && wcwidth(wide) == 0);
+    return at;
+}
+
+/* The size of the terminal, as far as it can be drawn in. */
+static void measure(size_t *rows, size_t *columns)
+{
+    tty_size(rows, columns);
+    *rows = *rows < LEAST_ROWS ? LEAST_ROWS : *rows;
+    *columns = *columns < LEAST_COLUMNS ? LEAST_COLUMNS : *columns;
+}
+
 /* From the prompt to so many bytes. */
 static void draw_from_prompt(struct pen *pen, const struct line *line, size_t to)
 {
-    draw_plain(pen, "*");
+    draw_plain(pen, line->prompt != NULL ? line->prompt : "*");
     draw_bytes(pen, line->text.at, 0, to);
 }
 
@@ -156,7 +185,7 @@ static void go_back(struct pen *pen, struct line *line, size_t to)
 static void begin(struct pen *pen, struct line *line)
 {
     bool is_elsewhere = line->lost || line->columns != 0;
-    tty_size(&line->rows, &line->columns);
+    measure(&line->rows, &line->columns);
     line->top = 0;
     *pen = (struct pen){.to = pen->to, .columns = line->columns};
     if (is_elsewhere)
@@ -166,8 +195,8 @@ static void begin(struct pen *pen, struct line *line)
 
 static void draw_changes(struct pen *pen, struct line *line)
 {
-    size_t rows, columns, from = unchanged(line);
-    tty_size(&rows, &columns);
+    size_t rows, columns, from = whole_cell(line, unchanged(line));
+    measure(&rows, &columns);
     if (line->lost || rows != line->rows || columns != line->columns) {
         begin(pen, line);
         return;
@@ -198,7 +227,7 @@ enum fate line_show_text(const struct bytes *text)
     struct bytes bytes = {0};
     struct pen pen = {.to = &bytes};
     size_t rows;
-    tty_size(&rows, &pen.columns);
+    measure(&rows, &pen.columns);
     draw_bytes(&pen, text->at, 0, text->count);
     bool shown = !pen.failed && tty_show(bytes.at, bytes.count) && (pen.column == 0 || tty_say("\r\n"));
     bytes_free(&bytes);

@@ -1,8 +1,9 @@
 /* The terminal: set for keys, and always given back. */
-#include "term.h"
+#include "terminal.h"
 #include <errno.h>
 #include <poll.h>
 #include <signal.h>
+#include <stdlib.h>
 #include <string.h>
 #include <sys/ioctl.h>
 #include <sys/select.h>
@@ -10,17 +11,18 @@
 #include <unistd.h>
 
 /* The most that may lie between two reads of what comes together, and the most bytes that are taken as one. */
-static const struct timespec GAP = {.tv_nsec = 10000000};
-enum { PIECE = 4096, TOGETHER = 1 << 20 };
+const struct timespec TTY_GAP = {.tv_nsec = 10000000};
+enum { PIECE = 4096, TOGETHER = 1 << 20, STACK = 1 << 16 };
 
-/* A terminal that knows it marks what is pasted. */
-static const char MARK_PASTES[] = "\33[?2004h", MARK_NONE[] = "\33[?2004l";
-
-/* What the handlers need: how the terminal was, how it is to be, whether that is so, and whether it was given back meanwhile. */
+/* What the handlers need: how the terminal was, how it is to be, what it is shown, whether that is so, and whether it was given back
+   meanwhile or has another size. */
 static struct termios before, own;
+static struct marks marks;
 static volatile sig_atomic_t is_own, resumed;
 
-static const int ENDING[] = {SIGINT, SIGTERM, SIGHUP, SIGQUIT};
+/* Signals that end the program: those that ask for it, and faults. */
+static const int ENDING[] = {SIGINT, SIGTERM, SIGHUP, SIGQUIT, SIGALRM, SIGUSR1, SIGUSR2, SIGPIPE, SIGVTALRM, SIGPROF, SIGPOLL, SIGXCPU,
+    SIGXFSZ, SIGSEGV, SIGBUS, SIGFPE, SIGILL, SIGABRT, SIGSYS, SIGTRAP};
 enum { ENDINGS = sizeof ENDING / sizeof *ENDING };
 
 /* Shows a mark where the terminal takes it at once: a handler doesn't wait. */
@@ -48,7 +50,7 @@ static bool set_own(void)
     is_own = 1;
     if (tcsetattr(STDIN_FILENO, TCSANOW, &own) != 0)
         return false;
-    mark(MARK_PASTES);
+    mark(marks.begin);
     return true;
 }
 
@@ -57,7 +59,7 @@ static void give_back(void)
     if (!is_own || !is_ours())
         return;
     (void)tcsetattr(STDIN_FILENO, TCSANOW, &before);
-    mark(MARK_NONE);
+    mark(marks.end);
     is_own = 0;
 }
 
@@ -66,8 +68,15 @@ static void on_end(int signal)
 {
     int kept = errno;
     give_back();
+    journal_leave();
     (void)raise(signal);
     errno = kept;
+}
+
+static void on_resize(int signal)
+{
+    (void)signal;
+    resumed = 1;
 }
 
 static void on_resume(int signal)
@@ -104,13 +113,18 @@ static bool handle(int signal, void (*handler)(int), int flags)
     return sigfillset(&action.sa_mask) == 0 && sigaction(signal, &action, NULL) == 0;
 }
 
+/* A fault of the stack is handled on another one. */
 static bool handle_all(void)
 {
+    static uint8_t stack[STACK];
+    stack_t other = {.ss_sp = stack, .ss_size = STACK};
+    if (sigaltstack(&other, NULL) != 0)
+        return false;
     for (int i = 0; i < ENDINGS; i++) {
-        if (!handle(ENDING[i], on_end, (int)SA_RESETHAND))
+        if (!handle(ENDING[i], on_end, (int)SA_RESETHAND | SA_ONSTACK))
             return false;
     }
-    return handle(SIGTSTP, on_stop, 0) && handle(SIGCONT, on_resume, 0);
+    return handle(SIGTSTP, on_stop, 0) && handle(SIGCONT, on_resume, 0) && (!marks.is_full || handle(SIGWINCH, on_resize, 0));
 }
 
 /* Keys come one by one, as they are, and nothing is shown of them; Ctrl-Z and Ctrl-\ stay signals. */
@@ -120,39 +134,57 @@ static void make_own(void)
     own.c_iflag &= ~(tcflag_t)(IXON | IXOFF | ICRNL | INLCR | IGNCR | ISTRIP | INPCK | PARMRK);
     own.c_lflag &= ~(tcflag_t)(ICANON | ECHO | ECHONL | IEXTEN);
     own.c_lflag |= ISIG;
+    if (marks.is_full)
+        own.c_oflag &= ~(tcflag_t)ONLCR;
     own.c_cc[VINTR] = _POSIX_VDISABLE;
     own.c_cc[VMIN] = 1;
     own.c_cc[VTIME] = 0;
 }
 
-/* No signal comes while the terminal changes hands. */
-static bool block_all(sigset_t *usual)
+bool tty_block(sigset_t *usual)
 {
     sigset_t all;
     return sigfillset(&all) == 0 && sigprocmask(SIG_BLOCK, &all, usual) == 0;
 }
 
-bool tty_begin(void)
+void tty_unblock(const sigset_t *usual)
+{
+    (void)sigprocmask(SIG_SETMASK, usual, NULL);
+}
+
+/* No signal comes while the terminal changes hands. */
+enum fate tty_begin(const struct marks *own_marks)
 {
     sigset_t usual;
-    if (!isatty(STDOUT_FILENO) || tcgetattr(STDIN_FILENO, &before) != 0 || !block_all(&usual))
-        return false;
+    const char *name = getenv("TERM");
+    marks = *own_marks;
+    if (!isatty(STDOUT_FILENO) || tcgetattr(STDIN_FILENO, &before) != 0 || !tty_block(&usual))
+        return NO_TERMINAL;
+    bool is_poor = name != NULL && strcmp(name, "dumb") == 0;
     make_own();
-    bool is_set = handle_all() && set_own();
-    return sigprocmask(SIG_SETMASK, &usual, NULL) == 0 && is_set;
+    bool is_set = !is_poor && handle_all() && set_own();
+    tty_unblock(&usual);
+    return is_set ? GOES_ON : is_poor ? POOR_TERMINAL : NO_TERMINAL;
+}
+
+void tty_forget(void)
+{
+    is_own = 0;
+    for (int i = 0; i < ENDINGS; i++)
+        (void)handle(ENDING[i], SIG_DFL, 0);
+    (void)handle(SIGTSTP, SIG_DFL, 0);
+    (void)handle(SIGCONT, SIG_DFL, 0);
+    (void)handle(SIGWINCH, SIG_DFL, 0);
 }
 
 void tty_end(void)
 {
     sigset_t usual;
-    bool are_blocked = block_all(&usual);
+    bool are_blocked = tty_block(&usual);
     give_back();
-    for (int i = 0; i < ENDINGS; i++)
-        (void)handle(ENDING[i], SIG_DFL, 0);
-    (void)handle(SIGTSTP, SIG_DFL, 0);
-    (void)handle(SIGCONT, SIG_DFL, 0);
+    tty_forget();
     if (are_blocked)
-        (void)sigprocmask(SIG_SETMASK, &usual, NULL);
+        tty_unblock(&usual);
 }
 
 bool tty_show(const void *bytes, size_t n)
@@ -177,29 +209,41 @@ bool tty_say(const char *text)
     return tty_show(text, strlen(text));
 }
 
-/* Waits until bytes can be read, or for so long: CAME, RESUMED, FAILED, or ENDED where the time is over. No resume is missed: the
-   signals come inside pselect alone. */
-static enum event wait_for(const struct timespec *most)
+/* No resume is missed: the signals come inside pselect alone. */
+static int select_in(fd_set *in, int last, const struct timespec *most, bool *is_resumed)
 {
     sigset_t stops, usual;
-    fd_set in;
     int ready = -1;
-    if (sigemptyset(&stops) != 0 || sigaddset(&stops, SIGTSTP) != 0 || sigaddset(&stops, SIGCONT) != 0
+    if (sigemptyset(&stops) != 0 || sigaddset(&stops, SIGTSTP) != 0 || sigaddset(&stops, SIGCONT) != 0 || sigaddset(&stops, SIGWINCH) != 0
         || sigprocmask(SIG_BLOCK, &stops, &usual) != 0)
-        return FAILED;
-    FD_ZERO(&in);
-    FD_SET(STDIN_FILENO, &in);
+        return -1;
     errno = EINTR;
     if (!resumed)
-        ready = pselect(STDIN_FILENO + 1, &in, NULL, NULL, most, &usual);
-    bool interrupted = ready < 0 && errno == EINTR;
-    if (sigprocmask(SIG_SETMASK, &usual, NULL) != 0)
-        return FAILED;
-    return ready > 0 ? CAME : ready == 0 ? ENDED : interrupted ? RESUMED : FAILED;
+        ready = pselect(last + 1, in, NULL, NULL, most, &usual);
+    *is_resumed = ready < 0 && errno == EINTR;
+    return sigprocmask(SIG_SETMASK, &usual, NULL) == 0 ? ready : -1;
 }
 
-/* Reads a piece: CAME, ENDED, FAILED. */
-static enum event read_piece(struct bytes *together)
+enum event tty_wait(int other, const struct timespec *most)
+{
+    fd_set in;
+    bool is_resumed = false;
+    FD_ZERO(&in);
+    FD_SET(STDIN_FILENO, &in);
+    if (other >= 0)
+        FD_SET(other, &in);
+    int ready = select_in(&in, other > STDIN_FILENO ? other : STDIN_FILENO, most, &is_resumed);
+    if (ready <= 0)
+        return ready == 0 ? LATE : is_resumed ? RESUMED : FAILED;
+    return FD_ISSET(STDIN_FILENO, &in) ? CAME : TOLD;
+}
+
+void tty_resume(void)
+{
+    resumed = 0;
+}
+
+enum event tty_take(struct bytes *together)
 {
     uint8_t piece[PIECE];
     ssize_t n = read(STDIN_FILENO, piece, sizeof piece);
@@ -213,14 +257,12 @@ static enum event read_piece(struct bytes *together)
 enum event tty_read(struct bytes *together)
 {
     together->count = 0;
-    enum event event = wait_for(NULL);
-    if (event == RESUMED)
-        resumed = 0;
+    enum event event = tty_wait(-1, NULL);
     if (event != CAME)
         return event;
-    event = read_piece(together);
-    while (event == CAME && together->count < TOGETHER && wait_for(&GAP) == CAME)
-        event = read_piece(together);
+    event = tty_take(together);
+    while (event == CAME && together->count < TOGETHER && tty_wait(-1, &TTY_GAP) == CAME)
+        event = tty_take(together);
     return together->count > 0 ? CAME : event;
 }
 
@@ -228,8 +270,8 @@ void tty_size(size_t *rows, size_t *columns)
 {
     struct winsize size;
     bool known = ioctl(STDOUT_FILENO, TIOCGWINSZ, &size) == 0 && size.ws_row > 0 && size.ws_col > 0;
-    *rows = !known ? 24 : size.ws_row < 2 ? 2 : size.ws_row;
-    *columns = !known ? 80 : size.ws_col < 16 ? 16 : size.ws_col;
+    *rows = known ? size.ws_row : 24;
+    *columns = known ? size.ws_col : 80;
 }
 
 uint8_t tty_erase_key(void)

@@ -1,16 +1,25 @@
 """Command strings with total undo and redo, by ctypes over a shared object made of libteco_c.a.
 
-TECO_SHARED names the shared object. A Session closes itself; used in a `with` it is closed at the end.
+TECO_SHARED names the shared object. A Session closes itself; used in a `with` it is closed at the end. What the library can't take is
+refused by an exception before it is called: TypeError for a text that is no bytes and a number that is none, ValueError for a negative
+one, OverflowError for one that is too large, RuntimeError on another thread than the one that opened the session. A Session can't be
+copied.
 """
 
 import ctypes
+import operator
 import os
+import sys
+import threading
 from collections import namedtuple
 from ctypes import POINTER, byref, c_int32, c_size_t, c_uint8, c_uint64, c_void_p
 
-TTY, NTU, NTR, END = 29, 30, 31, 32
-OUTSIDE, NOT_BEGUN, DEEP, LARGE, CLOSED = 251, 252, 253, 254, 255
+ILL, IQC, IQN, POP, UTC, LIM = 7, 9, 10, 20, 24, 27
+MEM, TTY, NTU, NTR, END = 28, 29, 30, 31, 32
+NO_TOKEN, OUTSIDE, NOT_BEGUN, DEEP, LARGE, CLOSED = 250, 251, 252, 253, 254, 255
 KINDS = (None, "splice", "point", "number", "text", "push", "pop", "pages", "search", "found", "done", "mode")
+TOKENS = (None, "digits", "value", "arithmetic", "level", "command", "register", "byte", "text", "jump", "set_text", "replace", "mark",
+          "test", "tag", "escape")
 
 # A change: its kind, the steps that were done before it, and the name of the register, if it is for one. Of a splice, the place in the
 # text, and how many bytes the next turn takes out there and puts in: the undo of its string, or the redo where that is undone.
@@ -21,34 +30,102 @@ Change = namedtuple("Change", "kind step name at gone came", defaults=(None, Non
 Place = namedtuple("Place", "at calls")
 NOWHERE = c_size_t(-1).value
 
+# What stands at a place of a text. `code` is 0 for a token, NO_TOKEN where none is left, or the number of the code by which none is
+# read. It goes from `begin` up to `end`; its last text has `size` bytes.
+Token = namedtuple("Token", "code begin end kind size")
+
 
 class Handle(ctypes.Structure):
     _fields_ = [("at", c_void_p)]
 
 
-def _library():
-    library = ctypes.CDLL(os.environ["TECO_SHARED"])
-    handle, size, word = POINTER(Handle), POINTER(c_size_t), POINTER(c_uint64)
+def _calls():
+    """The arguments of each call of teco.h, after its handle."""
+    size, word, byte = POINTER(c_size_t), POINTER(c_uint64), POINTER(c_uint8)
     room = [c_void_p, c_size_t]
-    calls = {
+    run = [c_void_p, c_size_t, c_uint64, *room, size, word]
+    return {
         "open": [c_void_p, c_size_t, c_size_t],
-        "run": [c_void_p, c_size_t, c_uint64, *room, size, word],
-        "where": [c_void_p, c_size_t, c_uint64, *room, size, word, size, size],
+        "run": run, "where": [*run, size, size],
         "undo": [], "redo": [], "rewind": [c_uint64],
         "strings": [size], "cursor": [size], "steps": [c_size_t, word],
         "string": [c_size_t, *room, size], "changes": [c_size_t, size],
-        "change": [c_size_t, c_size_t, POINTER(c_uint8), POINTER(c_uint8), word],
+        "change": [c_size_t, c_size_t, byte, byte, word],
         "splice": [c_size_t, c_size_t, size, size, size],
-        "length": [size], "pointer": [size],
+        "length": [size], "pointer": [size], "lines": [c_size_t, c_size_t, size],
         "text": [c_size_t, *room, size], "output": [c_size_t, *room, size],
         "number": [c_uint8, POINTER(c_int32)], "register": [c_uint8, *room, size],
-        "done": [],
+        "search": [*room, size], "pushed": [size], "place": [size],
+        "done": [], "found": [], "form_feed": [], "either_case": [],
     }
-    for name, arguments in calls.items():
+
+
+def _library():
+    library = ctypes.CDLL(os.environ["TECO_SHARED"])
+    for name, arguments in _calls().items():
         call = getattr(library, "teco_" + name)
-        call.argtypes, call.restype = [handle, *arguments], c_uint8
-    library.teco_close.argtypes, library.teco_close.restype = [handle], None
+        call.argtypes, call.restype = [POINTER(Handle), *arguments], c_uint8
+    size = POINTER(c_size_t)
+    library.teco_close.argtypes, library.teco_close.restype = [POINTER(Handle)], None
+    library.teco_token.argtypes = [c_void_p, c_size_t, c_size_t, size, size, POINTER(c_uint8), size]
+    library.teco_token.restype = c_uint8
     return library
+
+
+_loaded = None
+
+
+def _teco():
+    global _loaded
+    if _loaded is None:
+        _loaded = _library()
+    return _loaded
+
+
+def _bytes(text):
+    """The bytes of a text, which stay where they are."""
+    if isinstance(text, (bytes, bytearray, memoryview)):
+        return bytes(text)
+    raise TypeError(f"bytes are wanted, and not {type(text).__name__}")
+
+
+def _number(value, most):
+    """A whole number from 0 to the most that the library takes."""
+    number = operator.index(value)
+    if number < 0:
+        raise ValueError(f"{number} is negative")
+    if number > most:
+        raise OverflowError(f"{number} is above {most}")
+    return number
+
+
+def _size(value):
+    return _number(value, NOWHERE)
+
+
+def _steps(value):
+    return _number(value, 2**64 - 1)
+
+
+def _name(name):
+    """The byte that names a register."""
+    if not isinstance(name, str):
+        raise TypeError(f"a character is wanted, and not {type(name).__name__}")
+    if len(name) != 1 or ord(name) > 255:
+        raise ValueError(f"{name!r} is no name of a register")
+    return ord(name)
+
+
+def _room(size):
+    """Room for so many bytes, and one more."""
+    return ctypes.create_string_buffer(_number(size, sys.maxsize - 1) + 1)
+
+
+def token(text, at=0):
+    """What stands at a place of a text, after fillers."""
+    text, begin, end, kind, size = _bytes(text), c_size_t(), c_size_t(), c_uint8(), c_size_t()
+    code = _teco().teco_token(text, len(text), _size(at), byref(begin), byref(end), byref(kind), byref(size))
+    return Token(code, begin.value, end.value, TOKENS[kind.value], size.value)
 
 
 class Refused(Exception):
@@ -62,16 +139,31 @@ class Refused(Exception):
 class Session:
     """An open session over a copy of the input, that keeps the last `depth` strings, or all of them where that is 0."""
 
-    _teco = None
+    def __new__(cls, *_, **__):
+        session = super().__new__(cls)
+        session._handle, session._thread = Handle(), threading.get_ident()
+        return session
 
     def __init__(self, text=b"", depth=0):
-        if Session._teco is None:
-            Session._teco = _library()
-        self._handle = Handle()
-        self._call("open", text, len(text), depth)
+        text = _bytes(text)
+        self._call("open", text, len(text), _size(depth))
+
+    def __copy__(self):
+        raise TypeError("a session can't be copied")
+
+    def __deepcopy__(self, _):
+        raise TypeError("a session can't be copied")
+
+    def __reduce__(self):
+        raise TypeError("a session can't be pickled")
+
+    def _answer(self, name, *arguments):
+        if threading.get_ident() != self._thread:
+            raise RuntimeError("a session stays on the thread that opened it")
+        return getattr(_teco(), "teco_" + name)(byref(self._handle), *arguments)
 
     def _call(self, name, *arguments):
-        answer = getattr(self._teco, "teco_" + name)(byref(self._handle), *arguments)
+        answer = self._answer(name, *arguments)
         if answer:
             raise Refused(answer)
 
@@ -80,17 +172,22 @@ class Session:
         self._call(name, *arguments, byref(value))
         return value.value
 
+    def _says(self, name):
+        answer = self._answer(name)
+        if answer == CLOSED:
+            raise Refused(answer)
+        return answer == 1
+
     def _copied(self, name, *arguments):
-        room = ctypes.create_string_buffer(1)
-        length = self._told(c_size_t, name, *arguments, room, 0)
-        room = ctypes.create_string_buffer(length + 1)
+        length = self._told(c_size_t, name, *arguments, _room(0), 0)
+        room = _room(length)
         self._told(c_size_t, name, *arguments, room, length)
         return room.raw[:length]
 
     def _run(self, name, text, limit, room, *told):
-        typed, made, steps = ctypes.create_string_buffer(room + 1), c_size_t(), c_uint64()
-        answer = getattr(self._teco, "teco_" + name)(
-            byref(self._handle), text, len(text), limit, typed, room, byref(made), byref(steps), *told)
+        text, limit, typed = _bytes(text), _steps(limit), _room(room)
+        made, steps = c_size_t(), c_uint64()
+        answer = self._answer(name, text, len(text), limit, typed, len(typed) - 1, byref(made), byref(steps), *told)
         if answer in (NOT_BEGUN, END, CLOSED):
             raise Refused(answer)
         return answer, typed.raw[:made.value], steps.value
@@ -112,18 +209,28 @@ class Session:
         self._call("redo")
 
     def rewind(self, n):
-        self._call("rewind", n)
+        self._call("rewind", _steps(n))
 
     def close(self):
-        self._teco.teco_close(byref(self._handle))
+        if threading.get_ident() != self._thread:
+            raise RuntimeError("a session stays on the thread that opened it")
+        _teco().teco_close(byref(self._handle))
 
     @property
     def text(self):
         return self._copied("text", 0)
 
     @property
+    def length(self):
+        return self._told(c_size_t, "length")
+
+    @property
     def pointer(self):
         return self._told(c_size_t, "pointer")
+
+    def lines(self, start=0, stop=NOWHERE):
+        """How many line ends the text has between two places."""
+        return self._told(c_size_t, "lines", _size(start), _size(stop))
 
     @property
     def output(self):
@@ -137,6 +244,10 @@ class Session:
     def cursor(self):
         return self._told(c_size_t, "cursor")
 
+    def steps(self, i):
+        """How many steps a string took."""
+        return self._told(c_uint64, "steps", _size(i))
+
     def _change(self, i, k):
         kind, name, step = c_uint8(), c_uint8(), c_uint64()
         self._call("change", i, k, byref(kind), byref(name), byref(step))
@@ -149,13 +260,45 @@ class Session:
 
     def changes(self, i):
         """The changes of a string, in the order in which its steps made them."""
+        i = _size(i)
         return [self._change(i, k) for k in range(self._told(c_size_t, "changes", i))]
 
     def number(self, name):
-        return self._told(c_int32, "number", ord(name))
+        return self._told(c_int32, "number", _name(name))
 
     def register(self, name):
-        return self._copied("register", ord(name))
+        return self._copied("register", _name(name))
+
+    @property
+    def search(self):
+        """The last search text."""
+        return self._copied("search")
+
+    @property
+    def pushed(self):
+        """How many values are on the push-down list."""
+        return self._told(c_size_t, "pushed")
+
+    @property
+    def place(self):
+        """How many bytes of the input have been read."""
+        return self._told(c_size_t, "place")
+
+    @property
+    def done(self):
+        return self._says("done")
+
+    @property
+    def found(self):
+        return self._says("found")
+
+    @property
+    def form_feed(self):
+        return self._says("form_feed")
+
+    @property
+    def either_case(self):
+        return self._says("either_case")
 
     def __enter__(self):
         return self
@@ -164,5 +307,6 @@ class Session:
         self.close()
 
     def __del__(self):
-        if self._teco is not None:
-            self.close()
+        # Nobody else has it any more, on whatever thread this is.
+        if _loaded is not None and self._handle.at is not None:
+            _loaded.teco_close(byref(self._handle))

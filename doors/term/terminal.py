@@ -10,9 +10,19 @@ import signal
 import struct
 import termios
 import time
+import unicodedata
+from pathlib import Path
 
 PATIENCE = float(os.environ.get("PATIENCE", "20"))  # seconds to wait for what has to come
 QUIET = 0.05  # and for what must not
+
+
+def tecol_built():
+    """The program that reads sources: the one that TECOL names, one that is built here, or the script that benchmarks keep."""
+    top = Path(__file__).resolve().parent.parent.parent
+    named = os.environ.get("TECOL")
+    built = [Path(named)] if named else [top / "out" / "tecol", top / "crates" / "tecol" / "out" / "tecol"]
+    return next((it for it in built if it.exists()), top / "bench" / "peers" / "tecol")
 
 
 class Screen:
@@ -72,7 +82,7 @@ class Screen:
         elif byte == 7:
             self.bells += 1
         elif byte >= 32:
-            size = 1 if byte < 0xC0 else 2 if byte < 0xE0 else 3
+            size = 1 if byte < 0xC0 else 2 if byte < 0xE0 else 3 if byte < 0xF0 else 4
             if len(data) < size:
                 return 0
             self.put(data[:size].decode(errors="replace"))
@@ -82,6 +92,10 @@ class Screen:
         return 1
 
     def put(self, character):
+        if unicodedata.combining(character):
+            at = max(at for at in range(min(self.column, self.columns)) if self.cells[self.row][at])
+            self.cells[self.row][at] += character
+            return
         wide = 2 if "\u3000" <= character <= "\uff60" else 1
         if self.column + wide > self.columns:
             self.column = 0
@@ -108,7 +122,7 @@ class Screen:
         return "\n".join(rows)
 
 
-def shell(program, report, orders):
+def shell(program, environment, report, orders):
     """Runs the program as the foreground job of this terminal. Reports each stop and its end, and waits for an order after a stop."""
     signal.signal(signal.SIGTTOU, signal.SIG_IGN)
     child = os.fork()
@@ -117,7 +131,7 @@ def shell(program, report, orders):
         os.tcsetpgrp(0, os.getpid())
         signal.signal(signal.SIGTTOU, signal.SIG_DFL)
         try:
-            os.execve(program[0], program, dict(os.environ, LC_ALL="C.UTF-8"))
+            os.execve(program[0], program, {**os.environ, "LC_ALL": "C.UTF-8", "TERM": "xterm", **environment})
         finally:
             os._exit(127)
     os.write(report, b"pid %d\n" % child)
@@ -137,8 +151,8 @@ def shell(program, report, orders):
 
 
 class Terminal:
-    def __init__(self, program, rows=24, columns=80, erase=b"\x7f"):
-        self.screen = Screen(rows, columns)
+    def __init__(self, program, rows=24, columns=80, erase=b"\x7f", screen=Screen, environment=None):
+        self.screen = screen(rows, columns)
         self.seen = b""
         self.reports = b""
         self.master, slave = pty.openpty()
@@ -157,7 +171,7 @@ class Terminal:
                 os.dup2(slave, place)
             os.close(self.master)
             try:
-                shell(program, report, orders)
+                shell(program, environment or {}, report, orders)
             finally:
                 os._exit(127)
         for unused in slave, report, orders:

@@ -3,6 +3,7 @@
 use std::process::Abort;
 
 pub(crate) mod bytes;
+mod calls;
 pub(crate) mod commands;
 pub(crate) mod exec;
 mod gap;

@@ -6,3 +6,4 @@ pub mod Calls
 pub mod Places
 pub mod Looks
 pub mod Changes
+pub mod Tokens

@@ -19,8 +19,22 @@ pub const NOT_BEGUN: u8 = 252;
 /// There is no such string, change or splice, no such register, or no search text.
 pub const OUTSIDE: u8 = 251;
 
+/// No token is left.
+pub const NO_TOKEN: u8 = 250;
+
 /// The place of a string that did not stop before its end, or of which no place is told.
 pub const NOWHERE: usize = usize::MAX;
+
+/// The answers as numbers. The call does nothing.
+pub fn answer_values()
+    ensures no_token { NO_TOKEN ≡ 250 }
+    ensures outside { OUTSIDE ≡ 251 }
+    ensures not_begun { NOT_BEGUN ≡ 252 }
+    ensures deep { DEEP ≡ 253 }
+    ensures large { LARGE ≡ 254 }
+    ensures closed { CLOSED ≡ 255 }
+    ensures nowhere { NOWHERE ≡ 18446744073709551615 }
+{}
 
 /// The number that tells an answer: of its code, 0 where it has none, and one of its own where the string was not begun.
 pub fn number_of_answer(answer: Answer) -> u8

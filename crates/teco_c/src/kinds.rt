@@ -39,6 +39,21 @@ pub const DONE: u8 = 10;
 /// The case mode.
 pub const MODE: u8 = 11;
 
+/// The kinds as numbers. The call does nothing.
+pub fn kind_values()
+    ensures splice { SPLICE ≡ 1 }
+    ensures point { POINT ≡ 2 }
+    ensures number { NUMBER ≡ 3 }
+    ensures text { TEXT ≡ 4 }
+    ensures push { PUSH ≡ 5 }
+    ensures pop { POP ≡ 6 }
+    ensures pages { PAGES ≡ 7 }
+    ensures search { SEARCH ≡ 8 }
+    ensures found { FOUND ≡ 9 }
+    ensures done { DONE ≡ 10 }
+    ensures mode { MODE ≡ 11 }
+{}
+
 /// The number of a kind.
 pub fn number_of_kind(kind: ChangeKind) -> u8
     ensures { result ≡ kind_number kind }

@@ -6,6 +6,7 @@
 mod answers;
 mod calls;
 mod changes;
+mod halves;
 mod handle;
 mod history;
 mod kinds;
@@ -13,3 +14,5 @@ mod parts;
 mod places;
 mod room;
 mod state;
+mod token_kinds;
+mod tokens;

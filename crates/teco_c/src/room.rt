@@ -1,5 +1,6 @@
 //! A terminal over the room of a caller, and what is copied into one.
-ghost use Rattle.std.specs.Prelude.{◌≡◌, ◌≤◌, ◌++◌, ◌∷◌, length, take, drop, Some};
+ghost use Rattle.std.specs.Prelude.{◌≡◌, ◌≤◌, ◌<◌, ◌+◌, ◌↔◌, ◌++◌, ◌∷◌, length, take, IsErr, Some};
+ghost use Rattle.teco_step.specs.Terminal.{Puts};
 ghost use Rattle.teco_c.specs.Rooms.{filled};
 
 use teco_step::{Terminal, TerminalFault};
@@ -34,7 +35,11 @@ impl<'a> Room<'a> {
 impl<'a> Terminal for Room<'a> {
     ghost screen = { λ t. record { shown = Some (t.room.ghost_name ∷ length t.room.now ∷ take t.count t.room.now); failures = t.failures } };
 
-    fn put(&mut self, bytes: &[u8]) -> Result<(), TerminalFault> {
+    fn put(&mut self, bytes: &[u8]) -> Result<(), TerminalFault>
+        ensures puts { Puts (⟦<Room<'a> as Terminal>⟧.screen self.old) (⟦<Room<'a> as Terminal>⟧.screen self.new)
+            bytes.now result }
+        ensures fails { IsErr result ↔ (length self.old.room.now < self.old.count + length bytes.now) }
+    {
         let left = self.room.len() - self.count;
         if left < bytes.len() {
             self.failures = self.failures.wrapping_add(1);
@@ -63,20 +68,4 @@ pub fn copy_halves(room: &mut [u8], before: &[u8], after: &[u8])
     let (first, second) = room.split_at_mut(split);
     copy_front(first, before);
     copy_front(second, after);
-}
-
-/// What is left of a text in two parts from a place on.
-#[tactic(auto, using(crate::proofs::Dropping::drop_in_parts))]
-pub fn halves_from<'a>(before: &'a [u8], after: &'a [u8], from: usize) -> (&'a [u8], &'a [u8])
-    ensures { result.0.now ++ result.1.now ≡ drop from (before.now ++ after.now) }
-{
-    let past = from.saturating_sub(before.len());
-    (bytes_from(before, from), bytes_from(after, past))
-}
-
-/// What is left of a text from a place on.
-fn bytes_from(bytes: &[u8], from: usize) -> &[u8]
-    ensures { result.now ≡ drop from bytes.now }
-{
-    &bytes[from.min(bytes.len())..]
 }

@@ -1,10 +1,12 @@
 //! The calls that tell of the editing state.
-ghost use Rattle.std.specs.Prelude.{◌≡◌, length, drop, option_map, pos};
+ghost use Rattle.std.specs.Prelude.{◌≡◌, length, drop, count_by, slice_range, option_map, pos};
+ghost use Rattle.teco_core.specs.Ascii.{is_line_end};
 ghost use Rattle.teco_c.specs.Looks.{Tells, TellsIf, Says, Copies, CopiesIf, register_named_by, state_now, is_either};
 
 use crate::answers::{CLOSED, OUTSIDE};
+use crate::halves::{halves_between, halves_from, line_ends_in};
 use crate::handle::Teco;
-use crate::room::{copy_front, copy_halves, halves_from};
+use crate::room::{copy_front, copy_halves};
 use teco_core::{CaseMode, Reg};
 use teco_store::Desk;
 
@@ -53,6 +55,23 @@ pub extern "C" fn teco_text(t: &mut Teco, from: usize, room: &mut [u8], len: &mu
     let (before, after) = halves_from(before, after, from);
     *len = before.len() + after.len();
     copy_halves(room, before, after);
+    0
+}
+
+/// Writes how many line ends, LF, VT and FF, the text has between two places. Takes no memory, and the time of the way there.
+#[unsafe(no_mangle)]
+pub extern "C" fn teco_lines(t: &mut Teco, from: usize, to: usize, count: &mut usize) -> u8
+    ensures told { Tells t.old.value result count.new
+        (λ kept. count_by is_line_end (slice_range (state_now kept).text from to)) }
+    ensures same { t.new ≡ t.old }
+{
+    let Some(session) = t.look() else {
+        *count = 0;
+        return CLOSED;
+    };
+    let (before, after) = session.editor().halves();
+    let (before, after) = halves_between(before, after, from, to);
+    *count = line_ends_in(before, after);
     0
 }
 

@@ -10,28 +10,10 @@ use teco_core::NoMemory;
 use teco_exec::Place;
 use teco_step::{Terminal, TerminalFault};
 use teco_telling::{Spot, spell, spot_of};
-use teco_walk::{Command, Part, Walk, last_change};
+use teco_walk::{Command, Counted, Part, Plain, VERBS, VerbRow, Walk, last_change};
 
-/// What `help` shows.
-const HELP: &str = "next [N]         n  N steps on, 1 without N
-back [N]         b  N steps back, 1 without N
-goto N           g  to the step after N steps
-end              e  to the end of the string, or to the limit
-start            s  to the beginning
-where            w  the line with its token marked, the open calls and iterations
-text [N]         t  N lines of the buffer before and after the pointer, which is |>
-register R       r  what a register holds
-registers        i  the registers that hold anything
-state            a  pointer, input, output, search and flags
-find R           f  back to the step that changed register R last
-find text        f  back to the step that changed the buffer last
-break LINE:COL   k  notes a place of the string
-continue         c  on to the next step at that place
-typed            y  what was typed so far
-undo [N]         u  takes back the last N moves, 1 without N
-help             h  this list
-quit             q
-";
+/// Where the letters stand in a line of the help, and the texts after them.
+const LETTER_COLUMN: usize = 17;
 
 /// The most steps that `continue` runs in all; each step that it looks at is run to from the beginning.
 const MOST_WORK: u64 = 100_000_000;
@@ -44,6 +26,27 @@ pub enum Served {
     ReadFault,
     ShowFault,
     NoMemory,
+}
+
+/// Shows a line of the help: a command with what it takes, its letter, and what it does.
+fn show_verb(out: &mut String, row: &VerbRow) -> Result<(), NoMemory> {
+    out.push_str(row.word)?;
+    out.push_str(" ")?;
+    out.push_str(row.operand)?;
+    for _i in (row.word.len() + 1 + row.operand.len())..LETTER_COLUMN {
+        out.push_str(" ")?;
+    }
+    out.push_str(row.letter)?;
+    out.push_str("  ")?;
+    out.push_str(row.help)?;
+    out.push_str("\n")
+}
+
+fn show_help(out: &mut String, rows: &[VerbRow]) -> Result<(), NoMemory> {
+    for row in rows {
+        show_verb(out, row)?;
+    }
+    Ok(())
 }
 
 /// A walk, with what the commands need beside it.
@@ -145,37 +148,48 @@ impl Debugger {
         out.push_str("\n")
     }
 
-    /// Does a command that moves.
-    fn walk_by(&mut self, out: &mut String, command: Command) -> Result<(), NoMemory> {
+    fn answer_plain(&mut self, out: &mut String, plain: Plain) -> Result<(), NoMemory> {
+        match plain {
+            Plain::End => self.go(out, self.limit),
+            Plain::Start => self.go(out, 0),
+            Plain::Where => show_where(out, &self.walk),
+            Plain::Registers => show_registers(out, self.walk.editor()),
+            Plain::State => show_state(out, self.walk.editor()),
+            Plain::Continue => self.go_on(out),
+            Plain::Typed => self.show_typed(out),
+            Plain::Help => show_help(out, &VERBS),
+            // no line is read after it
+            Plain::Quit => Ok(()),
+        }
+    }
+
+    fn answer_counted(
+        &mut self,
+        out: &mut String,
+        counted: Counted,
+        n: u64,
+    ) -> Result<(), NoMemory> {
         let steps = self.walk.steps();
-        match command {
-            Command::Next(n) => self.go(out, ahead(steps, n, self.limit)),
-            Command::Back(n) => self.go(out, behind(steps, n)),
-            Command::Goto(n) => self.go(out, n.min(self.limit)),
-            Command::End => self.go(out, self.limit),
-            Command::Start => self.go(out, 0),
-            Command::Find(part) => self.find(out, part),
-            Command::Continue => self.go_on(out),
-            Command::Undo(n) => self.take_back(out, n),
-            _ => Ok(()),
+        match counted {
+            Counted::Next => self.go(out, ahead(steps, n, self.limit)),
+            Counted::Back => self.go(out, behind(steps, n)),
+            Counted::Goto => self.go(out, n.min(self.limit)),
+            Counted::Text => show_text(out, self.walk.editor(), n),
+            Counted::Undo => self.take_back(out, n),
         }
     }
 
     /// Does a command.
     fn answer(&mut self, out: &mut String, command: Command) -> Result<(), NoMemory> {
         match command {
-            Command::Where => show_where(out, &self.walk),
-            Command::Text(n) => show_text(out, self.walk.editor(), n),
+            Command::Plain(plain) => self.answer_plain(out, plain),
+            Command::Counted(counted, n) => self.answer_counted(out, counted, n),
             Command::Register(q) => show_register(out, self.walk.editor(), q),
-            Command::Registers => show_registers(out, self.walk.editor()),
-            Command::State => show_state(out, self.walk.editor()),
-            Command::Typed => self.show_typed(out),
-            Command::Help => out.push_str(HELP),
+            Command::Find(part) => self.find(out, part),
             Command::Break(spot) => {
                 self.stop = Some(spot);
                 Ok(())
             }
-            other => self.walk_by(out, other),
         }
     }
 
@@ -212,7 +226,7 @@ fn answer_shown<T: Terminal>(
 }
 
 fn is_quit(line: &[u8]) -> bool {
-    matches!(Command::of(line), Ok(Command::Quit))
+    matches!(Command::of(line), Ok(Command::Plain(Plain::Quit)))
 }
 
 /// Serves commands, a line each, until one is `quit` or none is left.

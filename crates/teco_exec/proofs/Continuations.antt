@@ -8,7 +8,8 @@ use Rattle.teco_scan.specs.declared.token.Found.TheVariants.{Token}
 use Rattle.teco_exec.specs.CursorMoves.{Cursor as MachineCursor, pass}
 use Rattle.teco_exec.specs.Machine.{Caller, Config, block, Now, runs, halts, ready_where_comes, ready_of, after_text_end, step, faulty, run_within}
 use Rattle.teco_exec.specs.View.{cursor_at_start, coming_of, cursor, item_of_kind, block_step_of}
-use Rattle.teco_exec.specs.Running.{goes, over, stops, config, ready_run, at_cursor, at_token, at_block_step, at_return, Origin, Host, Continuation, RunGoesOn, Alike, sight, ReachesContinuation, ReachesEnd, at_beginning, at_call, cursor_after_call, host, Reaches, code_left, reached_by_exit, reached_after_call, now_at, whole_run}
+use Rattle.teco_exec.specs.Running.{goes, over, stops, config, ready_run, at_cursor, at_token, at_block_step, at_return, Origin, Host, Continuation, RunGoesOn, Alike, sight, ReachesContinuation, ReachesEnd, at_beginning, at_call, cursor_after_call, host, Reaches, code_left, reached_by_exit, reached_after_call, now_at, whole_run, ended_by}
+use Rattle.teco_exec.specs.Runs.{Answers, IsBrokenOff, RunsWithin}
 use Rattle.teco_exec.specs.declared.cursor.Cursor.{Cursor}
 use Rattle.teco_exec.specs.declared.moves.BlockStep.{BlockStep}
 use Rattle.teco_exec.specs.declared.moves.Coming.{Coming}
@@ -20,12 +21,13 @@ use Rattle.teco_exec.proofs.Passing.{Shorter, pass_short}
 use Rattle.std.proofs.lemmas.Bool.Decides.{nat_tests}
 use Rattle.std.proofs.Math.Nat.{mul-le-mul_right, add-mul}
 use Rattle.teco_core.specs.Arguments.{Arguments, no_arguments}
-use Rattle.teco_core.specs.declared.code.Code.TheVariants.{Pdo}
+use Rattle.teco_core.specs.declared.code.Code.TheVariants.{Lim, Pdo}
 use Rattle.teco_store.specs.Trail.{Trail}
 use Rattle.teco_step.specs.Terminal.{Shows}
 use Rattle.teco_exec.specs.MachineLaws.{MachineMeans}
 use Rattle.teco_exec.specs.Places.{standing}
 use Rattle.teco_exec.specs.declared.flow.Exit.{Exit}
+use Rattle.teco_exec.specs.declared.outcome.Outcome.{Outcome}
 use Rattle.teco_exec.specs.declared.flow.Exit.TheVariants as ending
 
 -- A text is over: what it leaves is all that its caller sees.
@@ -93,10 +95,10 @@ module _ (o : Origin) (h : Host) (c : Cursor) (text : List ℕ) (callers : List 
       ready_of (if deep then halts here (Some Pdo) else runs (config text (cursor_at_start (cursor c).args text) None (caller c ∷ callers) now))
 
   -- the thirty-third call
-  pub too_deep : length callers ≡ 32 → h.steps ≤ o.limit → Reaches o h h (over (Some Pdo))
-  too_deep deep le =
+  pub too_deep : (limit : ℕ) → length callers ≡ 32 → h.steps ≤ limit → Reaches limit o h h (over (Some Pdo))
+  too_deep limit deep le =
       let so : (length callers == 32) ≡ true = grind (arith, nat_tests) in
-      settles o h (at_call c text callers) g (over (Some Pdo)) refl le (λ now.
+      settles o h (at_call c text callers) g limit (over (Some Pdo)) refl le (λ now.
       let here : Config = config c.text.now (cursor c) None callers now in
       record {
         runs = λ fuel. ap (λ b. ready_run fuel (chosen b now)) so ∙ sym (run_ready fuel (halts here (Some Pdo))) ∙ halted fuel here (Some Pdo);
@@ -116,23 +118,23 @@ comes_back a c d callers text e now =
     ∙ ap (λ t. ready_of (runs (config t.now (cursor d) None callers now))) (sym text))
 
 -- A called text is over: its caller goes on, or the run is over.
-pub comes_home : (o : Origin) (h k : Host) (a : Arguments) (c d : Cursor) (callers : List Caller) → d.text ≡ c.text → cursor d ≡ cursor_after_call a (cursor c) → (x : Exit)
-    → Reaches o h k (reached_by_exit a (caller c ∷ callers) x) → Reaches o h k (reached_after_call d callers x)
-comes_home o h k a c d callers text e ending.Return r =
+pub comes_home : (limit : ℕ) (o : Origin) (h k : Host) (a : Arguments) (c d : Cursor) (callers : List Caller) → d.text ≡ c.text → cursor d ≡ cursor_after_call a (cursor c) → (x : Exit)
+    → Reaches limit o h k (reached_by_exit a (caller c ∷ callers) x) → Reaches limit o h k (reached_after_call d callers x)
+comes_home limit o h k a c d callers text e ending.Return r =
     let back = continues o k (at_return a (caller c ∷ callers)) r.going (at_cursor d callers) (comes_back a c d callers text e) in
     record { going = back.going; follows = r.follows }
-comes_home o h k a c d callers text e ending.Over r = r
-comes_home o h k a c d callers text e (ending.Fail code) r = r
-comes_home o h k a c d callers text e (ending.Stop code) r = r
+comes_home limit o h k a c d callers text e ending.Over r = r
+comes_home limit o h k a c d callers text e (ending.Fail code) r = r
+comes_home limit o h k a c d callers text e (ending.Stop code) r = r
 
 -- After a step, or what uses none, less is left: steps of the limit, or bytes of the text.
-pub less_left : (limit k j n x y : ℕ) → k ≤ j → j ≤ limit → y ≤ n → (k < j) ⊎ (y < x) → (limit - j) * (n + 1) + y < (limit - k) * (n + 1) + x
-less_left limit k j n x y kj jl yn (inl lt) =
-    let more : (limit - j + 1) * (n + 1) ≤ (limit - k) * (n + 1) = mul-le-mul_right (n + 1) (omega arith) in
+pub less_left : (limit before k j n x y : ℕ) → limit ≤ before → k ≤ j → j ≤ limit → y ≤ n → (k < j) ⊎ (y < x) → (limit - j) * (n + 1) + y < (before - k) * (n + 1) + x
+less_left limit before k j n x y low kj jl yn (inl lt) =
+    let more : (limit - j + 1) * (n + 1) ≤ (before - k) * (n + 1) = mul-le-mul_right (n + 1) (omega arith) in
     let one : (limit - j + 1) * (n + 1) ≡ (limit - j) * (n + 1) + 1 * (n + 1) = add-mul (limit - j) 1 (n + 1) in
     omega arith
-less_left limit k j n x y kj jl yn (inr lt) =
-    let more : (limit - j) * (n + 1) ≤ (limit - k) * (n + 1) = mul-le-mul_right (n + 1) (omega arith) in
+less_left limit before k j n x y low kj jl yn (inr lt) =
+    let more : (limit - j) * (n + 1) ≤ (before - k) * (n + 1) = mul-le-mul_right (n + 1) (omega arith) in
     omega arith
 
 abbrev first_now : Origin → Now
@@ -151,15 +153,29 @@ whole_begins means o F a none =
       stands = ap (λ m. sight (ready_of m)) (no_steps (whole_run o)) ∙ ap (λ x. sight (at_beginning x o.text [] (first_now o))) (sym none) ∙ ap (λ x. sight (at_beginning a o.text [] x)) (sym now);
     }
 
-pub whole_ends : (o : Origin) (before after : Host) (a : Arguments) (exit : Exit) (code : Option Code) → code ≡ code_left exit → after.steps ≤ o.limit → Reaches o before after (reached_by_exit a [] exit) → ReachesEnd o before after code
-whole_ends o before after a ending.Return code is le r =
-    subst (ReachesEnd o before after) (sym is)
-    (end_since o before after after None r.follows (settles o after (at_return a []) r.going (over None) tt le (λ now.
+pub whole_ends : (limit : ℕ) (o : Origin) (before after : Host) (a : Arguments) (exit : Exit) (code : Option Code) → code ≡ code_left exit → after.steps ≤ limit → Reaches limit o before after (reached_by_exit a [] exit) → ReachesEnd limit o before after code
+whole_ends limit o before after a ending.Return code is le r =
+    subst (ReachesEnd limit o before after) (sym is)
+    (end_since limit o before after after None r.follows (settles o after (at_return a []) r.going limit (over None) tt le (λ now.
     let there : Config = config [] (cursor_at_start a []) None [] now in
     record {
       runs = λ fuel. sym (run_ready fuel (halts there None)) ∙ halted fuel there None;
       nowhere = halts_nowhere there None;
     })).ends)
-whole_ends o before after a ending.Over code is le r = subst (ReachesEnd o before after) (sym is) r.ends
-whole_ends o before after a (ending.Fail left) code is le r = subst (ReachesEnd o before after) (sym is) r.ends
-whole_ends o before after a (ending.Stop left) code is le r = subst (ReachesEnd o before after) (sym is) r
+whole_ends limit o before after a ending.Over code is le r = subst (ReachesEnd limit o before after) (sym is) r.ends
+whole_ends limit o before after a (ending.Fail left) code is le r = subst (ReachesEnd limit o before after) (sym is) r.ends
+whole_ends limit o before after a (ending.Stop left) code is le r = subst (ReachesEnd limit o before after) (sym is) r
+
+-- A run of a whole string whose limit doesn't stay was broken off.
+pub broken_off : (answered : Answers) (limit before done : ℕ) (exit : Exit) (code : Option Code) → code ≡ code_left exit → (limit ≡ before) ⊎ ((exit ≡ ending.Stop Lim) × answered done true × (limit ≡ done))
+    → (limit ≡ before) ⊎ IsBrokenOff answered limit (ended_by code done)
+broken_off answered limit before done exit code is (inl same) = inl same
+broken_off answered limit before done exit code is (inr broken) = inr (record { asked = broken.1; steps = broken.2; code = is ∙ ap code_left broken.0 })
+
+-- A run that nobody asks to stop has the limit that it was given.
+pub unbroken : (limit : ℕ) (outcome : Outcome) (P : ℕ → Type 0) → RunsWithin (λ k b. b ≡ false) limit outcome P → P limit
+unbroken limit outcome P r = under_it r.under r.stays r.so
+  where
+    under_it : (l : ℕ) → (l ≡ limit) ⊎ IsBrokenOff (λ k b. b ≡ false) l outcome → P l → P limit
+    under_it l (inl same) so = subst P same so
+    under_it l (inr broken) so = let never : true ≡ false = broken.asked in absurd cc

@@ -42,13 +42,13 @@ now_there means o k next now leads stays =
     sym (ap meant_now (means o.state o.text k)) ∙ ap (λ j. final_now (run_within j (whole_run o))) none ∙ ap final_now (leads 0) ∙ stays
 
 -- What is followed from one moment to the next is followed from the first.
-pub end_since : (o : Origin) (first before after : Host) (code : Option Code) → StillFollows o first before → ReachesEnd o before after code → ReachesEnd o first after code
-end_since o first before after code f r = record { typed = r.typed; runs = r.runs; shows = r.shows; again = r.again; follows = λ floor p. r.follows floor (f floor p) }
+pub end_since : (limit : ℕ) (o : Origin) (first before after : Host) (code : Option Code) → StillFollows o first before → ReachesEnd limit o before after code → ReachesEnd limit o first after code
+end_since limit o first before after code f r = record { typed = r.typed; runs = r.runs; shows = r.shows; again = r.again; follows = λ floor p. r.follows floor (f floor p) }
 
-pub since : (o : Origin) (first before after : Host) (d : Reached) → StillFollows o first before → Reaches o before after d → Reaches o first after d
-since o first before after (goes next) f r = record { going = r.going; follows = λ floor p. r.follows floor (f floor p) }
-since o first before after (over code) f r = record { ends = end_since o first before after code f r.ends; nowhere = r.nowhere }
-since o first before after (stops code) f r = end_since o first before after (Some code) f r
+pub since : (limit : ℕ) (o : Origin) (first before after : Host) (d : Reached) → StillFollows o first before → Reaches limit o before after d → Reaches limit o first after d
+since limit o first before after (goes next) f r = record { going = r.going; follows = λ floor p. r.follows floor (f floor p) }
+since limit o first before after (over code) f r = record { ends = end_since limit o first before after code f r.ends; nowhere = r.nowhere }
+since limit o first before after (stops code) f r = end_since limit o first before after (Some code) f r
 
 -- A continuation comes to what is reached.
 abbrev pub Settles : Continuation → Reached → Type 0
@@ -79,20 +79,20 @@ abbrev pub Pays : Continuation → Continuation → State → State → List ℕ
 Pays next further s t bytes n = (now : Now) → now.state ≡ s → PaysFor (next now) (further (advanced t bytes n now))
 
 module _ (o : Origin) (h : Host) (next : Continuation) (g : RunGoesOn o h next) where
-  pub ends_here : (code : Option Code) → IsFinished code → h.steps ≤ o.limit
-      → (let left = o.limit - h.steps in ready_run left (next (now_at o h.steps)) ≡ ended_at left (now_at o h.steps) code) → ReachesEnd o h h code
-  ends_here code f le e =
+  pub ends_here : (limit : ℕ) (code : Option Code) → IsFinished code → h.steps ≤ limit
+      → (let left = limit - h.steps in ready_run left (next (now_at o h.steps)) ≡ ended_at left (now_at o h.steps) code) → ReachesEnd limit o h h code
+  ends_here limit code f le e =
       let now = now_at o h.steps in
-      let left = o.limit - h.steps in
-      let all : h.steps + left ≡ o.limit = omega arith in
-      let r : run_within o.limit (whole_run o) ≡ ended_at left now code = sym (ap (λ k. run_within k (whole_run o)) all) ∙ g.leads left ∙ e in
-      let m : string_meaning o.state o.text o.limit ≡ (let x : StringMeaning = record { state = now.state; typed = now.typed; code = code; steps = o.limit - left; load = now.load } in x) =
-      sym (g.means o.state o.text o.limit) ∙ ap (λ (x : Final). let y : StringMeaning = record { state = x.state; typed = x.typed; code = x.code; steps = o.limit - x.fuel; load = x.load } in y) r in
+      let left = limit - h.steps in
+      let all : h.steps + left ≡ limit = omega arith in
+      let r : run_within limit (whole_run o) ≡ ended_at left now code = sym (ap (λ k. run_within k (whole_run o)) all) ∙ g.leads left ∙ e in
+      let m : string_meaning o.state o.text limit ≡ (let x : StringMeaning = record { state = now.state; typed = now.typed; code = code; steps = limit - left; load = now.load } in x) =
+      sym (g.means o.state o.text limit) ∙ ap (λ (x : Final). let y : StringMeaning = record { state = x.state; typed = x.typed; code = x.code; steps = limit - x.fuel; load = x.load } in y) r in
       record {
         typed = now.typed;
-        runs = well_runs o.state o.text o.limit code h.steps now.typed h.state f (record {
+        runs = well_runs o.state o.text limit code h.steps now.typed h.state f (record {
           code = sym (ap (λ (x : StringMeaning). x.code) m);
-          steps = let same : (string_meaning o.state o.text o.limit).steps ≡ o.limit - left = ap (λ (x : StringMeaning). x.steps) m in omega arith;
+          steps = let same : (string_meaning o.state o.text limit).steps ≡ limit - left = ap (λ (x : StringMeaning). x.steps) m in omega arith;
           state = g.state ∙ sym (ap (λ (x : StringMeaning). x.state) m);
           bytes = sym (ap (λ (x : StringMeaning). x.typed) m);
         });
@@ -102,10 +102,10 @@ module _ (o : Origin) (h : Host) (next : Continuation) (g : RunGoesOn o h next) 
       }
 
   -- no step is left
-  pub limit_ends : h.steps ≡ o.limit → ((now : Now) → ready_run 0 (next now) ≡ ended_at 0 now (Some Lim)) → ReachesEnd o h h (Some Lim)
-  limit_ends same e =
-      let none : 0 ≡ o.limit - h.steps = omega arith in
-      ends_here (Some Lim) refl (omega arith) (subst (λ k. ready_run k (next (now_at o h.steps)) ≡ ended_at k (now_at o h.steps) (Some Lim)) none (e (now_at o h.steps)))
+  pub limit_ends : (limit : ℕ) → h.steps ≡ limit → ((now : Now) → ready_run 0 (next now) ≡ ended_at 0 now (Some Lim)) → ReachesEnd limit o h h (Some Lim)
+  limit_ends limit same e =
+      let none : 0 ≡ limit - h.steps = omega arith in
+      ends_here limit (Some Lim) refl (omega arith) (subst (λ k. ready_run k (next (now_at o h.steps)) ≡ ended_at k (now_at o h.steps) (Some Lim)) none (e (now_at o h.steps)))
 
   -- what uses no step
   pub continues : (further : Continuation) → Settles next (goes further) → ReachesContinuation o h h further
@@ -114,12 +114,12 @@ module _ (o : Origin) (h : Host) (next : Continuation) (g : RunGoesOn o h next) 
     follows = λ floor p. p;
   }
 
-  pub settles : (d : Reached) → EndsByItself d → h.steps ≤ o.limit → Settles next d → Reaches o h h d
-  settles (goes further) f le e = continues further e
-  settles (over code) f le e =
+  pub settles : (limit : ℕ) (d : Reached) → EndsByItself d → h.steps ≤ limit → Settles next d → Reaches limit o h h d
+  settles limit (goes further) f le e = continues further e
+  settles limit (over code) f le e =
       let there = e (now_at o h.steps) in
-      record { ends = ends_here code f le (there.runs (o.limit - h.steps)); nowhere = ap (λ x. x.0) g.stands ∙ there.nowhere }
-  settles (stops code) f le e = ends_here (Some code) f le (e (now_at o h.steps) (o.limit - h.steps))
+      record { ends = ends_here limit code f le (there.runs (limit - h.steps)); nowhere = ap (λ x. x.0) g.stands ∙ there.nowhere }
+  settles limit (stops code) f le e = ends_here limit (Some code) f le (e (now_at o h.steps) (limit - h.steps))
 
   -- a step
   module _ (further : Continuation) (t : State) (bytes : List ℕ) (n : ℕ) (pays : Pays next further h.state t bytes n) (stays : (now : Now) → Stays further now) where
@@ -164,18 +164,18 @@ module _ (o : Origin) (h : Host) (next : Continuation) (g : RunGoesOn o h next) 
         })
 
     -- A step is begun that isn't done.
-    module _ (lt : h.steps < o.limit) (new : State) (same : new ≡ h.state) (G : Trail → Type 0) (keeps : (u : Trail) → h.follows u → G u) where
-      more_steps : h.steps < (string_meaning o.state o.text o.limit).steps
+    module _ (limit : ℕ) (lt : h.steps < limit) (new : State) (same : new ≡ h.state) (G : Trail → Type 0) (keeps : (u : Trail) → h.follows u → G u) where
+      more_steps : h.steps < (string_meaning o.state o.text limit).steps
       more_steps =
-          let left = o.limit - h.steps - 1 in
-          let all : o.limit ≡ h.steps + 1 + left = omega arith in
-          let e : run_within o.limit (whole_run o) ≡ ready_run left (further later_now) = ap (λ k. run_within k (whole_run o)) all ∙ leads_on left in
-          let fuel : (run_within o.limit (whole_run o)).fuel ≤ left = subst (λ (x : Final). x.fuel ≤ left) (sym e) (ready_fuel left (further later_now)) in
-          let steps : o.limit - (run_within o.limit (whole_run o)).fuel ≡ (string_meaning o.state o.text o.limit).steps = ap (λ (x : StringMeaning). x.steps) (g.means o.state o.text o.limit) in
+          let left = limit - h.steps - 1 in
+          let all : limit ≡ h.steps + 1 + left = omega arith in
+          let e : run_within limit (whole_run o) ≡ ready_run left (further later_now) = ap (λ k. run_within k (whole_run o)) all ∙ leads_on left in
+          let fuel : (run_within limit (whole_run o)).fuel ≤ left = subst (λ (x : Final). x.fuel ≤ left) (sym e) (ready_fuel left (further later_now)) in
+          let steps : limit - (run_within limit (whole_run o)).fuel ≡ (string_meaning o.state o.text limit).steps = ap (λ (x : StringMeaning). x.steps) (g.means o.state o.text limit) in
           omega arith
 
       -- memory was refused
-      pub no_memory : (w : Screen) → Shows h.screen w [] false → ReachesEnd o h (host new G w h.steps) (Some Mem)
+      pub no_memory : (w : Screen) → Shows h.screen w [] false → ReachesEnd limit o h (host new G w h.steps) (Some Mem)
       no_memory w shows = record {
         typed = (now_at o h.steps).typed;
         runs = record { before = more_steps; state = same ∙ g.state; bytes = refl };
@@ -185,7 +185,7 @@ module _ (o : Origin) (h : Host) (next : Continuation) (g : RunGoesOn o h next) 
       }
 
       -- the terminal failed in a step that types these bytes
-      pub no_terminal : (w : Screen) (front : List ℕ) → bytes ≢ [] → IsFrontOf front bytes → Shows h.screen w front true → ReachesEnd o h (host new G w h.steps) (Some Tty)
+      pub no_terminal : (w : Screen) (front : List ℕ) → bytes ≢ [] → IsFrontOf front bytes → Shows h.screen w front true → ReachesEnd limit o h (host new G w h.steps) (Some Tty)
       no_terminal w front some part shows =
           let typed = (now_at o h.steps).typed in
           let typed_on : (now_at o (h.steps + 1)).typed ≡ typed ++ bytes = ap (λ (x : Now). x.typed) now_later in

@@ -129,16 +129,16 @@ failed_place o done p w one nowhere = record {
 abbrev pub KnowsLast : (Option Told → Type 0) → Origin → ℕ → Option Code → Type 0
 KnowsLast knows o done code = MatchOption code (knows None) (λ _. (p : Told) × knows (Some p) × IsPlaceAfter o.state o.text done p)
 
-exit_tells : (knows : Option Told → Type 0) (P : Told → Type 0) (o : Origin) (before after : Host) (a : Arguments) (x : Exit) → Reaches o before after (reached_by_exit a [] x) → ((p : Told) → P p → StandsWhereTold o [] p) → Tells knows x after.steps P
+exit_tells : (knows : Option Told → Type 0) (P : Told → Type 0) (limit : ℕ) (o : Origin) (before after : Host) (a : Arguments) (x : Exit) → Reaches limit o before after (reached_by_exit a [] x) → ((p : Told) → P p → StandsWhereTold o [] p) → Tells knows x after.steps P
     → KnowsLast knows o after.steps (code_left x)
-exit_tells knows P o before after a ending.Return r at t = t
-exit_tells knows P o before after a ending.Over r at t = t
-exit_tells knows P o before after a (ending.Fail code) r at t = (t.0, t.1, failed_place o after.steps t.0 (at t.0 t.3) t.2 r.nowhere)
-exit_tells knows P o before after a (ending.Stop code) r at t = (t.0, t.1, stopped_place o after.steps t.0 (at t.0 t.3) t.2)
+exit_tells knows P limit o before after a ending.Return r at t = t
+exit_tells knows P limit o before after a ending.Over r at t = t
+exit_tells knows P limit o before after a (ending.Fail code) r at t = (t.0, t.1, failed_place o after.steps t.0 (at t.0 t.3) t.2 r.nowhere)
+exit_tells knows P limit o before after a (ending.Stop code) r at t = (t.0, t.1, stopped_place o after.steps t.0 (at t.0 t.3) t.2)
 
-pub tells_last : (knows : Option Told → Type 0) (P : Told → Type 0) (o : Origin) (before after : Host) (a : Arguments) (x : Exit) (code : Option Code) → code ≡ code_left x → Reaches o before after (reached_by_exit a [] x)
+pub tells_last : (knows : Option Told → Type 0) (P : Told → Type 0) (limit : ℕ) (o : Origin) (before after : Host) (a : Arguments) (x : Exit) (code : Option Code) → code ≡ code_left x → Reaches limit o before after (reached_by_exit a [] x)
     → ((p : Told) → P p → StandsWhereTold o [] p) → Tells knows x after.steps P → KnowsLast knows o after.steps code
-tells_last knows P o before after a x code is r at t = subst (KnowsLast knows o after.steps) (sym is) (exit_tells knows P o before after a x r at t)
+tells_last knows P limit o before after a x code is r at t = subst (KnowsLast knows o after.steps) (sym is) (exit_tells knows P limit o before after a x r at t)
 
 -- A place that was kept is the one that was told.
 abbrev pub Keeps : Result (Option Place) AllocError → Told → Type 0

@@ -1,5 +1,5 @@
 -- Steps of a text, of tokens and of blocks.
-use Rattle.std.proofs.Common.{◌≡◌, ℕ, List, length, Option, Bool, true, false, refl, ap, ◌∙◌, ◌+◌, ◌<◌, ◌≤◌, [], drop, Some, None, Result, Ok, Err, inl, inr, sym, subst, arith, append-nil, MatchResult, zero, suc}
+use Rattle.std.proofs.Common.{◌≡◌, ℕ, List, length, Option, Bool, true, false, refl, ap, ◌∙◌, ◌+◌, ◌<◌, ◌≤◌, [], drop, Some, None, Result, Ok, Err, inl, inr, sym, subst, arith, append-nil, MatchResult, zero, suc, ◌⊎◌, ltb, ltb-true, ltb-false}
 use Rattle.teco_core.specs.ArgumentsView.{arguments}
 use Rattle.teco_core.specs.Arguments.{Arguments}
 use Rattle.teco_scan.specs.Scan.{scan}
@@ -16,6 +16,7 @@ use Rattle.teco_step.specs.Step.{done_by, settled, Step, End, Moment, at, call}
 use Rattle.teco_step.specs.Stepping.{IsStepIn, IsStepKind, is_call, kind_effect, token_effect, end_of, is_unfinished, is_unfinished_code, Steps, IsDone, trail_after, name_in}
 use Rattle.teco_exec.specs.CursorMoves.{inside_iteration, leave_is_next, CursorOrError, after_block_step}
 use Rattle.teco_exec.specs.Machine.{step, in_called_text, setting_of, Caller, Config, Now, halts, runs, runs_or_halts, after_step_end, after_token_step, ready_of, ready_within}
+use Rattle.teco_exec.specs.Runs.{Answers}
 use Rattle.teco_exec.specs.Tokens.{call_of, calls_text, looks_around, CountsSteps, ProgressFinishes, reached_by_progress}
 use Rattle.teco_exec.specs.View.{cursor, item_of_kind, ResultFinishes as MovesWell, cursor_or_error, block_step_of}
 use Rattle.teco_exec.specs.declared.cursor.Cursor.{Cursor}
@@ -126,24 +127,24 @@ module _ (c : Cursor) (token : Token) (work : Option Work) (callers : List Calle
           ∙ ap (λ (d : Step). after_token d.arguments d.end (advanced d.state d.typed d.load now)) (sym (effect_here c token work opens before s is looks sees));
     }
 
-    module _ (o : Origin) (h : Host) (g : RunGoesOn o h (at_token c token work callers)) (lt : h.steps < o.limit) (name : List ℕ) (new : State) (args : Args) (w : Screen) (n : Next) (G : Trail → Type 0)
+    module _ (o : Origin) (h : Host) (g : RunGoesOn o h (at_token c token work callers)) (limit : ℕ) (lt : h.steps < limit) (name : List ℕ) (new : State) (args : Args) (w : Screen) (n : Next) (G : Trail → Type 0)
         (took : (u : Trail) → h.follows u → G (trail_after n u (effect_in h.state).load)) where
       took_so : (b : Bool) → is_unfinished n ≡ b → (u : Trail) → h.follows u → G (elim b [ true ↦ u | false ↦ moved u (effect_in h.state).load ])
       took_so b e u f = subst (λ b. G (elim b [ true ↦ u | false ↦ moved u (effect_in h.state).load ])) e (took u f)
 
       -- it was begun and not done
-      pub token_fails : (code : Code) → n ≡ next.Error code → is_unfinished_code code ≡ true → Steps (effect_in h.state) name (at h.state (arguments c.args) h.screen) (at new (arguments args) w) n → ReachesEnd o h (host new G w h.steps) (Some code)
+      pub token_fails : (code : Code) → n ≡ next.Error code → is_unfinished_code code ≡ true → Steps (effect_in h.state) name (at h.state (arguments c.args) h.screen) (at new (arguments args) w) n → ReachesEnd limit o h (host new G w h.steps) (Some code)
       token_fails code e unfinished (inl done) = let x : true ≡ false = sym unfinished ∙ sym (ap is_unfinished e) ∙ done.finished in absurd cc
       token_fails code e unfinished (inr (inl lacks)) =
           let same : Mem ≡ code = let both : next.Error Mem ≡ next.Error code = sym lacks.code ∙ e in cc in
           let d = effect_in h.state in
-          subst (λ k. ReachesEnd o h (host new G w h.steps) (Some k)) same
-          (no_memory o h (at_token c token work callers) g (after_token d.arguments d.end) d.state d.typed d.load (token_pays h.state) (after_stays d.arguments d.end) lt new lacks.state G (took_so true (ap is_unfinished e ∙ unfinished)) w lacks.shows)
+          subst (λ k. ReachesEnd limit o h (host new G w h.steps) (Some k)) same
+          (no_memory o h (at_token c token work callers) g (after_token d.arguments d.end) d.state d.typed d.load (token_pays h.state) (after_stays d.arguments d.end) limit lt new lacks.state G (took_so true (ap is_unfinished e ∙ unfinished)) w lacks.shows)
       token_fails code e unfinished (inr (inr lacks)) =
           let same : Tty ≡ code = let both : next.Error Tty ≡ next.Error code = sym lacks.code ∙ e in cc in
           let d = effect_in h.state in
-          subst (λ k. ReachesEnd o h (host new G w h.steps) (Some k)) same
-          (no_terminal o h (at_token c token work callers) g (after_token d.arguments d.end) d.state d.typed d.load (token_pays h.state) (after_stays d.arguments d.end) lt new lacks.state G (took_so true (ap is_unfinished e ∙ unfinished)) w lacks.front lacks.types lacks.beginning lacks.shows)
+          subst (λ k. ReachesEnd limit o h (host new G w h.steps) (Some k)) same
+          (no_terminal o h (at_token c token work callers) g (after_token d.arguments d.end) d.state d.typed d.load (token_pays h.state) (after_stays d.arguments d.end) limit lt new lacks.state G (took_so true (ap is_unfinished e ∙ unfinished)) w lacks.front lacks.types lacks.beginning lacks.shows)
 
       finished_done : is_unfinished n ≡ false → Steps (effect_in h.state) name (at h.state (arguments c.args) h.screen) (at new (arguments args) w) n → IsDone (effect_in h.state) name (at h.state (arguments c.args) h.screen) (at new (arguments args) w) n
       finished_done f (inl done) = done
@@ -156,7 +157,7 @@ module _ (c : Cursor) (token : Token) (work : Option Work) (callers : List Calle
           → ((u : Trail) → G u → u.changes ≤ 6 → steps ≡ u.steps + 1 → u.states steps ≡ new → u.load ≤ u.loads steps → H (stepped u))
           → (d : Reached) → EndsByItself d
           → ((now : Now) → Comes (ready_of (after_step_end token.modifiers (item_of_kind c.text.now token.kind) (end_of new name n) (config c.text.now (record (cursor c) { args = arguments args }) None callers now))) now d)
-          → Reaches o h (host same H w steps) d
+          → Reaches limit o h (host same H w steps) d
       token_goes f did steps count same is_same H marks d fin leads =
           let e = effect_in h.state in
           let done = finished_done f did in
@@ -166,7 +167,7 @@ module _ (c : Cursor) (token : Token) (work : Option Work) (callers : List Calle
           (λ u p none at state within. marks (moved u e.load) (took_so false f u p) (omega arith) (omega arith) (ap u.states count ∙ state ∙ sym done.state) (subst (λ k. u.load + e.load ≤ u.loads k) (sym count) within)) in
           let there : ReachesContinuation o h later (after_token (arguments args) (end_of new name n)) =
           subst (λ x. ReachesContinuation o h later (after_token (arguments args) x)) (sym done.end) (subst (λ x. ReachesContinuation o h later (after_token x e.end)) (sym done.arguments) to) in
-          since o h later later d there.follows (settles o later (after_token (arguments args) (end_of new name n)) there.going d fin (omega arith) leads)
+          since limit o h later later d there.follows (settles o later (after_token (arguments args) (end_of new name n)) there.going limit d fin (omega arith) leads)
 
 -- a step of a block
 module _ (c : Cursor) (b : BlockStep) (to : ℕ) (callers : List Caller) where
@@ -192,22 +193,75 @@ module _ (c : Cursor) (b : BlockStep) (to : ℕ) (callers : List Caller) where
     leads = ap after_block (still s now same);
   }
 
-  pub block_leads : (o : Origin) (h : Host) → RunGoesOn o h (at_block_step c b to callers) → h.steps < o.limit
+  pub block_leads : (o : Origin) (h : Host) → RunGoesOn o h (at_block_step c b to callers) → (limit : ℕ) → h.steps < limit
       → (steps : ℕ) → steps ≡ h.steps + 1 → (same : State) → same ≡ h.state → (G : Trail → Type 0) → ((u : Trail) → h.follows u → h.follows (moved u 0))
       → ((u : Trail) → h.follows u → u.changes ≤ 6 → steps ≡ u.steps + 1 → u.states steps ≡ h.state → u.load ≤ u.loads steps → G (stepped u))
       → (d : Reached) → EndsByItself d
       → ((now : Now) → Comes (ready_of (runs_or_halts (config c.text.now (cursor c) None callers now) (after_block_step (block_step_of b) (drop to c.text.now) (cursor c)))) now d)
-      → Reaches o h (host same G h.screen steps) d
-  block_leads o h g lt steps count same is_same G eases marks d fin leads =
+      → Reaches limit o h (host same G h.screen steps) d
+  block_leads o h g limit lt steps count same is_same G eases marks d fin leads =
       let later : Host = host same G h.screen steps in
       let there : ReachesContinuation o h later after_block =
       step_done o h (at_block_step c b to callers) g after_block h.state [] 0 (block_pays h.state) block_stays later count is_same (shows_nothing h.screen)
       (λ u p none at state within. marks (moved u 0) (eases u p) (omega arith) (omega arith) (ap u.states count ∙ state) (subst (λ k. u.load + 0 ≤ u.loads k) (sym count) within)) in
-      since o h later later d there.follows (settles o later after_block there.going d fin (omega arith) leads)
+      since limit o h later later d there.follows (settles o later after_block there.going limit d fin (omega arith) leads)
 
 -- Steps of tokens: what is counted, and a further step.
-pub counts_on : {a b c : StepCount} → CountsSteps a b → CountsSteps b c → CountsSteps a c
-counts_on p q = record { limit = q.limit ∙ p.limit; after = omega (arith, p.after, q.after) }
+abbrev Keeps : Answers → Answers → Type 0
+Keeps p q = (k : ℕ) (b : Bool) → p k b → q k b
+
+stays_on : {P Q : Type 0} (k j i : ℕ) → (P → ⊥) → (j ≡ k) ⊎ P → (i ≡ j) ⊎ Q → (i ≡ k) ⊎ Q
+stays_on k j i none p (inr asked) = inr asked
+stays_on k j i none (inr asked) (inl same) = absurd (none asked)
+stays_on k j i none (inl same) (inl also_same) = inl (also_same ∙ same)
+
+-- what is said of the steps up to one, and from there on
+up_to : {P : Type 0} (k d : ℕ) (is : Bool) → ltb k d ≡ is → (k < d → P) → (d ≤ k → P) → P
+up_to k d true e low high = low (ltb-true k d e)
+up_to k d false e low high = high (ltb-false k d e)
+
+pub counts_on : {p q r : Answers} {R : Type 0} {a b c : StepCount} → CountsSteps p q ⊥ a b → CountsSteps q r R b c → CountsSteps p r R a c
+counts_on {a = a} {b = b} {c = c} x y = record {
+  limit = omega (arith, x.limit, y.limit);
+  more = omega (arith, x.more, y.more);
+  heard = λ k from to. up_to k b.done (ltb k b.done) refl (λ low. y.still k false (x.heard k from low)) (λ high. y.heard k high to);
+  stays = stays_on a.limit b.limit c.limit (λ h. h.0) x.stays y.stays;
+  still = λ k is h. y.still k is (x.still k is h);
+}
+
+-- The limit stays, or the run is broken off, also as seen from around.
+stays_so : {P Q A : Type 0} → (P → Q) → (same : A ⊎ P) → A ⊎ Q
+stays_so so (inl same) = inl same
+stays_so so (inr broken) = inr (so broken)
+
+pub counts_so : {p q : Answers} {P Q : Type 0} {a b : StepCount} → (P → Q) → CountsSteps p q P a b → CountsSteps p q Q a b
+counts_so so x = record { limit = x.limit; more = x.more; heard = x.heard; stays = stays_so (λ h. (so h.0, h.1, h.2)) x.stays; still = x.still }
+
+-- Nothing is counted; a step is counted; and the run is over, since no step is left or it is asked to stop.
+pub counts_none : {p q : Answers} {P : Type 0} {a : StepCount} → Keeps p q → CountsSteps p q P a a
+counts_none on = record { limit = omega arith; more = omega arith; heard = λ k from to. absurd (omega arith); stays = inl refl; still = on }
+
+pub counts_one : {p q : Answers} {P : Type 0} {a b : StepCount} → Keeps p q → q a.done false → b.limit ≡ a.limit → b.done ≡ a.done + 1 → CountsSteps p q P a b
+counts_one {q = q} {a = a} on lets same one = record {
+  limit = omega (arith, same);
+  more = omega (arith, one);
+  heard = λ k from to. (let here : a.done ≡ k = omega (arith, one) in subst (λ i. q i false) here lets);
+  stays = inl same;
+  still = on;
+}
+
+over_by : (q : Answers) {P : Type 0} (limit done more new : ℕ) → (done ≡ limit) ⊎ q done true → more ≡ done → new ≡ done → P → (new ≡ limit) ⊎ (P × q more true × (new ≡ more))
+over_by q limit done more new (inl none) same low broken = inl (low ∙ none)
+over_by q limit done more new (inr asked) same low broken = inr (broken, subst (λ k. q k true) (sym same) asked, low ∙ sym same)
+
+pub counts_over : {p q : Answers} {P : Type 0} {a b : StepCount} → Keeps p q → (a.done ≡ a.limit) ⊎ q a.done true → b.done ≡ a.done → b.limit ≡ a.done → P → CountsSteps p q P a b
+counts_over {q = q} {a = a} {b = b} on is same low broken = record {
+  limit = omega (arith, low, a.within);
+  more = omega (arith, same);
+  heard = λ k from to. absurd (omega (arith, same));
+  stays = over_by q a.limit a.done b.done b.limit is same low broken;
+  still = on;
+}
 
 -- A token has a further step.
 abbrev further_config : List Caller → Now → Cursor → Token → Work → Config
@@ -294,10 +348,10 @@ module _ (c : Cursor) (q : ℕ) (callers : List Caller) where
       (λ u p none at state within. marks (moved u 0) (eases u p) (omega arith) (omega arith) (ap u.states count ∙ state) (subst (λ k. u.load + 0 ≤ u.loads k) (sym count) within)))
 
   -- its copy found no memory
-  pub call_fails : (o : Origin) (h : Host) → RunGoesOn o h (at_register_call c q callers) → h.steps < o.limit → ReachesEnd o h h (Some Mem)
-  call_fails o h g lt =
-      no_memory o h (at_register_call c q callers) g (at_call c (text_in h.state) callers) h.state [] 0 (call_pays h.state) (call_stays (text_in h.state)) lt h.state refl h.follows (λ u f. f) h.screen (shows_nothing h.screen)
+  pub call_fails : (o : Origin) (h : Host) → RunGoesOn o h (at_register_call c q callers) → (limit : ℕ) → h.steps < limit → ReachesEnd limit o h h (Some Mem)
+  call_fails o h g limit lt =
+      no_memory o h (at_register_call c q callers) g (at_call c (text_in h.state) callers) h.state [] 0 (call_pays h.state) (call_stays (text_in h.state)) limit lt h.state refl h.follows (λ u f. f) h.screen (shows_nothing h.screen)
 
   -- no step is left for it
-  pub call_unpaid : (o : Origin) (h : Host) → RunGoesOn o h (at_register_call c q callers) → h.steps ≡ o.limit → ReachesEnd o h h (Some Lim)
-  call_unpaid o h g same = limit_ends o h (at_register_call c q callers) g same (λ now. refl)
+  pub call_unpaid : (o : Origin) (h : Host) → RunGoesOn o h (at_register_call c q callers) → (limit : ℕ) → h.steps ≡ limit → ReachesEnd limit o h h (Some Lim)
+  call_unpaid o h g limit same = limit_ends o h (at_register_call c q callers) g limit same (λ now. refl)

@@ -28,12 +28,11 @@ use Rattle.teco_exec.specs.declared.flow.Flow.TheVariants as flow
 use Rattle.teco_exec.specs.declared.moves.BlockStep.{BlockStep}
 use Rattle.teco_exec.specs.declared.outcome.Outcome.{Outcome}
 
--- Where a whole run began: the state, the text, what the screen showed, and the limit of steps.
+-- Where a whole run began: the state, the text, and what the screen showed.
 pub record Origin : Type 0 where
   pub state : State
   pub text : List ℕ
   pub screen : Screen
-  pub limit : ℕ
 
 -- What is seen of a run at a moment: the state of the desk and what the desk follows, the screen, and the
 -- steps that are done.
@@ -93,17 +92,17 @@ pub record ReachesContinuation (o : Origin) (before after : Host) (next : Contin
 abbrev pub ended_by : Option Code → ℕ → Outcome
 ended_by code k = record { code = code; steps = k }
 
--- By this moment the whole run is over, by this code.
-pub record ReachesEnd (o : Origin) (before after : Host) (code : Option Code) : Type 0 where
+-- By this moment the whole run under this limit is over, by this code.
+pub record ReachesEnd (limit : ℕ) (o : Origin) (before after : Host) (code : Option Code) : Type 0 where
   pub typed : List ℕ
-  pub runs : Runs o.state o.text o.limit (ended_by code after.steps) typed after.state
+  pub runs : Runs o.state o.text limit (ended_by code after.steps) typed after.state
   pub shows : Shows o.screen after.screen typed (is_tty (ended_by code after.steps))
   pub again : after.state ≡ (now_at o after.steps).state
   pub follows : StillFollows o before after
 
 -- It is over by a step or at its end, and stands nowhere.
-pub record ReachesOver (o : Origin) (before after : Host) (code : Option Code) : Type 0 where
-  pub ends : ReachesEnd o before after code
+pub record ReachesOver (limit : ℕ) (o : Origin) (before after : Host) (code : Option Code) : Type 0 where
+  pub ends : ReachesEnd limit o before after code
   pub nowhere : stands_after o.state o.text after.steps ≡ None
 
 -- Where a run has got: it goes on; it is over, by a step or at its end; or it stops, before a step or at a
@@ -113,22 +112,22 @@ pub data Reached : Type 0 where
   over : (code : Option Code) → Reached
   stops : (code : Code) → Reached
 
-abbrev pub Reaches : Origin → Host → Host → Reached → Type 0
-Reaches o before after (goes next) = ReachesContinuation o before after next
-Reaches o before after (over code) = ReachesOver o before after code
-Reaches o before after (stops code) = ReachesEnd o before after (Some code)
+abbrev pub Reaches : ℕ → Origin → Host → Host → Reached → Type 0
+Reaches limit o before after (goes next) = ReachesContinuation o before after next
+Reaches limit o before after (over code) = ReachesOver limit o before after code
+Reaches limit o before after (stops code) = ReachesEnd limit o before after (Some code)
 
 -- From one moment to a later one a run under this limit is led from a continuation to where it then has got,
 -- whatever has called the text.
 abbrev pub RunLeads : ℕ → Host → Host → (List Caller → Continuation) → (List Caller → Reached) → Type 0
-RunLeads limit before after from to = (o : Origin) (callers : List Caller) → o.limit ≡ limit
-    → RunGoesOn o before (from callers) → Reaches o before after (to callers)
+RunLeads limit before after from to = (o : Origin) (callers : List Caller)
+    → RunGoesOn o before (from callers) → Reaches limit o before after (to callers)
 
 -- The same, for a text at this depth of calls.
 abbrev pub RunLeadsAt : ℕ → ℕ → Host → Host → (List Caller → Continuation) → (List Caller → Reached) → Type 0
 RunLeadsAt depth limit before after from to =
-    (o : Origin) (callers : List Caller) → o.limit ≡ limit → length callers ≡ depth
-    → RunGoesOn o before (from callers) → Reaches o before after (to callers)
+    (o : Origin) (callers : List Caller) → length callers ≡ depth
+    → RunGoesOn o before (from callers) → Reaches limit o before after (to callers)
 
 -- what a run that is over comes to
 abbrev pub ended_at : ℕ → Now → Option Code → Final
@@ -327,7 +326,7 @@ Tells knows (exit.Fail code) done P = (p : Told) × knows (Some p) × (p.steps +
 Tells knows (exit.Stop code) done P = (p : Told) × knows (Some p) × (p.steps ≡ done) × P p
 
 -- From a continuation of a text at this depth of calls a run has come to stand where it is told.
-abbrev pub StandsFrom : ℕ → ℕ → Host → (List Caller → Continuation) → Told → Type 0
-StandsFrom depth limit before from p =
-    (o : Origin) (callers : List Caller) → o.limit ≡ limit → length callers ≡ depth
+abbrev pub StandsFrom : ℕ → Host → (List Caller → Continuation) → Told → Type 0
+StandsFrom depth before from p =
+    (o : Origin) (callers : List Caller) → length callers ≡ depth
     → RunGoesOn o before (from callers) → StandsWhereTold o callers p

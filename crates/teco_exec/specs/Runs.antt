@@ -1,6 +1,6 @@
 -- How a run may end: as its meaning says, or by want of memory or a failed terminal after some whole steps.
-use Rattle.std.specs.Prelude.{◌≡◌, ◌≢◌, ℕ, ◌+◌, ◌<◌, List, Bool, true, false, Some}
-use Rattle.teco_core.specs.declared.code.Code.TheVariants.{Mem, Tty}
+use Rattle.std.specs.Prelude.{◌≡◌, ◌≢◌, ℕ, ◌+◌, ◌<◌, ◌≤◌, ◌⊎◌, List, Bool, true, false, Some}
+use Rattle.teco_core.specs.declared.code.Code.TheVariants.{Lim, Mem, Tty}
 use Rattle.teco_store.specs.State.{State}
 use Rattle.teco_store.specs.Trail.{Trail}
 use Rattle.teco_step.specs.Terminal.{IsFrontOf}
@@ -38,6 +38,26 @@ Runs s text limit outcome typed new = elim outcome.code [
   | Some Tty ↦ EndsByTerminal s text limit outcome.steps typed new
   | _ ↦ EndsWell s text limit outcome typed new
 ]
+
+-- what one who may stop a run has answered, and after how many steps: that it is to stop, or not
+abbrev pub Answers : Type 1
+Answers = ℕ → Bool → Type 0
+
+-- A string was broken off: it was asked to stop after the steps that are done, its limit is just these, and
+-- it ended by LIM.
+pub record IsBrokenOff (answered : Answers) (limit : ℕ) (outcome : Outcome) : Type 0 where
+  pub asked : answered outcome.steps true
+  pub steps : limit ≡ outcome.steps
+  pub code : outcome.code ≡ Some Lim
+
+-- A string ended so under a limit: the given one, or else a smaller one, by which it was broken off. Before
+-- each step that it did it was asked whether to stop, and the answer was no.
+pub record RunsWithin (answered : Answers) (limit : ℕ) (outcome : Outcome) (P : ℕ → Type 0) : Type 0 where
+  pub under : ℕ
+  pub within : under ≤ limit
+  pub stays : (under ≡ limit) ⊎ IsBrokenOff answered under outcome
+  pub heard : (k : ℕ) → k < outcome.steps → answered k false
+  pub so : P under
 
 -- the outcome says that the terminal failed
 abbrev pub is_tty : Outcome → Bool

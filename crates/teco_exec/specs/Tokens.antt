@@ -1,5 +1,5 @@
 -- Steps of tokens: what they count, what they look at around them, and where they lead.
-use Rattle.std.specs.Prelude.{◌≡◌, ◌≤◌, ℕ, Bool, true, false, List, Some}
+use Rattle.std.specs.Prelude.{◌≡◌, ◌<◌, ◌≤◌, ◌⊎◌, ℕ, Bool, true, false, List, Some}
 use Rattle.teco_scan.specs.declared.command.Bare.TheVariants.{Command}
 use Rattle.teco_scan.specs.declared.command.Command.TheVariants.{Leave}
 use Rattle.teco_scan.specs.declared.command.RegisterCommand.TheVariants.{Macro}
@@ -10,6 +10,7 @@ use Rattle.teco_scan.specs.declared.token.TokenKind.{TokenKind}
 use Rattle.teco_scan.specs.declared.token.TokenKind.TheVariants.{Item}
 use Rattle.teco_exec.specs.Machine.{Caller}
 use Rattle.teco_exec.specs.Running.{FlowFinishes, FlowStays, GoesOn, GoesQuietly, Reached, at_token, reached_by_flow, goes}
+use Rattle.teco_exec.specs.Runs.{Answers}
 use Rattle.teco_exec.specs.View.{Stays}
 use Rattle.teco_exec.specs.declared.cursor.Cursor.{Cursor}
 use Rattle.teco_exec.specs.declared.flow.Flow.{Flow}
@@ -17,10 +18,14 @@ use Rattle.teco_exec.specs.declared.flow.Progress.{Progress}
 use Rattle.teco_exec.specs.declared.flow.Progress.TheVariants.{Further, Done}
 use Rattle.teco_exec.specs.declared.flow.Steps.{Steps}
 
--- No step is taken back, and the limit stays.
-pub record CountsSteps (old new : Steps) : Type 0 where
-  pub limit : new.limit ≡ old.limit
-  pub after : old.done ≤ new.done
+-- No step is taken back, and each was let begin. The limit stays, or else the run is broken off: it was asked
+-- to stop, and its limit is what is done.
+pub record CountsSteps (before after : Answers) (broken : Type 0) (old new : Steps) : Type 0 where
+  pub limit : new.limit ≤ old.limit
+  pub more : old.done ≤ new.done
+  pub heard : (k : ℕ) → old.done ≤ k → k < new.done → after k false
+  pub stays : (new.limit ≡ old.limit) ⊎ (broken × after new.done true × (new.limit ≡ new.done))
+  pub still : (k : ℕ) (b : Bool) → before k b → after k b
 
 -- Tokens whose step looks around: whether an iteration is open, or a plain `;` comes next.
 abbrev pub looks_around : TokenKind → Bool

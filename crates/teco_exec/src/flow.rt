@@ -1,6 +1,7 @@
 //! What a step of a text leads to, and what is counted.
 ghost use Rattle.std.specs.Prelude.{◌≡◌, ◌≤◌};
 
+use crate::stop::Stop;
 use teco_core::{Code, Reg};
 use teco_step::Work;
 
@@ -57,7 +58,7 @@ impl Exit {
     }
 }
 
-/// The steps that are done, at most as many as the limit.
+/// The steps that are done, at most as many as the limit. It is lowered to them where the run is to stop.
 #[derive(Drop)]
 pub(crate) struct Steps {
     pub done: u64,
@@ -66,7 +67,7 @@ pub(crate) struct Steps {
 }
 
 impl Steps {
-    ghost use Rattle.std.specs.Prelude.{◌≡◌, ◌+◌, ◌<◌};
+    ghost use Rattle.std.specs.Prelude.{◌≡◌, ℕ, Bool, ◌+◌, ◌<◌, ◌⊎◌, true, false};
 
     /// One step more is done.
     pub fn count(&mut self)
@@ -75,5 +76,17 @@ impl Steps {
         ensures limit { self.new.limit ≡ self.old.limit }
     {
         self.done += 1;
+    }
+
+    /// Whether no step may be begun: none is left, or the run is asked to stop.
+    #[inline(always)]
+    pub fn are_over<S: Stop>(&self, stop: &mut S) -> bool
+        ensures over { result ≡ true
+            → (self.now.done ≡ self.now.limit) ⊎ S.answered stop.new self.now.done true }
+        ensures left { result ≡ false → self.now.done < self.now.limit }
+        ensures lets { result ≡ false → S.answered stop.new self.now.done false }
+        ensures still { (k : ℕ) (b : Bool) → S.answered stop.old k b → S.answered stop.new k b }
+    {
+        self.done == self.limit || stop.asks(self.done)
     }
 }

@@ -13,9 +13,11 @@ mod outcome;
 mod place;
 mod running;
 mod stepping;
+mod stop;
 mod watch;
 
 pub use laws::{machine_laws, meaning_laws};
 pub use outcome::{Outcome, Stopped};
 pub use place::{Call, Place};
-pub use running::{run, run_where};
+pub use running::{run, run_until, run_where, run_where_until};
+pub use stop::{Never, Stop};

@@ -2,7 +2,7 @@
 ghost use Rattle.std.specs.Prelude.{◌≡◌, ◌≤◌, ◌<◌, ℕ, List, ◌+◌, ◌↔◌, IfOk, IfSome, MatchOption, Ok, Option, Some, length, true, false, None};
 ghost use Rattle.teco_core.specs.ArgumentsView.{arguments};
 ghost use Rattle.teco_core.specs.Register.{content};
-ghost use Rattle.teco_core.specs.declared.code.Code.TheVariants.{Mem};
+ghost use Rattle.teco_core.specs.declared.code.Code.TheVariants.{Lim, Mem};
 ghost use Rattle.teco_scan.specs.Lists.{nodes};
 ghost use Rattle.teco_exec.specs.Places.{IsPlaceAfter, IsReadAt, Told, call_token};
 ghost use Rattle.teco_exec.specs.Telling.{IsLastPlace};
@@ -11,7 +11,7 @@ ghost use Rattle.teco_exec.specs.Running.{RunLeadsAt, StandsFrom, Tells, code_le
 ghost use Rattle.teco_exec.specs.Tokens.{CountsSteps};
 ghost use Rattle.teco_exec.specs.View.{cursor as cursor_of};
 ghost use Rattle.teco_exec.specs.Quiet.{takes_no_memory};
-ghost use Rattle.teco_exec.specs.Runs.{Runs, is_tty, trail_of};
+ghost use Rattle.teco_exec.specs.Runs.{Runs, RunsWithin, is_tty, trail_of};
 ghost use Rattle.teco_exec.specs.StringMeaning.{string_meaning};
 ghost use Rattle.teco_exec.specs.declared.flow.Exit.TheVariants as exit;
 
@@ -22,6 +22,7 @@ use crate::flow::{Exit, Flow, Steps};
 use crate::laws::{machine_laws, meaning_laws};
 use crate::outcome::{Outcome, Stopped};
 use crate::stepping::step;
+use crate::stop::{Never, Stop};
 use crate::watch::{Unwatched, Watch, Watched};
 use std::alloc::Global;
 use teco_core::{Args, BLOCK_LIMIT, CALL_LIMIT, Code, NoMemory, Reg};
@@ -45,7 +46,29 @@ pub fn run<D: Desk, T: Terminal>(desk: &mut D, text: &[u8], limit: u64, term: &m
     ensures exit { (D.state desk.old).is_done ≡ false → (D.state desk.new).is_done ≡ true
         → result.code ≡ None }
 {
-    run_watched(desk, text, limit, term, &mut Unwatched)
+    run_watched(desk, text, limit, &mut Never, term, &mut Unwatched)
+}
+
+/// Runs a command string as [`run`] does, until it is asked to stop: before each step that counts, and before one that would be past
+/// the limit. Asked so, it ends as under a limit of just the steps that are done.
+pub fn run_until<D: Desk, S: Stop, T: Terminal>(
+    desk: &mut D,
+    text: &[u8],
+    limit: u64,
+    stop: &mut S,
+    term: &mut T,
+) -> Outcome
+    ensures run { RunsWithin (S.answered stop.new) limit result (λ l. (typed : List ℕ)
+        × Runs (D.state desk.old) text.now l result typed (D.state desk.new)
+        × Shows (T.screen term.old) (T.screen term.new) typed (is_tty result)) }
+    ensures again { D.state desk.new ≡ (string_meaning (D.state desk.old) text.now result.steps).state }
+    ensures follows { (floor : ℕ) → D.follows desk.old (trail_of (D.state desk.old) text.now floor 0)
+        → D.follows desk.new (trail_of (D.state desk.old) text.now floor result.steps) }
+    ensures no_memory { takes_no_memory (nodes text.now) ≡ true → result.code ≡ Some Mem → ⊥ }
+    ensures exit { (D.state desk.old).is_done ≡ false → (D.state desk.new).is_done ≡ true
+        → result.code ≡ None }
+{
+    run_watched(desk, text, limit, stop, term, &mut Unwatched)
 }
 
 /// Runs a command string just as [`run`] does, and tells where its run last stood.
@@ -76,24 +99,58 @@ pub fn run_where<D: Desk, T: Terminal>(
     ensures exit { (D.state desk.old).is_done ≡ false → (D.state desk.new).is_done ≡ true
         → result.outcome.code ≡ None }
 {
+    run_where_until(desk, text, limit, &mut Never, term, alloc)
+}
+
+/// Runs a command string just as [`run_until`] does, and tells where its run last stood.
+///
+/// Where it stops before a step, for want of steps or memory or because the terminal failed, that is the token whose step comes. Where
+/// it stops at a fault of a text, which uses no step, it is the fault. Where a step failed, it is the token of that step: the run stood
+/// there one step before. So a place is told exactly where the string ends by a code, unless memory lacks for it.
+///
+/// The place takes memory, for at most 33 texts with at most 64 iterations each.
+pub fn run_where_until<D: Desk, S: Stop, T: Terminal>(
+    desk: &mut D,
+    text: &[u8],
+    limit: u64,
+    stop: &mut S,
+    term: &mut T,
+    alloc: Global,
+) -> Stopped
+    ensures place { IfOk result.place (λ told. IfSome told
+        (λ p. IsLastPlace (D.state desk.old) text.now result.outcome.steps p)) }
+    ensures told { (result.place ≡ Ok None) ↔ (result.outcome.code ≡ None) }
+    ensures run { RunsWithin (S.answered stop.new) limit result.outcome (λ l. (typed : List ℕ)
+        × Runs (D.state desk.old) text.now l result.outcome typed (D.state desk.new)
+        × Shows (T.screen term.old) (T.screen term.new) typed (is_tty result.outcome)) }
+    ensures again { D.state desk.new
+        ≡ (string_meaning (D.state desk.old) text.now result.outcome.steps).state }
+    ensures follows { (floor : ℕ) → D.follows desk.old (trail_of (D.state desk.old) text.now floor 0)
+        → D.follows desk.new (trail_of (D.state desk.old) text.now floor result.outcome.steps) }
+    ensures no_memory { takes_no_memory (nodes text.now) ≡ true → result.outcome.code ≡ Some Mem → ⊥ }
+    ensures exit { (D.state desk.old).is_done ≡ false → (D.state desk.new).is_done ≡ true
+        → result.outcome.code ≡ None }
+{
     let mut watch = Watched::new(alloc);
-    let outcome = run_watched(desk, text, limit, term, &mut watch);
+    let outcome = run_watched(desk, text, limit, stop, term, &mut watch);
     Stopped {
         outcome,
         place: watch.into_place(),
     }
 }
 
-/// Runs a command string as `run` does, and tells a watch where it last stood.
-fn run_watched<D: Desk, T: Terminal, W: Watch>(
+/// Runs a command string as `run_until` does, and tells a watch where it last stood.
+fn run_watched<D: Desk, S: Stop, T: Terminal, W: Watch>(
     desk: &mut D,
     text: &[u8],
     limit: u64,
+    stop: &mut S,
     term: &mut T,
     watch: &mut W,
 ) -> Outcome
-    ensures run { (typed : List ℕ) × Runs (D.state desk.old) text.now limit result typed (D.state desk.new)
-        × Shows (T.screen term.old) (T.screen term.new) typed (is_tty result) }
+    ensures run { RunsWithin (S.answered stop.new) limit result (λ l. (typed : List ℕ)
+        × Runs (D.state desk.old) text.now l result typed (D.state desk.new)
+        × Shows (T.screen term.old) (T.screen term.new) typed (is_tty result)) }
     ensures again { D.state desk.new ≡ (string_meaning (D.state desk.old) text.now result.steps).state }
     ensures follows { (floor : ℕ) → D.follows desk.old (trail_of (D.state desk.old) text.now floor 0)
         → D.follows desk.new (trail_of (D.state desk.old) text.now floor result.steps) }
@@ -108,7 +165,7 @@ fn run_watched<D: Desk, T: Terminal, W: Watch>(
     meaning_laws();
     let mut args = Args::new();
     let mut steps = Steps { done: 0, limit };
-    let exit = run_text(desk, text, 0, &mut args, &mut steps, term, watch);
+    let exit = run_text(desk, text, 0, &mut args, &mut steps, stop, term, watch);
     Outcome {
         code: exit.code(),
         steps: steps.done,
@@ -117,25 +174,27 @@ fn run_watched<D: Desk, T: Terminal, W: Watch>(
 
 /// Runs a text at this depth of calls, from its beginning, with these arguments. Where it returns, `args` are what it leaves.
 #[cycle(run_text)]
-fn run_text<D: Desk, T: Terminal, W: Watch>(
+fn run_text<D: Desk, S: Stop, T: Terminal, W: Watch>(
     desk: &mut D,
     text: &[u8],
     depth: usize,
     args: &mut Args,
     steps: &mut Steps,
+    stop: &mut S,
     term: &mut T,
     watch: &mut W,
 ) -> Exit
     requires { depth ≤ CALL_LIMIT }
-    ensures counts { CountsSteps steps.old steps.new }
-    ensures leads { RunLeadsAt depth steps.old.limit
+    ensures counts { CountsSteps (S.answered stop.old) (S.answered stop.new) (result ≡ exit.Stop Lim)
+        steps.old steps.new }
+    ensures leads { RunLeadsAt depth steps.new.limit
         (host (D.state desk.old) (D.follows desk.old) (T.screen term.old) steps.old.done)
         (host (D.state desk.new) (D.follows desk.new) (T.screen term.new) steps.new.done)
         (at_beginning (arguments args.old) text.now)
         (λ callers. reached_by_exit (arguments args.new) callers result) }
     ensures no_memory { takes_no_memory (nodes text.now) ≡ true → code_left result ≡ Some Mem → ⊥ }
     ensures told { W.knows watch.old None → Tells (W.knows watch.new) result steps.new.done
-        (StandsFrom depth steps.old.limit
+        (StandsFrom depth
         (host (D.state desk.old) (D.follows desk.old) (T.screen term.old) steps.old.done)
         (at_beginning (arguments args.old) text.now)) }
 {
@@ -146,10 +205,10 @@ fn run_text<D: Desk, T: Terminal, W: Watch>(
     let mut cursor = Cursor::begin(text, *args, &mut room);
     'running: loop {
         let at = cursor.at;
-        match step(desk, &mut cursor, steps, term) {
+        match step(desk, &mut cursor, steps, stop, term) {
             Flow::On => continue 'running,
             Flow::Call(q) => {
-                match run_called(desk, q, depth, &mut cursor, at, steps, term, watch) {
+                match run_called(desk, q, depth, &mut cursor, at, steps, stop, term, watch) {
                     Exit::Return => continue 'running,
                     Exit::Over => return Exit::Over,
                     Exit::Fail(code) => return Exit::Fail(code),
@@ -178,13 +237,14 @@ fn run_text<D: Desk, T: Terminal, W: Watch>(
 ///
 /// A copy of it is run. A short one lies in the frame of this call, and the memory of a longer one is found before the step counts.
 #[cycle(run_text)]
-fn run_called<D: Desk, T: Terminal, W: Watch>(
+fn run_called<D: Desk, S: Stop, T: Terminal, W: Watch>(
     desk: &mut D,
     q: Reg,
     depth: usize,
     cursor: &mut Cursor,
     at: usize,
     steps: &mut Steps,
+    stop: &mut S,
     term: &mut T,
     watch: &mut W,
 ) -> Exit
@@ -194,18 +254,20 @@ fn run_called<D: Desk, T: Terminal, W: Watch>(
     requires within { at ≤ length cursor.old.text.now }
     ensures text { cursor.new.text ≡ cursor.old.text }
     ensures left { (cursor_of cursor.new).left ≡ (cursor_of cursor.old).left }
-    ensures counts { CountsSteps steps.old steps.new }
+    ensures counts { CountsSteps (S.answered stop.old) (S.answered stop.new) (result ≡ exit.Stop Lim)
+        steps.old steps.new }
     ensures more { result ≡ exit.Return → steps.old.done < steps.new.done }
-    ensures leads { RunLeadsAt depth steps.old.limit
+    ensures leads { RunLeadsAt depth steps.new.limit
         (host (D.state desk.old) (D.follows desk.old) (T.screen term.old) steps.old.done)
         (host (D.state desk.new) (D.follows desk.new) (T.screen term.new) steps.new.done)
         (at_register_call cursor.old q) (λ callers. reached_after_call cursor.new callers result) }
     ensures told { W.knows watch.old None → Tells (W.knows watch.new) result steps.new.done
-        (StandsFrom depth steps.old.limit
+        (StandsFrom depth
         (host (D.state desk.old) (D.follows desk.old) (T.screen term.old) steps.old.done)
         (at_register_call cursor.old q)) }
 {
-    if steps.done == steps.limit {
+    if steps.are_over(stop) {
+        steps.limit = steps.done;
         watch.stood(steps.done, at, cursor);
         return Exit::Stop(Code::Lim);
     }
@@ -213,11 +275,22 @@ fn run_called<D: Desk, T: Terminal, W: Watch>(
     let len = text.len();
     if len <= SHORT_LIMIT {
         let copy = short_copy(text);
-        return run_copy(desk, q, &copy[..len], depth, cursor, at, steps, term, watch);
+        return run_copy(
+            desk,
+            q,
+            &copy[..len],
+            depth,
+            cursor,
+            at,
+            steps,
+            stop,
+            term,
+            watch,
+        );
     }
     let alloc = *desk.registers().value(q).text.allocator();
     match Vec::from_slice(alloc, text) {
-        Ok(copy) => run_copy(desk, q, &copy, depth, cursor, at, steps, term, watch),
+        Ok(copy) => run_copy(desk, q, &copy, depth, cursor, at, steps, stop, term, watch),
         Err(_) => {
             watch.stood(steps.done, at, cursor);
             Exit::Stop(Code::Mem)
@@ -227,7 +300,7 @@ fn run_called<D: Desk, T: Terminal, W: Watch>(
 
 /// Counts the step that calls a text of which this is a copy, and runs it.
 #[cycle(run_text)]
-fn run_copy<D: Desk, T: Terminal, W: Watch>(
+fn run_copy<D: Desk, S: Stop, T: Terminal, W: Watch>(
     desk: &mut D,
     q: Reg,
     called: &[u8],
@@ -235,6 +308,7 @@ fn run_copy<D: Desk, T: Terminal, W: Watch>(
     cursor: &mut Cursor,
     at: usize,
     steps: &mut Steps,
+    stop: &mut S,
     term: &mut T,
     watch: &mut W,
 ) -> Exit
@@ -244,16 +318,18 @@ fn run_copy<D: Desk, T: Terminal, W: Watch>(
     requires within { at ≤ length cursor.old.text.now }
     requires copy { called.now ≡ (content (D.state desk.old).registers q).text }
     requires fuel { steps.old.done < steps.old.limit }
+    requires lets { S.answered stop.old steps.old.done false }
     ensures text { cursor.new.text ≡ cursor.old.text }
     ensures left { (cursor_of cursor.new).left ≡ (cursor_of cursor.old).left }
-    ensures counts { CountsSteps steps.old steps.new }
+    ensures counts { CountsSteps (S.answered stop.old) (S.answered stop.new) (result ≡ exit.Stop Lim)
+        steps.old steps.new }
     ensures more { steps.old.done < steps.new.done }
-    ensures leads { RunLeadsAt depth steps.old.limit
+    ensures leads { RunLeadsAt depth steps.new.limit
         (host (D.state desk.old) (D.follows desk.old) (T.screen term.old) steps.old.done)
         (host (D.state desk.new) (D.follows desk.new) (T.screen term.new) steps.new.done)
         (at_register_call cursor.old q) (λ callers. reached_after_call cursor.new callers result) }
     ensures told { W.knows watch.old None → Tells (W.knows watch.new) result steps.new.done
-        (StandsFrom depth steps.old.limit
+        (StandsFrom depth
         (host (D.state desk.old) (D.follows desk.old) (T.screen term.old) steps.old.done)
         (at_register_call cursor.old q)) }
 {
@@ -264,7 +340,7 @@ fn run_copy<D: Desk, T: Terminal, W: Watch>(
         return Exit::Fail(Code::Pdo);
     }
     let args = &mut cursor.args;
-    match run_text(desk, called, depth + 1, args, steps, term, watch) {
+    match run_text(desk, called, depth + 1, args, steps, stop, term, watch) {
         Exit::Return => Exit::Return,
         Exit::Over => Exit::Over,
         Exit::Fail(code) => {

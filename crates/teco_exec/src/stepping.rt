@@ -1,5 +1,6 @@
 //! One step of a text.
 ghost use Rattle.std.specs.Prelude.{◌≡◌, ◌<◌, ◌≤◌, ◌⊎◌, ℕ, List, None, Some, MatchOption, MatchResult, drop, false, length, true};
+ghost use Rattle.teco_core.specs.declared.code.Code.TheVariants.{Lim};
 ghost use Rattle.teco_scan.specs.Scan.{scan};
 ghost use Rattle.teco_store.specs.State.{State};
 ghost use Rattle.teco_step.specs.Stepping.{IsStepIn, end_of, is_unfinished, is_unfinished_code, name_in, takes_nothing_in};
@@ -13,10 +14,12 @@ ghost use Rattle.teco_exec.specs.Places.{IsReadAt, call_token};
 ghost use Rattle.teco_exec.specs.Quiet.{IsQuiet, is_plain};
 ghost use Rattle.teco_exec.specs.View.{MayOpen, cursor as cursor_of, item_of_kind};
 ghost use Rattle.teco_exec.specs.declared.flow.Flow.TheVariants as flow;
+ghost use Rattle.teco_exec.specs.declared.flow.Progress.TheVariants as progress;
 
 use crate::cursor::Cursor;
 use crate::flow::{Flow, Progress, Steps};
 use crate::moves::{BlockStep, Coming};
+use crate::stop::Stop;
 use teco_core::{Code, Reg};
 use teco_scan::{
     Bare, Command, Found, Item, RegisterCommand, TextCommand, Token, TokenKind, block_laws,
@@ -30,18 +33,20 @@ use teco_store::Desk;
 /// Where the limit of steps is reached, the run is over. A step that ends for want of memory, or because the terminal fails, isn't
 /// counted.
 #[inline(always)]
-pub(crate) fn step<D: Desk, T: Terminal>(
+pub(crate) fn step<D: Desk, S: Stop, T: Terminal>(
     desk: &mut D,
     cursor: &mut Cursor,
     steps: &mut Steps,
+    stop: &mut S,
     term: &mut T,
 ) -> Flow
     ensures text { cursor.new.text ≡ cursor.old.text }
-    ensures counts { CountsSteps steps.old steps.new }
+    ensures counts { CountsSteps (S.answered stop.old) (S.answered stop.new) (result ≡ flow.Stop Lim)
+        steps.old steps.new }
     ensures advances { GoesOn result
         → (steps.old.done < steps.new.done)
         ⊎ (length (cursor_of cursor.new).left < length (cursor_of cursor.old).left) }
-    ensures leads { RunLeads steps.old.limit
+    ensures leads { RunLeads steps.new.limit
         (host (D.state desk.old) (D.follows desk.old) (T.screen term.old) steps.old.done)
         (host (D.state desk.new) (D.follows desk.new) (T.screen term.new) steps.new.done)
         (at_cursor cursor.old) (λ callers. reached_by_flow cursor.new callers result) }
@@ -49,7 +54,7 @@ pub(crate) fn step<D: Desk, T: Terminal>(
     ensures around { OnLast result steps.new.done (λ k.
         (cursor_of cursor.new).blocks ≡ (cursor_of cursor.old).blocks) }
     ensures stood { OnLast result steps.new.done (λ k.
-        (o : Origin) (callers : List Caller) → o.limit ≡ steps.old.limit
+        (o : Origin) (callers : List Caller)
         → RunGoesOn o (host (D.state desk.old) (D.follows desk.old) (T.screen term.old) steps.old.done)
         (at_cursor cursor.old callers) → StandsSomewhere o k cursor.old callers) }
     ensures calls { OnCall result (λ q. IsReadAt cursor.old.text.now cursor.old.at (Some (call_token q))
@@ -60,11 +65,11 @@ pub(crate) fn step<D: Desk, T: Terminal>(
     match cursor.pass(&found) {
         Coming::Passed => Flow::On,
         Coming::Step => match &found {
-            Found::Token(token) => token_steps(desk, cursor, token, steps, term),
+            Found::Token(token) => token_steps(desk, cursor, token, steps, stop, term),
             // `pass` tells of a step only where a token was found.
             Found::End | Found::Fault(_) => unreachable!(),
         },
-        Coming::Block(block, to) => block_step(desk, cursor, block, to, steps),
+        Coming::Block(block, to) => block_step(desk, cursor, block, to, steps, stop),
         Coming::End => Flow::Return,
         Coming::Fault(code) => Flow::Stop(code),
     }
@@ -72,18 +77,20 @@ pub(crate) fn step<D: Desk, T: Terminal>(
 
 /// Does the steps of a token, one after the other.
 #[inline(always)]
-fn token_steps<D: Desk, T: Terminal>(
+fn token_steps<D: Desk, S: Stop, T: Terminal>(
     desk: &mut D,
     cursor: &mut Cursor,
     token: &Token,
     steps: &mut Steps,
+    stop: &mut S,
     term: &mut T,
 ) -> Flow
     requires { IsStepIn cursor.old.text.now token.now }
     ensures text { cursor.new.text ≡ cursor.old.text }
-    ensures counts { CountsSteps steps.old steps.new }
+    ensures counts { CountsSteps (S.answered stop.old) (S.answered stop.new) (result ≡ flow.Stop Lim)
+        steps.old steps.new }
     ensures more { GoesOn result → steps.old.done < steps.new.done }
-    ensures leads { RunLeads steps.old.limit
+    ensures leads { RunLeads steps.new.limit
         (host (D.state desk.old) (D.follows desk.old) (T.screen term.old) steps.old.done)
         (host (D.state desk.new) (D.follows desk.new) (T.screen term.new) steps.new.done)
         (at_token cursor.old token.now None) (λ callers. reached_by_flow cursor.new callers result) }
@@ -91,7 +98,7 @@ fn token_steps<D: Desk, T: Terminal>(
         → GoesQuietly cursor.new result }
     ensures stays { FlowStays cursor.old cursor.new result }
     ensures stood { OnLast result steps.new.done (λ k.
-        (o : Origin) (callers : List Caller) → o.limit ≡ steps.old.limit
+        (o : Origin) (callers : List Caller)
         → RunGoesOn o (host (D.state desk.old) (D.follows desk.old) (T.screen term.old) steps.old.done)
         (at_token cursor.old token.now None callers)
         → StandsAt o k (token_standing cursor.old token.now callers)) }
@@ -99,7 +106,7 @@ fn token_steps<D: Desk, T: Terminal>(
 {
     let mut work = None;
     'stepping: loop {
-        match token_step(desk, cursor, token, work, steps, term) {
+        match token_step(desk, cursor, token, work, steps, stop, term) {
             Progress::Further(left) => {
                 work = Some(left);
                 continue 'stepping;
@@ -111,19 +118,21 @@ fn token_steps<D: Desk, T: Terminal>(
 
 /// Does a step of a token, its first or a further one with this work left. A step that calls a text is told, and not done.
 #[inline(always)]
-fn token_step<D: Desk, T: Terminal>(
+fn token_step<D: Desk, S: Stop, T: Terminal>(
     desk: &mut D,
     cursor: &mut Cursor,
     token: &Token,
     work: Option<Work>,
     steps: &mut Steps,
+    stop: &mut S,
     term: &mut T,
 ) -> Progress
     requires { IsStepIn cursor.old.text.now token.now }
     ensures text { cursor.new.text ≡ cursor.old.text }
-    ensures counts { CountsSteps steps.old steps.new }
+    ensures counts { CountsSteps (S.answered stop.old) (S.answered stop.new)
+        (result ≡ progress.Done (flow.Stop Lim)) steps.old steps.new }
     ensures more { Continues result → steps.old.done < steps.new.done }
-    ensures leads { RunLeads steps.old.limit
+    ensures leads { RunLeads steps.new.limit
         (host (D.state desk.old) (D.follows desk.old) (T.screen term.old) steps.old.done)
         (host (D.state desk.new) (D.follows desk.new) (T.screen term.new) steps.new.done)
         (at_token cursor.old token.now work)
@@ -138,7 +147,8 @@ fn token_step<D: Desk, T: Terminal>(
     if let Some(q) = called_by(token) {
         return Progress::Done(Flow::Call(q));
     }
-    if steps.done == steps.limit {
+    if steps.are_over(stop) {
+        steps.limit = steps.done;
         return Progress::Done(Flow::Stop(Code::Lim));
     }
     let inside = iteration_is_seen(cursor, token);
@@ -163,27 +173,30 @@ fn token_step<D: Desk, T: Terminal>(
 
 /// Does a step of a block.
 #[inline(always)]
-fn block_step<D: Desk>(
+fn block_step<D: Desk, S: Stop>(
     desk: &mut D,
     cursor: &mut Cursor,
     block: BlockStep,
     to: usize,
     steps: &mut Steps,
+    stop: &mut S,
 ) -> Flow
     requires within { to ≤ length cursor.old.text.now }
     requires opens { MayOpen block cursor.old.blocks }
     ensures text { cursor.new.text ≡ cursor.old.text }
-    ensures counts { CountsSteps steps.old steps.new }
+    ensures counts { CountsSteps (S.answered stop.old) (S.answered stop.new) (result ≡ flow.Stop Lim)
+        steps.old steps.new }
     ensures more { GoesOn result → steps.old.done < steps.new.done }
     ensures leads { (screen : Screen)
-        → RunLeads steps.old.limit (host (D.state desk.old) (D.follows desk.old) screen steps.old.done)
+        → RunLeads steps.new.limit (host (D.state desk.old) (D.follows desk.old) screen steps.old.done)
         (host (D.state desk.new) (D.follows desk.new) screen steps.new.done)
         (at_block_step cursor.old block to) (λ callers. reached_by_flow cursor.new callers result) }
     ensures stood { OnLast result steps.new.done (λ k. k ≡ steps.old.done) }
     ensures stays { FlowStays cursor.old cursor.new result }
     ensures calls { OnCall result (λ q. ⊥) }
 {
-    if steps.done == steps.limit {
+    if steps.are_over(stop) {
+        steps.limit = steps.done;
         return Flow::Stop(Code::Lim);
     }
     let moved = cursor.block_step(block, to);

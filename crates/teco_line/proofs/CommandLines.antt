@@ -12,7 +12,7 @@ use Rattle.clap.specs.Facts.{WantsDefault, args_of, least_values, unwrap_or_rang
 use Rattle.clap.specs.Built.{IsParsedFrom}
 use Rattle.clap.specs.Values.{IsUnsignedIn, kind_of, read_as}
 use Rattle.clap.specs.Matches.{ReadsOne, first_value, found_of, matched_of, one_text}
-use Rattle.clap.specs.Walk.{Row, Text, first_of, one_of, rows_of}
+use Rattle.clap.specs.Walk.{Row, Text, all_of, first_of, one_of, rows_of}
 use Rattle.clap.specs.declared.builder.action.ArgAction.TheVariants.{Set}
 use Rattle.clap.specs.Simple.{HasMatchesOf, app_of, is_simple, matches_of}
 use Rattle.clap.specs.Faults.{fault_of, is_simple_and_free}
@@ -251,7 +251,8 @@ module _ (c : Command) (m : ArgMatches) (words : List Text) (is : app_of c ≡ t
   misfit_is line has (Refused error) h = inr (inr (words_taken, (inr (line, rw (← rows_are) has, h.0), h.1)))
 
 -- commands that are given more than once
-pub commands_fault_is : (parse : List Row) (fault : LineFault) → IsCommandsFault (first_of (codes "execute") parse) (first_of (codes "pages") parse) (first_of (codes "file") parse) fault
+pub commands_fault_is : (parse : List Row) (fault : LineFault)
+    → IsCommandsFault (first_of (codes "execute") parse) (unwrap_or (all_of (codes "file") parse) []) (first_of (codes "pages") parse) (first_of (codes "bytes") parse) fault
     → IsReadFault parse fault
 commands_fault_is parse NoMemory h = tt
 commands_fault_is parse (Refused error) h = (inl h.0, h.1)
@@ -261,14 +262,10 @@ pub same_line : (P : Line → Type 0) (r : Result Line LineFault) (line : Line) 
 same_line P (Ok fit) line same h = rw same h
 same_line P (Err fault) line same h = tt
 
--- what three getters gave, by the rows
-pub three_texts : (P : Option Text → Option Text → Option Text → Type 0) (m : ArgMatches) (a b d : Text) (word pages file : Option Text)
-    → word ≡ first_value (found_of m) a → pages ≡ first_value (found_of m) b → file ≡ first_value (found_of m) d → P word pages file
-    → P (first_of a (rows_of (found_of m))) (first_of b (rows_of (found_of m))) (first_of d (rows_of (found_of m)))
-three_texts P m a b d word pages file is_word is_pages is_file h =
-    let in_rows : (id : Text) (text : Option Text) → text ≡ first_value (found_of m) id → text ≡ first_of id (rows_of (found_of m)) =
-    λ id text e. e ∙ first_value-rows (found_of m) id in
-    rw (← in_rows a word is_word, ← in_rows b pages is_pages, ← in_rows d file is_file) h
+-- what the getters of commands gave, by the rows
+pub by_rows : (P : Option Text → List Text → Option Text → Option Text → Type 0) {a b d : Option Text} {fs gs : List Text} {word pages bytes : Option Text}
+    → a ≡ word → fs ≡ gs → b ≡ pages → d ≡ bytes → P word gs pages bytes → P a fs b d
+by_rows P is_word is_files is_pages is_bytes h = rw (is_word, is_files, is_pages, is_bytes) h
 
 -- why a line is refused once the command is made is why it is refused
 pub fault_at_all : (words : List Text) (fault : LineFault) → IsFaultOnceMade (joined words) fault → IsLineFault words fault

@@ -89,15 +89,16 @@ several : map row_of (
 unfolding clap_on_literals
 several = refl
 
--- what the words give for the word, the word for every page and the file of commands
-abbrev commands_of : List Text → Option Text × Option Text × Option Text
+-- what the words give for the word, the files, the word for every page and the bytes
+abbrev commands_of : List Text → Option Text × Option (List Text) × Option Text × Option Text
 commands_of words = (
   first_of (codes "execute") (matches_of teco_app words),
+  all_of (codes "file") (matches_of teco_app words),
   first_of (codes "pages") (matches_of teco_app words),
-  first_of (codes "file") (matches_of teco_app words),
+  first_of (codes "bytes") (matches_of teco_app words),
 )
 
--- teco a; teco -e b a; teco a --execute=b; teco -p b a; teco a --pages=b; teco -fb a; teco --file b a
+-- teco a; teco -e b a; teco a --execute=b; teco -p b a; teco a --pages=b; teco -fb a; teco --file b a; teco -b c a; teco a --bytes=c
 commands_given : map commands_of (
     (codes "teco" ∷ codes "a" ∷ [])
     ∷ (codes "teco" ∷ codes "-e" ∷ codes "b" ∷ codes "a" ∷ [])
@@ -106,23 +107,33 @@ commands_given : map commands_of (
     ∷ (codes "teco" ∷ codes "a" ∷ codes "--pages=b" ∷ [])
     ∷ (codes "teco" ∷ codes "-fb" ∷ codes "a" ∷ [])
     ∷ (codes "teco" ∷ codes "--file" ∷ codes "b" ∷ codes "a" ∷ [])
-    ∷ []) ≡ (None, None, None) ∷ (Some (codes "b"), None, None) ∷ (Some (codes "b"), None, None) ∷ (None, Some (codes "b"), None) ∷ (None, Some (codes "b"), None)
-    ∷ (None, None, Some (codes "b")) ∷ (None, None, Some (codes "b")) ∷ []
+    ∷ (codes "teco" ∷ codes "-b" ∷ codes "c" ∷ codes "a" ∷ [])
+    ∷ (codes "teco" ∷ codes "a" ∷ codes "--bytes=c" ∷ [])
+    ∷ []) ≡ (None, None, None, None) ∷ (Some (codes "b"), None, None, None) ∷ (Some (codes "b"), None, None, None)
+    ∷ (None, None, Some (codes "b"), None) ∷ (None, None, Some (codes "b"), None)
+    ∷ (None, Some (codes "b" ∷ []), None, None) ∷ (None, Some (codes "b" ∷ []), None, None)
+    ∷ (None, None, None, Some (codes "c")) ∷ (None, None, None, Some (codes "c")) ∷ []
 unfolding clap_on_literals
 commands_given = refl
 
--- teco -e b -f c a: the parser takes it, and the program does not
-both_taken : takes teco_app (codes "teco" ∷ codes "-e" ∷ codes "b" ∷ codes "-f" ∷ codes "c" ∷ codes "a" ∷ []) ≡ true
+-- teco -f b -e c -f d a: the files in their order, and a word
+sources_given : map commands_of ((codes "teco" ∷ codes "-f" ∷ codes "b" ∷ codes "-e" ∷ codes "c" ∷ codes "-f" ∷ codes "d" ∷ codes "a" ∷ []) ∷ [])
+    ≡ (Some (codes "c"), Some (codes "b" ∷ codes "d" ∷ []), None, None) ∷ []
+unfolding clap_on_literals
+sources_given = refl
+
+-- teco -p b -f c a: the parser takes it, and the program does not
+both_taken : takes teco_app (codes "teco" ∷ codes "-p" ∷ codes "b" ∷ codes "-f" ∷ codes "c" ∷ codes "a" ∷ []) ≡ true
 unfolding clap_on_literals
 both_taken = refl
 
-both_given : map commands_of ((codes "teco" ∷ codes "-e" ∷ codes "b" ∷ codes "-f" ∷ codes "c" ∷ codes "a" ∷ []) ∷ [])
-    ≡ (Some (codes "b"), None, Some (codes "c")) ∷ []
+both_given : map commands_of ((codes "teco" ∷ codes "-p" ∷ codes "b" ∷ codes "-f" ∷ codes "c" ∷ codes "a" ∷ []) ∷ [])
+    ≡ (None, Some (codes "c" ∷ []), Some (codes "b"), None) ∷ []
 unfolding clap_on_literals
 both_given = refl
 
--- teco -p 0K a runs Y<0K$ $-1-^N;P>EX$$, where each $ is ESC; those at the end of the word are one
-pages_are : map on_pages (codes "0K" ∷ codes "FSa$b$" ∷ codes "FSa$b$$" ∷ codes "$" ∷ [])
+-- teco -p 0K a runs Y<0K$ $-1-^N;P>EX$$, where each $ is ESC; those at the end of the strings are one
+pages_are : map on_pages (codes "0K" ∷ (codes "FSa" ++ (27 ∷ codes "b") ++ (27 ∷ [])) ∷ (codes "FSa" ++ (27 ∷ codes "b") ++ (27 ∷ 27 ∷ [])) ∷ (27 ∷ []) ∷ [])
     ≡ (codes "Y<0K" ++ (27 ∷ 32 ∷ 27 ∷ codes "-1-^N;P>EX") ++ (27 ∷ 27 ∷ []))
     ∷ (codes "Y<FSa" ++ (27 ∷ codes "b") ++ (27 ∷ 32 ∷ 27 ∷ codes "-1-^N;P>EX") ++ (27 ∷ 27 ∷ []))
     ∷ (codes "Y<FSa" ++ (27 ∷ codes "b") ++ (27 ∷ 32 ∷ 27 ∷ codes "-1-^N;P>EX") ++ (27 ∷ 27 ∷ []))
@@ -161,7 +172,7 @@ faults : map (fault_of teco_app) (
     ∷ (codes "teco" ∷ codes "a" ∷ codes "--what" ∷ [])
     ∷ (codes "teco" ∷ codes "a" ∷ codes "-e" ∷ [])
     ∷ (codes "teco" ∷ codes "a" ∷ codes "-e" ∷ codes "-C" ∷ [])
-    ∷ (codes "teco" ∷ codes "a" ∷ codes "-fb" ∷ codes "--file=c" ∷ [])
+    ∷ (codes "teco" ∷ codes "a" ∷ codes "-bc" ∷ codes "--bytes=d" ∷ [])
     ∷ (codes "teco" ∷ codes "--help" ∷ [])
     ∷ []) ≡ (MissingRequiredArgument ∷ []) ∷ (InvalidValue ∷ []) ∷ (ValueValidation ∷ []) ∷ (ValueValidation ∷ [])
     ∷ (ValueValidation ∷ []) ∷ (ValueValidation ∷ []) ∷ (ValueValidation ∷ []) ∷ (ValueValidation ∷ []) ∷ (ValueValidation ∷ []) ∷ (TooManyValues ∷ []) ∷ (ArgumentConflict ∷ []) ∷ (UnknownArgument ∷ [])

@@ -1,5 +1,5 @@
 -- What words make as they are joined.
-use Rattle.std.proofs.Common.{◌≡◌, ◌∙◌, ◌++◌, ◌+◌, ◌-◌, ◌<◌, ◌≤◌, ◌&&◌, ℕ, Bool, true, false, true≢false, zero, suc, refl, sym, ap, arith, List, [], ◌∷◌, length, codes, map, take, drop, get_or, String, Global, append_assoc, if◌then◌else◌}
+use Rattle.std.proofs.Common.{◌≡◌, ◌∙◌, ◌++◌, ◌-◌, ◌<◌, ◌≤◌, ℕ, Bool, true, false, true≢false, refl, sym, ap, arith, List, [], ◌∷◌, length, codes, map, take, drop, get_or, String, Global, append_assoc, if◌then◌else◌}
 use Rattle.std.specs.Str.{bytes_eq}
 use Rattle.std.specs.String.{string_bytes}
 use Rattle.clap.specs.Words.{Text}

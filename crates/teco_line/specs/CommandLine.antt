@@ -1,6 +1,6 @@
 -- What the command line says: teco [OPTIONS] INPUT...
-use Rattle.std.specs.Prelude.{Bool, ◌-◌, length, take, map, unwrap_or, ◌++◌, IfSome, IsSomeAnd, ◌<◌, ◌^◌, ◌≡◌, ◌≤◌, ◌==◌, ℕ, List, [], ◌∷◌, Option, Some, None, IsTrue, ◌↔◌, codes, true}
-use Rattle.std.specs.Prelude.{false, option_map, is_some, ⊤, ◌⊎◌, Result, Ok, Err, if◌then◌else◌}
+use Rattle.std.specs.Prelude.{Bool, ◌-◌, ◌||◌, nat_lt, length, take, map, unwrap_or, ◌++◌, IfSome, IsSomeAnd, ◌<◌, ◌^◌, ◌≡◌, ◌≤◌, ◌==◌, ℕ, List, [], ◌∷◌, Option, Some, None, IsTrue, ◌↔◌, codes, true}
+use Rattle.std.specs.Prelude.{false, option_map, is_some, ⊤, ◌⊎◌, Result, Ok, Err}
 use Rattle.std.specs.Borrow.{Bor}
 use Rattle.std.specs.List.{count_by, suffix_len}
 use Rattle.std.specs.String.{string_bytes}
@@ -17,7 +17,7 @@ use Rattle.teco_line.specs.Conflict.{has_conflict}
 use Rattle.teco_line.specs.Joining.{joined}
 use Rattle.teco_line.specs.OptionTable.{option_rules, with_rules}
 use Rattle.teco_line.specs.declared.line.Commands.{Commands}
-use Rattle.teco_line.specs.declared.line.Commands.TheVariants.{StandardInput, Word, Pages, File}
+use Rattle.teco_line.specs.declared.line.Commands.TheVariants.{StandardInput, Sources, Pages, Bytes}
 use Rattle.teco_line.specs.declared.line.Line.{Line}
 use Rattle.teco_line.specs.declared.line.LineFault.{LineFault}
 use Rattle.teco_line.specs.declared.line.LineFault.TheVariants.{Refused, NoMemory}
@@ -55,10 +55,6 @@ teco_app = with_rules (with_version (new_app (codes "teco"))) (option_rules ++ i
 abbrev pub number_of : Text → ℕ
 number_of text = digits_value 10 (without_leading_plus text)
 
--- In a word of the line a dollar sign, 36, stands for ESC, and every other byte for itself.
-abbrev pub typed : ℕ → ℕ
-typed byte = if byte == 36 then ESC else byte
-
 abbrev pub is_escape : ℕ → Bool
 is_escape byte = byte == ESC
 
@@ -66,35 +62,51 @@ is_escape byte = byte == ESC
 abbrev pub without_last_escapes : List ℕ → List ℕ
 without_last_escapes bytes = take (length bytes - suffix_len is_escape bytes) bytes
 
--- The commands that run the strings of a word on every page, and then exit: a page is read and the strings are
+-- The commands that run these strings on every page, and then exit: a page is read and the strings are
 -- run; -1-^N ends the loop where no page follows, and else P writes the page and reads the next. ^N is typed as
--- a caret and a letter. The word may end with ESCs, as it would for --execute: one ESC takes their place, since
--- two would end the command string inside the loop. After it come a space and an ESC, which drops what the last
--- command gave.
-abbrev pub on_pages : Text → List ℕ
-on_pages word = codes "Y<" ++ without_last_escapes (map typed word) ++ (ESC ∷ 32 ∷ ESC ∷ codes "-1-^N;P>EX" ++ (ESC ∷ ESC ∷ []))
+-- a caret and a letter. The strings may end with ESCs, as they would for --execute: one ESC takes their place,
+-- since two would end the command string inside the loop. After it come a space and an ESC, which drops what the
+-- last command gave.
+abbrev pub on_pages : List ℕ → List ℕ
+on_pages strings = codes "Y<" ++ without_last_escapes strings ++ (ESC ∷ 32 ∷ ESC ∷ codes "-1-^N;P>EX" ++ (ESC ∷ ESC ∷ []))
 
 -- the text behind a reference, where there is one
 abbrev pub text_behind : Option (Bor Text) → Option Text
 text_behind = option_map (λ text. text.now)
 
--- Where the commands come from, by the texts of --execute, --pages and --file: from the one that is given, from
--- standard input where none is.
-abbrev pub IsCommands : Option Text → Option Text → Option Text → Commands → Type 0
-IsCommands word pages file StandardInput = (word ≡ None) × (pages ≡ None) × (file ≡ None)
-IsCommands word pages file (Word text) = (word ≡ Some (string_bytes text)) × (pages ≡ None) × (file ≡ None)
-IsCommands word pages file (Pages text) = (word ≡ None) × (pages ≡ Some (string_bytes text)) × (file ≡ None)
-IsCommands word pages file (File name) = (word ≡ None) × (pages ≡ None) × (file ≡ Some (string_bytes name))
+-- --execute or --file gives a source
+abbrev pub has_sources : Option Text → List Text → Bool
+has_sources word files = is_some word || nat_lt 0 (length files)
+
+-- Where the commands come from, by the texts of --execute, --file, --pages and --bytes: from the sources of the
+-- first two where they give any; else from the one that is given; from standard input where none is.
+abbrev pub IsCommands : Option Text → List Text → Option Text → Option Text → Commands → Type 0
+IsCommands word files pages bytes StandardInput = (has_sources word files ≡ false) × (pages ≡ None) × (bytes ≡ None)
+IsCommands word files pages bytes (Sources names text) = (has_sources word files ≡ true)
+    × (files ≡ map string_bytes names.items) × (word ≡ option_map string_bytes text) × (pages ≡ None) × (bytes ≡ None)
+IsCommands word files pages bytes (Pages text) = (has_sources word files ≡ false)
+    × (pages ≡ Some (string_bytes text)) × (bytes ≡ None)
+IsCommands word files pages bytes (Bytes name) = (has_sources word files ≡ false)
+    × (pages ≡ None) × (bytes ≡ Some (string_bytes name))
 
 -- More than one of them is given: such a line is faulty.
-abbrev pub AreMany : Option Text → Option Text → Option Text → Type 0
-AreMany word pages file = 2 ≤ count_by is_some (word ∷ pages ∷ file ∷ [])
+abbrev pub AreMany : Option Text → List Text → Option Text → Option Text → Type 0
+AreMany word files pages bytes = 2 ≤ count_by (λ given. given) (has_sources word files ∷ is_some pages ∷ is_some bytes ∷ [])
 
 -- Why a line gives no commands: memory was refused, or it gives them more than once, which the parser's error
 -- tells as one that gives an argument twice.
-abbrev pub IsCommandsFault : Option Text → Option Text → Option Text → LineFault → Type 0
-IsCommandsFault word pages file NoMemory = ⊤
-IsCommandsFault word pages file (Refused error) = AreMany word pages file × (kind_of error ≡ kind.ArgumentConflict)
+abbrev pub IsCommandsFault : Option Text → List Text → Option Text → Option Text → LineFault → Type 0
+IsCommandsFault word files pages bytes NoMemory = ⊤
+IsCommandsFault word files pages bytes (Refused error) = AreMany word files pages bytes × (kind_of error ≡ kind.ArgumentConflict)
+
+-- A parse says that the commands come from there, and that it gives them more than once.
+abbrev pub SaysCommands : List Row → Commands → Type 0
+SaysCommands rows = IsCommands (first_of (codes "execute") rows) (unwrap_or (all_of (codes "file") rows) [])
+    (first_of (codes "pages") rows) (first_of (codes "bytes") rows)
+
+abbrev pub SaysMany : List Row → Type 0
+SaysMany rows = AreMany (first_of (codes "execute") rows) (unwrap_or (all_of (codes "file") rows) [])
+    (first_of (codes "pages") rows) (first_of (codes "bytes") rows)
 
 -- The line has what a parse gives for each argument. `first_of` is an argument's value as text; `one_of` is
 -- its text where it is read as a number or as a flag.
@@ -106,7 +118,7 @@ pub record HasLine (rows : List Row) (line : Line) : Type 0 where
   -- the output, if there is one
   pub output : first_of (codes "output") rows ≡ option_map string_bytes line.output
   -- where the commands come from, so that one place of them is given, or none
-  pub commands : IsCommands (first_of (codes "execute") rows) (first_of (codes "pages") rows) (first_of (codes "file") rows) line.commands
+  pub commands : SaysCommands rows line.commands
   -- the limit, which is there: by its default where it is not given
   pub limit : option_map number_of (one_of (codes "limit") rows) ≡ Some line.limit
   pub prompt : IsTrue line.prompt ↔ (one_of (codes "prompt") rows ≡ Some (codes "true"))
@@ -142,7 +154,7 @@ pub record IsGiven (rows : List Row) : Type 0 where
 
 -- A parse says what doesn't go together: more than one place of the commands, or a line with a conflict.
 abbrev pub SaysConflict : List Row → Type 0
-SaysConflict rows = AreMany (first_of (codes "execute") rows) (first_of (codes "pages") rows) (first_of (codes "file") rows)
+SaysConflict rows = SaysMany rows
     ⊎ ((line : Line) × HasLine rows line × (has_conflict line ≡ true))
 
 -- Why there is no line by a parse: memory was refused, or what it says doesn't go together.

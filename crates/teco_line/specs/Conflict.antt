@@ -4,7 +4,7 @@ use Rattle.std.specs.List.{list_any}
 use Rattle.std.specs.String.{string_bytes}
 use Rattle.teco_line.specs.StreamNames.{is_standard_input}
 use Rattle.teco_line.specs.declared.line.Commands.{Commands}
-use Rattle.teco_line.specs.declared.line.Commands.TheVariants.{StandardInput, Word, Pages, File}
+use Rattle.teco_line.specs.declared.line.Commands.TheVariants.{StandardInput, Sources, Pages, Bytes}
 use Rattle.teco_line.specs.declared.line.Line.{Line}
 
 -- one INPUT or more is standard input
@@ -18,16 +18,16 @@ has_more line = nat_lt 0 (length line.more.items)
 -- no option gives the commands, so that they come on standard input as they are wanted
 abbrev pub are_awaited : Commands → Bool
 are_awaited StandardInput = true
-are_awaited (Word text) = false
-are_awaited (Pages text) = false
-are_awaited (File name) = false
+are_awaited (Sources names word) = false
+are_awaited (Pages word) = false
+are_awaited (Bytes name) = false
 
--- the commands are on standard input: none gives them, or --file does by its name
+-- the commands are on standard input: none gives them, or --file or --bytes does by its name
 abbrev pub are_on_standard_input : Commands → Bool
 are_on_standard_input StandardInput = true
-are_on_standard_input (Word text) = false
-are_on_standard_input (Pages text) = false
-are_on_standard_input (File name) = is_standard_input (string_bytes name)
+are_on_standard_input (Sources names word) = list_any (λ name. is_standard_input (string_bytes name)) names.items
+are_on_standard_input (Pages word) = false
+are_on_standard_input (Bytes name) = is_standard_input (string_bytes name)
 
 -- --output is where one output goes: with --in-place it goes over the input
 abbrev pub has_two_places : Line → Bool

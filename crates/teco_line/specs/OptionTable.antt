@@ -1,12 +1,12 @@
 -- The rules that the parser has for the rows of the table of options.
 use Rattle.std.specs.Prelude.{ℕ, List, [], ◌∷◌, codes, Option, Some, None}
 use Rattle.clap.specs.Words.{App, Rule, new_rule, with_rule}
-use Rattle.clap.specs.declared.builder.action.ArgAction.TheVariants.{Set, SetTrue}
+use Rattle.clap.specs.declared.builder.action.ArgAction.TheVariants.{Append, Set, SetTrue}
 use Rattle.clap.specs.declared.builder.value_parser.ValueParser.TheVariants as parser
 use Rattle.teco_core.specs.declared.limits.TheConstants.{DEPTH_LIMIT}
 use Rattle.teco_line.specs.declared.line.options.OptionRow.{OptionRow}
 use Rattle.teco_line.specs.declared.line.options.Takes.{Takes}
-use Rattle.teco_line.specs.declared.line.options.Takes.TheVariants.{Nothing, Text, Number, NumberOr}
+use Rattle.teco_line.specs.declared.line.options.Takes.TheVariants.{Nothing, Text, Texts, Number, NumberOr}
 
 -- an option by its names: --name, and -x where it has a letter
 abbrev pub option : List ℕ → Option ℕ → Rule
@@ -20,6 +20,10 @@ flag name short = record (option name short) { action = Some SetTrue }
 abbrev pub with_text : List ℕ → Option ℕ → Rule
 with_text name short = record (option name short) { action = Some Set; value_names = 1 }
 
+-- an option with a text, which may be given more than once
+abbrev pub with_texts : List ℕ → Option ℕ → Rule
+with_texts name short = record (option name short) { action = Some Append; value_names = 1 }
+
 -- an option with a number in a range; where it isn't given, the default, if there is one
 abbrev pub with_number : List ℕ → Option ℕ → ℕ → ℕ → List (List ℕ) → Rule
 with_number name short least most defaults = record (with_text name short) {
@@ -31,6 +35,7 @@ with_number name short least most defaults = record (with_text name short) {
 abbrev pub rule_taking : Takes → List ℕ → Option ℕ → Rule
 rule_taking Nothing name short = flag name short
 rule_taking Text name short = with_text name short
+rule_taking Texts name short = with_texts name short
 rule_taking (Number least most) name short = with_number name short least most []
 rule_taking (NumberOr least most default) name short =
     with_number name short least most (default.now ∷ [])
@@ -47,7 +52,8 @@ with_rules app (rule ∷ rules) = with_rules (with_rule app rule) rules
 abbrev pub option_rules : List Rule
 option_rules = with_text (codes "execute") (Some 101)
     ∷ with_text (codes "pages") (Some 112)
-    ∷ with_text (codes "file") (Some 102)
+    ∷ with_texts (codes "file") (Some 102)
+    ∷ with_text (codes "bytes") (Some 98)
     ∷ with_text (codes "output") (Some 111)
     ∷ flag (codes "in-place") (Some 105)
     ∷ with_number (codes "page-lines") None 1 1000000000 []

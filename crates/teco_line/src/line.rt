@@ -1,10 +1,10 @@
 //! The program's command line.
 ghost use Rattle.clap.specs.Words.{app_of, found_of, kind_of, new_app, rows_of, rule_of};
 ghost use Rattle.std.specs.IoError.{error_kind};
-ghost use Rattle.std.specs.Prelude.{◌≡◌, ◌≢◌, ◌≤◌, IfErr, IfOk, IfSome, codes, false, map};
+ghost use Rattle.std.specs.Prelude.{◌≡◌, ◌≢◌, ◌≤◌, IfErr, IfOk, IfSome, codes, false, map, option_map};
 ghost use Rattle.std.specs.String.{string_bytes};
 ghost use Rattle.std.specs.declared.io.ErrorKind.TheVariants as io_kind;
-ghost use Rattle.teco_line.specs.CommandLine.{HasLine, IsCommands, IsCommandsFault, IsDepth, IsFaultOnceMade, IsGiven, IsLine, IsLineBy, IsLineFault, IsMisfit, IsPageLength, IsReadFault, fault_for, input_rule, more_rule, teco_app, text_behind, with_version};
+ghost use Rattle.teco_line.specs.CommandLine.{HasLine, IsCommands, IsCommandsFault, IsDepth, IsFaultOnceMade, IsGiven, IsLine, IsLineBy, IsLineFault, IsMisfit, IsPageLength, IsReadFault, fault_for, input_rule, more_rule, teco_app, with_version};
 ghost use Rattle.teco_line.specs.Conflict.{has_conflict};
 
 use clap::error::ErrorKind;
@@ -29,28 +29,29 @@ const VERSION: &str = "0.1.0";
 
 /// What the help says of the commands, after the options.
 const AFTER_HELP: &str =
-    "Commands are read from standard input where none of --execute, --pages and --file gives them, and what
-they type goes to standard output. Two ESC end a command string, which is then run; EX writes the output
-and ends the run. Each INPUT is a run of its own; several want --execute, --pages or --file.";
+    "Commands are read from standard input where no option gives them, and what they type goes to standard
+output. In STRINGS, and in the files of --file, $ is ESC and ^J ends a line; line ends, margins and what
+follows !! are for readers alone. Two ESC end a command string, which is then run; EX writes the output
+and ends the run. Each INPUT is a run of its own; several want an option that gives the commands.";
 
 /// The usage, which the help and each faulty line show.
 const USAGE: &str = "teco [OPTIONS] <INPUT>...";
 
 /// What the parser's error says of a line that gives commands more than once.
 const MANY: &str =
-    "only one of '--execute <STRINGS>', '--pages <STRINGS>' and '--file <FILE>' can be used";
+    "only one of '--pages <STRINGS>', '--bytes <FILE>', and '--file <FILE>' or '--execute <STRINGS>' can be used";
 
 /// Where the commands come from.
 #[derive(Drop)]
 pub enum Commands {
-    /// Standard input.
+    /// Standard input, as they are.
     StandardInput,
-    /// A word of the line, in which each `$` is ESC.
-    Word(String),
-    /// A word of the same kind, whose strings are run on every page.
+    /// The sources that are in the files of these names, in their order, and then the source that is a word of the line.
+    Sources(Vec<String>, Option<String>),
+    /// A word that is a source too; its strings are run on every page.
     Pages(String),
-    /// The file of this name.
-    File(String),
+    /// The file of this name, as they are.
+    Bytes(String),
 }
 
 /// What the command line says.
@@ -161,21 +162,25 @@ fn error_of(alloc: Global, kind: ErrorKind, text: &str) -> Result<clap::Error, N
     command(alloc)?.error(kind, text)
 }
 
-/// Where the commands come from, by the texts that are given. A line with more than one is faulty.
+/// Where the commands come from, by the texts that are given. A line with more than one place of them is faulty.
 fn commands_of(
     alloc: Global,
-    word: Option<&str>,
-    pages: Option<&str>,
-    file: Option<&str>,
+    word: Option<String>,
+    files: Vec<String>,
+    pages: Option<String>,
+    bytes: Option<String>,
 ) -> Result<Commands, LineFault>
-    ensures commands { IfOk result (IsCommands (text_behind word.entry) (text_behind pages.entry) (text_behind file.entry)) }
-    ensures fault { IfErr result (IsCommandsFault (text_behind word.entry) (text_behind pages.entry) (text_behind file.entry)) }
+    ensures commands { IfOk result (IsCommands (option_map string_bytes word) (map string_bytes files.items)
+        (option_map string_bytes pages) (option_map string_bytes bytes)) }
+    ensures fault { IfErr result (IsCommandsFault (option_map string_bytes word) (map string_bytes files.items)
+        (option_map string_bytes pages) (option_map string_bytes bytes)) }
 {
-    match (word, pages, file) {
-        (None, None, None) => Ok(Commands::StandardInput),
-        (Some(text), None, None) => Ok(Commands::Word(String::from_str(alloc, text)?)),
-        (None, Some(text), None) => Ok(Commands::Pages(String::from_str(alloc, text)?)),
-        (None, None, Some(name)) => Ok(Commands::File(String::from_str(alloc, name)?)),
+    let has_sources = word.is_some() || !files.is_empty();
+    match (has_sources, pages, bytes) {
+        (false, None, None) => Ok(Commands::StandardInput),
+        (true, None, None) => Ok(Commands::Sources(files, word)),
+        (false, Some(word), None) => Ok(Commands::Pages(word)),
+        (false, None, Some(name)) => Ok(Commands::Bytes(name)),
         _ => Err(LineFault::Refused(error_of(alloc, ErrorKind::ArgumentConflict, MANY)?)),
     }
 }
@@ -188,9 +193,11 @@ fn line_in<'a>(alloc: Global, matches: &ArgMatches<'a>) -> Result<Line, LineFaul
     ensures page_lines { IfOk result (λ line. IfSome line.page_lines IsPageLength) }
     ensures refused { IfErr result (IsReadFault (rows_of (found_of matches.now))) }
 {
-    let word = matches.get_str("execute");
-    let pages = matches.get_str("pages");
-    let commands = commands_of(alloc, word, pages, matches.get_str("file"))?;
+    let word = text_at(alloc, matches, "execute")?;
+    let files = texts_at(alloc, matches, "file")?;
+    let pages = text_at(alloc, matches, "pages")?;
+    let bytes = text_at(alloc, matches, "bytes")?;
+    let commands = commands_of(alloc, word, files, pages, bytes)?;
     let input = String::from_str(alloc, matches.get_str("input").unwrap())?;
     let more = texts_at(alloc, matches, "more")?;
     let output = text_at(alloc, matches, "output")?;
@@ -288,9 +295,9 @@ pub fn refused_status(error: &clap::Error) -> u8
 mod conflict;
 mod joining;
 mod options;
+mod pages;
 mod streams;
 mod values;
-mod word;
 
+pub use pages::commands_on_pages;
 pub use streams::{is_standard_input, is_standard_output};
-pub use word::{commands_in, commands_on_pages};

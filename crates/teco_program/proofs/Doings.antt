@@ -1,5 +1,5 @@
 -- What a run has done leads to what it has done as seen from before, or over another input.
-use Rattle.std.proofs.Common.{◌≡◌, ◌≢◌, ◌⊎◌, inl, inr, ℕ, List, Bool, IsTrue, true, false, refl, ap, sym, ◌∙◌, subst}
+use Rattle.std.proofs.Common.{◌≡◌, ◌≢◌, inl, inr, ℕ, List, Bool, IsTrue, true, false, refl, ap, sym, ◌∙◌, subst}
 use Rattle.std.specs.Prelude.{⊤}
 use Rattle.std.specs.declared.io.Error.{Error}
 use Rattle.teco_files.specs.Disk.{Changes, Files}
@@ -11,7 +11,7 @@ use Rattle.teco_step.specs.Terminal.{Screen}
 use Rattle.teco_program.specs.Writing.{IsPut}
 use Rattle.teco_program.specs.Ending.{fate_without_input, output_of}
 use Rattle.teco_program.specs.Seen.{CommandsSeen, DiskSeen, InputSeen, OutputSeen, RunSeen, SourceView, TerminalSeen, run_seen, terminal_seen}
-use Rattle.teco_program.specs.Run.{Doings, Edits, EndsBy, EndsIn, EndsOnTerminal, FinishesIn, FailsToOpen, FailsToRead, FailsToStream, FailsToWrite, IsFateOf, IsInput, IsStreamed, KeepsDisk, LacksInput, ServesInput, WritesOutput, doings, doings_after, given_input, input_from, named_input, named_output, standard_input, standard_output}
+use Rattle.teco_program.specs.Run.{Doings, Edits, EndsBy, EndsIn, FinishesIn, FailsToStream, FailsToWrite, IsFateOf, KeepsDisk, LacksInput, ServesInput, WritesOutput, doings, doings_after, given_input, input_from, named_input, named_output, standard_input, standard_output}
 use Rattle.teco_program.specs.declared.fate.Fate.{Fate}
 use Rattle.teco_program.specs.declared.fate.Fate.TheVariants.{NoCommands, NoInput, LargeInput, NoMemory, NoOutput, Changed, Unchanged, Ended}
 use Rattle.teco_program.specs.declared.served.Served.{Served}

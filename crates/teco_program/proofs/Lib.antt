@@ -6,4 +6,5 @@ pub mod Texts
 pub mod Writings
 pub mod Doings
 pub mod Runs
+pub mod CommandSources
 mod StreamRows

@@ -5,7 +5,7 @@ use Rattle.teco_files.specs.declared.input.InputFault.{InputFault}
 use Rattle.teco_files.specs.declared.input.InputFault.TheVariants as input
 use Rattle.teco_line.specs.Conflict.{has_more}
 use Rattle.teco_line.specs.StreamNames.{is_standard_input}
-use Rattle.teco_line.specs.declared.line.Commands.TheVariants.{StandardInput, Word, Pages, File}
+use Rattle.teco_line.specs.declared.line.Commands.TheVariants.{StandardInput, Sources, Pages, Bytes}
 use Rattle.teco_line.specs.declared.line.Line.{Line}
 use Rattle.teco_program.specs.declared.fate.Fate.{Fate}
 use Rattle.teco_program.specs.declared.fate.Fate.TheVariants.{NoCommands, NoInput, LargeInput, NoMemory, NoOutput}
@@ -34,10 +34,10 @@ fate_without_input input.Read = NoInput
 fate_without_input input.TooLarge = LargeInput
 fate_without_input input.Memory = NoMemory
 
--- the name of the file that the commands come from; nothing where they come from elsewhere
+-- the name of the file that the commands are read from as they are; nothing where they come from elsewhere
 abbrev pub commands_name : Line → List ℕ
 commands_name line =
-    elim line.commands [ File name ↦ string_bytes name | Word text ↦ [] | Pages text ↦ [] | StandardInput ↦ [] ]
+    elim line.commands [ Bytes name ↦ string_bytes name | Sources names word ↦ [] | Pages word ↦ [] | StandardInput ↦ [] ]
 
 abbrev pub status_of : Fate → ℕ
 status_of NoCommands = 1

@@ -9,4 +9,5 @@ pub mod Draft
 pub mod Writing
 pub mod Seen
 pub mod Run
+pub mod Sources
 pub mod Runs

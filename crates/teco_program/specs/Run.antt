@@ -23,7 +23,7 @@ use Rattle.teco_program.specs.Ending.{fate_without_input, output_of, said, statu
 use Rattle.teco_files.specs.Input.{IsFaultOf}
 use Rattle.teco_program.specs.Serving.{Serves}
 use Rattle.teco_program.specs.Seen.{CommandsSeen, DiskSeen, InputSeen, OutputSeen, RunSeen, SourceView, TerminalSeen}
-use Rattle.teco_program.specs.Seen.{commands_seen, terminal_seen}
+use Rattle.teco_program.specs.Seen.{terminal_seen}
 use Rattle.teco_files.specs.Source.{Gives, HasEnded}
 use Rattle.teco_program.specs.Writing.{AddsDrafts, IsPut, IsWriteError, IsWriting}
 use Rattle.teco_program.specs.declared.fate.Fate.{Fate}
@@ -32,7 +32,7 @@ use Rattle.teco_program.specs.declared.fate.Fate.TheVariants.{Changed, Unchanged
 use Rattle.teco_program.specs.declared.fate.Fate.TheVariants.{Ended}
 use Rattle.teco_files.specs.declared.input.InputFault.{InputFault}
 use Rattle.teco_line.specs.declared.line.Commands.{Commands}
-use Rattle.teco_line.specs.declared.line.Commands.TheVariants.{StandardInput, Word, Pages, File}
+use Rattle.teco_line.specs.declared.line.Commands.TheVariants.{StandardInput, Sources, Pages, Bytes}
 use Rattle.teco_line.specs.declared.line.Line.{Line}
 use Rattle.teco_program.specs.declared.served.Served.{Served}
 use Rattle.teco_program.specs.declared.served.Served.TheVariants as served
@@ -95,9 +95,9 @@ pub record FailsToWrite {I : Type 0} (old new : DiskSeen I) (name bytes : List �
 -- page, which nothing could undo, and all of others
 abbrev pub depth_by : Commands → Option ℕ
 depth_by StandardInput = None
-depth_by (Word text) = None
-depth_by (Pages text) = Some 0
-depth_by (File name) = None
+depth_by (Sources names word) = None
+depth_by (Pages word) = Some 0
+depth_by (Bytes name) = None
 
 abbrev pub depth_of : Line → Option ℕ
 depth_of line = elim line.undo [ Some depth ↦ Some depth | None ↦ depth_by line.commands ]

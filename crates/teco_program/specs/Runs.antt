@@ -1,25 +1,26 @@
--- The runs of the program: over one input by the commands of its line, or over several, one after another.
-use Rattle.std.specs.Prelude.{◌≡◌, ◌≢◌, ◌⊎◌, ℕ, List, [], ◌∷◌, map, Option, Some, Result, Bool, true, false}
+-- The runs of the program: over one input by commands as they come, or over each input by commands that are had at once.
+use Rattle.std.specs.Prelude.{◌≡◌, ◌≢◌, ◌⊎◌, ◌&&◌, not, ℕ, List, [], ◌∷◌, map, Some, Result, Bool, true, false}
 use Rattle.std.specs.String.{string_bytes}
 use Rattle.std.specs.declared.string.String.{String}
 use Rattle.std.specs.declared.vec.Vec.{Vec}
 use Rattle.std.specs.declared.alloc.Global.{Global}
 use Rattle.std.specs.declared.io.Error.{Error}
-use Rattle.teco_files.specs.Disk.{Files, Opens}
+use Rattle.teco_files.specs.Disk.{Opens}
 use Rattle.teco_step.specs.Terminal.{Screen}
-use Rattle.teco_line.specs.CommandLine.{on_pages, typed}
 use Rattle.teco_line.specs.Conflict.{has_more}
 use Rattle.teco_line.specs.StreamNames.{is_standard_input}
 use Rattle.teco_line.specs.declared.line.Commands.{Commands}
-use Rattle.teco_line.specs.declared.line.Commands.TheVariants.{StandardInput, Word, Pages, File}
+use Rattle.teco_line.specs.declared.line.Commands.TheVariants.{StandardInput, Sources, Pages, Bytes}
 use Rattle.teco_line.specs.declared.line.Line.{Line}
 use Rattle.teco_line.specs.declared.line.LineFault.{LineFault}
 use Rattle.teco_program.specs.Ending.{worst}
-use Rattle.teco_program.specs.Run.{Concludes, Edits, IsFateOf, IsInput, IsLineIn, IsStreamed, KeepsDisk, Refuses, input_from, named_input, standard_input}
+use Rattle.teco_program.specs.Run.{Concludes, Edits, IsFateOf, IsLineIn, KeepsDisk, Refuses, input_from, named_input, standard_input}
 use Rattle.teco_program.specs.Seen.{CommandsSeen, DiskSeen, SourceView, commands_seen, run_seen}
 use Rattle.teco_program.specs.declared.fate.Fate.{Fate}
 use Rattle.teco_program.specs.declared.fate.Fate.TheVariants.{NoCommands, NoMemory, Ended}
 use Rattle.teco_program.specs.declared.served.Served.TheVariants as served
+use Rattle.teco_program.specs.declared.sources.CommandsFault.{CommandsFault}
+use Rattle.teco_program.specs.Sources.{Declines, IsGivenBy, LacksCommands}
 
 -- what a run changes: its disk, its standard input and its terminal, at a moment
 pub record Host (D S T : Type 0) : Type 0 where
@@ -89,26 +90,34 @@ abbrev pub EditsByNamed : {D I S T W : Type 0} → Bool → HostView D I S T W �
 EditsByNamed true view line input name old new fate = EditsByStream view line input old new fate
 EditsByNamed false view line input name old new fate = EditsByFile view line input name old new fate
 
--- The commands come from where the line says.
+-- These commands come as they are wanted: from standard input, or from a file as they are.
 abbrev pub EditsBy : {D I S T W : Type 0} → HostView D I S T W → Line → List ℕ → Commands → Host D S T → Host D S T
     → Fate → Type 0
 EditsBy view line input StandardInput old new fate = EditsByStream view line input old new fate
-EditsBy view line input (Word text) old new fate =
-    EditsByBytes view line input (map typed (string_bytes text)) old new fate
-EditsBy view line input (Pages text) old new fate =
-    EditsByBytes view line input (on_pages (string_bytes text)) old new fate
-EditsBy view line input (File name) old new fate =
+EditsBy view line input (Sources names word) old new fate = ⊥
+EditsBy view line input (Pages word) old new fate = ⊥
+EditsBy view line input (Bytes name) old new fate =
     EditsByNamed (is_standard_input (string_bytes name)) view line input (string_bytes name) old new fate
 
--- A line of one input: it is run over, and that is told.
+abbrev pub come_as_wanted : Commands → Bool
+come_as_wanted StandardInput = true
+come_as_wanted (Sources names word) = false
+come_as_wanted (Pages word) = false
+come_as_wanted (Bytes name) = true
+
+-- The commands of the line are served to one input as they come. Else they are had at once, before any input is read.
+abbrev pub is_streamed : Line → Bool
+is_streamed line = come_as_wanted line.commands && not (has_more line)
+
+-- A line of one input, whose commands come as they are wanted: it is run over, and that is told.
 pub record RunsOverOne {D I S T W E : Type 0} (view : HostView D I S T W) (errors : E → Screen) (line : Line)
     (old new : Host D S T) (told telling : E) (status : ℕ) : Type 0 where
-  pub one : has_more line ≡ false
+  pub streamed : is_streamed line ≡ true
   pub fate : Fate
   pub run : EditsBy view line (string_bytes line.input) line.commands old new fate
   pub end : Concludes line (string_bytes line.input) fate (errors told) (errors telling) status
 
--- One of several runs: what it did, how it ended, and what was told of that. `W` is all that a run changes.
+-- One of some runs: what it did, how it ended, and what was told of that. `W` is all that a run changes.
 pub record Link {W : Type 0} (edits : List ℕ → W → W → Fate → Type 0)
     (concludes : List ℕ → Fate → W → W → ℕ → Type 0) (input : List ℕ) (old new : W) (status : ℕ) : Type 0 where
   pub fate : Fate
@@ -125,7 +134,7 @@ Chain {W} link (input ∷ inputs) old new statuses = (mid : W) × (status : ℕ)
 abbrev pub inputs_of : Line → List (List ℕ)
 inputs_of line = map string_bytes (line.input ∷ line.more.items)
 
--- One input of several is run over by these bytes as commands, and that is told.
+-- An input is run over by these bytes as commands, and that is told.
 abbrev pub LinkOver : {D I S T W E : Type 0} → HostView D I S T W → (E → Screen) → Line → List ℕ → List ℕ
     → Host D S T × E → Host D S T × E → ℕ → Type 0
 LinkOver {D} {I} {S} {T} {W} {E} view errors line bytes = Link {W = Host D S T × E}
@@ -139,33 +148,18 @@ pub record RunsInOrder {D I S T W E : Type 0} (view : HostView D I S T W) (error
   pub runs : Chain (LinkOver view errors line bytes) inputs old new statuses
   pub status_is : status ≡ worst 0 statuses
 
--- The bytes are all that standard input has, or all that the file of this name has, where the files are told.
-abbrev pub IsWholeOf : {S : Type 0} → Bool → SourceView S → Option Files → List ℕ → S → S → List ℕ → Type 0
-IsWholeOf true source files name old new bytes = IsStreamed source old new bytes
-IsWholeOf false source files name old new bytes = IsInput files name bytes
-
--- The bytes are the commands of the line.
-abbrev pub IsGivenBy : {S : Type 0} → SourceView S → Commands → Option Files → S → S → List ℕ → Type 0
-IsGivenBy source StandardInput files old new bytes = ⊥
-IsGivenBy source (Word text) files old new bytes = bytes ≡ map typed (string_bytes text)
-IsGivenBy source (Pages text) files old new bytes = bytes ≡ on_pages (string_bytes text)
-IsGivenBy source (File name) files old new bytes =
-    IsWholeOf (is_standard_input (string_bytes name)) source files (string_bytes name) old new bytes
-
--- Their commands are had once, by which no file changes. If that fails, no input is read, and that is told.
+-- Any other line: its commands are had once, before any input is read, and no file changes by that. If they can't be had,
+-- no more is done, and that is told; else each of its inputs is run over.
 pub record RunsOverAll {D I S T W E : Type 0} (view : HostView D I S T W) (errors : E → Screen) (line : Line)
     (old new : Host D S T) (told telling : E) (status : ℕ) : Type 0 where
+  pub whole : is_streamed line ≡ false
   pub mid : Host D S T
   pub idle : IsIdle view old mid
-  pub runs : ((fate : Fate) × (new ≡ mid)
-      × Concludes line (string_bytes line.input) fate (errors told) (errors telling) status)
+  pub runs : ((fault : CommandsFault) × (new ≡ mid)
+      × LacksCommands view.stream line.commands (view.disk old.disk).files old.stream mid.stream fault
+      × Declines line.commands fault (errors told) (errors telling) status)
       ⊎ ((bytes : List ℕ) × IsGivenBy view.stream line.commands (view.disk old.disk).files old.stream mid.stream bytes
       × RunsInOrder view errors line bytes (inputs_of line) (mid, told) (new, telling) status)
-
-pub record RunsOverSeveral {D I S T W E : Type 0} (view : HostView D I S T W) (errors : E → Screen) (line : Line)
-    (old new : Host D S T) (told telling : E) (status : ℕ) : Type 0 where
-  pub several : has_more line ≡ true
-  pub runs : RunsOverAll view errors line old new told telling status
 
 -- The words say a line, and it is run over; or they say none, and nothing is done but that that is told.
 pub record RunsOverLine {D I S T W E : Type 0} (view : HostView D I S T W) (errors : E → Screen) (words : Result (Vec (String Global) Global) LineFault)
@@ -173,7 +167,7 @@ pub record RunsOverLine {D I S T W E : Type 0} (view : HostView D I S T W) (erro
   pub line : Line
   pub line_is : IsLineIn words line
   pub runs : RunsOverOne view errors line old new told telling status
-      ⊎ RunsOverSeveral view errors line old new told telling status
+      ⊎ RunsOverAll view errors line old new told telling status
 
 abbrev pub Runs : {D I S T W E : Type 0} → HostView D I S T W → (E → Screen) → Result (Vec (String Global) Global) LineFault
     → Host D S T → Host D S T → E → E → ℕ → Type 0

@@ -55,7 +55,7 @@ fn status(fate: Fate) -> u8
 }
 
 /// A line about a file, whose name comes between two texts.
-fn said_of(alloc: Global, before: &str, name: &str, after: &str) -> Result<String, NoMemory>
+pub fn said_of(alloc: Global, before: &str, name: &str, after: &str) -> Result<String, NoMemory>
     ensures { IfOk result (λ text. string_bytes text ≡ said (before.now ++ name.now ++ after.now)) }
 {
     let mut text = String::from_str(alloc, "teco: ")?;
@@ -91,13 +91,13 @@ pub fn output_name(alloc: Global, line: &Line, input: &str) -> Result<String, No
     }
 }
 
-/// The name of the file that the commands come from; nothing where they come from elsewhere.
+/// The name of the file that the commands are read from as they are; nothing where they come from elsewhere.
 fn commands_name(line: &Line) -> &str
     ensures { result.now ≡ commands_name line.now }
 {
     match &line.commands {
-        Commands::File(name) => name.as_str(),
-        Commands::StandardInput | Commands::Word(_) | Commands::Pages(_) => "",
+        Commands::Bytes(name) => name.as_str(),
+        Commands::StandardInput | Commands::Sources(..) | Commands::Pages(_) => "",
     }
 }
 

@@ -11,6 +11,7 @@ mod running;
 mod served;
 mod serving;
 mod several;
+mod sources;
 mod splitter;
 mod text_on;
 

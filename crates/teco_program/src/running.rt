@@ -8,50 +8,20 @@ ghost use Rattle.teco_line.specs.Conflict.{has_conflict};
 ghost use Rattle.teco_line.specs.StreamNames.{is_standard_input};
 ghost use Rattle.teco_program.specs.Ending.{said};
 ghost use Rattle.teco_program.specs.Run.{Concludes, IsFaultIn, IsLineIn, IsRefused, IsRefusedBy, Tells};
-ghost use Rattle.teco_program.specs.Runs.{EditsBy, EditsByBytes, EditsByFile, EditsByNamed, Runs, RunsOverOne, RunsOverSeveral, host, host_view};
+ghost use Rattle.teco_program.specs.Runs.{EditsBy, EditsByFile, EditsByNamed, Runs, RunsOverAll, RunsOverOne, host, host_view, is_streamed};
 ghost use Rattle.teco_program.specs.Seen.{disk_seen, source_view};
 
 use crate::editing::{edit_file, edit_input, fate_of};
 use crate::fate::{Fate, ending_of};
 use crate::listener::{Explainer, Listens, Silent};
-use crate::several::edit_several;
+use crate::several::edit_all;
 use crate::text_on::{Untold, tell};
 use std::alloc::Global;
 use std::process::ExitCode;
 use teco_core::NoMemory;
 use teco_files::{Disk, Source, WordSource};
-use teco_line::{
-    Commands, Line, LineFault, commands_in, commands_on_pages, is_standard_input, line_of,
-    refused_status,
-};
+use teco_line::{Commands, Line, LineFault, is_standard_input, line_of, refused_status};
 use teco_step::Terminal;
-
-/// Edits this input of the line by these bytes as commands, if there is memory for them.
-pub fn edit_by_bytes<S: Source, T: Terminal, L: Listens, D: Disk>(
-    alloc: Global,
-    line: &Line,
-    name: &str,
-    number: u32,
-    bytes: Vec<u8>,
-    commands: &mut S,
-    term: &mut T,
-    listener: &mut L,
-    disk: &mut D,
-) -> Fate
-    requires depth { IfSome line.now.undo IsDepth }
-    ensures { let view = host_view (disk_seen D.files D.streams D.left D.gave D.changed
-        (source_view D.Input.coming D.Input.bound D.Input.failures D.Input.ended))
-        (source_view S.coming S.bound S.failures S.ended) T.screen
-        (source_view ⟦<WordSource as Source>⟧.coming ⟦<WordSource as Source>⟧.bound
-        ⟦<WordSource as Source>⟧.failures ⟦<WordSource as Source>⟧.ended) in
-        EditsByBytes view line.now name.now bytes.items (host disk.old commands.old term.old)
-        (host disk.new commands.new term.new) result }
-{
-    let mut given = WordSource::new(bytes);
-    edit_input(
-        alloc, line, name, number, &mut given, commands, term, listener, disk,
-    )
-}
 
 /// Edits the input of the line by the commands that are in this file.
 fn edit_by_file<S: Source, T: Terminal, L: Listens, D: Disk>(
@@ -111,7 +81,7 @@ fn edit_by_name<S: Source, T: Terminal, L: Listens, D: Disk>(
     edit_by_file(alloc, line, file, number, commands, term, listener, disk)
 }
 
-/// Edits the input of the line by the commands that it says: those on standard input, or its own.
+/// Edits the input of the line by commands as they come: those on standard input, or those of a file.
 fn edit_by_line<S: Source, T: Terminal, L: Listens, D: Disk>(
     alloc: Global,
     line: &Line,
@@ -123,6 +93,7 @@ fn edit_by_line<S: Source, T: Terminal, L: Listens, D: Disk>(
 ) -> Fate
     requires depth { IfSome line.now.undo IsDepth }
     requires fits { has_conflict line.now ≡ false }
+    requires streamed { is_streamed line.now ≡ true }
     ensures { let view = host_view (disk_seen D.files D.streams D.left D.gave D.changed
         (source_view D.Input.coming D.Input.bound D.Input.failures D.Input.ended))
         (source_view S.coming S.bound S.failures S.ended) T.screen
@@ -132,23 +103,30 @@ fn edit_by_line<S: Source, T: Terminal, L: Listens, D: Disk>(
         (host disk.new commands.new term.new) result }
 {
     let name = line.input.as_str();
-    let bytes = match &line.commands {
-        Commands::StandardInput => {
-            return edit_file(alloc, line, name, number, commands, term, listener, disk);
-        }
-        Commands::File(file) => {
-            let file = file.as_str();
-            return edit_by_name(alloc, line, file, number, commands, term, listener, disk);
-        }
-        Commands::Word(word) => commands_in(alloc, word.as_str()),
-        Commands::Pages(word) => commands_on_pages(alloc, word.as_str()),
-    };
-    match bytes {
-        Ok(bytes) => edit_by_bytes(
-            alloc, line, name, number, bytes, commands, term, listener, disk,
+    match &line.commands {
+        Commands::StandardInput => edit_file(
+            alloc, line, name, number, commands, term, listener, disk,
         ),
-        Err(NoMemory) => Fate::NoMemory,
+        Commands::Bytes(file) => edit_by_name(
+            alloc,
+            line,
+            file.as_str(),
+            number,
+            commands,
+            term,
+            listener,
+            disk,
+        ),
+        Commands::Sources(..) | Commands::Pages(_) => unreachable!(),
     }
+}
+
+/// Whether the commands of the line are served to one input as they come.
+fn is_streamed(line: &Line) -> bool
+    ensures { result ≡ is_streamed line.now }
+{
+    let as_wanted = matches!(line.commands, Commands::StandardInput | Commands::Bytes(_));
+    as_wanted && line.more.is_empty()
 }
 
 /// The same, and where the line asks for it what is done is explained in notes.
@@ -163,6 +141,7 @@ fn edit_noted<S: Source, T: Terminal, N: Terminal, D: Disk>(
 ) -> Fate
     requires depth { IfSome line.now.undo IsDepth }
     requires fits { has_conflict line.now ≡ false }
+    requires streamed { is_streamed line.now ≡ true }
     ensures edits { let view = host_view (disk_seen D.files D.streams D.left D.gave D.changed
         (source_view D.Input.coming D.Input.bound D.Input.failures D.Input.ended))
         (source_view S.coming S.bound S.failures S.ended) T.screen
@@ -181,7 +160,8 @@ fn edit_noted<S: Source, T: Terminal, N: Terminal, D: Disk>(
     fate
 }
 
-fn no_memory<E: Terminal>(errors: &mut E) -> u8
+/// Tells that there is no memory, and gives the status.
+pub fn no_memory<E: Terminal>(errors: &mut E) -> u8
     ensures status { result ≡ 1 }
     ensures told { Tells (E.screen errors.old) (E.screen errors.new) (said (codes "no memory")) }
 {
@@ -277,15 +257,15 @@ fn run_over<S: Source, T: Terminal, E: Terminal, N: Terminal, D: Disk>(
         ⟦<WordSource as Source>⟧.failures ⟦<WordSource as Source>⟧.ended) in
         RunsOverOne view E.screen line.now (host disk.old commands.old term.old) (host disk.new commands.new term.new)
         errors.old errors.new result
-        ⊎ RunsOverSeveral view E.screen line.now (host disk.old commands.old term.old) (host disk.new commands.new term.new)
+        ⊎ RunsOverAll view E.screen line.now (host disk.old commands.old term.old) (host disk.new commands.new term.new)
         errors.old errors.new result }
     ensures silent { line.now.explain ≡ false → notes.new ≡ notes.old }
 {
-    if !line.more.is_empty() {
-        return edit_several(alloc, line, number, commands, term, errors, notes, disk);
+    if is_streamed(line) {
+        let fate = edit_noted(alloc, line, number, commands, term, notes, disk);
+        return conclude(alloc, line, line.input.as_str(), fate, errors);
     }
-    let fate = edit_noted(alloc, line, number, commands, term, notes, disk);
-    conclude(alloc, line, line.input.as_str(), fate, errors)
+    edit_all(alloc, line, number, commands, term, errors, notes, disk)
 }
 
 /// Runs over the line of these words, and gives the status. The number is for the name of a draft. The notes are for what the line asks

@@ -1,22 +1,19 @@
-//! Runs over several inputs, one after another.
-ghost use Rattle.std.specs.Prelude.{◌≡◌, false, true, IfOk, IfSome};
-ghost use Rattle.std.specs.String.{string_bytes};
+//! Runs over each input, one after another, by commands that are had at once.
+ghost use Rattle.std.specs.Prelude.{◌≡◌, false, IfSome};
 ghost use Rattle.teco_line.specs.CommandLine.{IsDepth};
-ghost use Rattle.teco_line.specs.Conflict.{are_awaited, has_more};
-ghost use Rattle.teco_line.specs.StreamNames.{is_standard_input};
+ghost use Rattle.teco_line.specs.Conflict.{are_awaited};
 ghost use Rattle.teco_program.specs.Ending.{worse};
-ghost use Rattle.teco_program.specs.Run.{KeepsDisk};
-ghost use Rattle.teco_program.specs.Runs.{EditsByBytes, IsGivenBy, IsWholeOf, LinkOver, RunsInOrder, RunsOverSeveral, host, host_view, inputs_of};
+ghost use Rattle.teco_program.specs.Runs.{EditsByBytes, LinkOver, RunsInOrder, RunsOverAll, host, host_view, inputs_of, is_streamed};
 ghost use Rattle.teco_program.specs.Seen.{disk_seen, source_view};
 
-use crate::editing::{input_of_file, input_of_stream};
+use crate::editing::edit_input;
 use crate::fate::Fate;
 use crate::listener::{Explainer, Listens, Silent};
-use crate::running::{conclude, edit_by_bytes};
+use crate::running::conclude;
+use crate::sources::{commands_given, decline};
 use std::alloc::Global;
-use teco_core::NoMemory;
 use teco_files::{Disk, Source, WordSource};
-use teco_line::{Commands, Line, commands_in, commands_on_pages, is_standard_input};
+use teco_line::Line;
 use teco_step::Terminal;
 
 /// The worse of two statuses: 1, if a file or memory failed; else 2, if there was no exit; else 0.
@@ -30,6 +27,33 @@ fn worse(a: u8, b: u8) -> u8
     } else {
         0
     }
+}
+
+/// Edits this input of the line by these bytes as commands, if there is memory for them.
+fn edit_by_bytes<S: Source, T: Terminal, L: Listens, D: Disk>(
+    alloc: Global,
+    line: &Line,
+    name: &str,
+    number: u32,
+    bytes: Vec<u8>,
+    commands: &mut S,
+    term: &mut T,
+    listener: &mut L,
+    disk: &mut D,
+) -> Fate
+    requires depth { IfSome line.now.undo IsDepth }
+    ensures { let view = host_view (disk_seen D.files D.streams D.left D.gave D.changed
+        (source_view D.Input.coming D.Input.bound D.Input.failures D.Input.ended))
+        (source_view S.coming S.bound S.failures S.ended) T.screen
+        (source_view ⟦<WordSource as Source>⟧.coming ⟦<WordSource as Source>⟧.bound
+        ⟦<WordSource as Source>⟧.failures ⟦<WordSource as Source>⟧.ended) in
+        EditsByBytes view line.now name.now bytes.items (host disk.old commands.old term.old)
+        (host disk.new commands.new term.new) result }
+{
+    let mut given = WordSource::new(bytes);
+    edit_input(
+        alloc, line, name, number, &mut given, commands, term, listener, disk,
+    )
 }
 
 /// Edits this input of the line by a copy of these bytes as commands.
@@ -179,60 +203,8 @@ fn edit_each<S: Source, T: Terminal, E: Terminal, N: Terminal, D: Disk>(
     status
 }
 
-/// All the bytes of a file of commands, where a name of standard input is that.
-fn commands_in_file<S: Source, D: Disk>(
-    alloc: Global,
-    name: &str,
-    stream: &mut S,
-    disk: &mut D,
-) -> Result<Vec<u8>, Fate>
-    ensures whole { IfOk result (λ bytes. IsWholeOf (is_standard_input name.now)
-        (source_view S.coming S.bound S.failures S.ended) (D.files disk.old) name.now
-        stream.old stream.new bytes.items) }
-    ensures keeps { let seen = disk_seen D.files D.streams D.left D.gave D.changed
-        (source_view D.Input.coming D.Input.bound D.Input.failures D.Input.ended) in
-        KeepsDisk (seen disk.old) (seen disk.new) }
-{
-    let read = if is_standard_input(name) {
-        input_of_stream(alloc, stream)
-    } else {
-        input_of_file(alloc, name, disk)
-    };
-    match read {
-        Ok(bytes) => Ok(bytes),
-        Err(Fate::NoMemory) => Err(Fate::NoMemory),
-        Err(_) => Err(Fate::NoCommands),
-    }
-}
-
-/// The commands of the line, whole: those of its word, or of its file.
-fn commands_given<S: Source, D: Disk>(
-    alloc: Global,
-    line: &Line,
-    stream: &mut S,
-    disk: &mut D,
-) -> Result<Vec<u8>, Fate>
-    requires { are_awaited line.now.commands ≡ false }
-    ensures given { IfOk result (λ bytes. IsGivenBy (source_view S.coming S.bound S.failures S.ended)
-        line.now.commands (D.files disk.old) stream.old stream.new bytes.items) }
-    ensures keeps { let seen = disk_seen D.files D.streams D.left D.gave D.changed
-        (source_view D.Input.coming D.Input.bound D.Input.failures D.Input.ended) in
-        KeepsDisk (seen disk.old) (seen disk.new) }
-{
-    let in_word = match &line.commands {
-        Commands::StandardInput => unreachable!(),
-        Commands::File(name) => return commands_in_file(alloc, name.as_str(), stream, disk),
-        Commands::Word(word) => commands_in(alloc, word.as_str()),
-        Commands::Pages(word) => commands_on_pages(alloc, word.as_str()),
-    };
-    match in_word {
-        Ok(bytes) => Ok(bytes),
-        Err(NoMemory) => Err(Fate::NoMemory),
-    }
-}
-
-/// Runs over several inputs, whose commands are had once. Gives the worst status.
-pub fn edit_several<S: Source, T: Terminal, E: Terminal, N: Terminal, D: Disk>(
+/// Runs over each input of the line by commands that are had once, before. Gives the worst status.
+pub fn edit_all<S: Source, T: Terminal, E: Terminal, N: Terminal, D: Disk>(
     alloc: Global,
     line: &Line,
     number: u32,
@@ -242,7 +214,7 @@ pub fn edit_several<S: Source, T: Terminal, E: Terminal, N: Terminal, D: Disk>(
     notes: &mut N,
     disk: &mut D,
 ) -> u8
-    requires several { has_more line.now ≡ true }
+    requires whole { is_streamed line.now ≡ false }
     requires depth { IfSome line.now.undo IsDepth }
     requires given { are_awaited line.now.commands ≡ false }
     ensures runs { let view = host_view (disk_seen D.files D.streams D.left D.gave D.changed
@@ -250,11 +222,11 @@ pub fn edit_several<S: Source, T: Terminal, E: Terminal, N: Terminal, D: Disk>(
         (source_view S.coming S.bound S.failures S.ended) T.screen
         (source_view ⟦<WordSource as Source>⟧.coming ⟦<WordSource as Source>⟧.bound
         ⟦<WordSource as Source>⟧.failures ⟦<WordSource as Source>⟧.ended) in
-        RunsOverSeveral view E.screen line.now (host disk.old commands.old term.old) (host disk.new commands.new term.new)
+        RunsOverAll view E.screen line.now (host disk.old commands.old term.old) (host disk.new commands.new term.new)
         errors.old errors.new result }
     ensures silent { line.now.explain ≡ false → notes.new ≡ notes.old }
 {
-    match commands_given(alloc, line, commands, disk) {
+    match commands_given(alloc, &line.commands, commands, disk) {
         Ok(bytes) => edit_each(
             alloc,
             line,
@@ -266,6 +238,6 @@ pub fn edit_several<S: Source, T: Terminal, E: Terminal, N: Terminal, D: Disk>(
             notes,
             disk,
         ),
-        Err(fate) => conclude(alloc, line, line.input.as_str(), fate, errors),
+        Err(fault) => decline(alloc, &line.commands, fault, errors),
     }
 }

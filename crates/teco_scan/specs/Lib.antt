@@ -3,6 +3,7 @@ pub mod Table
 pub mod FirstRow
 pub mod Spelling
 pub mod Seen
+pub mod Led
 pub mod Tree
 pub mod Skip
 pub mod Lists

@@ -4,6 +4,7 @@
 mod blocks;
 mod breaks;
 mod command;
+mod leads;
 mod names;
 mod operand;
 mod scan;
@@ -15,6 +16,10 @@ pub use breaks::{Fault, OpenList, break_laws, first_fault};
 pub use command::{
     Arithmetic, Bare, BlockMark, Command, Form, LevelCommand, Modifiers, Name, Quantity,
     RegisterCommand, Row, Test, TextCommand,
+};
+pub use leads::{
+    bare_token, digits_token, end_found, escape_token, lead, mark_token, register_token, tag_token,
+    test_token, text_token,
 };
 pub use scan::{filler_end, spelling, token_at};
 pub use table::ROWS;

@@ -160,6 +160,7 @@ fn is_cut(rows: &[Row], modifiers: Modifiers, text: &[u8], at: usize) -> bool
 }
 
 /// Where the rows begin that a name with this first byte may be in: those before them can't match.
+#[inline(always)]
 fn first_row(b: u8) -> usize
     ensures picked { picks result b ≡ true }
     ensures within { result ≤ length ROWS }
@@ -170,6 +171,7 @@ fn first_row(b: u8) -> usize
 }
 
 /// The form of the command that this byte alone names, whatever follows it.
+#[inline(always)]
 pub(crate) fn lone_form(b: u8) -> Option<Form>
     ensures { IfSome result (λ form. (bs : List ℕ) → named_at ROWS (b ∷ bs) ≡ Ok ((no_modifiers, form), bs)) }
 {

@@ -8,6 +8,7 @@ use crate::token::{Item, Span, TokenKind};
 use memchr::memchr;
 use teco_core::{Code, ESC, Reg};
 
+#[inline]
 #[tactic(auto, unfolding(crate::specs::Scan::test_of))]
 fn test_of(b: u8) -> Option<Test>
     ensures { result ≡ test_of b }
@@ -30,6 +31,7 @@ fn test_of(b: u8) -> Option<Test>
     }
 }
 
+#[inline]
 #[tactic(auto, using(crate::proofs::Places::front, crate::proofs::Places::no_front), unfolding(crate::specs::Scan::byte_at))]
 fn byte_at(text: &[u8], at: usize) -> Result<(u8, usize), Code>
     ensures read { Gives (λ x. (x.0, drop x.1 text.now)) result (byte_at (drop at text.now)) }
@@ -42,6 +44,7 @@ fn byte_at(text: &[u8], at: usize) -> Result<(u8, usize), Code>
     }
 }
 
+#[inline]
 #[tactic(auto, unfolding(crate::specs::Scan::register_at))]
 pub(crate) fn register_at(text: &[u8], at: usize) -> Result<(Reg, usize), Code>
     ensures read { Gives (λ x. (x.0, drop x.1 text.now)) result (register_at (drop at text.now)) }
@@ -54,6 +57,7 @@ pub(crate) fn register_at(text: &[u8], at: usize) -> Result<(Reg, usize), Code>
     }
 }
 
+#[inline]
 #[tactic(auto, unfolding(crate::specs::Scan::test_at))]
 pub(crate) fn test_at(text: &[u8], at: usize) -> Result<(Test, usize), Code>
     ensures read { Gives (λ x. (x.0, drop x.1 text.now)) result (test_at (drop at text.now)) }
@@ -87,6 +91,7 @@ fn delimiter_at(
 }
 
 /// The bytes before the next delimiter, and the place after it.
+#[inline]
 pub(crate) fn text_at(delimiter: u8, text: &[u8], at: usize) -> Result<(Span, usize), Code>
     requires { at ≤ length text.now }
     ensures read { Gives (λ x. (bytes_in text.now x.0, drop x.1 text.now)) result

@@ -10,13 +10,18 @@ ghost use Rattle.teco_scan.specs.declared.command.Row.{Row};
 ghost use Rattle.teco_scan.specs.Seen.{Gives, IsKindIn, IsKindPlaced, IsFoundAt, IsDetermined, bytes_in, instruction_in, found_in};
 
 use crate::command::{Form, Modifiers};
-use crate::names::{lone_form, named_at};
-use crate::operand::{operand_at, register_at, test_at, text_at};
-use crate::table::{NONE, ROWS};
-use crate::token::{Found, Item, Span, Token, TokenKind};
+use crate::leads::{
+    bare_token, digits_token, end_found, escape_token, lead, mark_token, register_token, tag_token,
+    test_token, text_token,
+};
+use crate::names::named_at;
+use crate::operand::operand_at;
+use crate::table::ROWS;
+use crate::token::{Found, Span, Token, TokenKind};
 use teco_core::{Code, is_filler};
 
 /// The place after the fillers: where a token begins, if one does.
+#[inline(always)]
 #[tactic(auto, using(crate::proofs::Places::front, crate::proofs::Places::no_front), unfolding(crate::specs::Scan::after_fillers))]
 pub fn filler_end(text: &[u8], at: usize) -> usize
     requires { at ≤ length text.now }
@@ -28,34 +33,6 @@ pub fn filler_end(text: &[u8], at: usize) -> usize
         to += 1;
     }
     to
-}
-
-/// The place after the digits, of which the first is here.
-#[tactic(auto, using(crate::proofs::Places::front, crate::proofs::Places::no_front), unfolding(crate::specs::Scan::after_run, crate::specs::Scan::run_of))]
-fn digits_end(text: &[u8], at: usize) -> usize
-    requires inside { at < length text.now }
-    requires first { is_digit (slice_index text.now at) ≡ true }
-    ensures read { drop result text.now ≡ after_run (drop at text.now) }
-    ensures run { bytes_in text.now (record { from = at; to = result }) ≡ run_of (drop at text.now) }
-    ensures within { (at < result) × (result ≤ length text.now) }
-{
-    let mut to = at + 1;
-    while to < text.len() && text[to].is_ascii_digit() {
-        to += 1;
-    }
-    to
-}
-
-/// A token without modifiers.
-#[inline]
-fn plain(from: usize, to: usize, kind: TokenKind) -> Found
-    ensures { result ≡ Found.Token (record { span = record { from = from; to = to }; modifiers = no_modifiers; kind = kind }) }
-{
-    Found::Token(Token {
-        span: Span { from, to },
-        modifiers: NONE,
-        kind,
-    })
 }
 
 /// A command, from its first byte on: its modifiers, what it instructs and the place after it.
@@ -84,36 +61,33 @@ pub fn token_at(text: &[u8], at: usize) -> Found
 {
     let from = filler_end(text, at);
     if from == text.len() {
-        return Found::End;
+        return end_found(text, at, from);
     }
     if text[from].is_ascii_digit() {
-        let to = digits_end(text, from);
-        return plain(from, to, TokenKind::Item(Item::Digits(Span { from, to })));
+        return digits_token(text, at, from);
     }
-    match lone_form(text[from]) {
-        Some(Form::Bare(command)) => {
-            return plain(from, from + 1, TokenKind::Item(Item::Bare(command)));
-        }
-        Some(Form::Mark(mark)) => return plain(from, from + 1, TokenKind::Mark(mark)),
-        Some(Form::Escape) => return plain(from, from + 1, TokenKind::Escape),
+    match lead(text, at, from) {
+        Some(Form::Bare(command)) => return bare_token(text, at, from, command),
+        Some(Form::Mark(mark)) => return mark_token(text, at, from, mark),
+        Some(Form::Escape) => return escape_token(text, at, from),
         Some(Form::Register(command)) => {
-            if let Ok((register, to)) = register_at(text, from + 1) {
-                return plain(from, to, TokenKind::Item(Item::Register(command, register)));
-            }
-        }
-        Some(Form::Tag) => {
-            if let Ok((name, to)) = text_at(b'!', text, from + 1) {
-                return plain(from, to, TokenKind::Tag(name));
+            if let Some(found) = register_token(text, at, from, command) {
+                return found;
             }
         }
         Some(Form::Text(command, usual)) => {
-            if let Ok((span, to)) = text_at(usual, text, from + 1) {
-                return plain(from, to, TokenKind::Item(Item::Text(command, span)));
+            if let Some(found) = text_token(text, at, from, command, usual) {
+                return found;
+            }
+        }
+        Some(Form::Tag) => {
+            if let Some(found) = tag_token(text, at, from) {
+                return found;
             }
         }
         Some(Form::Test) => {
-            if let Ok((test, to)) = test_at(text, from + 1) {
-                return plain(from, to, TokenKind::Test(test));
+            if let Some(found) = test_token(text, at, from) {
+                return found;
             }
         }
         _ => {}

@@ -27,7 +27,7 @@ HasPlace (Last ring) = Unit {0}
 
 abbrev pub kept_session : Inside → KeptSession
 kept_session s = record {
-  editor = s.editor;
+  editor = s.recorder.full;
   strings = strings_of s.entries;
   cursor = s.cursor;
   depth = depth_of s.entries;

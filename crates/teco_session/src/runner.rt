@@ -1,15 +1,17 @@
 //! How a command string is run: alone, or so that its place is told.
 ghost use Rattle.std.specs.Prelude.{◌≡◌, ℕ, List, length, None, Ok, true, false};
 ghost use Rattle.teco_store.specs.State.{IsSound, state_of};
-ghost use Rattle.teco_exec.specs.Runs.{Runs, is_tty, trail_of};
+ghost use Rattle.teco_store.specs.Follows.{LeadsBack};
+ghost use Rattle.teco_exec.specs.Runs.{Runs, RunsWithin, is_tty, trail_of};
 ghost use Rattle.teco_exec.specs.StringMeaning.{string_meaning};
 ghost use Rattle.teco_step.specs.Terminal.{Shows};
+ghost use Rattle.teco_session.specs.Kept.{HasRun};
 
 use std::alloc::Global;
 use teco_core::NoMemory;
-use teco_exec::{Outcome, Place, run, run_where};
+use teco_exec::{Outcome, Place, Stop, meaning_laws, run_until, run_where_until};
 use teco_step::Terminal;
-use teco_store::{Desk, Editor, editor_laws};
+use teco_store::{Change, Desk, Editor, Recorder, editor_laws, record_laws};
 
 /// What runs a string, and may tell more than how it ended.
 pub(crate) trait Runner {
@@ -19,17 +21,18 @@ pub(crate) trait Runner {
     // what it tells of a string that was run in a state and ended so
     ghost tells: { Self → State → List ℕ → Outcome → Type 0 };
 
-    /// Runs a string as `run` of teco_exec does.
-    fn run_on<D: Desk, T: Terminal>(
+    /// Runs a string as `run_until` of teco_exec does.
+    fn run_on<D: Desk, S: Stop, T: Terminal>(
         &mut self,
         desk: &mut D,
         text: &[u8],
         limit: u64,
+        stop: &mut S,
         term: &mut T,
     ) -> Outcome
-        ensures run { (typed : List ℕ)
-            × Runs (D.state desk.old) text.now limit result typed (D.state desk.new)
-            × Shows (T.screen term.old) (T.screen term.new) typed (is_tty result) }
+        ensures run { RunsWithin (S.answered stop.new) limit result (λ l. (typed : List ℕ)
+            × Runs (D.state desk.old) text.now l result typed (D.state desk.new)
+            × Shows (T.screen term.old) (T.screen term.new) typed (is_tty result)) }
         ensures again { D.state desk.new ≡ (string_meaning (D.state desk.old) text.now result.steps).state }
         ensures follows { (floor : ℕ) → D.follows desk.old (trail_of (D.state desk.old) text.now floor 0)
             → D.follows desk.new (trail_of (D.state desk.old) text.now floor result.steps) }
@@ -46,14 +49,15 @@ impl Runner for Plain {
     ghost tells = { λ _ _ _ _. Unit {0} };
 
     #[inline(always)]
-    fn run_on<D: Desk, T: Terminal>(
+    fn run_on<D: Desk, S: Stop, T: Terminal>(
         &mut self,
         desk: &mut D,
         text: &[u8],
         limit: u64,
+        stop: &mut S,
         term: &mut T,
     ) -> Outcome {
-        run(desk, text, limit, term)
+        run_until(desk, text, limit, stop, term)
     }
 }
 
@@ -69,37 +73,72 @@ impl Runner for Placing {
 
     ghost tells = { λ p s text outcome. TellsPlace s text outcome p.place };
 
-    fn run_on<D: Desk, T: Terminal>(
+    fn run_on<D: Desk, S: Stop, T: Terminal>(
         &mut self,
         desk: &mut D,
         text: &[u8],
         limit: u64,
+        stop: &mut S,
         term: &mut T,
     ) -> Outcome {
-        let stopped = run_where(desk, text, limit, term, self.alloc);
+        let stopped = run_where_until(desk, text, limit, stop, term, self.alloc);
         self.place = stopped.place;
         stopped.outcome
     }
 }
 
 /// Runs a string on an editor, and notes no change: it can't be undone.
-pub(crate) fn run_unnoted<T: Terminal, R: Runner>(
+pub(crate) fn run_unnoted<S: Stop, T: Terminal, R: Runner>(
     editor: &mut Editor,
     text: &[u8],
     limit: u64,
+    stop: &mut S,
     term: &mut T,
     runner: &mut R,
 ) -> Outcome
-    ensures run { (typed : List ℕ)
-        × Runs (state_of editor.old) text.now limit result typed (state_of editor.new)
-        × Shows (T.screen term.old) (T.screen term.new) typed (is_tty result) }
+    ensures run { RunsWithin (S.answered stop.new) limit result (λ l. (typed : List ℕ)
+        × Runs (state_of editor.old) text.now l result typed (state_of editor.new)
+        × Shows (T.screen term.old) (T.screen term.new) typed (is_tty result)) }
     ensures again { state_of editor.new ≡ (string_meaning (state_of editor.old) text.now result.steps).state }
     ensures exit { (state_of editor.old).is_done ≡ false → (state_of editor.new).is_done ≡ true
         → result.code ≡ None }
     ensures sound { IsSound editor.new.room (length editor.new.stored) editor.new.body }
     ensures tells { R.tells runner.new (state_of editor.old) text.now result }
 {
-    let outcome = runner.run_on(editor, text, limit, term);
+    let outcome = runner.run_on(editor, text, limit, stop, term);
     editor_laws(editor);
     outcome
+}
+
+/// Runs a string, and gives the changes that lead back.
+pub(crate) fn record_run<S: Stop, T: Terminal, R: Runner>(
+    recorder: &mut Recorder,
+    text: &[u8],
+    limit: u64,
+    stop: &mut S,
+    term: &mut T,
+    runner: &mut R,
+) -> (Vec<Change>, Outcome)
+    requires { IsSound recorder.old.full.room (length recorder.old.full.stored) recorder.old.full.body }
+    ensures run { RunsWithin (S.answered stop.new) limit result.1 (λ l. (typed : List ℕ)
+        × Runs (state_of recorder.old.full) text.now l result.1 typed (state_of recorder.new.full)
+        × Shows (T.screen term.old) (T.screen term.new) typed (is_tty result.1)) }
+    ensures again { state_of recorder.new.full
+        ≡ (string_meaning (state_of recorder.old.full) text.now result.1.steps).state }
+    ensures exit { (state_of recorder.old.full).is_done ≡ false → (state_of recorder.new.full).is_done ≡ true
+        → result.1.code ≡ None }
+    ensures leads { LeadsBack recorder.old.full recorder.new.full result.0.items }
+    ensures ran { HasRun recorder.new.full (record {
+      text = text.now;
+      steps = result.1.steps;
+      changes = result.0.items;
+    }) }
+    ensures tells { R.tells runner.new (state_of recorder.old.full) text.now result.1 }
+{
+    meaning_laws();
+    record_laws();
+    recorder.begin();
+    let outcome = runner.run_on(recorder, text, limit, stop, term);
+    let changes = recorder.take();
+    (changes, outcome)
 }

@@ -1,15 +1,13 @@
 //! A session: command strings, undo and redo, over one editor, with what leads from each whole state to the next.
 ghost use Rattle.std.specs.Prelude.{◌≡◌, ℕ, List, [], ◌<◌, ◌≤◌, length, vec_len, None, Some, IfOk, OnErr, OnOk, IsOk, ◌↔◌, IfSome, Ok, true, false};
 ghost use Rattle.std.specs.Option.{ForSome};
-ghost use Rattle.teco_exec.specs.Runs.{Runs, is_tty};
-ghost use Rattle.teco_exec.specs.StringMeaning.{string_meaning};
+ghost use Rattle.teco_exec.specs.Runs.{RunsWithin};
 ghost use Rattle.teco_exec.specs.Telling.{TellsPlace};
-ghost use Rattle.teco_store.specs.Follows.{LeadsBack};
-ghost use Rattle.teco_store.specs.State.{IsSound, state_of};
+ghost use Rattle.teco_store.specs.State.{state_of};
 ghost use Rattle.teco_step.specs.Terminal.{Shows};
-ghost use Rattle.teco_session.specs.Answers.{answer_code, is_unbegun, outcome_of};
+ghost use Rattle.teco_session.specs.Answers.{answer_code, is_unbegun, outcome_of, string_outcome};
 ghost use Rattle.teco_session.specs.History.{IsHistory, IsWithinDepth, new_history, new_paged_history, note_at, present, redone, rewound, state_after, undone};
-ghost use Rattle.teco_session.specs.Kept.{IsSession, IsSmall, HasRun, applied, cut_to, history_of, new_paged_session, new_session, reverted, string_at};
+ghost use Rattle.teco_session.specs.Kept.{IsSession, IsSmall, applied, cut_to, history_of, new_paged_session, new_session, reverted, string_at};
 ghost use Rattle.teco_session.specs.Step.{Step, RunStep, Reply, is_terminal_failure};
 ghost use Rattle.teco_session.specs.Play.{Play, ShowsAll, answers_of};
 
@@ -17,13 +15,12 @@ use crate::changes::Changes;
 use crate::entries::Entries;
 use crate::entry::Entry;
 use crate::request::{Answer, Answered, NothingToRedo, NothingToUndo, Request};
-use crate::runner::{Placing, Plain, Runner, run_unnoted};
+use crate::runner::{Placing, Plain, Runner, record_run, run_unnoted};
 use crate::text::Text;
 use std::alloc::Global;
 use std::marker::Model;
-use std::mem;
 use teco_core::{DEPTH_LIMIT, FILE_LIMIT, NoMemory};
-use teco_exec::{Outcome, meaning_laws};
+use teco_exec::{Never, Stop};
 use teco_step::Terminal;
 use teco_store::{Change, Desk, Editor, Recorder, record_laws};
 
@@ -34,7 +31,7 @@ use teco_store::{Change, Desk, Editor, Recorder, record_laws};
 /// state after it. A session with a depth keeps so many strings: where one more begins, the first one goes, with the state before it.
 #[derive(Drop)]
 pub struct Session {
-    editor: Editor,
+    recorder: Recorder,
     entries: Entries,
     cursor: usize,
 }
@@ -50,40 +47,6 @@ impl Model for Session {
     ghost invariant = { λ s. IsSession (kept_session s) };
 }
 
-/// Runs a string on an editor, and gives the changes that lead back.
-fn record_run<T: Terminal, R: Runner>(
-    alloc: Global,
-    editor: &mut Editor,
-    text: &[u8],
-    limit: u64,
-    term: &mut T,
-    runner: &mut R,
-) -> (Vec<Change>, Outcome)
-    requires { IsSound editor.old.room (length editor.old.stored) editor.old.body }
-    ensures run { (typed : List ℕ)
-        × Runs (state_of editor.old) text.now limit result.1 typed (state_of editor.new)
-        × Shows (T.screen term.old) (T.screen term.new) typed (is_tty result.1) }
-    ensures again { state_of editor.new
-        ≡ (string_meaning (state_of editor.old) text.now result.1.steps).state }
-    ensures exit { (state_of editor.old).is_done ≡ false → (state_of editor.new).is_done ≡ true
-        → result.1.code ≡ None }
-    ensures leads { LeadsBack editor.old editor.new result.0.items }
-    ensures ran { HasRun editor.new (record {
-      text = text.now;
-      steps = result.1.steps;
-      changes = result.0.items;
-    }) }
-    ensures tells { R.tells runner.new (state_of editor.old) text.now result.1 }
-{
-    meaning_laws();
-    record_laws();
-    let mut recorder = Recorder::new(mem::replace(editor, Editor::new(Vec::new(alloc))));
-    let outcome = runner.run_on(&mut recorder, text, limit, term);
-    let (after, changes) = recorder.into_parts();
-    *editor = after;
-    (changes, outcome)
-}
-
 impl Session {
     /// A new session over this input, of at most 2^30 bytes, that keeps every string. Takes no memory.
     pub fn new(input: Vec<u8>) -> Session
@@ -93,7 +56,7 @@ impl Session {
     {
         let alloc = *input.allocator();
         Session {
-            editor: Editor::new(input),
+            recorder: Recorder::new(Editor::new(input)),
             entries: Entries::All(Vec::new(alloc)),
             cursor: 0,
         }
@@ -108,7 +71,7 @@ impl Session {
     {
         let entries = Entries::with_depth(*input.allocator(), depth)?;
         Ok(Session {
-            editor: Editor::new(input),
+            recorder: Recorder::new(Editor::new(input)),
             entries,
             cursor: 0,
         })
@@ -131,7 +94,7 @@ impl Session {
     {
         let entries = Entries::of_depth(*input.allocator(), depth)?;
         Ok(Session {
-            editor: Editor::with_page_lines(input, lines),
+            recorder: Recorder::new(Editor::with_page_lines(input, lines)),
             entries,
             cursor: 0,
         })
@@ -144,7 +107,7 @@ impl Session {
         ensures history { IsHistory (history_of self.now) }
         ensures leads { IsSession self.now }
     {
-        &self.editor
+        self.recorder.editor()
     }
 
     /// How many strings the history has, undone ones too: with a depth, no more than that. Takes no memory.
@@ -206,7 +169,7 @@ impl Session {
         }
         record_laws();
         let i = self.cursor - 1;
-        self.entries.revert(i, &mut self.editor);
+        self.entries.revert(i, self.recorder.editor_mut());
         self.cursor = i;
         Ok(())
     }
@@ -224,7 +187,7 @@ impl Session {
             return Err(NothingToRedo);
         }
         record_laws();
-        self.entries.apply(i, &mut self.editor);
+        self.entries.apply(i, self.recorder.editor_mut());
         self.cursor = i + 1;
         Ok(())
     }
@@ -244,7 +207,7 @@ impl Session {
         record_laws();
         let i = self.cursor - 1;
         let n = n.min(self.entries.get(i).steps);
-        self.entries.rewind(i, &mut self.editor, n);
+        self.entries.rewind(i, self.recorder.editor_mut(), n);
         self.entries.truncate(self.cursor);
         Ok(())
     }
@@ -262,7 +225,26 @@ impl Session {
             → (present (history_of self.new)).is_done ≡ true → answer_code result ≡ None }
         ensures same { is_unbegun result ≡ true → self.new ≡ self.old }
     {
-        self.run_by(text, limit, term, &mut Plain)
+        self.run_by(text, limit, &mut Never, term, &mut Plain)
+    }
+
+    /// Runs a command string as [`Session::run`] does, until it is asked to stop: then it is noted as under a limit of just the steps
+    /// that were done, so that an undo takes back what it did.
+    pub fn run_until<S: Stop, T: Terminal>(
+        &mut self,
+        text: &[u8],
+        limit: u64,
+        stop: &mut S,
+        term: &mut T,
+    ) -> Answer
+        ensures step { RunsWithin (S.answered stop.new) limit (string_outcome result) (λ l. (typed : List ℕ)
+            × RunStep l (history_of self.old) text.now result typed (history_of self.new)
+            × Shows (T.screen term.old) (T.screen term.new) typed (is_terminal_failure result)) }
+        ensures exit { (present (history_of self.old)).is_done ≡ false
+            → (present (history_of self.new)).is_done ≡ true → answer_code result ≡ None }
+        ensures same { is_unbegun result ≡ true → self.new ≡ self.old }
+    {
+        self.run_by(text, limit, stop, term, &mut Plain)
     }
 
     /// Runs a command string just as [`Session::run`] does, and tells where its run last stood: at the token or the fault where it
@@ -278,32 +260,54 @@ impl Session {
             → (present (history_of self.new)).is_done ≡ true → answer_code result.answer ≡ None }
         ensures same { is_unbegun result.answer ≡ true → self.new ≡ self.old }
     {
+        self.run_where_until(text, limit, &mut Never, term)
+    }
+
+    /// Runs a command string just as [`Session::run_until`] does, and tells where its run last stood, as [`Session::run_where`] does.
+    pub fn run_where_until<S: Stop, T: Terminal>(
+        &mut self,
+        text: &[u8],
+        limit: u64,
+        stop: &mut S,
+        term: &mut T,
+    ) -> Answered
+        ensures place { IfSome (outcome_of result.answer)
+            (λ outcome. TellsPlace (present (history_of self.old)) text.now outcome result.place) }
+        ensures unbegun { is_unbegun result.answer ≡ true → result.place ≡ Ok None }
+        ensures step { RunsWithin (S.answered stop.new) limit (string_outcome result.answer) (λ l. (typed : List ℕ)
+            × RunStep l (history_of self.old) text.now result.answer typed (history_of self.new)
+            × Shows (T.screen term.old) (T.screen term.new) typed (is_terminal_failure result.answer)) }
+        ensures exit { (present (history_of self.old)).is_done ≡ false
+            → (present (history_of self.new)).is_done ≡ true → answer_code result.answer ≡ None }
+        ensures same { is_unbegun result.answer ≡ true → self.new ≡ self.old }
+    {
         let alloc = self.entries.alloc();
         let mut placing = Placing {
             alloc,
             place: Ok(None),
         };
-        let answer = self.run_by(text, limit, term, &mut placing);
+        let answer = self.run_by(text, limit, stop, term, &mut placing);
         Answered {
             answer,
             place: placing.place,
         }
     }
 
-    /// Runs a command string as `run` does, by this runner.
-    fn run_by<T: Terminal, R: Runner>(
+    /// Runs a command string as `run_until` does, by this runner.
+    fn run_by<S: Stop, T: Terminal, R: Runner>(
         &mut self,
         text: &[u8],
         limit: u64,
+        stop: &mut S,
         term: &mut T,
         runner: &mut R,
     ) -> Answer
         ensures tells { IfSome (outcome_of result)
             (λ outcome. R.tells runner.new (present (history_of self.old)) text.now outcome) }
         ensures unbegun { is_unbegun result ≡ true → runner.new ≡ runner.old }
-        ensures step { (typed : List ℕ)
-            × RunStep limit (history_of self.old) text.now result typed (history_of self.new)
-            × Shows (T.screen term.old) (T.screen term.new) typed (is_terminal_failure result) }
+        ensures step { RunsWithin (S.answered stop.new) limit (string_outcome result) (λ l. (typed : List ℕ)
+            × RunStep l (history_of self.old) text.now result typed (history_of self.new)
+            × Shows (T.screen term.old) (T.screen term.new) typed (is_terminal_failure result)) }
         ensures exit { (present (history_of self.old)).is_done ≡ false
             → (present (history_of self.new)).is_done ≡ true → answer_code result ≡ None }
         ensures same { is_unbegun result ≡ true → self.new ≡ self.old }
@@ -312,7 +316,7 @@ impl Session {
             return Answer::AfterExit;
         }
         if self.entries.keeps_none() {
-            let outcome = run_unnoted(&mut self.editor, text, limit, term, runner);
+            let outcome = run_unnoted(self.recorder.editor_mut(), text, limit, stop, term, runner);
             return Answer::Ended(outcome);
         }
         let alloc = self.entries.alloc();
@@ -324,7 +328,7 @@ impl Session {
         }
         record_laws();
         self.entries.truncate(self.cursor);
-        let (changes, outcome) = record_run(alloc, &mut self.editor, text, limit, term, runner);
+        let (changes, outcome) = record_run(&mut self.recorder, text, limit, stop, term, runner);
         self.entries.note(Entry {
             text: kept,
             steps: outcome.steps,

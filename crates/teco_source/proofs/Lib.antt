@@ -5,4 +5,5 @@ pub mod Writing
 pub mod Written
 pub mod LayoutLaws
 pub mod Places
+pub mod Placements
 mod SourceRows

@@ -5,12 +5,14 @@ mod laws;
 mod layout;
 mod lines;
 mod notes;
+mod placing;
 mod reader;
 mod words;
 mod writer;
 
 pub use laws::source_laws;
 pub use lines::listing;
+pub use placing::beginnings;
 pub use reader::{SourceFault, commands};
 pub use words::{Words, words_of};
 pub use writer::{Note, push_line};

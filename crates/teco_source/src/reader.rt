@@ -2,6 +2,7 @@
 ghost use Rattle.std.specs.Prelude.{◌≡◌, [], ◌∷◌, OnOk};
 ghost use Rattle.teco_source.specs.Source.{start, marked, put, put_marked, ends_line, next_line, mark_in, blank_in, plain, begins_comment, step, is_wrong, ended, commands_of};
 ghost use Rattle.teco_source.specs.Seen.{state_of, marked_of, kept, IsReadAs};
+ghost use Rattle.teco_source.specs.Places.{waiting, bytes_begun};
 
 use std::alloc::Global;
 use teco_core::NoMemory;
@@ -84,6 +85,16 @@ fn after_caret(byte: u8) -> Marked
     }
 }
 
+/// How many bytes wait in this mode for the next one.
+fn waiting(mode: Mode) -> usize
+    ensures { result ≡ waiting mode }
+{
+    match mode {
+        Mode::Hash | Mode::Mark | Mode::Caret => 1,
+        _ => 0,
+    }
+}
+
 /// Whether the last byte of a text is a line end.
 pub fn ends_line(text: &[u8]) -> bool
     ensures { result ≡ ends_line text.now }
@@ -96,7 +107,7 @@ pub fn ends_line(text: &[u8]) -> bool
 }
 
 impl Reader {
-    fn new(alloc: Global) -> Self
+    pub fn new(alloc: Global) -> Self
         ensures { state_of result ≡ start }
     {
         Self {
@@ -198,7 +209,7 @@ impl Reader {
 
     /// One byte more.
     #[tactic(auto, unfolding(crate::specs::Source::step))]
-    fn step(&mut self, byte: u8) -> Result<(), NoMemory>
+    pub fn step(&mut self, byte: u8) -> Result<(), NoMemory>
         ensures { OnOk result (state_of self.new ≡ step (state_of self.old) byte) }
     {
         match self.mode {
@@ -221,6 +232,13 @@ impl Reader {
             }
             Mode::Wrong => Ok(()),
         }
+    }
+
+    /// How many bytes have been read, with the blanks and the mark that wait.
+    pub fn bytes_begun(&self) -> usize
+        ensures { result ≡ bytes_begun (state_of self.now) }
+    {
+        self.bytes.len() + (self.blanks.len() + waiting(self.mode))
     }
 
     fn is_wrong(&self) -> bool

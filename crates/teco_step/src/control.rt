@@ -49,6 +49,7 @@ pub(crate) fn jump_to<D: Desk>(desk: &D, name: &[u8], args: &mut Args) -> Result
 }
 
 /// `Mq` runs the text of q. The arguments stay.
+#[inline(always)]
 pub(crate) fn run_register<D: Desk>(desk: &D, q: Reg, args: &Args) -> Result<Next, Failure>
     ensures does { let s = D.state desk.now in let a = arguments args.now in
         Acts (steers (control.run_register q)) s s a a (D.follows desk.now) (D.follows desk.now) result }

@@ -56,6 +56,7 @@ impl From<TerminalFault> for Failure {
 }
 
 /// What an answer leads to.
+#[inline(always)]
 pub(crate) fn next_of(answer: Result<Next, Failure>) -> Next
     ensures { result ≡ family.next_of answer }
 {

@@ -39,6 +39,7 @@ fn value_of<D: Desk>(desk: &D, modifiers: Modifiers, q: Reg) -> i32
 }
 
 /// `Qq` gives the number of q, and with a colon the length of its text.
+#[inline(always)]
 pub(crate) fn register_value<D: Desk>(
     desk: &D,
     modifiers: Modifiers,
@@ -55,6 +56,7 @@ pub(crate) fn register_value<D: Desk>(
 }
 
 /// `nUq`: the number of q becomes n.
+#[inline(always)]
 pub(crate) fn set_number<D: Desk>(desk: &mut D, q: Reg, args: &mut Args) -> Result<Next, Failure>
     ensures { Acts (goes (registers.set_number q)) (D.state desk.old) (D.state desk.new) (arguments args.old)
         (arguments args.new)
@@ -68,6 +70,7 @@ pub(crate) fn set_number<D: Desk>(desk: &mut D, q: Reg, args: &mut Args) -> Resu
 
 /// Gives a value in place of what the level has, which no level refuses.
 #[tactic(auto, unfolding(teco_core::specs::Arguments::give))]
+#[inline(always)]
 pub(crate) fn give_alone(args: &mut Args, value: i32)
     ensures { give value (emptied (arguments args.old)) ≡ Ok (arguments args.new) }
 {
@@ -79,6 +82,7 @@ pub(crate) fn give_alone(args: &mut Args, value: i32)
 }
 
 /// Adds `n` to the number of q, and gives the sum in place of what the level has.
+#[inline(always)]
 fn add_alone<D: Desk>(desk: &mut D, q: Reg, n: i32, args: &mut Args) -> Result<Next, Failure>
     ensures { Acts (goes (registers.adds_alone q n)) (D.state desk.old) (D.state desk.new)
         (arguments args.old) (arguments args.new)
@@ -104,6 +108,7 @@ fn add_one<D: Desk>(desk: &mut D, q: Reg, args: &mut Args) -> Result<Next, Failu
 }
 
 /// `n%q`: the sum becomes the number of q, and is given.
+#[inline(always)]
 pub(crate) fn increment<D: Desk>(desk: &mut D, q: Reg, args: &mut Args) -> Result<Next, Failure>
     ensures { Acts (goes (registers.increment q)) (D.state desk.old) (D.state desk.new) (arguments args.old)
         (arguments args.new)

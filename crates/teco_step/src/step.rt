@@ -85,6 +85,7 @@ fn bare_step<D: Desk, T: Terminal>(
 }
 
 /// A step of a command on a register.
+#[inline(always)]
 fn register_step<D: Desk, T: Terminal>(
     desk: &mut D,
     command: RegisterCommand,
@@ -145,6 +146,7 @@ fn bytes_of(text: &[u8], span: Span) -> &[u8]
 }
 
 /// A step of a command, with its operands in the text.
+#[inline(always)]
 fn item_step<D: Desk, T: Terminal>(
     desk: &mut D,
     text: &[u8],
@@ -180,6 +182,7 @@ fn item_step<D: Desk, T: Terminal>(
 ///
 /// `inside` says that an iteration of the same text is open, and `before` that a `;` without modifiers comes next. The step does what
 /// it means; or it ends by [`Code::Mem`] or [`Code::Tty`], and then the state and the arguments are unchanged.
+#[inline(always)]
 pub fn step_token<D: Desk, T: Terminal>(
     desk: &mut D,
     text: &[u8],

@@ -2,6 +2,7 @@ pub mod ChangeView
 pub mod Entry
 pub mod Follows
 pub mod Kinds
+pub mod Lending
 pub mod Output
 pub mod Page
 pub mod PageLaws

@@ -16,6 +16,7 @@ use crate::change::{Change, Kind};
 use crate::editor::Editor;
 use crate::short_text::SHORT_LIMIT;
 use std::marker::Model;
+use std::mem;
 use teco_core::{NoMemory, TEXT_LIMIT};
 
 /// An editor whose changes are noted: each call of `Desk` finds all memory first and then makes its changes.
@@ -39,18 +40,13 @@ impl Model for Recorder {
 }
 
 impl Recorder {
-    /// Takes an editor, and drops what is stored beyond its output's end: it was written and taken back. Takes no memory.
-    pub fn new(mut editor: Editor) -> Recorder
-        ensures full { result.full ≡ record editor { stored = take editor.body.output editor.stored } }
-        ensures state { state_of result.full ≡ state_of editor }
-        ensures empty { (result.notes ≡ []) × (result.done ≡ 0) }
+    ghost use Rattle.std.specs.Borrow.{sem};
+    ghost use Rattle.teco_store.specs.Lending.{LendsEditor};
 
-        // It follows whatever begins here.
-        ensures follows { (t : Trail) → t.steps ≡ 0 → t.states 0 ≡ state_of editor → t.floor ≤ editor.room
-            → Follows result t }
+    /// A recorder of an editor's changes. Takes no memory.
+    pub fn new(editor: Editor) -> Recorder
+        ensures full { result.full ≡ editor }
     {
-        let _shown = editor.shown();
-        editor.forget_beyond();
         Recorder {
             entry: Vec::new(editor.allocator()),
             editor,
@@ -58,19 +54,46 @@ impl Recorder {
         }
     }
 
-    /// The editor, and what was noted. Takes no memory.
-    pub fn into_parts(self) -> (Editor, Vec<Change>)
-        ensures editor { result.0 ≡ self.full }
-        ensures entry { result.1.items ≡ self.notes }
+    /// Notes what comes, and nothing else, and drops what is stored beyond the output's end: it was written and taken back. Takes no
+    /// memory.
+    pub fn begin(&mut self)
+        ensures full { self.new.full
+            ≡ record self.old.full { stored = take self.old.full.body.output self.old.full.stored } }
+        ensures state { state_of self.new.full ≡ state_of self.old.full }
+        ensures empty { (self.new.notes ≡ []) × (self.new.done ≡ 0) }
+
+        // It follows whatever begins here.
+        ensures follows { (t : Trail) → t.steps ≡ 0 → t.states 0 ≡ state_of self.old.full
+            → t.floor ≤ self.old.full.room → Follows self.new t }
     {
-        (self.editor, self.entry)
+        let _shown = self.editor.shown();
+        self.editor.forget_beyond();
+        self.entry.clear();
+        self.done = 0;
     }
 
-    // The editor.
-    fn editor(&self) -> &Editor
+    /// Gives what was noted. Takes no memory.
+    pub fn take(&mut self) -> Vec<Change>
+        ensures full { self.new.full ≡ self.old.full }
+        ensures entry { result.items ≡ self.old.notes }
+    {
+        let alloc = self.editor.allocator();
+        mem::replace(&mut self.entry, Vec::new(alloc))
+    }
+
+    /// The editor. Takes no memory.
+    pub fn editor(&self) -> &Editor
         ensures { result.now ≡ self.now.full }
     {
         &self.editor
+    }
+
+    /// The editor, for what is not noted. Takes no memory.
+    pub fn editor_mut(&mut self) -> &mut Editor
+        ensures* writes_back { sem 𝓛 (LendsEditor self.entry result) }
+        ensures value { result.now ≡ self.old.full }
+    {
+        &mut self.editor
     }
 
     // Finds room for so many more changes.

@@ -1,5 +1,5 @@
 -- The commands: how each is spelled, and what a line asks.
-use Rattle.std.specs.Prelude.{ℕ, ◌+◌, ◌-◌, Bool, ◌||◌, ◌==◌, not, List, [], ◌∷◌, length, take, drop, nat_eq, nat_le, nat_lt, codes, if◌then◌else◌, Option, Some, None, Result, Ok, Err, find}
+use Rattle.std.specs.Prelude.{ℕ, ◌+◌, ◌-◌, Bool, ◌||◌, ◌==◌, not, List, [], ◌∷◌, length, take, drop, nat_eq, nat_le, nat_lt, codes, if◌then◌else◌, Option, Some, None, Result, Ok, Err}
 use Rattle.std.specs.List.{prefix_len, suffix_len}
 use lib.Pointwise.{pointwise}
 use Rattle.teco_core.specs.Register.{register_of}
@@ -11,59 +11,53 @@ use Rattle.teco_walk.specs.declared.command.Fault.TheVariants.{NoCommand, NoRegi
 use Rattle.teco_walk.specs.declared.finding.Part.{Part}
 use Rattle.teco_walk.specs.declared.finding.Part.TheVariants as part
 use Rattle.teco_telling.specs.declared.spot.Spot.{Spot}
-use Rattle.teco_walk.specs.declared.verb.Verb.{Verb}
-use Rattle.teco_walk.specs.declared.verb.Verb.TheVariants.{Next, Back, Goto, End, Start, Where, Text, Register, All, State, Find, Break, Continue, Typed, Undo, Help, Quit}
+use Rattle.teco_walk.specs.declared.verb.Takes.{Takes}
+use Rattle.teco_walk.specs.declared.verb.Takes.TheVariants.{Nothing, Number, NumberOr, Register, Part as ThePart, Spot as TheSpot}
+use Rattle.teco_walk.specs.declared.verb.Counted.TheVariants as counted
+use Rattle.teco_walk.specs.declared.verb.Plain.TheVariants as plain
+use Rattle.teco_walk.specs.declared.verb.VerbRow.{VerbRow}
 
--- a verb and its word
-abbrev pub word_of : Verb → List ℕ
-word_of Next = codes "next"
-word_of Back = codes "back"
-word_of Goto = codes "goto"
-word_of End = codes "end"
-word_of Start = codes "start"
-word_of Where = codes "where"
-word_of Text = codes "text"
-word_of Register = codes "register"
-word_of All = codes "registers"
-word_of State = codes "state"
-word_of Find = codes "find"
-word_of Break = codes "break"
-word_of Continue = codes "continue"
-word_of Typed = codes "typed"
-word_of Undo = codes "undo"
-word_of Help = codes "help"
-word_of Quit = codes "quit"
+-- a command: its word, the letter that stands for it, and what it takes
+pub record Verb : Type 0 where
+  pub word : List ℕ
+  pub letter : List ℕ
+  pub takes : Takes
 
--- a verb and its letter: the first of its word that no verb above has
-abbrev pub letter_of : Verb → List ℕ
-letter_of Next = codes "n"
-letter_of Back = codes "b"
-letter_of Goto = codes "g"
-letter_of End = codes "e"
-letter_of Start = codes "s"
-letter_of Where = codes "w"
-letter_of Text = codes "t"
-letter_of Register = codes "r"
-letter_of All = codes "i"
-letter_of State = codes "a"
-letter_of Find = codes "f"
-letter_of Break = codes "k"
-letter_of Continue = codes "c"
-letter_of Typed = codes "y"
-letter_of Undo = codes "u"
-letter_of Help = codes "h"
-letter_of Quit = codes "q"
+abbrev pub named : List ℕ → List ℕ → Takes → Verb
+named word letter takes = record { word = word; letter = letter; takes = takes }
 
--- The bytes are the verb's word or its letter.
-abbrev pub is_spelled : List ℕ → Verb → Bool
-is_spelled bytes verb = pointwise nat_eq bytes (word_of verb) || pointwise nat_eq bytes (letter_of verb)
+abbrev pub verb_by : VerbRow → Verb
+verb_by row = named row.word.now row.letter.now row.takes
 
+-- the commands; a letter is the first of its word that no word above it has taken
 abbrev pub verbs : List Verb
-verbs = Next ∷ Back ∷ Goto ∷ End ∷ Start ∷ Where ∷ Text ∷ Register ∷ All ∷ State ∷ Find ∷ Break ∷ Continue ∷ Typed ∷ Undo ∷ Help ∷ Quit ∷ []
+verbs = named (codes "next") (codes "n") (NumberOr counted.Next 1)
+    ∷ named (codes "back") (codes "b") (NumberOr counted.Back 1)
+    ∷ named (codes "goto") (codes "g") (Number counted.Goto)
+    ∷ named (codes "end") (codes "e") (Nothing plain.End)
+    ∷ named (codes "start") (codes "s") (Nothing plain.Start)
+    ∷ named (codes "where") (codes "w") (Nothing plain.Where)
+    ∷ named (codes "text") (codes "t") (NumberOr counted.Text 3)
+    ∷ named (codes "register") (codes "r") Register
+    ∷ named (codes "registers") (codes "i") (Nothing plain.Registers)
+    ∷ named (codes "state") (codes "a") (Nothing plain.State)
+    ∷ named (codes "find") (codes "f") ThePart
+    ∷ named (codes "break") (codes "k") TheSpot
+    ∷ named (codes "continue") (codes "c") (Nothing plain.Continue)
+    ∷ named (codes "typed") (codes "y") (Nothing plain.Typed)
+    ∷ named (codes "undo") (codes "u") (NumberOr counted.Undo 1)
+    ∷ named (codes "help") (codes "h") (Nothing plain.Help)
+    ∷ named (codes "quit") (codes "q") (Nothing plain.Quit)
+    ∷ []
 
--- the verb that these bytes are
-abbrev pub verb_of : List ℕ → Option Verb
-verb_of bytes = find (is_spelled bytes) verbs
+-- The bytes are the command's word or its letter.
+abbrev pub is_spelled : List ℕ → Verb → Bool
+is_spelled bytes verb = pointwise nat_eq bytes verb.word || pointwise nat_eq bytes verb.letter
+
+-- what the first command takes that is spelled so
+abbrev pub taken : List Verb → List ℕ → Option Takes
+taken [] bytes = None
+taken (verb ∷ verbs) bytes = if is_spelled bytes verb then Some verb.takes else taken verbs bytes
 
 -- a space, or a control byte
 abbrev pub is_blank : ℕ → Bool
@@ -87,7 +81,7 @@ abbrev pub number_or : ℕ → List ℕ → Result ℕ Fault
 number_or otherwise [] = Ok otherwise
 number_or otherwise (b ∷ bytes) = number_in (b ∷ bytes)
 
--- a command that wants nothing after its verb
+-- a command that wants nothing after its word
 abbrev pub alone : Command → List ℕ → Result Command Fault
 alone command [] = Ok command
 alone command (b ∷ bytes) = Err TooMuch
@@ -124,32 +118,21 @@ spot_in bytes =
     then spot_from (number_in (take (colon_in bytes) bytes)) (number_in (drop (colon_in bytes + 1) bytes))
     else Err NoPlace
 
--- what a verb asks with these bytes after it
-abbrev pub command_in : Verb → List ℕ → Result Command Fault
-command_in Next bytes = given command.Next (number_or 1 bytes)
-command_in Back bytes = given command.Back (number_or 1 bytes)
-command_in Goto bytes = given command.Goto (number_in bytes)
-command_in End bytes = alone command.End bytes
-command_in Start bytes = alone command.Start bytes
-command_in Where bytes = alone command.Where bytes
-command_in Text bytes = given command.Text (number_or 3 bytes)
+-- the command that takes this, with these bytes after its word
+abbrev pub command_in : Takes → List ℕ → Result Command Fault
+command_in (Nothing plain) bytes = alone (command.Plain plain) bytes
+command_in (Number counted) bytes = given (command.Counted counted) (number_in bytes)
+command_in (NumberOr counted otherwise) bytes = given (command.Counted counted) (number_or otherwise bytes)
 command_in Register bytes = given command.Register (register_in bytes)
-command_in All bytes = alone command.Registers bytes
-command_in State bytes = alone command.State bytes
-command_in Find bytes = given command.Find (part_in bytes)
-command_in Break bytes = given command.Break (spot_in bytes)
-command_in Continue bytes = alone command.Continue bytes
-command_in Typed bytes = alone command.Typed bytes
-command_in Undo bytes = given command.Undo (number_or 1 bytes)
-command_in Help bytes = alone command.Help bytes
-command_in Quit bytes = alone command.Quit bytes
+command_in ThePart bytes = given command.Find (part_in bytes)
+command_in TheSpot bytes = given command.Break (spot_in bytes)
 
-abbrev pub command_by : Option Verb → List ℕ → Result Command Fault
-command_by (Some verb) bytes = command_in verb bytes
+abbrev pub command_by : Option Takes → List ℕ → Result Command Fault
+command_by (Some takes) bytes = command_in takes bytes
 command_by None bytes = Err NoCommand
 
--- what a line asks: its first word is the verb, and what comes after it the operand
+-- what a line asks: its first word tells the command, and what comes after it is the operand
 abbrev pub command_of : List ℕ → Result Command Fault
 command_of line =
     let bytes = without_blanks_before (without_blanks_after line) in
-    command_by (verb_of (word_in bytes)) (after_word bytes)
+    command_by (taken verbs (word_in bytes)) (after_word bytes)

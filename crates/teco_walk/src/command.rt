@@ -5,7 +5,7 @@ ghost use Rattle.teco_walk.specs.Verb.{alone, colon_in, command_in, command_of, 
 
 use crate::finding::Part;
 use crate::number::number_in;
-use crate::verb::Verb;
+use crate::verb::{Counted, Plain, Takes, takes_of};
 use teco_core::Reg;
 use teco_telling::Spot;
 use thiserror::Error;
@@ -13,31 +13,13 @@ use thiserror::Error;
 /// What is asked.
 #[derive(Clone, Copy)]
 pub enum Command {
-    /// So many steps on.
-    Next(u64),
-    /// So many steps back.
-    Back(u64),
-    /// To this step.
-    Goto(u64),
-    End,
-    Start,
-    Where,
-    /// So many lines before and after the pointer.
-    Text(u64),
+    Plain(Plain),
+    Counted(Counted, u64),
     Register(Reg),
-    Registers,
-    State,
     /// Back to before the last change of the part.
     Find(Part),
     /// The place to stop at.
     Break(Spot),
-    /// On to that place.
-    Continue,
-    Typed,
-    /// So many moves taken back.
-    Undo(u64),
-    Help,
-    Quit,
 }
 
 /// Why a line is no command.
@@ -97,7 +79,7 @@ fn number_or(otherwise: u64, bytes: &[u8]) -> Result<u64, Fault>
     number_in(bytes)
 }
 
-/// A command that wants nothing after its verb.
+/// A command that wants nothing after its word.
 fn alone(command: Command, bytes: &[u8]) -> Result<Command, Fault>
     ensures { result ≡ alone command bytes.now }
 {
@@ -153,28 +135,19 @@ fn spot_in(bytes: &[u8]) -> Result<Spot, Fault>
     }
 }
 
-/// The command of a verb with these bytes after it.
-fn command_in(verb: Verb, bytes: &[u8]) -> Result<Command, Fault>
-    ensures { result ≡ command_in verb bytes.now }
+/// The command that takes this, with these bytes after its word.
+fn command_in(takes: Takes, bytes: &[u8]) -> Result<Command, Fault>
+    ensures { result ≡ command_in takes bytes.now }
 {
-    match verb {
-        Verb::Next => Ok(Command::Next(number_or(1, bytes)?)),
-        Verb::Back => Ok(Command::Back(number_or(1, bytes)?)),
-        Verb::Goto => Ok(Command::Goto(number_in(bytes)?)),
-        Verb::End => alone(Command::End, bytes),
-        Verb::Start => alone(Command::Start, bytes),
-        Verb::Where => alone(Command::Where, bytes),
-        Verb::Text => Ok(Command::Text(number_or(3, bytes)?)),
-        Verb::Register => Ok(Command::Register(register_in(bytes)?)),
-        Verb::All => alone(Command::Registers, bytes),
-        Verb::State => alone(Command::State, bytes),
-        Verb::Find => Ok(Command::Find(part_in(bytes)?)),
-        Verb::Break => Ok(Command::Break(spot_in(bytes)?)),
-        Verb::Continue => alone(Command::Continue, bytes),
-        Verb::Typed => alone(Command::Typed, bytes),
-        Verb::Undo => Ok(Command::Undo(number_or(1, bytes)?)),
-        Verb::Help => alone(Command::Help, bytes),
-        Verb::Quit => alone(Command::Quit, bytes),
+    match takes {
+        Takes::Nothing(plain) => alone(Command::Plain(plain), bytes),
+        Takes::Number(counted) => Ok(Command::Counted(counted, number_in(bytes)?)),
+        Takes::NumberOr(counted, otherwise) => {
+            Ok(Command::Counted(counted, number_or(otherwise, bytes)?))
+        }
+        Takes::Register => Ok(Command::Register(register_in(bytes)?)),
+        Takes::Part => Ok(Command::Find(part_in(bytes)?)),
+        Takes::Spot => Ok(Command::Break(spot_in(bytes)?)),
     }
 }
 
@@ -185,8 +158,8 @@ impl Command {
     {
         let bytes = after_blanks(before_blanks(line));
         let end = word_end(bytes);
-        match Verb::of(&bytes[..end]) {
-            Some(verb) => command_in(verb, after_blanks(&bytes[end..])),
+        match takes_of(&bytes[..end]) {
+            Some(takes) => command_in(takes, after_blanks(&bytes[end..])),
             None => Err(Fault::NoCommand),
         }
     }

@@ -9,4 +9,5 @@ mod walk;
 
 pub use command::{Command, Fault};
 pub use finding::{Part, last_change};
+pub use verb::{Counted, Plain, VERBS, VerbRow};
 pub use walk::{Seen, Walk};

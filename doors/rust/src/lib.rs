@@ -5,10 +5,12 @@
 
 mod change;
 mod raw;
+mod token;
 
 pub use change::{Change, Kind};
 use std::fmt;
 use std::ptr;
+pub use token::{token, Fault, Token, TokenKind};
 
 /// An open session. Its handle is open from [`Session::open`] to its drop.
 pub struct Session {
@@ -31,7 +33,7 @@ pub enum Stop {
     Code(u8),
     /// An exit has ended the session, and nothing changed.
     AfterExit,
-    /// The history found no memory, and nothing changed.
+    /// No memory was found for the history or for the room, and nothing changed.
     NotBegun,
 }
 
@@ -85,7 +87,7 @@ impl Session {
     /// Runs a command string as [`Session::run`] does, and tells where it stopped: nowhere where it ended well or was not begun, or where
     /// no memory is found for the place.
     pub fn run_where(&mut self, text: &[u8], limit: u64, room: usize) -> (Outcome, Option<Place>) {
-        let (mut at, mut calls) = (0, 0);
+        let (mut at, mut calls) = (NOWHERE, 0);
         let outcome = ran(room, |typed, made, steps| unsafe {
             raw::teco_where(
                 &mut self.handle, text.as_ptr(), text.len(), limit, typed, room, made, steps, &mut at, &mut calls)
@@ -110,16 +112,12 @@ impl Session {
 
     /// How many strings are kept, undone ones too.
     pub fn strings(&self) -> usize {
-        let mut count = 0;
-        unsafe { raw::teco_strings(&self.handle, &mut count) };
-        count
+        self.told(|at, count| unsafe { raw::teco_strings(at, count) })
     }
 
     /// How many strings are not undone.
     pub fn cursor(&self) -> usize {
-        let mut count = 0;
-        unsafe { raw::teco_cursor(&self.handle, &mut count) };
-        count
+        self.told(|at, count| unsafe { raw::teco_cursor(at, count) })
     }
 
     /// The text of a string, if there is one at this place.
@@ -160,11 +158,19 @@ impl Session {
             .unwrap_or_default()
     }
 
+    /// The length of the text of the buffer.
+    pub fn length(&self) -> usize {
+        self.told(|at, length| unsafe { raw::teco_length(at, length) })
+    }
+
     /// The place of the pointer in the text.
     pub fn pointer(&self) -> usize {
-        let mut pointer = 0;
-        unsafe { raw::teco_pointer(&self.handle, &mut pointer) };
-        pointer
+        self.told(|at, pointer| unsafe { raw::teco_pointer(at, pointer) })
+    }
+
+    /// How many line ends the text has between two places.
+    pub fn lines(&self, from: usize, to: usize) -> usize {
+        self.told(|at, count| unsafe { raw::teco_lines(at, from, to, count) })
     }
 
     /// The output so far.
@@ -185,9 +191,45 @@ impl Session {
         self.copied(|at, room, size, length| unsafe { raw::teco_register(at, name, room, size, length) })
     }
 
+    /// The last search text, if there is one.
+    pub fn search(&self) -> Option<Vec<u8>> {
+        self.copied(|at, room, size, length| unsafe { raw::teco_search(at, room, size, length) })
+    }
+
+    /// How many values are on the push-down list.
+    pub fn pushed(&self) -> usize {
+        self.told(|at, count| unsafe { raw::teco_pushed(at, count) })
+    }
+
+    /// How many bytes of the input have been read.
+    pub fn place(&self) -> usize {
+        self.told(|at, place| unsafe { raw::teco_place(at, place) })
+    }
+
     /// Whether an exit has ended the session.
     pub fn is_done(&self) -> bool {
         unsafe { raw::teco_done(&self.handle) == 1 }
+    }
+
+    /// Whether the last search found what it looked for.
+    pub fn has_found(&self) -> bool {
+        unsafe { raw::teco_found(&self.handle) == 1 }
+    }
+
+    /// Whether a form feed ended the page.
+    pub fn ended_by_form_feed(&self) -> bool {
+        unsafe { raw::teco_form_feed(&self.handle) == 1 }
+    }
+
+    /// Whether searches find a letter in either case.
+    pub fn finds_either_case(&self) -> bool {
+        unsafe { raw::teco_either_case(&self.handle) == 1 }
+    }
+
+    fn told(&self, call: impl Fn(*const raw::Handle, *mut usize) -> u8) -> usize {
+        let mut told = 0;
+        call(&self.handle, &mut told);
+        told
     }
 
     /// Asks for the length first, and then for the bytes.
@@ -203,12 +245,16 @@ impl Session {
     }
 }
 
-/// What a string comes to that is run so, with room for so many bytes.
+/// What a string comes to that is run so, with room for so many bytes. Where no memory is found for the room, it is not begun.
 fn ran(room: usize, call: impl FnOnce(*mut u8, *mut usize, *mut u64) -> u8) -> Outcome {
-    let mut typed = vec![0; room];
+    let mut typed = Vec::new();
     let (mut made, mut steps) = (0, 0);
-    let code = call(typed.as_mut_ptr(), &mut made, &mut steps);
-    typed.truncate(made);
+    let code = match typed.try_reserve_exact(room) {
+        Err(_) => NOT_BEGUN,
+        Ok(()) => call(typed.as_mut_ptr(), &mut made, &mut steps),
+    };
+    // The call has written the first `made` bytes of the room, and `made` is no more than the room.
+    unsafe { typed.set_len(made) };
     let stop = match code {
         0 => None,
         END => Some(Stop::AfterExit),
@@ -248,7 +294,7 @@ impl fmt::Display for Stop {
             Stop::Code(MEM) => f.write_str("memory was refused"),
             Stop::Code(code) => write!(f, "ended by code {code}"),
             Stop::AfterExit => f.write_str("the session is done"),
-            Stop::NotBegun => f.write_str("no memory for the history"),
+            Stop::NotBegun => f.write_str("no memory was found"),
         }
     }
 }

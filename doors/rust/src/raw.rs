@@ -35,6 +35,15 @@ extern "C" {
     pub fn teco_undo(t: *mut Handle) -> u8;
     pub fn teco_redo(t: *mut Handle) -> u8;
     pub fn teco_rewind(t: *mut Handle, n: u64) -> u8;
+    pub fn teco_token(
+        text: *const u8,
+        n: usize,
+        at: usize,
+        from: *mut usize,
+        to: *mut usize,
+        kind: *mut u8,
+        size: *mut usize,
+    ) -> u8;
     pub fn teco_strings(t: *const Handle, count: *mut usize) -> u8;
     pub fn teco_cursor(t: *const Handle, count: *mut usize) -> u8;
     pub fn teco_steps(t: *const Handle, i: usize, steps: *mut u64) -> u8;
@@ -42,10 +51,18 @@ extern "C" {
     pub fn teco_changes(t: *const Handle, i: usize, count: *mut usize) -> u8;
     pub fn teco_change(t: *const Handle, i: usize, k: usize, kind: *mut u8, name: *mut u8, step: *mut u64) -> u8;
     pub fn teco_splice(t: *const Handle, i: usize, k: usize, at: *mut usize, gone: *mut usize, came: *mut usize) -> u8;
+    pub fn teco_length(t: *const Handle, length: *mut usize) -> u8;
     pub fn teco_pointer(t: *const Handle, pointer: *mut usize) -> u8;
     pub fn teco_text(t: *const Handle, from: usize, room: *mut u8, size: usize, length: *mut usize) -> u8;
+    pub fn teco_lines(t: *const Handle, from: usize, to: usize, count: *mut usize) -> u8;
     pub fn teco_output(t: *const Handle, from: usize, room: *mut u8, size: usize, length: *mut usize) -> u8;
     pub fn teco_number(t: *const Handle, name: u8, number: *mut i32) -> u8;
     pub fn teco_register(t: *const Handle, name: u8, room: *mut u8, size: usize, length: *mut usize) -> u8;
+    pub fn teco_search(t: *const Handle, room: *mut u8, size: usize, length: *mut usize) -> u8;
+    pub fn teco_pushed(t: *const Handle, count: *mut usize) -> u8;
+    pub fn teco_place(t: *const Handle, place: *mut usize) -> u8;
     pub fn teco_done(t: *const Handle) -> u8;
+    pub fn teco_found(t: *const Handle) -> u8;
+    pub fn teco_form_feed(t: *const Handle) -> u8;
+    pub fn teco_either_case(t: *const Handle) -> u8;
 }

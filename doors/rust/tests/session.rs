@@ -1,4 +1,4 @@
-use teco::{Change, Kind, Nothing, OpenError, Place, Session, Stop};
+use teco::{token, Change, Fault, Kind, Nothing, OpenError, Place, Session, Stop, Token, TokenKind};
 
 const LIMIT: u64 = 1_000_000;
 
@@ -82,4 +82,40 @@ fn an_exit_writes_the_output() {
 #[test]
 fn a_depth_above_the_limit_is_refused() {
     assert_eq!(Session::open(b"", 100_001).err(), Some(OpenError::TooDeep));
+}
+
+#[test]
+fn a_room_for_which_no_memory_is_found_begins_nothing() {
+    let mut session = Session::open(b"", 0).unwrap();
+    for room in [usize::MAX, isize::MAX as usize, isize::MAX as usize + 1] {
+        let outcome = session.run(b"2=", LIMIT, room);
+        assert_eq!((outcome.stop, outcome.steps, outcome.typed.as_slice()), (Some(Stop::NotBegun), 0, b"".as_slice()));
+        assert_eq!(session.run_where(b"9J", LIMIT, room).1, None);
+    }
+    assert_eq!(session.strings(), 0);
+}
+
+#[test]
+fn what_stands_in_a_text_is_told() {
+    let kind = TokenKind::Text;
+    assert_eq!(token(b" Iab\x1bJ", 0), Ok(Some(Token { from: 1, to: 5, kind, size: 2 })));
+    assert_eq!(token(b"J", 1), Ok(None));
+    assert_eq!(token(b"J", usize::MAX), Ok(None));
+    assert_eq!(token(b" Iab", 0), Err(Fault { at: 1, code: 24 }));
+    let texts = "1 Z H A J QA ^^A Sa$ Oa$ ^UAb$ FSa$b$ < \"N !a! $";
+    for (i, text) in texts.split(' ').enumerate() {
+        let text = text.replace('$', "\x1b").into_bytes();
+        let read = token(&text, 0).unwrap().unwrap();
+        assert_eq!((read.to, read.kind as usize), (text.len(), i));
+    }
+}
+
+#[test]
+fn lines_and_searches_are_told() {
+    let mut session = Session::open(b"a\nb\x0bc\n\x0cd", 0).unwrap();
+    session.run(b"Y[A0^XSb\x1b", LIMIT, 0);
+    assert_eq!((session.lines(0, usize::MAX), session.lines(2, 4), session.lines(4, 2)), (3, 1, 0));
+    assert_eq!((session.length(), session.place(), session.pushed()), (6, 7, 1));
+    assert_eq!(session.search(), Some(b"b".to_vec()));
+    assert!(session.has_found() && session.ended_by_form_feed() && !session.is_done());
 }

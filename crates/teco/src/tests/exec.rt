@@ -1,5 +1,6 @@
 //! Of teco_exec: command strings, run on an editor.
 mod block_forms;
+pub(crate) mod breaks;
 mod conditionals;
 mod faults;
 mod iterations;

@@ -60,7 +60,7 @@ const FAULTY: Run = Run {
 /// What is there after an exit.
 const WRITTEN: Files = &[IN, ("in.out", "hi\n")];
 
-static FROM_A_WORD: [Row<'static>; 3] = [
+static FROM_A_WORD: [Row<'static>; 6] = [
     (PAGE, &[IN], WRITTEN),
     (
         Run {
@@ -70,6 +70,37 @@ static FROM_A_WORD: [Row<'static>; 3] = [
         },
         &[IN],
         &[IN, ("out", "hi\n")],
+    ),
+    // Layout, a comment and a line end of the text.
+    (
+        Run {
+            words: "teco -e Ia^Jb$\n\tHT$$\t!!types\nEX$$ in",
+            typed: "a\nb",
+            ..PAGE
+        },
+        &[IN],
+        &[IN, ("in.out", "a\nbhi\n")],
+    ),
+    (
+        Run {
+            words: "teco -e I5^$$HT$$ in",
+            typed: "5$",
+            status: 2,
+            ..PAGE
+        },
+        &[IN],
+        &[IN],
+    ),
+    // Carets in a text: a caret, DEL, a dollar sign, an exclamation mark and a control byte.
+    (
+        Run {
+            words: "teco -e Ix^=^?^$!^!^e$HT$$ in",
+            typed: "x^\x7f$!!\x05",
+            status: 2,
+            ..PAGE
+        },
+        &[IN],
+        &[IN],
     ),
     // A caret and a letter are a control command; the word ends without an exit.
     (
@@ -84,10 +115,72 @@ static FROM_A_WORD: [Row<'static>; 3] = [
     ),
 ];
 
-static FROM_A_FILE: [Row<'static>; 2] = [
+/// A source with a comment, margins and line ends that are layout, and a line end of the text.
+const SOURCE: (&str, &str) = (
+    "page.teco",
+    "#!/usr/bin/env -S teco -f\n!!types a line\nY$$  \n\tZ=$$ !!its length\nIa^Jb$ HT$$\nEX$$\n",
+);
+
+/// A library of macros.
+const LIBRARY: (&str, &str) = ("lib.teco", "@^UA/0L Ix^=$ /$$\n!!puts in x and a caret\n");
+
+/// A source that comes after it.
+const CALLS: (&str, &str) = ("calls.teco", "Y MA$$\n");
+
+static FROM_A_FILE: [Row<'static>; 6] = [
     (
         Run {
-            words: "teco -f strings in",
+            words: "teco -f page.teco in",
+            typed: "3\r\na\nbhi\n",
+            ..PAGE
+        },
+        &[IN, SOURCE],
+        &[IN, SOURCE, ("in.out", "a\nbhi\n")],
+    ),
+    // The files in their order, and then the word, wherever it stands.
+    (
+        Run {
+            words: "teco -f lib.teco -e HTEX$$ -f calls.teco in",
+            typed: "x^hi\n",
+            ..PAGE
+        },
+        &[IN, LIBRARY, CALLS],
+        &[IN, LIBRARY, CALLS, ("in.out", "x^hi\n")],
+    ),
+    (
+        Run {
+            words: "teco -e MAHTEX$$ -f lib.teco in",
+            typed: "x^",
+            ..PAGE
+        },
+        &[IN, LIBRARY],
+        &[IN, LIBRARY, ("in.out", "x^hi\n")],
+    ),
+    // ESC is a byte of a source too, and a dollar sign is written with a caret.
+    (
+        Run {
+            words: "teco --file=strings in",
+            typed: "$",
+            status: 2,
+            ..PAGE
+        },
+        &[IN, ("strings", "I^$\x1bHT\x1b\x1b")],
+        &[IN, ("strings", "I^$\x1bHT\x1b\x1b")],
+    ),
+    // The bytes of a file as they are: a dollar sign and a line end are themselves.
+    (
+        Run {
+            words: "teco --bytes=strings in",
+            typed: "$\n!!^J",
+            status: 2,
+            ..PAGE
+        },
+        &[IN, ("strings", "I$\n!!^J\x1bHT\x1b\x1b")],
+        &[IN, ("strings", "I$\n!!^J\x1bHT\x1b\x1b")],
+    ),
+    (
+        Run {
+            words: "teco -b strings in",
             ..PAGE
         },
         &[IN, ("strings", "Y\x1b\x1bZ=\x1b\x1bEX\x1b\x1b")],
@@ -97,24 +190,97 @@ static FROM_A_FILE: [Row<'static>; 2] = [
             ("in.out", "hi\n"),
         ],
     ),
-    // In a file a dollar sign is itself.
+];
+
+/// A source with a wrong caret in line 2 at column 3.
+const WRONG: (&str, &str) = ("wrong", "HKEX$$\nIa^+$$\n");
+
+/// A source that can't be read is a faulty line: nothing of it is run, nor of the others.
+static WRONG_CARETS: [Row<'static>; 6] = [
     (
         Run {
-            words: "teco --file=strings in",
-            typed: "$",
-            status: 2,
-            ..PAGE
+            words: "teco -f wrong in",
+            told: "teco: wrong:2:3: a caret before what it cannot stand before\n",
+            ..FAULTY
         },
-        &[IN, ("strings", "I$\x1bHT\x1b\x1b")],
-        &[IN, ("strings", "I$\x1bHT\x1b\x1b")],
+        &[IN, WRONG],
+        &[IN, WRONG],
+    ),
+    (
+        Run {
+            words: "teco -f calls.teco -f wrong -e EX$$ in",
+            told: "teco: wrong:2:3: a caret before what it cannot stand before\n",
+            ..FAULTY
+        },
+        &[IN, CALLS, WRONG],
+        &[IN, CALLS, WRONG],
+    ),
+    (
+        Run {
+            words: "teco -f calls.teco -e YEX$$I^5 in",
+            told: "teco: --execute:1:7: a caret before what it cannot stand before\n",
+            ..FAULTY
+        },
+        &[IN, CALLS],
+        &[IN, CALLS],
+    ),
+    // A caret at the end.
+    (
+        Run {
+            words: "teco -e YEX^ in",
+            told: "teco: --execute:1:4: a caret before what it cannot stand before\n",
+            ..FAULTY
+        },
+        &[IN],
+        &[IN],
+    ),
+    (
+        Run {
+            words: "teco -i -p Ia^* in",
+            told: "teco: --pages:1:3: a caret before what it cannot stand before\n",
+            ..FAULTY
+        },
+        &[IN],
+        &[IN],
+    ),
+    (
+        Run {
+            words: "teco -e Y$$Ix^+$EX$$ in in",
+            told: "teco: --execute:1:6: a caret before what it cannot stand before\n",
+            ..FAULTY
+        },
+        &[IN],
+        &[IN],
     ),
 ];
 
-/// A file of commands that is not there, and an input that is not.
-static UNREADABLE: [Row<'static>; 2] = [
+/// Files of commands that are not there, and an input that is not.
+static UNREADABLE: [Row<'static>; 4] = [
     (
         Run {
             words: "teco -f none in",
+            typed: "",
+            told: "teco: cannot read none\n",
+            status: 1,
+            ..PAGE
+        },
+        &[IN],
+        &[IN],
+    ),
+    (
+        Run {
+            words: "teco -f calls.teco -f none -e EX$$ in",
+            typed: "",
+            told: "teco: cannot read none\n",
+            status: 1,
+            ..PAGE
+        },
+        &[IN, CALLS],
+        &[IN, CALLS],
+    ),
+    (
+        Run {
+            words: "teco -b none in",
             typed: "",
             told: "teco: cannot read none\n",
             status: 1,
@@ -145,9 +311,10 @@ static HELP: [Row<'static>; 1] = [(
                 <INPUT>     The file to edit, or - for standard input; only --in-place, or --output with its name, changes it\n  \
                 [INPUT]...  More files, each edited by itself, in their order\n\n\
                 Options:\n  \
-                -e, --execute <STRINGS>  The command strings, in which $ is ESC\n  \
+                -e, --execute <STRINGS>  The command strings: $ is ESC, ^J a line end, and !! begins a comment\n  \
                 -p, --pages <STRINGS>    The same on each page, and then an exit: -e 'Y<STRINGS$ $-1-^N;P>EX$$'\n  \
-                -f, --file <FILE>        The file that the commands are read from, as they are\n  \
+                -f, --file <FILE>        A file of the same kind; the commands are those of each FILE in order, and then those of --execute\n  \
+                -b, --bytes <FILE>       The file that the commands are read from, as they are\n  \
                 -o, --output <FILE>      Where the output goes after an exit, - for standard output; without it INPUT.out, or - if INPUT is -\n  \
                 -i, --in-place           Writes the output over each INPUT\n      \
                 --page-lines <N>     The most lines of a page, at most 1000000000; without it form feeds alone end pages\n      \
@@ -157,9 +324,10 @@ static HELP: [Row<'static>; 1] = [(
                 --explain            Explains each error, and with --prompt what was done, on standard error\n  \
                 -h, --help               Print help\n  \
                 -V, --version            Print version\n\n\
-                Commands are read from standard input where none of --execute, --pages and --file gives them, and what\n\
-                they type goes to standard output. Two ESC end a command string, which is then run; EX writes the output\n\
-                and ends the run. Each INPUT is a run of its own; several want --execute, --pages or --file.\n",
+                Commands are read from standard input where no option gives them, and what they type goes to standard\n\
+                output. In STRINGS, and in the files of --file, $ is ESC and ^J ends a line; line ends, margins and what\n\
+                follows !! are for readers alone. Two ESC end a command string, which is then run; EX writes the output\n\
+                and ends the run. Each INPUT is a run of its own; several want an option that gives the commands.\n",
         ..PAGE
     },
     &[IN],
@@ -169,13 +337,13 @@ static HELP: [Row<'static>; 1] = [(
 /// A faulty line says why, and shows the usage; nothing is read, run or written.
 static FAULTY_LINES: [(&str, &str); 8] = [
     (
-        "teco -e EX$$ -f in in",
-        "error: only one of '--execute <STRINGS>', '--pages <STRINGS>' and '--file <FILE>' can be used\n\n\
+        "teco -e EX$$ -b in in",
+        "error: only one of '--pages <STRINGS>', '--bytes <FILE>', and '--file <FILE>' or '--execute <STRINGS>' can be used\n\n\
         Usage: teco [OPTIONS] <INPUT>...\n\nFor more information, try '--help'.\n",
     ),
     (
         "teco -e EX$$ -p 0K in",
-        "error: only one of '--execute <STRINGS>', '--pages <STRINGS>' and '--file <FILE>' can be used\n\n\
+        "error: only one of '--pages <STRINGS>', '--bytes <FILE>', and '--file <FILE>' or '--execute <STRINGS>' can be used\n\n\
         Usage: teco [OPTIONS] <INPUT>...\n\nFor more information, try '--help'.\n",
     ),
     (
@@ -190,7 +358,7 @@ static FAULTY_LINES: [(&str, &str); 8] = [
     ),
     (
         "teco in in",
-        "error: more than one INPUT wants one of '--execute <STRINGS>', '--pages <STRINGS>' and '--file <FILE>'\n\n\
+        "error: more than one INPUT wants commands from '--execute <STRINGS>', '--pages <STRINGS>', '--file <FILE>' or '--bytes <FILE>'\n\n\
         Usage: teco [OPTIONS] <INPUT>...\n\nFor more information, try '--help'.\n",
     ),
     (
@@ -262,6 +430,7 @@ fn all_run(rt: &impl Abort, alloc: Global, rows: &[Row]) {
 fn takes_its_commands_from_the_line(rt: HostRuntime) {
     all_run(&rt, rt.alloc(), &FROM_A_WORD);
     all_run(&rt, rt.alloc(), &FROM_A_FILE);
+    all_run(&rt, rt.alloc(), &WRONG_CARETS);
     all_run(&rt, rt.alloc(), &UNREADABLE);
     all_run(&rt, rt.alloc(), &EXPLAINED);
     all_run(&rt, rt.alloc(), &ENDED);

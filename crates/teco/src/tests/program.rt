@@ -9,6 +9,7 @@ use teco_line::LineFault;
 use teco_program::program;
 use teco_step::MemoryTerminal;
 
+mod disk;
 mod ending;
 mod input;
 mod inputs;

@@ -1,4 +1,5 @@
 //! Of teco_session: requests, one after another, and what is undone.
+mod breaks;
 mod exits;
 mod failing_terminals;
 mod history;

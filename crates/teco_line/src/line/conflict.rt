@@ -21,8 +21,9 @@ fn are_on_standard_input(commands: &Commands) -> bool
 {
     match commands {
         Commands::StandardInput => true,
-        Commands::Word(_) | Commands::Pages(_) => false,
-        Commands::File(name) => is_standard_input(name.as_str()),
+        Commands::Sources(names, _) => one_is_standard_input(names),
+        Commands::Pages(_) => false,
+        Commands::Bytes(name) => is_standard_input(name.as_str()),
     }
 }
 
@@ -52,7 +53,7 @@ pub(crate) fn conflict_in(line: &Line) -> Option<&'static str>
         Some("the argument '--output <FILE>' cannot be used with more than one INPUT")
     } else if are_awaited(&line.commands) && has_more {
         Some(
-            "more than one INPUT wants one of '--execute <STRINGS>', '--pages <STRINGS>' and '--file <FILE>'",
+            "more than one INPUT wants commands from '--execute <STRINGS>', '--pages <STRINGS>', '--file <FILE>' or '--bytes <FILE>'",
         )
     } else if are_on_standard_input(&line.commands) && has_standard_input {
         Some("standard input cannot be both the commands and an INPUT")

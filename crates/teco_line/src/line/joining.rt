@@ -51,7 +51,9 @@ fn is_option(word: &str, row: &OptionRow) -> bool
 {
     match row.takes {
         Takes::Nothing => false,
-        Takes::Text | Takes::Number(..) | Takes::NumberOr(..) => is_name_of(word, row),
+        Takes::Text | Takes::Texts | Takes::Number(..) | Takes::NumberOr(..) => is_name_of(
+            word, row,
+        ),
     }
 }
 

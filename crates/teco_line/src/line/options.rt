@@ -16,6 +16,8 @@ pub(crate) enum Takes {
     Nothing,
     /// A text.
     Text,
+    /// A text, and it may be given more than once.
+    Texts,
     /// A number from the first to the second.
     Number(u64, u64),
     /// The same; the option that is not given is the third, in digits.
@@ -38,13 +40,13 @@ pub(crate) struct OptionRow {
 }
 
 /// Every option, in the order of the help.
-pub(crate) const OPTIONS: [OptionRow; 10] = [
+pub(crate) const OPTIONS: [OptionRow; 11] = [
     OptionRow {
         name: "execute",
         short: Some('e'),
         takes: Takes::Text,
         value: "STRINGS",
-        help: "The command strings, in which $ is ESC",
+        help: "The command strings: $ is ESC, ^J a line end, and !! begins a comment",
     },
     OptionRow {
         name: "pages",
@@ -56,6 +58,13 @@ pub(crate) const OPTIONS: [OptionRow; 10] = [
     OptionRow {
         name: "file",
         short: Some('f'),
+        takes: Takes::Texts,
+        value: "FILE",
+        help: "A file of the same kind; the commands are those of each FILE in order, and then those of --execute",
+    },
+    OptionRow {
+        name: "bytes",
+        short: Some('b'),
         takes: Takes::Text,
         value: "FILE",
         help: "The file that the commands are read from, as they are",
@@ -132,6 +141,7 @@ fn arg_by<'a>(alloc: Global, row: &OptionRow) -> Arg<'a>
     match row.takes {
         Takes::Nothing => arg.action(ArgAction::SetTrue),
         Takes::Text => arg.action(ArgAction::Set).value_name(row.value),
+        Takes::Texts => arg.action(ArgAction::Append).value_name(row.value),
         Takes::Number(least, most) => arg
             .action(ArgAction::Set)
             .value_name(row.value)

@@ -18,7 +18,7 @@ pub(super) static EXPLAINED: [Row<'static>; 4] = [
         Run {
             words: "teco --explain -e @^UA/0J9D/@^UB/MA/MB$$1<2$${{$$help$$?$$ in",
             typed: "?DTB\r\n?UTC\r\n?ILL\r\n?ILL\r\n?ILL\r\n",
-            noted: "string 1, step 7, A 1:4, D, A is called at 1:1, B is called at 1:19: DTB, delete past the buffer\n\
+            noted: "string 1, step 7, A 1:4, D, A is called at 1:1, B is called at 1:17: DTB, delete past the buffer\n\
                 string 2, step 3, 1:5, the text ends inside < at 1:2: UTC, text ends inside a command or block\n\
                 string 3, step 0, 1:1, {{: ILL, no such command\n\
                 string 4, step 1, 1:2, elp: ILL, no such command\n\

@@ -32,7 +32,7 @@ fn line(alloc: Global, given: Given) -> Result<Line, NoMemory> {
         output,
         in_place: given.in_place,
         page_lines: None,
-        commands: Commands::File(String::from_str(alloc, "strings")?),
+        commands: Commands::Bytes(String::from_str(alloc, "strings")?),
         limit: 0,
         prompt: false,
         explain: false,

@@ -107,7 +107,7 @@ const BOTH: Run = Run {
     status: 0,
 };
 
-static SEVERAL: [Row<'static>; 8] = [
+static SEVERAL: [Row<'static>; 9] = [
     (
         BOTH,
         &[IN, TWO],
@@ -172,6 +172,17 @@ static SEVERAL: [Row<'static>; 8] = [
         &[IN, TWO],
         Refused::Nothing,
         &[IN, TWO, ("in.out", "hi\n"), ("two.out", "two\n")],
+    ),
+    (
+        Run {
+            words: "teco -b - in two",
+            commands: "YI$\x1bEX\x1b\x1b",
+            typed: "",
+            ..BOTH
+        },
+        &[IN, TWO],
+        Refused::Nothing,
+        &[IN, TWO, ("in.out", "$hi\n"), ("two.out", "$two\n")],
     ),
     (
         Run {

@@ -26,17 +26,29 @@ fn refuses_what_is_no_text(rt: HostRuntime) {
 #[derive(Clone, Copy)]
 enum Origin<'a> {
     StandardInput,
-    Word(&'a str),
+    /// The sources of files, and of a word.
+    Sources(&'a [&'a str], Option<&'a str>),
     Pages(&'a str),
-    File(&'a str),
+    Bytes(&'a str),
+}
+
+fn are_sources(names: &[String], word: Option<&str>, origin: &Origin) -> bool {
+    match origin {
+        Origin::Sources(files, text) => are_names(names, files) && word == *text,
+        _ => false,
+    }
 }
 
 fn is_from(commands: &Commands, origin: &Origin) -> bool {
     match commands {
         Commands::StandardInput => matches!(origin, Origin::StandardInput),
-        Commands::Word(text) => matches!(origin, Origin::Word(word) if text.as_str() == *word),
+        Commands::Sources(names, word) => are_sources(
+            names.as_slice(),
+            word.as_ref().map(|text| text.as_str()),
+            origin,
+        ),
         Commands::Pages(text) => matches!(origin, Origin::Pages(word) if text.as_str() == *word),
-        Commands::File(name) => matches!(origin, Origin::File(file) if name.as_str() == *file),
+        Commands::Bytes(name) => matches!(origin, Origin::Bytes(file) if name.as_str() == *file),
     }
 }
 
@@ -50,23 +62,38 @@ fn comes_from(alloc: Global, words: &str, origin: &Origin) -> bool {
     }
 }
 
-static SOURCES: [(&str, Origin); 15] = [
+static SOURCES: [(&str, Origin); 20] = [
     ("teco in", Origin::StandardInput),
-    ("teco -e Y$$EX$$ in", Origin::Word("Y$$EX$$")),
-    ("teco in --execute ^EX$$", Origin::Word("^EX$$")),
-    ("teco --execute=-C$$ in", Origin::Word("-C$$")),
+    ("teco -e Y$$EX$$ in", Origin::Sources(&[], Some("Y$$EX$$"))),
+    (
+        "teco in --execute ^EX$$",
+        Origin::Sources(&[], Some("^EX$$")),
+    ),
+    ("teco --execute=-C$$ in", Origin::Sources(&[], Some("-C$$"))),
     // A value may begin with a hyphen, as any other.
-    ("teco -e -C$$ in", Origin::Word("-C$$")),
-    ("teco --execute -C$$ in", Origin::Word("-C$$")),
-    ("teco -e -- in", Origin::Word("--")),
-    ("teco -e -f in", Origin::Word("-f")),
+    ("teco -e -C$$ in", Origin::Sources(&[], Some("-C$$"))),
+    ("teco --execute -C$$ in", Origin::Sources(&[], Some("-C$$"))),
+    ("teco -e -- in", Origin::Sources(&[], Some("--"))),
+    ("teco -e -f in", Origin::Sources(&[], Some("-f"))),
     ("teco -p 0K in", Origin::Pages("0K")),
     ("teco in --pages=0K", Origin::Pages("0K")),
     ("teco in more -p -C", Origin::Pages("-C")),
-    ("teco -f a in", Origin::File("a")),
-    ("teco in -fa", Origin::File("a")),
-    ("teco in --file=a", Origin::File("a")),
-    ("teco -f - in", Origin::File("-")),
+    ("teco -f a in", Origin::Sources(&["a"], None)),
+    ("teco in -fa", Origin::Sources(&["a"], None)),
+    ("teco in --file=a", Origin::Sources(&["a"], None)),
+    ("teco -f - in", Origin::Sources(&["-"], None)),
+    // The files in their order, and then the word, wherever it stands.
+    ("teco -f a -f b in", Origin::Sources(&["a", "b"], None)),
+    (
+        "teco -f b -e EX$$ --file=a in",
+        Origin::Sources(&["b", "a"], Some("EX$$")),
+    ),
+    (
+        "teco -e EX$$ -f a in",
+        Origin::Sources(&["a"], Some("EX$$")),
+    ),
+    ("teco -b a in", Origin::Bytes("a")),
+    ("teco in --bytes=-", Origin::Bytes("-")),
 ];
 
 /// Where memory was refused, a row holds the second time.
@@ -87,8 +114,11 @@ fn status_of(alloc: Global, words: &str) -> Option<u8> {
     }
 }
 
-static REFUSED: [(&str, u8); 22] = [
-    ("teco -e EX$$ -f a in", 3),
+static REFUSED: [(&str, u8); 26] = [
+    ("teco -e EX$$ -b a in", 3),
+    ("teco -f a -b a in", 3),
+    ("teco -p 0K -b a in", 3),
+    ("teco -b a -b a in", 3),
     ("teco -e EX$$ -p 0K in", 3),
     ("teco -p 0K -f a in", 3),
     ("teco -e EX$$ -e EX$$ in", 3),
@@ -100,7 +130,8 @@ static REFUSED: [(&str, u8); 22] = [
     ("teco -", 3),
     ("teco /dev/stdin", 3),
     ("teco -f - -", 3),
-    ("teco -f /dev/stdin in /dev/fd/0", 3),
+    ("teco -f a -f /dev/stdin in /dev/fd/0", 3),
+    ("teco -b - -", 3),
     ("teco -i -e EX$$ -", 3),
     ("teco -i -e EX$$ in /proc/self/fd/0", 3),
     ("teco --limit -1 in", 3),

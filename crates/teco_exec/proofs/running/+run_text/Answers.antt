@@ -1,4 +1,4 @@
-use Rattle.std.proofs.Common.{◌≡◌, ◌<◌, ◌≤◌, inl, ◌+◌, ◌-◌, ◌*◌, ◌∷◌, length, drop, None, Some, refl, sym, subst, ap, ◌∙◌, arith, rules}
+use Rattle.std.proofs.Common.{◌≡◌, ◌<◌, ◌≤◌, inl, ◌+◌, ◌-◌, ◌∷◌, length, drop, None, Some, refl, sym, subst, ap, ◌∙◌, arith, rules}
 use Rattle.std.proofs.lemmas.List.{length-drop}
 use Rattle.teco_core.specs.ArgumentsView.{arguments}
 use Rattle.teco_exec.specs.View.{cursor}
@@ -9,17 +9,17 @@ use Rattle.teco_exec.proofs.NoMemory.{begins_quietly}
 use Rattle.teco_exec.specs.Places.{IsReadAt, call_token, told_here, with_call}
 use Rattle.teco_exec.specs.declared.flow.Exit.TheVariants as ending
 use Rattle.teco_exec.proofs.Placings.{call_told_here, called_told, stood_told}
-use Rattle.teco_exec.proofs.Stepped.{call_fails, call_leads, call_unpaid, counts_on}
+use Rattle.teco_exec.proofs.Stepped.{call_fails, call_leads, call_unpaid, counts_none, counts_on, counts_one, counts_over, counts_so}
 use Rattle.teco_core.specs.declared.code.Code.TheVariants.{Pdo}
 use Rattle.teco_exec.proofs.running.+run_text.Goals as goal
 
 pub run_text-running-init : goal.run_text-running-init
 run_text-running-init g t c = record {
   text = c.begin-cursor.ensures.text;
-  counts = record { limit = refl; after = omega arith };
+  counts = counts_none (λ k b h. h);
   watch = λ knows. knows;
   quiet = begins_quietly (arguments c.args.args.now) c.args.text.now (cursor c.begin-cursor.result) c.begin-cursor.ensures.begins;
-  going = λ o callers limit deep e. begins o _ (arguments c.args.args.now) c.args.text.now c.begin-cursor.result callers c.begin-cursor.ensures.text c.begin-cursor.ensures.begins e;
+  going = λ o callers deep e. begins o _ (arguments c.args.args.now) c.args.text.now c.begin-cursor.result callers c.begin-cursor.ensures.text c.begin-cursor.ensures.begins e;
 }
 
 pub run_text-running-smaller-in-On : goal.run_text-running-smaller-in-On
@@ -29,42 +29,41 @@ run_text-running-smaller-in-On g t c =
     let short : length (drop to.at to.text.now) ≤ length c.args.text.now =
     let same : length to.text.now ≡ length c.args.text.now = ap length (ap (λ x. x.now) c.in-On.ensures.text ∙ c.running.invariant.text) in
     omega (arith, same, length-drop to.at to.text.now) in
-    let less = less_left steps.limit c.running.steps.done steps.done (length c.args.text.now) (length (cursor c.running.cursor).left) (length (cursor to).left) c.in-On.ensures.counts.after steps.within short (c.in-On.ensures.advances tt) in
-    subst (λ limit. (steps.limit - steps.done) * (length c.args.text.now + 1) + length (cursor to).left < (limit - c.running.steps.done) * (length c.args.text.now + 1) + length (cursor c.running.cursor).left) c.in-On.ensures.counts.limit less
+    less_left steps.limit c.running.steps.limit c.running.steps.done steps.done (length c.args.text.now) (length (cursor c.running.cursor).left) (length (cursor to).left) c.in-On.ensures.counts.limit c.in-On.ensures.counts.more steps.within short (c.in-On.ensures.advances tt)
 
 pub run_text-running-preserved-in-On : goal.run_text-running-preserved-in-On
 run_text-running-preserved-in-On g t c = record {
   text = ap (λ x. x.now) c.in-On.ensures.text ∙ c.running.invariant.text;
-  counts = counts_on c.running.invariant.counts c.in-On.ensures.counts;
+  counts = counts_on c.running.invariant.counts (counts_so (λ e. absurd cc) c.in-On.ensures.counts);
   watch = c.running.invariant.watch;
   quiet = λ h. c.in-On.ensures.quiet (c.running.invariant.quiet h);
-  going = λ o callers limit deep e.
-      let there = c.running.invariant.going o callers limit deep e in
-      since o _ _ _ (goes (at_cursor c.step.new.cursor callers)) there.follows (c.in-On.ensures.leads o callers (limit ∙ sym c.running.invariant.counts.limit) there.going);
+  going = λ o callers deep e.
+      let there = c.running.invariant.going o callers deep e in
+      since 0 o _ _ _ (goes (at_cursor c.step.new.cursor callers)) there.follows (c.in-On.ensures.leads o callers there.going);
 }
 
 pub run_text-returns-in-Return-clause-leads : goal.run_text-returns-in-Return-clause-leads
-run_text-returns-in-Return-clause-leads g t c o callers limit deep e =
-    let there = c.running.invariant.going o callers limit deep e in
-    since o _ _ _ (goes (at_return (arguments c.step.new.cursor.args) callers)) there.follows (c.in-Return.ensures.leads o callers (limit ∙ sym c.running.invariant.counts.limit) there.going)
+run_text-returns-in-Return-clause-leads g t c o callers deep e =
+    let there = c.running.invariant.going o callers deep e in
+    since 0 o _ _ _ (goes (at_return (arguments c.step.new.cursor.args) callers)) there.follows (c.in-Return.ensures.leads o callers there.going)
 
 pub run_text-returns-in-Over-clause-leads : goal.run_text-returns-in-Over-clause-leads
-run_text-returns-in-Over-clause-leads g t c o callers limit deep e =
-    let there = c.running.invariant.going o callers limit deep e in
-    since o _ _ _ (over None) there.follows (c.in-Over.ensures.leads o callers (limit ∙ sym c.running.invariant.counts.limit) there.going)
+run_text-returns-in-Over-clause-leads g t c o callers deep e =
+    let there = c.running.invariant.going o callers deep e in
+    since c.step.new.steps.limit o _ _ _ (over None) there.follows (c.in-Over.ensures.leads o callers there.going)
 
 pub run_text-returns-in-Fail-clause-leads : goal.run_text-returns-in-Fail-clause-leads
-run_text-returns-in-Fail-clause-leads g t c o callers limit deep e =
-    let there = c.running.invariant.going o callers limit deep e in
-    since o _ _ _ (over (Some c.in-Fail.code)) there.follows (c.in-Fail.ensures.leads o callers (limit ∙ sym c.running.invariant.counts.limit) there.going)
+run_text-returns-in-Fail-clause-leads g t c o callers deep e =
+    let there = c.running.invariant.going o callers deep e in
+    since c.step.new.steps.limit o _ _ _ (over (Some c.in-Fail.code)) there.follows (c.in-Fail.ensures.leads o callers there.going)
 
 pub run_text-returns-in-Fail-clause-no_memory : goal.run_text-returns-in-Fail-clause-no_memory
 run_text-returns-in-Fail-clause-no_memory g t c h e = c.in-Fail.ensures.quiet (c.running.invariant.quiet h) e
 
 pub run_text-returns-in-Stop-clause-leads : goal.run_text-returns-in-Stop-clause-leads
-run_text-returns-in-Stop-clause-leads g t c o callers limit deep e =
-    let there = c.running.invariant.going o callers limit deep e in
-    since o _ _ _ (stops c.in-Stop.code) there.follows (c.in-Stop.ensures.leads o callers (limit ∙ sym c.running.invariant.counts.limit) there.going)
+run_text-returns-in-Stop-clause-leads g t c o callers deep e =
+    let there = c.running.invariant.going o callers deep e in
+    since c.step.new.steps.limit o _ _ _ (stops c.in-Stop.code) there.follows (c.in-Stop.ensures.leads o callers there.going)
 
 pub run_text-returns-in-Stop-clause-no_memory : goal.run_text-returns-in-Stop-clause-no_memory
 run_text-returns-in-Stop-clause-no_memory g t c h e = c.in-Stop.ensures.quiet (c.running.invariant.quiet h) e
@@ -78,59 +77,58 @@ run_text-running-smaller g t c =
     let short : length (cursor back).left ≤ length c.args.text.now =
     let same : length to.text.now ≡ length c.args.text.now = ap length (ap (λ x. x.now) c.in-Call.ensures.text ∙ c.running.invariant.text) in
     omega (arith, same, left, length-drop to.at to.text.now) in
-    let less = less_left steps.limit c.running.steps.done steps.done (length c.args.text.now) (length (cursor c.running.cursor).left) (length (cursor back).left) (omega (arith, c.in-Call.ensures.counts.after, c.in-Return-run_called.ensures.counts.after)) steps.within short (inl (omega (arith, c.in-Call.ensures.counts.after, c.in-Return-run_called.ensures.more refl))) in
-    subst (λ limit. (steps.limit - steps.done) * (length c.args.text.now + 1) + length (cursor back).left < (limit - c.running.steps.done) * (length c.args.text.now + 1) + length (cursor c.running.cursor).left) (c.in-Return-run_called.ensures.counts.limit ∙ c.in-Call.ensures.counts.limit) less
+    less_left steps.limit c.running.steps.limit c.running.steps.done steps.done (length c.args.text.now) (length (cursor c.running.cursor).left) (length (cursor back).left) (omega (arith, c.in-Call.ensures.counts.limit, c.in-Return-run_called.ensures.counts.limit)) (omega (arith, c.in-Call.ensures.counts.more, c.in-Return-run_called.ensures.counts.more)) steps.within short (inl (omega (arith, c.in-Call.ensures.counts.more, c.in-Return-run_called.ensures.more refl)))
 
 pub run_text-running-preserved : goal.run_text-running-preserved
 run_text-running-preserved g t c = record {
   text = ap (λ x. x.now) (c.in-Return-run_called.ensures.text ∙ c.in-Call.ensures.text) ∙ c.running.invariant.text;
-  counts = counts_on c.running.invariant.counts (counts_on c.in-Call.ensures.counts c.in-Return-run_called.ensures.counts);
+  counts = counts_on c.running.invariant.counts (counts_on (counts_so (λ e. absurd cc) c.in-Call.ensures.counts) (counts_so (λ e. absurd cc) c.in-Return-run_called.ensures.counts));
   watch = λ knows. c.in-Return-run_called.ensures.told (c.running.invariant.watch knows);
   quiet = λ h. absurd (c.in-Call.ensures.quiet (c.running.invariant.quiet h));
-  going = λ o callers limit deep e.
-      let there = c.running.invariant.going o callers limit deep e in
-      let here = c.in-Call.ensures.leads o callers (limit ∙ sym c.running.invariant.counts.limit) there.going in
-      let back = c.in-Return-run_called.ensures.leads o callers (limit ∙ sym c.running.invariant.counts.limit ∙ sym c.in-Call.ensures.counts.limit) deep here.going in
+  going = λ o callers deep e.
+      let there = c.running.invariant.going o callers deep e in
+      let here = c.in-Call.ensures.leads o callers there.going in
+      let back = c.in-Return-run_called.ensures.leads o callers deep here.going in
       record { going = back.going; follows = λ floor p. back.follows floor (here.follows floor (there.follows floor p)) };
 }
 
 pub run_text-returns-in-Over-run_called-clause-leads : goal.run_text-returns-in-Over-run_called-clause-leads
-run_text-returns-in-Over-run_called-clause-leads g t c o callers limit deep e =
-    let there = c.running.invariant.going o callers limit deep e in
-    let here = c.in-Call.ensures.leads o callers (limit ∙ sym c.running.invariant.counts.limit) there.going in
+run_text-returns-in-Over-run_called-clause-leads g t c o callers deep e =
+    let there = c.running.invariant.going o callers deep e in
+    let here = c.in-Call.ensures.leads o callers there.going in
     let h = host (g.D.Desk.state c.step.new.desk) (g.D.Desk.follows c.step.new.desk) (g.T.Terminal.screen c.step.new.term) c.step.new.steps.done in
-    let r = c.in-Over-run_called.ensures.leads o callers (limit ∙ sym c.running.invariant.counts.limit ∙ sym c.in-Call.ensures.counts.limit) deep here.going in
-    since o _ h _ (over None) (λ floor p. here.follows floor (there.follows floor p)) r
+    let r = c.in-Over-run_called.ensures.leads o callers deep here.going in
+    since c.run_called.new.steps.limit o _ h _ (over None) (λ floor p. here.follows floor (there.follows floor p)) r
 
 pub run_text-returns-in-Fail-run_called-clause-leads : goal.run_text-returns-in-Fail-run_called-clause-leads
-run_text-returns-in-Fail-run_called-clause-leads g t c o callers limit deep e =
-    let there = c.running.invariant.going o callers limit deep e in
-    let here = c.in-Call.ensures.leads o callers (limit ∙ sym c.running.invariant.counts.limit) there.going in
+run_text-returns-in-Fail-run_called-clause-leads g t c o callers deep e =
+    let there = c.running.invariant.going o callers deep e in
+    let here = c.in-Call.ensures.leads o callers there.going in
     let h = host (g.D.Desk.state c.step.new.desk) (g.D.Desk.follows c.step.new.desk) (g.T.Terminal.screen c.step.new.term) c.step.new.steps.done in
-    let r = c.in-Fail-run_called.ensures.leads o callers (limit ∙ sym c.running.invariant.counts.limit ∙ sym c.in-Call.ensures.counts.limit) deep here.going in
-    since o _ h _ (over (Some c.in-Fail-run_called.code)) (λ floor p. here.follows floor (there.follows floor p)) r
+    let r = c.in-Fail-run_called.ensures.leads o callers deep here.going in
+    since c.run_called.new.steps.limit o _ h _ (over (Some c.in-Fail-run_called.code)) (λ floor p. here.follows floor (there.follows floor p)) r
 
 pub run_text-returns-in-Fail-run_called-clause-no_memory : goal.run_text-returns-in-Fail-run_called-clause-no_memory
 run_text-returns-in-Fail-run_called-clause-no_memory g t c h e = c.in-Call.ensures.quiet (c.running.invariant.quiet h)
 
 pub run_text-returns-in-Stop-run_called-clause-leads : goal.run_text-returns-in-Stop-run_called-clause-leads
-run_text-returns-in-Stop-run_called-clause-leads g t c o callers limit deep e =
-    let there = c.running.invariant.going o callers limit deep e in
-    let here = c.in-Call.ensures.leads o callers (limit ∙ sym c.running.invariant.counts.limit) there.going in
+run_text-returns-in-Stop-run_called-clause-leads g t c o callers deep e =
+    let there = c.running.invariant.going o callers deep e in
+    let here = c.in-Call.ensures.leads o callers there.going in
     let h = host (g.D.Desk.state c.step.new.desk) (g.D.Desk.follows c.step.new.desk) (g.T.Terminal.screen c.step.new.term) c.step.new.steps.done in
-    let r = c.in-Stop-run_called.ensures.leads o callers (limit ∙ sym c.running.invariant.counts.limit ∙ sym c.in-Call.ensures.counts.limit) deep here.going in
-    since o _ h _ (stops c.in-Stop-run_called.code) (λ floor p. here.follows floor (there.follows floor p)) r
+    let r = c.in-Stop-run_called.ensures.leads o callers deep here.going in
+    since c.run_called.new.steps.limit o _ h _ (stops c.in-Stop-run_called.code) (λ floor p. here.follows floor (there.follows floor p)) r
 
 pub run_text-returns-in-Stop-run_called-clause-no_memory : goal.run_text-returns-in-Stop-run_called-clause-no_memory
 run_text-returns-in-Stop-run_called-clause-no_memory g t c h e = c.in-Call.ensures.quiet (c.running.invariant.quiet h)
 
-pub run_called-returns-then-steps-clause-leads : goal.run_called-returns-then-steps-clause-leads
-run_called-returns-then-steps-clause-leads g t c o callers limit deep e =
-    call_unpaid c.args.cursor.now c.args.q callers o _ e (c.if-steps.true ∙ sym limit)
+pub run_called-returns-then-are_over-clause-leads : goal.run_called-returns-then-are_over-clause-leads
+run_called-returns-then-are_over-clause-leads g t c o callers deep e =
+    call_unpaid c.args.cursor.now c.args.q callers o _ e c.args.steps.now.done refl
 
 pub run_called-returns-in-Err-clause-leads : goal.run_called-returns-in-Err-clause-leads
-run_called-returns-in-Err-clause-leads g t c o callers limit deep e =
-    call_fails c.args.cursor.now c.args.q callers o _ e (omega (arith, limit, c.args.steps.now.within, c.if-steps.false))
+run_called-returns-in-Err-clause-leads g t c o callers deep e =
+    call_fails c.args.cursor.now c.args.q callers o _ e c.args.steps.now.limit (c.are_over.ensures.left c.if-are_over.false)
 
 pub run_text-returns-in-Return-clause-told : goal.run_text-returns-in-Return-clause-told
 run_text-returns-in-Return-clause-told g t c knows = c.running.invariant.watch knows
@@ -147,10 +145,10 @@ run_text-returns-in-Fail-run_called-clause-told g t c knows =
       told.0,
       told.1,
       told.2,
-      λ o callers limit deep e.
-          let there = c.running.invariant.going o callers limit deep e in
-          let here = c.in-Call.ensures.leads o callers (limit ∙ sym c.running.invariant.counts.limit) there.going in
-          told.3 o callers (limit ∙ sym c.running.invariant.counts.limit ∙ sym c.in-Call.ensures.counts.limit) deep here.going,
+      λ o callers deep e.
+          let there = c.running.invariant.going o callers deep e in
+          let here = c.in-Call.ensures.leads o callers there.going in
+          told.3 o callers deep here.going,
     )
 
 pub run_text-returns-in-Stop-run_called-clause-told : goal.run_text-returns-in-Stop-run_called-clause-told
@@ -159,10 +157,10 @@ run_text-returns-in-Stop-run_called-clause-told g t c knows =
       told.0,
       told.1,
       told.2,
-      λ o callers limit deep e.
-          let there = c.running.invariant.going o callers limit deep e in
-          let here = c.in-Call.ensures.leads o callers (limit ∙ sym c.running.invariant.counts.limit) there.going in
-          told.3 o callers (limit ∙ sym c.running.invariant.counts.limit ∙ sym c.in-Call.ensures.counts.limit) deep here.going,
+      λ o callers deep e.
+          let there = c.running.invariant.going o callers deep e in
+          let here = c.in-Call.ensures.leads o callers there.going in
+          told.3 o callers deep here.going,
     )
 
 pub run_text-returns-in-Fail-clause-told : goal.run_text-returns-in-Fail-clause-told
@@ -172,10 +170,10 @@ run_text-returns-in-Fail-clause-told g t c knows =
       told_here (done - 1) c.step.new.cursor.text.now told.0 (cursor c.step.new.cursor).blocks,
       told.2,
       omega (arith, c.in-Fail.ensures.stood.0),
-      λ o callers limit deep e.
-          let there = c.running.invariant.going o callers limit deep e in
+      λ o callers deep e.
+          let there = c.running.invariant.going o callers deep e in
           stood_told o (done - 1) c.running.cursor c.step.new.cursor callers told.0
-          (c.in-Fail.ensures.stood.1 o callers (limit ∙ sym c.running.invariant.counts.limit) there.going) c.in-Fail.ensures.text c.in-Fail.ensures.around.1 told.1,
+          (c.in-Fail.ensures.stood.1 o callers there.going) c.in-Fail.ensures.text c.in-Fail.ensures.around.1 told.1,
     )
 
 pub run_text-returns-in-Stop-clause-told : goal.run_text-returns-in-Stop-clause-told
@@ -184,19 +182,19 @@ run_text-returns-in-Stop-clause-told g t c knows =
       told_here c.step.new.steps.done c.step.new.cursor.text.now told.0 (cursor c.step.new.cursor).blocks,
       told.2,
       refl,
-      λ o callers limit deep e.
-          let there = c.running.invariant.going o callers limit deep e in
+      λ o callers deep e.
+          let there = c.running.invariant.going o callers deep e in
           stood_told o c.step.new.steps.done c.running.cursor c.step.new.cursor callers told.0
-          (c.in-Stop.ensures.stood o callers (limit ∙ sym c.running.invariant.counts.limit) there.going) c.in-Stop.ensures.text c.in-Stop.ensures.around told.1,
+          (c.in-Stop.ensures.stood o callers there.going) c.in-Stop.ensures.text c.in-Stop.ensures.around told.1,
     )
 
-pub run_called-returns-then-steps-clause-told : goal.run_called-returns-then-steps-clause-told
-run_called-returns-then-steps-clause-told g t c knows =
+pub run_called-returns-then-are_over-clause-told : goal.run_called-returns-then-are_over-clause-told
+run_called-returns-then-are_over-clause-told g t c knows =
     let told = c.stood.ensures knows in (
       told_here c.args.steps.now.done c.args.cursor.now.text.now told.0 (cursor c.args.cursor.now).blocks,
       told.2,
       refl,
-      λ o callers limit deep e.
+      λ o callers deep e.
           call_told_here o _ c.args.cursor.now c.args.q c.args.at told.0 c.args.steps.now.done callers refl e c.requires.token told.1,
     )
 
@@ -206,18 +204,18 @@ run_called-returns-in-Err-clause-told g t c knows =
       told_here c.args.steps.now.done c.args.cursor.now.text.now told.0 (cursor c.args.cursor.now).blocks,
       told.2,
       refl,
-      λ o callers limit deep e.
+      λ o callers deep e.
           call_told_here o _ c.args.cursor.now c.args.q c.args.at told.0 c.args.steps.now.done callers refl e c.requires.token told.1,
     )
 
 pub run_copy-returns-then-depth-eq-CALL_LIMIT-clause-leads : goal.run_copy-returns-then-depth-eq-CALL_LIMIT-clause-leads
-run_copy-returns-then-depth-eq-CALL_LIMIT-clause-leads g t c o callers limit deep e =
+run_copy-returns-then-depth-eq-CALL_LIMIT-clause-leads g t c o callers deep e =
     let h = host (g.D.Desk.state c.step_done.new.self) (g.D.Desk.follows c.step_done.new.self) (g.T.Terminal.screen c.args.term.now) c.count.new.self.done in
     let from = c.args.cursor.now in
     let there = call_leads from c.args.q callers o _ e c.count.new.self.done c.count.ensures.done (g.D.Desk.state c.step_done.new.self) c.step_done.ensures.state (g.D.Desk.follows c.step_done.new.self)
     (g.met.D.Desk.eases c.args.desk.now) c.step_done.ensures.follows c.args.called.now c.requires.copy in
-    since o _ h _ (over (Some Pdo)) there.follows
-    (too_deep o h from c.args.called.now callers there.going (deep ∙ c.if-depth-eq-CALL_LIMIT.true) (omega (arith, limit, c.count.new.self.within, c.count.ensures.limit)))
+    since c.count.new.self.limit o _ h _ (over (Some Pdo)) there.follows
+    (too_deep o h from c.args.called.now callers there.going c.count.new.self.limit (deep ∙ c.if-depth-eq-CALL_LIMIT.true) c.count.new.self.within)
 
 pub run_copy-returns-then-depth-eq-CALL_LIMIT-clause-told : goal.run_copy-returns-then-depth-eq-CALL_LIMIT-clause-told
 run_copy-returns-then-depth-eq-CALL_LIMIT-clause-told g t c knows =
@@ -227,12 +225,12 @@ run_copy-returns-then-depth-eq-CALL_LIMIT-clause-told g t c knows =
       told_here before c.args.cursor.now.text.now told.0 (cursor c.args.cursor.now).blocks,
       told.2,
       omega (arith, c.count.ensures.done),
-      λ o callers limit deep e.
+      λ o callers deep e.
           call_told_here o _ c.args.cursor.now c.args.q c.args.at told.0 before callers same e c.requires.token told.1,
     )
 
 pub run_copy-returns-in-Return-clause-leads : goal.run_copy-returns-in-Return-clause-leads
-run_copy-returns-in-Return-clause-leads g t c o callers limit deep e =
+run_copy-returns-in-Return-clause-leads g t c o callers deep e =
     let from = c.args.cursor.now in
     let left = c.run_text.new.args in
     let h = host (g.D.Desk.state c.step_done.new.self) (g.D.Desk.follows c.step_done.new.self) (g.T.Terminal.screen c.args.term.now) c.count.new.self.done in
@@ -242,12 +240,12 @@ run_copy-returns-in-Return-clause-leads g t c o callers limit deep e =
     let fewer : length callers < 32 = omega (arith, deep, c.requires.deep, c.if-depth-eq-CALL_LIMIT.false) in
     let into = enters o h from c.args.called.now callers there.going fewer in
     let deeper : length (caller from ∷ callers) ≡ c.args.depth + 1 = omega (arith, deep) in
-    since o _ h k (reached_after_call (record from { args = left }) callers ending.Return) there.follows
-    (comes_home o h k (arguments left) from (record from { args = left }) callers refl refl ending.Return
-    (c.in-Return.ensures.leads o (caller from ∷ callers) (limit ∙ sym c.count.ensures.limit) deeper into.going))
+    since 0 o _ h k (reached_after_call (record from { args = left }) callers ending.Return) there.follows
+    (comes_home 0 o h k (arguments left) from (record from { args = left }) callers refl refl ending.Return
+    (c.in-Return.ensures.leads o (caller from ∷ callers) deeper into.going))
 
 pub run_copy-returns-in-Over-clause-leads : goal.run_copy-returns-in-Over-clause-leads
-run_copy-returns-in-Over-clause-leads g t c o callers limit deep e =
+run_copy-returns-in-Over-clause-leads g t c o callers deep e =
     let from = c.args.cursor.now in
     let left = c.run_text.new.args in
     let h = host (g.D.Desk.state c.step_done.new.self) (g.D.Desk.follows c.step_done.new.self) (g.T.Terminal.screen c.args.term.now) c.count.new.self.done in
@@ -257,12 +255,12 @@ run_copy-returns-in-Over-clause-leads g t c o callers limit deep e =
     let fewer : length callers < 32 = omega (arith, deep, c.requires.deep, c.if-depth-eq-CALL_LIMIT.false) in
     let into = enters o h from c.args.called.now callers there.going fewer in
     let deeper : length (caller from ∷ callers) ≡ c.args.depth + 1 = omega (arith, deep) in
-    since o _ h k (reached_after_call (record from { args = left }) callers ending.Over) there.follows
-    (comes_home o h k (arguments left) from (record from { args = left }) callers refl refl ending.Over
-    (c.in-Over.ensures.leads o (caller from ∷ callers) (limit ∙ sym c.count.ensures.limit) deeper into.going))
+    since c.run_text.new.steps.limit o _ h k (reached_after_call (record from { args = left }) callers ending.Over) there.follows
+    (comes_home c.run_text.new.steps.limit o h k (arguments left) from (record from { args = left }) callers refl refl ending.Over
+    (c.in-Over.ensures.leads o (caller from ∷ callers) deeper into.going))
 
 pub run_copy-returns-in-Fail-clause-leads : goal.run_copy-returns-in-Fail-clause-leads
-run_copy-returns-in-Fail-clause-leads g t c o callers limit deep e =
+run_copy-returns-in-Fail-clause-leads g t c o callers deep e =
     let from = c.args.cursor.now in
     let left = c.run_text.new.args in
     let h = host (g.D.Desk.state c.step_done.new.self) (g.D.Desk.follows c.step_done.new.self) (g.T.Terminal.screen c.args.term.now) c.count.new.self.done in
@@ -272,12 +270,12 @@ run_copy-returns-in-Fail-clause-leads g t c o callers limit deep e =
     let fewer : length callers < 32 = omega (arith, deep, c.requires.deep, c.if-depth-eq-CALL_LIMIT.false) in
     let into = enters o h from c.args.called.now callers there.going fewer in
     let deeper : length (caller from ∷ callers) ≡ c.args.depth + 1 = omega (arith, deep) in
-    since o _ h k (reached_after_call (record from { args = left }) callers (ending.Fail c.in-Fail.code)) there.follows
-    (comes_home o h k (arguments left) from (record from { args = left }) callers refl refl (ending.Fail c.in-Fail.code)
-    (c.in-Fail.ensures.leads o (caller from ∷ callers) (limit ∙ sym c.count.ensures.limit) deeper into.going))
+    since c.run_text.new.steps.limit o _ h k (reached_after_call (record from { args = left }) callers (ending.Fail c.in-Fail.code)) there.follows
+    (comes_home c.run_text.new.steps.limit o h k (arguments left) from (record from { args = left }) callers refl refl (ending.Fail c.in-Fail.code)
+    (c.in-Fail.ensures.leads o (caller from ∷ callers) deeper into.going))
 
 pub run_copy-returns-in-Stop-clause-leads : goal.run_copy-returns-in-Stop-clause-leads
-run_copy-returns-in-Stop-clause-leads g t c o callers limit deep e =
+run_copy-returns-in-Stop-clause-leads g t c o callers deep e =
     let from = c.args.cursor.now in
     let left = c.run_text.new.args in
     let h = host (g.D.Desk.state c.step_done.new.self) (g.D.Desk.follows c.step_done.new.self) (g.T.Terminal.screen c.args.term.now) c.count.new.self.done in
@@ -287,9 +285,9 @@ run_copy-returns-in-Stop-clause-leads g t c o callers limit deep e =
     let fewer : length callers < 32 = omega (arith, deep, c.requires.deep, c.if-depth-eq-CALL_LIMIT.false) in
     let into = enters o h from c.args.called.now callers there.going fewer in
     let deeper : length (caller from ∷ callers) ≡ c.args.depth + 1 = omega (arith, deep) in
-    since o _ h k (reached_after_call (record from { args = left }) callers (ending.Stop c.in-Stop.code)) there.follows
-    (comes_home o h k (arguments left) from (record from { args = left }) callers refl refl (ending.Stop c.in-Stop.code)
-    (c.in-Stop.ensures.leads o (caller from ∷ callers) (limit ∙ sym c.count.ensures.limit) deeper into.going))
+    since c.run_text.new.steps.limit o _ h k (reached_after_call (record from { args = left }) callers (ending.Stop c.in-Stop.code)) there.follows
+    (comes_home c.run_text.new.steps.limit o h k (arguments left) from (record from { args = left }) callers refl refl (ending.Stop c.in-Stop.code)
+    (c.in-Stop.ensures.leads o (caller from ∷ callers) deeper into.going))
 
 pub run_copy-returns-in-Return-clause-told : goal.run_copy-returns-in-Return-clause-told
 run_copy-returns-in-Return-clause-told g t c knows = c.in-Return.ensures.told knows
@@ -305,7 +303,7 @@ run_copy-returns-in-Fail-clause-told g t c knows =
       with_call told.0 c.args.q more.0 (cursor from).blocks,
       more.2,
       told.2,
-      λ o callers limit deep e.
+      λ o callers deep e.
           let h = host (g.D.Desk.state c.step_done.new.self) (g.D.Desk.follows c.step_done.new.self) (g.T.Terminal.screen c.args.term.now) c.count.new.self.done in
           let there = call_leads from c.args.q callers o _ e c.count.new.self.done c.count.ensures.done (g.D.Desk.state c.step_done.new.self) c.step_done.ensures.state (g.D.Desk.follows c.step_done.new.self)
           (g.met.D.Desk.eases c.args.desk.now) c.step_done.ensures.follows c.args.called.now c.requires.copy in
@@ -313,7 +311,7 @@ run_copy-returns-in-Fail-clause-told g t c knows =
           let into = enters o h from c.args.called.now callers there.going fewer in
           let deeper : length (caller from ∷ callers) ≡ c.args.depth + 1 = omega (arith, deep) in
           called_told o from c.args.q c.args.at more.0 callers told.0
-          (told.3 o (caller from ∷ callers) (limit ∙ sym c.count.ensures.limit) deeper into.going) c.requires.token more.1,
+          (told.3 o (caller from ∷ callers) deeper into.going) c.requires.token more.1,
     )
 
 pub run_copy-returns-in-Stop-clause-told : goal.run_copy-returns-in-Stop-clause-told
@@ -324,7 +322,7 @@ run_copy-returns-in-Stop-clause-told g t c knows =
       with_call told.0 c.args.q more.0 (cursor from).blocks,
       more.2,
       told.2,
-      λ o callers limit deep e.
+      λ o callers deep e.
           let h = host (g.D.Desk.state c.step_done.new.self) (g.D.Desk.follows c.step_done.new.self) (g.T.Terminal.screen c.args.term.now) c.count.new.self.done in
           let there = call_leads from c.args.q callers o _ e c.count.new.self.done c.count.ensures.done (g.D.Desk.state c.step_done.new.self) c.step_done.ensures.state (g.D.Desk.follows c.step_done.new.self)
           (g.met.D.Desk.eases c.args.desk.now) c.step_done.ensures.follows c.args.called.now c.requires.copy in
@@ -332,7 +330,7 @@ run_copy-returns-in-Stop-clause-told g t c knows =
           let into = enters o h from c.args.called.now callers there.going fewer in
           let deeper : length (caller from ∷ callers) ≡ c.args.depth + 1 = omega (arith, deep) in
           called_told o from c.args.q c.args.at more.0 callers told.0
-          (told.3 o (caller from ∷ callers) (limit ∙ sym c.count.ensures.limit) deeper into.going) c.requires.token more.1,
+          (told.3 o (caller from ∷ callers) deeper into.going) c.requires.token more.1,
     )
 
 pub run_text-run_called-requires : goal.run_text-run_called-requires
@@ -348,3 +346,48 @@ run_text-stood-requires g t c = subst (λ x. c.running.cursor.at ≤ length x.no
 
 pub run_text-stood-requires-in-Stop : goal.run_text-stood-requires-in-Stop
 run_text-stood-requires-in-Stop g t c = subst (λ x. c.running.cursor.at ≤ length x.now) (sym c.in-Stop.ensures.text) c.running.cursor.within
+
+pub run_text-returns-in-Return-clause-counts : goal.run_text-returns-in-Return-clause-counts
+run_text-returns-in-Return-clause-counts g t c = counts_on c.running.invariant.counts (counts_so (λ e. absurd cc) c.in-Return.ensures.counts)
+
+pub run_text-returns-in-Over-clause-counts : goal.run_text-returns-in-Over-clause-counts
+run_text-returns-in-Over-clause-counts g t c = counts_on c.running.invariant.counts (counts_so (λ e. absurd cc) c.in-Over.ensures.counts)
+
+pub run_text-returns-in-Fail-clause-counts : goal.run_text-returns-in-Fail-clause-counts
+run_text-returns-in-Fail-clause-counts g t c = counts_on c.running.invariant.counts (counts_so (λ e. absurd cc) c.in-Fail.ensures.counts)
+
+pub run_text-returns-in-Stop-clause-counts : goal.run_text-returns-in-Stop-clause-counts
+run_text-returns-in-Stop-clause-counts g t c = counts_on c.running.invariant.counts (counts_so (λ e. cc) c.in-Stop.ensures.counts)
+
+pub run_text-returns-in-Over-run_called-clause-counts : goal.run_text-returns-in-Over-run_called-clause-counts
+run_text-returns-in-Over-run_called-clause-counts g t c =
+    counts_on c.running.invariant.counts (counts_on (counts_so (λ e. absurd cc) c.in-Call.ensures.counts) (counts_so (λ e. absurd cc) c.in-Over-run_called.ensures.counts))
+
+pub run_text-returns-in-Fail-run_called-clause-counts : goal.run_text-returns-in-Fail-run_called-clause-counts
+run_text-returns-in-Fail-run_called-clause-counts g t c =
+    counts_on c.running.invariant.counts (counts_on (counts_so (λ e. absurd cc) c.in-Call.ensures.counts) (counts_so (λ e. absurd cc) c.in-Fail-run_called.ensures.counts))
+
+pub run_text-returns-in-Stop-run_called-clause-counts : goal.run_text-returns-in-Stop-run_called-clause-counts
+run_text-returns-in-Stop-run_called-clause-counts g t c =
+    counts_on c.running.invariant.counts (counts_on (counts_so (λ e. absurd cc) c.in-Call.ensures.counts) (counts_so (λ e. cc) c.in-Stop-run_called.ensures.counts))
+
+pub run_called-returns-then-are_over-clause-counts : goal.run_called-returns-then-are_over-clause-counts
+run_called-returns-then-are_over-clause-counts g t c = counts_over c.are_over.ensures.still (c.are_over.ensures.over c.if-are_over.true) refl refl refl
+
+pub run_called-returns-in-Err-clause-counts : goal.run_called-returns-in-Err-clause-counts
+run_called-returns-in-Err-clause-counts g t c = counts_none c.are_over.ensures.still
+
+pub run_copy-returns-then-depth-eq-CALL_LIMIT-clause-counts : goal.run_copy-returns-then-depth-eq-CALL_LIMIT-clause-counts
+run_copy-returns-then-depth-eq-CALL_LIMIT-clause-counts g t c = counts_one (λ k b h. h) c.requires.lets c.count.ensures.limit c.count.ensures.done
+
+pub run_copy-returns-in-Return-clause-counts : goal.run_copy-returns-in-Return-clause-counts
+run_copy-returns-in-Return-clause-counts g t c = counts_on (counts_one (λ k b h. h) c.requires.lets c.count.ensures.limit c.count.ensures.done) c.in-Return.ensures.counts
+
+pub run_copy-returns-in-Over-clause-counts : goal.run_copy-returns-in-Over-clause-counts
+run_copy-returns-in-Over-clause-counts g t c = counts_on (counts_one (λ k b h. h) c.requires.lets c.count.ensures.limit c.count.ensures.done) c.in-Over.ensures.counts
+
+pub run_copy-returns-in-Fail-clause-counts : goal.run_copy-returns-in-Fail-clause-counts
+run_copy-returns-in-Fail-clause-counts g t c = counts_on (counts_one (λ k b h. h) c.requires.lets c.count.ensures.limit c.count.ensures.done) c.in-Fail.ensures.counts
+
+pub run_copy-returns-in-Stop-clause-counts : goal.run_copy-returns-in-Stop-clause-counts
+run_copy-returns-in-Stop-clause-counts g t c = counts_on (counts_one (λ k b h. h) c.requires.lets c.count.ensures.limit c.count.ensures.done) c.in-Stop.ensures.counts

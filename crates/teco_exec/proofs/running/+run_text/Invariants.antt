@@ -20,10 +20,10 @@ decreases-run_copy g l = 3 * (32 - l.depth)
 abbrev pub invariant-run_text-running : goal.invariant-run_text-running
 invariant-run_text-running g l = record {
   text : l.cursor.text.now ≡ l.text;
-  counts : CountsSteps l.fn.steps l.steps;
+  counts : CountsSteps (g.S.Stop.answered l.fn.stop) (g.S.Stop.answered l.stop) ⊥ l.fn.steps l.steps;
   watch : g.W.Watch.knows l.fn.watch None → g.W.Watch.knows l.watch None;
   quiet : takes_no_memory (nodes l.text) ≡ true → IsQuiet (cursor l.cursor);
-  going : (o : Origin) (callers : List Caller) → o.limit ≡ l.fn.steps.limit → length callers ≡ l.depth
+  going : (o : Origin) (callers : List Caller) → length callers ≡ l.depth
       → RunGoesOn o (host (g.D.Desk.state l.fn.desk) (g.D.Desk.follows l.fn.desk) (g.T.Terminal.screen l.fn.term) l.fn.steps.done) (at_beginning (arguments l.fn.args) l.text callers)
       → ReachesContinuation o (host (g.D.Desk.state l.fn.desk) (g.D.Desk.follows l.fn.desk) (g.T.Terminal.screen l.fn.term) l.fn.steps.done)
       (host (g.D.Desk.state l.desk) (g.D.Desk.follows l.desk) (g.T.Terminal.screen l.term) l.steps.done) (at_cursor l.cursor callers);

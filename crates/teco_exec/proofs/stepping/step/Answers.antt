@@ -1,10 +1,11 @@
 use Rattle.std.proofs.Common.{[], None, inr, length, subst, arith, ap}
-use Rattle.teco_exec.specs.Running.{at_cursor, at_block_step, at_return, at_token, goes, stops, token_standing}
+use Rattle.teco_exec.specs.Running.{at_cursor, at_block_step, at_return, at_token, stops, token_standing}
 use Rattle.teco_core.specs.ArgumentsView.{arguments}
 use Rattle.teco_exec.specs.Quiet.{QuietComing}
 use Rattle.teco_exec.specs.View.{IsStepFound, coming_of_found, cursor}
-use Rattle.teco_exec.proofs.Going.{settles}
+use Rattle.teco_exec.proofs.Going.{continues, settles}
 use Rattle.teco_exec.proofs.Continuations.{comes_block, comes_fault, comes_over, comes_token, passes_on, passes_short}
+use Rattle.teco_exec.proofs.Stepped.{counts_none}
 use Rattle.teco_exec.proofs.NoMemory.{comes_quietly, kind_quietly}
 use Rattle.teco_exec.proofs.Standings.{block_stands, fault_stands, flow_read, last_blocks, on_call, on_last, token_blocks, token_is}
 use Rattle.teco_exec.specs.declared.cursor.Cursor.{Cursor}
@@ -15,30 +16,30 @@ pub returns-in-Passed-clause-advances : goal.returns-in-Passed-clause-advances
 returns-in-Passed-clause-advances g c goes_on = inr (passes_short c.block_laws.ensures c.args.cursor.now c.pass.new.self c.token_at-found.result [] c.in-Passed.ensures.comes)
 
 pub returns-in-Passed-clause-leads : goal.returns-in-Passed-clause-leads
-returns-in-Passed-clause-leads g c o callers limit at =
-    settles o _ _ at (goes (at_cursor c.pass.new.self callers)) tt (omega (arith, limit, c.args.steps.now.within))
+returns-in-Passed-clause-leads g c o callers at =
+    continues o _ _ at (at_cursor c.pass.new.self callers)
     (passes_on c.block_laws.ensures c.args.cursor.now c.pass.new.self c.token_at-found.result callers c.in-Passed.ensures.text c.in-Passed.ensures.comes)
 
 pub returns-in-Token-clause-leads : goal.returns-in-Token-clause-leads
-returns-in-Token-clause-leads g c o callers limit at =
-    c.token_steps.ensures.leads o callers limit
-    (settles o _ _ at (goes (at_token c.pass.new.self c.in-Token.token None callers)) tt (omega (arith, limit, c.args.steps.now.within))
+returns-in-Token-clause-leads g c o callers at =
+    c.token_steps.ensures.leads o callers
+    (continues o _ _ at (at_token c.pass.new.self c.in-Token.token None callers)
     (comes_token c.block_laws.ensures c.args.cursor.now c.pass.new.self c.token_at-found.result callers c.in-Step.ensures.text c.in-Token.token c.in-Token.is c.in-Step.ensures.comes)).going
 
 pub returns-in-Block-clause-leads : goal.returns-in-Block-clause-leads
-returns-in-Block-clause-leads g c o callers limit at =
-    c.block_step.ensures.leads (g.T.Terminal.screen c.args.term.now) o callers limit
-    (settles o _ _ at (goes (at_block_step c.pass.new.self c.in-Block.block c.in-Block.to callers)) tt (omega (arith, limit, c.args.steps.now.within))
+returns-in-Block-clause-leads g c o callers at =
+    c.block_step.ensures.leads (g.T.Terminal.screen c.args.term.now) o callers
+    (continues o _ _ at (at_block_step c.pass.new.self c.in-Block.block c.in-Block.to callers)
     (comes_block c.block_laws.ensures c.args.cursor.now c.pass.new.self c.token_at-found.result callers c.in-Block.ensures.told.2 c.in-Block.block c.in-Block.to c.in-Block.ensures.comes)).going
 
 pub returns-in-End-clause-leads : goal.returns-in-End-clause-leads
-returns-in-End-clause-leads g c o callers limit at =
-    settles o _ _ at (goes (at_return (arguments c.pass.new.self.args) callers)) tt (omega (arith, limit, c.args.steps.now.within))
+returns-in-End-clause-leads g c o callers at =
+    continues o _ _ at (at_return (arguments c.pass.new.self.args) callers)
     (comes_over c.block_laws.ensures c.args.cursor.now c.pass.new.self c.token_at-found.result callers c.in-End.ensures.told c.in-End.ensures.comes)
 
 pub returns-in-Fault-clause-leads : goal.returns-in-Fault-clause-leads
-returns-in-Fault-clause-leads g c o callers limit at =
-    settles o _ _ at (stops c.in-Fault.code) c.in-Fault.ensures.told.0 (omega (arith, limit, c.args.steps.now.within))
+returns-in-Fault-clause-leads g c o callers at =
+    settles o _ _ at c.args.steps.now.limit (stops c.in-Fault.code) c.in-Fault.ensures.told.0 (omega (arith, c.args.steps.now.within))
     (comes_fault c.block_laws.ensures c.args.cursor.now c.pass.new.self c.token_at-found.result callers c.in-Fault.code c.in-Fault.ensures.comes)
 
 pub returns-in-Block-clause-quiet : goal.returns-in-Block-clause-quiet
@@ -57,7 +58,7 @@ pub returns-in-Fault-clause-around : goal.returns-in-Fault-clause-around
 returns-in-Fault-clause-around g c = ap (λ (x : Cursor). (cursor x).blocks) c.in-Fault.ensures.told.1
 
 pub returns-in-Fault-clause-stood : goal.returns-in-Fault-clause-stood
-returns-in-Fault-clause-stood g c o callers limit at =
+returns-in-Fault-clause-stood g c o callers at =
     fault_stands c.block_laws.ensures o _ c.args.cursor.now c.pass.new.self c.token_at-found.result c.in-Fault.code callers c.in-Fault.ensures.comes at
 
 pub returns-in-Block-clause-around : goal.returns-in-Block-clause-around
@@ -70,9 +71,9 @@ returns-in-Block-clause-calls g c = on_call c.block_step.result (λ q x. absurd 
 
 pub returns-in-Block-clause-stood : goal.returns-in-Block-clause-stood
 returns-in-Block-clause-stood g c =
-    on_last c.block_step.result c.block_step.new.steps.done (λ k same o callers limit at.
+    on_last c.block_step.result c.block_step.new.steps.done (λ k same o callers at.
     block_stands o _ c.args.cursor.now c.pass.new.self c.in-Block.block c.in-Block.to k callers same c.in-Block.ensures.told.2
-    (settles o _ _ at (goes (at_block_step c.pass.new.self c.in-Block.block c.in-Block.to callers)) tt (omega (arith, limit, c.args.steps.now.within))
+    (continues o _ _ at (at_block_step c.pass.new.self c.in-Block.block c.in-Block.to callers)
     (comes_block c.block_laws.ensures c.args.cursor.now c.pass.new.self c.token_at-found.result callers c.in-Block.ensures.told.2 c.in-Block.block c.in-Block.to c.in-Block.ensures.comes)).going) c.block_step.ensures.stood
 
 pub returns-in-Token-clause-around : goal.returns-in-Token-clause-around
@@ -94,10 +95,19 @@ pub returns-in-Token-clause-stood : goal.returns-in-Token-clause-stood
 returns-in-Token-clause-stood g c =
     let to = c.pass.new.self in
     let told = subst (λ f. IsStepFound to.text.now f) c.in-Token.is c.in-Step.ensures.told in
-    on_last c.token_steps.result c.token_steps.new.steps.done (λ k h o callers limit at. record {
+    on_last c.token_steps.result c.token_steps.new.steps.done (λ k h o callers at. record {
       there = token_standing to c.in-Token.token callers;
-      stands = h o callers limit
-          (settles o _ _ at (goes (at_token to c.in-Token.token None callers)) tt (omega (arith, limit, c.args.steps.now.within))
+      stands = h o callers
+          (continues o _ _ at (at_token to c.in-Token.token None callers)
           (comes_token c.block_laws.ensures c.args.cursor.now to c.token_at-found.result callers c.in-Step.ensures.text c.in-Token.token c.in-Token.is c.in-Step.ensures.comes)).going;
       is = token_is c.args.cursor.now to c.token_at-found.result c.in-Token.token c.in-Token.is c.token_at-found.ensures.read c.in-Step.ensures.comes c.in-Step.ensures.text (length to.text.now, told) callers;
     }) c.token_steps.ensures.stood
+
+pub returns-in-Passed-clause-counts : goal.returns-in-Passed-clause-counts
+returns-in-Passed-clause-counts g c = counts_none (λ k b h. h)
+
+pub returns-in-End-clause-counts : goal.returns-in-End-clause-counts
+returns-in-End-clause-counts g c = counts_none (λ k b h. h)
+
+pub returns-in-Fault-clause-counts : goal.returns-in-Fault-clause-counts
+returns-in-Fault-clause-counts g c = counts_none (λ k b h. h)

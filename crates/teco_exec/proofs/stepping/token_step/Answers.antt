@@ -1,36 +1,36 @@
-use Rattle.std.proofs.Common.{refl, sym, ◌∙◌, arith}
+use Rattle.std.proofs.Common.{refl, arith}
 use Rattle.teco_core.specs.ArgumentsView.{arguments}
 use Rattle.teco_step.specs.Stepping.{name_in}
-use Rattle.teco_exec.specs.Running.{at_register_call, goes}
+use Rattle.teco_exec.specs.Running.{at_register_call}
 use Rattle.teco_exec.specs.Tokens.{reached_by_progress}
-use Rattle.teco_exec.proofs.Going.{limit_ends, settles}
-use Rattle.teco_exec.proofs.Stepped.{calls_same, never_calls, token_fails, token_goes, progress_finishes}
+use Rattle.teco_exec.proofs.Going.{continues, limit_ends}
+use Rattle.teco_exec.proofs.Stepped.{calls_same, counts_none, counts_one, counts_over, never_calls, token_fails, token_goes, progress_finishes}
 use Rattle.teco_exec.proofs.Standings.{counted, no_call, progress_stays_on}
 use Rattle.teco_exec.proofs.stepping.token_step.Goals as goal
 
 pub returns-in-Some-clause-leads : goal.returns-in-Some-clause-leads
-returns-in-Some-clause-leads g c o callers limit at =
-    settles o _ _ at (goes (at_register_call c.args.cursor.now c.in-Some.q callers)) tt (omega (arith, limit, c.args.steps.now.within))
+returns-in-Some-clause-leads g c o callers at =
+    continues o _ _ at (at_register_call c.args.cursor.now c.in-Some.q callers)
     (λ now. calls_same c.args.cursor.now c.args.token.now c.args.work c.in-Some.q callers now c.in-Some.ensures)
 
-pub returns-then-steps-clause-leads : goal.returns-then-steps-clause-leads
-returns-then-steps-clause-leads g c o callers limit at = limit_ends o _ _ at (c.if-steps.true ∙ sym limit) (λ now. refl)
+pub returns-then-are_over-clause-leads : goal.returns-then-are_over-clause-leads
+returns-then-are_over-clause-leads g c o callers at = limit_ends o _ _ at c.args.steps.now.done refl (λ now. refl)
 
 pub returns-in-Some-unfinished-clause-leads : goal.returns-in-Some-unfinished-clause-leads
-returns-in-Some-unfinished-clause-leads g c o callers limit at =
+returns-in-Some-unfinished-clause-leads g c o callers at =
     let from = c.args.cursor.now in
     let step = c.step_token-next in
     token_fails from c.args.token.now c.args.work callers c.iteration_is_seen-inside.result c.leave_is_seen-before.result c.requires c.iteration_is_seen-inside.ensures c.leave_is_seen-before.ensures
-    o _ at (omega (arith, limit, c.if-steps.false)) (name_in from.text.now c.args.token.now) (g.D.Desk.state step.new.desk) step.new.args (g.T.Terminal.screen step.new.term) step.result (g.D.Desk.follows step.new.desk) step.ensures.follows
+    o _ at c.args.steps.now.limit (c.are_over.ensures.left c.if-are_over.false) (name_in from.text.now c.args.token.now) (g.D.Desk.state step.new.desk) step.new.args (g.T.Terminal.screen step.new.term) step.result (g.D.Desk.follows step.new.desk) step.ensures.follows
     c.in-Some-unfinished.code c.in-Some-unfinished.ensures.0 c.in-Some-unfinished.ensures.1 step.ensures.steps
 
 pub returns-clause-leads : goal.returns-clause-leads
-returns-clause-leads g c o callers limit at =
+returns-clause-leads g c o callers at =
     let from = c.args.cursor.now in
     let step = c.step_token-next in
     let to = c.resume.new.cursor in
     token_goes from c.args.token.now c.args.work callers c.iteration_is_seen-inside.result c.leave_is_seen-before.result c.requires c.iteration_is_seen-inside.ensures c.leave_is_seen-before.ensures
-    o _ at (omega (arith, limit, c.if-steps.false)) (name_in from.text.now c.args.token.now) (g.D.Desk.state step.new.desk) step.new.args (g.T.Terminal.screen step.new.term) step.result (g.D.Desk.follows step.new.desk) step.ensures.follows
+    o _ at c.count.new.self.limit (omega (arith, c.are_over.ensures.left c.if-are_over.false, c.count.ensures.limit)) (name_in from.text.now c.args.token.now) (g.D.Desk.state step.new.desk) step.new.args (g.T.Terminal.screen step.new.term) step.result (g.D.Desk.follows step.new.desk) step.ensures.follows
     c.in_default-unfinished.ensures step.ensures.steps c.count.new.self.done c.count.ensures.done (g.D.Desk.state c.step_done.new.self) c.step_done.ensures.state (g.D.Desk.follows c.step_done.new.self) c.step_done.ensures.follows
     (reached_by_progress to c.args.token.now callers c.resume.result) (progress_finishes to c.args.token.now callers c.resume.result c.resume.ensures.finished)
     (λ now. c.resume.ensures.resumes (g.D.Desk.state step.new.desk) callers now)
@@ -49,3 +49,15 @@ returns-clause-stood g c = counted c.resume.result c.args.steps.now.done c.count
 
 pub returns-clause-calls : goal.returns-clause-calls
 returns-clause-calls g c = no_call _ c.resume.result c.resume.ensures.finished
+
+pub returns-in-Some-clause-counts : goal.returns-in-Some-clause-counts
+returns-in-Some-clause-counts g c = counts_none (λ k b h. h)
+
+pub returns-then-are_over-clause-counts : goal.returns-then-are_over-clause-counts
+returns-then-are_over-clause-counts g c = counts_over c.are_over.ensures.still (c.are_over.ensures.over c.if-are_over.true) refl refl refl
+
+pub returns-in-Some-unfinished-clause-counts : goal.returns-in-Some-unfinished-clause-counts
+returns-in-Some-unfinished-clause-counts g c = counts_none c.are_over.ensures.still
+
+pub returns-clause-counts : goal.returns-clause-counts
+returns-clause-counts g c = counts_one c.are_over.ensures.still (c.are_over.ensures.lets c.if-are_over.false) c.count.ensures.limit c.count.ensures.done

@@ -11,9 +11,9 @@ abbrev pub invariant-stepping : goal.invariant-stepping
 invariant-stepping g l = record {
   text : l.cursor.text ≡ l.fn.cursor.text;
   stays : Stays l.fn.cursor l.cursor;
-  counts : CountsSteps l.fn.steps l.steps;
+  counts : CountsSteps (g.S.Stop.answered l.fn.stop) (g.S.Stop.answered l.stop) ⊥ l.fn.steps l.steps;
   quiet : IsQuiet (cursor l.fn.cursor) → takes_nothing_in l.fn.cursor.text.now l.token ≡ true → IsQuiet (cursor l.cursor);
-  going : (o : Origin) (callers : List Caller) → o.limit ≡ l.fn.steps.limit
+  going : (o : Origin) (callers : List Caller)
       → RunGoesOn o (host (g.D.Desk.state l.fn.desk) (g.D.Desk.follows l.fn.desk) (g.T.Terminal.screen l.fn.term) l.fn.steps.done) (at_token l.fn.cursor l.token None callers)
       → ReachesContinuation o (host (g.D.Desk.state l.fn.desk) (g.D.Desk.follows l.fn.desk) (g.T.Terminal.screen l.fn.term) l.fn.steps.done)
       (host (g.D.Desk.state l.desk) (g.D.Desk.follows l.desk) (g.T.Terminal.screen l.term) l.steps.done) (at_token l.cursor l.token l.work callers);

@@ -1,4 +1,3 @@
-use Rattle.std.proofs.Common.{◌∙◌}
 use Rattle.std.specs.Prelude.{⊤}
 use Rattle.teco_program.specs.Writing.{both}
 use Rattle.teco_program.specs.declared.served.Served.TheVariants.{Exit}

@@ -1,6 +1,5 @@
-use Rattle.std.proofs.Common.{◌≡◌, ◌≢◌, ◌∙◌, ap, sym, subst, inl, inr, List, ℕ, None, Some}
+use Rattle.std.proofs.Common.{◌≡◌, ◌≢◌, ◌∙◌, ap, subst, inl, inr, List, ℕ, None, Some}
 use Rattle.std.proofs.lemmas.Result.{on_err_weaker, on_ok_weaker}
-use Rattle.std.specs.String.{string_bytes}
 use Rattle.teco_files.specs.Disk.{Files, IsTargetOf}
 use Rattle.teco_program.specs.Writing.{IsWriting, both}
 use Rattle.teco_program.proofs.Writings.{adds_in, adds_same, are_told, on_err_by, puts_in, puts_on}

@@ -1,8 +1,8 @@
-use Rattle.std.proofs.Common.{◌≡◌, ◌∙◌, ◌++◌, ◌+◌, ◌≤◌, ℕ, List, String, Global, [], ◌∷◌, map, take, length, refl, sym, ap, subst, add-one, take-suc, arith}
+use Rattle.std.proofs.Common.{◌≡◌, ◌∙◌, ◌++◌, ◌+◌, ◌≤◌, ℕ, List, String, Global, [], ◌∷◌, map, take, length, refl, sym, ap, subst, add-one, take-suc}
 use Rattle.std.proofs.lemmas.List.{take_all, map-append}
 use Rattle.std.specs.String.{string_bytes}
 use Rattle.teco_files.specs.contracts.word_source.WordSourceSource.TheImpl as word
-use Rattle.teco_program.specs.Ending.{worse, worst}
+use Rattle.teco_program.specs.Ending.{worse}
 use Rattle.teco_program.specs.Runs.{Chain, Host, LinkOver, host, host_view}
 use Rattle.teco_program.specs.Seen.{disk_seen, source_view}
 use Rattle.teco_program.proofs.Runs.{chain_more, worst_more}

@@ -174,6 +174,11 @@ fn the_reference_tells_what_is_typed(rt: HostRuntime) {
 }
 
 #[test]
+fn the_page_for_those_who_know_another_teco_tells_what_is_typed(rt: HostRuntime) {
+    all_hold(&rt, rt.alloc(), macros::EXAMPLES, BETWEEN_WORDS);
+}
+
+#[test]
 fn the_man_page_tells_what_is_typed_and_written(rt: HostRuntime) {
     all_hold(&rt, rt.alloc(), man_page::EXAMPLES, RETURN);
 }
@@ -186,6 +191,7 @@ mod cookbook_numbers;
 mod cookbook_pages;
 mod cookbook_paragraphs;
 mod cookbook_replacing;
+mod macros;
 mod man_page;
 mod reference;
 mod tour;

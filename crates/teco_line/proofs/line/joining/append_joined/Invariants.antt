@@ -1,4 +1,4 @@
-use Rattle.std.proofs.Common.{◌≡◌, ◌++◌, ℕ, length, map}
+use Rattle.std.proofs.Common.{◌≡◌, ◌++◌, length, map}
 use Rattle.std.specs.String.{string_bytes}
 use Rattle.teco_line.specs.Joining.{joined_after}
 use Rattle.teco_line.proofs.line.joining.append_joined.Given as goal

@@ -1,4 +1,5 @@
 use Rattle.std.proofs.Common.{sym, ap, ◌∙◌}
+use Rattle.teco_store.specs.State.{state_of}
 use Rattle.teco_session.specs.History.{present}
 use Rattle.teco_session.specs.Kept.{KeptSession, history_of}
 use Rattle.teco_session.specs.Entries.{kept_session}
@@ -6,4 +7,4 @@ use Rattle.teco_session.proofs.Turning.{present_is}
 use Rattle.teco_session.proofs.session.Session.editor.Goals as goal
 
 pub returns-clause-present : goal.returns-clause-present
-returns-clause-present c = sym (present_is (kept_session c.self.inside) c.self.invariant.within) ∙ ap (λ (s : KeptSession). present (history_of s)) c.self.view_is
+returns-clause-present c = ap state_of c.editor.ensures ∙ sym (present_is (kept_session c.self.inside) c.self.invariant.within) ∙ ap (λ (s : KeptSession). present (history_of s)) c.self.view_is

@@ -1,10 +1,12 @@
-use Rattle.std.proofs.Common.{◌≡◌, ◌≤◌, length, refl, sym, ◌∙◌, ap, arith}
+use Rattle.std.proofs.Common.{◌≡◌, ◌≤◌, ◌+◌, length, refl, sym, ◌∙◌, ap, set, subst, arith}
+use Rattle.teco_store.specs.State.{Full, with_body}
+use Rattle.teco_store.specs.Entry.{FitsForth, body_forth}
 use Rattle.teco_session.specs.History.{redone}
-use Rattle.teco_session.specs.Kept.{KeptSession, history_of, applied, string_at}
-use Rattle.teco_session.specs.Entries.{kept_session}
+use Rattle.teco_session.specs.Kept.{KeptSession, history_of, applied, string_at, string_forth}
+use Rattle.teco_session.specs.Entries.{depth_of, kept_session, strings_of}
 use Rattle.teco_session.specs.declared.session.Session.TheInside.{Inside}
 use Rattle.teco_session.proofs.Turning.{length-notes, redo_fits}
-use Rattle.teco_session.proofs.Sessions.{at_self, session_applied}
+use Rattle.teco_session.proofs.Sessions.{IsApplied, at_self, session_applied, session_with}
 use Rattle.teco_session.proofs.session.Session.redo.Goals as goal
 
 -- where the cursor is, and how many strings there are
@@ -42,21 +44,25 @@ pub apply-requires-clause-fits : goal.apply-requires-clause-fits
 apply-requires-clause-fits c =
     let s = kept_session c.self.inside in
     let le = c.self.invariant.within in
-    redo_fits s (string_at s s.cursor) (omega arith) c.self.invariant (at_self s s.cursor (omega arith))
+    subst (λ (f : Full). FitsForth f.room (length f.stored) (string_at s s.cursor).changes f.body) (sym c.editor_mut.ensures.value)
+    (redo_fits s (string_at s s.cursor) (omega arith) c.self.invariant (at_self s s.cursor (omega arith)))
+
+applied_now : (c : goal.After-self-2-1) → IsApplied (kept_session c.self.inside) (session_with c.apply.new.editor (strings_of c.apply.new.self) (c.self.inside.cursor + 1) (depth_of c.apply.new.self))
+applied_now c =
+    let s = kept_session c.self.inside in
+    let x = string_at s s.cursor in
+    let le = c.self.invariant.within in
+    session_applied c.record_laws.ensures.forth s _ _ _ (omega arith) c.self.invariant (
+      c.apply.ensures.editor ∙ ap (λ (f : Full). with_body f (body_forth x.changes f.body)) c.editor_mut.ensures.value,
+      c.apply.ensures.strings ∙ ap (λ (f : Full). set s.strings s.cursor (string_forth x f.body)) c.editor_mut.ensures.value,
+    )
+    c.apply.ensures.depth
 
 pub invariant_of-self : goal.invariant_of-self
-invariant_of-self c =
-    let le = c.self.invariant.within in
-    (session_applied c.record_laws.ensures.forth (kept_session c.self.inside) _ _ _ (omega arith) c.self.invariant (c.apply.ensures.editor, c.apply.ensures.strings) c.apply.ensures.depth).holds
+invariant_of-self c = (applied_now c).holds
 
 pub returns-clause-ok : goal.returns-clause-ok
-returns-clause-ok c =
-    let le = c.self.invariant.within in
-    (session_applied c.record_laws.ensures.forth (kept_session c.self.inside) _ _ _ (omega arith) c.self.invariant (c.apply.ensures.editor, c.apply.ensures.strings) c.apply.ensures.depth).value
-    ∙ ap applied c.self.view_is
+returns-clause-ok c = (applied_now c).value ∙ ap applied c.self.view_is
 
 pub returns-clause-history : goal.returns-clause-history
-returns-clause-history c =
-    let le = c.self.invariant.within in
-    (session_applied c.record_laws.ensures.forth (kept_session c.self.inside) _ _ _ (omega arith) c.self.invariant (c.apply.ensures.editor, c.apply.ensures.strings) c.apply.ensures.depth).history
-    ∙ ap (λ (s : KeptSession). redone (history_of s)) c.self.view_is
+returns-clause-history c = (applied_now c).history ∙ ap (λ (s : KeptSession). redone (history_of s)) c.self.view_is

@@ -1,6 +1,6 @@
-use Rattle.std.proofs.Common.{◌-◌, take, min, set, ◌∙◌, ap, arith}
-use Rattle.teco_store.specs.State.{with_body}
-use Rattle.teco_store.specs.Entry.{body_back, since}
+use Rattle.std.proofs.Common.{◌-◌, take, min, set, ◌∙◌, ap, subst, sym, arith}
+use Rattle.teco_store.specs.State.{Full, with_body}
+use Rattle.teco_store.specs.Entry.{FitsBack, body_back, since}
 use Rattle.teco_session.specs.History.{rewound}
 use Rattle.teco_session.specs.Kept.{KeptString, KeptSession, HasRun, history_of, cut_to, string_at, string_cut}
 use Rattle.teco_session.specs.Entries.{strings_of, depth_of, kept_session}
@@ -14,14 +14,14 @@ get-requires c = let le = c.self.invariant.within in omega arith
 pub rewind-requires-clause-within : goal.rewind-requires-clause-within
 rewind-requires-clause-within c = let le = c.self.invariant.within in omega arith
 
-ran_now : (c : goal.After-rewind-arg-2-1) → HasRun c.self.inside.editor (string_at (kept_session c.self.inside) (c.self.inside.cursor - 1))
+ran_now : (c : goal.After-editor_mut) → HasRun c.self.inside.recorder.full (string_at (kept_session c.self.inside) (c.self.inside.cursor - 1))
 ran_now c =
     let s = kept_session c.self.inside in
     let le = c.self.invariant.within in
     has_run s (string_at s (s.cursor - 1)) (s.cursor - 1) (omega arith) c.self.invariant (at_self s (s.cursor - 1) (omega arith))
 
 pub rewind-requires-clause-fits : goal.rewind-requires-clause-fits
-rewind-requires-clause-fits c = (ran_now c).fits
+rewind-requires-clause-fits c = subst (λ (f : Full). FitsBack f.room (string_at (kept_session c.self.inside) (c.self.inside.cursor - 1)).changes f.body) (sym c.editor_mut.ensures.value) (ran_now c).fits
 
 pub rewind-requires-clause-order : goal.rewind-requires-clause-order
 rewind-requires-clause-order c = (_, (ran_now c).marked)
@@ -32,7 +32,7 @@ rewound_now c =
     let s = kept_session c.self.inside in
     let few = c.min-n.ensures ∙ ap (min c.args.n) (ap (λ (x : KeptString). x.steps) c.get.ensures) in
     session_rewound c.record_laws.ensures.back c.record_laws.ensures.extended c.record_laws.ensures.cut c.args.n s c.rewind.new.editor _ _ (omega arith) c.self.invariant (
-      c.rewind.ensures.editor ∙ ap (λ k. with_body s.editor (body_back (since k (string_at s (s.cursor - 1)).changes) s.editor.body)) few,
+      c.rewind.ensures.editor ∙ ap (λ (f : Full). with_body f (body_back (since c.min-n.result (string_at s (s.cursor - 1)).changes) f.body)) c.editor_mut.ensures.value ∙ ap (λ k. with_body s.editor (body_back (since k (string_at s (s.cursor - 1)).changes) s.editor.body)) few,
       c.truncate.ensures.strings ∙ ap (take s.cursor) (c.rewind.ensures.strings ∙ ap (λ k. set s.strings (s.cursor - 1) (string_cut k (string_at s (s.cursor - 1)))) few),
     )
     (c.truncate.ensures.depth ∙ c.rewind.ensures.depth)

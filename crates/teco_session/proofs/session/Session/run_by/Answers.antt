@@ -1,7 +1,8 @@
-use Rattle.std.proofs.Common.{◌≡◌, ℕ, Option, List, [], ◌++◌, ◌∷◌, take, sym, ap, ◌∙◌, subst, refl, false}
+use Rattle.std.proofs.Common.{◌≡◌, ℕ, inl, arith, Option, List, [], ◌++◌, ◌∷◌, take, sym, ap, ◌∙◌, subst, refl, false}
 use Rattle.std.proofs.lemmas.Bool.{false≢true}
 use Rattle.teco_exec.specs.StringMeaning.{string_meaning}
-use Rattle.teco_exec.specs.Runs.{Runs}
+use Rattle.teco_exec.specs.Runs.{Answers, Runs, RunsWithin}
+use Rattle.teco_exec.specs.declared.outcome.Outcome.{Outcome}
 use Rattle.teco_store.specs.Follows.{LeadsBack}
 use Rattle.teco_store.specs.State.{State, Full, state_of}
 use Rattle.teco_store.specs.Turn.{Note as Change}
@@ -16,6 +17,10 @@ use Rattle.teco_session.proofs.Sessions.{Ran, Went, session_noted, session_went,
 use Rattle.teco_session.proofs.session.Session.run_by.Given as given
 use Rattle.teco_session.proofs.session.Session.run_by.Goals as goal
 
+-- What is not begun is not broken off.
+whole : {answered : Answers} {limit : ℕ} {outcome : Outcome} (P : ℕ → Type 0) → outcome.steps ≡ 0 → P limit → RunsWithin answered limit outcome P
+whole {limit = limit} P none so = record { under = limit; within = omega arith; stays = inl refl; heard = λ k before. absurd (omega (arith, none)); so = so }
+
 -- the history is the same where only a place was found
 same_history : (f : Full) (xs ys : List KeptString) (c : ℕ) (d e : Option ℕ) (s : KeptSession) → ys ≡ xs → e ≡ d → session_with f xs c d ≡ s → history_of (session_with f ys c e) ≡ history_of s
 same_history f xs ys c d e s same depth view = ap (λ (zs : List KeptString). history_of (session_with f zs c e)) same ∙ ap (λ (k : Option ℕ). history_of (session_with f xs c k)) depth ∙ ap history_of view
@@ -26,64 +31,64 @@ same_session f xs ys c d e s same depth view = ap (λ (zs : List KeptString). se
 
 pub returns-then-is_err-clause-same : goal.returns-then-is_err-clause-same
 returns-then-is_err-clause-same g c unbegun =
-    same_session c.self.inside.editor _ _ c.self.inside.cursor _ _ c.args.self.now c.reserve.ensures.strings c.reserve.ensures.depth c.self.view_is
+    same_session c.self.inside.recorder.full _ _ c.self.inside.cursor _ _ c.args.self.now c.reserve.ensures.strings c.reserve.ensures.depth c.self.view_is
 
 -- A string that is not begun changes nothing.
 pub returns-then-done-clause-step : goal.returns-then-done-clause-step
-returns-then-done-clause-step g c = ([], (ap (λ (s : State). s.is_done) (sym c.editor.ensures.present) ∙ sym c.done.ensures ∙ c.if-done.true, refl, refl), Shows-nil _)
+returns-then-done-clause-step g c = whole _ refl ([], (ap (λ (s : State). s.is_done) (sym c.editor.ensures.present) ∙ sym c.done.ensures ∙ c.if-done.true, refl, refl), Shows-nil _)
 
 pub returns-then-done-clause-exit : goal.returns-then-done-clause-exit
 returns-then-done-clause-exit g c = λ going over. absurd (false≢true (sym going ∙ over))
 
 pub returns-in_default-clause-step : goal.returns-in_default-clause-step
-returns-in_default-clause-step g c = ([], (ap (λ (s : State). s.is_done) (sym c.editor.ensures.present) ∙ sym c.done.ensures ∙ c.if-done.false, refl, refl), Shows-nil _)
+returns-in_default-clause-step g c = whole _ refl ([], (ap (λ (s : State). s.is_done) (sym c.editor.ensures.present) ∙ sym c.done.ensures ∙ c.if-done.false, refl, refl), Shows-nil _)
 
 pub returns-in_default-clause-exit : goal.returns-in_default-clause-exit
 returns-in_default-clause-exit g c = λ going over. absurd (false≢true (sym going ∙ over))
 
 pub returns-then-is_err-clause-step : goal.returns-then-is_err-clause-step
-returns-then-is_err-clause-step g c = (
+returns-then-is_err-clause-step g c = whole _ refl (
   [],
   (
     ap (λ (s : State). s.is_done) (sym c.editor.ensures.present) ∙ sym c.done.ensures ∙ c.if-done.false,
     refl,
-    same_history c.self.inside.editor _ _ c.self.inside.cursor _ _ c.args.self.now c.reserve.ensures.strings c.reserve.ensures.depth c.self.view_is,
+    same_history c.self.inside.recorder.full _ _ c.self.inside.cursor _ _ c.args.self.now c.reserve.ensures.strings c.reserve.ensures.depth c.self.view_is,
   ),
   Shows-nil _,
 )
 
 pub returns-then-is_err-clause-exit : goal.returns-then-is_err-clause-exit
 returns-then-is_err-clause-exit g c = λ going over.
-    let same = same_history c.self.inside.editor _ _ c.self.inside.cursor _ _ c.args.self.now c.reserve.ensures.strings c.reserve.ensures.depth c.self.view_is in
+    let same = same_history c.self.inside.recorder.full _ _ c.self.inside.cursor _ _ c.args.self.now c.reserve.ensures.strings c.reserve.ensures.depth c.self.view_is in
     absurd (false≢true (sym going ∙ sym (ap (λ (h : History). (present h).is_done) same) ∙ over))
 
 -- the entry that is added
-abbrev entry_now : (g : given.Over) (c : goal.After-self-1 g) → Entry
+abbrev entry_now : (g : given.Over) (c : goal.After-self-2-1 g) → Entry
 entry_now g c = record { text = c.in-Ok.kept; steps = c.record_run-changes.result.1.steps; changes = c.of.result }
 
 -- the session with it
-abbrev session_now : (g : given.Over) (c : goal.After-self-1 g) → KeptSession
-session_now g c = session_with c.record_run-changes.new.editor (strings_of c.note.new.self) c.len-self-inside.result (depth_of c.note.new.self)
+abbrev session_now : (g : given.Over) (c : goal.After-self-2-1 g) → KeptSession
+session_now g c = session_with c.record_run-changes.new.recorder.full (strings_of c.note.new.self) c.len-self-inside.result (depth_of c.note.new.self)
 
-ran_now : (g : given.Over) (c : goal.After-self-1 g) → Ran (kept_session c.self.inside) (session_now g c) (kept_string (entry_now g c))
+ran_now : (g : given.Over) (c : goal.After-self-2-1 g) → Ran (kept_session c.self.inside) (session_now g c) (kept_string (entry_now g c))
 ran_now g c =
     let r = c.record_run-changes.ensures in
-    let new = c.record_run-changes.new.editor in
+    let new = c.record_run-changes.new.recorder.full in
     let k = c.record_run-changes.result.1.steps in
     let kept = sym c.in-Ok.ensures.value in
     let changes = sym c.of.ensures in
     let depth : depth_of c.truncate.new.self ≡ depth_of c.self.inside.entries = c.truncate.ensures.depth ∙ c.reserve.ensures.depth in
     let front : strings_of c.truncate.new.self ≡ take c.self.inside.cursor (strings_of c.self.inside.entries) = c.truncate.ensures.strings ∙ ap (take c.self.inside.cursor) c.reserve.ensures.strings in
     session_noted c.record_laws.ensures.back c.record_laws.ensures.extended (kept_session c.self.inside) new (strings_of c.note.new.self) (kept_string (entry_now g c)) c.len-self-inside.result (depth_of c.note.new.self)
-    c.self.invariant (subst (λ (cs : List Change). LeadsBack c.self.inside.editor new cs) changes r.leads)
+    c.self.invariant (subst (λ (cs : List Change). LeadsBack c.self.inside.recorder.full new cs) changes r.leads)
     (subst (λ (t : List ℕ). HasRun new (kept_run t k c.of.result)) kept (subst (λ (cs : List Change). HasRun new (kept_run c.args.text.now k cs)) changes r.ran))
-    (r.again ∙ ap (λ (t : List ℕ). (string_meaning (state_of c.self.inside.editor) t k).state) kept)
+    (r.again ∙ ap (λ (t : List ℕ). (string_meaning (state_of c.self.inside.recorder.full) t k).state) kept)
     (c.note.ensures.strings ∙ ap (λ (d : Option ℕ). newest d (strings_of c.truncate.new.self ++ kept_string (entry_now g c) ∷ [])) depth
     ∙ ap (λ (l : List KeptString). newest (depth_of c.self.inside.entries) (l ++ kept_string (entry_now g c) ∷ [])) front)
     c.len-self-inside.ensures.value (c.note.ensures.depth ∙ depth)
 
 -- the editor's state is the present one, before the string and after it
-state_now : (g : given.Over) (c : goal.After-self-1 g) → state_of c.self.inside.editor ≡ present (history_of c.args.self.now)
+state_now : (g : given.Over) (c : goal.After-self-2-1 g) → state_of c.self.inside.recorder.full ≡ present (history_of c.args.self.now)
 state_now g c = sym (present_is (kept_session c.self.inside) c.self.invariant.within) ∙ ap (λ (s : KeptSession). present (history_of s)) c.self.view_is
 
 pub invariant_of-self-2 : goal.invariant_of-self-2
@@ -91,15 +96,22 @@ invariant_of-self-2 g c = (ran_now g c).holds
 
 pub returns-clause-step : goal.returns-clause-step
 returns-clause-step g c =
-    let ran = c.record_run-changes.ensures.run in
+    let under = c.record_run-changes.ensures.run in
+    let ran = under.so in
     let old = history_of c.args.self.now in
-    let new = state_of c.record_run-changes.new.editor in
+    let new = state_of c.record_run-changes.new.recorder.full in
     let k = c.record_run-changes.result.1.steps in
     let here = state_now g c in
     let going : (present old).is_done ≡ false = ap (λ (s : State). s.is_done) (sym c.editor.ensures.present) ∙ sym c.done.ensures ∙ c.if-done.false in
-    let run = subst (λ (s : State). Runs s c.args.text.now c.args.limit c.record_run-changes.result.1 ran.0 new) here ran.1 in
+    let run = subst (λ (s : State). Runs s c.args.text.now under.under c.record_run-changes.result.1 ran.0 new) here ran.1 in
     let text = ap (λ (t : List ℕ). noted old (record { text = t; steps = k; state = new })) c.in-Ok.ensures.value in
-    (ran.0, (new, going, run, (ran_now g c).history ∙ ap (λ (s : KeptSession). noted (history_of s) (noted_as (kept_string (entry_now g c)) new)) c.self.view_is ∙ text), ran.2)
+    record {
+      under = under.under;
+      within = under.within;
+      stays = under.stays;
+      heard = under.heard;
+      so = (ran.0, (new, going, run, (ran_now g c).history ∙ ap (λ (s : KeptSession). noted (history_of s) (noted_as (kept_string (entry_now g c)) new)) c.self.view_is ∙ text), ran.2);
+    }
 
 pub returns-clause-exit : goal.returns-clause-exit
 returns-clause-exit g c = λ going over.
@@ -112,23 +124,39 @@ returns-clause-tells g c =
     subst (λ (s : State). g.R.Runner.tells c.record_run-changes.new.runner s c.args.text.now c.record_run-changes.result.1) (state_now g c) c.record_run-changes.ensures.tells
 
 -- With a depth of 0 nothing is noted.
-went_now : (g : given.Over) (c : goal.After-run_unnoted-outcome g) → Went (kept_session c.self.inside) (session_with c.run_unnoted-outcome.new.editor (strings_of c.self.inside.entries) c.self.inside.cursor (depth_of c.self.inside.entries))
+lent_now : (g : given.Over) (c : goal.After-self-1 g) → state_of c.editor_mut.result.now ≡ present (history_of c.args.self.now)
+lent_now g c =
+    ap state_of c.editor_mut.ensures.value ∙ sym (present_is (kept_session c.self.inside) c.self.invariant.within) ∙ ap (λ (s : KeptSession). present (history_of s)) c.self.view_is
+
+went_now : (g : given.Over) (c : goal.After-self-1 g) → Went (kept_session c.self.inside) (session_with c.run_unnoted-outcome.new.editor (strings_of c.self.inside.entries) c.self.inside.cursor (depth_of c.self.inside.entries))
     (record { text = c.args.text.now; steps = c.run_unnoted-outcome.result.steps; state = state_of c.run_unnoted-outcome.new.editor })
 went_now g c =
     let kept = c.if-keeps_none.true in
     session_went (kept_session c.self.inside) c.run_unnoted-outcome.new.editor c.args.text.now c.run_unnoted-outcome.result.steps (sym c.keeps_none.ensures.depth ∙ kept) (c.keeps_none.ensures.none kept)
-    c.self.invariant c.run_unnoted-outcome.ensures.sound c.run_unnoted-outcome.ensures.again
+    c.self.invariant c.run_unnoted-outcome.ensures.sound
+    (c.run_unnoted-outcome.ensures.again ∙ ap (λ (f : Full). (string_meaning (state_of f) c.args.text.now c.run_unnoted-outcome.result.steps).state) c.editor_mut.ensures.value)
 
 pub invariant_of-self : goal.invariant_of-self
 invariant_of-self g c = (went_now g c).holds
 
 pub returns-then-keeps_none-clause-step : goal.returns-then-keeps_none-clause-step
 returns-then-keeps_none-clause-step g c =
-    let ran = c.run_unnoted-outcome.ensures.run in
+    let under = c.run_unnoted-outcome.ensures.run in
+    let ran = under.so in
     let old = history_of c.args.self.now in
     let new = state_of c.run_unnoted-outcome.new.editor in
-    let here : state_of c.self.inside.editor ≡ present old = sym (present_is (kept_session c.self.inside) c.self.invariant.within) ∙ ap (λ (s : KeptSession). present (history_of s)) c.self.view_is in
+    let here = lent_now g c in
     let going : (present old).is_done ≡ false = ap (λ (s : State). s.is_done) (sym c.editor.ensures.present) ∙ sym c.done.ensures ∙ c.if-done.false in
-    let run = subst (λ (s : State). Runs s c.args.text.now c.args.limit c.run_unnoted-outcome.result ran.0 new) here ran.1 in
+    let run = subst (λ (s : State). Runs s c.args.text.now under.under c.run_unnoted-outcome.result ran.0 new) here ran.1 in
     let note : NotedString = record { text = c.args.text.now; steps = c.run_unnoted-outcome.result.steps; state = new } in
-    (ran.0, (new, going, run, (went_now g c).history ∙ ap (λ (s : KeptSession). noted (history_of s) note) c.self.view_is), ran.2)
+    record {
+      under = under.under;
+      within = under.within;
+      stays = under.stays;
+      heard = under.heard;
+      so = (ran.0, (new, going, run, (went_now g c).history ∙ ap (λ (s : KeptSession). noted (history_of s) note) c.self.view_is), ran.2);
+    }
+
+pub returns-then-keeps_none-clause-tells : goal.returns-then-keeps_none-clause-tells
+returns-then-keeps_none-clause-tells g c =
+    subst (λ (s : State). g.R.Runner.tells c.run_unnoted-outcome.new.runner s c.args.text.now c.run_unnoted-outcome.result) (lent_now g c) c.run_unnoted-outcome.ensures.tells

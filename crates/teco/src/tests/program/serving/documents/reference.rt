@@ -4,15 +4,20 @@ use super::*;
 pub(super) static EXAMPLES: &[Group] = &[(
     LINE,
     "
-     => 2+3*4=2*(3+4)=12&10=12#3=$$ => 2014815
+     => 14=$$ => 14
+    one\n\x0ctwo\n\x0cthree\n => 2+3*4=12&10=12#3=$$ => 20815
+     => 2*(3+4)=$$ => 14
      => Iab$B=Z=.=$$ => 022
      => Iab$HT$$ => ab
+     => Iabc$1,3T$$ => bc
      => \x1eA=$$ => 65
      => Iab$-A=0A=$$ => 98-1
      => I-12c$J\\=.=$$ => -123
      => 42\\HT$$ => 42
+     => 12=3=$$ => 123
      => 12:=3=$$ => 123
-     => 8:==$$ => 10
+     => 8==$$ => 10
+     => 8:==1=$$ => 101
      => Iab$1J.=J.=$$ => 10
      => Iabc$J2C.=R.=$$ => 21
      => Ia\nb$0L.=JL.=$$ => 22
@@ -36,6 +41,7 @@ pub(super) static EXAMPLES: &[Group] = &[(
      => Iab$:Sx$=$$ => 0
      => Iab$J::Sa$=.=$$ => -11
      => Icat$JFSa$oa$HT$$ => coat
+     => Icat$J:FSa$oa$=$$ => -1
      => 0\x18IAb$J:SaB$=$$ => -1
     one\n\x0ctwo\n\x0cthree\n => YHT$$ => one
     one\n\x0ctwo\n\x0cthree\n => YAHT$$ => onetwo
@@ -44,12 +50,15 @@ pub(super) static EXAMPLES: &[Group] = &[(
     one\n\x0ctwo\n\x0cthree\n => YNthree$.=HT$$ => 5three
     one\n\x0ctwo\n\x0cthree\n => _one$.=HT$$ => 3one
     one\n\x0ctwo\n\x0cthree\n => :Nx$=HT$$ => 0three
+    one\n\x0ctwo\n\x0cthree\n => :_one$=HT$$ => -1one
     one\n\x0ctwo\n\x0cthree\n => Y`=\x0e=$$ => -10
     one\n\x0ctwo\n\x0cthree\n => YHTEX$$ => one => one\n\x0ctwo\n\x0cthree\n
      => 3<Ix$>HT$$ => xxx
      => Iaaa$J<Sa$;%A$>QA=$$ => 3
      => 1\"G2=|3='4=$$ => 24
-     => \x1e7\"D1='\x1eb\"W2='$$ => 1
+     => 1\"L2=|3='4=$$ => 34
+     => \x1e7\"D1='\x1eb\"D2='$$ => 1
+     => \x1e7\"V1='\x1eb\"V2='$$ => 2
      => Ox$1=!x!2=$$ => 2
      => 1$2=$$ => 2
      => Ia$$Ib$$2{$$}$$HT$$ => a

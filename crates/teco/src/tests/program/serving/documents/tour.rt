@@ -21,7 +21,7 @@ pub(super) static EXAMPLES: &[Group] = &[
         LINE,
         "
     // 6. A program for all pages
-    Buy milk\nCall Anna\n\x0cBuy bread\nBuy eggs\n => Y<J0UN  <.-Z; %N\\ I. $ L>-1-\x0e; P>EX$$ =>  => 1. Buy milk\n2. Call Anna\n\x0c1. Buy bread\n2. Buy eggs\n
+    Buy milk\nCall Anna\n\x0cBuy bread\nBuy eggs\n => Y<J0UN<.-Z; %N\\ I. $ L>-1-\x0e; P>EX$$ =>  => 1. Buy milk\n2. Call Anna\n\x0c1. Buy bread\n2. Buy eggs\n
     ",
     ),
     (

@@ -1,0 +1,189 @@
+//! Hints: what may be meant otherwise.
+ghost use Rattle.std.specs.Prelude.{◌<◌, IfSome};
+
+use crate::calling::Registers;
+use crate::passing::part;
+use crate::remarks::{Hint, Remark, What};
+use teco_core::NoMemory;
+use teco_fault::REGISTERS;
+use teco_scan::{
+    Bare, BlockMark, Command, Found, Item, LevelCommand, RegisterCommand, Span, TextCommand, Token,
+    TokenKind, token_at,
+};
+
+/// What has been seen of the commands.
+#[derive(Clone, Copy)]
+pub struct Hinting {
+    /// How many iterations are open.
+    iterations: usize,
+    /// Whether `EX` is the command before in its list.
+    after_exit: bool,
+    /// Whether a number comes before.
+    has_number: bool,
+    pub has_exit: bool,
+    pub has_page: bool,
+    /// The registers that were told of.
+    told: [bool; REGISTERS],
+}
+
+impl Hinting {
+    pub fn new() -> Self {
+        Self {
+            iterations: 0,
+            after_exit: false,
+            has_number: false,
+            has_exit: false,
+            has_page: false,
+            told: [false; REGISTERS],
+        }
+    }
+
+    /// A command string begins.
+    pub fn begin(&mut self) {
+        self.iterations = 0;
+        self.after_exit = false;
+        self.has_number = false;
+    }
+
+    fn of_command(&mut self, command: Command) -> Option<Hint> {
+        match command {
+            Command::Exit => {
+                self.has_exit = true;
+                self.after_exit = true;
+            }
+            Command::NextPage | Command::TurnPages => self.has_page = true,
+            Command::Leave if self.iterations == 0 => return Some(Hint::LeavesNothing),
+            _ => {}
+        }
+        None
+    }
+
+    fn of_text(&mut self, command: TextCommand, text: &[u8]) -> Option<Hint> {
+        match command {
+            TextCommand::SearchPages | TextCommand::SearchPagesQuietly => self.has_page = true,
+            TextCommand::Go if self.has_number => return Some(Hint::NumberBeforeJump),
+            TextCommand::Search => {}
+            _ => return None,
+        }
+        has_caret(text).then_some(Hint::Caret)
+    }
+
+    fn of_call(&mut self, index: usize, registers: &Registers) -> Option<Hint>
+        requires { index < 36 }
+    {
+        if registers.given[index] || self.told[index] {
+            return None;
+        }
+        self.told[index] = true;
+        Some(Hint::NeverSet(index))
+    }
+
+    fn of_item(&mut self, text: &[u8], item: Item) -> Option<Hint> {
+        match item {
+            Item::Bare(Bare::Command(command)) => self.of_command(command),
+            Item::Bare(Bare::Level(LevelCommand::Append)) if !self.has_number => {
+                self.has_page = true;
+                None
+            }
+            Item::Text(command, span) => self.of_text(command, part(text, span)),
+            Item::Replace(span, _) => has_caret(part(text, span)).then_some(Hint::Caret),
+            _ => None,
+        }
+    }
+
+    /// The hint at a token, if there is one.
+    fn of_token(&mut self, text: &[u8], token: &Token, registers: &Registers) -> Option<Hint> {
+        let is_after = self.after_exit;
+        match token.kind {
+            TokenKind::Escape | TokenKind::Tag(_) => return None,
+            TokenKind::Mark(BlockMark::Iterate) => self.iterations = self
+                .iterations
+                .saturating_add(1),
+            TokenKind::Mark(BlockMark::EndIteration) => {
+                self.iterations = self.iterations.saturating_sub(1);
+                self.after_exit = false;
+                return None;
+            }
+            TokenKind::Mark(_) => {
+                self.after_exit = false;
+                return None;
+            }
+            _ => {}
+        }
+        self.after_exit = false;
+        let hint = match (called(token), token.kind) {
+            (Some(register), _) => self.of_call(register, registers),
+            (None, TokenKind::Item(item)) => self.of_item(text, item),
+            _ => None,
+        };
+        if is_after {
+            Some(Hint::AfterExit)
+        } else {
+            hint
+        }
+    }
+}
+
+/// The number of the register that a token calls, if it calls one.
+fn called(token: &Token) -> Option<usize>
+    ensures { IfSome result (λ register. register < 36) }
+{
+    match token.kind {
+        TokenKind::Item(Item::Register(RegisterCommand::Macro, register)) => {
+            Some(register.index())
+        }
+        _ => None,
+    }
+}
+
+/// Whether a text has a caret before a letter, as one who means a control byte writes it.
+fn has_caret(text: &[u8]) -> bool {
+    let mut caret = false;
+    for byte in text {
+        if caret && byte.is_ascii_alphabetic() {
+            return true;
+        }
+        caret = *byte == b'^';
+    }
+    false
+}
+
+/// Whether a token gives a number to the next one.
+fn is_number(token: &Token) -> bool {
+    match token.kind {
+        TokenKind::Item(item) => matches!(
+            item,
+            Item::Digits(_)
+                | Item::Byte(_)
+                | Item::Bare(Bare::Quantity(_) | Bare::Arithmetic(_))
+                | Item::Register(RegisterCommand::Number | RegisterCommand::Increment, _)
+        ),
+        _ => false,
+    }
+}
+
+/// Puts the hints of a command string that begins at a place, up to its first fault.
+pub fn push_hints(
+    remarks: &mut Vec<Remark>,
+    hinting: &mut Hinting,
+    text: &[u8],
+    from: usize,
+    registers: &Registers,
+) -> Result<(), NoMemory> {
+    hinting.begin();
+    let mut at = 0;
+    while at < text.len() {
+        let Found::Token(token) = token_at(text, at) else {
+            return Ok(());
+        };
+        at = token.span.to;
+        if let Some(hint) = hinting.of_token(text, &token, registers) {
+            remarks.push(Remark {
+                at: from.saturating_add(token.span.from),
+                what: What::Hint(hint),
+            })?;
+        }
+        hinting.has_number = is_number(&token);
+    }
+    Ok(())
+}

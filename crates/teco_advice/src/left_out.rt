@@ -1,0 +1,144 @@
+//! What TECO-11 has and this TECO leaves out.
+ghost use Rattle.std.specs.Prelude.{◌≡◌, ◌≤◌, length, IfSome};
+
+/// What follows the name of a command that is left out.
+#[derive(Clone, Copy)]
+pub enum Takes {
+    Nothing,
+    Register,
+    Text,
+    RegisterAndText,
+    TwoTexts,
+}
+
+/// A command that is left out.
+#[derive(Clone, Copy)]
+pub struct LeftOut {
+    /// How it is written, with its colons. A caret and a letter are also the control byte.
+    pub written: &'static str,
+    /// What it does in TECO-11.
+    pub does: &'static str,
+    /// What to write in its place.
+    pub instead: &'static str,
+    pub takes: Takes,
+}
+
+macro_rules! rows {
+    ($($takes:ident $written:literal $does:literal $instead:literal;)*) => {
+        [$(LeftOut { written: $written, does: $does, instead: $instead, takes: Takes::$takes }),*]
+    };
+}
+
+/// The table, in which a longer name comes before one that begins it.
+static ROWS: [LeftOut; 68] = rows! {
+    Text "ER" "opens an input file" "give it as INPUT on the command line";
+    Text "EW" "opens an output file" "give it by --output on the command line";
+    Text "EB" "opens a file to edit it" "give it as INPUT with --in-place";
+    Text "EI" "takes commands from a file" "give it by --file, or paste it with cat";
+    Text "EG" "ends, and gives the system a command" "EX, and let the shell go on";
+    Text "EN" "looks for files by a pattern" "let the shell give the files as INPUT";
+    Text "E_" "looks on and drops the pages" "_text$";
+    Nothing "EC" "ends after it has copied the rest" "EX";
+    Nothing "EF" "closes the output file" "EX";
+    Nothing "EK" "drops the output file" "leave EX out";
+    Nothing "EP" "reads from the second input" "two runs";
+    Nothing "EA" "writes to the second output" "two runs";
+    Nothing "EY" "reads a page and drops the last" "HKY";
+    Nothing "EM" "moves a tape" "nothing";
+    Nothing "ED" "sets how much is done by itself" "leave it out";
+    Nothing "EE" "sets the byte that stands for ESC" "leave it out";
+    Nothing "EH" "sets how much a message tells" "--explain on the command line";
+    Nothing "EO" "gives the version" "leave it out";
+    Nothing "EQ" "sets the terminal" "leave it out";
+    Nothing "ES" "shows the text after a search" "V after the search";
+    Nothing "ET" "sets how bytes are typed" "leave it out";
+    Nothing "EU" "shows the case of letters" "leave it out";
+    Nothing "EV" "shows the line of the pointer" "V where it is wanted";
+    Nothing "EZ" "sets how the tape is read" "leave it out";
+    TwoTexts "::FS" "replaces the text at the pointer" "::Sone$ and then -nD Itwo$";
+    TwoTexts "FN" "replaces on this page or a later one" "None$ and then -nD Itwo$";
+    TwoTexts "F_" "replaces, and drops the pages" "_one$ and then -nD Itwo$";
+    TwoTexts "FC" "replaces between two places" "FSone$two$ and a test of .";
+    Text "FR" "replaces what was found last" "FSone$two$ at the search itself";
+    Text "FB" "looks between two places" ":Stext$ and a test of .";
+    Text "FK" "deletes up to a text" ".U1 Stext$ Q1,.K";
+    Text "FD" "deletes the next text" "@FS/text//";
+    Nothing "F<" "goes to the beginning of the iteration" "a tag there, and Oname$";
+    Nothing "F>" "goes to the end of the iteration" "a tag there, and Oname$";
+    Nothing "F'" "goes to the end of the conditional" "a tag there, and Oname$";
+    Nothing "F|" "goes to the second part" "a tag there, and Oname$";
+    Register ":X" "appends lines to a register" "Gq and Xq over both";
+    RegisterAndText ":^U" "appends a text to a register" "Gq, the text by I, and Xq over both";
+    Nothing ":;" "leaves where the last search was a hit" "\"E 0; ' after a search with a colon";
+    Register ":]" "pops, and gives whether it could" "]q where something was pushed";
+    Register ":M" "runs a text that gives a value" "Mq, which keeps the numbers";
+    Nothing ":L" "goes by lines, and gives whether it could" "L and a test of .";
+    Nothing ":C" "goes on, and gives whether it could" "a test of .-Z before C";
+    Nothing ":R" "goes back, and gives whether it could" "a test of . before R";
+    Nothing ":J" "goes to a place, and gives whether it could" "a test before J";
+    Nothing ":D" "deletes, and gives whether it could" "a test of .-Z before D";
+    Nothing ":T" "types without a case mark" "T";
+    Nothing ":Y" "reads a page, and gives whether it could" "^N before Y";
+    Nothing ":P" "turns pages, and gives whether it could" "^N before P";
+    Nothing ":^T" "reads a byte of the terminal" "nothing: commands can't ask";
+    Nothing "\"=" "tests for 0" "\"E";
+    Nothing "\"<" "tests for less than 0" "\"L";
+    Nothing "\">" "tests for more than 0" "\"G";
+    Nothing "\"C" "tests for a byte of a name" "\"R, and tests of the other bytes";
+    Nothing "===" "types in hexadecimal" "== types in octal";
+    Nothing "^B" "gives the date" "leave it out";
+    Nothing "^C" "ends" "EX, or leave it out";
+    Nothing "^D" "sets numbers to decimal" "leave it out";
+    Nothing "^F" "gives the switches" "leave it out";
+    Nothing "^H" "gives the time of day" "leave it out";
+    Nothing "^L" "types a form feed" "12^T";
+    Nothing "^O" "sets numbers to octal" "write them in decimal";
+    Nothing "^R" "sets the base of numbers" "write them in decimal";
+    Nothing "^S" "gives minus the length of the last hit" "note . before and after the search";
+    Nothing "^Y" "gives the pair of the last hit" "note . before and after the search";
+    Nothing "^_" "turns every bit of a number" "-1-n";
+    Nothing "?" "shows each command as it runs" "teco-debug";
+    Nothing "W" "shows the screen" "nT, or teco-term";
+};
+
+/// Whether a byte is a letter in either case, where that is a capital; or the byte itself.
+fn is_letter(byte: u8, written: u8) -> bool {
+    byte.to_ascii_uppercase() == written
+}
+
+/// How many of the first bytes are written so, if they are.
+fn written_len(bytes: &[u8], written: &[u8]) -> Option<usize>
+    ensures { IfSome result (λ to. to ≤ length bytes.now) }
+{
+    let mut to = 0;
+    let mut rest = written;
+    while let [mark, after @ ..] = rest {
+        rest = after;
+        let byte = *bytes.get(to)?;
+        if *mark == b'^' && byte != b'^' {
+            let [letter, more @ ..] = after else {
+                return None;
+            };
+            if byte.saturating_add(64) != *letter {
+                return None;
+            }
+            rest = more;
+        } else if !is_letter(byte, *mark) {
+            return None;
+        }
+        to += 1;
+    }
+    Some(to)
+}
+
+/// The row of the command that the bytes begin with, if it is left out, and the length of its name.
+pub fn row_of(bytes: &[u8]) -> Option<(&'static LeftOut, usize)>
+    ensures { IfSome result (λ found. found.1 ≤ length bytes.now) }
+{
+    for row in &ROWS {
+        if let Some(to) = written_len(bytes, row.written.as_bytes()) {
+            return Some((row, to));
+        }
+    }
+    None
+}

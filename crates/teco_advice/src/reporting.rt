@@ -1,0 +1,86 @@
+//! Remarks as lines, with the places of the source.
+ghost use Rattle.std.specs.Prelude.{◌≡◌, ◌≤◌, length};
+ghost use Rattle.teco_telling.specs.Spot.{spot_of};
+
+use crate::checking::Advice;
+use crate::remarks::Remark;
+use crate::sentences::{opening_of, show_remark};
+use std::alloc::Global;
+use std::fmt::Write;
+use teco_core::NoMemory;
+use teco_telling::Spot;
+
+/// A place of a text that is gone over from left to right, with its line and its column.
+#[derive(Clone, Copy)]
+struct Walker {
+    at: usize,
+    spot: Spot,
+}
+
+impl Walker {
+    fn new() -> Self {
+        Self {
+            at: 0,
+            spot: Spot { line: 1, column: 1 },
+        }
+    }
+
+    /// Goes on after a byte.
+    fn pass(&mut self, byte: u8) {
+        if byte == b'\n' {
+            self.spot.line = self.spot.line.saturating_add(1);
+            self.spot.column = 1;
+        } else {
+            self.spot.column = self.spot.column.saturating_add(1);
+        }
+    }
+
+    /// The line and the column of a place; a place after the end is the end. The text is gone over anew if the place is an earlier one.
+    fn spot_at(&mut self, text: &[u8], place: usize) -> Spot {
+        let to = place.min(text.len());
+        if to < self.at {
+            self.at = 0;
+            self.spot = Spot { line: 1, column: 1 };
+        }
+        for byte in &text[self.at..to] {
+            self.pass(*byte);
+        }
+        self.at = to;
+        self.spot
+    }
+}
+
+/// The place of the source of a place of the commands.
+fn place_in(places: Option<&[usize]>, source: &[u8], at: usize) -> usize {
+    match places {
+        Some(places) => places.get(at).copied().unwrap_or(source.len()),
+        None => at,
+    }
+}
+
+/// The lines that tell of a check: a line for each remark, with the name and the line and the column of the source.
+///
+/// `places` tells for each byte of the commands where in the source it begins; without it the commands are the source.
+pub fn report(
+    alloc: Global,
+    name: &str,
+    source: &[u8],
+    places: Option<&[usize]>,
+    commands: &[u8],
+    advice: &Advice,
+) -> Result<String, NoMemory> {
+    let mut out = String::new(alloc);
+    let mut walker = Walker::new();
+    let mut openings = Walker::new();
+    for remark in &advice.remarks {
+        let spot = walker.spot_at(source, place_in(places, source, remark.at));
+        let opening = match opening_of(remark) {
+            Some(at) => Some(openings.spot_at(source, place_in(places, source, at))),
+            None => None,
+        };
+        write!(out, "{name}:{spot}: ")?;
+        show_remark(&mut out, commands, remark, opening)?;
+        out.push_str("\n")?;
+    }
+    Ok(out)
+}

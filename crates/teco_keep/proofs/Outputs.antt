@@ -1,0 +1,67 @@
+-- Where the output goes, and what is told.
+use Rattle.std.proofs.Common.{◌≡◌, ◌≢◌, ◌⊎◌, inl, inr, ℕ, List, [], ◌++◌, Bool, true, false, Result, Ok, Err, Vec, Global, refl, sym, subst, ◌∙◌}
+use Rattle.std.specs.Prelude.{IfErr, OnOk}
+use Rattle.std.specs.IoError.{error_kind}
+use Rattle.std.specs.declared.io.Error.{Error}
+use Rattle.std.specs.declared.io.ErrorKind.{ErrorKind}
+use Rattle.std.specs.declared.io.ErrorKind.TheVariants.{OutOfMemory}
+use Rattle.teco_line.specs.StreamNames.{is_standard_output}
+use Rattle.teco_program.specs.Run.{KeepsDisk, Tells, WritesOutput}
+use Rattle.teco_program.specs.Seen.{DiskSeen}
+use Rattle.teco_program.proofs.Doings.{kept_same}
+use Rattle.teco_step.specs.Terminal.{Puts, Screen, Shows}
+use Rattle.teco_keep.specs.Keeping.{EndsWritten, FailsToPut, FailsToWrite, MakesAndPuts, Output, PutsOut, output_to}
+use Rattle.teco_keep.specs.declared.fate.Fate.{Fate}
+use Rattle.teco_keep.specs.Ending.{IsFateOf, is_told, said, status_of, text_of}
+use Rattle.teco_keep.specs.declared.fate.Fate.TheVariants.{Done, Faulty, Unreadable, NoInput, LargeInput, NoMemory, NoOutput}
+use Rattle.teco_keep.specs.declared.made.Made.{Made}
+use Rattle.teco_keep.specs.declared.made.Made.TheVariants as made
+
+pub tells_put : {A E : Type 0} {old new : Screen} {bytes : List ℕ} (result : Result A E) → Puts old new bytes result → Tells old new bytes
+tells_put (Ok done) p = inl p
+tells_put (Err fault) p = inr p
+
+module _ {I T A : Type 0} (screen : T → Screen) (name bytes : List ℕ) where
+  -- the bytes were put on standard output
+  pub puts_on : (disk : DiskSeen I) (old new : T) (result : Result A Fate) → is_standard_output name ≡ true
+      → OnOk result (Shows (screen old) (screen new) bytes false) → IfErr result (FailsToPut (screen old) (screen new) bytes)
+      → PutsOut (output_to (is_standard_output name) screen name disk disk old new) bytes result
+  puts_on disk old new (Ok done) on ok err = subst (λ b. (output_to b screen name disk disk old new).writes bytes) (sym on) (ok, kept_same)
+  puts_on disk old new (Err fate) on ok err = subst (λ b. (output_to b screen name disk disk old new).fails bytes fate) (sym on) (err, kept_same)
+
+  -- the bytes were put in a file
+  pub puts_in : (before after : DiskSeen I) (term : T) (result : Result A Fate) → is_standard_output name ≡ false
+      → OnOk result (WritesOutput before after name bytes) → IfErr result (FailsToWrite before after name bytes)
+      → PutsOut (output_to (is_standard_output name) screen name before after term term) bytes result
+  puts_in before after term (Ok done) off ok err = subst (λ b. (output_to b screen name before after term term).writes bytes) (sym off) (refl, ok)
+  puts_in before after term (Err fate) off ok err = subst (λ b. (output_to b screen name before after term term).fails bytes fate) (sym off) (refl, err)
+
+-- an error's fate is want of memory or the other one
+no_other : {error : Error} {other fate : Fate} → IsFateOf error other fate → fate ≢ NoMemory → fate ≢ other → ⊥
+no_other f not_memory not_other = not_other (f.other_is (λ memory. not_memory (f.memory memory)))
+
+of_error : {error : Error} (fate : Fate) → IsFateOf error NoOutput fate → (fate ≡ NoMemory) ⊎ (fate ≡ NoOutput)
+of_error NoMemory is = inl refl
+of_error NoOutput is = inr refl
+of_error Done is = absurd (no_other is (λ e. cc) (λ e. cc))
+of_error Faulty is = absurd (no_other is (λ e. cc) (λ e. cc))
+of_error (Unreadable spot) is = absurd (no_other is (λ e. cc) (λ e. cc))
+of_error NoInput is = absurd (no_other is (λ e. cc) (λ e. cc))
+of_error LargeInput is = absurd (no_other is (λ e. cc) (λ e. cc))
+
+-- how a run ends whose output fails
+pub fails_by : {I T : Type 0} (b : Bool) (screen : T → Screen) (name bytes : List ℕ) (before after : DiskSeen I) (old new : T) (fate : Fate)
+    → (output_to b screen name before after old new).fails bytes fate → (fate ≡ NoMemory) ⊎ (fate ≡ NoOutput)
+fails_by true screen name bytes before after old new fate f = inr f.0.fate_is
+fails_by false screen name bytes before after old new fate f = of_error fate f.1.fate_is
+
+module _ (is_made : Made → Type 0) (input : List ℕ) (output : Output) {fate : Fate} (bytes : Vec ℕ Global) where
+  pub puts_fine : is_made (made.Fine bytes) → EndsWritten output bytes.items Done fate → MakesAndPuts is_made input output fate
+  puts_fine m (inl w) = subst (MakesAndPuts is_made input output) (sym w.0) (bytes, m, w.1)
+  puts_fine m (inr (f, inl is)) = subst (MakesAndPuts is_made input output) (sym is) (inr (bytes, inl m, subst (output.fails bytes.items) is f))
+  puts_fine m (inr (f, inr is)) = subst (MakesAndPuts is_made input output) (sym is) (bytes, inl m, subst (output.fails bytes.items) is f)
+
+  pub puts_faulty : is_made (made.Faulty bytes) → EndsWritten output bytes.items Faulty fate → MakesAndPuts is_made input output fate
+  puts_faulty m (inl w) = subst (MakesAndPuts is_made input output) (sym w.0) (bytes, m, w.1)
+  puts_faulty m (inr (f, inl is)) = subst (MakesAndPuts is_made input output) (sym is) (inr (bytes, inr m, subst (output.fails bytes.items) is f))
+  puts_faulty m (inr (f, inr is)) = subst (MakesAndPuts is_made input output) (sym is) (bytes, inr m, subst (output.fails bytes.items) is f)

@@ -1,0 +1,23 @@
+use Rattle.std.proofs.Common.{List, ℕ, Ok, ap, sym, subst, ◌∙◌}
+use Rattle.teco_line.specs.StreamNames.{is_standard_input}
+use Rattle.teco_program.specs.Seen.{disk_seen, source_view}
+use Rattle.teco_keep.specs.Keeping.{EndsAfter, MakesAndPuts, ReadsInput, output_of}
+use Rattle.teco_keep.specs.Made.{IsMade}
+use Rattle.teco_keep.proofs.running.run_over.Goals as goal
+
+pub returns-in-Ok : goal.returns-in-Ok
+returns-in-Ok g c =
+    let seen = disk_seen g.D.Disk.files g.D.Disk.streams g.D.Disk.left g.D.Disk.gave g.D.Disk.changed
+    (source_view g.D.Input.Source.coming g.D.Input.Source.bound g.D.Input.Source.failures g.D.Input.Source.ended) in
+    let stream = source_view g.S.Source.coming g.S.Source.bound g.S.Source.failures g.S.Source.ended in
+    let output = output_of g.T.Terminal.screen c.args.line.now (seen c.input_of.new.disk) (seen c.make_and_put.new.disk) c.args.term.now c.make_and_put.new.term in
+    let named = c.as_str.ensures.value in
+    record {
+      mid = c.input_of.new.disk;
+      idle = c.input_of.ensures.keeps;
+      still = λ apart. c.input_of.ensures.still (ap is_standard_input named ∙ apart);
+      input = c.input_of.result;
+      reads = subst (λ (n : List ℕ). ReadsInput (is_standard_input n) stream n (seen c.args.disk.now) (seen c.input_of.new.disk) c.args.stream.now c.input_of.new.stream c.input_of.result) named c.input_of.ensures.reads;
+      ends = subst (λ input. EndsAfter c.args.line.now.mode input output c.make_and_put.result) (sym c.in-Ok.is)
+          (subst (λ (input : List ℕ). MakesAndPuts (IsMade c.args.line.now.mode input) input output c.make_and_put.result) c.deref.ensures.value c.make_and_put.ensures);
+    }

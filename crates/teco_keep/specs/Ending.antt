@@ -1,0 +1,61 @@
+-- How a run ends: its status, and the line that it prints on standard error.
+use Rattle.std.specs.Prelude.{◌≡◌, ◌≢◌, ℕ, List, [], ◌∷◌, ◌++◌, codes, min, length, Bool, true, false}
+use Rattle.std.specs.IoError.{error_kind}
+use Rattle.std.specs.String.{string_bytes}
+use Rattle.std.specs.declared.io.Error.{Error}
+use Rattle.std.specs.declared.io.ErrorKind.TheVariants.{OutOfMemory}
+use Rattle.teco_files.specs.declared.input.InputFault.{InputFault}
+use Rattle.teco_files.specs.declared.input.InputFault.TheVariants as input
+use Rattle.teco_telling.specs.Shown.{spot_shown}
+use Rattle.teco_telling.specs.Spot.{spot_of}
+use Rattle.teco_telling.specs.declared.spot.Spot.{Spot}
+use Rattle.teco_keep.specs.declared.fate.Fate.{Fate}
+use Rattle.teco_keep.specs.declared.fate.Fate.TheVariants.{Done, Faulty, Unreadable, NoInput, LargeInput, NoMemory, NoOutput}
+use Rattle.teco_keep.specs.declared.line.Line.{Line}
+
+-- 2 where a fault was found or a source can't be read, 1 where anything failed
+abbrev pub status_of : Fate → ℕ
+status_of Done = 0
+status_of Faulty = 2
+status_of (Unreadable spot) = 2
+status_of fate = 1
+
+-- how a run ends where the input is not read
+abbrev pub fate_without_input : InputFault → Fate
+fate_without_input input.Read = NoInput
+fate_without_input input.TooLarge = LargeInput
+fate_without_input input.Memory = NoMemory
+
+-- The fate of an error: want of memory where the error is that, otherwise the other one.
+pub record IsFateOf (error : Error) (other fate : Fate) : Type 0 where
+  pub memory : error_kind error ≡ OutOfMemory → fate ≡ NoMemory
+  pub other_is : error_kind error ≢ OutOfMemory → fate ≡ other
+
+-- the line and the column of a place of a source, as far as it goes
+abbrev pub spot_in : List ℕ → ℕ → Spot
+spot_in source at = spot_of source (min at (length source))
+
+-- a line that ends by LF
+abbrev pub said : List ℕ → List ℕ
+said words = codes "tecol: " ++ words ++ 10 ∷ []
+
+-- the line of a caret at this place that cannot be read
+abbrev pub unreadable : List ℕ → Spot → List ℕ
+unreadable input spot = input ++ codes ":" ++ spot_shown spot
+    ++ codes ": a caret before what it cannot stand before" ++ 10 ∷ []
+
+-- what is told of a fate: a line, or nothing
+abbrev pub text_of : Line → Fate → List ℕ
+text_of line Done = []
+text_of line Faulty = []
+text_of line (Unreadable spot) = unreadable (string_bytes line.input) spot
+text_of line NoInput = said (codes "cannot read " ++ string_bytes line.input)
+text_of line LargeInput = said (string_bytes line.input ++ codes " is too large")
+text_of line NoMemory = said (codes "no memory")
+text_of line NoOutput = said (codes "cannot write " ++ string_bytes line.output)
+
+-- A line is told of it.
+abbrev pub is_told : Fate → Bool
+is_told Done = false
+is_told Faulty = false
+is_told fate = true

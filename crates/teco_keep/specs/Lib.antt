@@ -1,0 +1,3 @@
+pub mod Made
+pub mod Ending
+pub mod Keeping

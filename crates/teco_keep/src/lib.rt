@@ -1,0 +1,16 @@
+//! A run of tecol, from the words of its command line to its status, over any files and streams.
+#![tactic(auto)]
+
+mod fate;
+mod line;
+mod made;
+mod parsing;
+mod reading;
+mod running;
+mod telling;
+mod writing;
+
+pub use line::{Line, Mode};
+pub use made::{Made, make};
+pub use parsing::{LineFault, fault_of_words, line_of, not_text};
+pub use running::{keep, program};

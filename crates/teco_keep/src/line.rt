@@ -1,0 +1,28 @@
+//! What the command line says.
+
+/// What a run makes of its input.
+#[derive(Clone, Copy)]
+pub enum Mode {
+    /// The bytes that a source stands for.
+    Bytes,
+    /// A listing of bytes.
+    Listing,
+    /// A listing of what a source stands for.
+    Again,
+    /// What a check tells of a source.
+    CheckSource,
+    /// What a check tells of bytes.
+    CheckBytes,
+}
+
+/// What the command line says.
+#[derive(Drop)]
+pub struct Line {
+    /// The name of the input; `-` is standard input.
+    pub input: String,
+    /// The name of the output; `-` is standard output.
+    pub output: String,
+    pub mode: Mode,
+    /// Whether a listing has words.
+    pub words: bool,
+}

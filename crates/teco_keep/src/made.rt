@@ -1,0 +1,88 @@
+//! What a run makes of its input.
+ghost use Rattle.std.specs.Prelude.{◌≡◌, IfOk};
+ghost use Rattle.teco_keep.specs.Made.{IsMade, IsMadeOf, IsMadeOfSource, IsVerdict, TellsWhether};
+
+use crate::line::{Line, Mode};
+use std::alloc::Global;
+use teco_advice::{check, report};
+use teco_core::NoMemory;
+use teco_source::{SourceFault, beginnings, commands, listing};
+
+/// What was made.
+#[derive(Drop)]
+pub enum Made {
+    /// Bytes, a listing, or the lines of a check that found no fault.
+    Fine(Vec<u8>),
+    /// The lines of a check that found a fault.
+    Faulty(Vec<u8>),
+    /// Nothing: in the source a caret at this place cannot be read.
+    Unreadable(usize),
+}
+
+/// What is told of commands.
+fn verdict(faulty: bool, lines: String) -> Made
+    ensures { TellsWhether faulty result }
+{
+    if faulty {
+        Made::Faulty(lines.into_bytes())
+    } else {
+        Made::Fine(lines.into_bytes())
+    }
+}
+
+/// The lines of a check of bytes.
+fn check_bytes(alloc: Global, name: &str, input: &[u8]) -> Result<Made, NoMemory>
+    ensures { IfOk result (IsVerdict input.now) }
+{
+    let advice = check(alloc, input)?;
+    let lines = report(alloc, name, input, None, input, &advice)?;
+    Ok(verdict(advice.is_faulty, lines))
+}
+
+/// The lines of a check of a source that stands for these commands.
+fn check_commands(alloc: Global, name: &str, source: &[u8], bytes: &[u8]) -> Result<Made, NoMemory>
+    ensures { IfOk result (IsVerdict bytes.now) }
+{
+    let advice = check(alloc, bytes)?;
+    let places = beginnings(alloc, source)?;
+    let lines = report(alloc, name, source, Some(&places), bytes, &advice)?;
+    Ok(verdict(advice.is_faulty, lines))
+}
+
+/// What is made of a source that stands for these commands.
+fn make_of_commands(
+    alloc: Global,
+    line: &Line,
+    source: &[u8],
+    bytes: Vec<u8>,
+) -> Result<Made, NoMemory>
+    ensures { IfOk result (IsMadeOf line.now.mode bytes.items) }
+{
+    match line.mode {
+        Mode::CheckSource => check_commands(alloc, line.input.as_str(), source, &bytes),
+        Mode::Again => Ok(Made::Fine(listing(alloc, &bytes, line.words)?)),
+        _ => Ok(Made::Fine(bytes)),
+    }
+}
+
+/// What is made of a source.
+fn make_of_source(alloc: Global, line: &Line, source: &[u8]) -> Result<Made, NoMemory>
+    ensures { IfOk result (IsMadeOfSource line.now.mode source.now) }
+{
+    match commands(alloc, source) {
+        Ok(bytes) => make_of_commands(alloc, line, source, bytes),
+        Err(SourceFault::Caret(at)) => Ok(Made::Unreadable(at)),
+        Err(SourceFault::Memory) => Err(NoMemory),
+    }
+}
+
+/// What the line asks to be made of an input.
+pub fn make(alloc: Global, line: &Line, input: &[u8]) -> Result<Made, NoMemory>
+    ensures { IfOk result (IsMade line.now.mode input.now) }
+{
+    match line.mode {
+        Mode::Listing => Ok(Made::Fine(listing(alloc, input, line.words)?)),
+        Mode::CheckBytes => check_bytes(alloc, line.input.as_str(), input),
+        _ => make_of_source(alloc, line, input),
+    }
+}

@@ -1,0 +1,43 @@
+//! Reading the input.
+ghost use Rattle.std.specs.Prelude.{IfErr, IfOk};
+ghost use Rattle.teco_keep.specs.Keeping.{FailsToStream, LacksInput};
+ghost use Rattle.teco_program.specs.Run.{IsInput, IsStreamed, KeepsDisk};
+ghost use Rattle.teco_program.specs.Seen.{disk_seen, source_view};
+
+use crate::fate::{Fate, fate_of};
+use std::alloc::Global;
+use teco_core::FILE_LIMIT;
+use teco_files::{Disk, Source, read_input};
+
+/// Reads a file whole.
+pub fn input_of_file<D: Disk>(alloc: Global, name: &str, disk: &mut D) -> Result<Vec<u8>, Fate>
+    ensures input { IfOk result (λ input. IsInput (D.files disk.old) name.now input.items) }
+    ensures fault { let seen = disk_seen D.files D.streams D.left D.gave D.changed
+        (source_view D.Input.coming D.Input.bound D.Input.failures D.Input.ended) in
+        IfErr result (LacksInput (seen disk.old) (seen disk.new) name.now) }
+    ensures keeps { let seen = disk_seen D.files D.streams D.left D.gave D.changed
+        (source_view D.Input.coming D.Input.bound D.Input.failures D.Input.ended) in
+        KeepsDisk (seen disk.old) (seen disk.new) }
+{
+    let mut source = match disk.open(name) {
+        Ok(source) => source,
+        Err(error) => return Err(fate_of(error, Fate::NoInput)),
+    };
+    match read_input(alloc, &mut source, FILE_LIMIT) {
+        Ok(input) => Ok(input),
+        Err(fault) => Err(Fate::from(fault)),
+    }
+}
+
+/// Reads standard input to its end.
+pub fn input_of_stream<S: Source>(alloc: Global, stream: &mut S) -> Result<Vec<u8>, Fate>
+    ensures input { IfOk result (λ input. IsStreamed (source_view S.coming S.bound S.failures S.ended)
+        stream.old stream.new input.items) }
+    ensures fault { IfErr result (FailsToStream (source_view S.coming S.bound S.failures S.ended)
+        stream.old stream.new) }
+{
+    match read_input(alloc, stream, FILE_LIMIT) {
+        Ok(input) => Ok(input),
+        Err(fault) => Err(Fate::from(fault)),
+    }
+}

@@ -1,0 +1,214 @@
+//! What the program does, on any disk and terminal.
+ghost use Rattle.std.specs.Prelude.{◌≡◌, codes, false};
+ghost use Rattle.teco_keep.specs.Ending.{said};
+ghost use Rattle.teco_keep.specs.Keeping.{Concludes, EndsWritten, Keeps, MakesAndPuts, PutsOut, ReadsInput, RunsOver, output_of, view_of};
+ghost use Rattle.teco_keep.specs.Made.{IsMade};
+ghost use Rattle.teco_line.specs.StreamNames.{is_standard_input};
+ghost use Rattle.teco_program.specs.Run.{KeepsDisk, Tells};
+ghost use Rattle.teco_program.specs.Runs.{host};
+ghost use Rattle.teco_program.specs.Seen.{disk_seen, source_view};
+
+use crate::fate::{Fate, status};
+use crate::line::Line;
+use crate::made::{Made, make};
+use crate::parsing::{LineFault, line_of};
+use crate::reading::{input_of_file, input_of_stream};
+use crate::telling::{spot_in, text_of};
+use crate::writing::{put_in_file, put_on_terminal};
+use std::alloc::Global;
+use std::fmt::Write;
+use std::process::ExitCode;
+use teco_core::NoMemory;
+use teco_files::{Disk, Source};
+use teco_line::{is_standard_input, is_standard_output};
+use teco_step::{Terminal, TerminalFault};
+
+/// Reads the input of the line, standard input or a file.
+fn input_of<S: Source, D: Disk>(
+    alloc: Global,
+    name: &str,
+    stream: &mut S,
+    disk: &mut D,
+) -> Result<Vec<u8>, Fate>
+    ensures reads { let seen = disk_seen D.files D.streams D.left D.gave D.changed
+        (source_view D.Input.coming D.Input.bound D.Input.failures D.Input.ended) in
+        ReadsInput (is_standard_input name.now) (source_view S.coming S.bound S.failures S.ended) name.now
+        (seen disk.old) (seen disk.new) stream.old stream.new result }
+    ensures keeps { let seen = disk_seen D.files D.streams D.left D.gave D.changed
+        (source_view D.Input.coming D.Input.bound D.Input.failures D.Input.ended) in
+        KeepsDisk (seen disk.old) (seen disk.new) }
+    ensures still { is_standard_input name.now ≡ false → stream.new ≡ stream.old }
+{
+    if is_standard_input(name) {
+        return input_of_stream(alloc, stream);
+    }
+    input_of_file(alloc, name, disk)
+}
+
+/// Writes what was made to where the line says.
+fn put<T: Terminal, D: Disk>(
+    alloc: Global,
+    line: &Line,
+    number: u32,
+    bytes: &[u8],
+    term: &mut T,
+    disk: &mut D,
+) -> Result<(), Fate>
+    ensures { let seen = disk_seen D.files D.streams D.left D.gave D.changed
+        (source_view D.Input.coming D.Input.bound D.Input.failures D.Input.ended) in
+        PutsOut (output_of T.screen line.now (seen disk.old) (seen disk.new) term.old term.new) bytes.now result }
+{
+    let name = line.output.as_str();
+    if is_standard_output(name) {
+        return put_on_terminal(bytes, term);
+    }
+    put_in_file(alloc, name, number, bytes, disk)
+}
+
+/// Writes what was made. Once it is written the run ends as it is to.
+fn put_and_end<T: Terminal, D: Disk>(
+    alloc: Global,
+    line: &Line,
+    number: u32,
+    bytes: &[u8],
+    wanted: Fate,
+    term: &mut T,
+    disk: &mut D,
+) -> Fate
+    ensures { let seen = disk_seen D.files D.streams D.left D.gave D.changed
+        (source_view D.Input.coming D.Input.bound D.Input.failures D.Input.ended) in
+        EndsWritten (output_of T.screen line.now (seen disk.old) (seen disk.new) term.old term.new) bytes.now wanted result }
+{
+    match put(alloc, line, number, bytes, term, disk) {
+        Ok(()) => wanted,
+        Err(failed) => failed,
+    }
+}
+
+/// Makes of the input what the line says, and writes it.
+fn make_and_put<T: Terminal, D: Disk>(
+    alloc: Global,
+    line: &Line,
+    number: u32,
+    input: &[u8],
+    term: &mut T,
+    disk: &mut D,
+) -> Fate
+    ensures { let seen = disk_seen D.files D.streams D.left D.gave D.changed
+        (source_view D.Input.coming D.Input.bound D.Input.failures D.Input.ended) in
+        MakesAndPuts (IsMade line.now.mode input.now) input.now
+        (output_of T.screen line.now (seen disk.old) (seen disk.new) term.old term.new) result }
+{
+    match make(alloc, line, input) {
+        Ok(Made::Fine(bytes)) => put_and_end(alloc, line, number, &bytes, Fate::Done, term, disk),
+        Ok(Made::Faulty(bytes)) => {
+            put_and_end(alloc, line, number, &bytes, Fate::Faulty, term, disk)
+        }
+        Ok(Made::Unreadable(at)) => Fate::Unreadable(spot_in(input, at)),
+        Err(NoMemory) => Fate::NoMemory,
+    }
+}
+
+/// Does what the line says.
+fn run_over<S: Source, T: Terminal, D: Disk>(
+    alloc: Global,
+    line: &Line,
+    number: u32,
+    stream: &mut S,
+    term: &mut T,
+    disk: &mut D,
+) -> Fate
+    ensures { let view = view_of (disk_seen D.files D.streams D.left D.gave D.changed
+        (source_view D.Input.coming D.Input.bound D.Input.failures D.Input.ended))
+        (source_view S.coming S.bound S.failures S.ended) T.screen in
+        RunsOver view line.now (host disk.old stream.old term.old) (host disk.new stream.new term.new) result }
+{
+    match input_of(alloc, line.input.as_str(), stream, disk) {
+        Ok(input) => make_and_put(alloc, line, number, &input, term, disk),
+        Err(fate) => fate,
+    }
+}
+
+fn no_memory<E: Terminal>(errors: &mut E) -> u8
+    ensures status { result ≡ 1 }
+    ensures told { Tells (E.screen errors.old) (E.screen errors.new) (said (codes "no memory")) }
+{
+    let _ = errors.put(b"tecol: no memory\n");
+    1
+}
+
+/// Tells how a run over the line ends, and gives the status.
+fn conclude<E: Terminal>(alloc: Global, line: &Line, fate: Fate, errors: &mut E) -> u8
+    ensures { Concludes line.now fate (E.screen errors.old) (E.screen errors.new) result }
+{
+    match text_of(alloc, line, fate) {
+        Ok(text) => {
+            let _ = errors.put(text.as_bytes());
+            status(fate)
+        }
+        Err(NoMemory) => no_memory(errors),
+    }
+}
+
+/// Does what the line says, tells how that ends, and gives the status. The number is for the name of a draft.
+pub fn keep<S: Source, T: Terminal, E: Terminal, D: Disk>(
+    alloc: Global,
+    line: &Line,
+    number: u32,
+    stream: &mut S,
+    term: &mut T,
+    errors: &mut E,
+    disk: &mut D,
+) -> u8
+    ensures { let view = view_of (disk_seen D.files D.streams D.left D.gave D.changed
+        (source_view D.Input.coming D.Input.bound D.Input.failures D.Input.ended))
+        (source_view S.coming S.bound S.failures S.ended) T.screen in
+        Keeps view E.screen line.now (host disk.old stream.old term.old) (host disk.new stream.new term.new)
+        errors.old errors.new result }
+{
+    let fate = run_over(alloc, line, number, stream, term, disk);
+    conclude(alloc, line, fate, errors)
+}
+
+/// Tells why the parser refused the line: on standard error, or on standard output where the help or the version was asked for.
+fn refuse_by<T: Terminal, E: Terminal>(
+    alloc: Global,
+    error: &clap::Error,
+    term: &mut T,
+    errors: &mut E,
+) -> u8 {
+    let mut text = String::new(alloc);
+    if write!(text, "{error}").is_err() {
+        return no_memory(errors);
+    }
+    if error.use_stderr() {
+        let _ = errors.put(text.as_bytes());
+        return 3;
+    }
+    match term.put(text.as_bytes()) {
+        Ok(()) => 0,
+        Err(TerminalFault) => 1,
+    }
+}
+
+/// Does what these words say, and gives the status.
+pub fn program<S: Source, T: Terminal, E: Terminal, D: Disk>(
+    alloc: Global,
+    words: Result<Vec<String>, LineFault>,
+    number: u32,
+    stream: &mut S,
+    term: &mut T,
+    errors: &mut E,
+    disk: &mut D,
+) -> ExitCode {
+    let line = match words {
+        Ok(words) => line_of(alloc, words.as_slice()),
+        Err(fault) => Err(fault),
+    };
+    let status = match line {
+        Ok(line) => keep(alloc, &line, number, stream, term, errors, disk),
+        Err(LineFault::NoMemory) => no_memory(errors),
+        Err(LineFault::Refused(error)) => refuse_by(alloc, &error, term, errors),
+    };
+    ExitCode::from(status)
+}

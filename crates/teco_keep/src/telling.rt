@@ -1,0 +1,58 @@
+//! What is told of how a run ends.
+ghost use Rattle.std.specs.Prelude.{◌≡◌, ◌++◌, true, IfOk, OnErr};
+ghost use Rattle.std.specs.String.{string_bytes};
+ghost use Rattle.teco_keep.specs.Ending.{is_told, said, spot_in, text_of, unreadable};
+
+use crate::fate::Fate;
+use crate::line::Line;
+use std::alloc::Global;
+use std::fmt::Write;
+use teco_core::NoMemory;
+use teco_telling::{Spot, spot_of};
+
+/// The line and the column of a place of a source, as far as it goes.
+pub fn spot_in(source: &[u8], at: usize) -> Spot
+    ensures { result ≡ spot_in source.now at }
+{
+    spot_of(source, at.min(source.len()))
+}
+
+/// A line about a name, which comes between two texts.
+fn said_of(alloc: Global, before: &str, name: &str, after: &str) -> Result<String, NoMemory>
+    ensures { IfOk result (λ text. string_bytes text ≡ said (before.now ++ name.now ++ after.now)) }
+{
+    let mut text = String::from_str(alloc, "tecol: ")?;
+    text.push_str(before)?;
+    text.push_str(name)?;
+    text.push_str(after)?;
+    text.push_str("\n")?;
+    Ok(text)
+}
+
+/// The line of a caret that cannot be read.
+fn unreadable(alloc: Global, input: &str, spot: Spot) -> Result<String, NoMemory>
+    ensures { IfOk result (λ text. string_bytes text ≡ unreadable input.now spot) }
+{
+    let mut text = String::from_str(alloc, input)?;
+    text.push_str(":")?;
+    write!(text, "{spot}")?;
+    text.push_str(": a caret before what it cannot stand before")?;
+    text.push_str("\n")?;
+    Ok(text)
+}
+
+/// What is told: a line, or nothing.
+pub fn text_of(alloc: Global, line: &Line, fate: Fate) -> Result<String, NoMemory>
+    ensures ok { IfOk result (λ text. string_bytes text ≡ text_of line.now fate) }
+    ensures err { OnErr result (is_told fate ≡ true) }
+{
+    let input = line.input.as_str();
+    match fate {
+        Fate::Done | Fate::Faulty => Ok(String::new(alloc)),
+        Fate::Unreadable(spot) => unreadable(alloc, input, spot),
+        Fate::NoInput => said_of(alloc, "cannot read ", input, ""),
+        Fate::LargeInput => said_of(alloc, "", input, " is too large"),
+        Fate::NoMemory => said_of(alloc, "no memory", "", ""),
+        Fate::NoOutput => said_of(alloc, "cannot write ", line.output.as_str(), ""),
+    }
+}

@@ -1,0 +1,120 @@
+-- Sources one after another, and where the one that can't be read is.
+use Rattle.std.proofs.Common.{◌≡◌, ◌++◌, ◌+◌, ◌-◌, ◌≤◌, ◌<◌, ◌∙◌, ℕ, suc, take, Vec, List, [], ◌∷◌, Ok, Err, Bool, true, false, String, Global, Option, Some, inl, inr, length, refl, sym, ap, subst, arith, append_assoc}
+use Rattle.std.proofs.lemmas.List.{append-nil}
+use Rattle.std.specs.List.{slice_index_or}
+use Rattle.std.specs.String.{string_bytes}
+use Rattle.teco_files.specs.Disk.{Files}
+use Rattle.teco_line.specs.StreamNames.{is_standard_input}
+use Rattle.teco_program.specs.Seen.{SourceView}
+use Rattle.teco_program.specs.Sources.{AreCommandsIn, IsFaultOf, IsFaultyFile, IsWholeOf, LacksCommands, LacksFiles}
+use Rattle.teco_line.specs.declared.line.Commands.TheVariants.{Sources}
+use Rattle.teco_program.specs.declared.sources.CommandsFault.{CommandsFault}
+use Rattle.teco_program.specs.declared.sources.CommandsFault.TheVariants as fault
+use Rattle.teco_program.specs.declared.sources.CommandsFault.TheVariants.{Memory, Unread}
+use Rattle.teco_source.specs.Source.{State, commands_from, commands_of, ended_in, is_wrong, step}
+use Rattle.teco_source.specs.declared.reader.Mode.{Mode}
+use Rattle.teco_source.specs.declared.reader.Mode.TheVariants.{First, Margin, Blank, Text, Hash, Mark, Caret, Comment, Wrong}
+
+-- One source more.
+pub one_source_more : {S : Type 0} (source : SourceView S) (files : Option Files) (names : List (String Global)) (name : String Global) (old mid new : S) (made text strings : List ℕ)
+    → AreCommandsIn source files names old mid made → IsWholeOf (is_standard_input (string_bytes name)) source files (string_bytes name) mid new text
+    → commands_of text ≡ Ok strings → AreCommandsIn source files (names ++ name ∷ []) old new (made ++ strings)
+one_source_more source files [] name old mid new made text strings h whole read = (
+  new,
+  text,
+  strings,
+  [],
+  subst (λ s. IsWholeOf (is_standard_input (string_bytes name)) source files (string_bytes name) s new text) h.0 whole,
+  read,
+  (refl, refl),
+  ap (λ m. m ++ strings) h.1 ∙ sym (append-nil strings),
+)
+one_source_more source files (n ∷ ns) name old mid new made text strings h whole read = (
+  h.0,
+  h.1,
+  h.2,
+  h.3 ++ strings,
+  h.4,
+  h.5,
+  one_source_more source files ns name h.0 mid new h.3 text strings h.6 whole read,
+  ap (λ m. m ++ strings) h.7 ∙ append_assoc h.2 h.3 strings,
+)
+
+-- The place of a caret that can't be read is in the source.
+ended_within : (m : Mode) (s : State) (at p : ℕ) → ended_in m s at ≡ Err p → p ≤ at
+ended_within Caret s at p e =
+    let is : at - 1 ≡ p = cc in
+    omega (arith, is)
+ended_within Wrong s at p e =
+    let is : at - 1 ≡ p = cc in
+    omega (arith, is)
+ended_within First s at p e = cc
+ended_within Margin s at p e = cc
+ended_within Blank s at p e = cc
+ended_within Text s at p e = cc
+ended_within Hash s at p e = cc
+ended_within Mark s at p e = cc
+ended_within Comment s at p e = cc
+
+from_within : (bs : List ℕ) (s : State) (at p : ℕ) → commands_from s at bs ≡ Err p → p ≤ at + length bs
+unfolding commands_from
+from_within [] s at p e =
+    let h = ended_within s.mode s at p e in
+    omega (arith, h)
+from_within (b ∷ bs) s at p e = go (is_wrong (step s b).mode) refl (from_within bs (step s b) (suc at) p)
+  where
+    go : (t : Bool) → is_wrong (step s b).mode ≡ t → (commands_from (step s b) (suc at) bs ≡ Err p → p ≤ suc at + length bs) → p ≤ at + suc (length bs)
+    go true w rest =
+        let is : Err (at - 1) ≡ Err p = rw w at e in
+        let same : at - 1 ≡ p = cc in
+        omega (arith, same)
+    go false w rest =
+        let is : commands_from (step s b) (suc at) bs ≡ Err p = rw w at e in
+        let h = rest is in
+        omega (arith, h)
+
+pub caret_within : (source : List ℕ) (p : ℕ) → commands_of source ≡ Err p → p ≤ length source
+caret_within source p e =
+    let h = from_within source _ 0 p e in
+    omega (arith, h)
+
+-- what a source is, where the files are the same
+pub same_files : {S : Type 0} (source : SourceView S) {files given : Option Files} (b : Bool) (name : List ℕ) (old new : S) (bytes : List ℕ) → given ≡ files
+    → IsWholeOf b source given name old new bytes → IsWholeOf b source files name old new bytes
+same_files source b name old new bytes same h = subst (λ f. IsWholeOf b source f name old new bytes) same h
+
+-- A file of sources that can't be read.
+pub faulty_file : {S : Type 0} (source : SourceView S) (files : Option Files) (names : List (String Global)) (name : String Global) (at : ℕ) (old mid new : S) (front text : List ℕ)
+    → AreCommandsIn source files (take at names) old mid front → at < length names → name ≡ slice_index_or names at name
+    → IsWholeOf (is_standard_input (string_bytes name)) source files (string_bytes name) mid new text
+    → (fault : CommandsFault) → IsFaultOf text at fault → LacksFiles source names files old new fault
+faulty_file source files names name at old mid new front text before within name_is whole Memory h = tt
+faulty_file source files names name at old mid new front text before within name_is whole (Unread n) h = absurd h
+faulty_file source files names name at old mid new front text before within name_is whole (fault.Caret n spot) h =
+    subst (λ (k : ℕ). IsFaultyFile source files names k spot old new) (sym h.0) (record {
+      mid = mid;
+      front = front;
+      before = before;
+      within = within;
+      name = name;
+      name_is = name_is;
+      text = text;
+      text_is = whole;
+      wrong = h.1;
+    })
+
+-- What the files of a line lack, the line lacks.
+pub files_lacked : {S : Type 0} (source : SourceView S) (names : Vec (String Global) Global) (word : Option (String Global)) (files : Option Files) (old new : S) (fault : CommandsFault)
+    → LacksFiles source names.items files old new fault → LacksCommands source (Sources names word) files old new fault
+files_lacked source names word files old new Memory h = tt
+files_lacked source names word files old new (Unread at) h = h
+files_lacked source names word files old new (fault.Caret at spot) h = inl h
+
+-- And so with its word.
+pub word_lacked : {S : Type 0} (source : SourceView S) (names : Vec (String Global) Global) (word : String Global) (files : Option Files) (old new : S) (front : List ℕ) (fault : CommandsFault)
+    → AreCommandsIn source files names.items old new front → IsFaultOf (string_bytes word) (length names.items) fault
+    → LacksCommands source (Sources names (Some word)) files old new fault
+word_lacked source names word files old new front Memory before h = tt
+word_lacked source names word files old new front (Unread at) before h = absurd h
+word_lacked source names word files old new front (fault.Caret at spot) before h =
+    inr (record { front = front; before = before; at_is = h.0; text = string_bytes word; text_is = refl; wrong = h.1 })

@@ -1,0 +1,33 @@
+use Rattle.std.proofs.Common.{ℕ, List, inl, inr, refl, subst}
+use Rattle.teco_files.specs.contracts.word_source.WordSourceSource.TheImpl as word
+use Rattle.teco_program.specs.Runs.{RunsInOrder, host, host_view, inputs_of}
+use Rattle.teco_program.specs.Seen.{disk_seen, source_view}
+use Rattle.teco_program.proofs.several.edit_all.Goals as goal
+
+pub returns-in-Ok-clause-runs : goal.returns-in-Ok-clause-runs
+returns-in-Ok-clause-runs g c =
+    let view = host_view (disk_seen g.D.Disk.files g.D.Disk.streams g.D.Disk.left g.D.Disk.gave g.D.Disk.changed
+    (source_view g.D.Input.Source.coming g.D.Input.Source.bound g.D.Input.Source.failures g.D.Input.Source.ended))
+    (source_view g.S.Source.coming g.S.Source.bound g.S.Source.failures g.S.Source.ended) g.T.Terminal.screen
+    (source_view (word.coming-value).it (word.bound-value).it (word.failures-value).it (word.ended-value).it) in
+    let mid = host c.commands_given.new.disk c.commands_given.new.stream c.args.term.now in
+    let new = host c.edit_each.new.disk c.edit_each.new.commands c.edit_each.new.term in
+    record {
+      whole = c.requires.whole;
+      mid = mid;
+      idle = (refl, c.commands_given.ensures.keeps);
+      runs = inr (
+        c.in-Ok.bytes.items,
+        c.in-Ok.ensures.given,
+        subst (λ (bytes : List ℕ). RunsInOrder view g.E.Terminal.screen c.args.line.now bytes (inputs_of c.args.line.now) (mid, c.args.errors.now) (new, c.edit_each.new.errors) c.edit_each.result)
+            c.as_slice.ensures.value c.edit_each.ensures.runs,
+      );
+    }
+
+pub returns-in-Err-clause-runs : goal.returns-in-Err-clause-runs
+returns-in-Err-clause-runs g c = record {
+  whole = c.requires.whole;
+  mid = host c.commands_given.new.disk c.commands_given.new.stream c.args.term.now;
+  idle = (refl, c.commands_given.ensures.keeps);
+  runs = inl (c.in-Err.fault, refl, c.in-Err.ensures.lacks, c.decline.ensures);
+}

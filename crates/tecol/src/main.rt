@@ -1,0 +1,30 @@
+//! The program: turns sources of command strings into bytes and back, and checks them.
+#![tactic(auto)]
+
+use std::process;
+use std::process::ExitCode;
+use teco_files::{FileDisk, ReaderSource};
+use teco_keep::{LineFault, fault_of_words, not_text, program};
+use teco_step::WriterTerminal;
+
+// That these are the program's words, streams and files is told by no contract.
+
+/// The words that the program was called with.
+fn words_given(rt: &HostRuntime) -> Result<Vec<String>, LineFault> {
+    match std::env::args(rt) {
+        Ok(words) => Ok(words.collect(rt.alloc())?),
+        Err(error) => Err(fault_of_words(error, not_text(rt.alloc()))),
+    }
+}
+
+fn main(rt: HostRuntime) -> ExitCode {
+    program(
+        rt.alloc(),
+        words_given(&rt),
+        process::id(rt.process()),
+        &mut ReaderSource::new(rt.stdin()),
+        &mut WriterTerminal::new(rt.stdout()),
+        &mut WriterTerminal::new(rt.stderr()),
+        &mut FileDisk::new(&rt),
+    )
+}

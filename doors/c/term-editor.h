@@ -1,0 +1,65 @@
+/*
+ * term-editor.h - the parts of teco-term
+ *
+ * teco-term.c has the program; term-press.c says what its keys do, term-strings.c shows what a string comes to, and term-line.c draws the
+ * string that is being typed.
+ */
+#ifndef TERM_EDITOR_H
+#define TERM_EDITOR_H
+
+#include "terminal.h"
+
+/* The string that is being typed, and what of it is on the screen. All zero it is empty, and the cursor is at the beginning of a line. */
+struct line {
+    struct bytes text;
+    const char *prompt; /* `*` where it is none */
+    size_t drawn;       /* so many bytes are on the screen, */
+    size_t kept;        /* and so many of them are still the text's */
+    size_t row, column, top; /* of the cursor, from the prompt on; of the first row that the screen still has */
+    size_t rows, columns;    /* of the terminal, when it was drawn; none are drawn where it is 0 */
+    bool lost;               /* the cursor is anywhere */
+};
+
+/* Adds a byte. False where memory is refused. */
+bool line_add(struct line *line, uint8_t byte);
+
+/* Cuts the text off after n bytes. */
+void line_cut(struct line *line, size_t n);
+
+/* Where its last line begins. At the beginning of a line, where the one before does. */
+size_t line_start(const struct line *line);
+
+/* Brings the screen to the text. GOES_ON, SHOW_FAULT or NO_MEMORY. */
+enum fate line_show(struct line *line);
+
+/* Shows a text as it would be typed, from the beginning of a line on. The same. */
+enum fate line_show_text(const struct bytes *text);
+
+/* Room for a sentence that says why something isn't done. */
+enum { WHY = 400 };
+
+struct editor {
+    struct work work;
+    struct line line;
+    struct keys keys;
+    struct bytes last; /* the last string, */
+    struct told told;  /* how it ended, */
+    bool has_failed;   /* and if it ended by a code, and no key came after that */
+    bool has_asked;    /* whether to leave with edits, and no key came after that */
+    bool is_quoted;    /* the next key is a byte as it is */
+    bool is_naming;    /* what is typed is the name of an output, since the one before can't be written */
+};
+
+/* Does what a string asks, which has the first ESC of its pair, and shows what it types and what there is to tell. */
+enum fate serve(struct editor *editor, const uint8_t *text, size_t n);
+
+/* Writes to the file whose name was typed. */
+enum fate name_output(struct editor *editor, const uint8_t *name, size_t n);
+
+/* Shows the last string, which failed, up to where it did. */
+enum fate show_failed(const struct editor *editor);
+
+/* Waits for keys and does what they say, until the program ends. */
+enum fate converse(struct editor *editor);
+
+#endif

@@ -1,0 +1,203 @@
+/* The strings of a session, kept beside it, so that they can be left in a file where the program is ended: by a signal too, while the
+   library is in a call. The file is a source for tecol, and `teco -f` makes the text again from the strings in it. */
+#include "terminal.h"
+#include <fcntl.h>
+#include <signal.h>
+#include <stdio.h>
+#include <stdlib.h>
+#include <string.h>
+#include <unistd.h>
+
+enum { CODE_LIM = 27, PIECE = 4096 };
+static const char SUFFIX[] = ".teco-strings";
+
+/* What the handlers need, which no call changes while a signal may come. */
+static const struct journal *watched;
+static char *name;
+
+bool journal_reserve(struct journal *journal, size_t n)
+{
+    sigset_t usual;
+    bool is_blocked = tty_block(&usual), has_room = true;
+    size_t texts = journal->cursor > 0 ? journal->strings[journal->cursor - 1].end : 0;
+    if (journal->cursor == journal->room) {
+        struct kept *more = realloc(journal->strings, (2 * journal->room + 64) * sizeof *more);
+        has_room = more != NULL;
+        journal->strings = has_room ? more : journal->strings;
+        journal->room += has_room ? journal->room + 64 : 0;
+    }
+    if (has_room && n > journal->texts.room - texts) {
+        size_t room = 2 * journal->texts.room > texts + n ? 2 * journal->texts.room : texts + n;
+        uint8_t *more = realloc(journal->texts.at, room);
+        has_room = more != NULL;
+        journal->texts.at = has_room ? more : journal->texts.at;
+        journal->texts.room = has_room ? room : journal->texts.room;
+    }
+    if (is_blocked)
+        tty_unblock(&usual);
+    return has_room;
+}
+
+void journal_note(struct journal *journal, const uint8_t *text, size_t n, uint8_t code, uint64_t steps)
+{
+    sigset_t usual;
+    bool is_blocked = tty_block(&usual);
+    size_t from = journal->cursor > 0 ? journal->strings[journal->cursor - 1].end : 0;
+    if (n > 0)
+        memcpy(journal->texts.at + from, text, n);
+    journal->texts.count = from + n;
+    bool is_cut = code == CODE_LIM || code == TECO_MEM || code == TECO_TTY;
+    journal->strings[journal->cursor] = (struct kept){.end = from + n, .steps = steps, .code = code, .is_cut = is_cut};
+    journal->count = ++journal->cursor;
+    if (is_blocked)
+        tty_unblock(&usual);
+}
+
+void journal_move(struct journal *journal, size_t cursor)
+{
+    journal->cursor = cursor < journal->count ? cursor : journal->count;
+}
+
+void journal_rewind(struct journal *journal, uint64_t steps)
+{
+    journal->count = journal->cursor;
+    if (journal->cursor == 0 || journal->strings[journal->cursor - 1].steps <= steps)
+        return;
+    struct kept *last = &journal->strings[journal->cursor - 1];
+    last->steps = steps;
+    last->code = 0;
+    last->is_cut = true;
+}
+
+void journal_want(struct journal *journal, bool is_wanted)
+{
+    journal->is_wanted = is_wanted;
+}
+
+void journal_free(struct journal *journal)
+{
+    watched = NULL;
+    free(name);
+    name = NULL;
+    bytes_free(&journal->texts);
+    free(journal->strings);
+    *journal = (struct journal){0};
+}
+
+const uint8_t *journal_text(const struct journal *journal, size_t i, size_t *n)
+{
+    size_t from = i > 0 ? journal->strings[i - 1].end : 0;
+    *n = journal->strings[i].end - from;
+    return journal->texts.at + from;
+}
+
+void journal_watch(const struct journal *journal, const char *input)
+{
+    size_t size = strlen(input) + sizeof SUFFIX + 2;
+    name = malloc(size);
+    if (name != NULL)
+        (void)snprintf(name, size, "%s%s", input, SUFFIX);
+    watched = journal;
+}
+
+/* From here on all may be called by a handler: no memory is asked for, and nothing is called but open, write and close. */
+
+/* Bytes that go to a file in pieces. */
+struct pen {
+    int file;
+    size_t count;
+    char piece[PIECE];
+};
+
+static void flush(struct pen *pen)
+{
+    for (size_t at = 0; at < pen->count;) {
+        ssize_t written = write(pen->file, pen->piece + at, pen->count - at);
+        if (written <= 0)
+            break;
+        at += (size_t)written;
+    }
+    pen->count = 0;
+}
+
+static void put(struct pen *pen, const char *text)
+{
+    for (; *text != '\0'; text++) {
+        if (pen->count == PIECE)
+            flush(pen);
+        pen->piece[pen->count++] = *text;
+    }
+}
+
+static void put_number(struct pen *pen, uint64_t number)
+{
+    char digits[24], *at = digits + sizeof digits - 1;
+    for (*at = '\0'; number > 9; number /= 10)
+        *--at = (char)('0' + number % 10);
+    *--at = (char)('0' + number);
+    put(pen, at);
+}
+
+/* A byte as `tecol -r` writes it. */
+static void put_byte(struct pen *pen, uint8_t byte, uint8_t before)
+{
+    if (byte == ESCAPE)
+        put(pen, "$");
+    else if (byte == LINE_FEED)
+        put(pen, "^J\n");
+    else if (byte == '$')
+        put(pen, "^$");
+    else if (byte == '^')
+        put(pen, "^=");
+    else if (byte < 32 || byte == DELETE)
+        put(pen, (char[]){'^', (char)(byte ^ 64), '\0'});
+    else if (byte == '!' && before == '!')
+        put(pen, "^!");
+    else
+        put(pen, (char[]){(char)byte, '\0'});
+}
+
+static void put_string(struct pen *pen, const struct journal *journal, size_t i)
+{
+    size_t n;
+    const uint8_t *text = journal_text(journal, i, &n);
+    for (size_t at = 0; at < n; at++)
+        put_byte(pen, text[at], at > 0 ? text[at - 1] : 0);
+    put(pen, n > 0 && text[n - 1] == ESCAPE ? "$\n" : "$$\n");
+    if (journal->strings[i].is_cut) {
+        put_number(pen, journal->strings[i].steps);
+        put(pen, "~$$\n");
+    }
+}
+
+/* A new file of the name, or of the name and a digit where there are such files. */
+static int make_file(void)
+{
+    size_t end = strlen(name);
+    int file = open(name, O_WRONLY | O_CREAT | O_EXCL | O_CLOEXEC, 0600);
+    for (char digit = '2'; file < 0 && digit <= '9'; digit++) {
+        name[end] = digit;
+        name[end + 1] = '\0';
+        file = open(name, O_WRONLY | O_CREAT | O_EXCL | O_CLOEXEC, 0600);
+    }
+    return file;
+}
+
+void journal_leave(void)
+{
+    static struct pen pen;
+    const struct journal *journal = watched;
+    watched = NULL;
+    if (journal == NULL || name == NULL || !journal->is_wanted)
+        return;
+    pen.file = make_file();
+    if (pen.file < 0)
+        return;
+    put(&pen, "!! The strings of a session that was ended. To make its text again: tecol < THIS > STRINGS; teco --limit ");
+    put_number(&pen, journal->limit);
+    put(&pen, " -f STRINGS INPUT\n");
+    for (size_t i = 0; i < journal->cursor; i++)
+        put_string(&pen, journal, i);
+    flush(&pen);
+    (void)close(pen.file);
+}

@@ -1,0 +1,58 @@
+/* The line of a program, and how it ends. */
+#include "terminal.h"
+#include <errno.h>
+#include <getopt.h>
+#include <stdio.h>
+#include <stdlib.h>
+
+static const uint64_t MOST_STEPS = 1000000000000;
+
+/* A number in this range, of digits alone. */
+static bool read_number(const char *text, uint64_t least, uint64_t most, uint64_t *number)
+{
+    char *end;
+    errno = 0;
+    *number = strtoull(text, &end, 10);
+    return text[0] >= '0' && text[0] <= '9' && *end == '\0' && errno == 0 && *number >= least && *number <= most;
+}
+
+static bool read_line(const struct program *program, int count, char **words, struct options *options)
+{
+    static const struct option KNOWN[] = {{"limit", required_argument, NULL, 'l'}, {"output", required_argument, NULL, 'o'},
+        {"undo", required_argument, NULL, 'u'}, {"help", no_argument, NULL, 'h'}, {"steps", no_argument, NULL, 's'}, {0}};
+    bool is_good = true;
+    int option;
+    while (is_good && (option = getopt_long(count, words, "h", KNOWN, NULL)) != -1) {
+        switch (option) {
+        case 'l': is_good = read_number(optarg, 0, MOST_STEPS, &options->limit); break;
+        case 'o': options->output = optarg; break;
+        case 'u': is_good = read_number(optarg, 1, TECO_DEPTH_LIMIT, &options->depth); break;
+        case 's': options->steps = is_good = program->has_steps; break;
+        case 'h': options->help = true; break;
+        default: is_good = false;
+        }
+    }
+    options->input = optind < count ? words[optind] : NULL;
+    return is_good && (options->help || optind + 1 == count);
+}
+
+int options_read(const struct program *program, int count, char **words, struct options *options)
+{
+    *options = (struct options){.limit = 1000000};
+    bool is_good = read_line(program, count, words, options);
+    if (is_good && !options->help)
+        return -1;
+    return fputs(is_good ? program->help : program->usage, is_good ? stdout : stderr) >= 0 && is_good ? 0 : 3;
+}
+
+int conclude(const struct program *program, const char *input, enum fate fate)
+{
+    static const char *const SAID[] = {[NO_INPUT] = "cannot read ", [LARGE_INPUT] = " is too large",
+        [NO_TERMINAL] = "standard input and output are no terminal",
+        [POOR_TERMINAL] = "this terminal can't move its cursor, or isn't known: TERM says what it is", [READ_FAULT] = "cannot read commands",
+        [SHOW_FAULT] = "cannot show", [NO_MEMORY] = "no memory"};
+    if (fate == EXIT || fate == END_OF_COMMANDS)
+        return fate == EXIT ? 0 : 2;
+    (void)fprintf(stderr, "%s: %s%s%s\n", program->name, fate == LARGE_INPUT ? input : "", SAID[fate], fate == NO_INPUT ? input : "");
+    return 1;
+}

@@ -1,0 +1,227 @@
+/* What a string comes to that a person types: it is run, or asks for undos, redos or a rewind; and the writing of the output. */
+#include "terminal.h"
+#include <errno.h>
+#include <stdio.h>
+#include <stdlib.h>
+#include <string.h>
+
+enum fate work_open(struct work *work, const struct options *options)
+{
+    *work = (struct work){.options = options, .journal = {.limit = options->limit}};
+    enum fate fate = file_read(options->input, &work->input, &work->read);
+    if (fate != GOES_ON)
+        return fate;
+    work->warned = work->read;
+    const char *output = options->output != NULL ? options->output : options->input;
+    size_t size = strlen(output) + sizeof ".out";
+    work->room = malloc(ROOM);
+    work->output = malloc(size);
+    if (work->room == NULL || work->output == NULL)
+        return NO_MEMORY;
+    (void)snprintf(work->output, size, "%s%s", output, options->output != NULL ? "" : ".out");
+    const uint8_t *input = work->input.count > 0 ? work->input.at : (const uint8_t *)"";
+    if (teco_open(&work->session, input, work->input.count, (size_t)options->depth) != 0)
+        return NO_MEMORY;
+    journal_watch(&work->journal, options->input);
+    return GOES_ON;
+}
+
+void work_close(struct work *work)
+{
+    journal_free(&work->journal);
+    teco_close(&work->session);
+    bytes_free(&work->input);
+    free(work->output);
+    free(work->room);
+}
+
+static bool is_filler(uint8_t byte)
+{
+    return byte == ' ' || byte == RETURN || byte == LINE_FEED || byte == 0;
+}
+
+/* What is left of n bytes without the fillers at either end; n is how many they are then. */
+static const uint8_t *without_fillers(const uint8_t *text, size_t *n)
+{
+    for (; *n > 0 && is_filler(*text); (*n)--)
+        text++;
+    while (*n > 0 && is_filler(text[*n - 1]))
+        (*n)--;
+    return text;
+}
+
+uint8_t work_asks(const uint8_t *text, size_t n, uint64_t *number)
+{
+    text = without_fillers(text, &n);
+    *number = 0;
+    if (n == 0 || n > 10)
+        return 0;
+    for (size_t i = 0; i + 1 < n; i++) {
+        if (text[i] < '0' || text[i] > '9')
+            return 0;
+        *number = 10 * *number + (uint64_t)(text[i] - '0');
+    }
+    uint8_t last = text[n - 1];
+    if (n == 1 && last != '~')
+        *number = 1;
+    return last == '{' || last == '}' || last == '~' ? last : 0;
+}
+
+/* Brings the journal to the cursor of the session. */
+static void follow(struct work *work, size_t before)
+{
+    size_t now;
+    if (teco_cursor(&work->session, &now) == 0)
+        journal_move(&work->journal, work->journal.cursor + now - before);
+}
+
+/* Asks for so many undos or redos, and stops at the first that is refused. */
+static uint8_t repeat(struct work *work, uint8_t (*call)(struct teco *), uint64_t times)
+{
+    uint8_t code = 0;
+    size_t before = 0;
+    (void)teco_cursor(&work->session, &before);
+    while (code == 0 && times > 0) {
+        code = call(&work->session);
+        times--;
+    }
+    follow(work, before);
+    return code;
+}
+
+uint8_t work_undo(struct work *work, uint64_t times)
+{
+    return repeat(work, teco_undo, times);
+}
+
+uint8_t work_redo(struct work *work, uint64_t times)
+{
+    return repeat(work, teco_redo, times);
+}
+
+uint8_t work_rewind(struct work *work, uint64_t steps)
+{
+    uint8_t code = teco_rewind(&work->session, steps);
+    if (code == 0)
+        journal_rewind(&work->journal, steps);
+    return code;
+}
+
+static void run(struct work *work, const uint8_t *text, size_t n, struct told *told)
+{
+    if (!journal_reserve(&work->journal, n)) {
+        told->code = TECO_NOT_BEGUN;
+        return;
+    }
+    told->code = teco_where(&work->session, text, n, work->options->limit, work->room, ROOM, &told->made, &told->steps, &told->at, &told->calls);
+    if (told->code != TECO_NOT_BEGUN && told->code != TECO_END)
+        journal_note(&work->journal, text, n, told->code, told->steps);
+}
+
+struct told work_do(struct work *work, const uint8_t *text, size_t n)
+{
+    struct told told = {.at = TECO_NOWHERE};
+    uint64_t number;
+    switch (work_asks(text, n > 0 && text[n - 1] == ESCAPE ? n - 1 : n, &number)) {
+    case '{': told.code = work_undo(work, number); break;
+    case '}': told.code = work_redo(work, number); break;
+    case '~': told.code = work_rewind(work, number); break;
+    default: run(work, text, n, &told);
+    }
+    journal_want(&work->journal, work_has_edits(work));
+    return told;
+}
+
+bool work_steps(const struct work *work, uint64_t *steps)
+{
+    size_t count;
+    *steps = 0;
+    return teco_cursor(&work->session, &count) == 0 && count > 0 && teco_steps(&work->session, count - 1, steps) == 0;
+}
+
+typedef uint8_t look(const struct teco *session, size_t from, uint8_t *room, size_t size, size_t *length);
+
+/* Whether the bytes that a look gives from a place on are those of INPUT from `at` on, which goes behind them. */
+static bool is_of_input(struct work *work, look *call, size_t from, size_t *at)
+{
+    enum { PIECE = 1 << 18 };
+    static uint8_t piece[PIECE];
+    size_t length;
+    do {
+        if (call(&work->session, from, piece, PIECE, &length) != 0 || length > work->input.count - *at)
+            return false;
+        size_t n = length < PIECE ? length : PIECE;
+        if (n > 0 && memcmp(piece, work->input.at + *at, n) != 0)
+            return false;
+        from += n;
+        *at += n;
+    } while (length > PIECE);
+    return true;
+}
+
+/* EX writes the output, the buffer with its form feed, and what of INPUT isn't read. Of the output no more is compared than what came
+   since it was compared before: a string adds to it, and an undo takes away. */
+bool work_has_edits(struct work *work)
+{
+    size_t output, text, place, at;
+    if (teco_output(&work->session, 0, work->room, 0, &output) != 0 || teco_length(&work->session, &text) != 0
+        || teco_place(&work->session, &place) != 0)
+        return true;
+    if (output < work->verified)
+        work->verified = output;
+    if (output + text + (teco_form_feed(&work->session) == 1) != place)
+        return true;
+    at = work->verified;
+    if (!is_of_input(work, teco_output, work->verified, &at))
+        return true;
+    work->verified = at;
+    return !is_of_input(work, teco_text, 0, &at);
+}
+
+/* Whether the output goes over the file that was read, and that has changed since then, and since a person was told so. */
+static bool would_lose(struct work *work)
+{
+    struct stat there;
+    char *input = realpath(work->options->input, NULL), *output = realpath(work->output, NULL);
+    bool is_input = input != NULL && output != NULL && strcmp(input, output) == 0;
+    free(input);
+    free(output);
+    if (!is_input || stat(work->output, &there) != 0 || !S_ISREG(there.st_mode) || file_is_same(&there, &work->warned))
+        return false;
+    work->warned = there;
+    return true;
+}
+
+enum fate work_write(struct work *work, char *why, size_t size)
+{
+    enum fate fate = CHANGED_FILE;
+    errno = 0;
+    if (!would_lose(work))
+        fate = file_write(work->output, &work->session);
+    if (fate == EXIT)
+        return EXIT;
+    int reason = fate == NO_MEMORY ? ENOMEM : errno;
+    (void)work_undo(work, 1);
+    journal_want(&work->journal, work_has_edits(work));
+    if (fate == CHANGED_FILE)
+        (void)snprintf(why, size, "%s has changed since it was read: EX once more replaces it.", work->output);
+    else
+        (void)snprintf(why, size, "cannot write %s: %s.", work->output, reason != 0 ? strerror(reason) : "no reason is told");
+    return fate == CHANGED_FILE ? CHANGED_FILE : GOES_ON;
+}
+
+enum fate work_write_to(struct work *work, const uint8_t *name, size_t n, char *why, size_t size)
+{
+    if (n > 0) {
+        char *output = malloc(n + 1);
+        if (output == NULL)
+            return NO_MEMORY;
+        memcpy(output, name, n);
+        output[n] = '\0';
+        free(work->output);
+        work->output = output;
+    }
+    if (work_redo(work, 1) != 0 || teco_done(&work->session) != 1)
+        return CHANGED_FILE;
+    return work_write(work, why, size);
+}

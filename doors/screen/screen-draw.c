@@ -1,0 +1,156 @@
+/* Drawing by ncurses, which sends what differs from the screen that is there. It reads no key, and sets the terminal no more than it has
+   to: term-tty.c does both. */
+#include "screen.h"
+#include <curses.h>
+#include <stdio.h>
+#include <stdlib.h>
+#include <string.h>
+#include <unistd.h>
+
+/* Of <term.h>, which makes macros of such names as `columns`. */
+struct term;
+extern int setupterm(const char *name, int file, int *answer);
+extern char *tigetstr(const char *name);
+extern struct term *set_curterm(struct term *terminal);
+extern int del_curterm(struct term *terminal);
+
+enum { MOST_LINE = 4, MOST_TYPED = 4, LEAST_FOR_STRIP = 64, CAPABILITIES = 256 };
+
+/* Adds what the terminal's description has of this name, without the waits in it. */
+static void add_capability(char *to, const char *name)
+{
+    const char *from = tigetstr(name);
+    if (from == NULL || from == (const char *)-1)
+        return;
+    size_t at = strlen(to);
+    while (*from != '\0' && at + 1 < CAPABILITIES) {
+        if (from[0] == '$' && from[1] == '<' && strchr(from, '>') != NULL)
+            from = strchr(from, '>') + 1;
+        else
+            to[at++] = *from++;
+    }
+    to[at] = '\0';
+}
+
+/* What the terminal is shown by a handler, which can't call ncurses: another screen, and the mark of pastes. False where the terminal
+   isn't known, or can't move its cursor. */
+bool draw_marks(struct marks *marks)
+{
+    static char begin[CAPABILITIES], end[CAPABILITIES];
+    int answer;
+    if (setupterm(NULL, STDOUT_FILENO, &answer) != OK || tigetstr("cup") == NULL)
+        return false;
+    add_capability(begin, "smcup");
+    (void)strcat(begin, "\33[?2004h");
+    (void)strcat(end, "\33[?2004l");
+    add_capability(end, "sgr0");
+    add_capability(end, "cnorm");
+    add_capability(end, tigetstr("rmcup") != NULL ? "rmcup" : "clear");
+    *marks = (struct marks){.begin = begin, .end = end, .is_full = true};
+    (void)del_curterm(set_curterm(NULL));
+    return true;
+}
+
+bool draw_begin(void)
+{
+    static const short COLORS_OF[PAIRS] = {[CONTROLS] = COLOR_CYAN, [NEW] = COLOR_GREEN, [OLD] = COLOR_RED, [ERROR] = COLOR_RED,
+        [GOOD] = COLOR_GREEN, [NUMBERS] = COLOR_CYAN, [COMMANDS] = COLOR_YELLOW, [TEXTS] = COLOR_GREEN, [BLOCKS] = COLOR_MAGENTA};
+    const char *plain = getenv("NO_COLOR");
+    if (newterm(NULL, stdout, stdin) == NULL)
+        return false;
+    if ((plain == NULL || *plain == '\0') && has_colors() && start_color() == OK && use_default_colors() == OK) {
+        for (short i = 1; i < PAIRS; i++)
+            (void)init_pair(i, COLORS_OF[i], -1);
+    }
+    return true;
+}
+
+bool has_strip(void)
+{
+    return COLS >= LEAST_FOR_STRIP;
+}
+
+/* Room for the text: all rows but the title, the typed text, the string and the state. */
+void draw_size(struct window *window)
+{
+    window->rows = LINES > 4 ? (size_t)LINES - 3 : 1;
+    window->columns = has_strip() ? (size_t)(COLS - STRIP - 1) : COLS > 1 ? (size_t)COLS : 1;
+}
+
+/* In the size that the terminal has now, with nothing of what is there. */
+void draw_anew(void)
+{
+    size_t rows, columns;
+    tty_size(&rows, &columns);
+    (void)resizeterm((int)rows, (int)columns);
+    (void)clearok(curscr, TRUE);
+}
+
+void put_glyph(int row, int column, const struct glyph *glyph, unsigned long attributes, short pair)
+{
+    (void)attr_set((attr_t)attributes, has_colors() ? pair : 0, NULL);
+    (void)mvaddwstr(row, column, glyph->shown);
+    (void)attr_set(0, 0, NULL);
+}
+
+int put_bytes(int row, int column, int end, const uint8_t *bytes, size_t n, unsigned long attributes, short pair)
+{
+    for (size_t at = 0; at < n;) {
+        struct glyph glyph = glyph_at(bytes, n, at, SIZE_MAX, (size_t)column);
+        if (glyph.is_line_end)
+            glyph.shown[0] = L'\x21b5';
+        if (bytes[at] == TAB) {
+            glyph.cells = 1;
+            glyph.shown[1] = 0;
+        }
+        if (column + (int)glyph.cells > end)
+            break;
+        put_glyph(row, column, &glyph, attributes, pair);
+        column += (int)glyph.cells;
+        at += glyph.bytes;
+    }
+    return column;
+}
+
+static void draw_title(const struct screen *screen)
+{
+    char text[400];
+    const struct view *view = screen_view(screen);
+    (void)attr_set(A_REVERSE, 0, NULL);
+    (void)mvhline(0, 0, ' ', COLS);
+    (void)snprintf(text, sizeof text, " %s%s  page %zu  read %zu of %zu, written %zu%s", screen->work.options->input,
+        screen->work.journal.is_wanted ? " *" : "", page_at(&screen->work.input, view->place), view->place, screen->work.input.count, view->output,
+        screen->is_stepping ? "  STEPS" : screen->is_previewed ? "  PREVIEW" : "");
+    (void)mvaddnstr(0, 0, text, COLS);
+    (void)attr_set(0, 0, NULL);
+}
+
+static void draw_parts(const struct screen *screen)
+{
+    int line = line_rows(screen), typed = typed_rows(screen_view(screen));
+    line = line > MOST_LINE ? MOST_LINE : line;
+    int left = LINES - 2 - line;
+    typed = typed > MOST_TYPED ? MOST_TYPED : typed;
+    typed = typed > left / 2 ? left / 2 : typed;
+    int window = left - typed;
+    draw_title(screen);
+    if (screen->is_helped)
+        draw_help(screen, 1, window);
+    else
+        draw_window(screen_view(screen), 1, window, has_strip() ? COLS - STRIP - 1 : COLS);
+    if (has_strip() && !screen->is_helped)
+        draw_strip(screen, 1, window);
+    draw_typed(screen_view(screen), 1 + window, typed);
+    draw_state(screen, LINES - 1);
+    draw_line(screen, LINES - 1 - line, line);
+}
+
+void draw(const struct screen *screen)
+{
+    (void)erase();
+    if (LINES < LEAST_ROWS || COLS < LEAST_COLUMNS)
+        (void)mvaddnstr(0, 0, "20 by 6 are wanted", COLS);
+    else
+        draw_parts(screen);
+    (void)refresh();
+}

@@ -1,0 +1,314 @@
+/* Keys, pastes and previews, as they come, and what they do. */
+#include "screen.h"
+#include <stdio.h>
+#include <string.h>
+
+/* How long the screen waits for a preview before it shows the key alone; and nothing, to see what is there. */
+enum { MOMENT = 6 };
+static const struct timespec SOON = {.tv_nsec = MOMENT * 1000000}, AT_ONCE;
+
+enum sequence { OTHER, UP, DOWN, LEFT, RIGHT, HOME, END, PAGE_UP, PAGE_DOWN, HELP };
+
+/* What keys send, behind ESC [ or ESC O. */
+static const struct {
+    const char *sent;
+    enum sequence key;
+} SEQUENCES[] = {{"A", UP}, {"B", DOWN}, {"C", RIGHT}, {"D", LEFT}, {"H", HOME}, {"1~", HOME}, {"7~", HOME}, {"F", END}, {"4~", END},
+    {"8~", END}, {"5~", PAGE_UP}, {"6~", PAGE_DOWN}, {"P", HELP}, {"11~", HELP}, {"[A", HELP}};
+
+static enum sequence sequence_of(const uint8_t *bytes, size_t n)
+{
+    for (size_t i = 0; i < sizeof SEQUENCES / sizeof *SEQUENCES; i++) {
+        if (n == strlen(SEQUENCES[i].sent) + 2 && memcmp(bytes + 2, SEQUENCES[i].sent, n - 2) == 0)
+            return SEQUENCES[i].key;
+    }
+    return OTHER;
+}
+
+static enum fate ring(void)
+{
+    return shown(tty_say("\a"));
+}
+
+/* Takes a byte into the string, and runs it at a pair of ESC. A name ends with its line. */
+static enum fate take(struct screen *screen, uint8_t byte)
+{
+    struct bytes *line = &screen->line;
+    if (screen->is_naming && byte == LINE_FEED) {
+        screen->is_naming = false;
+        return screen_name(screen);
+    }
+    if (!bytes_add(line, &byte, 1))
+        return NO_MEMORY;
+    screen->is_other = true;
+    bool is_pair = byte == ESCAPE && line->count > 1 && line->at[line->count - 2] == ESCAPE;
+    return is_pair && !screen->is_naming ? screen_run(screen) : GOES_ON;
+}
+
+static enum fate cut(struct screen *screen, size_t to)
+{
+    if (screen->line.count == 0)
+        return ring();
+    screen->line.count = to;
+    screen->is_other = true;
+    return GOES_ON;
+}
+
+/* Where the last line of the string begins. At the beginning of a line, where the one before does. */
+static size_t line_start(const struct bytes *line)
+{
+    size_t start = line->count;
+    if (start > 0)
+        start--;
+    while (start > 0 && line->at[start - 1] != LINE_FEED)
+        start--;
+    return start;
+}
+
+static enum fate drop(struct screen *screen)
+{
+    screen->line.count = 0;
+    screen->is_naming = false;
+    screen->is_other = true;
+    return GOES_ON;
+}
+
+/* Leaves without writing. Where something would be lost, it asks once. */
+static enum fate leave(struct screen *screen, bool has_asked)
+{
+    if (has_asked || !work_has_edits(&screen->work))
+        return END_OF_COMMANDS;
+    screen->has_asked = true;
+    (void)snprintf(screen->message, sizeof screen->message, "Edits are not written: EX writes them, Ctrl-D once more leaves without.");
+    return GOES_ON;
+}
+
+/* A key that edits the string, or is a byte of it. */
+static enum fate edit(struct screen *screen, uint8_t key)
+{
+    const struct bytes *line = &screen->line;
+    if (key == DELETE || key == tty_erase_key())
+        return cut(screen, line->count - 1);
+    switch (key) {
+    case CONTROL('U'):
+        return cut(screen, line_start(line));
+    case CONTROL('C'):
+        return drop(screen);
+    case CONTROL('V'):
+        screen->is_quoted = true;
+        return GOES_ON;
+    case CONTROL('G'):
+        return line->count > 0 && line->at[line->count - 1] == key ? drop(screen) : take(screen, key);
+    case RETURN:
+        return take(screen, LINE_FEED);
+    default:
+        return take(screen, key);
+    }
+}
+
+/* What every key does first: what was said or shown for the one before is gone. True where that was all. */
+static bool begin_key(struct screen *screen)
+{
+    bool was_helped = screen->is_helped;
+    screen->message[0] = '\0';
+    screen->is_helped = screen->has_asked = false;
+    return was_helped;
+}
+
+static enum fate press(void *to, uint8_t key)
+{
+    struct screen *screen = to;
+    bool has_asked = screen->has_asked;
+    if (begin_key(screen))
+        return GOES_ON;
+    if (screen->is_stepping) {
+        screen_end_steps(screen, key == RETURN);
+        return GOES_ON;
+    }
+    if (screen->is_quoted) {
+        screen->is_quoted = false;
+        return take(screen, key);
+    }
+    if (screen->line.count == 0 && !screen->is_naming && key == CONTROL('D'))
+        return leave(screen, has_asked);
+    return edit(screen, key);
+}
+
+static enum fate step(struct screen *screen, enum sequence key)
+{
+    uint64_t steps = 0, at, tenth;
+    (void)work_steps(&screen->work, &steps);
+    at = screen->is_stepping ? screen->step : steps;
+    tenth = steps / 10 + 1;
+    switch (key) {
+    case LEFT: screen_step(screen, at > 0 ? at - 1 : 0); break;
+    case RIGHT: screen_step(screen, at + 1); break;
+    case PAGE_UP: screen_step(screen, at > tenth ? at - tenth : 0); break;
+    case PAGE_DOWN: screen_step(screen, at + tenth); break;
+    case HOME: screen_step(screen, 0); break;
+    default: screen_step(screen, steps);
+    }
+    return screen->is_stepping ? GOES_ON : ring();
+}
+
+static enum fate press_sequence(void *to, const uint8_t *bytes, size_t n)
+{
+    struct screen *screen = to;
+    enum sequence key = sequence_of(bytes, n);
+    bool is_empty = screen->line.count == 0 && !screen->is_naming;
+    if (begin_key(screen) && key == HELP)
+        return GOES_ON;
+    screen->is_helped = key == HELP;
+    if (key == HELP)
+        return GOES_ON;
+    if (key == OTHER || !is_empty)
+        return ring();
+    if (key != UP && key != DOWN)
+        return step(screen, key);
+    if (screen->is_stepping)
+        screen_end_steps(screen, false);
+    screen_undo(screen, key == DOWN);
+    return GOES_ON;
+}
+
+static enum fate paste(void *to, uint8_t byte)
+{
+    struct screen *screen = to;
+    if (screen->is_stepping)
+        screen_end_steps(screen, false);
+    return take(screen, byte);
+}
+
+static void begin_paste(void *to)
+{
+    struct screen *screen = to;
+    (void)begin_key(screen);
+    screen->is_quoted = false;
+}
+
+static const struct taker TAKER = {.press = press, .sequence = press_sequence, .paste = paste, .begin_paste = begin_paste};
+
+/* An ESC alone may begin a sequence, and is taken into the string until that is known. */
+static enum fate take_tentatively(struct screen *screen)
+{
+    bool is_of_string = !screen->is_stepping && !screen->is_helped && !screen->is_quoted && !screen->is_naming;
+    if (!is_of_string || screen->is_tentative || screen->pending.count != 1)
+        return GOES_ON;
+    screen->is_tentative = screen->is_other = true;
+    return bytes_add(&screen->line, screen->pending.at, 1) ? GOES_ON : NO_MEMORY;
+}
+
+/* Takes what came. What may be the beginning of a sequence waits for so long as bytes may be apart that come together; but an ESC that
+   makes a pair does not. */
+static enum fate receive(struct screen *screen, bool is_late)
+{
+    struct bytes *line = &screen->line;
+    bool is_escape = screen->pending.count == 1 && screen->pending.at[0] == ESCAPE;
+    bool is_pair = is_escape && !screen->is_tentative && line->count > 0 && line->at[line->count - 1] == ESCAPE;
+    if (keys_are_open(&screen->keys, &screen->pending) && !is_late && !is_pair)
+        return take_tentatively(screen);
+    bool was_tentative = screen->is_tentative;
+    screen->is_tentative = false;
+    line->count -= was_tentative;
+    enum fate fate = keys_receive(&screen->keys, &screen->pending, &TAKER, screen);
+    screen->pending.count = 0;
+    if (was_tentative)
+        screen->is_other = !is_escape;
+    return fate;
+}
+
+static enum fate read_keys(struct screen *screen)
+{
+    enum event event;
+    do
+        event = tty_take(&screen->pending);
+    while (event == CAME && screen->pending.count < LONGEST && screen->pending.count > 1 && tty_wait(-1, &AT_ONCE) == CAME);
+    if (screen->pending.count == 0 && event == ENDED)
+        journal_leave();
+    if (screen->pending.count == 0 && event != CAME)
+        return event == ENDED ? END_OF_COMMANDS : READ_FAULT;
+    return receive(screen, false);
+}
+
+static void take_view(struct screen *screen)
+{
+    if (!preview_came(&screen->preview)) {
+        screen_look(screen);
+        (void)snprintf(screen->message, sizeof screen->message, "the preview was ended by a fault");
+        return;
+    }
+    screen->is_previewed = screen->line.count > 0 || screen->is_stepping;
+    if (screen->is_previewed)
+        screen->top = screen->preview.seen->from;
+}
+
+/* Begins a preview of what is typed now, and waits a little for it, so that both are drawn at once. */
+static void follow(struct screen *screen)
+{
+    if (screen->is_other)
+        screen_try(screen);
+    while (screen->preview.is_busy && since(&screen->preview.begun) < MOMENT && tty_wait(screen->preview.link, &SOON) == TOLD)
+        take_view(screen);
+}
+
+static void break_off(struct screen *screen)
+{
+    preview_end(&screen->preview);
+    screen->preview.seen->goes_on = false;
+    screen->preview.seen->is_broken_off = true;
+}
+
+/* After a stop, or in another size, all is drawn anew. */
+static void resume(struct screen *screen)
+{
+    tty_resume();
+    screen->keys.is_pasted = false;
+    draw_anew();
+    if (screen->is_stepping)
+        screen_step(screen, screen->step);
+    else
+        screen->is_other = true;
+}
+
+/* Waits for what comes next. While nothing comes after a change, the lines of the text are counted, and a copy is made for the next key. */
+static enum event await(struct screen *screen)
+{
+    if (screen->pending.count > 0)
+        return tty_wait(screen->preview.link, &TTY_GAP);
+    if (screen->preview.is_busy) {
+        struct timespec patience = preview_patience(&screen->preview);
+        return tty_wait(screen->preview.link, &patience);
+    }
+    if (!lines_are_counted() || screen->preview.process == 0) {
+        enum event event = tty_wait(screen->preview.link, &AT_ONCE);
+        if (event != LATE)
+            return event;
+        if (!lines_are_counted())
+            lines_count(&screen->work.session);
+        (void)preview_prepare(&screen->preview);
+    }
+    return tty_wait(screen->preview.link, NULL);
+}
+
+enum fate screen_converse(struct screen *screen)
+{
+    enum fate fate = GOES_ON;
+    while (fate == GOES_ON) {
+        draw(screen);
+        switch (await(screen)) {
+        case CAME: fate = read_keys(screen); break;
+        case TOLD: take_view(screen); break;
+        case RESUMED: resume(screen); break;
+        case LATE:
+            if (screen->pending.count > 0)
+                fate = receive(screen, true);
+            else
+                break_off(screen);
+            break;
+        default: fate = READ_FAULT;
+        }
+        if (fate == GOES_ON)
+            follow(screen);
+    }
+    return fate;
+}

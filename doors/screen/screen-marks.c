@@ -1,0 +1,98 @@
+/* Which bytes of the window the last string put in, and where it took some out. Its changes are gone through backward, while the pieces of
+   the window are followed to where they stood before each of them. */
+#include "screen.h"
+#include <string.h>
+
+enum { PIECES = 4096, MOST_CHANGES = 300000 };
+
+/* So many bytes of the window from `shown` on, which stood at a place of the text. */
+struct piece {
+    size_t shown, count, stood;
+};
+
+/* The pieces, in the order of their places, and the view whose bytes they are. */
+struct pieces {
+    struct view *view;
+    size_t count;
+    struct piece at[PIECES];
+};
+
+/* Bytes that an undo would take out of the text at a place, and those that it would put in. */
+struct splice {
+    size_t at, gone, came;
+    bool is_marked;
+};
+
+/* Whether change k is for a page that was read: its step moves the place in the input, too. Such bytes are not marked. */
+static bool is_of_page(const struct teco *t, size_t string, size_t k)
+{
+    uint8_t kind, name;
+    uint64_t step, other;
+    if (teco_change(t, string, k, &kind, &name, &step) != 0)
+        return false;
+    if (k > 0 && teco_change(t, string, k - 1, &kind, &name, &other) == 0 && kind == TECO_KIND_PAGES && other == step)
+        return true;
+    return teco_change(t, string, k + 1, &kind, &name, &other) == 0 && kind == TECO_KIND_PAGES && other == step;
+}
+
+/* Puts what is left of a piece in its place, before and behind the bytes that came. */
+static void cut_piece(struct pieces *pieces, size_t i, size_t first, size_t last, const struct splice *splice)
+{
+    struct piece piece = pieces->at[i];
+    size_t end = piece.stood + piece.count;
+    struct piece before = {piece.shown, first - piece.stood, piece.stood};
+    struct piece after = {piece.shown + (last - piece.stood), end - last, splice->at + splice->came};
+    size_t parts = (before.count > 0) + (after.count > 0);
+    if (parts == 2 && pieces->count == PIECES)
+        return;
+    memmove(pieces->at + i + parts, pieces->at + i + 1, (pieces->count - i - 1) * sizeof *pieces->at);
+    pieces->count = pieces->count - 1 + parts;
+    if (before.count > 0)
+        pieces->at[i] = before;
+    if (after.count > 0)
+        pieces->at[i + (before.count > 0)] = after;
+}
+
+/* Follows a piece over the undo of a splice. False where the piece, and all before it, stand before the splice. */
+static bool follow_piece(struct pieces *pieces, size_t i, const struct splice *splice)
+{
+    struct piece piece = pieces->at[i];
+    size_t end = piece.stood + piece.count;
+    if (splice->at >= end)
+        return false;
+    if (splice->is_marked && splice->gone == 0 && splice->at >= piece.stood)
+        pieces->view->marks[piece.shown + (splice->at - piece.stood)] |= MARK_GONE_BEFORE;
+    if (splice->at + splice->gone <= piece.stood) {
+        pieces->at[i].stood = piece.stood - splice->gone + splice->came;
+        return true;
+    }
+    size_t first = splice->at > piece.stood ? splice->at : piece.stood;
+    size_t last = splice->at + splice->gone < end ? splice->at + splice->gone : end;
+    if (splice->is_marked && first < last)
+        memset(pieces->view->marks + piece.shown + (first - piece.stood), MARK_CAME, last - first);
+    cut_piece(pieces, i, first, last, splice);
+    return true;
+}
+
+size_t mark_changes(const struct teco *t, struct view *view)
+{
+    static struct pieces pieces;
+    size_t strings, changes, first = view->length;
+    memset(view->marks, 0, view->count + 1);
+    pieces = (struct pieces){.view = view, .count = 1};
+    pieces.at[0] = (struct piece){0, view->count + (view->from + view->count == view->length), view->from};
+    if (teco_cursor(t, &strings) != 0 || strings == 0 || teco_changes(t, strings - 1, &changes) != 0)
+        return first;
+    if (changes > MOST_CHANGES)
+        return 0;
+    for (size_t k = changes; k-- > 0;) {
+        struct splice splice;
+        if (teco_splice(t, strings - 1, k, &splice.at, &splice.gone, &splice.came) != 0 || (splice.gone == 0 && splice.came == 0))
+            continue;
+        first = splice.at < first ? splice.at : first;
+        splice.is_marked = !is_of_page(t, strings - 1, k);
+        for (size_t i = pieces.count; i-- > 0 && follow_piece(&pieces, i, &splice);)
+            continue;
+    }
+    return first;
+}

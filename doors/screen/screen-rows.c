@@ -1,0 +1,177 @@
+/* The rows below the text: what a string typed, the string itself, and the state. */
+#include "screen.h"
+#include <curses.h>
+#include <stdio.h>
+#include <string.h>
+
+static const char NAME[] = "Another name, and Return: ";
+
+/* Where the string begins in its first row: behind the star, or behind what asks for a name. */
+static size_t prompt_cells(const struct screen *screen)
+{
+    return screen->is_naming ? sizeof NAME - 1 : 1;
+}
+
+/* Behind the last cell of the string, which the cursor stands on. */
+static struct walk end_of_line(const struct screen *screen)
+{
+    size_t n;
+    const uint8_t *text = screen_line(screen, &n);
+    struct walk walk = {.columns = (size_t)COLS};
+    walk.column = prompt_cells(screen) % walk.columns;
+    for (size_t at = 0; at < n;) {
+        struct glyph glyph = glyph_at(text, n, at, SIZE_MAX, walk.column);
+        walk_to(&walk, &glyph);
+        walk_behind(&walk, &glyph);
+        at += glyph.bytes;
+    }
+    if (walk.column >= walk.columns)
+        walk = (struct walk){.row = walk.row + 1, .columns = walk.columns};
+    return walk;
+}
+
+int line_rows(const struct screen *screen)
+{
+    size_t row = end_of_line(screen).row;
+    return row < 1000 ? (int)row + 1 : 1000;
+}
+
+/* Whether the failing token, or the one that comes next of the steps, begins at a place: then it is reversed. */
+static bool is_here(const struct screen *screen, size_t at)
+{
+    const struct view *view = screen_view(screen);
+    if (at != view->told.at)
+        return false;
+    if (screen->is_stepping)
+        return view->subject == OF_STEP;
+    bool is_open = view->told.code == CODE_UTC && view->told.calls == 0;
+    return view->subject == OF_STRING && view->n >= screen->line.count && view->told.code != 0 && !is_open;
+}
+
+static unsigned long attributes_of(const struct token *token, const struct glyph *glyph, bool is_marked)
+{
+    static const unsigned long OF[] = {[COMMAND] = A_BOLD, [TEXT_COMMAND] = 0, [BLOCK] = A_BOLD, [CUT] = A_UNDERLINE, [BAD] = A_UNDERLINE};
+    unsigned long own = token->kind < sizeof OF / sizeof *OF ? OF[token->kind] : 0;
+    return own | (glyph->is_control ? A_BOLD : 0) | (is_marked ? A_REVERSE : 0);
+}
+
+/* The string with its tokens told apart; its end can always be seen, and the cursor is there. */
+void draw_line(const struct screen *screen, int top, int rows)
+{
+    static const short PAIR_OF[] = {NUMBERS, NUMBERS, COMMANDS, TEXTS, BLOCKS, PLAIN, TEXTS, ERROR};
+    size_t n, first = end_of_line(screen).row + 1, marked = 0;
+    const uint8_t *text = screen_line(screen, &n);
+    struct walk walk = {.columns = (size_t)COLS, .column = prompt_cells(screen) % (size_t)COLS};
+    struct token token = {0};
+    first = first > (size_t)rows ? first - (size_t)rows : 0;
+    if (first == 0)
+        (void)mvaddnstr(top, 0, screen->is_naming ? NAME : "*", COLS);
+    for (size_t at = 0; at < n;) {
+        if (at >= token.to && !screen->is_naming)
+            token = token_at(text, n, at);
+        if (is_here(screen, at) && !screen->is_naming)
+            marked = token.to;
+        struct glyph glyph = glyph_at(text, n, at, SIZE_MAX, walk.column);
+        walk_to(&walk, &glyph);
+        if (walk.row >= first && !glyph.is_line_end)
+            put_glyph(top + (int)(walk.row - first), (int)walk.column, &glyph, attributes_of(&token, &glyph, at < marked),
+                at < marked ? ERROR : PAIR_OF[token.kind]);
+        walk_behind(&walk, &glyph);
+        at += glyph.bytes;
+    }
+    walk = end_of_line(screen);
+    (void)move(top + (int)(walk.row - first), (int)walk.column);
+}
+
+int typed_rows(const struct view *view)
+{
+    int rows = 0;
+    size_t end = view->tail;
+    if (end > 0 && view->typed[end - 1] == LINE_FEED)
+        end--;
+    for (size_t at = 0; at < end; at++)
+        rows += view->typed[at] == LINE_FEED;
+    return view->tail == 0 ? 0 : rows + 1;
+}
+
+/* The last rows of what the string typed. Before the first of them stands < where more is above. */
+void draw_typed(const struct view *view, int top, int rows)
+{
+    size_t end = view->tail;
+    for (int row = rows - 1; row >= 0; row--) {
+        if (end > 0 && view->typed[end - 1] == LINE_FEED)
+            end--;
+        size_t begin = end;
+        while (begin > 0 && view->typed[begin - 1] != LINE_FEED)
+            begin--;
+        size_t stop = end > begin && view->typed[end - 1] == RETURN ? end - 1 : end;
+        (void)mvaddstr(top + row, 0, row == 0 && (begin > 0 || view->tail < view->told.made) ? "<" : ":");
+        (void)put_bytes(top + row, 2, COLS, view->typed + begin, stop - begin, 0, PLAIN);
+        end = begin;
+    }
+}
+
+/* How the string ended. */
+static void describe_end(const struct view *view, bool is_preview, char *text, size_t size)
+{
+    const struct told *told = &view->told;
+    bool is_open = told->code == CODE_UTC && is_preview && told->calls == 0;
+    unsigned long long steps = told->steps;
+    if (view->is_broken_off)
+        (void)snprintf(text, size, "?LIM shown after %llu steps: broken off", steps);
+    else if (is_open)
+        (void)snprintf(text, size, "open");
+    else if (view->is_done)
+        (void)snprintf(text, size, "exits, and would write %zu bytes", view->output);
+    else if (told->code == 0)
+        (void)snprintf(text, size, "ok%s", view->is_search_alone ? ": the search alone" : view->closed > 0 ? ", as if the text were closed" : "");
+    else if (view->goes_on)
+        (void)snprintf(text, size, "?LIM shown after %llu steps, running on ..", steps);
+    else if (told->code == TECO_MEM && is_preview)
+        (void)snprintf(text, size, "?MEM shown after %llu steps: the memory of a preview is used up", steps);
+    else
+        (void)snprintf(text, size, "?%s: %s", code_letters(told->code), code_sentence(told->code));
+    size_t used = strlen(text);
+    if (told->calls > 0 && used < size)
+        (void)snprintf(text + used, size - used, ", inside %zu macro%s", told->calls, told->calls == 1 ? "" : "s");
+}
+
+static void describe(const struct screen *screen, char *text, size_t size)
+{
+    const struct view *view = screen_view(screen);
+    size_t n;
+    (void)screen_line(screen, &n);
+    if (screen->message[0] != '\0')
+        (void)snprintf(text, size, "%s", screen->message);
+    else if (screen->is_stepping)
+        (void)snprintf(text, size, "after step %llu of %llu  (Left Right Home End; Enter stays here)", (unsigned long long)screen->step,
+            (unsigned long long)screen->steps);
+    else if (!screen->is_previewed && view->told.code == 0)
+        (void)snprintf(text, size, "ready  (F1 for help)");
+    else
+        describe_end(view, screen->is_previewed, text, size);
+}
+
+/* The state: on the left how the string ended, on the right its steps and where the pointer is; in the title's place, where they don't fit
+   into one row. */
+void draw_state(const struct screen *screen, int row)
+{
+    const struct view *view = screen_view(screen);
+    char left[400], right[200];
+    describe(screen, left, sizeof left);
+    (void)snprintf(right, sizeof right, "%s%llu step%s  .=%zu Z=%zu line %zu", screen->preview.is_busy ? ".. " : "",
+        (unsigned long long)view->told.steps, view->told.steps == 1 ? "" : "s", view->pointer, view->length, view->line);
+    bool is_open = view->told.code == CODE_UTC && screen->is_previewed;
+    (void)attr_set(0, has_colors() ? (view->told.code != 0 && !is_open ? ERROR : GOOD) : 0, NULL);
+    (void)mvaddnstr(row, 0, left, COLS);
+    (void)attr_set(0, 0, NULL);
+    int begins = COLS - 1 - (int)strlen(right); /* not every terminal can show its last cell */
+    if (begins > (int)strlen(left)) {
+        (void)mvaddstr(row, begins, right);
+        return;
+    }
+    (void)attr_set(A_REVERSE, 0, NULL);
+    (void)mvhline(0, 0, ' ', COLS);
+    (void)mvaddnstr(0, 0, right, COLS);
+    (void)attr_set(0, 0, NULL);
+}

@@ -1,0 +1,155 @@
+/* What a string asks of the session, what is tried of it before, and the ways through what was done. */
+#include "screen.h"
+#include <stdio.h>
+#include <string.h>
+
+const struct view *screen_view(const struct screen *screen)
+{
+    return screen->is_previewed ? screen->preview.seen : &screen->still;
+}
+
+const uint8_t *screen_line(const struct screen *screen, size_t *n)
+{
+    const struct journal *journal = &screen->work.journal;
+    if (screen->is_stepping && journal->cursor > 0)
+        return journal_text(journal, journal->cursor - 1, n);
+    *n = screen->line.count;
+    return screen->line.at;
+}
+
+/* Looks at the session itself: after a string, an undo or a redo, and where nothing is typed. */
+void screen_look(struct screen *screen)
+{
+    struct window window = {.top = screen->top};
+    draw_size(&window);
+    screen->still.subject = OF_SESSION;
+    look(&screen->work.session, &screen->still, &window);
+    screen->top = screen->still.from;
+    screen->is_previewed = false;
+}
+
+static void say(struct screen *screen, const char *text)
+{
+    (void)snprintf(screen->message, sizeof screen->message, "%s", text);
+}
+
+/* Begins a preview, which has the window of the screen. */
+void screen_begin(struct screen *screen, struct request request, const uint8_t *text)
+{
+    request.window.top = screen->top;
+    draw_size(&request.window);
+    if (!preview_begin(&screen->preview, &request, text)) {
+        screen_look(screen);
+        say(screen, "no copy of the process can be made: the string is not shown as it is typed");
+    }
+}
+
+/* Shows what the string does that is typed so far. */
+void screen_try(struct screen *screen)
+{
+    const uint8_t *text = screen->line.at;
+    uint64_t number;
+    size_t n = screen->line.count;
+    screen->is_other = false;
+    if (n == 0 || screen->is_naming || n > LONGEST) {
+        preview_end(&screen->preview);
+        screen_look(screen);
+        if (n > LONGEST)
+            say(screen, "too long to be shown as it is typed");
+        return;
+    }
+    struct request request = {.subject = OF_STRING, .n = n};
+    size_t asked = text[n - 1] == ESCAPE ? n - 1 : n;
+    switch (work_asks(text, asked, &number)) {
+    case '{': request.subject = OF_UNDO; break;
+    case '}': request.subject = OF_REDO; break;
+    case '~': request.subject = OF_STEP; break;
+    default: break;
+    }
+    request.number = number;
+    screen_begin(screen, request, text);
+}
+
+/* The session is about to change: no copy of it is right any more, and nor is a count of its lines, once it has. */
+static void begin_change(struct screen *screen)
+{
+    preview_end(&screen->preview);
+    screen->message[0] = '\0';
+    screen->still.told = (struct told){.at = TECO_NOWHERE};
+    screen->still.tail = 0;
+}
+
+static void end_change(struct screen *screen)
+{
+    lines_forget();
+    screen_look(screen);
+    screen->is_other = false;
+}
+
+/* Writes the output after an exit. Where it can't be, the session is before it again, and another name is asked for. */
+static enum fate conclude_writing(struct screen *screen, enum fate fate)
+{
+    if (fate == EXIT || fate == NO_MEMORY)
+        return fate;
+    screen->is_naming = fate == GOES_ON;
+    end_change(screen);
+    return GOES_ON;
+}
+
+/* Runs the string that is typed, whose pair of ESC is whole, and keeps it. */
+enum fate screen_run(struct screen *screen)
+{
+    begin_change(screen);
+    struct told told = work_do(&screen->work, screen->line.at, screen->line.count - 1);
+    if (told.at == TECO_NOWHERE && told.steps == 0)
+        (void)work_steps(&screen->work, &told.steps);
+    screen->still.told = told;
+    screen->still.tail = told.made < TAIL ? told.made : TAIL;
+    memcpy(screen->still.typed, screen->work.room + told.made - screen->still.tail, screen->still.tail);
+    screen->line.count = 0;
+    if (teco_done(&screen->work.session) != 1) {
+        end_change(screen);
+        return GOES_ON;
+    }
+    return conclude_writing(screen, work_write(&screen->work, screen->message, sizeof screen->message));
+}
+
+enum fate screen_name(struct screen *screen)
+{
+    begin_change(screen);
+    enum fate fate = work_write_to(&screen->work, screen->line.at, screen->line.count, screen->message, sizeof screen->message);
+    screen->line.count = 0;
+    return conclude_writing(screen, fate);
+}
+
+void screen_undo(struct screen *screen, bool is_redo)
+{
+    begin_change(screen);
+    screen->still.told.code = is_redo ? work_redo(&screen->work, 1) : work_undo(&screen->work, 1);
+    journal_want(&screen->work.journal, work_has_edits(&screen->work));
+    (void)work_steps(&screen->work, &screen->still.told.steps);
+    end_change(screen);
+}
+
+/* Goes over the steps of the last string. Where they were not gone through before, it begins at the last one. */
+void screen_step(struct screen *screen, uint64_t to)
+{
+    if (!screen->is_stepping && !work_steps(&screen->work, &screen->steps))
+        return;
+    screen->is_stepping = true;
+    screen->step = to < screen->steps ? to : screen->steps;
+    screen_begin(screen, (struct request){.subject = OF_STEP, .number = screen->step}, NULL);
+}
+
+/* Stays at a step, which is a rewind, or goes back to the end of the string. */
+void screen_end_steps(struct screen *screen, bool stays)
+{
+    begin_change(screen);
+    screen->is_stepping = false;
+    if (stays && screen->step < screen->steps) {
+        screen->still.told.code = work_rewind(&screen->work, screen->step);
+        journal_want(&screen->work.journal, work_has_edits(&screen->work));
+    }
+    (void)work_steps(&screen->work, &screen->still.told.steps);
+    end_change(screen);
+}
