@@ -1,4 +1,5 @@
 //! Files of the system, written whole.
+use crate::tests::assert_of;
 use std::fs;
 use std::os::unix::fs::{MetadataExt, PermissionsExt, symlink};
 use teco_files::FileDisk;
@@ -75,26 +76,40 @@ fn leaves_a_draft(rt: &HostRuntime) -> bool {
         && holds(rt, FILE, b"ours")
 }
 
-fn writes_and_refuses(rt: &HostRuntime) -> bool {
-    writes_files(rt)
-        && writes_behind_a_link(rt)
-        && writes_where_a_link_leads(rt)
-        && refuses(rt)
-        && !is_there(rt, DRAFT)
-        && leaves_a_draft(rt)
-        && writes(rt, "/dev/null", b"a")
+/// A device is given the output, and stays one.
+fn writes_to_a_device(rt: &HostRuntime) -> bool {
+    writes(rt, "/dev/null", b"a")
+        && matches!(fs::metadata(rt, "/dev/null"), Ok(device) if !device.is_file())
 }
 
-fn in_a_new_folder(rt: &HostRuntime) -> bool {
+/// What was tried in a folder of its own, one after another, and whether it held.
+fn tried(rt: &HostRuntime) -> [(&'static str, bool); 6] {
+    [
+        ("a file", writes_files(rt)),
+        ("behind a link", writes_behind_a_link(rt)),
+        ("where a link leads", writes_where_a_link_leads(rt)),
+        ("what is refused", refuses(rt) && !is_there(rt, DRAFT)),
+        ("a draft of someone else's", leaves_a_draft(rt)),
+        ("a device", writes_to_a_device(rt)),
+    ]
+}
+
+/// The first that did not hold, in a folder that is new.
+fn fails_at(rt: &HostRuntime) -> Option<&'static str> {
     let _ = fs::remove_dir_all(rt, FOLDER);
-    fs::create_dir(rt, FOLDER).is_ok()
-        && writes_and_refuses(rt)
-        && fs::remove_dir_all(rt, FOLDER).is_ok()
+    if fs::create_dir(rt, FOLDER).is_err() {
+        return Some("the folder");
+    }
+    let failed = tried(rt).iter().find(|row| !row.1).map(|row| row.0);
+    match fs::remove_dir_all(rt, FOLDER) {
+        Ok(()) => failed,
+        Err(_) => failed.or(Some("the folder's end")),
+    }
 }
 
 /// Where memory was refused, a second time.
 #[test]
 fn writes_whole_files(rt: HostRuntime) {
-    let held = in_a_new_folder(&rt) || in_a_new_folder(&rt);
-    assert!(rt; held);
+    let failed = fails_at(&rt).and_then(|_| fails_at(&rt));
+    assert_of(&rt, failed.unwrap_or(""), failed.is_none());
 }
