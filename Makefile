@@ -49,6 +49,10 @@ try:
 	printf 'one\n\ftwo\n\fthree\n' > out/in
 	cd crates/teco && $(RT) try --data in=../../out/in -- -e 'YHT$$$$PHT$$$$HK$$$${$$$$HT$$$$EX$$$$' in
 
+## make quick         looks at the layout and the pages, and checks what differs from HEAD: seconds, and what the checks of the crates take
+quick:
+	bin/quick
+
 ## make test          runs all tests, unproved: some three minutes
 test:
 	cd crates/teco && $(RT) try --test
@@ -159,5 +163,5 @@ uninstall:
 clean:
 	rm -rf out
 
-.PHONY: all help try test gate pages bench install uninstall clean always
+.PHONY: all help try quick test gate pages bench install uninstall clean always
 always:

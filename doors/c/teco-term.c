@@ -30,6 +30,7 @@ static const struct program PROGRAM = {
             "      --undo <N>       The most command strings kept to be undone, at most 100000; all without it\n"
             "      --steps          Shows after each string how many steps it took\n"
             "  -h, --help           Print help\n"
+            "  -V, --version        Print version\n"
             "\n"
             "EX writes the output and ends the program, and Ctrl-D leaves with nothing written.\n"};
 

@@ -40,6 +40,9 @@
 #include <stddef.h>
 #include <stdint.h>
 
+/* The version of the library and of all programs. */
+#define TECO_VERSION "0.2.0"
+
 #ifdef __cplusplus
 extern "C" {
 #endif

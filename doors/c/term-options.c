@@ -19,30 +19,37 @@ static bool read_number(const char *text, uint64_t least, uint64_t most, uint64_
 static bool read_line(const struct program *program, int count, char **words, struct options *options)
 {
     static const struct option KNOWN[] = {{"limit", required_argument, NULL, 'l'}, {"output", required_argument, NULL, 'o'},
-        {"undo", required_argument, NULL, 'u'}, {"help", no_argument, NULL, 'h'}, {"steps", no_argument, NULL, 's'}, {0}};
+        {"undo", required_argument, NULL, 'u'}, {"help", no_argument, NULL, 'h'}, {"version", no_argument, NULL, 'V'},
+        {"steps", no_argument, NULL, 's'}, {0}};
     bool is_good = true;
     int option;
-    while (is_good && (option = getopt_long(count, words, "h", KNOWN, NULL)) != -1) {
+    while (is_good && (option = getopt_long(count, words, "hV", KNOWN, NULL)) != -1) {
         switch (option) {
         case 'l': is_good = read_number(optarg, 0, MOST_STEPS, &options->limit); break;
         case 'o': options->output = optarg; break;
         case 'u': is_good = read_number(optarg, 1, TECO_DEPTH_LIMIT, &options->depth); break;
         case 's': options->steps = is_good = program->has_steps; break;
         case 'h': options->help = true; break;
+        case 'V': options->version = true; break;
         default: is_good = false;
         }
     }
     options->input = optind < count ? words[optind] : NULL;
-    return is_good && (options->help || optind + 1 == count);
+    return is_good && (options->help || options->version || optind + 1 == count);
 }
 
 int options_read(const struct program *program, int count, char **words, struct options *options)
 {
     *options = (struct options){.limit = 1000000};
-    bool is_good = read_line(program, count, words, options);
-    if (is_good && !options->help)
-        return -1;
-    return fputs(is_good ? program->help : program->usage, is_good ? stdout : stderr) >= 0 && is_good ? 0 : 3;
+    if (!read_line(program, count, words, options)) {
+        (void)fputs(program->usage, stderr);
+        return 3;
+    }
+    if (options->help)
+        return fputs(program->help, stdout) >= 0 ? 0 : 3;
+    if (options->version)
+        return printf("%s %s\n", program->name, TECO_VERSION) >= 0 ? 0 : 3;
+    return -1;
 }
 
 int conclude(const struct program *program, const char *input, enum fate fate)

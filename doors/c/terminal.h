@@ -53,7 +53,7 @@ void bytes_free(struct bytes *bytes);
 struct options {
     const char *input, *output; /* the output's name may be none: INPUT.out then */
     uint64_t limit, depth;
-    bool steps, help;
+    bool steps, help, version;
 };
 
 /* What differs between the programs. */
@@ -62,7 +62,7 @@ struct program {
     bool has_steps; /* it takes --steps */
 };
 
-/* Reads the line. -1 where the program goes on, or else the status with which it ends: of a help or of a faulty line. */
+/* Reads the line. -1 if the program goes on, or else the status with which it ends: after its help or its version, or of a faulty line. */
 int options_read(const struct program *program, int count, char **words, struct options *options);
 
 /* The status of the program. Says on standard error what there is to say. */

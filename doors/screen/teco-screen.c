@@ -25,6 +25,7 @@ static const struct program PROGRAM = {
             "      --output <FILE>  Where the output goes after an exit; INPUT.out where it is not given\n"
             "      --undo <N>       The most command strings kept to be undone, at most 100000; all without it\n"
             "  -h, --help           Print help\n"
+            "  -V, --version        Print version\n"
             "\n"
             "ESC ESC keeps a string, EX writes the output and ends the program, and Ctrl-D leaves with nothing written.\n"};
 

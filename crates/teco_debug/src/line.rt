@@ -12,6 +12,9 @@ pub const MOST_STEPS: u64 = 1_000_000_000_000;
 /// The steps that it is given where the line says nothing.
 const STEPS: u64 = 1_000_000;
 
+/// The version of all programs.
+const VERSION: &str = "0.2.0";
+
 /// What the command line says.
 #[derive(Drop)]
 pub struct Line {
@@ -84,6 +87,7 @@ fn command<'a>(alloc: Global) -> Result<Command<'a>, NoMemory> {
     Command::new(alloc, "teco-debug")
         .about("Walks over the steps of a TECO command string, forward and back")
         .override_usage("teco-debug [OPTIONS] <MACRO>")
+        .version(VERSION)
         .after_help("Commands are read from standard input, a line each; help lists them.")
         .arg(limit_arg(alloc))?
         .arg(input_arg(alloc))?

@@ -7,10 +7,8 @@ use clap::{Arg, ArgAction, ArgMatches, Command};
 use std::alloc::Global;
 use std::io;
 use teco_core::NoMemory;
+use teco_line::VERSION;
 use thiserror::Error;
-
-/// The version that the program tells.
-const VERSION: &str = "0.1.0";
 
 /// What the help says after the options.
 const AFTER_HELP: &str =

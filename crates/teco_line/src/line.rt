@@ -24,8 +24,8 @@ pub const MOST_STEPS: u64 = 1_000_000_000_000;
 /// The most line ends that a page may be asked to end after.
 pub const MOST_PAGE_LINES: u64 = 1_000_000_000;
 
-/// The version that the program tells.
-const VERSION: &str = "0.1.0";
+/// The version of all programs.
+pub const VERSION: &str = "0.2.0";
 
 /// What the help says of the commands, after the options.
 const AFTER_HELP: &str =

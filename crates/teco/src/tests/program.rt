@@ -290,7 +290,7 @@ static REFUSED_OUTPUTS: [Row<'static>; 5] = [
 static VERSION: [Row<'static>; 1] = [(
     Run {
         words: "teco --version",
-        typed: "teco 0.1.0\n",
+        typed: "teco 0.2.0\n",
         ..EXITS
     },
     &[IN],
