@@ -1,7 +1,8 @@
-//! One step of a text.
+//! One step of what was found in a text.
 ghost use Rattle.std.specs.Prelude.{◌≡◌, ◌<◌, ◌≤◌, ◌⊎◌, ℕ, List, None, Some, MatchOption, MatchResult, drop, false, length, true};
 ghost use Rattle.teco_core.specs.declared.code.Code.TheVariants.{Lim};
 ghost use Rattle.teco_scan.specs.Scan.{scan};
+ghost use Rattle.teco_scan.specs.Seen.{IsFoundAt, found_in};
 ghost use Rattle.teco_store.specs.State.{State};
 ghost use Rattle.teco_step.specs.Stepping.{IsStepIn, end_of, is_unfinished, is_unfinished_code, name_in, takes_nothing_in};
 ghost use Rattle.teco_step.specs.Terminal.{Screen};
@@ -23,23 +24,25 @@ use crate::stop::Stop;
 use teco_core::{Code, Reg};
 use teco_scan::{
     Bare, Command, Found, Item, RegisterCommand, TextCommand, Token, TokenKind, block_laws,
-    token_at,
 };
 use teco_step::{Next, Terminal, Work, effect_laws, step_token};
 use teco_store::Desk;
 
-/// Passes what comes at the cursor, where it uses no step, or else does its steps. What uses no step is passed one token at a time.
+/// Passes what was found at the cursor, where it uses no step, or else does its steps.
 ///
-/// Where the limit of steps is reached, the run is over. A step that ends for want of memory, or because the terminal fails, isn't
-/// counted.
+/// What uses no step is passed one token at a time. Where the limit of steps is reached, the run is over. A step that ends for want
+/// of memory, or because the terminal fails, isn't counted.
 #[inline(always)]
-pub(crate) fn step<D: Desk, S: Stop, T: Terminal>(
+pub(crate) fn step_found<D: Desk, S: Stop, T: Terminal>(
     desk: &mut D,
     cursor: &mut Cursor,
+    found: &Found,
     steps: &mut Steps,
     stop: &mut S,
     term: &mut T,
 ) -> Flow
+    requires read { found_in cursor.old.text.now found.now ≡ scan (drop cursor.old.at cursor.old.text.now) }
+    requires place { IsFoundAt cursor.old.text.now cursor.old.at found.now }
     ensures text { cursor.new.text ≡ cursor.old.text }
     ensures counts { CountsSteps (S.answered stop.old) (S.answered stop.new) (result ≡ flow.Stop Lim)
         steps.old steps.new }
@@ -61,10 +64,9 @@ pub(crate) fn step<D: Desk, S: Stop, T: Terminal>(
         (cursor_of cursor.new).left) }
 {
     block_laws();
-    let found = token_at(cursor.text, cursor.at);
-    match cursor.pass(&found) {
+    match cursor.pass(found) {
         Coming::Passed => Flow::On,
-        Coming::Step => match &found {
+        Coming::Step => match found {
             Found::Token(token) => token_steps(desk, cursor, token, steps, stop, term),
             // `pass` tells of a step only where a token was found.
             Found::End | Found::Fault(_) => unreachable!(),

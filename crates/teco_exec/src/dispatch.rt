@@ -1,0 +1,212 @@
+//! One step of a text. The commonest first bytes have a copy of the code each, which the compiler makes for just their command.
+ghost use Rattle.std.specs.Prelude.{◌≡◌, ◌<◌, ◌⊎◌, ℕ, List, Some, drop, length, IfSome};
+ghost use Rattle.teco_core.specs.declared.code.Code.TheVariants.{Lim};
+ghost use Rattle.teco_scan.specs.Led.{Begins};
+ghost use Rattle.teco_scan.specs.Scan.{scan};
+ghost use Rattle.teco_scan.specs.Seen.{IsFoundAt, found_in};
+ghost use Rattle.teco_exec.specs.Machine.{Caller};
+ghost use Rattle.teco_exec.specs.Running.{GoesOn, GoesQuietly, OnCall, OnLast, Origin, RunGoesOn, RunLeads, StandsSomewhere, at_cursor, reached_by_flow, host};
+ghost use Rattle.teco_exec.specs.Tokens.{CountsSteps};
+ghost use Rattle.teco_exec.specs.Places.{IsReadAt, call_token};
+ghost use Rattle.teco_exec.specs.Quiet.{IsQuiet};
+ghost use Rattle.teco_exec.specs.View.{cursor as cursor_of};
+ghost use Rattle.teco_exec.specs.declared.flow.Flow.TheVariants as flow;
+
+use crate::cursor::Cursor;
+use crate::flow::{Flow, Steps};
+use crate::stepping::step_found;
+use crate::stop::Stop;
+use teco_core::ESC;
+use teco_scan::{
+    Form, Found, bare_token, digits_token, end_found, escape_token, filler_end, lead, mark_token,
+    register_token, test_token, text_token, token_at,
+};
+use teco_step::Terminal;
+use teco_store::Desk;
+
+/// Passes what comes at the cursor, where it uses no step, or else does its steps. What uses no step is passed one token at a time.
+///
+/// Where the limit of steps is reached, the run is over. A step that ends for want of memory, or because the terminal fails, isn't
+/// counted.
+#[inline(always)]
+pub(crate) fn step<D: Desk, S: Stop, T: Terminal>(
+    desk: &mut D,
+    cursor: &mut Cursor,
+    steps: &mut Steps,
+    stop: &mut S,
+    term: &mut T,
+) -> Flow
+    ensures text { cursor.new.text ≡ cursor.old.text }
+    ensures counts { CountsSteps (S.answered stop.old) (S.answered stop.new) (result ≡ flow.Stop Lim)
+        steps.old steps.new }
+    ensures advances { GoesOn result
+        → (steps.old.done < steps.new.done)
+        ⊎ (length (cursor_of cursor.new).left < length (cursor_of cursor.old).left) }
+    ensures leads { RunLeads steps.new.limit
+        (host (D.state desk.old) (D.follows desk.old) (T.screen term.old) steps.old.done)
+        (host (D.state desk.new) (D.follows desk.new) (T.screen term.new) steps.new.done)
+        (at_cursor cursor.old) (λ callers. reached_by_flow cursor.new callers result) }
+    ensures quiet { IsQuiet (cursor_of cursor.old) → GoesQuietly cursor.new result }
+    ensures around { OnLast result steps.new.done (λ k.
+        (cursor_of cursor.new).blocks ≡ (cursor_of cursor.old).blocks) }
+    ensures stood { OnLast result steps.new.done (λ k.
+        (o : Origin) (callers : List Caller)
+        → RunGoesOn o (host (D.state desk.old) (D.follows desk.old) (T.screen term.old) steps.old.done)
+        (at_cursor cursor.old callers) → StandsSomewhere o k cursor.old callers) }
+    ensures calls { OnCall result (λ q. IsReadAt cursor.old.text.now cursor.old.at (Some (call_token q))
+        (cursor_of cursor.new).left) }
+{
+    let (text, at) = (cursor.text, cursor.at);
+    let from = filler_end(text, at);
+    if from == text.len() {
+        let found = end_found(text, at, from);
+        return step_found(desk, cursor, &found, steps, stop, term);
+    }
+    // The arms do the same, each for another byte. A command whose byte has none is found as well, and takes longer.
+    match text[from] {
+        b'0'..=b'9' => {
+            let found = digits_token(text, at, from);
+            step_found(desk, cursor, &found, steps, stop, term)
+        }
+        b'%' => step_led(desk, cursor, from, steps, stop, term),
+        b'Q' | b'q' => step_led(desk, cursor, from, steps, stop, term),
+        b'U' | b'u' => step_led(desk, cursor, from, steps, stop, term),
+        b'M' | b'm' => step_led(desk, cursor, from, steps, stop, term),
+        b'I' | b'i' => step_led(desk, cursor, from, steps, stop, term),
+        b'>' => step_led(desk, cursor, from, steps, stop, term),
+        b'"' => step_led(desk, cursor, from, steps, stop, term),
+        ESC => step_led(desk, cursor, from, steps, stop, term),
+        _ => step_other(desk, cursor, from, steps, stop, term),
+    }
+}
+
+/// Does what [`step`] does, where a token begins at a place.
+#[inline(always)]
+fn step_led<D: Desk, S: Stop, T: Terminal>(
+    desk: &mut D,
+    cursor: &mut Cursor,
+    from: usize,
+    steps: &mut Steps,
+    stop: &mut S,
+    term: &mut T,
+) -> Flow
+    requires { Begins cursor.old.text.now cursor.old.at from }
+    ensures text { cursor.new.text ≡ cursor.old.text }
+    ensures counts { CountsSteps (S.answered stop.old) (S.answered stop.new) (result ≡ flow.Stop Lim)
+        steps.old steps.new }
+    ensures advances { GoesOn result
+        → (steps.old.done < steps.new.done)
+        ⊎ (length (cursor_of cursor.new).left < length (cursor_of cursor.old).left) }
+    ensures leads { RunLeads steps.new.limit
+        (host (D.state desk.old) (D.follows desk.old) (T.screen term.old) steps.old.done)
+        (host (D.state desk.new) (D.follows desk.new) (T.screen term.new) steps.new.done)
+        (at_cursor cursor.old) (λ callers. reached_by_flow cursor.new callers result) }
+    ensures quiet { IsQuiet (cursor_of cursor.old) → GoesQuietly cursor.new result }
+    ensures around { OnLast result steps.new.done (λ k.
+        (cursor_of cursor.new).blocks ≡ (cursor_of cursor.old).blocks) }
+    ensures stood { OnLast result steps.new.done (λ k.
+        (o : Origin) (callers : List Caller)
+        → RunGoesOn o (host (D.state desk.old) (D.follows desk.old) (T.screen term.old) steps.old.done)
+        (at_cursor cursor.old callers) → StandsSomewhere o k cursor.old callers) }
+    ensures calls { OnCall result (λ q. IsReadAt cursor.old.text.now cursor.old.at (Some (call_token q))
+        (cursor_of cursor.new).left) }
+{
+    match led(cursor.text, cursor.at, from) {
+        Some(found) => step_found(desk, cursor, &found, steps, stop, term),
+        None => step_any(desk, cursor, steps, stop, term),
+    }
+}
+
+/// Does the same, where the token may be a command without an operand, or a mark of a block.
+#[inline(always)]
+fn step_other<D: Desk, S: Stop, T: Terminal>(
+    desk: &mut D,
+    cursor: &mut Cursor,
+    from: usize,
+    steps: &mut Steps,
+    stop: &mut S,
+    term: &mut T,
+) -> Flow
+    requires { Begins cursor.old.text.now cursor.old.at from }
+    ensures text { cursor.new.text ≡ cursor.old.text }
+    ensures counts { CountsSteps (S.answered stop.old) (S.answered stop.new) (result ≡ flow.Stop Lim)
+        steps.old steps.new }
+    ensures advances { GoesOn result
+        → (steps.old.done < steps.new.done)
+        ⊎ (length (cursor_of cursor.new).left < length (cursor_of cursor.old).left) }
+    ensures leads { RunLeads steps.new.limit
+        (host (D.state desk.old) (D.follows desk.old) (T.screen term.old) steps.old.done)
+        (host (D.state desk.new) (D.follows desk.new) (T.screen term.new) steps.new.done)
+        (at_cursor cursor.old) (λ callers. reached_by_flow cursor.new callers result) }
+    ensures quiet { IsQuiet (cursor_of cursor.old) → GoesQuietly cursor.new result }
+    ensures around { OnLast result steps.new.done (λ k.
+        (cursor_of cursor.new).blocks ≡ (cursor_of cursor.old).blocks) }
+    ensures stood { OnLast result steps.new.done (λ k.
+        (o : Origin) (callers : List Caller)
+        → RunGoesOn o (host (D.state desk.old) (D.follows desk.old) (T.screen term.old) steps.old.done)
+        (at_cursor cursor.old callers) → StandsSomewhere o k cursor.old callers) }
+    ensures calls { OnCall result (λ q. IsReadAt cursor.old.text.now cursor.old.at (Some (call_token q))
+        (cursor_of cursor.new).left) }
+{
+    match lead(cursor.text, cursor.at, from) {
+        Some(Form::Bare(command)) => {
+            let found = bare_token(cursor.text, cursor.at, from, command);
+            step_found(desk, cursor, &found, steps, stop, term)
+        }
+        Some(Form::Mark(mark)) => {
+            let found = mark_token(cursor.text, cursor.at, from, mark);
+            step_found(desk, cursor, &found, steps, stop, term)
+        }
+        _ => step_any(desk, cursor, steps, stop, term),
+    }
+}
+
+/// Does what [`step`] does, whatever comes.
+#[inline(never)]
+fn step_any<D: Desk, S: Stop, T: Terminal>(
+    desk: &mut D,
+    cursor: &mut Cursor,
+    steps: &mut Steps,
+    stop: &mut S,
+    term: &mut T,
+) -> Flow
+    ensures text { cursor.new.text ≡ cursor.old.text }
+    ensures counts { CountsSteps (S.answered stop.old) (S.answered stop.new) (result ≡ flow.Stop Lim)
+        steps.old steps.new }
+    ensures advances { GoesOn result
+        → (steps.old.done < steps.new.done)
+        ⊎ (length (cursor_of cursor.new).left < length (cursor_of cursor.old).left) }
+    ensures leads { RunLeads steps.new.limit
+        (host (D.state desk.old) (D.follows desk.old) (T.screen term.old) steps.old.done)
+        (host (D.state desk.new) (D.follows desk.new) (T.screen term.new) steps.new.done)
+        (at_cursor cursor.old) (λ callers. reached_by_flow cursor.new callers result) }
+    ensures quiet { IsQuiet (cursor_of cursor.old) → GoesQuietly cursor.new result }
+    ensures around { OnLast result steps.new.done (λ k.
+        (cursor_of cursor.new).blocks ≡ (cursor_of cursor.old).blocks) }
+    ensures stood { OnLast result steps.new.done (λ k.
+        (o : Origin) (callers : List Caller)
+        → RunGoesOn o (host (D.state desk.old) (D.follows desk.old) (T.screen term.old) steps.old.done)
+        (at_cursor cursor.old callers) → StandsSomewhere o k cursor.old callers) }
+    ensures calls { OnCall result (λ q. IsReadAt cursor.old.text.now cursor.old.at (Some (call_token q))
+        (cursor_of cursor.new).left) }
+{
+    let found = token_at(cursor.text, cursor.at);
+    step_found(desk, cursor, &found, steps, stop, term)
+}
+
+/// The token that begins at a place, where its first byte alone names its command.
+#[inline(always)]
+fn led(text: &[u8], at: usize, from: usize) -> Option<Found>
+    requires { Begins text.now at from }
+    ensures read { IfSome result (λ found. found_in text.now found ≡ scan (drop at text.now)) }
+    ensures place { IfSome result (λ found. IsFoundAt text.now at found) }
+{
+    match lead(text, at, from)? {
+        Form::Register(command) => register_token(text, at, from, command),
+        Form::Text(command, usual) => text_token(text, at, from, command, usual),
+        Form::Mark(mark) => Some(mark_token(text, at, from, mark)),
+        Form::Escape => Some(escape_token(text, at, from)),
+        Form::Test => test_token(text, at, from),
+        _ => None,
+    }
+}
