@@ -242,6 +242,7 @@ fn resume(cursor: &mut Cursor, token: &Token, next: Next) -> Progress
 }
 
 /// The register whose text the token calls.
+#[inline(always)]
 fn called_by(token: &Token) -> Option<Reg>
     ensures { MatchOption result (calls_text token.now.kind ≡ false) (λ q. token.now.kind ≡ call_of q) }
 {
@@ -252,6 +253,7 @@ fn called_by(token: &Token) -> Option<Reg>
 }
 
 /// Whether an iteration is open, where the token looks around.
+#[inline(always)]
 fn iteration_is_seen(cursor: &Cursor, token: &Token) -> bool
     ensures { looks_around token.now.kind ≡ true → result ≡ inside_iteration (cursor_of cursor.now).blocks }
 {
@@ -259,6 +261,7 @@ fn iteration_is_seen(cursor: &Cursor, token: &Token) -> bool
 }
 
 /// Whether a plain `;` comes next, where the token looks around.
+#[inline(always)]
 fn leave_is_seen(cursor: &Cursor, token: &Token) -> bool
     ensures { looks_around token.now.kind ≡ true → result ≡ leave_is_next (scan (cursor_of cursor.now).left) }
 {
@@ -266,6 +269,7 @@ fn leave_is_seen(cursor: &Cursor, token: &Token) -> bool
 }
 
 /// Whether a step of the token looks at what surrounds it: only `;` does, and a search.
+#[inline(always)]
 fn looks_around(token: &Token) -> bool
     ensures { result ≡ looks_around token.now.kind }
 {
@@ -280,6 +284,7 @@ fn looks_around(token: &Token) -> bool
 }
 
 /// The code by which a step was begun and not done.
+#[inline(always)]
 fn unfinished(next: &Next) -> Option<Code>
     ensures { MatchOption result (is_unfinished next.now ≡ false)
         (λ code. (next.now ≡ Error code) × (is_unfinished_code code ≡ true)) }
@@ -292,6 +297,7 @@ fn unfinished(next: &Next) -> Option<Code>
 }
 
 /// A step has failed by this code.
+#[inline(always)]
 fn failed(code: Code) -> Flow
     ensures { result ≡ flow.Fail code }
 {
@@ -299,6 +305,7 @@ fn failed(code: Code) -> Flow
 }
 
 /// The text goes on, unless there was an error.
+#[inline(always)]
 fn on_unless(moved: Result<(), Code>) -> Flow
     ensures { MatchResult moved (λ _. result ≡ flow.On) (λ code. result ≡ flow.Fail code) }
 {
@@ -309,6 +316,7 @@ fn on_unless(moved: Result<(), Code>) -> Flow
 }
 
 /// The name of the tag that a jump goes to.
+#[inline(always)]
 fn name_of<'a>(text: &'a [u8], token: &Token) -> &'a [u8]
     requires { IsStepIn text.now token.now }
     ensures { result.now ≡ name_in text.now token.now }
