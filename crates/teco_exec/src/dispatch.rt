@@ -62,35 +62,37 @@ pub(crate) fn step<D: Desk, S: Stop, T: Terminal>(
         let found = end_found(text, at, from);
         return step_found(desk, cursor, &found, steps, stop, term);
     }
-    // The arms do the same, each for another byte. A command whose byte has none is found as well, and takes longer.
+    // What has no arm of its own takes longer, and is done as well.
     match text[from] {
         b'0'..=b'9' => {
             let found = digits_token(text, at, from);
             step_found(desk, cursor, &found, steps, stop, term)
         }
-        b'%' => step_led(desk, cursor, from, steps, stop, term),
-        b'Q' | b'q' => step_led(desk, cursor, from, steps, stop, term),
-        b'U' | b'u' => step_led(desk, cursor, from, steps, stop, term),
-        b'M' | b'm' => step_led(desk, cursor, from, steps, stop, term),
-        b'I' | b'i' => step_led(desk, cursor, from, steps, stop, term),
-        b'>' => step_led(desk, cursor, from, steps, stop, term),
-        b'"' => step_led(desk, cursor, from, steps, stop, term),
-        ESC => step_led(desk, cursor, from, steps, stop, term),
+        b'%' => step_known(desk, cursor, register_at(text, at, from), steps, stop, term),
+        b'Q' => step_known(desk, cursor, register_at(text, at, from), steps, stop, term),
+        b'U' => step_known(desk, cursor, register_at(text, at, from), steps, stop, term),
+        b'M' => step_known(desk, cursor, register_at(text, at, from), steps, stop, term),
+        b'I' => step_known(desk, cursor, text_at(text, at, from), steps, stop, term),
+        b'>' => step_known(desk, cursor, mark_at(text, at, from), steps, stop, term),
+        b'"' => step_known(desk, cursor, test_at(text, at, from), steps, stop, term),
+        ESC => step_known(desk, cursor, escape_at(text, at, from), steps, stop, term),
         _ => step_other(desk, cursor, from, steps, stop, term),
     }
 }
 
-/// Does what [`step`] does, where a token begins at a place.
+/// Does the step of a token that was found, or of whatever comes.
 #[inline(always)]
-fn step_led<D: Desk, S: Stop, T: Terminal>(
+fn step_known<D: Desk, S: Stop, T: Terminal>(
     desk: &mut D,
     cursor: &mut Cursor,
-    from: usize,
+    known: Option<Found>,
     steps: &mut Steps,
     stop: &mut S,
     term: &mut T,
 ) -> Flow
-    requires { Begins cursor.old.text.now cursor.old.at from }
+    requires read { IfSome known (λ found.
+        found_in cursor.old.text.now found ≡ scan (drop cursor.old.at cursor.old.text.now)) }
+    requires place { IfSome known (λ found. IsFoundAt cursor.old.text.now cursor.old.at found) }
     ensures text { cursor.new.text ≡ cursor.old.text }
     ensures counts { CountsSteps (S.answered stop.old) (S.answered stop.new) (result ≡ flow.Stop Lim)
         steps.old steps.new }
@@ -111,13 +113,13 @@ fn step_led<D: Desk, S: Stop, T: Terminal>(
     ensures calls { OnCall result (λ q. IsReadAt cursor.old.text.now cursor.old.at (Some (call_token q))
         (cursor_of cursor.new).left) }
 {
-    match led(cursor.text, cursor.at, from) {
+    match known {
         Some(found) => step_found(desk, cursor, &found, steps, stop, term),
         None => step_any(desk, cursor, steps, stop, term),
     }
 }
 
-/// Does the same, where the token may be a command without an operand, or a mark of a block.
+/// Does the step of a token that begins at a place: a command without an operand, a mark of a block, or another.
 #[inline(always)]
 fn step_other<D: Desk, S: Stop, T: Terminal>(
     desk: &mut D,
@@ -194,19 +196,67 @@ fn step_any<D: Desk, S: Stop, T: Terminal>(
     step_found(desk, cursor, &found, steps, stop, term)
 }
 
-/// The token that begins at a place, where its first byte alone names its command.
+/// A command on a register, which begins at a place, where its first byte alone names it.
 #[inline(always)]
-fn led(text: &[u8], at: usize, from: usize) -> Option<Found>
+fn register_at(text: &[u8], at: usize, from: usize) -> Option<Found>
     requires { Begins text.now at from }
     ensures read { IfSome result (λ found. found_in text.now found ≡ scan (drop at text.now)) }
     ensures place { IfSome result (λ found. IsFoundAt text.now at found) }
 {
     match lead(text, at, from)? {
         Form::Register(command) => register_token(text, at, from, command),
+        _ => None,
+    }
+}
+
+/// A command with one text, in the same way.
+#[inline(always)]
+fn text_at(text: &[u8], at: usize, from: usize) -> Option<Found>
+    requires { Begins text.now at from }
+    ensures read { IfSome result (λ found. found_in text.now found ≡ scan (drop at text.now)) }
+    ensures place { IfSome result (λ found. IsFoundAt text.now at found) }
+{
+    match lead(text, at, from)? {
         Form::Text(command, usual) => text_token(text, at, from, command, usual),
+        _ => None,
+    }
+}
+
+/// A mark of a block, in the same way.
+#[inline(always)]
+fn mark_at(text: &[u8], at: usize, from: usize) -> Option<Found>
+    requires { Begins text.now at from }
+    ensures read { IfSome result (λ found. found_in text.now found ≡ scan (drop at text.now)) }
+    ensures place { IfSome result (λ found. IsFoundAt text.now at found) }
+{
+    match lead(text, at, from)? {
         Form::Mark(mark) => Some(mark_token(text, at, from, mark)),
-        Form::Escape => Some(escape_token(text, at, from)),
+        _ => None,
+    }
+}
+
+/// The beginning of a conditional, in the same way.
+#[inline(always)]
+fn test_at(text: &[u8], at: usize, from: usize) -> Option<Found>
+    requires { Begins text.now at from }
+    ensures read { IfSome result (λ found. found_in text.now found ≡ scan (drop at text.now)) }
+    ensures place { IfSome result (λ found. IsFoundAt text.now at found) }
+{
+    match lead(text, at, from)? {
         Form::Test => test_token(text, at, from),
+        _ => None,
+    }
+}
+
+/// An escape, in the same way.
+#[inline(always)]
+fn escape_at(text: &[u8], at: usize, from: usize) -> Option<Found>
+    requires { Begins text.now at from }
+    ensures read { IfSome result (λ found. found_in text.now found ≡ scan (drop at text.now)) }
+    ensures place { IfSome result (λ found. IsFoundAt text.now at found) }
+{
+    match lead(text, at, from)? {
+        Form::Escape => Some(escape_token(text, at, from)),
         _ => None,
     }
 }
