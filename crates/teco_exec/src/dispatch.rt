@@ -19,7 +19,7 @@ use crate::stop::Stop;
 use teco_core::ESC;
 use teco_scan::{
     Form, Found, bare_token, digits_token, end_found, escape_token, filler_end, lead, mark_token,
-    register_token, test_token, text_token, token_at,
+    register_token, tag_token, test_token, text_token, token_at,
 };
 use teco_step::Terminal;
 use teco_store::Desk;
@@ -119,7 +119,7 @@ fn step_known<D: Desk, S: Stop, T: Terminal>(
     }
 }
 
-/// Does the step of a token that begins at a place: a command without an operand, a mark of a block, or another.
+/// Does the step of a token that begins at a place, by the form of the command that its first byte alone names.
 #[inline(always)]
 fn step_other<D: Desk, S: Stop, T: Terminal>(
     desk: &mut D,
@@ -150,14 +150,27 @@ fn step_other<D: Desk, S: Stop, T: Terminal>(
     ensures calls { OnCall result (λ q. IsReadAt cursor.old.text.now cursor.old.at (Some (call_token q))
         (cursor_of cursor.new).left) }
 {
-    match lead(cursor.text, cursor.at, from) {
+    let (text, at) = (cursor.text, cursor.at);
+    match lead(text, at, from) {
         Some(Form::Bare(command)) => {
-            let found = bare_token(cursor.text, cursor.at, from, command);
+            let found = bare_token(text, at, from, command);
             step_found(desk, cursor, &found, steps, stop, term)
         }
         Some(Form::Mark(mark)) => {
-            let found = mark_token(cursor.text, cursor.at, from, mark);
+            let found = mark_token(text, at, from, mark);
             step_found(desk, cursor, &found, steps, stop, term)
+        }
+        Some(Form::Register(command)) => {
+            let known = register_token(text, at, from, command);
+            step_known(desk, cursor, known, steps, stop, term)
+        }
+        Some(Form::Text(command, usual)) => {
+            let known = text_token(text, at, from, command, usual);
+            step_known(desk, cursor, known, steps, stop, term)
+        }
+        Some(Form::Tag) => {
+            let known = tag_token(text, at, from);
+            step_known(desk, cursor, known, steps, stop, term)
         }
         _ => step_any(desk, cursor, steps, stop, term),
     }
