@@ -112,6 +112,7 @@ impl<'r> Blocks<'r> {
 
     /// Begins the next turn of the innermost block, an iteration, and tells where its list begins. There is none after the last
     /// turn: then nothing changes.
+    #[inline(always)]
     pub fn next_turn(&mut self) -> Option<usize>
         requires { EndsTurn self.old }
         ensures { MatchOption result ((next_turn self.old ≡ None) × (self.new ≡ self.old))

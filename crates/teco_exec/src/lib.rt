@@ -5,6 +5,7 @@ mod blocks;
 mod called;
 mod conditions;
 mod cursor;
+mod dispatch;
 mod flow;
 mod jumps;
 mod laws;

@@ -252,6 +252,7 @@ impl<'t> Cursor<'t> {
     }
 
     /// A turn ends: the next one begins, or the iteration is over.
+    #[inline(always)]
     fn end_turn(&mut self, to: usize)
         requires within { to ≤ length self.old.text.now }
         requires ends { EndsTurn self.old.blocks }

@@ -16,12 +16,12 @@ ghost use Rattle.teco_exec.specs.StringMeaning.{string_meaning};
 ghost use Rattle.teco_exec.specs.declared.flow.Exit.TheVariants as exit;
 
 use crate::blocks::{Block, Body};
-use crate::called::{SHORT_LIMIT, short_copy};
+use crate::called::{SHORT_LIMIT, copy_short};
 use crate::cursor::Cursor;
+use crate::dispatch::step;
 use crate::flow::{Exit, Flow, Steps};
 use crate::laws::{machine_laws, meaning_laws};
 use crate::outcome::{Outcome, Stopped};
-use crate::stepping::step;
 use crate::stop::{Never, Stop};
 use crate::watch::{Unwatched, Watch, Watched};
 use std::alloc::Global;
@@ -274,7 +274,8 @@ fn run_called<D: Desk, S: Stop, T: Terminal, W: Watch>(
     let text = desk.registers().text(q);
     let len = text.len();
     if len <= SHORT_LIMIT {
-        let copy = short_copy(text);
+        let mut copy = [0; SHORT_LIMIT];
+        copy_short(text, &mut copy);
         return run_copy(
             desk,
             q,

@@ -1,7 +1,8 @@
-//! One step of a text.
+//! One step of what was found in a text.
 ghost use Rattle.std.specs.Prelude.{◌≡◌, ◌<◌, ◌≤◌, ◌⊎◌, ℕ, List, None, Some, MatchOption, MatchResult, drop, false, length, true};
 ghost use Rattle.teco_core.specs.declared.code.Code.TheVariants.{Lim};
 ghost use Rattle.teco_scan.specs.Scan.{scan};
+ghost use Rattle.teco_scan.specs.Seen.{IsFoundAt, found_in};
 ghost use Rattle.teco_store.specs.State.{State};
 ghost use Rattle.teco_step.specs.Stepping.{IsStepIn, end_of, is_unfinished, is_unfinished_code, name_in, takes_nothing_in};
 ghost use Rattle.teco_step.specs.Terminal.{Screen};
@@ -23,23 +24,25 @@ use crate::stop::Stop;
 use teco_core::{Code, Reg};
 use teco_scan::{
     Bare, Command, Found, Item, RegisterCommand, TextCommand, Token, TokenKind, block_laws,
-    token_at,
 };
 use teco_step::{Next, Terminal, Work, effect_laws, step_token};
 use teco_store::Desk;
 
-/// Passes what comes at the cursor, where it uses no step, or else does its steps. What uses no step is passed one token at a time.
+/// Passes what was found at the cursor, where it uses no step, or else does its steps.
 ///
-/// Where the limit of steps is reached, the run is over. A step that ends for want of memory, or because the terminal fails, isn't
-/// counted.
+/// What uses no step is passed one token at a time. Where the limit of steps is reached, the run is over. A step that ends for want
+/// of memory, or because the terminal fails, isn't counted.
 #[inline(always)]
-pub(crate) fn step<D: Desk, S: Stop, T: Terminal>(
+pub(crate) fn step_found<D: Desk, S: Stop, T: Terminal>(
     desk: &mut D,
     cursor: &mut Cursor,
+    found: &Found,
     steps: &mut Steps,
     stop: &mut S,
     term: &mut T,
 ) -> Flow
+    requires read { found_in cursor.old.text.now found.now ≡ scan (drop cursor.old.at cursor.old.text.now) }
+    requires place { IsFoundAt cursor.old.text.now cursor.old.at found.now }
     ensures text { cursor.new.text ≡ cursor.old.text }
     ensures counts { CountsSteps (S.answered stop.old) (S.answered stop.new) (result ≡ flow.Stop Lim)
         steps.old steps.new }
@@ -61,10 +64,9 @@ pub(crate) fn step<D: Desk, S: Stop, T: Terminal>(
         (cursor_of cursor.new).left) }
 {
     block_laws();
-    let found = token_at(cursor.text, cursor.at);
-    match cursor.pass(&found) {
+    match cursor.pass(found) {
         Coming::Passed => Flow::On,
-        Coming::Step => match &found {
+        Coming::Step => match found {
             Found::Token(token) => token_steps(desk, cursor, token, steps, stop, term),
             // `pass` tells of a step only where a token was found.
             Found::End | Found::Fault(_) => unreachable!(),
@@ -240,6 +242,7 @@ fn resume(cursor: &mut Cursor, token: &Token, next: Next) -> Progress
 }
 
 /// The register whose text the token calls.
+#[inline(always)]
 fn called_by(token: &Token) -> Option<Reg>
     ensures { MatchOption result (calls_text token.now.kind ≡ false) (λ q. token.now.kind ≡ call_of q) }
 {
@@ -250,6 +253,7 @@ fn called_by(token: &Token) -> Option<Reg>
 }
 
 /// Whether an iteration is open, where the token looks around.
+#[inline(always)]
 fn iteration_is_seen(cursor: &Cursor, token: &Token) -> bool
     ensures { looks_around token.now.kind ≡ true → result ≡ inside_iteration (cursor_of cursor.now).blocks }
 {
@@ -257,6 +261,7 @@ fn iteration_is_seen(cursor: &Cursor, token: &Token) -> bool
 }
 
 /// Whether a plain `;` comes next, where the token looks around.
+#[inline(always)]
 fn leave_is_seen(cursor: &Cursor, token: &Token) -> bool
     ensures { looks_around token.now.kind ≡ true → result ≡ leave_is_next (scan (cursor_of cursor.now).left) }
 {
@@ -264,6 +269,7 @@ fn leave_is_seen(cursor: &Cursor, token: &Token) -> bool
 }
 
 /// Whether a step of the token looks at what surrounds it: only `;` does, and a search.
+#[inline(always)]
 fn looks_around(token: &Token) -> bool
     ensures { result ≡ looks_around token.now.kind }
 {
@@ -278,6 +284,7 @@ fn looks_around(token: &Token) -> bool
 }
 
 /// The code by which a step was begun and not done.
+#[inline(always)]
 fn unfinished(next: &Next) -> Option<Code>
     ensures { MatchOption result (is_unfinished next.now ≡ false)
         (λ code. (next.now ≡ Error code) × (is_unfinished_code code ≡ true)) }
@@ -290,6 +297,7 @@ fn unfinished(next: &Next) -> Option<Code>
 }
 
 /// A step has failed by this code.
+#[inline(always)]
 fn failed(code: Code) -> Flow
     ensures { result ≡ flow.Fail code }
 {
@@ -297,6 +305,7 @@ fn failed(code: Code) -> Flow
 }
 
 /// The text goes on, unless there was an error.
+#[inline(always)]
 fn on_unless(moved: Result<(), Code>) -> Flow
     ensures { MatchResult moved (λ _. result ≡ flow.On) (λ code. result ≡ flow.Fail code) }
 {
@@ -307,6 +316,7 @@ fn on_unless(moved: Result<(), Code>) -> Flow
 }
 
 /// The name of the tag that a jump goes to.
+#[inline(always)]
 fn name_of<'a>(text: &'a [u8], token: &Token) -> &'a [u8]
     requires { IsStepIn text.now token.now }
     ensures { result.now ≡ name_in text.now token.now }

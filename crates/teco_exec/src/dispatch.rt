@@ -1,0 +1,275 @@
+//! One step of a text. The commonest first bytes have a copy of the code each, which the compiler makes for just their command.
+ghost use Rattle.std.specs.Prelude.{◌≡◌, ◌<◌, ◌⊎◌, ℕ, List, Some, drop, length, IfSome};
+ghost use Rattle.teco_core.specs.declared.code.Code.TheVariants.{Lim};
+ghost use Rattle.teco_scan.specs.Led.{Begins};
+ghost use Rattle.teco_scan.specs.Scan.{scan};
+ghost use Rattle.teco_scan.specs.Seen.{IsFoundAt, found_in};
+ghost use Rattle.teco_exec.specs.Machine.{Caller};
+ghost use Rattle.teco_exec.specs.Running.{GoesOn, GoesQuietly, OnCall, OnLast, Origin, RunGoesOn, RunLeads, StandsSomewhere, at_cursor, reached_by_flow, host};
+ghost use Rattle.teco_exec.specs.Tokens.{CountsSteps};
+ghost use Rattle.teco_exec.specs.Places.{IsReadAt, call_token};
+ghost use Rattle.teco_exec.specs.Quiet.{IsQuiet};
+ghost use Rattle.teco_exec.specs.View.{cursor as cursor_of};
+ghost use Rattle.teco_exec.specs.declared.flow.Flow.TheVariants as flow;
+
+use crate::cursor::Cursor;
+use crate::flow::{Flow, Steps};
+use crate::stepping::step_found;
+use crate::stop::Stop;
+use teco_core::ESC;
+use teco_scan::{
+    Form, Found, bare_token, digits_token, end_found, escape_token, filler_end, lead, mark_token,
+    register_token, tag_token, test_token, text_token, token_at,
+};
+use teco_step::Terminal;
+use teco_store::Desk;
+
+/// Passes what comes at the cursor, where it uses no step, or else does its steps. What uses no step is passed one token at a time.
+///
+/// Where the limit of steps is reached, the run is over. A step that ends for want of memory, or because the terminal fails, isn't
+/// counted.
+#[inline(always)]
+pub(crate) fn step<D: Desk, S: Stop, T: Terminal>(
+    desk: &mut D,
+    cursor: &mut Cursor,
+    steps: &mut Steps,
+    stop: &mut S,
+    term: &mut T,
+) -> Flow
+    ensures text { cursor.new.text ≡ cursor.old.text }
+    ensures counts { CountsSteps (S.answered stop.old) (S.answered stop.new) (result ≡ flow.Stop Lim)
+        steps.old steps.new }
+    ensures advances { GoesOn result
+        → (steps.old.done < steps.new.done)
+        ⊎ (length (cursor_of cursor.new).left < length (cursor_of cursor.old).left) }
+    ensures leads { RunLeads steps.new.limit
+        (host (D.state desk.old) (D.follows desk.old) (T.screen term.old) steps.old.done)
+        (host (D.state desk.new) (D.follows desk.new) (T.screen term.new) steps.new.done)
+        (at_cursor cursor.old) (λ callers. reached_by_flow cursor.new callers result) }
+    ensures quiet { IsQuiet (cursor_of cursor.old) → GoesQuietly cursor.new result }
+    ensures around { OnLast result steps.new.done (λ k.
+        (cursor_of cursor.new).blocks ≡ (cursor_of cursor.old).blocks) }
+    ensures stood { OnLast result steps.new.done (λ k.
+        (o : Origin) (callers : List Caller)
+        → RunGoesOn o (host (D.state desk.old) (D.follows desk.old) (T.screen term.old) steps.old.done)
+        (at_cursor cursor.old callers) → StandsSomewhere o k cursor.old callers) }
+    ensures calls { OnCall result (λ q. IsReadAt cursor.old.text.now cursor.old.at (Some (call_token q))
+        (cursor_of cursor.new).left) }
+{
+    let (text, at) = (cursor.text, cursor.at);
+    let from = filler_end(text, at);
+    if from == text.len() {
+        let found = end_found(text, at, from);
+        return step_found(desk, cursor, &found, steps, stop, term);
+    }
+    // What has no arm of its own takes longer, and is done as well.
+    match text[from] {
+        b'0'..=b'9' => {
+            let found = digits_token(text, at, from);
+            step_found(desk, cursor, &found, steps, stop, term)
+        }
+        b'%' => step_known(desk, cursor, register_at(text, at, from), steps, stop, term),
+        b'Q' => step_known(desk, cursor, register_at(text, at, from), steps, stop, term),
+        b'U' => step_known(desk, cursor, register_at(text, at, from), steps, stop, term),
+        b'M' => step_known(desk, cursor, register_at(text, at, from), steps, stop, term),
+        b'I' => step_known(desk, cursor, text_at(text, at, from), steps, stop, term),
+        b'>' => step_known(desk, cursor, mark_at(text, at, from), steps, stop, term),
+        b'"' => step_known(desk, cursor, test_at(text, at, from), steps, stop, term),
+        ESC => step_known(desk, cursor, escape_at(text, at, from), steps, stop, term),
+        _ => step_other(desk, cursor, from, steps, stop, term),
+    }
+}
+
+/// Does the step of a token that was found, or of whatever comes.
+#[inline(always)]
+fn step_known<D: Desk, S: Stop, T: Terminal>(
+    desk: &mut D,
+    cursor: &mut Cursor,
+    known: Option<Found>,
+    steps: &mut Steps,
+    stop: &mut S,
+    term: &mut T,
+) -> Flow
+    requires read { IfSome known (λ found.
+        found_in cursor.old.text.now found ≡ scan (drop cursor.old.at cursor.old.text.now)) }
+    requires place { IfSome known (λ found. IsFoundAt cursor.old.text.now cursor.old.at found) }
+    ensures text { cursor.new.text ≡ cursor.old.text }
+    ensures counts { CountsSteps (S.answered stop.old) (S.answered stop.new) (result ≡ flow.Stop Lim)
+        steps.old steps.new }
+    ensures advances { GoesOn result
+        → (steps.old.done < steps.new.done)
+        ⊎ (length (cursor_of cursor.new).left < length (cursor_of cursor.old).left) }
+    ensures leads { RunLeads steps.new.limit
+        (host (D.state desk.old) (D.follows desk.old) (T.screen term.old) steps.old.done)
+        (host (D.state desk.new) (D.follows desk.new) (T.screen term.new) steps.new.done)
+        (at_cursor cursor.old) (λ callers. reached_by_flow cursor.new callers result) }
+    ensures quiet { IsQuiet (cursor_of cursor.old) → GoesQuietly cursor.new result }
+    ensures around { OnLast result steps.new.done (λ k.
+        (cursor_of cursor.new).blocks ≡ (cursor_of cursor.old).blocks) }
+    ensures stood { OnLast result steps.new.done (λ k.
+        (o : Origin) (callers : List Caller)
+        → RunGoesOn o (host (D.state desk.old) (D.follows desk.old) (T.screen term.old) steps.old.done)
+        (at_cursor cursor.old callers) → StandsSomewhere o k cursor.old callers) }
+    ensures calls { OnCall result (λ q. IsReadAt cursor.old.text.now cursor.old.at (Some (call_token q))
+        (cursor_of cursor.new).left) }
+{
+    match known {
+        Some(found) => step_found(desk, cursor, &found, steps, stop, term),
+        None => step_any(desk, cursor, steps, stop, term),
+    }
+}
+
+/// Does the step of a token that begins at a place, by the form of the command that its first byte alone names.
+#[inline(always)]
+fn step_other<D: Desk, S: Stop, T: Terminal>(
+    desk: &mut D,
+    cursor: &mut Cursor,
+    from: usize,
+    steps: &mut Steps,
+    stop: &mut S,
+    term: &mut T,
+) -> Flow
+    requires { Begins cursor.old.text.now cursor.old.at from }
+    ensures text { cursor.new.text ≡ cursor.old.text }
+    ensures counts { CountsSteps (S.answered stop.old) (S.answered stop.new) (result ≡ flow.Stop Lim)
+        steps.old steps.new }
+    ensures advances { GoesOn result
+        → (steps.old.done < steps.new.done)
+        ⊎ (length (cursor_of cursor.new).left < length (cursor_of cursor.old).left) }
+    ensures leads { RunLeads steps.new.limit
+        (host (D.state desk.old) (D.follows desk.old) (T.screen term.old) steps.old.done)
+        (host (D.state desk.new) (D.follows desk.new) (T.screen term.new) steps.new.done)
+        (at_cursor cursor.old) (λ callers. reached_by_flow cursor.new callers result) }
+    ensures quiet { IsQuiet (cursor_of cursor.old) → GoesQuietly cursor.new result }
+    ensures around { OnLast result steps.new.done (λ k.
+        (cursor_of cursor.new).blocks ≡ (cursor_of cursor.old).blocks) }
+    ensures stood { OnLast result steps.new.done (λ k.
+        (o : Origin) (callers : List Caller)
+        → RunGoesOn o (host (D.state desk.old) (D.follows desk.old) (T.screen term.old) steps.old.done)
+        (at_cursor cursor.old callers) → StandsSomewhere o k cursor.old callers) }
+    ensures calls { OnCall result (λ q. IsReadAt cursor.old.text.now cursor.old.at (Some (call_token q))
+        (cursor_of cursor.new).left) }
+{
+    let (text, at) = (cursor.text, cursor.at);
+    match lead(text, at, from) {
+        Some(Form::Bare(command)) => {
+            let found = bare_token(text, at, from, command);
+            step_found(desk, cursor, &found, steps, stop, term)
+        }
+        Some(Form::Mark(mark)) => {
+            let found = mark_token(text, at, from, mark);
+            step_found(desk, cursor, &found, steps, stop, term)
+        }
+        Some(Form::Register(command)) => {
+            let known = register_token(text, at, from, command);
+            step_known(desk, cursor, known, steps, stop, term)
+        }
+        Some(Form::Text(command, usual)) => {
+            let known = text_token(text, at, from, command, usual);
+            step_known(desk, cursor, known, steps, stop, term)
+        }
+        Some(Form::Tag) => {
+            let known = tag_token(text, at, from);
+            step_known(desk, cursor, known, steps, stop, term)
+        }
+        _ => step_any(desk, cursor, steps, stop, term),
+    }
+}
+
+/// Does what [`step`] does, whatever comes.
+#[inline(never)]
+fn step_any<D: Desk, S: Stop, T: Terminal>(
+    desk: &mut D,
+    cursor: &mut Cursor,
+    steps: &mut Steps,
+    stop: &mut S,
+    term: &mut T,
+) -> Flow
+    ensures text { cursor.new.text ≡ cursor.old.text }
+    ensures counts { CountsSteps (S.answered stop.old) (S.answered stop.new) (result ≡ flow.Stop Lim)
+        steps.old steps.new }
+    ensures advances { GoesOn result
+        → (steps.old.done < steps.new.done)
+        ⊎ (length (cursor_of cursor.new).left < length (cursor_of cursor.old).left) }
+    ensures leads { RunLeads steps.new.limit
+        (host (D.state desk.old) (D.follows desk.old) (T.screen term.old) steps.old.done)
+        (host (D.state desk.new) (D.follows desk.new) (T.screen term.new) steps.new.done)
+        (at_cursor cursor.old) (λ callers. reached_by_flow cursor.new callers result) }
+    ensures quiet { IsQuiet (cursor_of cursor.old) → GoesQuietly cursor.new result }
+    ensures around { OnLast result steps.new.done (λ k.
+        (cursor_of cursor.new).blocks ≡ (cursor_of cursor.old).blocks) }
+    ensures stood { OnLast result steps.new.done (λ k.
+        (o : Origin) (callers : List Caller)
+        → RunGoesOn o (host (D.state desk.old) (D.follows desk.old) (T.screen term.old) steps.old.done)
+        (at_cursor cursor.old callers) → StandsSomewhere o k cursor.old callers) }
+    ensures calls { OnCall result (λ q. IsReadAt cursor.old.text.now cursor.old.at (Some (call_token q))
+        (cursor_of cursor.new).left) }
+{
+    let found = token_at(cursor.text, cursor.at);
+    step_found(desk, cursor, &found, steps, stop, term)
+}
+
+/// A command on a register, which begins at a place, where its first byte alone names it.
+#[inline(always)]
+fn register_at(text: &[u8], at: usize, from: usize) -> Option<Found>
+    requires { Begins text.now at from }
+    ensures read { IfSome result (λ found. found_in text.now found ≡ scan (drop at text.now)) }
+    ensures place { IfSome result (λ found. IsFoundAt text.now at found) }
+{
+    match lead(text, at, from)? {
+        Form::Register(command) => register_token(text, at, from, command),
+        _ => None,
+    }
+}
+
+/// A command with one text, in the same way.
+#[inline(always)]
+fn text_at(text: &[u8], at: usize, from: usize) -> Option<Found>
+    requires { Begins text.now at from }
+    ensures read { IfSome result (λ found. found_in text.now found ≡ scan (drop at text.now)) }
+    ensures place { IfSome result (λ found. IsFoundAt text.now at found) }
+{
+    match lead(text, at, from)? {
+        Form::Text(command, usual) => text_token(text, at, from, command, usual),
+        _ => None,
+    }
+}
+
+/// A mark of a block, in the same way.
+#[inline(always)]
+fn mark_at(text: &[u8], at: usize, from: usize) -> Option<Found>
+    requires { Begins text.now at from }
+    ensures read { IfSome result (λ found. found_in text.now found ≡ scan (drop at text.now)) }
+    ensures place { IfSome result (λ found. IsFoundAt text.now at found) }
+{
+    match lead(text, at, from)? {
+        Form::Mark(mark) => Some(mark_token(text, at, from, mark)),
+        _ => None,
+    }
+}
+
+/// The beginning of a conditional, in the same way.
+#[inline(always)]
+fn test_at(text: &[u8], at: usize, from: usize) -> Option<Found>
+    requires { Begins text.now at from }
+    ensures read { IfSome result (λ found. found_in text.now found ≡ scan (drop at text.now)) }
+    ensures place { IfSome result (λ found. IsFoundAt text.now at found) }
+{
+    match lead(text, at, from)? {
+        Form::Test => test_token(text, at, from),
+        _ => None,
+    }
+}
+
+/// An escape, in the same way.
+#[inline(always)]
+fn escape_at(text: &[u8], at: usize, from: usize) -> Option<Found>
+    requires { Begins text.now at from }
+    ensures read { IfSome result (λ found. found_in text.now found ≡ scan (drop at text.now)) }
+    ensures place { IfSome result (λ found. IsFoundAt text.now at found) }
+{
+    match lead(text, at, from)? {
+        Form::Escape => Some(escape_token(text, at, from)),
+        _ => None,
+    }
+}
