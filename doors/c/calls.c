@@ -37,6 +37,11 @@ static uint8_t where(struct teco *t, const char *text, size_t size)
     return teco_where(t, bytes(text), strlen(text), 1000, room, size, &n, &steps, &at, &calls);
 }
 
+static uint8_t until(struct teco *t, const char *text, size_t size, const struct teco_stopper *stopper)
+{
+    return teco_where_until(t, bytes(text), strlen(text), 1000, stopper, room, size, &n, &steps, &at, &calls);
+}
+
 /* Whether a string stopped there, inside of so many macros. */
 static int stopped(size_t place, size_t macros)
 {
@@ -79,7 +84,7 @@ static void runs(void)
     HOLDS(run(&t, "2=12=", 4) == TECO_TTY && has("2\r\n") && room[3] == '.' && steps == 3);
     HOLDS(run(&t, "", 0) == 0 && n == 0 && steps == 0);
     HOLDS(run(&t, "9J", 0) == 20 && steps == 2);
-    HOLDS(teco_run(&t, bytes("<>"), 2, 10, room, 0, &n, &steps) == 27 && steps == 10);
+    HOLDS(teco_run(&t, bytes("<>"), 2, 10, room, 0, &n, &steps) == TECO_LIM && steps == 10);
     HOLDS(run(&t, "EX", 0) == 0 && teco_done(&t) == 1);
     HOLDS(run(&t, "J", 0) == TECO_END && steps == 0);
     HOLDS(teco_strings(&t, &n) == 0 && n == 6);
@@ -96,7 +101,7 @@ static void wheres(void)
     HOLDS(where(&t, "2=12=", 4) == TECO_TTY && has("2\r\n") && steps == 3 && stopped(4, 0));
     HOLDS(where(&t, "J\r\nIx", 0) == 24 && steps == 1 && stopped(3, 0));
     HOLDS(where(&t, "3<ZJ>8<C>", 0) == 20 && stopped(7, 0));
-    HOLDS(teco_where(&t, bytes("J2J"), 3, 2, room, 0, &n, &steps, &at, &calls) == 27 && steps == 2 && stopped(2, 0));
+    HOLDS(teco_where(&t, bytes("J2J"), 3, 2, room, 0, &n, &steps, &at, &calls) == TECO_LIM && steps == 2 && stopped(2, 0));
     HOLDS(where(&t, "@^UA/J9J/", 0) == 0 && stopped(TECO_NOWHERE, 0));
     HOLDS(where(&t, "ZJ MA", 0) == 20 && stopped(3, 1));
     HOLDS(where(&t, "@^UB/2UB J J MA/ 7UC MB ZJ", 0) == 20 && stopped(21, 2));
@@ -105,6 +110,36 @@ static void wheres(void)
     HOLDS(teco_strings(&t, &n) == 0 && n == 11 && teco_undo(&t) == 0 && teco_rewind(&t, 0) == 0);
     HOLDS(where(&t, "EX", 0) == 0 && stopped(TECO_NOWHERE, 0) && teco_done(&t) == 1);
     HOLDS(where(&t, "9J", 0) == TECO_END && steps == 0 && stopped(TECO_NOWHERE, 0));
+    teco_close(&t);
+}
+
+static void breaks(void)
+{
+    struct teco t = {0};
+    struct teco_stopper here = {0}, there = {0};
+    teco_open(&t, bytes(""), 0, 0);
+    HOLDS(teco_stop(&here, 1) == TECO_CLOSED && here.at == NULL);
+    HOLDS(until(&t, "1=9J", 64, &here) == 20 && has("1\r\n") && steps == 4 && stopped(3, 0) && here.at == NULL);
+    HOLDS(teco_stopper_open(&here, &there) == 0 && here.at != NULL && there.at != NULL);
+    HOLDS(until(&t, "2=@^UA/9J/MA", 64, &here) == 20 && has("2\r\n") && stopped(10, 1));
+    HOLDS(until(&t, "3=", 64, &there) == 0 && has("3\r\n") && stopped(TECO_NOWHERE, 0));
+    HOLDS(until(&t, "4=", 1, &here) == TECO_TTY && steps == 1);
+    HOLDS(teco_stop(&there, 1) == 0);
+    HOLDS(until(&t, " 5=", 64, &here) == TECO_LIM && n == 0 && steps == 0 && stopped(1, 0));
+    HOLDS(until(&t, "6=", 64, &there) == TECO_LIM && steps == 0 && where(&t, "7=", 64) == 0 && run(&t, "8=", 64) == 0);
+    HOLDS(until(&t, "", 64, &here) == 0 && steps == 0 && stopped(TECO_NOWHERE, 0));
+    HOLDS(teco_strings(&t, &n) == 0 && n == 9 && teco_undo(&t) == 0 && teco_redo(&t) == 0);
+    HOLDS(teco_stop(&here, 0) == 0 && until(&t, "9=", 64, &here) == 0 && has("9\r\n"));
+    HOLDS(teco_stop(&here, 255) == 0 && until(&t, "9=", 64, &there) == TECO_LIM && steps == 0);
+    teco_stopper_close(&there);
+    HOLDS(there.at == NULL && until(&t, "9=", 64, &there) == 0 && until(&t, "9=", 64, &here) == TECO_LIM);
+    HOLDS(teco_stop(&here, 0) == 0 && until(&t, "9=", 64, &here) == 0);
+    HOLDS(teco_stopper_open(&here, &there) == 0 && teco_stop(&there, 1) == 0 && until(&t, "9=", 64, &here) == TECO_LIM);
+    teco_stopper_close(&here);
+    HOLDS(here.at == NULL && teco_stop(&there, 0) == 0);
+    teco_stopper_close(&there);
+    teco_stopper_close(&there);
+    HOLDS(there.at == NULL);
     teco_close(&t);
 }
 
@@ -262,6 +297,14 @@ static void closed(void)
     HOLDS(run(&t, "2=", 64) == TECO_CLOSED && n == 0 && steps == 0);
     n = steps = at = calls = 1;
     HOLDS(where(&t, "9J", 64) == TECO_CLOSED && n == 0 && steps == 0 && stopped(TECO_NOWHERE, 0));
+    struct teco_stopper here = {0}, there = {0};
+    n = steps = at = calls = 1;
+    HOLDS(until(&t, "9J", 64, &here) == TECO_CLOSED && n == 0 && steps == 0 && stopped(TECO_NOWHERE, 0));
+    HOLDS(teco_stopper_open(&here, &there) == 0 && teco_stop(&there, 1) == 0);
+    n = steps = at = calls = 1;
+    HOLDS(until(&t, "9J", 64, &here) == TECO_CLOSED && n == 0 && steps == 0 && stopped(TECO_NOWHERE, 0));
+    teco_stopper_close(&here);
+    teco_stopper_close(&there);
     HOLDS(teco_undo(&t) == TECO_CLOSED && teco_redo(&t) == TECO_CLOSED && teco_rewind(&t, 0) == TECO_CLOSED);
     HOLDS((one = 1, teco_lines(&t, 0, 9, &one)) == TECO_CLOSED && one == 0);
     HOLDS(teco_strings(&t, &one) == TECO_CLOSED && one == 0);
@@ -317,15 +360,36 @@ static void unwritten(void)
     munmap(t, sizeof *t);
 }
 
+/* The same of a stopper: no call but an open and a close writes it. */
+static void unwritten_stopper(void)
+{
+    struct teco t = {0};
+    struct teco_stopper there = {0}, *here = mmap(NULL, sizeof *here, PROT_READ, MAP_PRIVATE | MAP_ANONYMOUS, -1, 0);
+    teco_open(&t, bytes(""), 0, 0);
+    HOLDS(here != MAP_FAILED && teco_stop(here, 1) == TECO_CLOSED && until(&t, "2=", 64, here) == 0);
+    HOLDS(mprotect(here, sizeof *here, PROT_READ | PROT_WRITE) == 0 && teco_stopper_open(here, &there) == 0);
+    HOLDS(mprotect(here, sizeof *here, PROT_READ) == 0);
+    HOLDS(until(&t, "2=", 64, here) == 0 && teco_stop(here, 1) == 0 && until(&t, "2=", 64, here) == TECO_LIM);
+    HOLDS(mprotect(here, sizeof *here, PROT_READ | PROT_WRITE) == 0);
+    teco_stopper_close(here);
+    teco_stopper_close(&there);
+    teco_close(&t);
+    munmap(here, sizeof *here);
+}
+
 static void many(void)
 {
     for (int i = 0; i < 10000; i++) {
         struct teco t = {0};
-        HOLDS(teco_open(&t, bytes("in"), 2, (size_t)i % 3) == 0);
+        struct teco_stopper here = {0}, there = {0};
+        HOLDS(teco_open(&t, bytes("in"), 2, (size_t)i % 3) == 0 && teco_stopper_open(&here, &there) == 0);
         HOLDS(run(&t, "YIab\033UA[A", 0) != TECO_MEM);
         HOLDS(where(&t, "@^UA/3<9J>/2<MA>", 0) == 20 && stopped(13, 1));
+        HOLDS(teco_stop(i % 2 ? &here : &there, (uint8_t)(i % 3)) == 0 && until(&t, "J", 0, &here) == (i % 3 ? TECO_LIM : 0));
         if (i % 2)
             teco_undo(&t);
+        teco_stopper_close(i % 2 ? &here : &there);
+        teco_stopper_close(i % 2 ? &there : &here);
         teco_close(&t);
     }
 }
@@ -335,12 +399,14 @@ int main(void)
     opens();
     runs();
     wheres();
+    breaks();
     tokens();
     turns();
     looks();
     changes();
     closed();
     unwritten();
+    unwritten_stopper();
     many();
     return failed;
 }

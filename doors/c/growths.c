@@ -1,8 +1,8 @@
 /*
  * Refuses each growth of a session in turn, and compares what is left with a session in ample memory that runs as many steps. Each undo,
  * redo and rewind, and each call that looks, is made where every growth is refused, and asks for none. All of it twice: with teco_run, and
- * with teco_where, which lacks a place only where a growth is refused in its string. It wants allocator.c before the C library's allocator.
- * Prints what differs, and ends with status 1 where something does.
+ * with teco_where, which lacks a place only where a growth is refused in its string. Then each growth of a stopper. It wants allocator.c
+ * before the C library's allocator. Prints what differs, and ends with status 1 where something does.
  */
 #include "teco.h"
 #include <dlfcn.h>
@@ -126,6 +126,24 @@ static long try(long nth)
     return counted;
 }
 
+/* A stopper whose opening is refused this growth. Tells how many growths there were. */
+static long try_stopper(long nth)
+{
+    struct teco_stopper here = {0}, there = {0};
+    begin(nth, nth);
+    int opened = teco_stopper_open(&here, &there);
+    long counted = end();
+    if (opened == 0 ? !here.at || !there.at : opened != TECO_MEM || here.at || there.at)
+        wrong("a refused stopper is told or left otherwise", nth, -1);
+    begin(1, LONG_MAX);
+    int asked = teco_stop(&here, 1);
+    if (end() != 0 || asked != (opened == 0 ? 0 : TECO_CLOSED))
+        wrong("a stop asks for memory", nth, -1);
+    teco_stopper_close(&here);
+    teco_stopper_close(&there);
+    return opened == 0 ? 0 : counted;
+}
+
 int main(void)
 {
     *(void **)&begin = dlsym(RTLD_DEFAULT, "growths_begin");
@@ -141,5 +159,10 @@ int main(void)
         printf("growths: %ld refused in turn%s: %s\n", nth - 1, asks_where ? ", with places" : "", failed ? "differs" : "ok");
         failed |= nth < 20;
     }
+    long refused = 0;
+    while (refused < NEVER && try_stopper(refused + 1) > 0)
+        refused++;
+    printf("growths: %ld refused in turn, of a stopper: %s\n", refused, failed ? "differs" : "ok");
+    failed |= refused < 3;
     return failed;
 }

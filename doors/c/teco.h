@@ -28,11 +28,23 @@
  * ANSWERS
  *   0 is success. 1 to 32 are the numbers of the codes by which a command string, or a call, ends; those that a call itself can lead
  *   to have their names below. The four calls at the end answer 1 and 0 for yes and no. Each other call that answers something else
- *   than 0 has changed nothing, told 0 and copied nothing. Only teco_run, teco_where and teco_token say otherwise.
+ *   than 0 has changed nothing, told 0 and copied nothing. Only teco_run, teco_where, teco_where_until and teco_token say otherwise.
  *
  * THREADS AND SIGNALS
- *   A handle stays on the thread that opened it. Different handles share nothing, and may be in calls at the same time on different
- *   threads. A call isn't made from a signal handler. docs/LIBRARY.md says how much stack a call needs.
+ *   The handle of a session stays on the thread that opened it. Different sessions share nothing, and may be in calls at the same time on
+ *   different threads. A call isn't made from a signal handler. docs/LIBRARY.md says how much stack a call needs.
+ *
+ * STOPPERS
+ *   A stopper is a flag with two handles that are alike, each a `struct teco_stopper`: so a thread can ask for a stop while another one
+ *   runs a string. The thread that runs gives its handle to teco_where_until, and the other one calls teco_stop with the other handle, at
+ *   any time. What is said above of a handle holds for each of the two, but that each may go to another thread: by the start or the join
+ *   of a thread, under a lock, or by an atomic that is sequentially consistent. Each is in one call at a time, so where several threads
+ *   ask, they share a handle under a lock.
+ *   No run takes a stop back: it stays asked until teco_stop takes it back. So one that is asked before a run begins breaks it off before
+ *   its first step, and each run after it too. Who listens for a key while a string runs takes back what was asked, begins to listen,
+ *   runs, and ends to listen. From a signal handler no stop is asked: a thread that waits for the signal asks it.
+ *   A flag belongs to no session: it serves any number of runs. It is freed when both handles are closed, in any order, also while a run
+ *   has the other one.
  */
 #ifndef TECO_H
 #define TECO_H
@@ -51,6 +63,10 @@ struct teco {
     void *at;
 };
 
+struct teco_stopper {
+    void *at;
+};
+
 /* The limits of the input, of the depth, and of a text: of the buffer, of a register and of a search. */
 #define TECO_INPUT_LIMIT 1073741824
 #define TECO_DEPTH_LIMIT 100000
@@ -61,6 +77,7 @@ enum {
     TECO_IQC = 9,         /* no test is named so */
     TECO_IQN = 10,        /* no register is named so */
     TECO_UTC = 24,        /* the text ends inside of a command */
+    TECO_LIM = 27,        /* the limit of steps was reached, or the string was broken off */
     TECO_MEM = 28,        /* memory was refused */
     TECO_TTY = 29,        /* the room was too small for what was typed */
     TECO_NTU = 30,        /* there is nothing to undo */
@@ -143,6 +160,26 @@ uint8_t teco_run(struct teco *t, const uint8_t *text, size_t n, uint64_t limit, 
  */
 uint8_t teco_where(struct teco *t, const uint8_t *text, size_t n, uint64_t limit, uint8_t *room, size_t size, size_t *made, uint64_t *steps,
     size_t *at, size_t *calls);
+
+/*
+ * Runs a command string just as teco_where does, and asks a stopper before each step. Is a stop asked, the string ends by TECO_LIM after
+ * the `steps` that were done, just as under a limit of so many: it is noted, and undone, redone and rewound as any other; `at` is the
+ * command that comes next. A step that has begun is done to its end, and a search is one step. A closed stopper asks for no stop.
+ */
+uint8_t teco_where_until(struct teco *t, const uint8_t *text, size_t n, uint64_t limit, const struct teco_stopper *stopper, uint8_t *room,
+    size_t size, size_t *made, uint64_t *steps, size_t *at, size_t *calls);
+
+/*
+ * Opens a stopper, with two handles: no stop is asked. 0 or TECO_MEM. Where it isn't 0 both handles are as they were; where it is 0, what
+ * was open in them is closed.
+ */
+uint8_t teco_stopper_open(struct teco_stopper *here, struct teco_stopper *there);
+
+/* Closes one handle of a stopper, and leaves it all zero. */
+void teco_stopper_close(struct teco_stopper *stopper);
+
+/* Asks for a stop, or takes it back where `asked` is 0: 0 or TECO_CLOSED. Asks for no memory, and waits for nobody. */
+uint8_t teco_stop(const struct teco_stopper *stopper, uint8_t asked);
 
 /* Goes back to the state before the last string that isn't undone: 0 or TECO_NTU. Asks for no memory; may be made after an exit. */
 uint8_t teco_undo(struct teco *t);

@@ -1,4 +1,6 @@
 mod AsBox
 mod Opens
+mod AsFlag
+mod OpensFlag
 mod Filling
 mod Dropping

@@ -2,7 +2,8 @@
 use Rattle.std.specs.Prelude.{◌≡◌, ◌⊎◌, ℕ, ◌<◌, List, length, true, Option, Some, None, if◌then◌else◌, ◌==◌}
 use Rattle.teco_core.specs.Code.{number_of}
 use Rattle.teco_core.specs.declared.code.Code.TheVariants.{Ntu, Ntr}
-use Rattle.teco_session.specs.Answers.{is_unbegun}
+use Rattle.teco_exec.specs.Runs.{Answers, RunsWithin}
+use Rattle.teco_session.specs.Answers.{is_unbegun, string_outcome}
 use Rattle.teco_session.specs.declared.request.Answer.{Answer}
 use Rattle.teco_session.specs.History.{undone, redone, rewound}
 use Rattle.teco_session.specs.Kept.{history_of, reverted, applied, cut_to}
@@ -42,3 +43,8 @@ Rewinds n old code new =
 abbrev pub RunsTo : ℕ → Kept → List ℕ → Answer → List ℕ → Kept → Type 0
 RunsTo limit old text answer typed new =
     RunStep limit (history_of old) text answer typed (history_of new) × (is_unbegun answer ≡ true → new ≡ old)
+
+-- The same under a limit, the given one or that of a string that was broken off, by what was answered to whether it is to stop.
+abbrev pub RunsToWithin : Answers → ℕ → Kept → List ℕ → Answer → List ℕ → Kept → Type 0
+RunsToWithin answered limit old text answer typed new =
+    RunsWithin answered limit (string_outcome answer) (λ l. RunsTo l old text answer typed new)

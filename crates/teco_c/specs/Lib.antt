@@ -1,5 +1,8 @@
 pub mod Handle
 pub mod Lending
+pub mod Stopper
+pub mod FlagLending
+pub mod Stops
 pub mod Numbers
 pub mod Rooms
 pub mod Calls

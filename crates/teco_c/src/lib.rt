@@ -6,6 +6,7 @@
 mod answers;
 mod calls;
 mod changes;
+mod flag;
 mod halves;
 mod handle;
 mod history;
@@ -14,5 +15,7 @@ mod parts;
 mod places;
 mod room;
 mod state;
+mod stopper;
+mod stops;
 mod token_kinds;
 mod tokens;

@@ -1,0 +1,65 @@
+//! The calls that make, ask and end a stopper.
+ghost use Rattle.std.specs.Prelude.{◌≡◌, ◌≢◌, ◌⊎◌, None, IsSome, Option};
+ghost use denote.Param.Send.{IsSend};
+ghost use Rattle.teco_core.specs.Code.{number_of};
+ghost use Rattle.teco_core.specs.declared.code.Code.TheVariants.{Mem};
+ghost use Rattle.teco_c.specs.Stops.{Hears};
+ghost use Rattle.teco_c.specs.contracts.stopper.Stopper.{the_row};
+
+use crate::answers::CLOSED;
+use crate::flag::Flag;
+use crate::stopper::Stopper;
+use std::alloc::Global;
+use teco_core::{Code, NoMemory};
+
+/// A stopper may go from thread to thread. The call does nothing.
+pub fn stopper_laws()
+    ensures crosses { IsSend the_row }
+{}
+
+/// A flag that is not set, for two handles.
+fn two_flags(alloc: Global) -> Result<(Box<Flag>, Box<Flag>), NoMemory> {
+    let (here, there) = Flag::pair(alloc)?;
+    Ok((Box::new(alloc, here)?, Box::new(alloc, there)?))
+}
+
+/// Opens a stopper: a flag that is not set, with two handles. What was open in them is closed then.
+///
+/// 0, or the number of MEM where memory is refused: then nothing changes.
+#[unsafe(no_mangle)]
+pub extern "C" fn teco_stopper_open(alloc: Global, here: &mut Stopper, there: &mut Stopper) -> u8
+    ensures opened { result ≡ 0 → IsSome here.new.value × IsSome there.new.value }
+    ensures refused { result ≢ 0 → (here.new.value ≡ here.old.value) × (there.new.value ≡ there.old.value) }
+    ensures else_memory { (result ≡ 0) ⊎ (result ≡ number_of Mem) }
+{
+    match two_flags(alloc) {
+        Err(_) => Code::Mem.number(),
+        Ok((mine, other)) => {
+            here.put(mine);
+            there.put(other);
+            0
+        }
+    }
+}
+
+/// Closes one handle of a stopper, and frees what it held. A closed one is let be.
+#[unsafe(no_mangle)]
+pub extern "C" fn teco_stopper_close(alloc: Global, stopper: &mut Stopper)
+    ensures { stopper.new.value ≡ None }
+{
+    drop(stopper.take(alloc));
+}
+
+/// Asks the runs that have this stopper to stop, or takes that back where `asked` is 0. It stays so until the next such call. Takes no
+/// memory, and waits for nobody.
+#[unsafe(no_mangle)]
+pub extern "C" fn teco_stop(stopper: &mut Stopper, asked: u8) -> u8
+    ensures told { Hears stopper.old.value result }
+    ensures same { stopper.new ≡ stopper.old }
+{
+    let Some(flag) = stopper.look() else {
+        return CLOSED;
+    };
+    flag.set(asked != 0);
+    0
+}
