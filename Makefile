@@ -29,8 +29,8 @@ LIBRARY = out/libteco_c.a out/teco.pc
 VERSION != sed -n 's/^const VERSION: &str = "\(.*\)";$$/\1/p' crates/teco_line/src/*.rt crates/teco_line/src/*/*.rt
 SOURCES != find crates.txt crates/*/src crates/*/specs crates/*/proofs -type f ! -path '*/src/tests/*'
 # What teco-term and teco-screen share, and what each has beside it.
-SHARED = doors/c/term-codes.c doors/c/term-file.c doors/c/term-journal.c doors/c/term-keys.c doors/c/term-options.c doors/c/term-tty.c \
-    doors/c/term-work.c
+SHARED = doors/c/term-codes.c doors/c/term-file.c doors/c/term-journal.c doors/c/term-keys.c doors/c/term-options.c doors/c/term-read.c \
+    doors/c/term-tty.c doors/c/term-work.c
 TERM_SOURCES = doors/c/teco-term.c doors/c/term-line.c doors/c/term-press.c doors/c/term-strings.c $(SHARED)
 SCREEN_SOURCES != ls doors/screen/*.c
 NCURSES != pkg-config --cflags --libs ncursesw 2> /dev/null || echo -lncursesw
@@ -108,7 +108,7 @@ out/libteco_c.a: crates/teco_c/out/libteco_c.a
 	    printf '%s\n' 'CREATE $@' 'ADDLIB crates/teco_c/out/libteco_c.a' "ADDLIB $$kit/c/liblibc_c.a" SAVE END | $(AR) -M
 
 out/teco-term: $(TERM_SOURCES) doors/c/terminal.h doors/c/term-editor.h doors/c/teco.h out/libteco_c.a
-	$(CC) -std=c11 $(CFLAGS) $(TERM_SOURCES) out/libteco_c.a -o $@ $(LDFLAGS)
+	$(CC) -std=c11 -pthread $(CFLAGS) $(TERM_SOURCES) out/libteco_c.a -o $@ $(LDFLAGS)
 
 # The rows of the reference, which F1 shows.
 out/reference.h: docs/REFERENCE.md doors/screen/reference
@@ -116,7 +116,7 @@ out/reference.h: docs/REFERENCE.md doors/screen/reference
 	doors/screen/reference > $@
 
 out/teco-screen: $(SCREEN_SOURCES) $(SHARED) doors/screen/screen.h doors/c/terminal.h doors/c/teco.h out/reference.h out/libteco_c.a
-	$(CC) -std=c11 $(CFLAGS) -Idoors/screen -Idoors/c -Iout $(SCREEN_SOURCES) $(SHARED) out/libteco_c.a -o $@ $(NCURSES) $(LDFLAGS)
+	$(CC) -std=c11 -pthread $(CFLAGS) -Idoors/screen -Idoors/c -Iout $(SCREEN_SOURCES) $(SHARED) out/libteco_c.a -o $@ $(NCURSES) $(LDFLAGS)
 
 # Where the library lies is said in teco.pc, so it is written anew each time.
 out/teco.pc: doors/c/teco.pc.in always

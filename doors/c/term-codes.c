@@ -54,3 +54,8 @@ const char *code_sentence(uint8_t number)
 {
     return code_of(number)->sentence;
 }
+
+const char *told_sentence(const struct told *told)
+{
+    return told->is_broken_off ? "broken off by Ctrl-C" : code_sentence(told->code);
+}

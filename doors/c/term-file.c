@@ -10,16 +10,23 @@
 
 enum { PIECE = 65536, DRAFTS = 100 };
 
+bool bytes_reserve(struct bytes *bytes, size_t n)
+{
+    if (n <= bytes->room - bytes->count)
+        return true;
+    size_t room = bytes->count + n > 2 * bytes->room ? bytes->count + n : 2 * bytes->room;
+    uint8_t *at = realloc(bytes->at, room);
+    if (at == NULL)
+        return false;
+    bytes->at = at;
+    bytes->room = room;
+    return true;
+}
+
 bool bytes_add(struct bytes *bytes, const void *from, size_t n)
 {
-    if (n > bytes->room - bytes->count) {
-        size_t room = bytes->count + n > 2 * bytes->room ? bytes->count + n : 2 * bytes->room;
-        uint8_t *at = realloc(bytes->at, room);
-        if (at == NULL)
-            return false;
-        bytes->at = at;
-        bytes->room = room;
-    }
+    if (!bytes_reserve(bytes, n))
+        return false;
     if (n > 0)
         memcpy(bytes->at + bytes->count, from, n);
     bytes->count += n;

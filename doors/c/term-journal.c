@@ -8,7 +8,7 @@
 #include <string.h>
 #include <unistd.h>
 
-enum { CODE_LIM = 27, PIECE = 4096 };
+enum { PIECE = 4096 };
 static const char SUFFIX[] = ".teco-strings";
 
 /* What the handlers need, which no call changes while a signal may come. */
@@ -46,8 +46,9 @@ void journal_note(struct journal *journal, const uint8_t *text, size_t n, uint8_
     if (n > 0)
         memcpy(journal->texts.at + from, text, n);
     journal->texts.count = from + n;
-    bool is_cut = code == CODE_LIM || code == TECO_MEM || code == TECO_TTY;
-    journal->strings[journal->cursor] = (struct kept){.end = from + n, .steps = steps, .code = code, .is_cut = is_cut};
+    bool is_cut = code == TECO_LIM || code == TECO_MEM || code == TECO_TTY, is_broken_off = code == TECO_LIM && steps < journal->limit;
+    journal->strings[journal->cursor] =
+        (struct kept){.end = from + n, .steps = steps, .code = code, .is_cut = is_cut, .is_broken_off = is_broken_off};
     journal->count = ++journal->cursor;
     if (is_blocked)
         tty_unblock(&usual);
@@ -170,6 +171,20 @@ static void put_string(struct pen *pen, const struct journal *journal, size_t i)
     }
 }
 
+/* The limit under which the strings make the text again. A string that was broken off may have no end under that of the session: then it is
+   one under which each string takes the steps that it took. */
+static uint64_t limit_of(const struct journal *journal)
+{
+    uint64_t most = 0;
+    bool is_broken_off = false;
+    for (size_t i = 0; i < journal->cursor; i++) {
+        const struct kept *kept = &journal->strings[i];
+        most = kept->steps > most ? kept->steps : most;
+        is_broken_off |= kept->is_broken_off;
+    }
+    return is_broken_off ? most + 1 : journal->limit;
+}
+
 /* A new file of the name, or of the name and a digit where there are such files. */
 static int make_file(void)
 {
@@ -194,7 +209,7 @@ void journal_leave(void)
     if (pen.file < 0)
         return;
     put(&pen, "!! The strings of a session that was ended. To make its text again: tecol < THIS > STRINGS; teco --limit ");
-    put_number(&pen, journal->limit);
+    put_number(&pen, limit_of(journal));
     put(&pen, " -f STRINGS INPUT\n");
     for (size_t i = 0; i < journal->cursor; i++)
         put_string(&pen, journal, i);

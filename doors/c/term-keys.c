@@ -22,6 +22,16 @@ static enum fate paste(struct keys *keys, uint8_t byte, const struct taker *take
     return taker->paste(to, byte == RETURN ? LINE_FEED : byte);
 }
 
+bool keys_follow(struct keys *keys, uint8_t byte)
+{
+    const char *mark = keys->is_pasted ? PASTE_ENDS : PASTE_BEGINS;
+    bool is_key = !keys->is_pasted;
+    keys->matched = byte == (uint8_t)mark[keys->matched] ? keys->matched + 1 : byte == ESCAPE;
+    if (keys->matched == MARK)
+        *keys = (struct keys){.is_pasted = is_key};
+    return is_key;
+}
+
 static bool begins_paste(const uint8_t *bytes, size_t n)
 {
     return n >= MARK && memcmp(bytes, PASTE_BEGINS, MARK) == 0;

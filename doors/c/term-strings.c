@@ -50,10 +50,11 @@ enum fate show_failed(const struct editor *editor)
     return fate == GOES_ON && editor->told.calls > 0 ? say_macros(editor->told.calls) : fate;
 }
 
-static enum fate say_code(struct editor *editor, uint8_t code)
+static enum fate say_code(struct editor *editor)
 {
+    const struct told *told = &editor->told;
     editor->has_failed = true;
-    return shown(tty_say("?") && tty_say(code_letters(code)) && tty_say(": ") && tty_say(code_sentence(code)) && tty_say("\r\n"));
+    return shown(tty_say("?") && tty_say(code_letters(told->code)) && tty_say(": ") && tty_say(told_sentence(told)) && tty_say("\r\n"));
 }
 
 /* What was typed begins on a line of its own, and ends with one. */
@@ -93,7 +94,7 @@ enum fate serve(struct editor *editor, const uint8_t *text, size_t n)
     editor->told = work_do(&editor->work, text, n);
     enum fate fate = say_typed(editor);
     if (fate == GOES_ON && editor->told.code != 0)
-        fate = say_code(editor, editor->told.code);
+        fate = say_code(editor);
     if (fate == GOES_ON && editor->work.options->steps)
         fate = say_last_steps(editor);
     return fate == GOES_ON && teco_done(&editor->work.session) == 1 ? write_output(editor) : fate;

@@ -2,23 +2,21 @@
 #include "terminal.h"
 #include <errno.h>
 #include <poll.h>
+#include <pthread.h>
 #include <signal.h>
 #include <stdlib.h>
 #include <string.h>
 #include <sys/ioctl.h>
-#include <sys/select.h>
 #include <termios.h>
 #include <unistd.h>
 
-/* The most that may lie between two reads of what comes together, and the most bytes that are taken as one. */
-const struct timespec TTY_GAP = {.tv_nsec = 10000000};
-enum { PIECE = 4096, TOGETHER = 1 << 20, STACK = 1 << 16 };
+enum { STACK = 1 << 16 };
 
-/* What the handlers need: how the terminal was, how it is to be, what it is shown, whether that is so, and whether it was given back
-   meanwhile or has another size. */
+/* What the handlers need: how the terminal was, how it is to be, what it is shown, and whether that is so. */
 static struct termios before, own;
 static struct marks marks;
-static volatile sig_atomic_t is_own, resumed;
+static volatile sig_atomic_t is_own;
+volatile sig_atomic_t tty_is_other;
 
 /* Signals that end the program: those that ask for it, and faults. */
 static const int ENDING[] = {SIGINT, SIGTERM, SIGHUP, SIGQUIT, SIGALRM, SIGUSR1, SIGUSR2, SIGPIPE, SIGVTALRM, SIGPROF, SIGPOLL, SIGXCPU,
@@ -76,7 +74,7 @@ static void on_end(int signal)
 static void on_resize(int signal)
 {
     (void)signal;
-    resumed = 1;
+    tty_is_other = 1;
 }
 
 static void on_resume(int signal)
@@ -84,7 +82,7 @@ static void on_resume(int signal)
     int kept = errno;
     (void)signal;
     (void)set_own();
-    resumed = 1;
+    tty_is_other = 1;
     errno = kept;
 }
 
@@ -99,11 +97,11 @@ static void on_stop(int signal)
     (void)sigaddset(&one, signal);
     (void)sigaction(signal, &plain, &ours);
     (void)raise(signal);
-    (void)sigprocmask(SIG_UNBLOCK, &one, NULL);
-    (void)sigprocmask(SIG_BLOCK, &one, NULL);
+    (void)pthread_sigmask(SIG_UNBLOCK, &one, NULL);
+    (void)pthread_sigmask(SIG_BLOCK, &one, NULL);
     (void)sigaction(signal, &ours, NULL);
     (void)set_own();
-    resumed = 1;
+    tty_is_other = 1;
     errno = kept;
 }
 
@@ -144,12 +142,12 @@ static void make_own(void)
 bool tty_block(sigset_t *usual)
 {
     sigset_t all;
-    return sigfillset(&all) == 0 && sigprocmask(SIG_BLOCK, &all, usual) == 0;
+    return sigfillset(&all) == 0 && pthread_sigmask(SIG_BLOCK, &all, usual) == 0;
 }
 
 void tty_unblock(const sigset_t *usual)
 {
-    (void)sigprocmask(SIG_SETMASK, usual, NULL);
+    (void)pthread_sigmask(SIG_SETMASK, usual, NULL);
 }
 
 /* No signal comes while the terminal changes hands. */
@@ -207,63 +205,6 @@ bool tty_show(const void *bytes, size_t n)
 bool tty_say(const char *text)
 {
     return tty_show(text, strlen(text));
-}
-
-/* No resume is missed: the signals come inside pselect alone. */
-static int select_in(fd_set *in, int last, const struct timespec *most, bool *is_resumed)
-{
-    sigset_t stops, usual;
-    int ready = -1;
-    if (sigemptyset(&stops) != 0 || sigaddset(&stops, SIGTSTP) != 0 || sigaddset(&stops, SIGCONT) != 0 || sigaddset(&stops, SIGWINCH) != 0
-        || sigprocmask(SIG_BLOCK, &stops, &usual) != 0)
-        return -1;
-    errno = EINTR;
-    if (!resumed)
-        ready = pselect(last + 1, in, NULL, NULL, most, &usual);
-    *is_resumed = ready < 0 && errno == EINTR;
-    return sigprocmask(SIG_SETMASK, &usual, NULL) == 0 ? ready : -1;
-}
-
-enum event tty_wait(int other, const struct timespec *most)
-{
-    fd_set in;
-    bool is_resumed = false;
-    FD_ZERO(&in);
-    FD_SET(STDIN_FILENO, &in);
-    if (other >= 0)
-        FD_SET(other, &in);
-    int ready = select_in(&in, other > STDIN_FILENO ? other : STDIN_FILENO, most, &is_resumed);
-    if (ready <= 0)
-        return ready == 0 ? LATE : is_resumed ? RESUMED : FAILED;
-    return FD_ISSET(STDIN_FILENO, &in) ? CAME : TOLD;
-}
-
-void tty_resume(void)
-{
-    resumed = 0;
-}
-
-enum event tty_take(struct bytes *together)
-{
-    uint8_t piece[PIECE];
-    ssize_t n = read(STDIN_FILENO, piece, sizeof piece);
-    if (n < 0)
-        return errno == EAGAIN || errno == EINTR ? CAME : FAILED;
-    if (n == 0)
-        return ENDED;
-    return bytes_add(together, piece, (size_t)n) ? CAME : FAILED;
-}
-
-enum event tty_read(struct bytes *together)
-{
-    together->count = 0;
-    enum event event = tty_wait(-1, NULL);
-    if (event != CAME)
-        return event;
-    event = tty_take(together);
-    while (event == CAME && together->count < TOGETHER && tty_wait(-1, &TTY_GAP) == CAME)
-        event = tty_take(together);
-    return together->count > 0 ? CAME : event;
 }
 
 void tty_size(size_t *rows, size_t *columns)

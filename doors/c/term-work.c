@@ -20,7 +20,8 @@ enum fate work_open(struct work *work, const struct options *options)
         return NO_MEMORY;
     (void)snprintf(work->output, size, "%s%s", output, options->output != NULL ? "" : ".out");
     const uint8_t *input = work->input.count > 0 ? work->input.at : (const uint8_t *)"";
-    if (teco_open(&work->session, input, work->input.count, (size_t)options->depth) != 0)
+    if (teco_open(&work->session, input, work->input.count, (size_t)options->depth) != 0
+        || teco_stopper_open(&work->asked, &work->asks) != 0)
         return NO_MEMORY;
     journal_watch(&work->journal, options->input);
     return GOES_ON;
@@ -30,6 +31,8 @@ void work_close(struct work *work)
 {
     journal_free(&work->journal);
     teco_close(&work->session);
+    teco_stopper_close(&work->asked);
+    teco_stopper_close(&work->asks);
     bytes_free(&work->input);
     free(work->output);
     free(work->room);
@@ -107,13 +110,20 @@ uint8_t work_rewind(struct work *work, uint64_t steps)
     return code;
 }
 
+/* Runs a string, which Ctrl-C breaks off. */
 static void run(struct work *work, const uint8_t *text, size_t n, struct told *told)
 {
+    uint64_t limit = work->options->limit;
     if (!journal_reserve(&work->journal, n)) {
         told->code = TECO_NOT_BEGUN;
         return;
     }
-    told->code = teco_where(&work->session, text, n, work->options->limit, work->room, ROOM, &told->made, &told->steps, &told->at, &told->calls);
+    (void)teco_stop(&work->asks, 0);
+    tty_watch(&work->asks);
+    told->code = teco_where_until(&work->session, text, n, limit, &work->asked, work->room, ROOM, &told->made, &told->steps, &told->at,
+        &told->calls);
+    tty_unwatch();
+    told->is_broken_off = told->code == TECO_LIM && told->steps < limit;
     if (told->code != TECO_NOT_BEGUN && told->code != TECO_END)
         journal_note(&work->journal, text, n, told->code, told->steps);
 }

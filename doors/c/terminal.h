@@ -3,7 +3,8 @@
  *
  * term-options.c reads the line of a program, and says how it ended. term-work.c does what a string asks, over a session; term-journal.c
  * keeps the strings, and leaves them in a file where the program is ended. term-codes.c has the sentences of the codes. term-file.c reads
- * INPUT and writes the output; term-tty.c sets the terminal and reads it; term-keys.c tells keys, sequences and pastes apart.
+ * INPUT and writes the output; term-tty.c sets the terminal, and term-read.c reads it, also while a string runs; term-keys.c tells keys,
+ * sequences and pastes apart.
  */
 #ifndef TERMINAL_H
 #define TERMINAL_H
@@ -44,7 +45,8 @@ struct bytes {
     size_t count, room;
 };
 
-/* Adds n bytes. False where memory is refused: then they are as before. */
+/* Finds room for n more bytes, or adds n. False if memory is refused: then they are as before. */
+bool bytes_reserve(struct bytes *bytes, size_t n);
 bool bytes_add(struct bytes *bytes, const void *from, size_t n);
 void bytes_free(struct bytes *bytes);
 
@@ -83,12 +85,13 @@ bool file_is_same(const struct stat *one, const struct stat *other);
 
 /* THE STRINGS OF A SESSION */
 
-/* A string that was run: where its text ends among all of them, how it ended, and whether it has to be cut off after its steps. */
+/* A string that was run: where its text ends among all of them, how it ended, whether it has to be cut off after its steps, and whether it
+   was broken off before its limit. */
 struct kept {
     size_t end;
     uint64_t steps;
     uint8_t code;
-    bool is_cut;
+    bool is_cut, is_broken_off;
 };
 
 /* The strings, so many of which are not undone. All zero there are none. */
@@ -127,6 +130,7 @@ enum { ROOM = 64 << 20 };
 /* How a string ended that was run. */
 struct told {
     uint8_t code;
+    bool is_broken_off;
     size_t at, calls; /* where it stopped, or TECO_NOWHERE; and how many macros were open there */
     uint64_t steps;
     size_t made;
@@ -136,6 +140,7 @@ struct told {
 struct work {
     const struct options *options;
     struct teco session;
+    struct teco_stopper asked, asks; /* a run is asked to stop, and the keys ask it */
     struct bytes input;
     struct stat read, warned; /* the file as it was read, and as it was when a person was told that it had changed */
     char *output;             /* the name of the output */
@@ -172,9 +177,10 @@ enum fate work_write(struct work *work, char *why, size_t size);
 /* Goes on to the exit that could not be written, over another name, or the same where n is 0. The same. */
 enum fate work_write_to(struct work *work, const uint8_t *name, size_t n, char *why, size_t size);
 
-/* The letters of a code, and its sentence, by its number. */
+/* The letters of a code, and its sentence, by its number; and the sentence of how a string ended. */
 const char *code_letters(uint8_t number);
 const char *code_sentence(uint8_t number);
+const char *told_sentence(const struct told *told);
 
 /* THE TERMINAL */
 
@@ -212,8 +218,16 @@ enum event tty_wait(int other, const struct timespec *most);
 /* Reads a piece of what came, behind what there is: CAME, ENDED, FAILED. */
 enum event tty_take(struct bytes *together);
 
-/* The screen is about to be drawn anew: a wait comes to RESUMED until then. */
+/* Whether the terminal was given back meanwhile or has another size: then a wait comes to RESUMED. tty_resume says that all is about to be
+   drawn anew. */
+extern volatile sig_atomic_t tty_is_other;
 void tty_resume(void);
+
+/* From some 10 ms after this on a thread reads the keys, until tty_unwatch. It keeps them, and after that they come first, in their order.
+   At a Ctrl-C that isn't pasted it asks to stop instead, and so it does if no more bytes will come. If the system makes no thread, the
+   keys wait. */
+void tty_watch(const struct teco_stopper *asks);
+void tty_unwatch(void);
 
 /* How long bytes may be apart that come together. */
 extern const struct timespec TTY_GAP;
@@ -235,8 +249,11 @@ struct taker {
 /* What of a paste has come. */
 struct keys {
     bool is_pasted;  /* what comes is a paste, */
-    size_t matched;  /* and so many of its last bytes may be the mark of its end */
+    size_t matched;  /* and so many of the last bytes may be the mark of its end, or of its beginning if none came */
 };
+
+/* Follows the marks of pastes over the byte that comes next, which is taken later. Whether it is a key, and not pasted. */
+bool keys_follow(struct keys *keys, uint8_t byte);
 
 /* Gives what came together to the taker. Where all of it is sequences of keys it gets these, and else all is keys and pastes. */
 enum fate keys_receive(struct keys *keys, const struct bytes *together, const struct taker *taker, void *to);

@@ -1,11 +1,14 @@
 """Each call once on its way to success, and each argument that has to be refused, with the exception by which it is. Prints what fails."""
 
 import copy
+import os
 import pickle
+import signal
 import sys
 import threading
+import time
 
-from teco import (DEEP, IQC, IQN, ILL, NO_TOKEN, NTR, NTU, OUTSIDE, POP, TTY, UTC, CLOSED, Place, Refused, Session, Token,
+from teco import (DEEP, IQC, IQN, ILL, LIM, NO_TOKEN, NTR, NTU, OUTSIDE, POP, TTY, UTC, CLOSED, Place, Refused, Session, Stopper, Token,
                   token)
 
 failed = False
@@ -24,7 +27,7 @@ def refused(error, call, name):
         call()
     except Refused as refusal:
         holds(refusal.answer == error, name)
-    except Exception as other:
+    except (Exception, KeyboardInterrupt) as other:
         holds(type(other) is error, name)
     else:
         holds(False, name)
@@ -117,9 +120,86 @@ def threads():
     holds(session.run(b"YHT") == (0, b"one", 3), "the thread that opened it")
 
 
+def elsewhere():
+    """On another thread than the main one, with no stopper."""
+    session = Session(b"one")
+    holds(session.run(b"YHT") == (0, b"one", 3) and session.run_where(b"9J")[3] == Place(1, 0), "a session of another thread")
+    session.close()
+
+
+def later(call):
+    """Calls when a string runs."""
+    threading.Timer(0.2, call).start()
+
+
+ENDLESS = dict(text=b"Ib\x1b<>", limit=2**64 - 1)
+
+
+def breaks():
+    session, stopper = Session(), Stopper()
+    session.run(b"Ia\x1b")
+    later(stopper.ask)
+    code, _, steps, place = session.run_where(stopper=stopper, **ENDLESS)
+    holds(code == LIM and steps > 1 and place.at > 2 and session.steps(1) == steps and session.text == b"ab", "broken off")
+    holds(session.run(b"9=", stopper=stopper) == (LIM, b"", 0), "asked still")
+    session.undo()
+    session.undo()
+    holds(session.text == b"a", "undone")
+    session.redo()
+    session.rewind(1)
+    holds(session.text == b"ab" and session.steps(1) == 1, "redone and rewound")
+    stopper.take_back()
+    holds(session.run(b"9=", stopper=stopper) == (0, b"9\r\n", 2), "taken back")
+    holds(session.run(b"9=") == (0, b"9\r\n", 2), "without a stopper")
+    refused(TypeError, lambda: session.run(b"J", stopper=5), "no stopper")
+    refused(TypeError, lambda: copy.copy(stopper), "a copy of a stopper")
+    later(stopper.ask)
+    with stopper._lent():
+        refused(RuntimeError, lambda: session.run(b"J", stopper=stopper), "two runs")
+
+
+def interrupts():
+    """Ctrl-C, which is SIGINT."""
+    session, stopper = Session(), Stopper()
+    for given in None, stopper:
+        later(lambda: os.kill(os.getpid(), signal.SIGINT))
+        begun = time.monotonic()
+        refused(KeyboardInterrupt, lambda: session.run(stopper=given, **ENDLESS), "interrupted")
+        holds(time.monotonic() - begun < 10 and session.text == b"b" and session.cursor == 1 and session.steps(0) > 1, "kept")
+        session.undo()
+        holds(session.text == b"" and session.run(b"9=", stopper=given)[:2] == (0, b"9\r\n"), "the next string")
+        session.undo()
+    told, tells = os.pipe()
+    os.set_blocking(tells, False)
+    signal.set_wakeup_fd(tells)
+    came = []
+    usual = signal.signal(signal.SIGINT, lambda *_: came.append(True))
+    later(lambda: os.kill(os.getpid(), signal.SIGINT))
+    holds(session.run(**ENDLESS)[0] == LIM and came == [True], "a handler of its own")
+    holds(os.read(told, 1) == bytes([signal.SIGINT]) and signal.set_wakeup_fd(-1) == tells, "whoever else is told")
+    signal.signal(signal.SIGINT, usual)
+
+
+def forks():
+    """A forked process breaks off its own strings alone."""
+    child = os.fork()
+    if child == 0:
+        session = Session()
+        later(lambda: os.kill(os.getpid(), signal.SIGINT))
+        refused(KeyboardInterrupt, lambda: session.run(**ENDLESS), "interrupted in a fork")
+        os._exit(failed)
+    holds(os.waitpid(child, 0)[1] == 0, "a fork")
+
+
 calls()
 tokens()
 refusals()
 copies()
 threads()
+thread = threading.Thread(target=elsewhere)
+thread.start()
+thread.join()
+breaks()
+interrupts()
+forks()
 sys.exit(failed)

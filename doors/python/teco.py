@@ -4,6 +4,8 @@ TECO_SHARED names the shared object. A Session closes itself; used in a `with` i
 refused by an exception before it is called: TypeError for a text that is no bytes and a number that is none, ValueError for a negative
 one, OverflowError for one that is too large, RuntimeError on another thread than the one that opened the session. A Session can't be
 copied.
+
+A string that runs is broken off by a Stopper, from any thread; and by Ctrl-C on the main thread, and then KeyboardInterrupt is raised.
 """
 
 import ctypes
@@ -12,7 +14,10 @@ import os
 import sys
 import threading
 from collections import namedtuple
+from contextlib import contextmanager
 from ctypes import POINTER, byref, c_int32, c_size_t, c_uint8, c_uint64, c_void_p
+
+from teco_interrupts import breaking_off, is_main
 
 ILL, IQC, IQN, POP, UTC, LIM = 7, 9, 10, 20, 24, 27
 MEM, TTY, NTU, NTR, END = 28, 29, 30, 31, 32
@@ -39,6 +44,10 @@ class Handle(ctypes.Structure):
     _fields_ = [("at", c_void_p)]
 
 
+class StopperHandle(ctypes.Structure):
+    _fields_ = [("at", c_void_p)]
+
+
 def _calls():
     """The arguments of each call of teco.h, after its handle."""
     size, word, byte = POINTER(c_size_t), POINTER(c_uint64), POINTER(c_uint8)
@@ -57,6 +66,7 @@ def _calls():
         "number": [c_uint8, POINTER(c_int32)], "register": [c_uint8, *room, size],
         "search": [*room, size], "pushed": [size], "place": [size],
         "done": [], "found": [], "form_feed": [], "either_case": [],
+        "where_until": [*run[:3], POINTER(StopperHandle), *run[3:], size, size],
     }
 
 
@@ -69,6 +79,10 @@ def _library():
     library.teco_close.argtypes, library.teco_close.restype = [POINTER(Handle)], None
     library.teco_token.argtypes = [c_void_p, c_size_t, c_size_t, size, size, POINTER(c_uint8), size]
     library.teco_token.restype = c_uint8
+    stopper = POINTER(StopperHandle)
+    library.teco_stopper_open.argtypes, library.teco_stopper_open.restype = [stopper, stopper], c_uint8
+    library.teco_stopper_close.argtypes, library.teco_stopper_close.restype = [stopper], None
+    library.teco_stop.argtypes, library.teco_stop.restype = [stopper, c_uint8], c_uint8
     return library
 
 
@@ -136,12 +150,60 @@ class Refused(Exception):
         self.answer = answer
 
 
+class Stopper:
+    """Breaks a string off that runs with it: `ask` does, on whatever thread. It stays asked until `take_back`, so a string that begins
+    meanwhile is broken off before its first step. It serves one run at a time."""
+
+    def __init__(self):
+        self._here, self._there = StopperHandle(), StopperHandle()
+        self._lock, self._is_asked, self._runs = threading.RLock(), False, threading.Lock()
+        answer = _teco().teco_stopper_open(byref(self._here), byref(self._there))
+        if answer:
+            raise Refused(answer)
+
+    def __reduce__(self):
+        raise TypeError("a stopper can't be copied")
+
+    def ask(self):
+        self._set(True)
+
+    def take_back(self):
+        self._set(False)
+
+    def _set(self, is_asked):
+        with self._lock:
+            self._is_asked = is_asked
+            _teco().teco_stop(byref(self._there), is_asked)
+
+    def interrupt(self):
+        """Asks the run alone that is under way, as Ctrl-C does."""
+        with self._lock:
+            _teco().teco_stop(byref(self._there), True)
+
+    @contextmanager
+    def _lent(self):
+        """Lends the handle of the run. What an interrupt asked is taken back at its end."""
+        if not self._runs.acquire(blocking=False):
+            raise RuntimeError("a stopper serves one run at a time")
+        try:
+            yield self._here
+        finally:
+            with self._lock:
+                _teco().teco_stop(byref(self._there), self._is_asked)
+            self._runs.release()
+
+    def __del__(self):
+        for handle in self._here, self._there:
+            if handle.at is not None:
+                _loaded.teco_stopper_close(byref(handle))
+
+
 class Session:
     """An open session over a copy of the input, that keeps the last `depth` strings, or all of them where that is 0."""
 
     def __new__(cls, *_, **__):
         session = super().__new__(cls)
-        session._handle, session._thread = Handle(), threading.get_ident()
+        session._handle, session._thread, session._stopper = Handle(), threading.get_ident(), None
         return session
 
     def __init__(self, text=b"", depth=0):
@@ -184,22 +246,36 @@ class Session:
         self._told(c_size_t, name, *arguments, room, length)
         return room.raw[:length]
 
-    def _run(self, name, text, limit, room, *told):
-        text, limit, typed = _bytes(text), _steps(limit), _room(room)
+    def _stopper_of(self, stopper):
+        """The stopper of a run. If none is given, a run on the main thread has one for Ctrl-C, and another run has none."""
+        if stopper is None and is_main():
+            self._stopper = stopper = self._stopper or Stopper()
+        if not isinstance(stopper, (Stopper, type(None))):
+            raise TypeError(f"a Stopper is wanted, and not {type(stopper).__name__}")
+        return stopper
+
+    def _run(self, name, text, limit, room, stopper, at, calls):
+        text, limit, typed, stopper = _bytes(text), _steps(limit), _room(room), self._stopper_of(stopper)
         made, steps = c_size_t(), c_uint64()
-        answer = self._answer(name, text, len(text), limit, typed, len(typed) - 1, byref(made), byref(steps), *told)
+        given, told = (text, len(text), limit), [typed, len(typed) - 1, byref(made), byref(steps), byref(at), byref(calls)]
+        if stopper is None:
+            answer = self._answer(name, *given, *told[: 6 if name == "where" else 4])
+        else:
+            with stopper._lent() as handle, breaking_off(stopper):
+                answer = self._answer("where_until", *given, byref(handle), *told)
         if answer in (NOT_BEGUN, END, CLOSED):
             raise Refused(answer)
         return answer, typed.raw[:made.value], steps.value
 
-    def run(self, text, limit=1000000, room=65536):
-        """Runs a command string, and gives the number of its code, what it typed and its steps."""
-        return self._run("run", text, limit, room)
+    def run(self, text, limit=1000000, room=65536, stopper=None):
+        """Runs a command string, and gives the number of its code, what it typed and its steps. If the stopper is asked meanwhile, the
+        string is broken off: its code is LIM, and it is kept with the steps that it took. Ctrl-C does the same on the main thread."""
+        return self._run("run", text, limit, room, stopper, c_size_t(), c_size_t())
 
-    def run_where(self, text, limit=1000000, room=65536):
+    def run_where(self, text, limit=1000000, room=65536, stopper=None):
         """Runs it just so, and gives also where it stopped: None where it ended well, or where no memory is found for the place."""
         at, calls = c_size_t(), c_size_t()
-        ran = self._run("where", text, limit, room, byref(at), byref(calls))
+        ran = self._run("where", text, limit, room, stopper, at, calls)
         return *ran, Place(at.value, calls.value) if at.value != NOWHERE else None
 
     def undo(self):

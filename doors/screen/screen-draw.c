@@ -1,5 +1,5 @@
 /* Drawing by ncurses, which sends what differs from the screen that is there. It reads no key, and sets the terminal no more than it has
-   to: term-tty.c does both. */
+   to: term-read.c and term-tty.c do that. */
 #include "screen.h"
 #include <curses.h>
 #include <stdio.h>

@@ -130,7 +130,7 @@ static void describe_end(const struct view *view, bool is_preview, char *text, s
     else if (told->code == TECO_MEM && is_preview)
         (void)snprintf(text, size, "?MEM shown after %llu steps: the memory of a preview is used up", steps);
     else
-        (void)snprintf(text, size, "?%s: %s", code_letters(told->code), code_sentence(told->code));
+        (void)snprintf(text, size, "?%s: %s", code_letters(told->code), told_sentence(told));
     size_t used = strlen(text);
     if (told->calls > 0 && used < size)
         (void)snprintf(text + used, size - used, ", inside %zu macro%s", told->calls, told->calls == 1 ? "" : "s");

@@ -96,9 +96,20 @@ static enum fate conclude_writing(struct screen *screen, enum fate fate)
     return GOES_ON;
 }
 
+/* Nothing is drawn while a string runs. One that was seen to run long is said to run before it does. */
+static void draw_running(struct screen *screen)
+{
+    const struct view *seen = screen->preview.seen;
+    if (screen->is_previewed && (seen->goes_on || seen->is_broken_off)) {
+        say(screen, "running: Ctrl-C breaks it off");
+        draw(screen);
+    }
+}
+
 /* Runs the string that is typed, whose pair of ESC is whole, and keeps it. */
 enum fate screen_run(struct screen *screen)
 {
+    draw_running(screen);
     begin_change(screen);
     struct told told = work_do(&screen->work, screen->line.at, screen->line.count - 1);
     if (told.at == TECO_NOWHERE && told.steps == 0)

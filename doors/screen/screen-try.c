@@ -91,7 +91,7 @@ static void try_string(struct work *work, const struct request *request, const u
         uint64_t most = limit < work->options->limit ? limit : work->options->limit;
         begin_view(request);
         run_open(work, text, request->n, most);
-        view.goes_on = view.told.code == CODE_LIM && most < work->options->limit;
+        view.goes_on = view.told.code == TECO_LIM && most < work->options->limit;
         if (!view.goes_on || since(&begun) > SOON) {
             look(&work->session, &view, &request->window);
             preview_tell(&view);

@@ -16,7 +16,7 @@
 
 /* The most bytes of a text that a window has, of what a string typed, and of a string that is shown as it is typed. */
 enum { SHOWN = 1 << 16, TAIL = 2048, LONGEST = 1 << 20 };
-enum { CODE_SRH = 22, CODE_UTC = 24, CODE_LIM = 27 };
+enum { CODE_SRH = 22, CODE_UTC = 24 };
 enum { LEAST_ROWS = 6, LEAST_COLUMNS = 20 };
 
 /* Marks of the bytes in a window: it came, some went before it. */

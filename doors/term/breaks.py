@@ -7,8 +7,8 @@ import sys
 import tempfile
 from pathlib import Path
 
-FLAGS = ["-std=c11", "-g", "-O1", "-fsanitize=address,undefined", "-fno-sanitize-recover=all"]
-SHARED = [f"term-{part}.c" for part in ("codes", "file", "journal", "keys", "options", "tty", "work")]
+FLAGS = ["-std=c11", "-pthread", "-g", "-O1", "-fsanitize=address,undefined", "-fno-sanitize-recover=all"]
+SHARED = [f"term-{part}.c" for part in ("codes", "file", "journal", "keys", "options", "read", "tty", "work")]
 C = Path(__file__).resolve().parent.parent / "c"
 
 

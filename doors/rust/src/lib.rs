@@ -5,11 +5,13 @@
 
 mod change;
 mod raw;
+mod stopper;
 mod token;
 
 pub use change::{Change, Kind};
 use std::fmt;
 use std::ptr;
+pub use stopper::Stopper;
 pub use token::{token, Fault, Token, TokenKind};
 
 /// An open session. Its handle is open from [`Session::open`] to its drop.
@@ -91,6 +93,17 @@ impl Session {
         let outcome = ran(room, |typed, made, steps| unsafe {
             raw::teco_where(
                 &mut self.handle, text.as_ptr(), text.len(), limit, typed, room, made, steps, &mut at, &mut calls)
+        });
+        (outcome, (at != NOWHERE).then_some(Place { at, calls }))
+    }
+
+    /// Runs a command string as [`Session::run_where`] does, until a stop is asked by the other handle of the stopper. Then it ends by code
+    /// 27, LIM, just as if the steps that it took had been its limit: it is noted, and undone, redone and rewound as any other.
+    pub fn run_until(&mut self, text: &[u8], limit: u64, room: usize, stopper: &Stopper) -> (Outcome, Option<Place>) {
+        let (mut at, mut calls) = (NOWHERE, 0);
+        let outcome = ran(room, |typed, made, steps| unsafe {
+            raw::teco_where_until(
+                &mut self.handle, text.as_ptr(), text.len(), limit, stopper.raw(), typed, room, made, steps, &mut at, &mut calls)
         });
         (outcome, (at != NOWHERE).then_some(Place { at, calls }))
     }

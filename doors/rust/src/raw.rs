@@ -7,6 +7,11 @@ pub struct Handle {
     pub at: *mut c_void,
 }
 
+#[repr(C)]
+pub struct Stopper {
+    pub at: *mut c_void,
+}
+
 extern "C" {
     pub fn teco_open(t: *mut Handle, input: *const u8, n: usize, depth: usize) -> u8;
     pub fn teco_close(t: *mut Handle);
@@ -32,6 +37,22 @@ extern "C" {
         at: *mut usize,
         calls: *mut usize,
     ) -> u8;
+    pub fn teco_where_until(
+        t: *mut Handle,
+        text: *const u8,
+        n: usize,
+        limit: u64,
+        s: *const Stopper,
+        room: *mut u8,
+        size: usize,
+        made: *mut usize,
+        steps: *mut u64,
+        at: *mut usize,
+        calls: *mut usize,
+    ) -> u8;
+    pub fn teco_stopper_open(here: *mut Stopper, there: *mut Stopper) -> u8;
+    pub fn teco_stopper_close(s: *mut Stopper);
+    pub fn teco_stop(s: *const Stopper, asked: u8) -> u8;
     pub fn teco_undo(t: *mut Handle) -> u8;
     pub fn teco_redo(t: *mut Handle) -> u8;
     pub fn teco_rewind(t: *mut Handle, n: u64) -> u8;

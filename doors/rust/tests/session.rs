@@ -1,4 +1,6 @@
-use teco::{token, Change, Fault, Kind, Nothing, OpenError, Place, Session, Stop, Token, TokenKind};
+use std::thread;
+use std::time::Duration;
+use teco::{token, Change, Fault, Kind, Nothing, OpenError, Place, Session, Stop, Stopper, Token, TokenKind};
 
 const LIMIT: u64 = 1_000_000;
 
@@ -44,6 +46,31 @@ fn a_string_that_fails_tells_where() {
     assert_eq!(session.run_where(b"@^UA/J9J/ MA", LIMIT, 0).1, Some(Place { at: 10, calls: 1 }));
     assert_eq!(session.run_where(b"J", LIMIT, 0).1, None);
     assert_eq!(session.strings(), 3);
+}
+
+#[test]
+fn another_thread_breaks_a_string_off() {
+    let (here, there) = Stopper::pair().unwrap();
+    let mut session = Session::open(b"", 0).unwrap();
+    session.run(b"Ia\x1b", LIMIT, 0);
+    let asks = thread::spawn(move || {
+        thread::sleep(Duration::from_millis(50));
+        there.ask();
+        there
+    });
+    let (outcome, place) = session.run_until(b"Ib\x1b<Ic\x1b-D>", u64::MAX, 0, &here);
+    assert_eq!(outcome.stop, Some(Stop::Code(27)));
+    assert!(outcome.steps > 1 && place.is_some_and(|place| place.at > 2 && place.calls == 0));
+    assert_eq!(session.steps(1), Some(outcome.steps));
+    assert_eq!((session.undo(), session.text()), (Ok(()), b"a".to_vec()));
+    assert_eq!((session.redo(), session.rewind(1), session.text()), (Ok(()), Ok(()), b"ab".to_vec()));
+    let there = asks.join().unwrap();
+    let (outcome, place) = session.run_until(b"9=", LIMIT, 9, &here);
+    assert_eq!((outcome.stop, outcome.steps, place), (Some(Stop::Code(27)), 0, Some(Place { at: 0, calls: 0 })));
+    there.take_back();
+    assert_eq!(session.run_until(b"9=", LIMIT, 9, &here).0.typed, b"9\r\n");
+    drop(there);
+    assert_eq!(session.run_until(b"Ic\x1b9J", LIMIT, 0, &here).0.stop, Some(Stop::Code(20)));
 }
 
 #[test]
