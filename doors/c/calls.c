@@ -208,6 +208,8 @@ static void turns(void)
     HOLDS(teco_string(&t, 0, room, 64, &n) == 0 && has("Ib\033"));
     HOLDS(teco_string(&t, 2, room, 64, &n) == TECO_OUTSIDE && n == 0);
     HOLDS(teco_steps(&t, 2, &steps) == TECO_OUTSIDE && steps == 0);
+    HOLDS(teco_undo(&t) == 0 && teco_rewind(&t, UINT64_MAX) == 0 && teco_redo(&t) == TECO_NTR);
+    HOLDS(teco_strings(&t, &n) == 0 && n == 1 && teco_text(&t, 0, room, 64, &n) == 0 && has("ab"));
     teco_close(&t);
 }
 

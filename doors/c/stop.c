@@ -25,8 +25,8 @@ static void show(const struct teco *t, const char *when)
 /* Runs a string of two inserts and a loop that goes on for ever. */
 static void run_and_break_off(struct teco *t, struct teco_stopper *here, struct teco_stopper *there)
 {
-    static const uint8_t TEXT[] = "Ia cat\33I sat\33<RC>";
-    const uint64_t limit = UINT64_MAX;
+    static const uint8_t TEXT[] = "Ia cat\33I sat\33<>";
+    const uint64_t limit = 1000000000;
     uint8_t room[80];
     size_t made, at, calls;
     uint64_t steps;

@@ -189,7 +189,8 @@ uint8_t teco_redo(struct teco *t);
 
 /*
  * Goes back to the state after the first n steps of the last string that isn't undone, and drops the undone ones: 0 or TECO_NTU. The
- * string has taken n steps then, or as many as before where those are fewer. Asks for no memory; may be made after an exit.
+ * string has taken n steps then, or as many as before where those are fewer: so UINT64_MAX only drops the undone ones. Asks for no
+ * memory; may be made after an exit.
  */
 uint8_t teco_rewind(struct teco *t, uint64_t n);
 

@@ -13,7 +13,7 @@ const struct timespec TTY_GAP = {.tv_nsec = 10000000};
 enum { PIECE = 4096, TOGETHER = 1 << 20 };
 
 /* Keys that came while a string ran, and how many of them were taken since; and whether what comes next is pasted. */
-static struct bytes kept;
+static struct bytes waiting;
 static size_t taken;
 static struct keys coming;
 
@@ -46,7 +46,7 @@ enum event tty_wait(int other, const struct timespec *most)
 {
     fd_set in;
     bool is_resumed = false;
-    if (taken < kept.count && !tty_is_other)
+    if (taken < waiting.count && !tty_is_other)
         return CAME;
     FD_ZERO(&in);
     FD_SET(STDIN_FILENO, &in);
@@ -64,15 +64,15 @@ void tty_resume(void)
     coming = (struct keys){0};
 }
 
-/* Keys that were kept come first. */
-static size_t take_kept(uint8_t *to, size_t most)
+/* Keys that wait come first. */
+static size_t take_waiting(uint8_t *to, size_t most)
 {
-    size_t n = kept.count - taken < most ? kept.count - taken : most;
+    size_t n = waiting.count - taken < most ? waiting.count - taken : most;
     if (n > 0)
-        memcpy(to, kept.at + taken, n);
+        memcpy(to, waiting.at + taken, n);
     taken += n;
-    if (taken == kept.count)
-        taken = kept.count = 0;
+    if (taken == waiting.count)
+        taken = waiting.count = 0;
     return n;
 }
 
@@ -91,7 +91,7 @@ static ssize_t read_piece(uint8_t *piece, bool *are_keys)
 enum event tty_take(struct bytes *together)
 {
     uint8_t piece[PIECE];
-    ssize_t n = (ssize_t)take_kept(piece, sizeof piece);
+    ssize_t n = (ssize_t)take_waiting(piece, sizeof piece);
     if (n == 0)
         n = read_piece(piece, NULL);
     if (n < 0)
@@ -120,14 +120,14 @@ static bool keep_piece(const struct teco_stopper *asks)
 {
     uint8_t piece[PIECE];
     bool are_keys[PIECE], is_stop = false;
-    if (!bytes_reserve(&kept, PIECE))
+    if (!bytes_reserve(&waiting, PIECE))
         return false;
     ssize_t n = read_piece(piece, are_keys);
     for (ssize_t i = 0; i < n; i++) {
         if (are_keys[i] && piece[i] == CONTROL('C'))
             is_stop = true;
         else
-            kept.at[kept.count++] = piece[i];
+            waiting.at[waiting.count++] = piece[i];
     }
     bool has_ended = n == 0 || (n < 0 && errno != EAGAIN && errno != EINTR);
     if (is_stop || has_ended)

@@ -212,12 +212,17 @@ class Terminal:
     def state(self):
         return self.screen.text()
 
+    def drains(self):
+        """Takes what comes until nothing more does. What comes for ever is not waited for."""
+        end = time.monotonic() + PATIENCE
+        while self.read(QUIET) and time.monotonic() < end:
+            pass
+
     def waits(self, state, wanted):
         end = time.monotonic() + PATIENCE
         while state() != wanted and time.monotonic() < end:
             self.read(0.2)
-        while self.read(QUIET):
-            pass
+        self.drains()
         assert state() == wanted, f"wanted:\n{wanted}\nseen:\n{state()}"
         return self
 
@@ -250,8 +255,7 @@ class Terminal:
         assert b"\n" in self.reports, f"no report: {word} is wanted; seen:\n{self.state()}"
         first, self.reports = self.reports.split(b"\n", 1)
         said, value = first.decode().split()
-        while self.read(QUIET):
-            pass
+        self.drains()
         assert said == word, f"wanted: {word}; it is: {first.decode()}; seen:\n{self.state()}"
         return value
 
