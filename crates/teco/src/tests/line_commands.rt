@@ -6,8 +6,10 @@ use std::process::Abort;
 use teco_core::NoMemory;
 use teco_files::{MemoryDisk, MemorySource, Refused, Source};
 
+mod checked;
 mod explained;
 
+use checked::CHECKED;
 use explained::{ENDED, EXPLAINED, PROMPTED};
 
 /// A run, the files before it, and those after it.
@@ -317,6 +319,7 @@ static HELP: [Row<'static>; 1] = [(
                 -b, --bytes <FILE>       The file that the commands are read from, as they are\n  \
                 -o, --output <FILE>      Where the output goes after an exit, - for standard output; without it INPUT.out, or - if INPUT is -\n  \
                 -i, --in-place           Writes the output over each INPUT\n      \
+                --check              Tells the faults of the commands, with their places; runs nothing, and reads no INPUT\n      \
                 --page-lines <N>     The most lines of a page, at most 1000000000; without it form feeds alone end pages\n      \
                 --limit <N>          The most steps that each command string may take, at most 1000000000000 [default: 1000000]\n      \
                 --undo <N>           The most command strings kept to be undone, at most 100000; all without it\n      \
@@ -335,7 +338,7 @@ static HELP: [Row<'static>; 1] = [(
 )];
 
 /// A faulty line says why, and shows the usage; nothing is read, run or written.
-static FAULTY_LINES: [(&str, &str); 8] = [
+static FAULTY_LINES: [(&str, &str); 9] = [
     (
         "teco -e EX$$ -b in in",
         "error: only one of '--pages <STRINGS>', '--bytes <FILE>', and '--file <FILE>' or '--execute <STRINGS>' can be used\n\n\
@@ -369,6 +372,11 @@ static FAULTY_LINES: [(&str, &str); 8] = [
     (
         "teco -e EX$$ -i in /dev/stdin",
         "error: the argument '--in-place' cannot be used with an INPUT that is standard input\n\n\
+        Usage: teco [OPTIONS] <INPUT>...\n\nFor more information, try '--help'.\n",
+    ),
+    (
+        "teco --check in",
+        "error: the argument '--check' wants commands from '--execute <STRINGS>', '--pages <STRINGS>', '--file <FILE>' or '--bytes <FILE>'\n\n\
         Usage: teco [OPTIONS] <INPUT>...\n\nFor more information, try '--help'.\n",
     ),
     (
@@ -437,4 +445,5 @@ fn takes_its_commands_from_the_line(rt: HostRuntime) {
     all_run(&rt, rt.alloc(), &PROMPTED);
     all_run(&rt, rt.alloc(), &HELP);
     all_run(&rt, rt.alloc(), &FROM_PAGES);
+    all_run(&rt, rt.alloc(), &CHECKED);
 }
