@@ -16,5 +16,5 @@ mod sentences;
 pub use checking::{Advice, check};
 pub use left_out::{LeftOut, Takes, row_of};
 pub use remarks::{FaultIn, Hint, Remark, What};
-pub use reporting::report;
+pub use reporting::{report, report_part};
 pub use sentences::show_remark;

@@ -8,6 +8,7 @@ use crate::sentences::{opening_of, show_remark};
 use std::alloc::Global;
 use std::fmt::Write;
 use teco_core::NoMemory;
+use teco_scan::Span;
 use teco_telling::Spot;
 
 /// A place of a text that is gone over from left to right, with its line and its column.
@@ -58,7 +59,41 @@ fn place_in(places: Option<&[usize]>, source: &[u8], at: usize) -> usize {
     }
 }
 
-/// The lines that tell of a check: a line for each remark, with the name and the line and the column of the source.
+/// Puts a line for each remark on a part of the commands at the end, with the name and the line and the column of its source.
+///
+/// `places` tells for each byte of the part where in the source it begins; without it the part is the source. An opening that is in
+/// another part is not told.
+pub fn report_part(
+    out: &mut String,
+    name: &str,
+    source: &[u8],
+    places: Option<&[usize]>,
+    commands: &[u8],
+    part: Span,
+    advice: &Advice,
+) -> Result<(), NoMemory> {
+    let mut walker = Walker::new();
+    let mut openings = Walker::new();
+    for remark in &advice.remarks {
+        if remark.at < part.from || remark.at >= part.to {
+            continue;
+        }
+        let place = place_in(places, source, remark.at - part.from);
+        let spot = walker.spot_at(source, place);
+        let opening = match opening_of(remark) {
+            Some(at) if at >= part.from => {
+                Some(openings.spot_at(source, place_in(places, source, at - part.from)))
+            }
+            _ => None,
+        };
+        write!(out, "{name}:{spot}: ")?;
+        show_remark(out, commands, remark, opening)?;
+        out.push_str("\n")?;
+    }
+    Ok(())
+}
+
+/// The lines that tell of a check of one source: a line for each remark.
 ///
 /// `places` tells for each byte of the commands where in the source it begins; without it the commands are the source.
 pub fn report(
@@ -70,17 +105,10 @@ pub fn report(
     advice: &Advice,
 ) -> Result<String, NoMemory> {
     let mut out = String::new(alloc);
-    let mut walker = Walker::new();
-    let mut openings = Walker::new();
-    for remark in &advice.remarks {
-        let spot = walker.spot_at(source, place_in(places, source, remark.at));
-        let opening = match opening_of(remark) {
-            Some(at) => Some(openings.spot_at(source, place_in(places, source, at))),
-            None => None,
-        };
-        write!(out, "{name}:{spot}: ")?;
-        show_remark(&mut out, commands, remark, opening)?;
-        out.push_str("\n")?;
-    }
+    let whole = Span {
+        from: 0,
+        to: usize::MAX,
+    };
+    report_part(&mut out, name, source, places, commands, whole, advice)?;
     Ok(out)
 }

@@ -14,6 +14,7 @@ pub record Row : Type 0 where
   pub output : Option Text
   pub in_place : Option Text
   pub prompt : Option Text
+  pub check : Option Text
   pub explain : Option Text
   pub limit : Option Text
   pub undo : Option Text
@@ -26,6 +27,7 @@ row_of words = record {
   output = first_of (codes "output") (matches_of teco_app words);
   in_place = one_of (codes "in-place") (matches_of teco_app words);
   prompt = one_of (codes "prompt") (matches_of teco_app words);
+  check = one_of (codes "check") (matches_of teco_app words);
   explain = one_of (codes "explain") (matches_of teco_app words);
   limit = one_of (codes "limit") (matches_of teco_app words);
   undo = one_of (codes "undo") (matches_of teco_app words);
@@ -40,6 +42,7 @@ plain input = record {
   output = None;
   in_place = Some (codes "false");
   prompt = Some (codes "false");
+  check = Some (codes "false");
   explain = Some (codes "false");
   limit = Some (codes "1000000");
   undo = None;
@@ -63,11 +66,12 @@ numbers : map row_of (
 unfolding clap_on_literals
 numbers = refl
 
--- teco a --prompt --explain -ob --limit=0 --undo=100000
-all_given : row_of (codes "teco" ∷ codes "a" ∷ codes "--prompt" ∷ codes "--explain" ∷ codes "-ob" ∷ codes "--limit=0" ∷ codes "--undo=100000" ∷ [])
+-- teco a --prompt --check --explain -ob --limit=0 --undo=100000
+all_given : row_of (codes "teco" ∷ codes "a" ∷ codes "--prompt" ∷ codes "--check" ∷ codes "--explain" ∷ codes "-ob" ∷ codes "--limit=0" ∷ codes "--undo=100000" ∷ [])
     ≡ record (plain (codes "a")) {
       output = Some (codes "b");
       prompt = Some (codes "true");
+      check = Some (codes "true");
       explain = Some (codes "true");
       limit = Some (codes "0");
       undo = Some (codes "100000");

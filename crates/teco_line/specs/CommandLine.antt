@@ -123,6 +123,7 @@ pub record HasLine (rows : List Row) (line : Line) : Type 0 where
   pub limit : option_map number_of (one_of (codes "limit") rows) ≡ Some line.limit
   pub prompt : IsTrue line.prompt ↔ (one_of (codes "prompt") rows ≡ Some (codes "true"))
   pub in_place : IsTrue line.in_place ↔ (one_of (codes "in-place") rows ≡ Some (codes "true"))
+  pub check : IsTrue line.check ↔ (one_of (codes "check") rows ≡ Some (codes "true"))
   pub explain : IsTrue line.explain ↔ (one_of (codes "explain") rows ≡ Some (codes "true"))
   -- the depth of the history, if one is given
   pub undo : option_map number_of (one_of (codes "undo") rows) ≡ line.undo

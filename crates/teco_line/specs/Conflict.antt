@@ -49,7 +49,11 @@ shares_standard_input line = are_on_standard_input line.commands && has_standard
 abbrev pub writes_over_a_stream : Line → Bool
 writes_over_a_stream line = line.in_place && has_standard_input line
 
+-- commands that are awaited are not checked, since what is run decides what is asked for next
+abbrev pub checks_awaited : Line → Bool
+checks_awaited line = line.check && are_awaited line.commands
+
 -- The line says one of these: it is faulty.
 abbrev pub has_conflict : Line → Bool
 has_conflict line = has_two_places line || (has_one_place_for_many line || (awaits_for_many line
-    || (shares_standard_input line || writes_over_a_stream line)))
+    || (shares_standard_input line || (writes_over_a_stream line || checks_awaited line))))

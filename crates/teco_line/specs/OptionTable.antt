@@ -56,6 +56,7 @@ option_rules = with_text (codes "execute") (Some 101)
     ∷ with_text (codes "bytes") (Some 98)
     ∷ with_text (codes "output") (Some 111)
     ∷ flag (codes "in-place") (Some 105)
+    ∷ flag (codes "check") None
     ∷ with_number (codes "page-lines") None 1 1000000000 []
     ∷ with_number (codes "limit") None 0 1000000000000 (codes "1000000" ∷ [])
     ∷ with_number (codes "undo") None 1 DEPTH_LIMIT []

@@ -69,6 +69,8 @@ pub struct Line {
     pub limit: u64,
     /// Whether the output is written over the input.
     pub in_place: bool,
+    /// Whether the commands are checked, and nothing is run.
+    pub check: bool,
     /// Whether a star is shown where commands are wanted.
     pub prompt: bool,
     /// Whether each code that is shown is explained on standard error.
@@ -206,6 +208,7 @@ fn line_in<'a>(alloc: Global, matches: &ArgMatches<'a>) -> Result<Line, LineFaul
     let page_lines = number_at(matches, "page-lines");
     let prompt = flag_at(matches, "prompt");
     let in_place = flag_at(matches, "in-place");
+    let check = flag_at(matches, "check");
     let explain = flag_at(matches, "explain");
     Ok(Line {
         input,
@@ -215,6 +218,7 @@ fn line_in<'a>(alloc: Global, matches: &ArgMatches<'a>) -> Result<Line, LineFaul
         limit,
         prompt,
         in_place,
+        check,
         explain,
         undo,
         page_lines,

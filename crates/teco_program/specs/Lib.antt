@@ -10,4 +10,5 @@ pub mod Writing
 pub mod Seen
 pub mod Run
 pub mod Sources
+pub mod Checks
 pub mod Runs

@@ -13,6 +13,7 @@ use Rattle.teco_line.specs.declared.line.Commands.{Commands}
 use Rattle.teco_line.specs.declared.line.Commands.TheVariants.{StandardInput, Sources, Pages, Bytes}
 use Rattle.teco_line.specs.declared.line.Line.{Line}
 use Rattle.teco_line.specs.declared.line.LineFault.{LineFault}
+use Rattle.teco_program.specs.Checks.{TellsVerdict}
 use Rattle.teco_program.specs.Ending.{worst}
 use Rattle.teco_program.specs.Run.{Concludes, Edits, IsFateOf, IsLineIn, KeepsDisk, Refuses, input_from, named_input, standard_input}
 use Rattle.teco_program.specs.Seen.{CommandsSeen, DiskSeen, SourceView, commands_seen, run_seen}
@@ -161,13 +162,31 @@ pub record RunsOverAll {D I S T W E : Type 0} (view : HostView D I S T W) (error
       ⊎ ((bytes : List ℕ) × IsGivenBy view.stream line.commands (view.disk old.disk).files old.stream mid.stream bytes
       × RunsInOrder view errors line bytes (inputs_of line) (mid, told) (new, telling) status)
 
--- The words say a line, and it is run over; or they say none, and nothing is done but that that is told.
+-- A line that asks for a check: its commands are had as for a run, and what a check finds in them is told. No file changes by
+-- that, and nothing is served or put on the terminal but what is told. If the commands can't be had, that is told.
+pub record ChecksLine {D I S T W E : Type 0} (view : HostView D I S T W) (errors : E → Screen) (line : Line)
+    (old new : Host D S T) (told telling : E) (status : ℕ) : Type 0 where
+  pub asked : line.check ≡ true
+  pub kept : KeepsDisk (view.disk old.disk) (view.disk new.disk)
+  pub tells : ((fault : CommandsFault) × (new.term ≡ old.term)
+      × LacksCommands view.stream line.commands (view.disk old.disk).files old.stream new.stream fault
+      × Declines line.commands fault (errors told) (errors telling) status)
+      ⊎ ((bytes : List ℕ) × IsGivenBy view.stream line.commands (view.disk old.disk).files old.stream new.stream bytes
+      × TellsVerdict view.screen errors bytes old.term new.term told telling status)
+
+-- A line that asks for no check is run over, and one that asks for it is checked alone.
+abbrev pub RunsOrChecks : {D I S T W E : Type 0} → HostView D I S T W → (E → Screen) → Line → Host D S T → Host D S T → E
+    → E → ℕ → Type 0
+RunsOrChecks view errors line old new told telling status = ((line.check ≡ false)
+    × (RunsOverOne view errors line old new told telling status ⊎ RunsOverAll view errors line old new told telling status))
+    ⊎ ChecksLine view errors line old new told telling status
+
+-- The words say a line, and it is run over or checked; or they say none, and nothing is done but that that is told.
 pub record RunsOverLine {D I S T W E : Type 0} (view : HostView D I S T W) (errors : E → Screen) (words : Result (Vec (String Global) Global) LineFault)
     (old new : Host D S T) (told telling : E) (status : ℕ) : Type 0 where
   pub line : Line
   pub line_is : IsLineIn words line
-  pub runs : RunsOverOne view errors line old new told telling status
-      ⊎ RunsOverAll view errors line old new told telling status
+  pub runs : RunsOrChecks view errors line old new told telling status
 
 abbrev pub Runs : {D I S T W E : Type 0} → HostView D I S T W → (E → Screen) → Result (Vec (String Global) Global) LineFault
     → Host D S T → Host D S T → E → E → ℕ → Type 0

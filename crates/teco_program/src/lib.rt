@@ -1,6 +1,7 @@
 //! A run of the program, from the words of its command line to its status, over any files and streams.
 #![tactic(auto)]
 
+mod checking;
 mod comparing;
 mod editing;
 mod exchange;

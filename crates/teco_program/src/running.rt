@@ -1,5 +1,5 @@
 //! What the program does, on any disk, terminal and commands.
-ghost use Rattle.std.specs.Prelude.{◌≡◌, ◌⊎◌, true, false, codes, IfErr, IfOk, IfSome};
+ghost use Rattle.std.specs.Prelude.{◌≡◌, true, false, codes, IfErr, IfOk, IfSome};
 ghost use Rattle.clap.specs.Words.{kind_of};
 ghost use Rattle.std.specs.Process.{exit_status};
 ghost use Rattle.std.specs.String.{string_bytes};
@@ -8,9 +8,10 @@ ghost use Rattle.teco_line.specs.Conflict.{has_conflict};
 ghost use Rattle.teco_line.specs.StreamNames.{is_standard_input};
 ghost use Rattle.teco_program.specs.Ending.{said};
 ghost use Rattle.teco_program.specs.Run.{Concludes, IsFaultIn, IsLineIn, IsRefused, IsRefusedBy, Tells};
-ghost use Rattle.teco_program.specs.Runs.{EditsBy, EditsByFile, EditsByNamed, Runs, RunsOverAll, RunsOverOne, host, host_view, is_streamed};
+ghost use Rattle.teco_program.specs.Runs.{EditsBy, EditsByFile, EditsByNamed, Runs, RunsOrChecks, host, host_view, is_streamed};
 ghost use Rattle.teco_program.specs.Seen.{disk_seen, source_view};
 
+use crate::checking::check_line;
 use crate::editing::{edit_file, edit_input, fate_of};
 use crate::fate::{Fate, ending_of};
 use crate::listener::{Explainer, Listens, Silent};
@@ -237,7 +238,7 @@ fn line_in(alloc: Global, words: Result<Vec<String>, LineFault>) -> Result<Line,
     }
 }
 
-/// Runs over a line, and tells how that ends. Gives the status.
+/// Runs over a line, or checks it if it asks for that, and tells how that ends. Gives the status.
 fn run_over<S: Source, T: Terminal, E: Terminal, N: Terminal, D: Disk>(
     alloc: Global,
     line: &Line,
@@ -255,12 +256,13 @@ fn run_over<S: Source, T: Terminal, E: Terminal, N: Terminal, D: Disk>(
         (source_view S.coming S.bound S.failures S.ended) T.screen
         (source_view ⟦<WordSource as Source>⟧.coming ⟦<WordSource as Source>⟧.bound
         ⟦<WordSource as Source>⟧.failures ⟦<WordSource as Source>⟧.ended) in
-        RunsOverOne view E.screen line.now (host disk.old commands.old term.old) (host disk.new commands.new term.new)
-        errors.old errors.new result
-        ⊎ RunsOverAll view E.screen line.now (host disk.old commands.old term.old) (host disk.new commands.new term.new)
+        RunsOrChecks view E.screen line.now (host disk.old commands.old term.old) (host disk.new commands.new term.new)
         errors.old errors.new result }
     ensures silent { line.now.explain ≡ false → notes.new ≡ notes.old }
 {
+    if line.check {
+        return check_line(alloc, line, commands, term, errors, disk);
+    }
     if is_streamed(line) {
         let fate = edit_noted(alloc, line, number, commands, term, notes, disk);
         return conclude(alloc, line, line.input.as_str(), fate, errors);

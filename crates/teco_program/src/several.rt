@@ -10,7 +10,7 @@ use crate::editing::edit_input;
 use crate::fate::Fate;
 use crate::listener::{Explainer, Listens, Silent};
 use crate::running::conclude;
-use crate::sources::{commands_given, decline};
+use crate::sources::{Parts, commands_given, decline};
 use std::alloc::Global;
 use teco_files::{Disk, Source, WordSource};
 use teco_line::Line;
@@ -226,7 +226,8 @@ pub fn edit_all<S: Source, T: Terminal, E: Terminal, N: Terminal, D: Disk>(
         errors.old errors.new result }
     ensures silent { line.now.explain ≡ false → notes.new ≡ notes.old }
 {
-    match commands_given(alloc, &line.commands, commands, disk) {
+    let mut parts = Parts::unkept(alloc);
+    match commands_given(alloc, &line.commands, commands, disk, &mut parts) {
         Ok(bytes) => edit_each(
             alloc,
             line,

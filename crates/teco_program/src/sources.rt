@@ -41,6 +41,67 @@ impl From<NoMemory> for CommandsFault {
     }
 }
 
+/// A source as it was read: its number among those of the line, and where its commands end among all.
+#[derive(Drop)]
+pub struct Part {
+    pub at: usize,
+    pub source: Vec<u8>,
+    pub to: usize,
+}
+
+/// The sources of a line, if they are kept once their commands are had.
+#[derive(Drop)]
+pub struct Parts {
+    keeps: bool,
+    list: Vec<Part>,
+}
+
+impl Parts {
+    /// Parts of which none is kept.
+    pub fn unkept(alloc: Global) -> Self {
+        Self {
+            keeps: false,
+            list: Vec::new(alloc),
+        }
+    }
+
+    /// Parts that are kept.
+    pub fn kept(alloc: Global) -> Self {
+        Self {
+            keeps: true,
+            list: Vec::new(alloc),
+        }
+    }
+
+    /// Those that are kept, in order.
+    pub fn list(&self) -> &[Part] {
+        self.list.as_slice()
+    }
+
+    /// Puts a source after the others, if they are kept.
+    fn keep(&mut self, at: usize, source: Vec<u8>, to: usize) -> Result<(), NoMemory> {
+        if self.keeps {
+            self.list.push(Part { at, source, to })?;
+        }
+        Ok(())
+    }
+
+    /// The same of a word.
+    fn keep_word(
+        &mut self,
+        alloc: Global,
+        at: usize,
+        word: &str,
+        to: usize,
+    ) -> Result<(), NoMemory> {
+        if self.keeps {
+            let source = Vec::from_slice(alloc, word.as_bytes())?;
+            self.list.push(Part { at, source, to })?;
+        }
+        Ok(())
+    }
+}
+
 /// The commands of a source, which has this number among those of the line.
 fn commands_in(alloc: Global, source: &[u8], at: usize) -> Result<Vec<u8>, CommandsFault>
     ensures read { IfOk result (λ strings. commands_of source.now ≡ Ok strings.items) }
@@ -87,6 +148,7 @@ fn commands_in_files<S: Source, D: Disk>(
     names: &[String],
     stream: &mut S,
     disk: &mut D,
+    parts: &mut Parts,
 ) -> Result<Vec<u8>, CommandsFault>
     ensures read { IfOk result (λ made. AreCommandsIn (source_view S.coming S.bound S.failures S.ended)
         (D.files disk.old) names.now stream.old stream.new made.items) }
@@ -101,6 +163,7 @@ fn commands_in_files<S: Source, D: Disk>(
         let source = bytes_of(alloc, name.as_str(), at, stream, disk)?;
         let strings = commands_in(alloc, source.as_slice(), at)?;
         made.extend_from_slice(strings.as_slice())?;
+        parts.keep(at, source, made.len())?;
     }
     Ok(made)
 }
@@ -131,12 +194,13 @@ fn commands_for_pages(alloc: Global, word: &str) -> Result<Vec<u8>, CommandsFaul
     Ok(commands_on_pages(alloc, strings.as_slice())?)
 }
 
-/// The commands of the line, whole: those of its sources, or all the bytes of its file.
+/// The commands of the line, whole: those of its sources, or all the bytes of its file. The sources are put into `parts`.
 pub fn commands_given<S: Source, D: Disk>(
     alloc: Global,
     commands: &Commands,
     stream: &mut S,
     disk: &mut D,
+    parts: &mut Parts,
 ) -> Result<Vec<u8>, CommandsFault>
     requires { are_awaited commands.now ≡ false }
     ensures given { IfOk result (λ bytes. IsGivenBy (source_view S.coming S.bound S.failures S.ended)
@@ -150,19 +214,24 @@ pub fn commands_given<S: Source, D: Disk>(
     match commands {
         Commands::StandardInput => unreachable!(),
         Commands::Sources(names, word) => {
-            let mut made = commands_in_files(alloc, names, stream, disk)?;
+            let mut made = commands_in_files(alloc, names, stream, disk, parts)?;
             if let Some(word) = word {
                 append_word(alloc, &mut made, word.as_str(), names.len())?;
+                parts.keep_word(alloc, names.len(), word.as_str(), made.len())?;
             }
             Ok(made)
         }
-        Commands::Pages(word) => commands_for_pages(alloc, word.as_str()),
+        Commands::Pages(word) => {
+            let made = commands_for_pages(alloc, word.as_str())?;
+            parts.keep_word(alloc, 0, word.as_str(), made.len())?;
+            Ok(made)
+        }
         Commands::Bytes(name) => bytes_of(alloc, name.as_str(), 0, stream, disk),
     }
 }
 
 /// What the source of this number is called: by its file's name, or by the option that gives it.
-fn source_name(commands: &Commands, at: usize) -> &str
+pub fn source_name(commands: &Commands, at: usize) -> &str
     ensures { result.now ≡ source_name commands.now at }
 {
     match commands {

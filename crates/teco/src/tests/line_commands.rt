@@ -6,10 +6,12 @@ use std::process::Abort;
 use teco_core::NoMemory;
 use teco_files::{MemoryDisk, MemorySource, Refused, Source};
 
+mod checked;
 mod explained;
 mod shown;
 mod sources;
 
+use checked::CHECKED;
 use explained::{ENDED, EXPLAINED, PROMPTED};
 use shown::{FAULTY_LINES, HELP};
 use sources::{FROM_A_FILE, FROM_A_WORD, FROM_PAGES, UNREADABLE, WRONG_CARETS};
@@ -101,4 +103,5 @@ fn takes_its_commands_from_the_line(rt: HostRuntime) {
     all_run(&rt, rt.alloc(), &PROMPTED);
     all_run(&rt, rt.alloc(), &HELP);
     all_run(&rt, rt.alloc(), &FROM_PAGES);
+    all_run(&rt, rt.alloc(), &CHECKED);
 }

@@ -59,6 +59,10 @@ pub(crate) fn conflict_in(line: &Line) -> Option<&'static str>
         Some("standard input cannot be both the commands and an INPUT")
     } else if line.in_place && has_standard_input {
         Some("the argument '--in-place' cannot be used with an INPUT that is standard input")
+    } else if line.check && are_awaited(&line.commands) {
+        Some(
+            "the argument '--check' wants commands from '--execute <STRINGS>', '--pages <STRINGS>', '--file <FILE>' or '--bytes <FILE>'",
+        )
     } else {
         None
     }

@@ -40,7 +40,7 @@ pub(crate) struct OptionRow {
 }
 
 /// Every option, in the order of the help.
-pub(crate) const OPTIONS: [OptionRow; 11] = [
+pub(crate) const OPTIONS: [OptionRow; 12] = [
     OptionRow {
         name: "execute",
         short: Some('e'),
@@ -82,6 +82,13 @@ pub(crate) const OPTIONS: [OptionRow; 11] = [
         takes: Takes::Nothing,
         value: "",
         help: "Writes the output over each INPUT",
+    },
+    OptionRow {
+        name: "check",
+        short: None,
+        takes: Takes::Nothing,
+        value: "",
+        help: "Tells the faults of the commands, with their places; runs nothing, and reads no INPUT",
     },
     OptionRow {
         name: "page-lines",

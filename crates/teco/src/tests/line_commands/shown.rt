@@ -17,6 +17,7 @@ pub(super) static HELP: [Row<'static>; 1] = [(
                 -b, --bytes <FILE>       The file that the commands are read from, as they are\n  \
                 -o, --output <FILE>      Where the output goes after an exit, - for standard output; without it INPUT.out, or - if INPUT is -\n  \
                 -i, --in-place           Writes the output over each INPUT\n      \
+                --check              Tells the faults of the commands, with their places; runs nothing, and reads no INPUT\n      \
                 --page-lines <N>     The most lines of a page, at most 1000000000; without it form feeds alone end pages\n      \
                 --limit <N>          The most steps that each command string may take, at most 1000000000000 [default: 1000000]\n      \
                 --undo <N>           The most command strings kept to be undone, at most 100000; all without it\n      \
@@ -35,7 +36,7 @@ pub(super) static HELP: [Row<'static>; 1] = [(
 )];
 
 /// A faulty line says why, and shows the usage; nothing is read, run or written.
-pub(super) static FAULTY_LINES: [(&str, &str); 8] = [
+pub(super) static FAULTY_LINES: [(&str, &str); 9] = [
     (
         "teco -e EX$$ -b in in",
         "error: only one of '--pages <STRINGS>', '--bytes <FILE>', and '--file <FILE>' or '--execute <STRINGS>' can be used\n\n\
@@ -69,6 +70,11 @@ pub(super) static FAULTY_LINES: [(&str, &str); 8] = [
     (
         "teco -e EX$$ -i in /dev/stdin",
         "error: the argument '--in-place' cannot be used with an INPUT that is standard input\n\n\
+        Usage: teco [OPTIONS] <INPUT>...\n\nFor more information, try '--help'.\n",
+    ),
+    (
+        "teco --check in",
+        "error: the argument '--check' wants commands from '--execute <STRINGS>', '--pages <STRINGS>', '--file <FILE>' or '--bytes <FILE>'\n\n\
         Usage: teco [OPTIONS] <INPUT>...\n\nFor more information, try '--help'.\n",
     ),
     (

@@ -35,6 +35,7 @@ fn line(alloc: Global, given: Given) -> Result<Line, NoMemory> {
         commands: Commands::Bytes(String::from_str(alloc, "strings")?),
         limit: 0,
         prompt: false,
+        check: false,
         explain: false,
         undo: None,
     })

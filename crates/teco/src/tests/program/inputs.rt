@@ -18,7 +18,7 @@ const PIPED: Run = Run {
     status: 0,
 };
 
-static STREAMS: [Row<'static>; 8] = [
+static STREAMS: [Row<'static>; 9] = [
     (PIPED, &[], Refused::Nothing, &[]),
     (
         Run {
@@ -94,6 +94,19 @@ static STREAMS: [Row<'static>; 8] = [
         &[IN],
         Refused::Nothing,
         &[IN, ("in.out", "hi\n")],
+    ),
+    // A check of it reads no input.
+    (
+        Run {
+            words: "teco --check -f - none",
+            commands: "Y\n\tM? !!no register\nEX$$\n",
+            typed: "-:2:2: IQN: after M comes a register, A to Z or 0 to 9\n",
+            status: 2,
+            ..PIPED
+        },
+        &[],
+        Refused::Nothing,
+        &[],
     ),
 ];
 

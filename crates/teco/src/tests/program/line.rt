@@ -160,6 +160,7 @@ struct Given<'a> {
     output: Option<&'a str>,
     in_place: bool,
     prompt: bool,
+    check: bool,
     explain: bool,
     limit: u64,
     undo: Option<u64>,
@@ -190,7 +191,10 @@ fn has_numbers(line: &Line, given: &Given) -> bool {
 }
 
 fn has_flags(line: &Line, given: &Given) -> bool {
-    line.in_place == given.in_place && line.prompt == given.prompt && line.explain == given.explain
+    line.in_place == given.in_place
+        && line.prompt == given.prompt
+        && line.check == given.check
+        && line.explain == given.explain
 }
 
 fn is_line(line: &Line, given: &Given) -> bool {
@@ -224,13 +228,14 @@ const IN: Given = Given {
     output: None,
     in_place: false,
     prompt: false,
+    check: false,
     explain: false,
     limit: 1_000_000,
     undo: None,
     page_lines: None,
 };
 
-static ROWS: [Row<'static>; 21] = [
+static ROWS: [Row<'static>; 23] = [
     ("teco in", Some(IN)),
     (
         "teco --limit 5 --output o --prompt in",
@@ -271,6 +276,8 @@ static ROWS: [Row<'static>; 21] = [
             ..IN
         }),
     ),
+    ("teco -b EX --check in", Some(Given { check: true, ..IN })),
+    ("teco --check --prompt in", None),
     (
         "teco -p 0K in --in-place a b -- -c",
         Some(Given {

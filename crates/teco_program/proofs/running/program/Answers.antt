@@ -1,6 +1,6 @@
-use Rattle.std.proofs.Common.{ℕ, ◌⊎◌, inr, subst, sym}
+use Rattle.std.proofs.Common.{ℕ, inr, subst, sym}
 use Rattle.teco_files.specs.contracts.word_source.WordSourceSource.TheImpl as word
-use Rattle.teco_program.specs.Runs.{RunsOverOne, RunsOverAll, host, host_view}
+use Rattle.teco_program.specs.Runs.{RunsOrChecks, host, host_view}
 use Rattle.teco_program.specs.Seen.{disk_seen, source_view}
 use Rattle.teco_program.proofs.Runs.{same_explain}
 use Rattle.teco_program.proofs.running.program.Goals as goal
@@ -16,7 +16,7 @@ returns-in-Ok-clause-run g c =
     inr (record {
       line = c.in-Ok.line;
       line_is = c.in-Ok.ensures.line;
-      runs = subst (λ (status : ℕ). RunsOverOne view g.E.Terminal.screen c.in-Ok.line old new c.args.errors.now c.run_over.new.errors status ⊎ RunsOverAll view g.E.Terminal.screen c.in-Ok.line old new c.args.errors.now c.run_over.new.errors status)
+      runs = subst (λ (status : ℕ). RunsOrChecks view g.E.Terminal.screen c.in-Ok.line old new c.args.errors.now c.run_over.new.errors status)
           (sym c.from.ensures) c.run_over.ensures.runs;
     })
 

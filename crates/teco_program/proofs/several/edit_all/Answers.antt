@@ -24,8 +24,8 @@ returns-in-Ok-clause-runs g c =
       );
     }
 
-pub returns-in-Err-clause-runs : goal.returns-in-Err-clause-runs
-returns-in-Err-clause-runs g c = record {
+pub returns-clause-runs : goal.returns-clause-runs
+returns-clause-runs g c = record {
   whole = c.requires.whole;
   mid = host c.commands_given.new.disk c.commands_given.new.stream c.args.term.now;
   idle = (refl, c.commands_given.ensures.keeps);
