@@ -1,6 +1,7 @@
 //! What `--check` tells.
-use super::super::program::Run;
-use super::{IN, LIBRARY, PAGE, Row, WRONG};
+use super::sources::{LIBRARY, WRONG};
+use super::{IN, PAGE, Row};
+use crate::tests::program::Run;
 
 /// A source with a fault in line 2 at column 3.
 const FAULTY: (&str, &str) = ("faulty", "Y\n  M? !!no register\nEX$$\n");

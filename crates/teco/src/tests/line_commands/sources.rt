@@ -64,7 +64,10 @@ const SOURCE: (&str, &str) = (
 );
 
 /// A library of macros.
-const LIBRARY: (&str, &str) = ("lib.teco", "@^UA/0L Ix^=$ /$$\n!!puts in x and a caret\n");
+pub(super) const LIBRARY: (&str, &str) = (
+    "lib.teco",
+    "@^UA/0L Ix^=$ /$$\n!!puts in x and a caret\n",
+);
 
 /// A source that comes after it.
 const CALLS: (&str, &str) = ("calls.teco", "Y MA$$\n");
@@ -135,7 +138,7 @@ pub(super) static FROM_A_FILE: [Row<'static>; 6] = [
 ];
 
 /// A source with a wrong caret in line 2 at column 3.
-const WRONG: (&str, &str) = ("wrong", "HKEX$$\nIa^+$$\n");
+pub(super) const WRONG: (&str, &str) = ("wrong", "HKEX$$\nIa^+$$\n");
 
 /// A source that can't be read is a faulty line: nothing of it is run, nor of the others.
 pub(super) static WRONG_CARETS: [Row<'static>; 6] = [
