@@ -7,7 +7,6 @@ use seplogic.Ra.Ura.{Ura}
 use mir.Raw.{raw as bare}
 use mir.Val.{Val, vstruct, vcons, vnil, of_list}
 use base.Logic.{ent, guard, never, fst∗, snd∗, via, guard_i}
-use base.Fml.{ftrue}
 use base.Fraction.{full_share}
 use contract.Monad.{fact_use}
 use types.Logic.{Logic, sem}

@@ -1,6 +1,4 @@
 -- What an open stopper owns is a flag, which may cross threads, and the right to give its memory back anywhere.
-use mathlib.Core.Path.{◌≡◌}
-use Prim.Native.Nat.{ℕ}
 use mir.Raw.{raw}
 use base.Shift.{Keyless}
 use denote.Memory.{lone}
