@@ -256,6 +256,7 @@ pub fn check(alloc: Global, commands: &[u8]) -> Result<Advice, NoMemory>
         faulty |= check_string(alloc, &mut remarks, &mut hinting, &registers, string, start)?;
         start = end + 1;
     }
+    hinting.in_rest = true;
     let rest = &commands[start..];
     faulty |= check_string(alloc, &mut remarks, &mut hinting, &registers, rest, start)?;
     push_last_hints(&mut remarks, &hinting, commands, rest, faulty)?;

@@ -22,6 +22,8 @@ pub struct Hinting {
     has_number: bool,
     pub has_exit: bool,
     pub has_page: bool,
+    /// Whether the last pair of ESC has come.
+    pub in_rest: bool,
     /// The registers that were told of.
     told: [bool; REGISTERS],
 }
@@ -34,6 +36,7 @@ impl Hinting {
             has_number: false,
             has_exit: false,
             has_page: false,
+            in_rest: false,
             told: [false; REGISTERS],
         }
     }
@@ -117,11 +120,23 @@ impl Hinting {
             _ => None,
         };
         if is_after {
-            Some(Hint::AfterExit)
-        } else {
-            hint
+            return Some(Hint::AfterExit);
         }
+        if hint.is_none() && !self.in_rest && is_empty_at_end(text, token) {
+            return Some(Hint::EmptyText);
+        }
+        hint
     }
+}
+
+/// Whether a token at the end of a text has an empty text. In a command string its ESC is the first of the pair.
+fn is_empty_at_end(text: &[u8], token: &Token) -> bool {
+    let span = match token.kind {
+        TokenKind::Item(Item::Text(_, span)) => span,
+        TokenKind::Item(Item::SetText(_, span)) => span,
+        _ => return false,
+    };
+    span.from == span.to && token.span.to == text.len()
 }
 
 /// The number of the register that a token calls, if it calls one.

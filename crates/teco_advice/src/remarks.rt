@@ -20,8 +20,10 @@ pub enum Hint {
     LeavesNothing,
     /// A search text has a caret before a letter.
     Caret,
-    /// `nO` has a number, which is refused.
+    /// `nO` of TECO-11, which a run refuses by ARG.
     NumberBeforeJump,
+    /// A text is empty, and its ESC is the first of the pair that ends the string.
+    EmptyText,
     /// The register of this number is called, and nothing puts a text into it.
     NeverSet(usize),
     /// Bytes come after the last pair of ESC.

@@ -236,7 +236,10 @@ fn show_hint(out: &mut String, hint: Hint) -> Result<(), NoMemory> {
         Hint::AfterExit => out.push_str("EX ends the run before this"),
         Hint::LeavesNothing => out.push_str("; is in no iteration of this text, which is SNI"),
         Hint::Caret => out.push_str("a caret in a search text is a caret, and no control byte"),
-        Hint::NumberBeforeJump => out.push_str("O takes no number: tests choose between tags"),
+        Hint::NumberBeforeJump => out.push_str(
+            "nO of TECO-11 is left out: it chooses a tag by a number; here: a test before each jump",
+        ),
+        Hint::EmptyText => out.push_str("the text is empty: two ESC end the command string"),
         Hint::NeverSet(register) => show_around(
             out,
             "",

@@ -1,3 +1,5 @@
 pub mod Made
 pub mod Ending
 pub mod Keeping
+pub mod CommandLine
+pub mod Program

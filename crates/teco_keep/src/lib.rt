@@ -12,5 +12,5 @@ mod writing;
 
 pub use line::{Line, Mode};
 pub use made::{Made, make};
-pub use parsing::{LineFault, fault_of_words, line_of, not_text};
+pub use parsing::{line_of, not_text};
 pub use running::{keep, program};

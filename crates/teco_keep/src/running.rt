@@ -1,17 +1,21 @@
 //! What the program does, on any disk and terminal.
-ghost use Rattle.std.specs.Prelude.{◌≡◌, codes, false};
+ghost use Rattle.clap.specs.Words.{kind_of};
+ghost use Rattle.std.specs.Prelude.{◌≡◌, IfErr, IfOk, codes, false};
+ghost use Rattle.std.specs.Process.{exit_status};
+ghost use Rattle.teco_keep.specs.CommandLine.{SayNoLineIn, SayLineIn};
 ghost use Rattle.teco_keep.specs.Ending.{said};
 ghost use Rattle.teco_keep.specs.Keeping.{Concludes, EndsWritten, Keeps, MakesAndPuts, PutsOut, ReadsInput, RunsOver, output_of, view_of};
 ghost use Rattle.teco_keep.specs.Made.{IsMade};
 ghost use Rattle.teco_line.specs.StreamNames.{is_standard_input};
-ghost use Rattle.teco_program.specs.Run.{KeepsDisk, Tells};
+ghost use Rattle.teco_keep.specs.Program.{KeepsBy};
+ghost use Rattle.teco_program.specs.Run.{IsRefused, IsRefusedBy, KeepsDisk, Tells};
 ghost use Rattle.teco_program.specs.Runs.{host};
 ghost use Rattle.teco_program.specs.Seen.{disk_seen, source_view};
 
 use crate::fate::{Fate, status};
 use crate::line::Line;
 use crate::made::{Made, make};
-use crate::parsing::{LineFault, line_of};
+use crate::parsing::line_of;
 use crate::reading::{input_of_file, input_of_stream};
 use crate::telling::{spot_in, text_of};
 use crate::writing::{put_in_file, put_on_terminal};
@@ -20,7 +24,7 @@ use std::fmt::Write;
 use std::process::ExitCode;
 use teco_core::NoMemory;
 use teco_files::{Disk, Source};
-use teco_line::{is_standard_input, is_standard_output};
+use teco_line::{LineFault, is_standard_input, is_standard_output, refused_status};
 use teco_step::{Terminal, TerminalFault};
 
 /// Reads the input of the line, standard input or a file.
@@ -170,20 +174,31 @@ pub fn keep<S: Source, T: Terminal, E: Terminal, D: Disk>(
     conclude(alloc, line, fate, errors)
 }
 
-/// Tells why the parser refused the line: on standard error, or on standard output where the help or the version was asked for.
+/// The parser's text.
+fn text_by(alloc: Global, error: &clap::Error) -> Result<String, NoMemory> {
+    let mut text = String::new(alloc);
+    write!(text, "{error}")?;
+    Ok(text)
+}
+
+/// Tells why the parser refused the line: on standard error, or on standard output where the help or the version was asked for. Those
+/// are what was wanted, so it is a failure if they can't be shown.
 fn refuse_by<T: Terminal, E: Terminal>(
     alloc: Global,
     error: &clap::Error,
     term: &mut T,
     errors: &mut E,
-) -> u8 {
-    let mut text = String::new(alloc);
-    if write!(text, "{error}").is_err() {
-        return no_memory(errors);
-    }
-    if error.use_stderr() {
+) -> u8
+    ensures { IsRefused (kind_of error.now) (T.screen term.old) (T.screen term.new) result }
+{
+    let status = refused_status(error);
+    let Ok(text) = text_by(alloc, error) else {
+        let failed = no_memory(errors);
+        return if status == 0 { failed } else { status };
+    };
+    if status != 0 {
         let _ = errors.put(text.as_bytes());
-        return 3;
+        return status;
     }
     match term.put(text.as_bytes()) {
         Ok(()) => 0,
@@ -191,7 +206,32 @@ fn refuse_by<T: Terminal, E: Terminal>(
     }
 }
 
-/// Does what these words say, and gives the status.
+/// Tells why there is no line.
+fn refuse<T: Terminal, E: Terminal>(
+    alloc: Global,
+    fault: &LineFault,
+    term: &mut T,
+    errors: &mut E,
+) -> u8
+    ensures { IsRefusedBy fault.now (T.screen term.old) (T.screen term.new) result }
+{
+    match fault {
+        LineFault::NoMemory => no_memory(errors),
+        LineFault::Refused(error) => refuse_by(alloc, error, term, errors),
+    }
+}
+
+fn line_by(alloc: Global, words: Result<Vec<String>, LineFault>) -> Result<Line, LineFault>
+    ensures line { IfOk result (SayLineIn words) }
+    ensures fault { IfErr result (SayNoLineIn words) }
+{
+    match words {
+        Ok(words) => line_of(alloc, words.as_slice()),
+        Err(fault) => Err(fault),
+    }
+}
+
+/// Does what these words say, and gives the status. The number is for the name of a draft.
 pub fn program<S: Source, T: Terminal, E: Terminal, D: Disk>(
     alloc: Global,
     words: Result<Vec<String>, LineFault>,
@@ -200,15 +240,15 @@ pub fn program<S: Source, T: Terminal, E: Terminal, D: Disk>(
     term: &mut T,
     errors: &mut E,
     disk: &mut D,
-) -> ExitCode {
-    let line = match words {
-        Ok(words) => line_of(alloc, words.as_slice()),
-        Err(fault) => Err(fault),
-    };
-    let status = match line {
-        Ok(line) => keep(alloc, &line, number, stream, term, errors, disk),
-        Err(LineFault::NoMemory) => no_memory(errors),
-        Err(LineFault::Refused(error)) => refuse_by(alloc, &error, term, errors),
-    };
-    ExitCode::from(status)
+) -> ExitCode
+    ensures { let view = view_of (disk_seen D.files D.streams D.left D.gave D.changed
+        (source_view D.Input.coming D.Input.bound D.Input.failures D.Input.ended))
+        (source_view S.coming S.bound S.failures S.ended) T.screen in
+        KeepsBy view E.screen words (host disk.old stream.old term.old) (host disk.new stream.new term.new)
+        errors.old errors.new (exit_status result) }
+{
+    match line_by(alloc, words) {
+        Ok(line) => ExitCode::from(keep(alloc, &line, number, stream, term, errors, disk)),
+        Err(fault) => ExitCode::from(refuse(alloc, &fault, term, errors)),
+    }
 }

@@ -4,7 +4,8 @@
 use std::process;
 use std::process::ExitCode;
 use teco_files::{FileDisk, ReaderSource};
-use teco_keep::{LineFault, fault_of_words, not_text, program};
+use teco_keep::{not_text, program};
+use teco_line::{LineFault, fault_of_words};
 use teco_step::WriterTerminal;
 
 // That these are the program's words, streams and files is told by no contract.
