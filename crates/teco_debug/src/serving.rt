@@ -10,7 +10,7 @@ use teco_core::NoMemory;
 use teco_exec::Place;
 use teco_step::{Terminal, TerminalFault};
 use teco_telling::{Spot, spell, spot_of};
-use teco_walk::{Command, Counted, Part, Plain, VERBS, VerbRow, Walk, last_change};
+use teco_walk::{Command, Counted, Part, Plain, VERBS, VerbRow, Walk};
 
 /// Where the letters stand in a line of the help, and the texts after them.
 const LETTER_COLUMN: usize = 17;
@@ -98,7 +98,7 @@ impl Debugger {
 
     /// Goes back to before the last change of a part, where one was made.
     fn find(&mut self, out: &mut String, part: Part) -> Result<(), NoMemory> {
-        match last_change(&part, self.walk.changes()) {
+        match self.walk.last_change(&part) {
             Some(steps) => self.go(out, steps),
             None => out.push_str("no step before this one changed it\n"),
         }

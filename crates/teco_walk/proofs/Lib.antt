@@ -1,2 +1,4 @@
 pub mod Digits
 pub mod Findings
+pub mod Staying
+pub mod Changes

@@ -1,9 +1,12 @@
 -- What changed a part of the state last.
-use Rattle.std.specs.Prelude.{ℕ, Bool, true, false, List, [], ◌∷◌, ◌++◌, ◌==◌, Option, Some, None, if◌then◌else◌, is_some}
+use Rattle.std.specs.Prelude.{◌≡◌, ℕ, ◌≤◌, Bool, true, false, List, [], ◌∷◌, ◌==◌, Option, Some, None, if◌then◌else◌}
+use Rattle.teco_core.specs.Register.{content}
 use Rattle.teco_store.specs.Kinds.{kind_of}
+use Rattle.teco_store.specs.State.{StateOver}
 use Rattle.teco_store.specs.Turn.{Note}
 use Rattle.teco_store.specs.declared.change_kind.ChangeKind.{ChangeKind}
 use Rattle.teco_store.specs.declared.change_kind.ChangeKind.TheVariants.{Splice, Point, Number, Text, Push, Pop, Pages, Search, Found, Done, Mode}
+use Rattle.teco_walk.specs.Walk.{KeptWalk, meant, state_there}
 use Rattle.teco_walk.specs.declared.finding.Part.{Part}
 use Rattle.teco_walk.specs.declared.finding.Part.TheVariants.{Buffer, Register}
 
@@ -45,3 +48,12 @@ or_else None other = other
 unfoldable pub last_change : Part → List Note → Option ℕ
 last_change part [] = None
 last_change part (note ∷ notes) = or_else (last_change part notes) (step_before part note)
+
+-- the part is the same in two states: the text of the buffer, or what the register holds
+abbrev pub SamePart : {O : Type 0} → Part → StateOver O → StateOver O → Type 0
+SamePart Buffer s t = t.text ≡ s.text
+SamePart (Register q) s t = content t.registers q ≡ content s.registers q
+
+-- After each step that is done, from so many on, the part is as it is where the walk stands.
+abbrev pub IsAsNowFrom : ℕ → Part → KeptWalk → Type 0
+IsAsNowFrom n part w = (i : ℕ) → n ≤ i → i ≤ w.steps → SamePart part (meant w.input w.text i).state (state_there w)

@@ -1,5 +1,5 @@
 -- Numbers in commands.
-use Rattle.std.specs.Prelude.{ℕ, List, [], length, Bool, ◌&&◌, nat_lt, nat_le, if◌then◌else◌, Result, Ok, Err}
+use Rattle.std.specs.Prelude.{ℕ, List, length, Bool, ◌&&◌, nat_lt, if◌then◌else◌, Result, Ok, Err}
 use Rattle.std.specs.List.{list_all}
 use Rattle.teco_core.specs.Ascii.{is_digit}
 use Rattle.teco_core.specs.Number.{digits_value}

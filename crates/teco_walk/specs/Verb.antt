@@ -7,7 +7,7 @@ use Rattle.teco_walk.specs.Number.{number_in}
 use Rattle.teco_walk.specs.declared.command.Command.{Command}
 use Rattle.teco_walk.specs.declared.command.Command.TheVariants as command
 use Rattle.teco_walk.specs.declared.command.Fault.{Fault}
-use Rattle.teco_walk.specs.declared.command.Fault.TheVariants.{NoCommand, NoRegister, NoPlace, TooMuch}
+use Rattle.teco_walk.specs.declared.command.Fault.TheVariants.{NoCommand, NoNumber, NoRegister, NoPlace, TooMuch}
 use Rattle.teco_walk.specs.declared.finding.Part.{Part}
 use Rattle.teco_walk.specs.declared.finding.Part.TheVariants as part
 use Rattle.teco_telling.specs.declared.spot.Spot.{Spot}
@@ -136,3 +136,11 @@ abbrev pub command_of : List ℕ → Result Command Fault
 command_of line =
     let bytes = without_blanks_before (without_blanks_after line) in
     command_by (taken verbs (word_in bytes)) (after_word bytes)
+
+-- what is said of a line that is no command
+abbrev pub words_of : Fault → List ℕ
+words_of NoCommand = codes "no such command; help lists them"
+words_of NoNumber = codes "a number is wanted"
+words_of NoRegister = codes "a register is wanted, A to Z or 0 to 9"
+words_of NoPlace = codes "a place is wanted, as LINE:COLUMN"
+words_of TooMuch = codes "nothing is wanted after this command"

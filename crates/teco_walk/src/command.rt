@@ -1,14 +1,15 @@
 //! The commands, a line each.
 ghost use Rattle.std.specs.List.{prefix_len, suffix_len};
-ghost use Rattle.std.specs.Prelude.{◌≡◌, ℕ, ◌≤◌, length, not, Result};
-ghost use Rattle.teco_walk.specs.Verb.{alone, colon_in, command_in, command_of, is_blank, number_or, part_in, register_in, spot_in, without_blanks_after, without_blanks_before};
+ghost use Rattle.std.specs.Prelude.{◌≡◌, ℕ, ◌≤◌, length, not, Result, Some};
+ghost use Rattle.teco_walk.specs.Verb.{alone, colon_in, command_in, command_of, is_blank, number_or, part_in, register_in, spot_in, without_blanks_after, without_blanks_before, words_of};
 
 use crate::finding::Part;
 use crate::number::number_in;
 use crate::verb::{Counted, Plain, Takes, takes_of};
+use std::error::Error;
+use std::fmt;
 use teco_core::Reg;
 use teco_telling::Spot;
-use thiserror::Error;
 
 /// What is asked.
 #[derive(Clone, Copy)]
@@ -23,19 +24,39 @@ pub enum Command {
 }
 
 /// Why a line is no command.
-#[derive(Clone, Copy, Debug, Error)]
+#[derive(Clone, Copy, Debug)]
 pub enum Fault {
-    #[error("no such command; help lists them")]
     NoCommand,
-    #[error("a number is wanted")]
     NoNumber,
-    #[error("a register is wanted, A to Z or 0 to 9")]
     NoRegister,
-    #[error("a place is wanted, as LINE:COLUMN")]
     NoPlace,
-    #[error("nothing is wanted after this command")]
     TooMuch,
 }
+
+impl Fault {
+    /// The fault in words.
+    fn words(self) -> &'static str
+        ensures { result.now ≡ words_of self }
+    {
+        match self {
+            Fault::NoCommand => "no such command; help lists them",
+            Fault::NoNumber => "a number is wanted",
+            Fault::NoRegister => "a register is wanted, A to Z or 0 to 9",
+            Fault::NoPlace => "a place is wanted, as LINE:COLUMN",
+            Fault::TooMuch => "nothing is wanted after this command",
+        }
+    }
+}
+
+impl fmt::Display for Fault {
+    ghost output = { λ fault. Some (words_of fault) };
+
+    fn fmt<W: fmt::Write>(&self, f: &mut fmt::Formatter<W>) -> fmt::Result {
+        f.write_str(self.words())
+    }
+}
+
+impl Error for Fault {}
 
 fn after_blanks(bytes: &[u8]) -> &[u8]
     ensures { result.now ≡ without_blanks_before bytes.now }

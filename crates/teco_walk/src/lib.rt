@@ -8,6 +8,6 @@ mod verb;
 mod walk;
 
 pub use command::{Command, Fault};
-pub use finding::{Part, last_change};
+pub use finding::Part;
 pub use verb::{Counted, Plain, VERBS, VerbRow};
 pub use walk::{Seen, Walk};

@@ -1,10 +1,12 @@
 //! A walk over the steps of a command string.
-ghost use Rattle.std.specs.Prelude.{◌≡◌, ◌↔◌, None, ℕ, ◌≤◌, ◌<◌, OnOk, OnErr, IfOk, IfSome, length, vec_len};
+ghost use Rattle.std.specs.Prelude.{◌≡◌, ◌↔◌, ◌+◌, None, ℕ, ◌≤◌, ◌<◌, OnOk, OnErr, IfNone, IfOk, IfSome, length, vec_len};
 ghost use Rattle.teco_core.specs.declared.limits.TheConstants.{FILE_LIMIT};
 ghost use Rattle.teco_exec.specs.Telling.{IsLastPlace};
 ghost use Rattle.teco_store.specs.State.{beginning, state_of};
+ghost use Rattle.teco_walk.specs.Finding.{IsAsNowFrom, last_change};
 ghost use Rattle.teco_walk.specs.Walk.{SameString, lacks_memory, meant, state_there};
 
+use crate::finding::{Part, last_change};
 use std::alloc::Global;
 use std::marker::Model;
 use teco_core::{Code, NoMemory};
@@ -111,6 +113,19 @@ impl Walk {
             return &[];
         }
         self.session.entry(0)
+    }
+
+    /// The steps that were done before the last change that is for a part of the state, where one is. Takes no memory.
+    pub fn last_change(&self, part: &Part) -> Option<u64>
+        ensures value { result ≡ last_change part.now self.now.changes }
+        ensures made { IfSome result (λ n. n < self.now.steps) }
+
+        // Since then it is as it is now, and always where no change is found.
+        ensures since { IfSome result (λ n. IsAsNowFrom (n + 1) part.now self.now) }
+        ensures ever { IfNone result (IsAsNowFrom 0 part.now self.now) }
+    {
+        let _leads = self.session.editor();
+        last_change(part, self.changes())
     }
 
     /// Goes to the state after the first `n` steps of the string, or after all that it takes where those are fewer. Going back takes
