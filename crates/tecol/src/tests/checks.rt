@@ -1,0 +1,131 @@
+//! What a check tells of a source: each sentence of a fault and of a hint, and its place in the source.
+use super::rows::{Wanted, all_make};
+use std::test::*;
+use teco_keep::Mode;
+
+/// A source with a fault, and the lines that tell of it.
+const FAULTS: &str = "
+    - // No command, and modifiers that a command doesn't take.
+    - Y\n\t{J$$ => -:2:2: ILL: no command begins with {\n
+    - E9$$ => -:1:1: ILL: no command begins with E9\n
+    - @Y$$ => -:1:1: ILL: Y takes no @\n
+    - J:K$$ => -:1:2: ILL: K takes no colon\n
+    - ::Na$$ => -:1:1: ILL: N takes no two colons\n
+    - @:Y$$ => -:1:1: ILL: Y does not take these modifiers\n
+    - @@Ia/$$ => -:1:1: ILL: one @ and two colons at most\n
+    - :::Sa$$ => -:1:1: ILL: one @ and two colons at most\n
+    - // A register and a test.
+    - 1:Q?$$ => -:1:2: IQN: after :Q comes a register, A to Z or 0 to 9\n
+    - 1\"Q2'$$ => -:1:2: IQC: after \" comes a letter of E F U N G L S T A D R V W\n
+    - // A text without its end.
+    - J Iab => -:1:3: UTC: the text of I has no ESC\n-:1:6: hint: this is not run: two ESC end a command string\n
+    - :Sab => -:1:1: UTC: the text of :S has no ESC\n-:1:5: hint: this is not run: two ESC end a command string\n
+    - @I/ab$$ => -:1:1: UTC: the text of @I does not end with the byte it begins with\n
+    - FSab$$J$$ => -:1:1: UTC: the second text of FS has no ESC; two ESC end the command string\n
+    - FSab => -:1:1: UTC: the text of FS has no ESC\n-:1:5: hint: this is not run: two ESC end a command string\n
+    - ^Aab$$ => -:1:1: UTC: the text of ^A has no ^A\n
+    - ^~Aab$$ => -:1:1: UTC: the text of ^A has no ^A\n
+    - J!a$$ => -:1:2: UTC: the tag has no ! after its name\n
+    - JQ => -:1:2: UTC: the text ends inside a command\n-:1:3: hint: this is not run: two ESC end a command string\n
+    - 1\" => -:1:2: UTC: the text ends inside a command\n-:1:3: hint: this is not run: two ESC end a command string\n
+    - // Marks that close or divide nothing, or another block than they could.
+    - > => -:1:1: BNI: > has no <\n-:1:2: hint: this is not run: two ESC end a command string\n
+    - J'$$ => -:1:2: ILL: ' has no \"\n
+    - | => -:1:1: ILL: | has no \"\n-:1:2: hint: this is not run: two ESC end a command string\n
+    - 1\"E2<'$$ => -:1:6: ILL: ' closes < at 1:5\n
+    - \n1\"E2>'$$ => -:2:5: BNI: > closes \"E at 2:2\n
+    - 2<|>$$ => -:1:3: ILL: | divides < at 1:2\n
+    - 1\"E|2|'$$ => -:1:6: ILL: a second | in the conditional at 1:2\n
+    - // Blocks that cross, and blocks that don't close.
+    - 1<1\"G1=>'$$ => -:1:8: BNI: > closes \"G at 1:4\n
+    - Y<J$$ => -:1:2: UTC: < has no >\n
+    - 0\"NJ$$ => -:1:2: UTC: \"N has no '\n
+    - <<<<<<<<<<<<<<<<<<<<<<<<<<<<<<<<<<<<<<<<<<<<<<<<<<<<<<<<<<<<<<<<<$$ => -:1:65: PDO: more than 64 blocks are open\n
+    - // A jump to no tag that it can reach.
+    - Oout$!in!$$ => -:1:1: TAG: no tag !out! is in this list or one around it\n
+    - Ox$1<!x!1=>$$ => -:1:1: TAG: no tag !x! is in this list or one around it\n
+    - // What can't be followed.
+    - J XA MA$$ => -:1:3: not checked: XA puts what no check can see into a register that is called\n
+    - MA]A$$ => -:1:3: not checked: ]A puts what no check can see into a register that is called\n
+    - // In a text that is called, and in one inside of it.
+    - @^UA/J Q?/MA$$ => -:1:8: IQN: after Q comes a register, A to Z or 0 to 9\n
+    - @^UA/@^UB+1<+ MB/MA$$ => -:1:12: UTC: < has no >\n
+    - // In a part that isn't run, after an exit, in another string, and after the last pair.
+    - 0\"N{'$$ => -:1:4: ILL: no command begins with {\n
+    - EX$$ 1=$$ Q?$$ => -:1:11: IQN: after Q comes a register, A to Z or 0 to 9\n
+    - YEX$$> => -:1:6: BNI: > has no <\n-:1:7: hint: this is not run: two ESC end a command string\n
+    - // Several in a string, and after one that leaves nothing to tell there.
+    - Q? { 1\"QJ' Oa$ 1=$$ => -:1:1: IQN: after Q comes a register, A to Z or 0 to 9\n-:1:4: ILL: no command begins with {\n-:1:7: IQC: after \" comes a letter of E F U N G L S T A D R V W\n-:1:12: TAG: no tag !a! is in this list or one around it\n
+    - > Iab => -:1:1: BNI: > has no <\n-:1:3: UTC: the text of I has no ESC\n-:1:6: hint: this is not run: two ESC end a command string\n
+    - <J$$ {$$ }J$$ => -:1:1: UTC: < has no >\n-:1:10: ILL: no command begins with }\n
+    - // Ten digits ask no undo.
+    - 1234567890{$$ => -:1:11: ILL: no command begins with {\n
+    - // What TECO-11 has besides, with the operands that it takes.
+    - Y 1\"=J' {$$ => -:1:4: IQC: \"= of TECO-11 is left out: it tests for 0; here: \"E\n-:1:9: ILL: no command begins with {\n
+    - :XA {$$ => -:1:1: ILL: :X of TECO-11 is left out: it appends lines to a register; here: Gq and Xq over both\n-:1:5: ILL: no command begins with {\n
+    - ERfile>$ {$$ => -:1:1: ILL: ER of TECO-11 is left out: it opens an input file; here: give it as INPUT on the command line\n-:1:10: ILL: no command begins with {\n
+    - f_a>$b>$ {$$ => -:1:1: ILL: F_ of TECO-11 is left out: it replaces, and drops the pages; here: _one$ and then -nD Itwo$\n-:1:10: ILL: no command begins with {\n
+    - :^UAa>$ {$$ => -:1:1: ILL: :^U of TECO-11 is left out: it appends a text to a register; here: Gq, the text by I, and Xq over both\n-:1:9: ILL: no command begins with {\n
+    - ^B {$$ => -:1:1: ILL: ^B of TECO-11 is left out: it gives the date; here: leave it out\n-:1:4: ILL: no command begins with {\n
+    - ^~b {$$ => -:1:1: ILL: ^B of TECO-11 is left out: it gives the date; here: leave it out\n-:1:5: ILL: no command begins with {\n";
+
+/// A source without a fault, and the lines of its hints.
+const HINTS: &str = "
+    - // Nothing is told of a source that reads a page and writes it, nor of requests.
+    - Y$$ 2{$$ }$$ 12~$$\nEX$$ =>\x20
+    -  =>\x20
+    - Y<<<<<<<<<<<<<<<<<<<<<<<<<<<<<<<<<<<<<<<<<<<<<<<<<<<<<<<<<<<<<<<<>>>>>>>>>>>>>>>>>>>>>>>>>>>>>>>>>>>>>>>>>>>>>>>>>>>>>>>>>>>>>>>>EX$$ =>\x20
+    - YEX;$$ => -:1:4: hint: EX ends the run before this\n
+    - Y1;<1;>EX$$ => -:1:3: hint: ; is in no iteration of this text, which is SNI\n
+    - YJS^~ED$EX$$ => -:1:3: hint: a caret in a search text is a caret, and no control byte\n
+    - Y@FS/^~Q+/x/EX$$ => -:1:2: hint: a caret in a search text is a caret, and no control byte\n
+    - YS^ED$S^~+$I^~A$EX$$ =>\x20
+    - Y2Oa$!a!EX$$ => -:1:3: hint: nO of TECO-11 is left out: it chooses a tag by a number; here: a test before each jump\n
+    - YMAMAMBEX$$ => -:1:2: hint: A is called, and nothing puts a text into it\n-:1:6: hint: B is called, and nothing puts a text into it\n
+    - Y@^UA/J/MAEX$$ =>\x20
+    - // An empty text by two ESC, and one that isn't.
+    - YI$$EX$$ => -:1:2: hint: the text is empty: two ESC end the command string\n
+    - Y^UA$$EX$$ => -:1:2: hint: the text is empty: two ESC end the command string\n
+    - YI$J$$@I//$$Ia$$EX$$ =>\x20
+    - // What is not run.
+    - YEX$$1= => -:1:8: hint: this is not run: two ESC end a command string\n
+    - YEX$$I$ => -:1:8: hint: this is not run: it ends with one ESC, and wants two\n
+    - YEX$$ \n =>\x20
+    - // What the whole lacks.
+    - Y$$ => -:1:4: hint: no EX: nothing is written\n
+    - EX$$ => -:1:5: hint: no page is read: Y reads the first\n
+    - AEX$$PEX$$NaEX$$ =>\x20
+    - 0AEX$$ => -:1:7: hint: no page is read: Y reads the first\n
+    - 1= => -:1:3: hint: this is not run: two ESC end a command string\n-:1:3: hint: no page is read: Y reads the first\n-:1:3: hint: no EX: nothing is written\n";
+
+/// Bytes and what is told of them: the places are those of the bytes.
+const BYTES: &str = "
+    - Y\nEX>\x1b\x1b => -:2:3: BNI: > has no <\n";
+
+#[test]
+fn a_check_tells(rt: HostRuntime) {
+    all_make(
+        &rt,
+        rt.alloc(),
+        Mode::CheckSource,
+        false,
+        Wanted::Faulty,
+        FAULTS,
+    );
+    all_make(
+        &rt,
+        rt.alloc(),
+        Mode::CheckSource,
+        false,
+        Wanted::Fine,
+        HINTS,
+    );
+    all_make(
+        &rt,
+        rt.alloc(),
+        Mode::CheckBytes,
+        false,
+        Wanted::Faulty,
+        BYTES,
+    );
+}
