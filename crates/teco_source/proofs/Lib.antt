@@ -7,3 +7,4 @@ pub mod LayoutLaws
 pub mod Places
 pub mod Placements
 mod SourceRows
+pub mod PlaceLaws

@@ -1,8 +1,9 @@
 -- What holds of sources: comments and layout don't change what a source stands for.
-use Rattle.std.specs.Prelude.{◌≡◌, ℕ, suc, ◌≤◌, Bool, true, false, not, ◌&&◌, List, [], ◌∷◌, ◌++◌, take, Option, Some, None, Result, Ok, Err, is_ok, ◌==◌}
+use Rattle.std.specs.Prelude.{◌≡◌, ℕ, suc, ◌≤◌, Bool, true, false, not, ◌&&◌, List, [], ◌∷◌, ◌++◌, length, nat_le, nat_lt, take, Option, Some, None, Result, Ok, Err, is_ok, ◌==◌}
 use Rattle.std.specs.List.{list_all}
 use Rattle.teco_source.specs.declared.reader.Mode.TheVariants.{Text}
 use Rattle.teco_source.specs.Source.{is_blank, ends_line, start, run, commands_of}
+use Rattle.teco_source.specs.Places.{places_of}
 
 -- the bytes, if the source is read
 abbrev pub bytes_in : Result (List ℕ) ℕ → Option (List ℕ)
@@ -51,3 +52,17 @@ BreaksAreNothing = (front back : List ℕ) → (run start front).mode ≡ Text �
 abbrev pub PlacesAreFirst : Type 0
 PlacesAreFirst = (source : List ℕ) (at : ℕ) → commands_of source ≡ Err at
     → (is_ok (commands_of (take at source)) ≡ true) × ((n : ℕ) → suc at ≤ n → commands_of (take n source) ≡ Err at)
+
+-- Each place is past the one before it, and the first is this one or later.
+abbrev pub is_rising : ℕ → List ℕ → Bool
+is_rising low [] = true
+is_rising low (p ∷ ps) = nat_le low p && is_rising (suc p) ps
+
+-- Each byte of the commands has its place, which is one of the source, and a later byte has a later place.
+pub record PlacesRise (source : List ℕ) : Type 0 where
+  pub rises : is_rising 0 (places_of source) ≡ true
+  pub inside : list_all (λ p. nat_lt p (length source)) (places_of source) ≡ true
+  pub each : (commands : List ℕ) → commands_of source ≡ Ok commands → length commands ≤ length (places_of source)
+
+abbrev pub PlacesGrow : Type 0
+PlacesGrow = (source : List ℕ) → PlacesRise source

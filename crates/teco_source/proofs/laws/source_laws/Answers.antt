@@ -1,4 +1,5 @@
 use Rattle.teco_source.proofs.LayoutLaws.{comments_are_nothing, comment_lines_are_nothing, blanks_are_nothing, margins_are_nothing, breaks_are_nothing}
+use Rattle.teco_source.proofs.PlaceLaws.{places_grow}
 use Rattle.teco_source.proofs.Places.{places_are_first}
 use Rattle.teco_source.proofs.laws.source_laws.Goals as goal
 
@@ -10,4 +11,5 @@ returns c = record {
   margins = margins_are_nothing;
   breaks = breaks_are_nothing;
   places = places_are_first;
+  grow = places_grow;
 }
