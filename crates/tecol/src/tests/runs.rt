@@ -114,7 +114,7 @@ static DONE: [Row<'static>; 7] = [
     (
         Run {
             words: "tecol --version",
-            typed: "tecol 0.1.0\n",
+            typed: "tecol 0.2.0\n",
             ..TYPES
         },
         &[],
