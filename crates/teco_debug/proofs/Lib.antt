@@ -1,0 +1,2 @@
+pub mod CallLines
+pub mod LineEnds

@@ -9,6 +9,7 @@ use std::io::BufRead;
 use teco_core::NoMemory;
 use teco_exec::Place;
 use teco_step::{Terminal, TerminalFault};
+use teco_store::Desk;
 use teco_telling::{Spot, spell, spot_of};
 use teco_walk::{Command, Counted, Part, Plain, VERBS, VerbRow, Walk};
 
@@ -142,6 +143,11 @@ impl Debugger {
         }
     }
 
+    fn show_where(&self, out: &mut String) -> Result<(), NoMemory> {
+        let seen = self.walk.look(self.walk.steps())?;
+        show_where(out, &self.walk, &seen)
+    }
+
     fn show_typed(&self, out: &mut String) -> Result<(), NoMemory> {
         let seen = self.walk.look(self.walk.steps())?;
         spell(out, seen.typed.as_slice())?;
@@ -152,8 +158,8 @@ impl Debugger {
         match plain {
             Plain::End => self.go(out, self.limit),
             Plain::Start => self.go(out, 0),
-            Plain::Where => show_where(out, &self.walk),
-            Plain::Registers => show_registers(out, self.walk.editor()),
+            Plain::Where => self.show_where(out),
+            Plain::Registers => show_registers(out, self.walk.editor().registers()),
             Plain::State => show_state(out, self.walk.editor()),
             Plain::Continue => self.go_on(out),
             Plain::Typed => self.show_typed(out),
@@ -184,7 +190,7 @@ impl Debugger {
         match command {
             Command::Plain(plain) => self.answer_plain(out, plain),
             Command::Counted(counted, n) => self.answer_counted(out, counted, n),
-            Command::Register(q) => show_register(out, self.walk.editor(), q),
+            Command::Register(q) => show_register(out, self.walk.editor().registers(), q),
             Command::Find(part) => self.find(out, part),
             Command::Break(spot) => {
                 self.stop = Some(spot);
