@@ -1,5 +1,5 @@
 -- Reading one token from the front of bytes.
-use Rattle.std.specs.Prelude.{ℕ, option_and_then, ◌+◌, Bool, true, false, ◌&&◌, ◌||◌, not, List, [], ◌∷◌, Option, Some, None, Result, Ok, Err, nat_le, ◌==◌, if◌then◌else◌}
+use Rattle.std.specs.Prelude.{ℕ, option_and_then, ◌+◌, Bool, true, false, ◌&&◌, ◌||◌, not, List, [], ◌∷◌, codes, Option, Some, None, Result, Ok, Err, nat_le, ◌==◌, if◌then◌else◌}
 use Rattle.teco_core.specs.declared.code.Code.{Code}
 use Rattle.teco_core.specs.declared.code.Code.TheVariants.{Ill, Iqn, Iqc, Utc}
 use Rattle.teco_core.specs.Refusal.{◌>>=◌}
@@ -46,16 +46,23 @@ pub record TokenMeaning : Type 0 where
 abbrev pub Reading : Type 0 → Type 0
 Reading A = Result (A × List ℕ) Code
 
+-- whether a byte is one of these letters
+abbrev pub is_one_of : List ℕ → ℕ → Bool
+is_one_of [] b = false
+is_one_of (letter ∷ letters) b = (b == letter) || is_one_of letters b
+
+-- the test that a capital names
 abbrev pub test_named : ℕ → Option Test
 test_named b =
-    if b == 69 then Some tests.Zero
-    else (if b == 70 then Some tests.Zero else (if b == 85 then Some tests.Zero
-    else (if b == 78 then Some tests.NotZero else (if b == 71 then Some tests.Above
-    else (if b == 76 then Some tests.Below
-    else (if b == 83 then Some tests.Below else (if b == 84 then Some tests.Below
-    else (if b == 65 then Some tests.Letter
-    else (if b == 68 then Some tests.Digit else (if b == 82 then Some tests.LetterOrDigit
-    else (if b == 86 then Some tests.Lower else (if b == 87 then Some tests.Upper else None))))))))))))
+    if is_one_of (codes "EFU") b then Some tests.Zero
+    else (if is_one_of (codes "N") b then Some tests.NotZero
+    else (if is_one_of (codes "G") b then Some tests.Above
+    else (if is_one_of (codes "LST") b then Some tests.Below
+    else (if is_one_of (codes "A") b then Some tests.Letter
+    else (if is_one_of (codes "D") b then Some tests.Digit
+    else (if is_one_of (codes "R") b then Some tests.LetterOrDigit
+    else (if is_one_of (codes "V") b then Some tests.Lower
+    else (if is_one_of (codes "W") b then Some tests.Upper else None))))))))
 
 -- the test of a letter of either case
 unfoldable pub test_of : ℕ → Option Test

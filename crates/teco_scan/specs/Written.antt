@@ -123,19 +123,26 @@ pub record MarksAreSpelled : Type 0 where
   pub marks_hold_a_tag : IsToken (codes "!x!") (plain (tag (codes "x")))
   pub escape_is_a_token : IsToken (27 ∷ []) (plain escape)
 
+-- a command's name in letters: a control byte as a caret and its letter
+abbrev pub letters : Name → List ℕ
+letters (One a) = a ∷ []
+letters (Two a b) = a ∷ b ∷ []
+letters (Three a b c) = a ∷ b ∷ c ∷ []
+letters (Control a) = codes "^" ++ a ∷ []
+
 -- the names of the rows before which an @ may stand, and of those before which so many colons may
-abbrev pub admit_at : List Name
-admit_at = map (λ r. r.name) (filter (λ r. r.allows.at) ROWS)
+abbrev pub admit_at : List (List ℕ)
+admit_at = map (λ r. letters r.name) (filter (λ r. r.allows.at) ROWS)
 
-abbrev pub admit_colons : ℕ → List Name
-admit_colons n = map (λ r. r.name) (filter (λ r. nat_le n r.allows.colons) ROWS)
+abbrev pub admit_colons : ℕ → List (List ℕ)
+admit_colons n = map (λ r. letters r.name) (filter (λ r. nat_le n r.allows.colons) ROWS)
 
--- Which commands admit modifiers, by their names' letters in the order of the rows; no other does.
+-- Which commands admit modifiers, in the order of the rows; no other does.
 pub record ModifiersAreAdmitted : Type 0 where
-  pub at : admit_at ≡ Three 61 61 61 ∷ Control 85 ∷ One 79 ∷ One 73 ∷ One 83 ∷ One 78 ∷ One 95 ∷ Two 70 83
-      ∷ Control 65 ∷ []
-  pub one_colon : admit_colons 1 ≡ Three 61 61 61 ∷ Two 61 61 ∷ One 61 ∷ One 81 ∷ One 71 ∷ One 83 ∷ One 78
-      ∷ One 95 ∷ Two 70 83 ∷ []
-  pub two_colons : admit_colons 2 ≡ Three 61 61 61 ∷ One 83 ∷ []
+  pub at : admit_at ≡ codes "===" ∷ codes "^U" ∷ codes "O" ∷ codes "I" ∷ codes "S" ∷ codes "N" ∷ codes "_"
+      ∷ codes "FS" ∷ codes "^A" ∷ []
+  pub one_colon : admit_colons 1 ≡ codes "===" ∷ codes "==" ∷ codes "=" ∷ codes "Q" ∷ codes "G" ∷ codes "S"
+      ∷ codes "N" ∷ codes "_" ∷ codes "FS" ∷ []
+  pub two_colons : admit_colons 2 ≡ codes "===" ∷ codes "S" ∷ []
   pub no_more : admit_colons 3 ≡ []
   pub colon_Q_is_a_length : IsToken (codes ":Qa") (colon (step (register registers.Number 0)))

@@ -14,14 +14,10 @@ fn test_of(b: u8) -> Option<Test>
     ensures { result ≡ test_of b }
 {
     match b.to_ascii_uppercase() {
-        b'E' => Some(Test::Zero),
-        b'F' => Some(Test::Zero),
-        b'U' => Some(Test::Zero),
+        b'E' | b'F' | b'U' => Some(Test::Zero),
         b'N' => Some(Test::NotZero),
         b'G' => Some(Test::Above),
-        b'L' => Some(Test::Below),
-        b'S' => Some(Test::Below),
-        b'T' => Some(Test::Below),
+        b'L' | b'S' | b'T' => Some(Test::Below),
         b'A' => Some(Test::Letter),
         b'D' => Some(Test::Digit),
         b'R' => Some(Test::LetterOrDigit),
