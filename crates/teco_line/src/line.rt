@@ -309,5 +309,5 @@ mod streams;
 mod values;
 
 pub use pages::commands_on_pages;
-pub use refusal::{Refusal, RefusedAs, faulty, refused_status};
+pub use refusal::{Refusal, RefusedAs, faulty, refused_by, refused_status};
 pub use streams::{is_standard_input, is_standard_output};

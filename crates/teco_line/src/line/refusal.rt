@@ -5,7 +5,7 @@ ghost use Rattle.teco_line.specs.Refusals.{IsFaulty, IsToldAs, status_of};
 
 use clap::error::ErrorKind;
 use std::alloc::Global;
-use std::fmt::Write;
+use std::fmt::{Display, Write};
 use teco_core::NoMemory;
 
 /// What a line is that the parser does not take.
@@ -41,20 +41,27 @@ fn refused_as(kind: ErrorKind) -> RefusedAs
     }
 }
 
-fn text_of(alloc: Global, error: &clap::Error) -> Result<String, NoMemory> {
+fn text_of<E: Display>(alloc: Global, error: &E) -> Result<String, NoMemory> {
     let mut text = String::new(alloc);
     write!(text, "{error}")?;
     Ok(text)
+}
+
+/// The refusal of a line that is this, with the parser's text.
+pub fn refused_by<E: Display>(alloc: Global, refused_as: RefusedAs, error: &E) -> Refusal
+    ensures { result.refused_as ≡ refused_as }
+{
+    Refusal {
+        refused_as,
+        text: text_of(alloc, error).ok(),
+    }
 }
 
 /// The refusal that the parser's error tells.
 pub(crate) fn refusal_of(alloc: Global, error: &clap::Error) -> Refusal
     ensures { IsToldAs result.refused_as (kind_of error.now) }
 {
-    Refusal {
-        refused_as: refused_as(error.kind()),
-        text: text_of(alloc, error).ok(),
-    }
+    refused_by(alloc, refused_as(error.kind()), error)
 }
 
 /// The refusal of a faulty line: why, and the usage of its program, in the form of the parser's own texts.
