@@ -23,7 +23,7 @@ use Rattle.teco_line.specs.declared.line.LineFault.TheVariants.{NoMemory, Refuse
 use Rattle.teco_line.specs.declared.line.refusal.Refusal.{Refusal}
 use Rattle.teco_line.specs.declared.line.refusal.RefusedAs.{RefusedAs}
 use Rattle.teco_line.specs.declared.line.refusal.RefusedAs.TheVariants.{Faulty}
-use Rattle.teco_keep.specs.CommandLine.{GivesLine, IsError, SayLine, SayNoLine, GivesNoLine, IsRefusedLine, tecol_app}
+use Rattle.teco_keep.specs.CommandLine.{GivesLine, IsTecolError, SayLine, SayNoLine, GivesNoLine, IsRefusedLine, tecol_app}
 use Rattle.teco_keep.specs.declared.line.Line.{Line}
 
 -- the command is one whose matches the parser's contract says, and no argument has a rule on another
@@ -66,7 +66,7 @@ is_memory kind.OutOfMemory = true
 is_memory _ = false
 
 at_kind : (k : ErrorKind) (words : List Text)
-    → (is_memory k ≡ false → (takes tecol_app words ≡ false) × IsAmong k (fault_of tecol_app words)) → IsError words k
+    → (is_memory k ≡ false → (takes tecol_app words ≡ false) × IsAmong k (fault_of tecol_app words)) → IsTecolError words k
 at_kind kind.OutOfMemory words h = inl refl
 at_kind _ words h = inr (inl (h refl))
 

@@ -77,8 +77,8 @@ GivesNoLine rows (line_fault.Refused refusal) = SaysBoth rows × (refusal.refuse
 
 -- Why a line is refused, by the kind of an error of the parser: it wants memory; or these words have an error of that
 -- kind, and it does not take them; or it takes them, but what they say doesn't go together.
-abbrev pub IsError : List Text → ErrorKind → Type 0
-IsError words error = (error ≡ kind.OutOfMemory)
+abbrev pub IsTecolError : List Text → ErrorKind → Type 0
+IsTecolError words error = (error ≡ kind.OutOfMemory)
     ⊎ (((takes tecol_app words ≡ false) × IsAmong error (fault_of tecol_app words))
     ⊎ ((fault_of tecol_app words ≡ [])
     × (SaysBoth (matches_of tecol_app words) × (error ≡ kind.ArgumentConflict))))
@@ -86,7 +86,7 @@ IsError words error = (error ≡ kind.OutOfMemory)
 -- A line is refused for such an error, and told as what that is.
 pub record IsRefusedLine (words : List Text) (refusal : Refusal) : Type 0 where
   pub error : ErrorKind
-  pub error_is : IsError words error
+  pub error_is : IsTecolError words error
   pub told : IsToldAs refusal.refused_as error
 
 -- Why the words gave no line: memory was refused, or the line is.

@@ -30,7 +30,7 @@ use Rattle.clap.proofs.CallerLemmas.{default_present, required_has_value}
 use Rattle.clap.proofs.SimpleLemmas.{plain_fields}
 use Rattle.clap.proofs.WalkLemmas.{first_value-rows, one_text-rows}
 use Rattle.teco_core.specs.declared.limits.TheConstants.{DEPTH_LIMIT}
-use Rattle.teco_line.specs.CommandLine.{HasLine, IsCommandsFault, IsError, IsFaultOnceMade, IsGiven, IsLineBy, IsLineFault, IsMisfit, IsNumber, IsReadFault, IsRefusal, number_of, teco_app}
+use Rattle.teco_line.specs.CommandLine.{HasLine, IsCommandsFault, IsTecoError, IsFaultOnceMade, IsGiven, IsLineBy, IsLineFault, IsMisfit, IsNumber, IsReadFault, IsRefusal, number_of, teco_app}
 use Rattle.teco_line.specs.Conflict.{has_conflict}
 use Rattle.teco_line.specs.Joining.{joined}
 use Rattle.teco_line.specs.Refusals.{IsToldAs}
@@ -99,7 +99,7 @@ is_memory kind.OutOfMemory = true
 is_memory _ = false
 
 at_kind : (k : ErrorKind) (words : List Text)
-    → (is_memory k ≡ false → (takes teco_app words ≡ false) × IsAmong k (fault_of teco_app words)) → IsError words k
+    → (is_memory k ≡ false → (takes teco_app words ≡ false) × IsAmong k (fault_of teco_app words)) → IsTecoError words k
 at_kind kind.OutOfMemory words h = inl refl
 at_kind _ words h = inr (inl (h refl))
 

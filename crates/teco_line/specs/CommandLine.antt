@@ -176,8 +176,8 @@ IsMisfit line (Refused refusal) = (has_conflict line ≡ true) × (refusal.refus
 
 -- Why a line is refused, by the kind of an error of the parser: it wants memory; or these words have an error of that
 -- kind, and it does not take them; or it takes them, but what they say doesn't go together.
-abbrev pub IsError : List Text → ErrorKind → Type 0
-IsError words error = (error ≡ kind.OutOfMemory)
+abbrev pub IsTecoError : List Text → ErrorKind → Type 0
+IsTecoError words error = (error ≡ kind.OutOfMemory)
     ⊎ (((takes teco_app words ≡ false) × IsAmong error (fault_of teco_app words))
     ⊎ ((fault_of teco_app words ≡ [])
     × (SaysConflict (matches_of teco_app words) × (error ≡ kind.ArgumentConflict))))
@@ -185,7 +185,7 @@ IsError words error = (error ≡ kind.OutOfMemory)
 -- A line is refused for such an error, and told as what that is.
 pub record IsRefusal (words : List Text) (refusal : Refusal) : Type 0 where
   pub error : ErrorKind
-  pub error_is : IsError words error
+  pub error_is : IsTecoError words error
   pub told : IsToldAs refusal.refused_as error
 
 -- Why the words gave no line: memory was refused, or the line is.

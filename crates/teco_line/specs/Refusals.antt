@@ -16,11 +16,11 @@ IsToldAs NoMemory k = k ≡ kind.OutOfMemory
 IsToldAs Faulty k = (k ≢ kind.DisplayHelp) × (k ≢ kind.DisplayVersion) × (k ≢ kind.OutOfMemory)
 
 -- 3, or 0 where the line asks for the help or the version
-abbrev pub status_of : RefusedAs → ℕ
-status_of Help = 0
-status_of Version = 0
-status_of Faulty = 3
-status_of NoMemory = 3
+abbrev pub status_of_refusal : RefusedAs → ℕ
+status_of_refusal Help = 0
+status_of_refusal Version = 0
+status_of_refusal Faulty = 3
+status_of_refusal NoMemory = 3
 
 -- the text of a faulty line of a program with this usage
 abbrev pub fault_text : List ℕ → List ℕ → List ℕ

@@ -27,11 +27,11 @@ IsAnswered text old new status = ((status ≡ 0) × Shows old new text false)
 
 -- What was asked for is shown on the terminal, and standard error stays as it is. Where memory was refused for its
 -- text, that is told on standard error, and the status is 1.
-abbrev pub Answers : {T E : Type 0} → (T → Screen) → (E → Screen) → List ℕ → Option (String Global) → T → T → E → E
+abbrev pub ShowsAsked : {T E : Type 0} → (T → Screen) → (E → Screen) → List ℕ → Option (String Global) → T → T → E → E
     → ℕ → Type 0
-Answers screen errors no_memory (Some text) old new told telling status =
+ShowsAsked screen errors no_memory (Some text) old new told telling status =
     IsAnswered (string_bytes text) (screen old) (screen new) status × (telling ≡ told)
-Answers screen errors no_memory None old new told telling status =
+ShowsAsked screen errors no_memory None old new told telling status =
     (status ≡ 1) × (new ≡ old) × Tells (errors told) (errors telling) no_memory
 
 -- What is done of a refusal, by what the line is: the help and the version are shown. Of any other line it is told on
@@ -39,9 +39,9 @@ Answers screen errors no_memory None old new told telling status =
 abbrev pub IsRefused : {T E : Type 0} → (T → Screen) → (E → Screen) → List ℕ → RefusedAs → Option (String Global) → T → T
     → E → E → ℕ → Type 0
 IsRefused screen errors no_memory Help text old new told telling status =
-    Answers screen errors no_memory text old new told telling status
+    ShowsAsked screen errors no_memory text old new told telling status
 IsRefused screen errors no_memory Version text old new told telling status =
-    Answers screen errors no_memory text old new told telling status
+    ShowsAsked screen errors no_memory text old new told telling status
 IsRefused screen errors no_memory Faulty text old new told telling status =
     (status ≡ 3) × (new ≡ old) × TellsText no_memory text (errors told) (errors telling)
 IsRefused screen errors no_memory NoMemory text old new told telling status =

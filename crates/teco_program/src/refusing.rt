@@ -1,7 +1,6 @@
 //! What is told of a line that is refused, and with which status.
 ghost use Rattle.std.specs.Prelude.{◌≡◌};
-ghost use Rattle.teco_line.specs.Refusals.{status_of};
-ghost use Rattle.teco_program.specs.Refusing.{Answers, IsRefusedBy, TellsText};
+ghost use Rattle.teco_program.specs.Refusing.{IsRefusedBy, ShowsAsked, TellsText};
 
 use teco_line::{LineFault, Refusal, RefusedAs, refused_status};
 use teco_step::{Terminal, TerminalFault};
@@ -23,7 +22,7 @@ fn answer<T: Terminal, E: Terminal>(
     term: &mut T,
     errors: &mut E,
 ) -> u8
-    ensures { Answers T.screen E.screen no_memory.now refusal.now.text term.old term.new errors.old errors.new result }
+    ensures { ShowsAsked T.screen E.screen no_memory.now refusal.now.text term.old term.new errors.old errors.new result }
 {
     match &refusal.text {
         Some(text) => match term.put(text.as_bytes()) {

@@ -1,7 +1,7 @@
 //! Why the parser takes no line.
 ghost use Rattle.clap.specs.Words.{kind_of};
 ghost use Rattle.std.specs.Prelude.{◌≡◌, IfOk};
-ghost use Rattle.teco_line.specs.Refusals.{IsFaulty, IsToldAs, status_of};
+ghost use Rattle.teco_line.specs.Refusals.{IsFaulty, IsToldAs, status_of_refusal};
 
 use clap::error::ErrorKind;
 use std::alloc::Global;
@@ -81,7 +81,7 @@ pub fn faulty(alloc: Global, why: &str, usage: &str) -> Result<Refusal, NoMemory
 
 /// The status of a refused line: 3, or 0 where it asks for the help or the version.
 pub fn refused_status(refusal: &Refusal) -> u8
-    ensures { result ≡ status_of refusal.now.refused_as }
+    ensures { result ≡ status_of_refusal refusal.now.refused_as }
 {
     match refusal.refused_as {
         RefusedAs::Help | RefusedAs::Version => 0,
