@@ -17,9 +17,13 @@ use Rattle.clap.specs.declared.error.Error.{Error}
 use Rattle.clap.specs.declared.error.kind.ErrorKind.{ErrorKind}
 use Rattle.clap.specs.declared.error.kind.ErrorKind.TheVariants as kind
 use Rattle.clap.specs.declared.parser.matches.ArgMatches.{ArgMatches}
+use Rattle.teco_line.specs.Refusals.{IsToldAs}
 use Rattle.teco_line.specs.declared.line.LineFault.{LineFault}
 use Rattle.teco_line.specs.declared.line.LineFault.TheVariants.{NoMemory, Refused}
-use Rattle.teco_keep.specs.CommandLine.{GivesLine, SayLine, SayNoLine, GivesNoLine, IsRefusedLine, tecol_app}
+use Rattle.teco_line.specs.declared.line.refusal.Refusal.{Refusal}
+use Rattle.teco_line.specs.declared.line.refusal.RefusedAs.{RefusedAs}
+use Rattle.teco_line.specs.declared.line.refusal.RefusedAs.TheVariants.{Faulty}
+use Rattle.teco_keep.specs.CommandLine.{GivesLine, IsTecolError, SayLine, SayNoLine, GivesNoLine, IsRefusedLine, tecol_app}
 use Rattle.teco_keep.specs.declared.line.Line.{Line}
 
 -- the command is one whose matches the parser's contract says, and no argument has a rule on another
@@ -61,10 +65,10 @@ abbrev is_memory : ErrorKind → Bool
 is_memory kind.OutOfMemory = true
 is_memory _ = false
 
-at_kind : (k : ErrorKind) (words : List Text) (error : Error) → kind_of error ≡ k
-    → (is_memory k ≡ false → (takes tecol_app words ≡ false) × IsAmong (kind_of error) (fault_of tecol_app words)) → IsRefusedLine words error
-at_kind kind.OutOfMemory words error e h = inl e
-at_kind _ words error e h = inr (inl (h refl))
+at_kind : (k : ErrorKind) (words : List Text)
+    → (is_memory k ≡ false → (takes tecol_app words ≡ false) × IsAmong k (fault_of tecol_app words)) → IsTecolError words k
+at_kind kind.OutOfMemory words h = inl refl
+at_kind _ words h = inr (inl (h refl))
 
 not_taken : (b : Bool) (error : Error) → (b ≡ true → kind_of error ≡ kind.OutOfMemory) → is_memory (kind_of error) ≡ false → b ≡ false
 not_taken true error h other = absurd (true≢false (sym (ap is_memory (h refl)) ∙ other))
@@ -74,15 +78,23 @@ among : (kinds : List ErrorKind) (error : Error) → HasKind kinds error → is_
 among kinds error (inl h) other = absurd (true≢false (sym (ap is_memory h) ∙ other))
 among kinds error (inr h) other = h
 
-pub fault_is : (c : Command) (words : List Text) (error : Error) → app_of c ≡ tecol_app
+pub fault_is : (c : Command) (words : List Text) (error : Error) (refusal : Refusal) → app_of c ≡ tecol_app
     → (takes (app_of c) words ≡ true → kind_of error ≡ kind.OutOfMemory) → (is_simple_and_free (app_of c) ≡ true → HasKind (fault_of (app_of c) words) error)
-    → IsRefusedLine words error
-fault_is c words error is passes kinds =
+    → IsToldAs refusal.refused_as (kind_of error) → IsRefusedLine words refusal
+fault_is c words error refusal is passes kinds told =
     let kinds_are : HasKind (fault_of tecol_app words) error = subst (λ a. HasKind (fault_of a words) error) is (kinds (ap is_simple_and_free is ∙ tecol_is_free)) in
-    at_kind (kind_of error) words error refl (λ other. (
-      not_taken (takes tecol_app words) error (λ e. passes (ap (λ a. takes a words) is ∙ e)) other,
-      among (fault_of tecol_app words) error kinds_are other,
-    ))
+    record {
+      error = kind_of error;
+      error_is = at_kind (kind_of error) words (λ other. (
+        not_taken (takes tecol_app words) error (λ e. passes (ap (λ a. takes a words) is ∙ e)) other,
+        among (fault_of tecol_app words) error kinds_are other,
+      ));
+      told = told;
+    }
+
+-- a faulty line is told as an error for what doesn't go together
+told_faulty : (what : RefusedAs) → what ≡ Faulty → IsToldAs what kind.ArgumentConflict
+told_faulty what is = subst (λ (w : RefusedAs). IsToldAs w kind.ArgumentConflict) (sym is) ((λ e. cc), (λ e. cc), (λ e. cc))
 
 -- ---- the line
 
@@ -101,7 +113,11 @@ module _ (c : Command) (m : ArgMatches) (words : List Text) (is : app_of c ≡ t
 
   read_fault_is : (fault : LineFault) → GivesNoLine (rows_of (found_of m)) fault → SayNoLine words fault
   read_fault_is NoMemory h = tt
-  read_fault_is (Refused error) h = inr (inr (words_taken, rw (← rows_are) h))
+  read_fault_is (Refused refusal) h = record {
+    error = kind.ArgumentConflict;
+    error_is = inr (inr (words_taken, (rw (← rows_are) h.0, refl)));
+    told = told_faulty refusal.refused_as h.1;
+  }
 
   pub refused_is : (r : Result Line LineFault) → IfErr r (GivesNoLine (rows_of (found_of m))) → IfErr r (SayNoLine words)
   refused_is (Ok line) h = tt

@@ -6,7 +6,8 @@ use Rattle.std.specs.declared.io.Error.{Error}
 use Rattle.std.specs.declared.io.ErrorKind.{ErrorKind}
 use Rattle.std.specs.declared.io.ErrorKind.TheVariants.{OutOfMemory}
 use Rattle.teco_line.specs.StreamNames.{is_standard_output}
-use Rattle.teco_program.specs.Run.{KeepsDisk, Tells, WritesOutput}
+use Rattle.teco_program.specs.Refusing.{Tells}
+use Rattle.teco_program.specs.Run.{KeepsDisk, WritesOutput}
 use Rattle.teco_program.specs.Seen.{DiskSeen}
 use Rattle.teco_program.proofs.Doings.{kept_same}
 use Rattle.teco_step.specs.Terminal.{Puts, Screen, Shows}

@@ -5,14 +5,17 @@ use Rattle.std.specs.declared.alloc.Global.{Global}
 use Rattle.std.specs.declared.string.String.{String}
 use Rattle.std.specs.declared.vec.Vec.{Vec}
 use Rattle.clap.specs.Simple.{on_top}
-use Rattle.clap.specs.Words.{App, IsAmong, Row, Rule, Text, fault_of, first_of, kind_of, matches_of, new_app, new_rule, one_of, takes}
+use Rattle.clap.specs.Words.{App, IsAmong, Row, Rule, Text, fault_of, first_of, matches_of, new_app, new_rule, one_of, takes}
 use Rattle.clap.specs.declared.builder.action.ArgAction.TheVariants.{Set}
-use Rattle.clap.specs.declared.error.Error.{Error}
+use Rattle.clap.specs.declared.error.kind.ErrorKind.{ErrorKind}
 use Rattle.clap.specs.declared.error.kind.ErrorKind.TheVariants as kind
 use Rattle.teco_line.specs.CommandLine.{with_version}
 use Rattle.teco_line.specs.OptionTable.{flag, with_rules, with_text}
+use Rattle.teco_line.specs.Refusals.{IsToldAs}
 use Rattle.teco_line.specs.declared.line.LineFault.{LineFault}
 use Rattle.teco_line.specs.declared.line.LineFault.TheVariants as line_fault
+use Rattle.teco_line.specs.declared.line.refusal.Refusal.{Refusal}
+use Rattle.teco_line.specs.declared.line.refusal.RefusedAs.TheVariants.{Faulty}
 use Rattle.teco_keep.specs.declared.line.Line.{Line}
 use Rattle.teco_keep.specs.declared.line.Mode.{Mode}
 use Rattle.teco_keep.specs.declared.line.Mode.TheVariants.{Bytes, Listing, Again, CheckSource, CheckBytes}
@@ -70,20 +73,26 @@ SaysBoth rows = IsFlag rows (codes "check") true × IsFlag rows (codes "words") 
 -- Why a parse gives no line: memory was refused, or what it says doesn't go together.
 abbrev pub GivesNoLine : List Row → LineFault → Type 0
 GivesNoLine rows line_fault.NoMemory = ⊤
-GivesNoLine rows (line_fault.Refused error) = SaysBoth rows × (kind_of error ≡ kind.ArgumentConflict)
+GivesNoLine rows (line_fault.Refused refusal) = SaysBoth rows × (refusal.refused_as ≡ Faulty)
 
--- Why a line is refused: the parser wants memory; or it has an error of a kind that these words have, and does not take them; or it
--- takes them, but what they say doesn't go together.
-abbrev pub IsRefusedLine : List Text → Error → Type 0
-IsRefusedLine words error = (kind_of error ≡ kind.OutOfMemory)
-    ⊎ (((takes tecol_app words ≡ false) × IsAmong (kind_of error) (fault_of tecol_app words))
+-- Why a line is refused, by the kind of an error of the parser: it wants memory; or these words have an error of that
+-- kind, and it does not take them; or it takes them, but what they say doesn't go together.
+abbrev pub IsTecolError : List Text → ErrorKind → Type 0
+IsTecolError words error = (error ≡ kind.OutOfMemory)
+    ⊎ (((takes tecol_app words ≡ false) × IsAmong error (fault_of tecol_app words))
     ⊎ ((fault_of tecol_app words ≡ [])
-    × (SaysBoth (matches_of tecol_app words) × (kind_of error ≡ kind.ArgumentConflict))))
+    × (SaysBoth (matches_of tecol_app words) × (error ≡ kind.ArgumentConflict))))
+
+-- A line is refused for such an error, and told as what that is.
+pub record IsRefusedLine (words : List Text) (refusal : Refusal) : Type 0 where
+  pub error : ErrorKind
+  pub error_is : IsTecolError words error
+  pub told : IsToldAs refusal.refused_as error
 
 -- Why the words gave no line: memory was refused, or the line is.
 abbrev pub SayNoLine : List Text → LineFault → Type 0
 SayNoLine words line_fault.NoMemory = ⊤
-SayNoLine words (line_fault.Refused error) = IsRefusedLine words error
+SayNoLine words (line_fault.Refused refusal) = IsRefusedLine words refusal
 
 -- The words, where they were given, say this line.
 abbrev pub SayLineIn : Result (Vec (String Global) Global) LineFault → Line → Type 0

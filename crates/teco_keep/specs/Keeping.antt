@@ -10,7 +10,8 @@ use Rattle.teco_files.specs.Input.{IsFaultOf}
 use Rattle.teco_files.specs.Source.{Gives}
 use Rattle.teco_files.specs.declared.input.InputFault.{InputFault}
 use Rattle.teco_line.specs.StreamNames.{is_standard_input, is_standard_output}
-use Rattle.teco_program.specs.Run.{IsInput, IsStreamed, KeepsDisk, Tells, WritesOutput}
+use Rattle.teco_program.specs.Refusing.{Tells}
+use Rattle.teco_program.specs.Run.{IsInput, IsStreamed, KeepsDisk, WritesOutput}
 use Rattle.teco_program.specs.Runs.{Host, KeepsStream}
 use Rattle.teco_program.specs.Seen.{DiskSeen, SourceView}
 use Rattle.teco_program.specs.Writing.{AddsDrafts, IsWriteError, IsWriting}

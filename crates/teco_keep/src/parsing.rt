@@ -5,13 +5,14 @@ ghost use Rattle.std.specs.String.{string_bytes};
 ghost use Rattle.teco_keep.specs.CommandLine.{GivesLine, IsFlag, SayLine, SayNoLine, GivesNoLine, file_rule, mode_by, tecol_app};
 ghost use Rattle.teco_line.specs.CommandLine.{with_version};
 ghost use Rattle.teco_line.specs.OptionTable.{flag, with_text};
+ghost use Rattle.teco_line.specs.Refusals.{IsFaulty, IsToldAs};
 
 use crate::line::{Line, Mode};
 use clap::error::ErrorKind;
 use clap::{Arg, ArgAction, ArgMatches, Command};
 use std::alloc::Global;
 use teco_core::NoMemory;
-use teco_line::{LineFault, VERSION};
+use teco_line::{LineFault, Refusal, RefusedAs, VERSION, faulty, refused_by};
 
 /// What the help says after the options.
 const AFTER_HELP: &str =
@@ -19,6 +20,9 @@ const AFTER_HELP: &str =
 and !! begins a comment after a blank or at the beginning of a line. What a check tells is a line for
 each fault and each hint: FILE:LINE:COLUMN: ILL: .. or FILE:LINE:COLUMN: hint: ..
 Status: 0; 1 a file or memory failed; 2 a fault was found, or a source can't be read; 3 a faulty line.";
+
+/// The usage, which the help and each faulty line show.
+const USAGE: &str = "tecol [OPTIONS] [FILE]";
 
 fn flag_arg<'a>(alloc: Global, name: &'static str, letter: char, help: &'static str) -> Arg<'a>
     ensures rule { rule_of result ≡ flag name.entry.now (Some letter) }
@@ -62,7 +66,7 @@ fn described<'a>(alloc: Global) -> Command<'a>
     Command::new(alloc, "tecol")
         .about("Turns sources of TECO command strings into their bytes and back, and checks them")
         .after_help(AFTER_HELP)
-        .override_usage("tecol [OPTIONS] [FILE]")
+        .override_usage(USAGE)
         .version(VERSION)
 }
 
@@ -88,11 +92,23 @@ fn command<'a>(alloc: Global) -> Result<Command<'a>, NoMemory>
         .arg(input_arg(alloc))
 }
 
-/// The parser's error of this kind, with this text.
-fn error_of(alloc: Global, kind: ErrorKind, text: &str) -> Result<clap::Error, NoMemory>
-    ensures { IfOk result (λ error. kind_of error ≡ kind) }
+/// What a line is for which the parser has an error of this kind.
+fn refused_as(kind: ErrorKind) -> RefusedAs
+    ensures { IsToldAs result kind }
 {
-    command(alloc)?.error(kind, text)
+    match kind {
+        ErrorKind::DisplayHelp => RefusedAs::Help,
+        ErrorKind::DisplayVersion => RefusedAs::Version,
+        ErrorKind::OutOfMemory => RefusedAs::NoMemory,
+        _ => RefusedAs::Faulty,
+    }
+}
+
+/// The refusal that the parser's error tells.
+fn refusal_of(alloc: Global, error: &clap::Error) -> Refusal
+    ensures { IsToldAs result.refused_as (kind_of error.now) }
+{
+    refused_by(alloc, refused_as(error.kind()), error)
 }
 
 /// Whether a flag is up.
@@ -135,8 +151,8 @@ fn line_in<'a>(alloc: Global, matches: &ArgMatches<'a>) -> Result<Line, LineFaul
     let words = flag_at(matches, "words");
     let check = flag_at(matches, "check");
     if check && words {
-        let text = "the argument '--check' cannot be used with '--words'";
-        return Err(LineFault::Refused(error_of(alloc, ErrorKind::ArgumentConflict, text)?));
+        let why = "the argument '--check' cannot be used with '--words'";
+        return Err(LineFault::Refused(faulty(alloc, why, USAGE)?));
     }
     Ok(Line {
         input: text_at(alloc, matches, "input")?,
@@ -151,17 +167,15 @@ pub fn line_of(alloc: Global, words: &[String]) -> Result<Line, LineFault>
     ensures line { IfOk result (SayLine (map string_bytes words.now)) }
     ensures refused { IfErr result (SayNoLine (map string_bytes words.now)) }
 {
-    let matches = command(alloc)?.try_get_matches_from(words)?;
-    line_in(alloc, &matches)
+    match command(alloc)?.try_get_matches_from(words) {
+        Ok(matches) => line_in(alloc, &matches),
+        Err(error) => Err(LineFault::Refused(refusal_of(alloc, &error))),
+    }
 }
 
-/// The parser's error for an argument that is not UTF-8.
-pub fn not_text(alloc: Global) -> Result<clap::Error, NoMemory>
-    ensures { IfOk result (λ error. kind_of error ≡ ErrorKind.InvalidValue) }
+/// The refusal of a line with an argument that is not UTF-8.
+pub fn not_text(alloc: Global) -> Result<Refusal, NoMemory>
+    ensures { IfOk result (IsFaulty (codes "an argument is not UTF-8 text") (codes "tecol [OPTIONS] [FILE]")) }
 {
-    error_of(
-        alloc,
-        ErrorKind::InvalidValue,
-        "an argument is not UTF-8 text",
-    )
+    faulty(alloc, "an argument is not UTF-8 text", USAGE)
 }

@@ -1,5 +1,4 @@
 //! What the program does, on any disk and terminal.
-ghost use Rattle.clap.specs.Words.{kind_of};
 ghost use Rattle.std.specs.Prelude.{◌≡◌, IfErr, IfOk, codes, false};
 ghost use Rattle.std.specs.Process.{exit_status};
 ghost use Rattle.teco_keep.specs.CommandLine.{SayNoLineIn, SayLineIn};
@@ -8,7 +7,8 @@ ghost use Rattle.teco_keep.specs.Keeping.{Concludes, EndsWritten, Keeps, MakesAn
 ghost use Rattle.teco_keep.specs.Made.{IsMade};
 ghost use Rattle.teco_line.specs.StreamNames.{is_standard_input};
 ghost use Rattle.teco_keep.specs.Program.{KeepsBy};
-ghost use Rattle.teco_program.specs.Run.{IsRefused, IsRefusedBy, KeepsDisk, Tells};
+ghost use Rattle.teco_program.specs.Refusing.{Tells};
+ghost use Rattle.teco_program.specs.Run.{KeepsDisk};
 ghost use Rattle.teco_program.specs.Runs.{host};
 ghost use Rattle.teco_program.specs.Seen.{disk_seen, source_view};
 
@@ -20,12 +20,15 @@ use crate::reading::{input_of_file, input_of_stream};
 use crate::telling::{spot_in, text_of};
 use crate::writing::{put_in_file, put_on_terminal};
 use std::alloc::Global;
-use std::fmt::Write;
 use std::process::ExitCode;
 use teco_core::NoMemory;
 use teco_files::{Disk, Source};
-use teco_line::{LineFault, is_standard_input, is_standard_output, refused_status};
-use teco_step::{Terminal, TerminalFault};
+use teco_line::{LineFault, is_standard_input, is_standard_output};
+use teco_program::refuse;
+use teco_step::Terminal;
+
+/// What is told where memory is refused to the program.
+const NO_MEMORY: &[u8] = b"tecol: no memory\n";
 
 /// Reads the input of the line, standard input or a file.
 fn input_of<S: Source, D: Disk>(
@@ -137,7 +140,7 @@ fn no_memory<E: Terminal>(errors: &mut E) -> u8
     ensures status { result ≡ 1 }
     ensures told { Tells (E.screen errors.old) (E.screen errors.new) (said (codes "no memory")) }
 {
-    let _ = errors.put(b"tecol: no memory\n");
+    let _ = errors.put(NO_MEMORY);
     1
 }
 
@@ -174,53 +177,6 @@ pub fn keep<S: Source, T: Terminal, E: Terminal, D: Disk>(
     conclude(alloc, line, fate, errors)
 }
 
-/// The parser's text.
-fn text_by(alloc: Global, error: &clap::Error) -> Result<String, NoMemory> {
-    let mut text = String::new(alloc);
-    write!(text, "{error}")?;
-    Ok(text)
-}
-
-/// Tells why the parser refused the line: on standard error, or on standard output where the help or the version was asked for. Those
-/// are what was wanted, so it is a failure if they can't be shown.
-fn refuse_by<T: Terminal, E: Terminal>(
-    alloc: Global,
-    error: &clap::Error,
-    term: &mut T,
-    errors: &mut E,
-) -> u8
-    ensures { IsRefused (kind_of error.now) (T.screen term.old) (T.screen term.new) result }
-{
-    let status = refused_status(error);
-    let Ok(text) = text_by(alloc, error) else {
-        let failed = no_memory(errors);
-        return if status == 0 { failed } else { status };
-    };
-    if status != 0 {
-        let _ = errors.put(text.as_bytes());
-        return status;
-    }
-    match term.put(text.as_bytes()) {
-        Ok(()) => 0,
-        Err(TerminalFault) => 1,
-    }
-}
-
-/// Tells why there is no line.
-fn refuse<T: Terminal, E: Terminal>(
-    alloc: Global,
-    fault: &LineFault,
-    term: &mut T,
-    errors: &mut E,
-) -> u8
-    ensures { IsRefusedBy fault.now (T.screen term.old) (T.screen term.new) result }
-{
-    match fault {
-        LineFault::NoMemory => no_memory(errors),
-        LineFault::Refused(error) => refuse_by(alloc, error, term, errors),
-    }
-}
-
 fn line_by(alloc: Global, words: Result<Vec<String>, LineFault>) -> Result<Line, LineFault>
     ensures line { IfOk result (SayLineIn words) }
     ensures fault { IfErr result (SayNoLineIn words) }
@@ -249,6 +205,6 @@ pub fn program<S: Source, T: Terminal, E: Terminal, D: Disk>(
 {
     match line_by(alloc, words) {
         Ok(line) => ExitCode::from(keep(alloc, &line, number, stream, term, errors, disk)),
-        Err(fault) => ExitCode::from(refuse(alloc, &fault, term, errors)),
+        Err(fault) => ExitCode::from(refuse(&fault, NO_MEMORY, term, errors)),
     }
 }

@@ -30,12 +30,16 @@ use Rattle.clap.proofs.CallerLemmas.{default_present, required_has_value}
 use Rattle.clap.proofs.SimpleLemmas.{plain_fields}
 use Rattle.clap.proofs.WalkLemmas.{first_value-rows, one_text-rows}
 use Rattle.teco_core.specs.declared.limits.TheConstants.{DEPTH_LIMIT}
-use Rattle.teco_line.specs.CommandLine.{HasLine, IsCommandsFault, IsFaultOnceMade, IsGiven, IsLineBy, IsLineFault, IsMisfit, IsNumber, IsReadFault, IsRefusal, number_of, teco_app}
+use Rattle.teco_line.specs.CommandLine.{HasLine, IsCommandsFault, IsTecoError, IsFaultOnceMade, IsGiven, IsLineBy, IsLineFault, IsMisfit, IsNumber, IsReadFault, IsRefusal, number_of, teco_app}
 use Rattle.teco_line.specs.Conflict.{has_conflict}
 use Rattle.teco_line.specs.Joining.{joined}
+use Rattle.teco_line.specs.Refusals.{IsToldAs}
 use Rattle.teco_line.specs.declared.line.Line.{Line}
 use Rattle.teco_line.specs.declared.line.LineFault.{LineFault}
 use Rattle.teco_line.specs.declared.line.LineFault.TheVariants.{NoMemory, Refused}
+use Rattle.teco_line.specs.declared.line.refusal.Refusal.{Refusal}
+use Rattle.teco_line.specs.declared.line.refusal.RefusedAs.{RefusedAs}
+use Rattle.teco_line.specs.declared.line.refusal.RefusedAs.TheVariants.{Faulty}
 use Rattle.teco_line.proofs.CommandEntries.{found_in, entry_has_value, entry_read}
 use Rattle.teco_line.proofs.OptionRows.{IsAlone, alone_by, arg_within, is_row, is_table, place_of, plain_is, rule_at, simple_is, some_of}
 
@@ -94,10 +98,10 @@ abbrev is_memory : ErrorKind → Bool
 is_memory kind.OutOfMemory = true
 is_memory _ = false
 
-at_kind : (k : ErrorKind) (words : List Text) (error : Error) → kind_of error ≡ k
-    → (is_memory k ≡ false → (takes teco_app words ≡ false) × IsAmong (kind_of error) (fault_of teco_app words)) → IsRefusal words error
-at_kind kind.OutOfMemory words error e h = inl e
-at_kind _ words error e h = inr (inl (h refl))
+at_kind : (k : ErrorKind) (words : List Text)
+    → (is_memory k ≡ false → (takes teco_app words ≡ false) × IsAmong k (fault_of teco_app words)) → IsTecoError words k
+at_kind kind.OutOfMemory words h = inl refl
+at_kind _ words h = inr (inl (h refl))
 
 not_taken : (b : Bool) (error : Error) → (b ≡ true → kind_of error ≡ kind.OutOfMemory) → is_memory (kind_of error) ≡ false → b ≡ false
 not_taken true error h other = absurd (true≢false (sym (ap is_memory (h refl)) ∙ other))
@@ -107,15 +111,23 @@ among : (kinds : List ErrorKind) (error : Error) → HasKind kinds error → is_
 among kinds error (inl h) other = absurd (true≢false (sym (ap is_memory h) ∙ other))
 among kinds error (inr h) other = h
 
-pub fault_is : (c : Command) (words : List Text) (error : Error) → app_of c ≡ teco_app
+pub fault_is : (c : Command) (words : List Text) (error : Error) (refusal : Refusal) → app_of c ≡ teco_app
     → (takes (app_of c) words ≡ true → kind_of error ≡ kind.OutOfMemory) → (is_simple_and_free (app_of c) ≡ true → HasKind (fault_of (app_of c) words) error)
-    → IsRefusal words error
-fault_is c words error is passes kinds =
+    → IsToldAs refusal.refused_as (kind_of error) → IsRefusal words refusal
+fault_is c words error refusal is passes kinds told =
     let kinds_are : HasKind (fault_of teco_app words) error = subst (λ a. HasKind (fault_of a words) error) is (kinds (ap is_simple_and_free is ∙ teco_is_free)) in
-    at_kind (kind_of error) words error refl (λ other. (
-      not_taken (takes teco_app words) error (λ e. passes (ap (λ a. takes a words) is ∙ e)) other,
-      among (fault_of teco_app words) error kinds_are other,
-    ))
+    record {
+      error = kind_of error;
+      error_is = at_kind (kind_of error) words (λ other. (
+        not_taken (takes teco_app words) error (λ e. passes (ap (λ a. takes a words) is ∙ e)) other,
+        among (fault_of teco_app words) error kinds_are other,
+      ));
+      told = told;
+    }
+
+-- a faulty line is told as an error for what doesn't go together
+told_faulty : (what : RefusedAs) → what ≡ Faulty → IsToldAs what kind.ArgumentConflict
+told_faulty what is = subst (λ (w : RefusedAs). IsToldAs w kind.ArgumentConflict) (sym is) ((λ e. cc), (λ e. cc), (λ e. cc))
 
 -- ---- what a parse gives, for every option of the program's command
 
@@ -237,25 +249,30 @@ module _ (c : Command) (m : ArgMatches) (words : List Text) (is : app_of c ≡ t
   pub words_taken : fault_of teco_app words ≡ []
   words_taken = ap (λ a. fault_of a words) (sym is) ∙ fault (ap is_simple_and_free is ∙ teco_is_free)
 
-  pub line_is : (r : Result Line LineFault) (line : Line) → HasLine (rows_of (found_of m)) line → IfOk r (λ fit. fit ≡ line) → IfOk r (λ fit. has_conflict fit ≡ false)
+  pub line_is : (r : Result Line LineFault) → IfOk r (HasLine (rows_of (found_of m))) → IfOk r (λ line. has_conflict line ≡ false)
       → IfOk r (IsLineBy words)
-  line_is (Ok fit) line has same fits = record { taken = words_taken; given = rw (← rows_are, same) has; fits = fits }
-  line_is (Err fault) line has same fits = tt
+  line_is (Ok line) has fits = record { taken = words_taken; given = rw (← rows_are) has; fits = fits }
+  line_is (Err fault) has fits = tt
 
   pub read_fault_is : (fault : LineFault) → IsReadFault (rows_of (found_of m)) fault → IsFaultOnceMade words fault
   read_fault_is NoMemory h = words_taken
-  read_fault_is (Refused error) h = inr (inr (words_taken, rw (← rows_are) h))
+  read_fault_is (Refused refusal) h = record {
+    error = kind.ArgumentConflict;
+    error_is = inr (inr (words_taken, (rw (← rows_are) h.0, refl)));
+    told = told_faulty refusal.refused_as h.1;
+  }
 
-  pub misfit_is : (line : Line) → HasLine (rows_of (found_of m)) line → (fault : LineFault) → IsMisfit line fault → IsFaultOnceMade words fault
-  misfit_is line has NoMemory h = words_taken
-  misfit_is line has (Refused error) h = inr (inr (words_taken, (inr (line, rw (← rows_are) has, h.0), h.1)))
+-- a line with a conflict is what a parse says
+pub misfit_is : (parse : List Row) (line : Line) → HasLine parse line → (fault : LineFault) → IsMisfit line fault → IsReadFault parse fault
+misfit_is parse line has NoMemory h = tt
+misfit_is parse line has (Refused refusal) h = (inr (line, has, h.0), h.1)
 
 -- commands that are given more than once
 pub commands_fault_is : (parse : List Row) (fault : LineFault)
     → IsCommandsFault (first_of (codes "execute") parse) (unwrap_or (all_of (codes "file") parse) []) (first_of (codes "pages") parse) (first_of (codes "bytes") parse) fault
     → IsReadFault parse fault
 commands_fault_is parse NoMemory h = tt
-commands_fault_is parse (Refused error) h = (inl h.0, h.1)
+commands_fault_is parse (Refused refusal) h = (inl h.0, h.1)
 
 -- what is so of a line is so of the same line
 pub same_line : (P : Line → Type 0) (r : Result Line LineFault) (line : Line) → IfOk r (λ fit. fit ≡ line) → P line → IfOk r P
@@ -270,4 +287,4 @@ by_rows P is_word is_files is_pages is_bytes h = rw (is_word, is_files, is_pages
 -- why a line is refused once the command is made is why it is refused
 pub fault_at_all : (words : List Text) (fault : LineFault) → IsFaultOnceMade (joined words) fault → IsLineFault words fault
 fault_at_all words NoMemory h = tt
-fault_at_all words (Refused error) h = h
+fault_at_all words (Refused refusal) h = h

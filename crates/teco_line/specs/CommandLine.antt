@@ -6,21 +6,24 @@ use Rattle.std.specs.List.{count_by, suffix_len}
 use Rattle.std.specs.String.{string_bytes}
 use Rattle.std.specs.Str.Parse.{IsNumeral, digits_value, without_leading_plus}
 use Rattle.clap.specs.Simple.{on_top}
-use Rattle.clap.specs.Words.{all_of, App, IsAmong, IsUnsignedIn, Row, Rule, Text, fault_of, first_of, kind_of, matches_of, new_app}
+use Rattle.clap.specs.Words.{all_of, App, IsAmong, IsUnsignedIn, Row, Rule, Text, fault_of, first_of, matches_of, new_app}
 use Rattle.clap.specs.Words.{new_rule, one_of, takes}
 use Rattle.clap.specs.declared.builder.action.ArgAction.TheVariants.{Append, Set}
-use Rattle.clap.specs.declared.error.Error.{Error}
+use Rattle.clap.specs.declared.error.kind.ErrorKind.{ErrorKind}
 use Rattle.clap.specs.declared.error.kind.ErrorKind.TheVariants as kind
 use Rattle.teco_core.specs.declared.ascii.TheConstants.{ESC}
 use Rattle.teco_core.specs.declared.limits.TheConstants.{DEPTH_LIMIT}
 use Rattle.teco_line.specs.Conflict.{has_conflict}
 use Rattle.teco_line.specs.Joining.{joined}
 use Rattle.teco_line.specs.OptionTable.{option_rules, with_rules}
+use Rattle.teco_line.specs.Refusals.{IsToldAs}
 use Rattle.teco_line.specs.declared.line.Commands.{Commands}
 use Rattle.teco_line.specs.declared.line.Commands.TheVariants.{StandardInput, Sources, Pages, Bytes}
 use Rattle.teco_line.specs.declared.line.Line.{Line}
 use Rattle.teco_line.specs.declared.line.LineFault.{LineFault}
 use Rattle.teco_line.specs.declared.line.LineFault.TheVariants.{Refused, NoMemory}
+use Rattle.teco_line.specs.declared.line.refusal.Refusal.{Refusal}
+use Rattle.teco_line.specs.declared.line.refusal.RefusedAs.TheVariants.{Faulty}
 
 -- a depth that a session can be asked for
 abbrev pub IsDepth : ℕ → Type 0
@@ -74,6 +77,10 @@ on_pages strings = codes "Y<" ++ without_last_escapes strings ++ (ESC ∷ 32 ∷
 abbrev pub text_behind : Option (Bor Text) → Option Text
 text_behind = option_map (λ text. text.now)
 
+-- the texts behind references, of which there may be none
+abbrev pub texts_behind : Option (Bor (List (Bor Text))) → List Text
+texts_behind texts = unwrap_or (option_map (λ all. map (λ text. text.now) all.now) texts) []
+
 -- --execute or --file gives a source
 abbrev pub has_sources : Option Text → List Text → Bool
 has_sources word files = is_some word || nat_lt 0 (length files)
@@ -93,11 +100,10 @@ IsCommands word files pages bytes (Bytes name) = (has_sources word files ≡ fal
 abbrev pub AreMany : Option Text → List Text → Option Text → Option Text → Type 0
 AreMany word files pages bytes = 2 ≤ count_by (λ given. given) (has_sources word files ∷ is_some pages ∷ is_some bytes ∷ [])
 
--- Why a line gives no commands: memory was refused, or it gives them more than once, which the parser's error
--- tells as one that gives an argument twice.
+-- Why a line gives no commands: memory was refused, or it gives them more than once, and is faulty.
 abbrev pub IsCommandsFault : Option Text → List Text → Option Text → Option Text → LineFault → Type 0
 IsCommandsFault word files pages bytes NoMemory = ⊤
-IsCommandsFault word files pages bytes (Refused error) = AreMany word files pages bytes × (kind_of error ≡ kind.ArgumentConflict)
+IsCommandsFault word files pages bytes (Refused refusal) = AreMany word files pages bytes × (refusal.refused_as ≡ Faulty)
 
 -- A parse says that the commands come from there, and that it gives them more than once.
 abbrev pub SaysCommands : List Row → Commands → Type 0
@@ -161,33 +167,39 @@ SaysConflict rows = SaysMany rows
 -- Why there is no line by a parse: memory was refused, or what it says doesn't go together.
 abbrev pub IsReadFault : List Row → LineFault → Type 0
 IsReadFault rows NoMemory = ⊤
-IsReadFault rows (Refused error) = SaysConflict rows × (kind_of error ≡ kind.ArgumentConflict)
+IsReadFault rows (Refused refusal) = SaysConflict rows × (refusal.refused_as ≡ Faulty)
 
 -- Why a line is given up once it is read: the same, of the line.
 abbrev pub IsMisfit : Line → LineFault → Type 0
 IsMisfit line NoMemory = ⊤
-IsMisfit line (Refused error) = (has_conflict line ≡ true) × (kind_of error ≡ kind.ArgumentConflict)
+IsMisfit line (Refused refusal) = (has_conflict line ≡ true) × (refusal.refused_as ≡ Faulty)
 
--- Why a line is refused: the parser wants memory; or it has an error of a kind that these words have, and
--- does not take them; or it takes them, but what they say doesn't go together.
-abbrev pub IsRefusal : List Text → Error → Type 0
-IsRefusal words error = (kind_of error ≡ kind.OutOfMemory)
-    ⊎ (((takes teco_app words ≡ false) × IsAmong (kind_of error) (fault_of teco_app words))
+-- Why a line is refused, by the kind of an error of the parser: it wants memory; or these words have an error of that
+-- kind, and it does not take them; or it takes them, but what they say doesn't go together.
+abbrev pub IsTecoError : List Text → ErrorKind → Type 0
+IsTecoError words error = (error ≡ kind.OutOfMemory)
+    ⊎ (((takes teco_app words ≡ false) × IsAmong error (fault_of teco_app words))
     ⊎ ((fault_of teco_app words ≡ [])
-    × (SaysConflict (matches_of teco_app words) × (kind_of error ≡ kind.ArgumentConflict))))
+    × (SaysConflict (matches_of teco_app words) × (error ≡ kind.ArgumentConflict))))
+
+-- A line is refused for such an error, and told as what that is.
+pub record IsRefusal (words : List Text) (refusal : Refusal) : Type 0 where
+  pub error : ErrorKind
+  pub error_is : IsTecoError words error
+  pub told : IsToldAs refusal.refused_as error
 
 -- Why the words gave no line: memory was refused, or the line is.
 abbrev pub IsLineFault : List Text → LineFault → Type 0
 IsLineFault words NoMemory = ⊤
-IsLineFault words (Refused error) = IsRefusal (joined words) error
+IsLineFault words (Refused refusal) = IsRefusal (joined words) refusal
 
 -- The same once the words are joined and the command is made: memory is refused to the program itself only
 -- where the parser takes the words, so a faulty line is never told as that.
 abbrev pub IsFaultOnceMade : List Text → LineFault → Type 0
 IsFaultOnceMade words NoMemory = fault_of teco_app words ≡ []
-IsFaultOnceMade words (Refused error) = IsRefusal words error
+IsFaultOnceMade words (Refused refusal) = IsRefusal words refusal
 
--- The parser's error is told as it is, and a refusal of memory for it as that.
-abbrev pub fault_for : {E : Type 0} → Result Error E → LineFault
-fault_for (Ok error) = Refused error
+-- A refusal is told as it is, and want of memory for it as that.
+abbrev pub fault_for : {E : Type 0} → Result Refusal E → LineFault
+fault_for (Ok refusal) = Refused refusal
 fault_for (Err refused) = NoMemory

@@ -2,4 +2,5 @@ pub mod CommandLine
 pub mod Conflict
 pub mod Joining
 pub mod OptionTable
+pub mod Refusals
 pub mod StreamNames

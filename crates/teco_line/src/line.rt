@@ -1,22 +1,22 @@
 //! The program's command line.
-ghost use Rattle.clap.specs.Words.{app_of, found_of, kind_of, new_app, rows_of, rule_of};
+ghost use Rattle.clap.specs.Words.{app_of, found_of, new_app, rows_of, rule_of, with_rule};
 ghost use Rattle.std.specs.IoError.{error_kind};
-ghost use Rattle.std.specs.Prelude.{◌≡◌, ◌≢◌, ◌≤◌, IfErr, IfOk, IfSome, codes, false, map, option_map};
+ghost use Rattle.std.specs.Prelude.{◌≡◌, ◌≢◌, ◌≤◌, IfErr, IfOk, IfSome, codes, false, map};
 ghost use Rattle.std.specs.String.{string_bytes};
 ghost use Rattle.std.specs.declared.io.ErrorKind.TheVariants as io_kind;
-ghost use Rattle.teco_line.specs.CommandLine.{HasLine, IsCommands, IsCommandsFault, IsDepth, IsFaultOnceMade, IsGiven, IsLine, IsLineBy, IsLineFault, IsMisfit, IsPageLength, IsReadFault, fault_for, input_rule, more_rule, teco_app, with_version};
+ghost use Rattle.teco_line.specs.CommandLine.{HasLine, IsCommands, IsCommandsFault, IsDepth, IsFaultOnceMade, IsGiven, IsLine, IsLineBy, IsLineFault, IsMisfit, IsPageLength, IsReadFault, SaysCommands, fault_for, input_rule, more_rule, teco_app, text_behind, texts_behind, with_version};
 ghost use Rattle.teco_line.specs.Conflict.{has_conflict};
+ghost use Rattle.teco_line.specs.Refusals.{IsFaulty};
 
-use clap::error::ErrorKind;
 use clap::{Arg, ArgAction, ArgMatches, Command};
 use conflict::conflict_in;
 use joining::joined;
-use options::{OPTIONS, with_table};
+use options::{options, with_table};
+use refusal::refusal_of;
 use std::alloc::Global;
 use std::io;
 use teco_core::NoMemory;
-use thiserror::Error;
-use values::{flag_at, number_at, text_at, texts_at};
+use values::{are_given, flag_at, number_at, text_at, text_given, texts_at, texts_given};
 
 /// The most steps that a command string may be given.
 pub const MOST_STEPS: u64 = 1_000_000_000_000;
@@ -37,7 +37,7 @@ and ends the run. Each INPUT is a run of its own; several want an option that gi
 /// The usage, which the help and each faulty line show.
 const USAGE: &str = "teco [OPTIONS] <INPUT>...";
 
-/// What the parser's error says of a line that gives commands more than once.
+/// What is told of a line that gives commands more than once.
 const MANY: &str =
     "only one of '--pages <STRINGS>', '--bytes <FILE>', and '--file <FILE>' or '--execute <STRINGS>' can be used";
 
@@ -82,13 +82,11 @@ pub struct Line {
 }
 
 /// Why there is no [`Line`].
-#[derive(Debug, Drop, Error)]
+#[derive(Drop)]
 pub enum LineFault {
-    /// The parser's error: the line is faulty, asks for the help or the version, or the parser was refused memory.
-    #[error("{0}")]
-    Refused(clap::Error),
+    /// The line is faulty, asks for the help or the version, or the parser was refused memory.
+    Refused(Refusal),
     /// Memory was refused to the program itself.
-    #[error("no memory")]
     NoMemory,
 }
 
@@ -99,16 +97,6 @@ impl From<NoMemory> for LineFault {
 
     fn from(_: NoMemory) -> LineFault {
         LineFault::NoMemory
-    }
-}
-
-impl From<clap::Error> for LineFault {
-    ghost use Rattle.teco_line.specs.declared.line.LineFault.TheVariants.{Refused as refused};
-
-    ghost from_gives = { λ error fault. fault ≡ refused error };
-
-    fn from(error: clap::Error) -> LineFault {
-        LineFault::Refused(error)
     }
 }
 
@@ -148,43 +136,63 @@ fn described<'a>(alloc: Global) -> Command<'a>
         .version(VERSION)
 }
 
+/// The command with the arguments that are no options.
+fn with_inputs<'a>(alloc: Global, command: Command<'a>) -> Result<Command<'a>, NoMemory>
+    ensures { IfOk result (λ made. app_of made ≡ with_rule (with_rule (app_of command.entry) input_rule) more_rule) }
+{
+    command.arg(input_arg(alloc))?.arg(more_arg(alloc))
+}
+
 /// The command that the parser reads the words by.
 fn command<'a>(alloc: Global) -> Result<Command<'a>, NoMemory>
     ensures { IfOk result (λ command. app_of command ≡ teco_app) }
 {
-    with_table(alloc, described(alloc), &OPTIONS)?
-        .arg(input_arg(alloc))?
-        .arg(more_arg(alloc))
+    with_inputs(alloc, with_table(alloc, described(alloc), options())?)
 }
 
-/// The parser's error of this kind, with this text.
-fn error_of(alloc: Global, kind: ErrorKind, text: &str) -> Result<clap::Error, NoMemory>
-    ensures { IfOk result (λ error. kind_of error ≡ kind) }
+/// The refusal of a line of the program that is faulty, and why.
+fn faulty_line(alloc: Global, why: &str) -> Result<Refusal, NoMemory>
+    ensures { IfOk result (IsFaulty why.now (codes "teco [OPTIONS] <INPUT>...")) }
 {
-    command(alloc)?.error(kind, text)
+    faulty(alloc, why, USAGE)
 }
 
 /// Where the commands come from, by the texts that are given. A line with more than one place of them is faulty.
 fn commands_of(
     alloc: Global,
-    word: Option<String>,
-    files: Vec<String>,
-    pages: Option<String>,
-    bytes: Option<String>,
+    word: Option<&str>,
+    files: Option<&[&str]>,
+    pages: Option<&str>,
+    bytes: Option<&str>,
 ) -> Result<Commands, LineFault>
-    ensures commands { IfOk result (IsCommands (option_map string_bytes word) (map string_bytes files.items)
-        (option_map string_bytes pages) (option_map string_bytes bytes)) }
-    ensures fault { IfErr result (IsCommandsFault (option_map string_bytes word) (map string_bytes files.items)
-        (option_map string_bytes pages) (option_map string_bytes bytes)) }
+    ensures commands { IfOk result (IsCommands (text_behind word.entry) (texts_behind files.entry)
+        (text_behind pages.entry) (text_behind bytes.entry)) }
+    ensures fault { IfErr result (IsCommandsFault (text_behind word.entry) (texts_behind files.entry)
+        (text_behind pages.entry) (text_behind bytes.entry)) }
 {
-    let has_sources = word.is_some() || !files.is_empty();
+    let has_sources = word.is_some() || are_given(files);
     match (has_sources, pages, bytes) {
         (false, None, None) => Ok(Commands::StandardInput),
-        (true, None, None) => Ok(Commands::Sources(files, word)),
-        (false, Some(word), None) => Ok(Commands::Pages(word)),
-        (false, None, Some(name)) => Ok(Commands::Bytes(name)),
-        _ => Err(LineFault::Refused(error_of(alloc, ErrorKind::ArgumentConflict, MANY)?)),
+        (true, None, None) => Ok(Commands::Sources(
+            texts_given(alloc, files)?,
+            text_given(alloc, word)?,
+        )),
+        (false, Some(word), None) => Ok(Commands::Pages(String::from_str(alloc, word)?)),
+        (false, None, Some(name)) => Ok(Commands::Bytes(String::from_str(alloc, name)?)),
+        _ => Err(LineFault::Refused(faulty_line(alloc, MANY)?)),
     }
+}
+
+/// Where the commands come from, by a parse.
+fn commands_in<'a>(alloc: Global, matches: &ArgMatches<'a>) -> Result<Commands, LineFault>
+    ensures commands { IfOk result (SaysCommands (rows_of (found_of matches.now))) }
+    ensures fault { IfErr result (IsReadFault (rows_of (found_of matches.now))) }
+{
+    let word = matches.get_str("execute");
+    let files = matches.get_strs("file");
+    let pages = matches.get_str("pages");
+    let bytes = matches.get_str("bytes");
+    commands_of(alloc, word, files, pages, bytes)
 }
 
 /// The line that a parse gives.
@@ -195,11 +203,7 @@ fn line_in<'a>(alloc: Global, matches: &ArgMatches<'a>) -> Result<Line, LineFaul
     ensures page_lines { IfOk result (λ line. IfSome line.page_lines IsPageLength) }
     ensures refused { IfErr result (IsReadFault (rows_of (found_of matches.now))) }
 {
-    let word = text_at(alloc, matches, "execute")?;
-    let files = texts_at(alloc, matches, "file")?;
-    let pages = text_at(alloc, matches, "pages")?;
-    let bytes = text_at(alloc, matches, "bytes")?;
-    let commands = commands_of(alloc, word, files, pages, bytes)?;
+    let commands = commands_in(alloc, matches)?;
     let input = String::from_str(alloc, matches.get_str("input").unwrap())?;
     let more = texts_at(alloc, matches, "more")?;
     let output = text_at(alloc, matches, "output")?;
@@ -233,8 +237,21 @@ fn fitting(alloc: Global, line: Line) -> Result<Line, LineFault>
 {
     match conflict_in(&line) {
         None => Ok(line),
-        Some(text) => Err(LineFault::Refused(error_of(alloc, ErrorKind::ArgumentConflict, text)?)),
+        Some(why) => Err(LineFault::Refused(faulty_line(alloc, why)?)),
     }
+}
+
+/// The line that a parse gives, if what it says goes together.
+fn fitting_line_in<'a>(alloc: Global, matches: &ArgMatches<'a>) -> Result<Line, LineFault>
+    requires given { IsGiven (rows_of (found_of matches.now)) }
+    ensures line { IfOk result (HasLine (rows_of (found_of matches.now))) }
+    ensures range { IfOk result (λ line. (line.limit ≤ 1000000000000) × IfSome line.undo IsDepth) }
+    ensures page_lines { IfOk result (λ line. IfSome line.page_lines IsPageLength) }
+    ensures fits { IfOk result (λ line. has_conflict line ≡ false) }
+    ensures refused { IfErr result (IsReadFault (rows_of (found_of matches.now))) }
+{
+    let line = line_in(alloc, matches)?;
+    fitting(alloc, line)
 }
 
 /// What the words say to the program's command.
@@ -245,9 +262,10 @@ fn line_by<'a>(alloc: Global, command: Command<'a>, words: &'a [String]) -> Resu
     ensures page_lines { IfOk result (λ line. IfSome line.page_lines IsPageLength) }
     ensures refused { IfErr result (IsFaultOnceMade (map string_bytes words.now)) }
 {
-    let matches = command.try_get_matches_from(words)?;
-    let line = line_in(alloc, &matches)?;
-    fitting(alloc, line)
+    match command.try_get_matches_from(words) {
+        Ok(matches) => fitting_line_in(alloc, &matches),
+        Err(error) => Err(LineFault::Refused(refusal_of(alloc, &error))),
+    }
 }
 
 /// What the words say, the program's name first: `teco [OPTIONS] INPUT...`.
@@ -261,19 +279,15 @@ pub fn line_of(alloc: Global, words: &[String]) -> Result<Line, LineFault>
     line_by(alloc, command(alloc)?, made.as_slice())
 }
 
-/// The parser's error for an argument that is not UTF-8.
-pub fn not_text(alloc: Global) -> Result<clap::Error, NoMemory>
-    ensures { IfOk result (λ error. kind_of error ≡ ErrorKind.InvalidValue) }
+/// The refusal of a line with an argument that is not UTF-8.
+pub fn not_text(alloc: Global) -> Result<Refusal, NoMemory>
+    ensures { IfOk result (IsFaulty (codes "an argument is not UTF-8 text") (codes "teco [OPTIONS] <INPUT>...")) }
 {
-    error_of(
-        alloc,
-        ErrorKind::InvalidValue,
-        "an argument is not UTF-8 text",
-    )
+    faulty_line(alloc, "an argument is not UTF-8 text")
 }
 
 /// Why the program's words were not given: memory was refused to copy them, or one of them is not UTF-8 and the line is faulty.
-pub fn fault_of_words(error: io::Error, not_text: Result<clap::Error, NoMemory>) -> LineFault
+pub fn fault_of_words(error: io::Error, not_text: Result<Refusal, NoMemory>) -> LineFault
     ensures memory { error_kind error ≡ io_kind.OutOfMemory → result ≡ LineFault.NoMemory }
     ensures other { error_kind error ≢ io_kind.OutOfMemory → result ≡ fault_for not_text }
 {
@@ -281,27 +295,19 @@ pub fn fault_of_words(error: io::Error, not_text: Result<clap::Error, NoMemory>)
         return LineFault::NoMemory;
     }
     match not_text {
-        Ok(error) => LineFault::Refused(error),
+        Ok(refusal) => LineFault::Refused(refusal),
         Err(NoMemory) => LineFault::NoMemory,
     }
-}
-
-/// The status of a refused line: 3, or 0 where it asks for the help or the version.
-pub fn refused_status(error: &clap::Error) -> u8
-    ensures help { kind_of error.now ≡ ErrorKind.DisplayHelp → result ≡ 0 }
-    ensures version { kind_of error.now ≡ ErrorKind.DisplayVersion → result ≡ 0 }
-    ensures fault { kind_of error.now ≢ ErrorKind.DisplayHelp → kind_of error.now ≢ ErrorKind.DisplayVersion
-        → result ≡ 3 }
-{
-    if error.use_stderr() { 3 } else { 0 }
 }
 
 mod conflict;
 mod joining;
 mod options;
 mod pages;
+mod refusal;
 mod streams;
 mod values;
 
 pub use pages::commands_on_pages;
+pub use refusal::{Refusal, RefusedAs, faulty, refused_by, refused_status};
 pub use streams::{is_standard_input, is_standard_output};

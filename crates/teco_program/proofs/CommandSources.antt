@@ -1,5 +1,6 @@
 -- Sources one after another, and where the one that can't be read is.
 use Rattle.std.proofs.Common.{◌≡◌, ◌++◌, ◌+◌, ◌-◌, ◌≤◌, ◌<◌, ◌∙◌, ℕ, suc, take, Vec, List, [], ◌∷◌, Ok, Err, Bool, true, false, String, Global, Option, Some, inl, inr, length, refl, sym, ap, subst, arith, append_assoc}
+use Rattle.std.specs.Prelude.{IfErr, IsErrAnd, Result}
 use Rattle.std.proofs.lemmas.List.{append-nil}
 use Rattle.std.specs.List.{slice_index_or}
 use Rattle.std.specs.String.{string_bytes}
@@ -14,6 +15,11 @@ use Rattle.teco_program.specs.declared.sources.CommandsFault.TheVariants.{Memory
 use Rattle.teco_source.specs.Source.{State, commands_from, commands_of, ended_in, is_wrong, step}
 use Rattle.teco_source.specs.declared.reader.Mode.{Mode}
 use Rattle.teco_source.specs.declared.reader.Mode.TheVariants.{First, Margin, Blank, Text, Hash, Mark, Caret, Comment, Wrong}
+
+-- an error that is passed on
+pub passed_up : {T E : Type 0} (r : Result T E) (e : E) (P : E → Type 0) → IsErrAnd r (λ y. y ≡ e) → P e → IfErr r P
+passed_up (Ok x) e P is p = tt
+passed_up (Err y) e P is p = subst P (sym is) p
 
 -- One source more.
 pub one_source_more : {S : Type 0} (source : SourceView S) (files : Option Files) (names : List (String Global)) (name : String Global) (old mid new : S) (made text strings : List ℕ)

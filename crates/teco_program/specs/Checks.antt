@@ -2,7 +2,7 @@
 use Rattle.std.specs.Prelude.{◌≡◌, ◌⊎◌, ℕ, List, Bool, codes, false, true, if◌then◌else◌}
 use Rattle.teco_advice.specs.Strings.{is_faulty}
 use Rattle.teco_program.specs.Ending.{said}
-use Rattle.teco_program.specs.Run.{Tells}
+use Rattle.teco_program.specs.Refusing.{Tells}
 use Rattle.teco_step.specs.Terminal.{Screen, Shows}
 
 -- It says whether one of the strings of these commands has a fault, where some registers hold code.

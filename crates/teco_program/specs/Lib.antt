@@ -7,7 +7,9 @@ pub mod Held
 pub mod Ending
 pub mod Draft
 pub mod Writing
+pub mod Refusing
 pub mod Seen
+pub mod Refusing
 pub mod Run
 pub mod Sources
 pub mod Checks

@@ -5,14 +5,10 @@ use Rattle.std.specs.String.{string_bytes}
 use Rattle.std.specs.declared.string.String.{String}
 use Rattle.std.specs.declared.vec.Vec.{Vec}
 use Rattle.std.specs.declared.alloc.Global.{Global}
-use Rattle.clap.specs.Words.{kind_of}
-use Rattle.clap.specs.declared.error.kind.ErrorKind.{ErrorKind}
-use Rattle.clap.specs.declared.error.kind.ErrorKind.TheVariants as kind
 use Rattle.teco_step.specs.Terminal.{IsFrontOf, Screen, Shows}
 use Rattle.teco_line.specs.CommandLine.{IsLine, IsLineFault}
 use Rattle.teco_line.specs.StreamNames.{is_standard_output}
 use Rattle.teco_line.specs.declared.line.LineFault.{LineFault}
-use Rattle.teco_line.specs.declared.line.LineFault.TheVariants as line_fault
 use Rattle.std.specs.IoError.{error_kind}
 use Rattle.std.specs.declared.io.Error.{Error}
 use Rattle.std.specs.declared.io.ErrorKind.TheVariants.{OutOfMemory}
@@ -21,6 +17,7 @@ use Rattle.teco_session.specs.History.{History, new_paged_history, present}
 use Rattle.teco_files.specs.Disk.{Changes, Files, Opens, Passes, SameBut}
 use Rattle.teco_program.specs.Ending.{fate_without_input, output_of, said, status_of, text_of}
 use Rattle.teco_files.specs.Input.{IsFaultOf}
+use Rattle.teco_program.specs.Refusing.{IsRefusedBy, Tells}
 use Rattle.teco_program.specs.Serving.{Serves}
 use Rattle.teco_program.specs.Seen.{CommandsSeen, DiskSeen, InputSeen, OutputSeen, RunSeen, SourceView, TerminalSeen}
 use Rattle.teco_program.specs.Seen.{terminal_seen}
@@ -269,11 +266,6 @@ FinishesIn false served output in_place name before after screen old new fate =
 pub record Edits {I T : Type 0} (line : Line) (input : List ℕ) (run : RunSeen I T) (fate : Fate) : Type 0 where
   pub ends : EndsIn (is_standard_output (output_of line input)) line (output_of line input) run fate
 
--- All of the text is shown, or a beginning of it and then the terminal fails.
-abbrev pub Tells : Screen → Screen → List ℕ → Type 0
-Tells old new text = Shows old new text false
-    ⊎ ((front : List ℕ) × IsFrontOf front text × Shows old new front true)
-
 -- The status is that of the fate, and its line is told on standard error; or that there is no memory for the
 -- line, where there is one.
 pub record Concludes (line : Line) (input : List ℕ) (fate : Fate) (old new : Screen) (status : ℕ) : Type 0 where
@@ -291,26 +283,10 @@ abbrev pub IsFaultIn : Result (Vec (String Global) Global) LineFault → LineFau
 IsFaultIn (Ok words) fault = IsLineFault (map string_bytes words.items) fault
 IsFaultIn (Err given) fault = fault ≡ given
 
--- What was asked for was shown; or the status is 1, since it could not be.
-abbrev pub IsAnswered : Screen → Screen → ℕ → Type 0
-IsAnswered old new status = ((status ≡ 0) × (new.failures ≡ old.failures)) ⊎ (status ≡ 1)
-
--- The status of a line that the parser refuses: 3, but for the help and the version. The screens are those of
--- the terminal, before and after.
-pub record IsRefused (error : ErrorKind) (old new : Screen) (status : ℕ) : Type 0 where
-  pub help : error ≡ kind.DisplayHelp → IsAnswered old new status
-  pub version : error ≡ kind.DisplayVersion → IsAnswered old new status
-  pub faulty : error ≢ kind.DisplayHelp → error ≢ kind.DisplayVersion → status ≡ 3
-
--- The status of a line that is refused; 1 where memory was refused.
-abbrev pub IsRefusedBy : LineFault → Screen → Screen → ℕ → Type 0
-IsRefusedBy line_fault.NoMemory old new status = status ≡ 1
-IsRefusedBy (line_fault.Refused error) old new status = IsRefused (kind_of error) old new status
-
 -- The words say no line, and nothing is done but that that is told.
-pub record Refuses (words : Result (Vec (String Global) Global) LineFault) (still : Type 0)
-    (old new : Screen) (status : ℕ) : Type 0 where
+pub record Refuses {T E : Type 0} (screen : T → Screen) (errors : E → Screen) (words : Result (Vec (String Global) Global) LineFault)
+    (still : Type 0) (old new : T) (told telling : E) (status : ℕ) : Type 0 where
   pub fault : LineFault
   pub fault_is : IsFaultIn words fault
-  pub status_is : IsRefusedBy fault old new status
+  pub refused : IsRefusedBy screen errors (said (codes "no memory")) fault old new told telling status
   pub kept : still

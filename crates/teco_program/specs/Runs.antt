@@ -191,5 +191,5 @@ pub record RunsOverLine {D I S T W E : Type 0} (view : HostView D I S T W) (erro
 abbrev pub Runs : {D I S T W E : Type 0} → HostView D I S T W → (E → Screen) → Result (Vec (String Global) Global) LineFault
     → Host D S T → Host D S T → E → E → ℕ → Type 0
 Runs view errors words old new told telling status =
-    Refuses words ((new.stream ≡ old.stream) × (new.disk ≡ old.disk)) (view.screen old.term) (view.screen new.term) status
+    Refuses view.screen errors words ((new.stream ≡ old.stream) × (new.disk ≡ old.disk)) old.term new.term told telling status
     ⊎ RunsOverLine view errors words old new told telling status

@@ -10,7 +10,8 @@ use Rattle.teco_line.specs.StreamNames.{is_standard_input}
 use Rattle.teco_line.specs.declared.line.Commands.{Commands}
 use Rattle.teco_line.specs.declared.line.Commands.TheVariants.{StandardInput, Sources, Pages, Bytes}
 use Rattle.teco_program.specs.Ending.{said}
-use Rattle.teco_program.specs.Run.{IsInput, IsStreamed, Tells}
+use Rattle.teco_program.specs.Refusing.{Tells}
+use Rattle.teco_program.specs.Run.{IsInput, IsStreamed}
 use Rattle.teco_program.specs.Seen.{SourceView}
 use Rattle.teco_program.specs.declared.sources.CommandsFault.{CommandsFault}
 use Rattle.teco_program.specs.declared.sources.CommandsFault.TheVariants.{Memory, Unread, Caret}

@@ -4,7 +4,7 @@ ghost use Rattle.teco_advice.specs.Strings.{is_faulty};
 ghost use Rattle.teco_line.specs.Conflict.{are_awaited};
 ghost use Rattle.teco_program.specs.Checks.{SaysWhether, TellsVerdict, status_of_check};
 ghost use Rattle.teco_program.specs.Ending.{said};
-ghost use Rattle.teco_program.specs.Run.{Tells};
+ghost use Rattle.teco_program.specs.Refusing.{Tells};
 ghost use Rattle.teco_program.specs.Runs.{ChecksLine, host, host_view};
 ghost use Rattle.teco_program.specs.Seen.{disk_seen, source_view};
 

@@ -1,13 +1,13 @@
 //! What the program does, on any disk, terminal and commands.
 ghost use Rattle.std.specs.Prelude.{◌≡◌, true, false, codes, IfErr, IfOk, IfSome};
-ghost use Rattle.clap.specs.Words.{kind_of};
 ghost use Rattle.std.specs.Process.{exit_status};
 ghost use Rattle.std.specs.String.{string_bytes};
 ghost use Rattle.teco_line.specs.CommandLine.{IsDepth};
 ghost use Rattle.teco_line.specs.Conflict.{has_conflict};
 ghost use Rattle.teco_line.specs.StreamNames.{is_standard_input};
 ghost use Rattle.teco_program.specs.Ending.{said};
-ghost use Rattle.teco_program.specs.Run.{Concludes, IsFaultIn, IsLineIn, IsRefused, IsRefusedBy, Tells};
+ghost use Rattle.teco_program.specs.Refusing.{Tells};
+ghost use Rattle.teco_program.specs.Run.{Concludes, IsFaultIn, IsLineIn};
 ghost use Rattle.teco_program.specs.Runs.{EditsBy, EditsByFile, EditsByNamed, Runs, RunsOrChecks, host, host_view, is_streamed};
 ghost use Rattle.teco_program.specs.Seen.{disk_seen, source_view};
 
@@ -15,14 +15,17 @@ use crate::checking::check_line;
 use crate::editing::{edit_file, edit_input, fate_of};
 use crate::fate::{Fate, ending_of};
 use crate::listener::{Explainer, Listens, Silent};
+use crate::refusing::refuse;
 use crate::several::edit_all;
-use crate::text_on::{Untold, tell};
 use std::alloc::Global;
 use std::process::ExitCode;
 use teco_core::NoMemory;
 use teco_files::{Disk, Source, WordSource};
-use teco_line::{Commands, Line, LineFault, is_standard_input, line_of, refused_status};
+use teco_line::{Commands, Line, LineFault, is_standard_input, line_of};
 use teco_step::Terminal;
+
+/// What is told where memory is refused to the program.
+const NO_MEMORY: &[u8] = b"teco: no memory\n";
 
 /// Edits the input of the line by the commands that are in this file.
 fn edit_by_file<S: Source, T: Terminal, L: Listens, D: Disk>(
@@ -166,7 +169,7 @@ pub fn no_memory<E: Terminal>(errors: &mut E) -> u8
     ensures status { result ≡ 1 }
     ensures told { Tells (E.screen errors.old) (E.screen errors.new) (said (codes "no memory")) }
 {
-    let _ = errors.put(b"teco: no memory\n");
+    let _ = errors.put(NO_MEMORY);
     1
 }
 
@@ -186,43 +189,6 @@ pub fn conclude<E: Terminal>(
             status
         }
         Err(NoMemory) => no_memory(errors),
-    }
-}
-
-/// Tells why the parser refused the line: on standard error, or on standard output where the help or the version was asked for. Those
-/// are what was wanted, so it is a failure if they can't be shown.
-fn refuse_by<T: Terminal, E: Terminal>(
-    alloc: Global,
-    error: &clap::Error,
-    term: &mut T,
-    errors: &mut E,
-) -> u8
-    ensures { IsRefused (kind_of error.now) (T.screen term.old) (T.screen term.new) result }
-{
-    let status = refused_status(error);
-    if status != 0 {
-        let _ = tell(alloc, error, errors);
-        return status;
-    }
-    match tell(alloc, error, term) {
-        Ok(()) => status,
-        Err(Untold::NoMemory) => no_memory(errors),
-        Err(Untold::Unshown) => 1,
-    }
-}
-
-/// Tells why there is no line.
-fn refuse<T: Terminal, E: Terminal>(
-    alloc: Global,
-    fault: &LineFault,
-    term: &mut T,
-    errors: &mut E,
-) -> u8
-    ensures { IsRefusedBy fault.now (T.screen term.old) (T.screen term.new) result }
-{
-    match fault {
-        LineFault::NoMemory => no_memory(errors),
-        LineFault::Refused(error) => refuse_by(alloc, error, term, errors),
     }
 }
 
@@ -295,6 +261,6 @@ pub fn program<S: Source, T: Terminal, E: Terminal, N: Terminal, D: Disk>(
         Ok(line) => ExitCode::from(run_over(
             alloc, &line, number, commands, term, errors, notes, disk,
         )),
-        Err(fault) => ExitCode::from(refuse(alloc, &fault, term, errors)),
+        Err(fault) => ExitCode::from(refuse(&fault, NO_MEMORY, term, errors)),
     }
 }

@@ -41,7 +41,7 @@ fn has_standard_input(line: &Line) -> bool
     is_standard_input(line.input.as_str()) || one_is_standard_input(&line.more)
 }
 
-/// What the parser's error says of a line with a conflict, if it has one.
+/// What is told of a line with a conflict, if it has one.
 pub(crate) fn conflict_in(line: &Line) -> Option<&'static str>
     ensures { is_some result ≡ has_conflict line.now }
 {

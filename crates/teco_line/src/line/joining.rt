@@ -6,7 +6,7 @@ ghost use Rattle.std.specs.String.{string_bytes};
 ghost use Rattle.teco_line.specs.Joining.{begins_with_hyphen as begins, joined as joined_words, joined_after, is_long as has_name, is_short as has_letter, is_joined as makes_one, wants_value, with_value as one_word};
 ghost use Rattle.teco_line.specs.OptionTable.{option_rules, rule_by};
 
-use super::options::{OPTIONS, OptionRow, Takes};
+use super::options::{OptionRow, Takes, options};
 use std::alloc::Global;
 use teco_core::NoMemory;
 
@@ -68,7 +68,7 @@ fn one_is_option(word: &str, rows: &[OptionRow]) -> bool
 fn is_awaiting(word: &str) -> bool
     ensures { result ≡ list_any (wants_value word.now) option_rules }
 {
-    one_is_option(word, &OPTIONS)
+    one_is_option(word, options())
 }
 
 fn begins_with_hyphen(word: &str) -> bool

@@ -1,7 +1,7 @@
 //! The table of options.
-ghost use Rattle.clap.specs.Words.{app_of, rule_of};
+ghost use Rattle.clap.specs.Words.{app_of, rule_of, with_rule};
 ghost use Rattle.std.specs.Prelude.{◌≡◌, IfOk, false, map};
-ghost use Rattle.teco_line.specs.OptionTable.{option, rule_by, with_rules};
+ghost use Rattle.teco_line.specs.OptionTable.{option, option_rules, rule_by, with_rules};
 
 use super::{MOST_PAGE_LINES, MOST_STEPS};
 use clap::builder::ValueParser;
@@ -40,7 +40,7 @@ pub(crate) struct OptionRow {
 }
 
 /// Every option, in the order of the help.
-pub(crate) const OPTIONS: [OptionRow; 12] = [
+static OPTIONS: [OptionRow; 12] = [
     OptionRow {
         name: "execute",
         short: Some('e'),
@@ -127,6 +127,13 @@ pub(crate) const OPTIONS: [OptionRow; 12] = [
     },
 ];
 
+/// The table.
+pub(crate) fn options() -> &'static [OptionRow]
+    ensures { map rule_by result.now ≡ option_rules }
+{
+    &OPTIONS
+}
+
 /// The argument by its name alone.
 fn named<'a>(alloc: Global, row: &OptionRow) -> Arg<'a>
     ensures rule { rule_of result ≡ option row.now.name.now row.now.short }
@@ -161,6 +168,17 @@ fn arg_by<'a>(alloc: Global, row: &OptionRow) -> Arg<'a>
     }
 }
 
+/// The command with an option for this row.
+fn with_option<'a>(
+    alloc: Global,
+    command: Command<'a>,
+    row: &OptionRow,
+) -> Result<Command<'a>, NoMemory>
+    ensures { IfOk result (λ made. app_of made ≡ with_rule (app_of command.entry) (rule_by row.now)) }
+{
+    command.arg(arg_by(alloc, row))
+}
+
 /// The command with an option for each row.
 pub(crate) fn with_table<'a>(
     alloc: Global,
@@ -171,7 +189,7 @@ pub(crate) fn with_table<'a>(
 {
     let mut command = command;
     for row in rows {
-        command = command.arg(arg_by(alloc, row))?;
+        command = with_option(alloc, command, row)?;
     }
     Ok(command)
 }

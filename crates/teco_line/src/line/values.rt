@@ -1,15 +1,15 @@
 //! What a parse gives for an argument.
 ghost use Rattle.clap.specs.Words.{all_of, first_of, found_of, one_of, rows_of};
-ghost use Rattle.std.specs.Prelude.{[], ◌≡◌, ◌↔◌, IfOk, IfSome, IsTrue, Some, codes, map, option_map, unwrap_or};
+ghost use Rattle.std.specs.Prelude.{[], ◌≡◌, ◌↔◌, IfOk, IfSome, IsTrue, Some, codes, length, map, nat_lt, option_map, unwrap_or};
 ghost use Rattle.std.specs.String.{string_bytes};
-ghost use Rattle.teco_line.specs.CommandLine.{IsNumber, number_of, text_behind};
+ghost use Rattle.teco_line.specs.CommandLine.{IsNumber, number_of, text_behind, texts_behind};
 
 use clap::ArgMatches;
 use std::alloc::Global;
 use teco_core::NoMemory;
 
 /// A text of the line, where it is given.
-fn text_given(alloc: Global, text: Option<&str>) -> Result<Option<String>, NoMemory>
+pub(crate) fn text_given(alloc: Global, text: Option<&str>) -> Result<Option<String>, NoMemory>
     ensures { IfOk result (λ given. option_map string_bytes given ≡ text_behind text.entry) }
 {
     match text {
@@ -40,6 +40,26 @@ fn owned(alloc: Global, texts: &[&str]) -> Result<Vec<String>, NoMemory>
     Ok(given)
 }
 
+/// The texts of an argument that may be given more than once, of memory of their own.
+pub(crate) fn texts_given(alloc: Global, texts: Option<&[&str]>) -> Result<Vec<String>, NoMemory>
+    ensures { IfOk result (λ given. map string_bytes given.items ≡ texts_behind texts.entry) }
+{
+    match texts {
+        Some(texts) => owned(alloc, texts),
+        None => Ok(Vec::new(alloc)),
+    }
+}
+
+/// Whether there is one.
+pub(crate) fn are_given(texts: Option<&[&str]>) -> bool
+    ensures { result ≡ nat_lt 0 (length (texts_behind texts.entry)) }
+{
+    match texts {
+        Some(texts) => !texts.is_empty(),
+        None => false,
+    }
+}
+
 /// The texts of an argument that may be given more than once.
 pub(crate) fn texts_at(
     alloc: Global,
@@ -48,10 +68,7 @@ pub(crate) fn texts_at(
 ) -> Result<Vec<String>, NoMemory>
     ensures { IfOk result (λ given. unwrap_or (all_of id.now (rows_of (found_of matches.now))) [] ≡ map string_bytes given.items) }
 {
-    match matches.get_strs(id) {
-        Some(texts) => owned(alloc, texts),
-        None => Ok(Vec::new(alloc)),
-    }
+    texts_given(alloc, matches.get_strs(id))
 }
 
 /// Whether a flag is up.

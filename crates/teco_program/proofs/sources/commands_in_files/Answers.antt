@@ -1,11 +1,10 @@
 use Rattle.std.proofs.Common.{◌≡◌, ◌∙◌, ◌++◌, ◌+◌, ℕ, List, [], ◌∷◌, Ok, ap, sym, subst, take, add-one, take-suc}
 use Rattle.std.specs.String.{string_bytes}
-use Rattle.clap.proofs.TakesLemmas.{passed_up}
 use Rattle.teco_line.specs.StreamNames.{is_standard_input}
 use Rattle.teco_program.specs.Seen.{source_view}
 use Rattle.teco_program.specs.Sources.{AreCommandsIn, IsFaultOf, IsWholeOf, LacksFiles}
 use Rattle.teco_source.specs.Source.{commands_of}
-use Rattle.teco_program.proofs.CommandSources.{faulty_file, one_source_more, same_files}
+use Rattle.teco_program.proofs.CommandSources.{faulty_file, one_source_more, passed_up, same_files}
 use Rattle.teco_program.proofs.Doings.{keeps_after}
 use Rattle.teco_program.proofs.sources.commands_in_files.Goals as goal
 
