@@ -5,7 +5,6 @@ mod conditionals;
 mod faults;
 mod iterations;
 mod jumps;
-mod laws;
 mod page_lines;
 mod page_turns;
 mod places;

@@ -1,10 +1,9 @@
 //! Runs of the whole program by the commands of its line. Those on standard input are not read then.
 use super::assert_of;
-use super::program::{Files, Run, commands_of, disk_with, has_just, runs_by};
+use super::program::{Files, NOT_READ, Run, runs};
 use std::alloc::Global;
 use std::process::Abort;
-use teco_core::NoMemory;
-use teco_files::{MemoryDisk, MemorySource, Refused, Source};
+use teco_files::Refused;
 
 mod checked;
 mod explained;
@@ -19,37 +18,12 @@ use sources::{FROM_A_FILE, FROM_A_WORD, FROM_PAGES, UNREADABLE, WRONG_CARETS};
 /// A run, the files before it, and those after it.
 type Row<'a> = (Run<'a>, Files<'a>, Files<'a>);
 
-/// What is on standard input, and not read.
-const UNREAD: &str = "Ino\x1b\x1bEX\x1b\x1b";
-
-fn is_unread(commands: &mut MemorySource) -> bool {
-    let mut piece = [0; 100];
-    matches!(commands.read(&mut piece), Ok(n) if n == UNREAD.len())
-        && piece.starts_with(UNREAD.as_bytes())
-}
-
-fn runs_unread(alloc: Global, disk: &mut MemoryDisk, run: &Run) -> bool {
-    let mut commands = commands_of(alloc, run);
-    runs_by(alloc, &mut commands, disk, run) && is_unread(&mut commands)
-}
-
-fn runs_over(alloc: Global, disk: &mut MemoryDisk, row: &Row) -> bool {
-    runs_unread(alloc, disk, &row.0) && has_just(disk, row.2)
-}
-
-fn runs(alloc: Global, row: &Row) -> bool {
-    match disk_with(alloc, row.1, Refused::Nothing) {
-        Ok(mut disk) => runs_over(alloc, &mut disk, row),
-        Err(NoMemory) => false,
-    }
-}
-
 const IN: (&str, &str) = ("in", "hi\n");
 
 /// Reads a page, types its length and exits.
 const PAGE: Run = Run {
     words: "teco -e Y$$Z=$$EX$$ in",
-    commands: UNREAD,
+    commands: NOT_READ,
     typed: "3\r\n",
     told: "",
     noted: "",
@@ -67,28 +41,24 @@ const FAULTY: Run = Run {
 const WRITTEN: Files = &[IN, ("in.out", "hi\n")];
 
 /// Where memory was refused, a row holds the second time.
-#[test]
-fn tells_why_a_line_is_faulty(rt: HostRuntime) {
-    for (words, told) in &FAULTY_LINES {
-        let row = (
-            Run {
-                words,
-                told,
-                ..FAULTY
-            },
-            &[IN] as Files,
-            &[IN] as Files,
-        );
-        let held = runs(rt.alloc(), &row) || runs(rt.alloc(), &row);
-        assert_of(&rt, words, held);
+fn all_run(rt: &impl Abort, alloc: Global, rows: &[Row]) {
+    for (run, before, after) in rows {
+        let row = (*run, *before, Refused::Nothing, *after);
+        assert_of(rt, run.words, runs(alloc, &row) || runs(alloc, &row));
     }
 }
 
 /// Where memory was refused, a row holds the second time.
-fn all_run(rt: &impl Abort, alloc: Global, rows: &[Row]) {
-    for row in rows {
-        let held = runs(alloc, row) || runs(alloc, row);
-        assert_of(rt, row.0.words, held);
+#[test]
+fn tells_why_a_line_is_faulty(rt: HostRuntime) {
+    for (words, told) in &FAULTY_LINES {
+        let run = Run {
+            words,
+            told,
+            ..FAULTY
+        };
+        let row = (run, &[IN] as Files, Refused::Nothing, &[IN] as Files);
+        assert_of(&rt, words, runs(rt.alloc(), &row) || runs(rt.alloc(), &row));
     }
 }
 

@@ -1,10 +1,11 @@
 //! Of teco_program: its parts, and runs of the whole program over files in memory; what it says of files of the system that it cannot
 //! read or write.
+use super::assert_of;
 use super::bytes::joined;
 use std::alloc::Global;
 use std::process::{Abort, ExitCode};
 use teco_core::NoMemory;
-use teco_files::{Disk, FileDisk, MemoryDisk, MemorySource, Refused};
+use teco_files::{Disk, FileDisk, MemoryDisk, MemorySource, Refused, Source};
 use teco_line::LineFault;
 use teco_program::program;
 use teco_step::MemoryTerminal;
@@ -14,7 +15,6 @@ mod ending;
 mod input;
 mod inputs;
 mod line;
-mod output;
 mod reader_source;
 mod serving;
 mod splitter;
@@ -31,7 +31,8 @@ pub(super) struct Run<'a> {
     pub(super) status: u8,
 }
 
-fn words_of(alloc: Global, text: &str) -> Result<Vec<String>, NoMemory> {
+/// The words of a text with a blank between them, as the program is given them.
+pub(crate) fn words_of(alloc: Global, text: &str) -> Result<Vec<String>, NoMemory> {
     let mut words = Vec::new(alloc);
     for word in text.split(' ') {
         words.push(String::from_str(alloc, word)?)?;
@@ -39,63 +40,52 @@ fn words_of(alloc: Global, text: &str) -> Result<Vec<String>, NoMemory> {
     Ok(words)
 }
 
-/// The words of a text with a blank between them, as the program is given them.
-fn words_in(alloc: Global, text: &str) -> Result<Vec<String>, LineFault> {
-    match words_of(alloc, text) {
+/// Commands that no run may read, since its line gives others.
+pub(crate) const NOT_READ: &str = "Ino\x1b\x1bEX\x1b\x1b";
+
+/// Whether commands that no run may read are still to be read, if they are such.
+fn is_unread(commands: &mut MemorySource, run: &Run) -> bool {
+    let mut piece = [0; 100];
+    run.commands != NOT_READ
+        || matches!(commands.read(&mut piece), Ok(n) if n == NOT_READ.len())
+            && piece.starts_with(NOT_READ.as_bytes())
+}
+
+/// Whether a run by its commands ends so and types, tells and notes this.
+fn runs_on<D: Disk>(alloc: Global, disk: &mut D, run: &Run) -> bool {
+    let words = match words_of(alloc, run.words) {
         Ok(words) => Ok(words),
         Err(NoMemory) => Err(LineFault::NoMemory),
-    }
-}
-
-fn types_so(run: &Run, typed: &[u8], told: &[u8], noted: &[u8]) -> bool {
-    typed == run.typed.as_bytes() && told == run.told.as_bytes() && noted == run.noted.as_bytes()
-}
-
-/// Whether a run by these commands ends so and types, tells and notes this.
-pub(super) fn runs_by<D: Disk>(
-    alloc: Global,
-    commands: &mut MemorySource,
-    disk: &mut D,
-    run: &Run,
-) -> bool {
+    };
+    let bytes = joined(alloc, &[run.commands.as_bytes()]);
+    let mut commands = MemorySource::new(bytes, Vec::new(alloc), false);
     let mut term = MemoryTerminal::new(alloc);
     let mut errors = MemoryTerminal::new(alloc);
     let mut notes = MemoryTerminal::new(alloc);
     let status = program(
         alloc,
-        words_in(alloc, run.words),
+        words,
         7,
-        commands,
+        &mut commands,
         &mut term,
         &mut errors,
         &mut notes,
         disk,
     );
-    let ended = status == ExitCode::from(run.status);
-    types_so(run, term.bytes(), errors.bytes(), notes.bytes()) && ended
-}
-
-pub(super) fn commands_of(alloc: Global, run: &Run) -> MemorySource {
-    let commands = joined(alloc, &[run.commands.as_bytes()]);
-    MemorySource::new(commands, Vec::new(alloc), false)
-}
-
-fn runs_on<D: Disk>(alloc: Global, disk: &mut D, run: &Run) -> bool {
-    let mut commands = commands_of(alloc, run);
-    runs_by(alloc, &mut commands, disk, run)
+    status == ExitCode::from(run.status)
+        && term.bytes() == run.typed.as_bytes()
+        && errors.bytes() == run.told.as_bytes()
+        && notes.bytes() == run.noted.as_bytes()
+        && is_unread(&mut commands, run)
 }
 
 /// Files by their names.
 pub(super) type Files<'a> = &'a [(&'a str, &'a str)];
 
 /// A run, the files before it, which call is refused, and the files after it.
-type Row<'a> = (Run<'a>, Files<'a>, Refused, Files<'a>);
+pub(super) type Row<'a> = (Run<'a>, Files<'a>, Refused, Files<'a>);
 
-pub(super) fn disk_with(
-    alloc: Global,
-    files: Files,
-    refused: Refused,
-) -> Result<MemoryDisk, NoMemory> {
+fn disk_with(alloc: Global, files: Files, refused: Refused) -> Result<MemoryDisk, NoMemory> {
     let mut disk = MemoryDisk::new(alloc, refused);
     for (name, bytes) in files {
         disk.put(name, bytes.as_bytes())?;
@@ -103,7 +93,7 @@ pub(super) fn disk_with(
     Ok(disk)
 }
 
-pub(super) fn has_just(disk: &MemoryDisk, files: Files) -> bool {
+fn has_just(disk: &MemoryDisk, files: Files) -> bool {
     let mut held = disk.has_only(files);
     for (name, bytes) in files {
         held = held && disk.bytes(name) == Some(bytes.as_bytes());
@@ -111,13 +101,9 @@ pub(super) fn has_just(disk: &MemoryDisk, files: Files) -> bool {
     held
 }
 
-fn runs_over(alloc: Global, disk: &mut MemoryDisk, row: &Row) -> bool {
-    runs_on(alloc, disk, &row.0) && has_just(disk, row.3)
-}
-
-fn runs(alloc: Global, row: &Row) -> bool {
+pub(super) fn runs(alloc: Global, row: &Row) -> bool {
     match disk_with(alloc, row.1, row.2) {
-        Ok(mut disk) => runs_over(alloc, &mut disk, row),
+        Ok(mut disk) => runs_on(alloc, &mut disk, &row.0) && has_just(&disk, row.3),
         Err(NoMemory) => false,
     }
 }
@@ -301,8 +287,7 @@ static VERSION: [Row<'static>; 1] = [(
 /// Where memory was refused, a row holds the second time.
 fn all_run(rt: &impl Abort, alloc: Global, rows: &[Row]) {
     for row in rows {
-        let held = runs(alloc, row) || runs(alloc, row);
-        assert!(rt; held, "{}", row.0.words);
+        assert_of(rt, row.0.words, runs(alloc, row) || runs(alloc, row));
     }
 }
 
@@ -340,6 +325,6 @@ fn says_which_file_it_cannot_have(rt: HostRuntime) {
     for run in &OF_THE_SYSTEM {
         let held = runs_on(rt.alloc(), &mut FileDisk::new(&rt), run)
             || runs_on(rt.alloc(), &mut FileDisk::new(&rt), run);
-        assert!(rt; held, "{}", run.words);
+        assert_of(&rt, run.words, held);
     }
 }

@@ -1,4 +1,3 @@
 //! Of teco_scan: spelling and its faults.
 mod faults;
-mod laws;
 mod modifiers;

@@ -1,9 +1,8 @@
 //! Command strings: what they type, and the code by which they end.
-use super::assert_of;
+use super::commands::FORMS;
 use super::exec::strings::{Row, holds};
-use super::rows::{LINE, cells_of, is_row};
+use super::rows::{Rule, all_hold, cells_of};
 use std::alloc::Global;
-use std::process::Abort;
 use teco_core::Code;
 
 /// The codes that tables name.
@@ -36,32 +35,41 @@ fn code_of(letters: &str) -> Option<Code> {
     None
 }
 
-/// Whether a line holds; it does not where its code is none of them.
-fn types_so(alloc: Global, cells: (&str, &str, &str)) -> bool {
-    let (text, typed, letters) = cells;
-    let code = code_of(letters);
-    let named = code.is_some() || letters.is_empty();
-    named && holds(alloc, &Row::new(text.as_bytes(), typed, code))
-}
+/// A row is a text, what it types, and the letters of the code by which it ends, if it ends by one.
+#[derive(Clone, Copy)]
+pub(crate) struct Types;
 
-fn line_holds(alloc: Global, line: &str) -> bool {
-    match cells_of(line) {
-        Some(cells) => types_so(alloc, cells),
-        None => false,
+impl Rule for Types {
+    fn holds(&self, alloc: Global, row: &str) -> bool {
+        match cells_of(row) {
+            Some((text, typed, letters, None)) => {
+                let code = code_of(letters);
+                let is_named = code.is_some() || letters.is_empty();
+                is_named && holds(alloc, &Row::new(text.as_bytes(), typed, code))
+            }
+            _ => false,
+        }
     }
 }
 
-/// A row of the table is a text, what it types, and the letters of the code by which it ends, if it ends by one.
-pub(crate) fn all_type(rt: &impl Abort, alloc: Global, table: &str) {
-    for line in table.split(LINE) {
-        assert_of(rt, line, !is_row(line) || line_holds(alloc, line));
-    }
+#[test]
+fn commands_do_what_they_mean(rt: HostRuntime) {
+    all_hold(&rt, rt.alloc(), &Types, values::ROWS);
+    all_hold(&rt, rt.alloc(), &Types, edits::ROWS);
+    all_hold(&rt, rt.alloc(), &Types, texts::ROWS);
+    all_hold(&rt, rt.alloc(), &Types, searches::ROWS);
+    all_hold(&rt, rt.alloc(), &Types, failed_searches::PARDONED);
+}
+
+#[test]
+fn commands_take_their_forms(rt: HostRuntime) {
+    all_hold(&rt, rt.alloc(), &Types, FORMS);
+    all_hold(&rt, rt.alloc(), &Types, operands::ROWS);
+    all_hold(&rt, rt.alloc(), &Types, search_forms::ROWS);
 }
 
 mod edits;
 mod failed_searches;
-mod forms;
-mod laws;
 mod operands;
 mod search_forms;
 mod searches;

@@ -33,15 +33,13 @@ fn made_of(alloc: Global, mode: Mode, words: bool, input: &str) -> Result<Made, 
     make(alloc, &line, input.as_bytes())
 }
 
-fn is_place(cell: &str, at: usize) -> bool {
-    matches!(cell.parse::<usize>(), Ok(place) if place == at)
-}
-
 fn is_wanted(made: &Made, wanted: Wanted, cell: &str) -> bool {
     match (made, wanted) {
         (Made::Fine(bytes), Wanted::Fine) => bytes.as_slice() == cell.as_bytes(),
         (Made::Faulty(lines), Wanted::Faulty) => lines.as_slice() == cell.as_bytes(),
-        (Made::Unreadable(at), Wanted::Unreadable) => is_place(cell, *at),
+        (Made::Unreadable(at), Wanted::Unreadable) => {
+            matches!(cell.parse::<usize>(), Ok(place) if place == *at)
+        }
         _ => false,
     }
 }

@@ -237,8 +237,9 @@ fn words_of(alloc: Global, text: &str) -> Result<Vec<String>, NoMemory> {
     Ok(words)
 }
 
-fn words_in(alloc: Global, text: &str) -> Result<Vec<String>, LineFault> {
-    match words_of(alloc, text) {
+/// The words of a run, as the program is given them.
+fn words_in(alloc: Global, run: &Run) -> Result<Vec<String>, LineFault> {
+    match words_of(alloc, run.words) {
         Ok(words) => Ok(words),
         Err(NoMemory) => Err(LineFault::NoMemory),
     }
@@ -264,38 +265,31 @@ fn has_just(disk: &MemoryDisk, files: Files) -> bool {
 fn ends_so<T: Terminal>(
     alloc: Global,
     words: Result<Vec<String>, LineFault>,
-    input: Vec<u8>,
     term: &mut T,
     disk: &mut MemoryDisk,
     run: &Run,
-) -> bool {
+) -> Result<bool, NoMemory> {
+    let input = Vec::from_slice(alloc, run.input.as_bytes())?;
     let mut stream = MemorySource::new(input, Vec::new(alloc), false);
     let mut errors = MemoryTerminal::new(alloc);
     let status = program(alloc, words, 7, &mut stream, term, &mut errors, disk);
-    status == ExitCode::from(run.status) && errors.bytes() == run.told.as_bytes()
-}
-
-fn runs_on(alloc: Global, disk: &mut MemoryDisk, run: &Run) -> Result<bool, NoMemory> {
-    let input = Vec::from_slice(alloc, run.input.as_bytes())?;
-    let words = words_in(alloc, run.words);
-    let mut term = MemoryTerminal::new(alloc);
-    let ended = ends_so(alloc, words, input, &mut term, disk, run);
-    Ok(ended && term.bytes() == run.typed.as_bytes())
-}
-
-fn runs_over(alloc: Global, row: &Row) -> Result<bool, NoMemory> {
-    let mut disk = disk_with(alloc, row.1, row.2)?;
-    Ok(runs_on(alloc, &mut disk, &row.0)? && has_just(&disk, row.3))
+    Ok(status == ExitCode::from(run.status) && errors.bytes() == run.told.as_bytes())
 }
 
 fn runs(alloc: Global, row: &Row) -> bool {
-    matches!(runs_over(alloc, row), Ok(true))
+    let Ok(mut disk) = disk_with(alloc, row.1, row.2) else {
+        return false;
+    };
+    let words = words_in(alloc, &row.0);
+    let mut term = MemoryTerminal::new(alloc);
+    ends_so(alloc, words, &mut term, &mut disk, &row.0) == Ok(true)
+        && term.bytes() == row.0.typed.as_bytes()
+        && has_just(&disk, row.3)
 }
 
 fn all_run(rt: &impl Abort, alloc: Global, rows: &[Row]) {
     for row in rows {
-        let held = runs(alloc, row) || runs(alloc, row);
-        super::assert_of(rt, row.0.words, held);
+        super::assert_of(rt, row.0.words, runs(alloc, row) || runs(alloc, row));
     }
 }
 
@@ -322,28 +316,22 @@ const REFUSED: Run = Run {
     ..UNSHOWN
 };
 
-fn fails_so(
-    alloc: Global,
-    words: Result<Vec<String>, LineFault>,
-    run: &Run,
-) -> Result<bool, NoMemory> {
-    let input = Vec::from_slice(alloc, run.input.as_bytes())?;
+/// Whether a run by these words ends so where nothing can be shown.
+fn fails_so(alloc: Global, words: Result<Vec<String>, LineFault>, run: &Run) -> bool {
     let mut term = WriterTerminal::new(FailAfter::new(Vec::new(alloc)));
     let mut disk = MemoryDisk::new(alloc, Refused::Nothing);
-    Ok(ends_so(alloc, words, input, &mut term, &mut disk, run))
-}
-
-fn is_told(alloc: Global) -> bool {
-    matches!(
-        fails_so(alloc, words_in(alloc, UNSHOWN.words), &UNSHOWN),
-        Ok(true)
-    ) && matches!(
-        fails_so(alloc, Err(LineFault::NoMemory), &REFUSED),
-        Ok(true)
-    )
+    ends_so(alloc, words, &mut term, &mut disk, run) == Ok(true)
 }
 
 #[test]
 fn what_fails_is_told(rt: HostRuntime) {
-    assert!(rt; is_told(rt.alloc()) || is_told(rt.alloc()));
+    let alloc = rt.alloc();
+    assert!(rt;
+        fails_so(alloc, words_in(alloc, &UNSHOWN), &UNSHOWN)
+            || fails_so(alloc, words_in(alloc, &UNSHOWN), &UNSHOWN)
+    );
+    assert!(rt;
+        fails_so(alloc, Err(LineFault::NoMemory), &REFUSED)
+            || fails_so(alloc, Err(LineFault::NoMemory), &REFUSED)
+    );
 }

@@ -20,8 +20,9 @@ static SENTENCES: [(&str, Wrong, &str); 2] = [
     ),
 ];
 
-fn told(alloc: Global, text: &str, wrong: Wrong) -> Result<String, NoMemory> {
-    let mut out = String::new(alloc);
+/// Whether a row is told so.
+fn is_told(alloc: Global, row: &(&str, Wrong, &str)) -> Result<bool, NoMemory> {
+    let (text, wrong, sentence) = *row;
     let inside = Span {
         from: 0,
         to: text.len(),
@@ -35,37 +36,30 @@ fn told(alloc: Global, text: &str, wrong: Wrong) -> Result<String, NoMemory> {
         at: 0,
         what: What::Fault(fault),
     };
+    let mut out = String::new(alloc);
     show_remark(&mut out, text.as_bytes(), &remark, None)?;
-    Ok(out)
+    Ok(out.as_str() == sentence)
 }
 
-fn is_told(alloc: Global, row: &(&str, Wrong, &str)) -> bool {
-    matches!(told(alloc, row.0, row.1), Ok(text) if text.as_str() == row.2)
-}
-
-/// The lines of 1,001 semicolons outside of an iteration.
-fn lines_of_many(alloc: Global) -> Result<String, NoMemory> {
+/// Of 1,001 semicolons outside of an iteration a thousand remarks are told, and that there are more.
+fn ends_there(alloc: Global) -> Result<bool, NoMemory> {
     let mut commands = Vec::new(alloc);
     commands.resize(1001, b';')?;
     let advice = check(alloc, &commands)?;
-    report(alloc, "-", &commands, None, &commands, &advice)
-}
-
-/// A thousand remarks are told, and that there are more.
-fn ends_there(alloc: Global) -> bool {
-    match lines_of_many(alloc) {
-        Ok(lines) => lines.as_str().contains(
+    let lines = report(alloc, "-", &commands, None, &commands, &advice)?;
+    Ok(
+        lines.as_str().contains(
             "\n-:1:1000: hint: ; is in no iteration of this text, which is SNI\n-:1:1001: hint: more remarks are not told\n",
         ),
-        Err(NoMemory) => false,
-    }
+    )
 }
 
 #[test]
 fn a_sentence_is_told(rt: HostRuntime) {
+    let alloc = rt.alloc();
     for row in &SENTENCES {
-        let held = is_told(rt.alloc(), row) || is_told(rt.alloc(), row);
+        let held = is_told(alloc, row) == Ok(true) || is_told(alloc, row) == Ok(true);
         super::assert_of(&rt, row.0, held);
     }
-    assert!(rt; ends_there(rt.alloc()) || ends_there(rt.alloc()));
+    assert!(rt; ends_there(alloc) == Ok(true) || ends_there(alloc) == Ok(true));
 }

@@ -1,9 +1,8 @@
 //! The forms of arguments before what opens blocks and leaves them, jumps and calls.
-use super::strings::{Ends, all_end};
-use std::test::*;
+use super::strings::Ends;
 use teco_core::Code;
 
-static ROWS: [Ends<'static>; 39] = [
+pub(super) static ROWS: [Ends<'static>; 39] = [
     // Blocks take their forms.
     ("<1=1;>2=", None, 7, "1\r\n2\r\n"),
     ("3<1=>", None, 11, "1\r\n1\r\n1\r\n"),
@@ -46,8 +45,3 @@ static ROWS: [Ends<'static>; 39] = [
     ("1+Ma2=", None, 5, "3\r\n"),
     ("@^Ua/2+/1UbMaQb=", None, 8, "3\r\n"),
 ];
-
-#[test]
-fn blocks_and_jumps_take_their_forms(rt: HostRuntime) {
-    all_end(&rt, rt.alloc(), &ROWS);
-}

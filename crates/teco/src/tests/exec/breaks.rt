@@ -1,9 +1,9 @@
 //! Runs that are broken off: each ends as under a limit of the steps that are done.
+use super::strings::lacked_memory;
 use crate::tests::assert_of;
 use std::alloc::Global;
-use std::process::Abort;
 use teco_core::Code;
-use teco_exec::{Never, Outcome, Stop, run_until, run_where_until};
+use teco_exec::{Never, Outcome, Stop, Stopped, run_until, run_where_until};
 use teco_step::MemoryTerminal;
 use teco_store::Editor;
 
@@ -37,37 +37,34 @@ impl Stop for AfterAnswers {
     }
 }
 
-/// A text, after how many steps it is asked to stop, its limit of steps, the code that it ends by, its steps, and what it types.
-type Row<'a> = (&'a str, u64, u64, Option<Code>, u64, &'a str);
+/// A text, after how many steps it is asked to stop, its limit of steps, the code that it ends by, its steps, what it types, and the
+/// place where it stood, if that is said.
+type Row<'a> = (&'a str, u64, u64, Option<Code>, u64, &'a str, Option<usize>);
 
 const LIM: Option<Code> = Some(Code::Lim);
 
 static ROWS: [Row; 13] = [
     // The steps of a line: each number is one, and each command.
-    ("1=2=3=", 0, 100, LIM, 0, ""),
-    ("1=2=3=", 1, 100, LIM, 1, ""),
-    ("1=2=3=", 4, 100, LIM, 4, "1\r\n2\r\n"),
-    ("1=2=3=", 5, 100, LIM, 5, "1\r\n2\r\n"),
+    ("1=2=3=", 0, 100, LIM, 0, "", None),
+    ("1=2=3=", 1, 100, LIM, 1, "", None),
+    ("1=2=3=", 4, 100, LIM, 4, "1\r\n2\r\n", Some(4)),
+    ("1=2=3=", 5, 100, LIM, 5, "1\r\n2\r\n", None),
     // No step comes where the last one is done.
-    ("1=2=3=", 6, 100, None, 6, "1\r\n2\r\n3\r\n"),
-    ("", 0, 100, None, 0, ""),
+    ("1=2=3=", 6, 100, None, 6, "1\r\n2\r\n3\r\n", None),
+    ("", 0, 100, None, 0, "", None),
     // The smaller of both ends it.
-    ("1=2=3=", 4, 2, LIM, 2, "1\r\n"),
-    ("1=2=3=", 2, 4, LIM, 2, "1\r\n"),
+    ("1=2=3=", 4, 2, LIM, 2, "1\r\n", None),
+    ("1=2=3=", 2, 4, LIM, 2, "1\r\n", None),
     // A called text, also where the step that comes calls it.
-    ("\x15A1=2=\x1bMAMA", 1, 100, LIM, 1, ""),
-    ("\x15A1=2=\x1bMAMA", 5, 100, LIM, 5, "1\r\n"),
-    ("\x15A1=2=\x1bMAMA", 6, 100, LIM, 6, "1\r\n2\r\n"),
+    ("\x15A1=2=\x1bMAMA", 1, 100, LIM, 1, "", None),
+    ("\x15A1=2=\x1bMAMA", 5, 100, LIM, 5, "1\r\n", None),
+    ("\x15A1=2=\x1bMAMA", 6, 100, LIM, 6, "1\r\n2\r\n", None),
     // A text that never ends by itself, and one that fails before.
-    ("<>", 1000, 5000, LIM, 1000, ""),
-    ("1=;", 3, 100, Some(Code::Sni), 3, "1\r\n"),
+    ("<>", 1000, 5000, LIM, 1000, "", None),
+    ("1=;", 3, 100, Some(Code::Sni), 3, "1\r\n", None),
 ];
 
-/// Whether a run lacked memory, for a step or for what it types.
-fn lacked_memory(outcome: Outcome) -> bool {
-    outcome.code == Some(Code::Mem) || outcome.code == Some(Code::Tty)
-}
-
+/// Whether a run ended as its row says; none where it lacked memory.
 fn is_ended(outcome: Outcome, typed: &[u8], row: &Row) -> Option<bool> {
     if lacked_memory(outcome) {
         return None;
@@ -82,81 +79,56 @@ fn try_by<S: Stop>(alloc: Global, row: &Row, stop: &mut S) -> Option<bool> {
     is_ended(outcome, terminal.bytes(), row)
 }
 
+/// Whether a run stood after its steps where the row says, if it says so; none where the place was refused memory.
+fn is_placed(stopped: &Stopped, row: &Row) -> Option<bool> {
+    match (&stopped.place, row.6) {
+        (Ok(Some(place)), Some(at)) => Some(place.at == at && place.steps == row.4),
+        (Ok(None), Some(_)) => Some(false),
+        (Err(_), Some(_)) => None,
+        (_, None) => Some(true),
+    }
+}
+
 /// The same where the place is told too.
-fn try_where_by<S: Stop>(alloc: Global, row: &Row, stop: &mut S) -> Option<bool> {
+fn try_where(alloc: Global, row: &Row) -> Option<bool> {
     let mut editor = Editor::new(Vec::new(alloc));
     let mut terminal = MemoryTerminal::new(alloc);
     let stopped = run_where_until(
         &mut editor,
         row.0.as_bytes(),
         row.2,
-        stop,
+        &mut After(row.1),
         &mut terminal,
         alloc,
     );
-    is_ended(stopped.outcome, terminal.bytes(), row)
+    let is_ended = is_ended(stopped.outcome, terminal.bytes(), row)?;
+    Some(is_placed(&stopped, row)? && is_ended)
 }
 
-/// Where memory was refused, at the second time.
-fn held(first: Option<bool>, second: Option<bool>) -> bool {
-    first.or(second) == Some(true)
+/// Whether a row holds in each way; none where one of them lacked memory.
+fn try_row(alloc: Global, row: &Row) -> Option<bool> {
+    let by_steps = try_by(alloc, row, &mut After(row.1))?;
+    let by_answers = try_by(alloc, row, &mut AfterAnswers(row.1))?;
+    Some(by_steps && by_answers && try_where(alloc, row)?)
 }
 
-fn holds(alloc: Global, row: &Row) -> bool {
-    let mut after = After(row.1);
-    let mut answers = AfterAnswers(row.1);
-    held(
-        try_by(alloc, row, &mut after),
-        try_by(alloc, row, &mut after),
-    ) && held(
-        try_by(alloc, row, &mut answers),
-        try_by(alloc, row, &mut AfterAnswers(row.1)),
-    ) && held(
-        try_where_by(alloc, row, &mut after),
-        try_where_by(alloc, row, &mut after),
-    )
-}
+/// What nobody breaks off.
+const WHOLE: Row = ("1=2=3=", 0, 100, None, 6, "1\r\n2\r\n3\r\n", None);
 
+/// Where memory was refused, a row holds the second time.
 #[test]
 fn runs_end_where_they_are_broken_off(rt: HostRuntime) {
+    let alloc = rt.alloc();
     for row in &ROWS {
-        assert_of(&rt, row.0, holds(rt.alloc(), row));
+        let held = match try_row(alloc, row) {
+            Some(held) => held,
+            None => try_row(alloc, row) == Some(true),
+        };
+        assert_of(&rt, row.0, held);
     }
-}
-
-/// Where a run that was broken off stood: the place and the steps by then.
-fn stood(alloc: Global, text: &str, after: u64) -> Option<(usize, u64)> {
-    let mut editor = Editor::new(Vec::new(alloc));
-    let mut terminal = MemoryTerminal::new(alloc);
-    let stopped = run_where_until(
-        &mut editor,
-        text.as_bytes(),
-        100,
-        &mut After(after),
-        &mut terminal,
-        alloc,
-    );
-    match stopped.place {
-        Ok(Some(place)) => Some((place.at, place.steps)),
-        Ok(None) | Err(_) => None,
-    }
-}
-
-#[test]
-fn runs_that_are_broken_off_tell_where(rt: HostRuntime) {
-    let alloc = rt.alloc();
-    let first = stood(alloc, "1=2=3=", 4);
-    assert!(rt; first.or(stood(alloc, "1=2=3=", 4)) == Some((4, 4)));
-}
-
-#[test]
-fn nobody_breaks_off(rt: HostRuntime) {
-    let row = ("1=2=3=", 0, 100, None, 6, "1\r\n2\r\n3\r\n");
-    let alloc = rt.alloc();
-    assert!(rt;
-        held(
-            try_by(alloc, &row, &mut Never),
-            try_by(alloc, &row, &mut Never)
-        )
-    );
+    let whole = match try_by(alloc, &WHOLE, &mut Never) {
+        Some(held) => held,
+        None => try_by(alloc, &WHOLE, &mut Never) == Some(true),
+    };
+    assert_of(&rt, WHOLE.0, whole);
 }

@@ -1,9 +1,8 @@
 //! Conditionals, with each of their tests.
-use super::strings::{Ends, all_end};
-use std::test::*;
+use super::strings::Ends;
 use teco_core::Code;
 
-static ROWS: [Ends<'static>; 9] = [
+pub(super) static ROWS: [Ends<'static>; 9] = [
     ("1\"G2=|3='4=\x1b", None, 6, "2\r\n4\r\n"),
     ("0\"G2=|3='4=\x1b", None, 6, "3\r\n4\r\n"),
     ("1\"G1\"E2=|3='<;>|4='5=", None, 10, "3\r\n5\r\n"),
@@ -24,8 +23,3 @@ static ROWS: [Ends<'static>; 9] = [
         "1\r\n2\r\n4\r\n",
     ),
 ];
-
-#[test]
-fn conditionals_end_as_they_mean(rt: HostRuntime) {
-    all_end(&rt, rt.alloc(), &ROWS);
-}

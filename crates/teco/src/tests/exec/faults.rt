@@ -1,16 +1,14 @@
 //! The first fault of the text where a run last stood: at the place, in what is skipped, or after it.
-use crate::tests::assert_of;
-use crate::tests::rows::{LINE, cells_of, is_row};
+use crate::tests::rows::{Rule, all_hold};
 use std::alloc::Global;
 use std::fmt::Write;
-use std::process::Abort;
 use std::test::*;
-use teco_core::{Code, NoMemory};
-use teco_exec::{Place, Stopped, run_where};
+use teco_core::NoMemory;
+use teco_exec::{Stopped, run_where};
 use teco_step::MemoryTerminal;
 use teco_store::Editor;
 
-/// A text, where `$` is ESC; the code by which it ends and where its run last stood; and the first fault of the text there, with the
+/// A text; the code by which it ends and where its run last stood; and the first fault of the text there, with the
 /// place of what opens the block in which the text ends.
 const FAULTS: &str = "
     // The run is at the fault.
@@ -41,9 +39,9 @@ const FAULTS: &str = "
     <1; => UTC at 2 => UTC at 3 in 0
     <1\"G1;'?> => ILL at 5 => ILL at 7
     // A jump finds no tag after a fault.
-    Oa$?!a! => TAG at 0 => ILL at 3
-    <Oa$ => TAG at 1 => UTC at 4 in 0
-    <Oa$>!b! => TAG at 1
+    Oa\x1b?!a! => TAG at 0 => ILL at 3
+    <Oa\x1b => TAG at 1 => UTC at 4 in 0
+    <Oa\x1b>!b! => TAG at 1
     // A step fails where the text has a fault, or none.
     J5J? => POP at 2 => ILL at 3
     J5J => POP at 2
@@ -51,67 +49,50 @@ const FAULTS: &str = "
     @^UA/0<J?>/MA? => ILL at 1 => ILL at 3
     @^UA/5J/MA? => POP at 1";
 
-/// A fault, as a row tells it.
-fn write_fault(out: &mut String, place: &Place) -> Result<(), NoMemory> {
+/// Where a run stood that ended by a code, and the first fault there, as a row tells them.
+fn write_told(out: &mut String, stopped: &Stopped) -> Result<(), NoMemory> {
+    let (Some(code), Ok(Some(place))) = (stopped.outcome.code, &stopped.place) else {
+        return Ok(());
+    };
+    let at = place.at;
+    write!(out, "{code} at {at}")?;
     let Some(fault) = place.fault else {
         return Ok(());
     };
-    let code = fault.code;
+    let met = fault.code;
     let at = fault.at;
-    write!(out, "{code} at {at}")?;
+    write!(out, " => {met} at {at}")?;
     if let Some(opened) = fault.opened {
         write!(out, " in {opened}")?;
     }
     Ok(())
 }
 
-/// Where a run stood that ended by this code, as a row tells it.
-fn write_place(out: &mut String, code: Code, place: &Place) -> Result<(), NoMemory> {
-    let at = place.at;
-    write!(out, "{code} at {at}")
-}
-
-/// Whether a run is told as its row says.
-fn is_told(alloc: Global, stopped: &Stopped, place: &str, fault: &str) -> Result<bool, NoMemory> {
-    let (Some(code), Ok(Some(there))) = (stopped.outcome.code, &stopped.place) else {
-        return Ok(false);
-    };
-    let mut stood = String::new(alloc);
-    write_place(&mut stood, code, there)?;
-    let mut met = String::new(alloc);
-    write_fault(&mut met, there)?;
-    Ok(stood.as_bytes() == place.as_bytes() && met.as_bytes() == fault.as_bytes())
-}
-
-/// The bytes of a text, with ESC for each dollar sign.
-fn with_escapes(alloc: Global, text: &str) -> Result<Vec<u8>, NoMemory> {
-    let mut bytes = Vec::new(alloc);
-    for byte in text.as_bytes() {
-        bytes.push(if *byte == b'$' { 0x1b } else { *byte })?;
-    }
-    Ok(bytes)
-}
-
-fn try_row(alloc: Global, row: &str) -> Result<bool, NoMemory> {
-    let Some((text, place, fault)) = cells_of(row) else {
-        return Ok(false);
-    };
-    let bytes = with_escapes(alloc, text)?;
+fn try_row(alloc: Global, text: &str, told: &str) -> Result<bool, NoMemory> {
     let mut editor = Editor::new(Vec::new(alloc));
     let mut terminal = MemoryTerminal::new(alloc);
-    let stopped = run_where(&mut editor, &bytes, 1_000, &mut terminal, alloc);
-    is_told(alloc, &stopped, place, fault)
+    let stopped = run_where(&mut editor, text.as_bytes(), 1_000, &mut terminal, alloc);
+    let mut out = String::new(alloc);
+    write_told(&mut out, &stopped)?;
+    Ok(out.as_str() == told)
 }
 
-/// Whether a row holds; where memory was refused, at the second time.
-fn holds(alloc: Global, row: &str) -> bool {
-    try_row(alloc, row) == Ok(true) || try_row(alloc, row) == Ok(true)
+#[derive(Clone, Copy)]
+struct Tells;
+
+impl Rule for Tells {
+    /// Where memory was refused, at the second time.
+    fn holds(&self, alloc: Global, row: &str) -> bool {
+        match row.split_once(" => ") {
+            Some((text, told)) => {
+                try_row(alloc, text, told) == Ok(true) || try_row(alloc, text, told) == Ok(true)
+            }
+            None => false,
+        }
+    }
 }
 
 #[test]
 fn runs_tell_the_first_fault_of_their_text(rt: HostRuntime) {
-    let alloc = rt.alloc();
-    for row in FAULTS.split(LINE).filter(|line| is_row(line)) {
-        assert_of(&rt, row, holds(alloc, row));
-    }
+    all_hold(&rt, rt.alloc(), &Tells, FAULTS);
 }

@@ -1,9 +1,8 @@
 //! Iterations, with `;` and without.
-use super::strings::{Ends, all_end};
-use std::test::*;
+use super::strings::Ends;
 use teco_core::Code;
 
-static ROWS: [Ends<'static>; 7] = [
+pub(super) static ROWS: [Ends<'static>; 7] = [
     ("0<?>1=\x1b", Some(Code::Ill), 2, ""),
     ("1=>2=\x1b", Some(Code::Bni), 2, "1\r\n"),
     ("3<Ix\x1b>\x1b", None, 8, ""),
@@ -12,8 +11,3 @@ static ROWS: [Ends<'static>; 7] = [
     ("<1\"E|1;'5J>7=\x1b", None, 7, "7\r\n"),
     ("<;>1=\x1b", None, 4, "1\r\n"),
 ];
-
-#[test]
-fn iterations_end_as_they_mean(rt: HostRuntime) {
-    all_end(&rt, rt.alloc(), &ROWS);
-}

@@ -1,9 +1,8 @@
 //! Jumps to tags, and macros.
-use super::strings::{Ends, all_end};
-use std::test::*;
+use super::strings::Ends;
 use teco_core::Code;
 
-static ROWS: [Ends<'static>; 12] = [
+pub(super) static ROWS: [Ends<'static>; 12] = [
     // Jumps end as they mean.
     ("Ox\x1b?!x!\x1b", Some(Code::Tag), 1, ""),
     ("Ox\x1b0<!x!>\x1b", Some(Code::Tag), 1, ""),
@@ -19,8 +18,3 @@ static ROWS: [Ends<'static>; 12] = [
     ("@^UA/+1/2MA=\x1b", None, 6, "3\r\n"),
     ("@^UA/MA/MA\x1b", Some(Code::Pdo), 34, ""),
 ];
-
-#[test]
-fn jumps_and_macros_end_as_they_mean(rt: HostRuntime) {
-    all_end(&rt, rt.alloc(), &ROWS);
-}

@@ -1,28 +1,10 @@
 //! Strings over pages of two lines: a page ends after its second line end, or at a form feed before it.
 use super::strings::{Row, holds};
 use crate::tests::assert_of;
-use std::alloc::Global;
-use std::process::Abort;
 use std::test::*;
 
 /// An input and a text; what its run types and writes to the output, and whether it exits.
 type Ends<'a> = (&'a str, &'a str, &'a str, &'a str, bool);
-
-fn row_of<'a>(ends: &Ends<'a>) -> Row<'a> {
-    let (input, text, typed, output, done) = *ends;
-    Row {
-        input: input.as_bytes(),
-        page_lines: 2,
-        written: Some((output, done)),
-        ..Row::new(text.as_bytes(), typed, None)
-    }
-}
-
-fn all_end_so(rt: &impl Abort, alloc: Global, rows: &[Ends]) {
-    for row in rows {
-        assert_of(rt, row.1, holds(alloc, &row_of(row)));
-    }
-}
 
 static ROWS: [Ends<'static>; 20] = [
     // A page has two lines, and the last one has what is left.
@@ -70,5 +52,13 @@ static ROWS: [Ends<'static>; 20] = [
 
 #[test]
 fn pages_end_after_their_lines(rt: HostRuntime) {
-    all_end_so(&rt, rt.alloc(), &ROWS);
+    for (input, text, typed, output, done) in &ROWS {
+        let row = Row {
+            input: input.as_bytes(),
+            page_lines: 2,
+            written: Some((output, *done)),
+            ..Row::new(text.as_bytes(), typed, None)
+        };
+        assert_of(&rt, text, holds(rt.alloc(), &row));
+    }
 }

@@ -2,31 +2,11 @@
 //! the run.
 use super::strings::{Row, holds};
 use crate::tests::assert_of;
-use std::alloc::Global;
-use std::process::Abort;
 use std::test::*;
 use teco_core::Code;
 
-/// A limit and a text; the code and the steps of its run, what it types and writes to the output, and whether it exits.
+/// Over the pages `a` and `b`: a limit and a text; the code and the steps of its run, what it types and writes to the output, and whether it exits.
 type Ends<'a> = (u64, &'a str, Option<Code>, u64, &'a str, &'a str, bool);
-
-/// The row of a text over the pages `a` and `b`.
-fn row_of<'a>(ends: &Ends<'a>) -> Row<'a> {
-    let (limit, text, code, steps, typed, output, done) = *ends;
-    Row {
-        input: b"a\x0cb",
-        limit,
-        steps: Some(steps),
-        written: Some((output, done)),
-        ..Row::new(text.as_bytes(), typed, code)
-    }
-}
-
-fn all_end_within(rt: &impl Abort, alloc: Global, rows: &[Ends]) {
-    for row in rows {
-        assert_of(rt, row.1, holds(alloc, &row_of(row)));
-    }
-}
 
 static ROWS: [Ends<'static>; 54] = [
     // Each page that is turned is a step, and an exit ends the run.
@@ -101,5 +81,14 @@ static ROWS: [Ends<'static>; 54] = [
 
 #[test]
 fn strings_over_pages_end_within_their_limit(rt: HostRuntime) {
-    all_end_within(&rt, rt.alloc(), &ROWS);
+    for (limit, text, code, steps, typed, output, done) in &ROWS {
+        let row = Row {
+            input: b"a\x0cb",
+            limit: *limit,
+            steps: Some(*steps),
+            written: Some((output, *done)),
+            ..Row::new(text.as_bytes(), typed, *code)
+        };
+        assert_of(&rt, text, holds(rt.alloc(), &row));
+    }
 }

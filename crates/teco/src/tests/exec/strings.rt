@@ -1,4 +1,5 @@
 //! Command strings, run on an editor: what a row asks, how it ends, and how it is tried.
+use super::{block_forms, conditionals, iterations, jumps};
 use crate::tests::assert_of;
 use crate::tests::bytes::{are_both, joined};
 use std::alloc::Global;
@@ -40,49 +41,38 @@ impl<'a> Row<'a> {
     }
 }
 
-fn editor_over(alloc: Global, row: &Row) -> Editor {
-    let mut input = joined(alloc, &[row.input]);
-    input.truncate(FILE_LIMIT);
-    Editor::with_page_lines(input, row.page_lines)
+/// Whether memory was refused for a step, or for what it types.
+pub(crate) fn lacked_memory(outcome: Outcome) -> bool {
+    matches!(outcome.code, Some(Code::Mem | Code::Tty))
 }
 
-fn has_written(editor: &Editor, written: Option<(&str, bool)>) -> bool {
-    match written {
-        Some((output, done)) => are_both(editor.output(), output.as_bytes())
-            && editor.done() == done,
-        None => true,
-    }
-}
-
-/// Whether memory was refused for a step, or for what it types, and no more was typed than is to be.
-fn lacked_memory(outcome: Outcome, typed: &[u8], row: &Row) -> bool {
-    (outcome.code == Some(Code::Mem) || outcome.code == Some(Code::Tty))
-        && row.typed.as_bytes().starts_with(typed)
-}
-
-fn ends_so(outcome: Outcome, typed: &[u8], row: &Row) -> bool {
-    outcome.code == row.code
-        && outcome.steps == row.steps.unwrap_or(outcome.steps)
-        && typed == row.typed.as_bytes()
-}
-
+/// Whether a run ended as its row says; none where it lacked memory, and typed no more than is to be.
 fn told(editor: &Editor, typed: &[u8], outcome: Outcome, row: &Row) -> Option<bool> {
-    if lacked_memory(outcome, typed, row) {
+    if lacked_memory(outcome) && row.typed.as_bytes().starts_with(typed) {
         return None;
     }
-    Some(ends_so(outcome, typed, row) && has_written(editor, row.written))
-}
-
-fn try_on(editor: &mut Editor, terminal: &mut MemoryTerminal, row: &Row) -> Option<bool> {
-    let outcome = run(editor, row.text, row.limit, terminal);
-    told(editor, terminal.bytes(), outcome, row)
+    let is_written = match row.written {
+        Some((output, done)) => {
+            are_both(editor.output(), output.as_bytes()) && editor.done() == done
+        }
+        None => true,
+    };
+    Some(
+        is_written
+            && outcome.code == row.code
+            && outcome.steps == row.steps.unwrap_or(outcome.steps)
+            && typed == row.typed.as_bytes(),
+    )
 }
 
 /// Whether a row holds; none where it lacked memory.
 fn try_row(alloc: Global, row: &Row) -> Option<bool> {
-    let mut editor = editor_over(alloc, row);
+    let mut input = joined(alloc, &[row.input]);
+    input.truncate(FILE_LIMIT);
+    let mut editor = Editor::with_page_lines(input, row.page_lines);
     let mut terminal = MemoryTerminal::new(alloc);
-    try_on(&mut editor, &mut terminal, row)
+    let outcome = run(&mut editor, row.text, row.limit, &mut terminal);
+    told(&editor, terminal.bytes(), outcome, row)
 }
 
 /// Whether a row holds; where memory was refused, at the second time.
@@ -96,17 +86,13 @@ pub(crate) fn holds(alloc: Global, row: &Row) -> bool {
 /// A text, the code by which it ends, its steps, and what it types.
 pub(crate) type Ends<'a> = (&'a str, Option<Code>, u64, &'a str);
 
-fn row_of<'a>(ends: &Ends<'a>) -> Row<'a> {
-    let (text, code, steps, typed) = *ends;
-    Row {
-        steps: Some(steps),
-        ..Row::new(text.as_bytes(), typed, code)
-    }
-}
-
 pub(crate) fn all_end(rt: &impl Abort, alloc: Global, rows: &[Ends]) {
-    for row in rows {
-        assert_of(rt, row.0, holds(alloc, &row_of(row)));
+    for (text, code, steps, typed) in rows {
+        let row = Row {
+            steps: Some(*steps),
+            ..Row::new(text.as_bytes(), typed, *code)
+        };
+        assert_of(rt, text, holds(alloc, &row));
     }
 }
 
@@ -128,6 +114,10 @@ static ROWS: [Ends<'static>; 14] = [
 ];
 
 #[test]
-fn straight_strings_end_as_they_mean(rt: HostRuntime) {
+fn strings_end_as_they_mean(rt: HostRuntime) {
     all_end(&rt, rt.alloc(), &ROWS);
+    all_end(&rt, rt.alloc(), &conditionals::ROWS);
+    all_end(&rt, rt.alloc(), &iterations::ROWS);
+    all_end(&rt, rt.alloc(), &jumps::ROWS);
+    all_end(&rt, rt.alloc(), &block_forms::ROWS);
 }

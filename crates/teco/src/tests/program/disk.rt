@@ -1,4 +1,7 @@
-//! What the disks tell of a file, where an output goes by what its file is, and whose it is then.
+//! Files of the system: how an output is written whole, what a disk tells of a file, where an output goes by what its file is, and whose
+//! it is then. And what a disk in memory gave to a device.
+use crate::tests::assert_of;
+use crate::tests::rows::{LINE, is_row};
 use std::alloc::Global;
 use std::io::{ErrorKind, Read};
 use std::os::fd::AsRawFd;
@@ -7,277 +10,362 @@ use std::{fs, io};
 use teco_files::{Disk, FileDisk, MemoryDisk, Refused};
 use teco_program::write_output;
 
-const FOLDER: &str = "teco_disk_test";
+const FOLDER: &str = "teco_test";
 
-const IN: &str = "teco_disk_test/in";
-
-const OUT: &str = "teco_disk_test/out";
-
-const LINK: &str = "teco_disk_test/link";
-
-const DRAFT: &str = "teco_disk_test/.teco-7";
-
-/// The files of the system, with the memory that a writing takes.
-#[derive(Drop)]
-struct Editing<'a> {
-    alloc: Global,
-    disk: FileDisk<'a, HostRuntime>,
+/// Whether an output of these bytes is written, in two parts.
+fn writes<D: Disk>(alloc: Global, disk: &mut D, name: &str, bytes: &str) -> bool {
+    let parts = bytes.as_bytes().split_at(bytes.len() / 2);
+    write_output(alloc, disk, name, 7, parts).is_ok()
 }
 
-impl<'a> Editing<'a> {
-    fn new(rt: &'a HostRuntime) -> Editing<'a> {
-        Editing {
-            alloc: rt.alloc(),
-            disk: FileDisk::new(rt),
-        }
-    }
+/// The same by a disk of its own, as another program would.
+fn writes_anew(rt: &HostRuntime, name: &str, bytes: &str) -> bool {
+    writes(rt.alloc(), &mut FileDisk::new(rt), name, bytes)
+}
 
-    fn opens(&mut self, name: &str) -> bool {
-        self.disk.open(name).is_ok()
-    }
-
-    fn has_target(&mut self, name: &str) -> bool {
-        self.disk.target_of(name).is_ok()
-    }
-
-    fn writes(&mut self, name: &str, bytes: &[u8]) -> bool {
-        let parts = bytes.split_at(bytes.len() / 2);
-        write_output(self.alloc, &mut self.disk, name, 7, parts).is_ok()
-    }
-
-    /// Whether the disk says so of the file that it opened.
-    fn is_as_read(&mut self, expected: bool) -> bool {
-        matches!(self.disk.is_as_read(IN), Ok(same) if same == expected)
-    }
-
-    /// Whether the last call that failed did so by this.
-    fn failed_by(&self, kind: ErrorKind) -> bool {
-        self.disk.why() == Some(kind)
+fn holds(rt: &HostRuntime, name: &str, bytes: &str) -> bool {
+    match fs::read(rt, name) {
+        Ok(read) => read.as_slice() == bytes.as_bytes(),
+        Err(_) => false,
     }
 }
 
-fn writes(rt: &HostRuntime, name: &str, bytes: &[u8]) -> bool {
-    Editing::new(rt).writes(name, bytes)
+/// Whether a file can be given these permissions, which are octal digits.
+fn set_mode(rt: &HostRuntime, name: &str, mode: &str) -> bool {
+    match u32::from_str_radix(mode, 8) {
+        Ok(mode) => fs::set_permissions(rt, name, fs::Permissions::from_mode(mode)).is_ok(),
+        Err(_) => false,
+    }
 }
 
-fn puts(rt: &HostRuntime, name: &str, bytes: &[u8]) -> bool {
-    fs::write(rt, name, bytes).is_ok()
+fn has_mode(rt: &HostRuntime, name: &str, mode: &str) -> bool {
+    match (fs::metadata(rt, name), u32::from_str_radix(mode, 8)) {
+        (Ok(file), Ok(mode)) => file.mode() & 0o7777 == mode,
+        _ => false,
+    }
 }
 
-fn holds(rt: &HostRuntime, name: &str, bytes: &[u8]) -> bool {
-    matches!(fs::read(rt, name), Ok(read) if read.as_slice() == bytes)
-}
-
-fn set_mode(rt: &HostRuntime, name: &str, mode: u32) -> bool {
-    fs::set_permissions(rt, name, fs::Permissions::from_mode(mode)).is_ok()
-}
-
-fn has_mode(rt: &HostRuntime, name: &str, mode: u32) -> bool {
-    matches!(fs::metadata(rt, name), Ok(file) if file.mode() & 0o7777 == mode)
-}
-
-/// A new file has the permissions of the file that was opened last, whatever others may be usual.
-fn is_as_private_as_the_input(rt: &HostRuntime, mode: u32) -> bool {
-    let mut editing = Editing::new(rt);
-    let _ = fs::remove_file(rt, OUT);
-    puts(rt, IN, b"private")
-        && set_mode(rt, IN, mode)
-        && editing.opens(IN)
-        && editing.writes(OUT, b"too")
-        && holds(rt, OUT, b"too")
-        && has_mode(rt, OUT, mode)
-}
-
-/// A file that is replaced keeps its own permissions, whatever those of the input are.
-fn keeps_its_permissions(rt: &HostRuntime) -> bool {
-    let mut editing = Editing::new(rt);
-    puts(rt, IN, b"public")
-        && set_mode(rt, IN, 0o644)
-        && set_mode(rt, OUT, 0o600)
-        && editing.opens(IN)
-        && editing.writes(OUT, b"again")
-        && holds(rt, OUT, b"again")
-        && has_mode(rt, OUT, 0o600)
+/// Whether a name is a link, or a device.
+fn is_a(rt: &HostRuntime, name: &str, kind: &str) -> bool {
+    match fs::symlink_metadata(rt, name) {
+        Ok(file) => match kind {
+            "link" => file.is_symlink(),
+            "device" => !file.is_file() && !file.is_dir() && !file.is_symlink(),
+            _ => false,
+        },
+        Err(_) => false,
+    }
 }
 
 /// Only root may give a file away; for others nothing is tried.
-fn keeps_its_owner(rt: &HostRuntime) -> bool {
-    if chown(rt, OUT, Some(1234), Some(4321)).is_err() {
+fn keeps_its_owner(rt: &HostRuntime, name: &str) -> bool {
+    if chown(rt, name, Some(1234), Some(4321)).is_err() {
         return true;
     }
-    let written = writes(rt, OUT, b"theirs") && holds(rt, OUT, b"theirs");
-    written && matches!(fs::metadata(rt, OUT), Ok(file) if (file.uid(), file.gid()) == (1234, 4321))
-}
-
-/// Where the draft would be, a link is put beforehand: it isn't followed.
-fn follows_no_link_of_a_draft(rt: &HostRuntime) -> bool {
-    puts(rt, IN, b"victim")
-        && symlink(rt, "in", DRAFT).is_ok()
-        && writes(rt, OUT, b"ours")
-        && holds(rt, OUT, b"ours")
-        && holds(rt, IN, b"victim")
-        && fs::remove_file(rt, DRAFT).is_ok()
+    let written = writes_anew(rt, name, "theirs") && holds(rt, name, "theirs");
+    match fs::metadata(rt, name) {
+        Ok(file) => written && file.uid() == 1234 && file.gid() == 4321,
+        Err(_) => false,
+    }
 }
 
 /// What is written to the descriptor of this number of the process comes out of the reader.
 fn gives_through(rt: &HostRuntime, name: &str, reader: &mut io::PipeReader) -> bool {
     let mut read = [0; 4];
-    writes(rt, name, b"abcd") && reader.read_exact(&mut read).is_ok() && &read == b"abcd"
+    writes_anew(rt, name, "abcd") && reader.read_exact(&mut read).is_ok() && &read == b"abcd"
 }
 
 /// A pipe is a stream, by its name among the descriptors and by a link to that.
-fn writes_on_a_pipe(rt: &HostRuntime) -> bool {
+fn leads_to_a_pipe(rt: &HostRuntime, link: &str) -> bool {
     let Ok((mut reader, writer)) = io::pipe(rt) else {
         return false;
     };
     let Ok(name) = format!(in rt.alloc(); "/proc/self/fd/{}", writer.as_raw_fd()) else {
         return false;
     };
-    let _ = fs::remove_file(rt, LINK);
     gives_through(rt, name.as_str(), &mut reader)
-        && symlink(rt, name.as_str(), LINK).is_ok()
-        && gives_through(rt, LINK, &mut reader)
-        && fs::remove_file(rt, LINK).is_ok()
+        && symlink(rt, name.as_str(), link).is_ok()
+        && gives_through(rt, link, &mut reader)
 }
 
 /// A name among the descriptors that leads to a file is that file: it has the new text alone.
-fn replaces_by_its_descriptor(rt: &HostRuntime) -> bool {
-    let Ok(file) = fs::open(rt, OUT) else {
+fn is_replaced_by_its_descriptor(rt: &HostRuntime, name: &str, bytes: &str) -> bool {
+    let Ok(file) = fs::open(rt, name) else {
         return false;
     };
     match format!(in rt.alloc(); "/proc/self/fd/{}", file.as_raw_fd()) {
-        Ok(name) => writes(rt, name.as_str(), b"new") && holds(rt, OUT, b"new"),
+        Ok(descriptor) => { writes_anew(rt, descriptor.as_str(), bytes) && holds(rt, name, bytes) }
         Err(_) => false,
     }
 }
 
-/// A link to a link to nothing makes the file at their end; a link to itself is an error.
-fn makes_where_links_end(rt: &HostRuntime) -> bool {
-    fs::remove_file(rt, OUT).is_ok()
-        && symlink(rt, "out", "teco_disk_test/end").is_ok()
-        && symlink(rt, "end", LINK).is_ok()
-        && writes(rt, LINK, b"at the end")
-        && holds(rt, OUT, b"at the end")
-        && matches!(fs::symlink_metadata(rt, LINK), Ok(link) if link.is_symlink())
-        && symlink(rt, "self", "teco_disk_test/self").is_ok()
-        && !writes(rt, "teco_disk_test/self", b"nowhere")
-}
-
 /// If standard output goes to a file, that is not replaced, by whichever name.
-fn refuses_standard_output(rt: &HostRuntime) -> bool {
-    let mut editing = Editing::new(rt);
-    let _ = fs::remove_file(rt, LINK);
-    symlink(rt, "/proc/self/fd/1", LINK).is_ok()
-        && match fs::metadata(rt, LINK) {
-            Ok(file) if file.is_file() => {
-                !editing.has_target(LINK) && editing.failed_by(ErrorKind::ResourceBusy)
-            }
-            _ => true,
+fn is_standard_output(rt: &HostRuntime, disk: &mut FileDisk<HostRuntime>, name: &str) -> bool {
+    match fs::metadata(rt, name) {
+        Ok(file) if file.is_file() => {
+            disk.target_of(name).is_err() && disk.why() == Some(ErrorKind::ResourceBusy)
         }
+        _ => true,
+    }
 }
 
-fn sees_a_change(rt: &HostRuntime) -> bool {
-    let mut editing = Editing::new(rt);
-    puts(rt, IN, b"as read")
-        && editing.opens(IN)
-        && editing.is_as_read(true)
-        && puts(rt, IN, b"not as read")
-        && editing.is_as_read(false)
-        && editing.opens(IN)
-        && editing.is_as_read(true)
-        // another file with the same bytes
-        && writes(rt, IN, b"not as read")
-        && editing.is_as_read(false)
-        && editing.opens(IN)
-        && fs::remove_file(rt, IN).is_ok()
-        && editing.is_as_read(false)
+/// What a line of a script does with a file, or sees of it; none where it is for a disk.
+fn does(rt: &HostRuntime, verb: &str, name: &str, value: &str) -> Option<bool> {
+    match verb {
+        "put" => Some(fs::write(rt, name, value.as_bytes()).is_ok()),
+        "has" => Some(holds(rt, name, value)),
+        "remove" => Some(fs::remove_file(rt, name).is_ok()),
+        "gone" => Some(matches!(fs::exists(rt, name), Ok(false))),
+        "link" => Some(symlink(rt, value, name).is_ok()),
+        "chmod" => Some(set_mode(rt, name, value)),
+        "mode" => Some(has_mode(rt, name, value)),
+        "is_a" => Some(is_a(rt, name, value)),
+        "anew" => Some(writes_anew(rt, name, value)),
+        "owner" => Some(keeps_its_owner(rt, name)),
+        "pipe" => Some(leads_to_a_pipe(rt, name)),
+        "descriptor" => Some(is_replaced_by_its_descriptor(rt, name, value)),
+        _ => None,
+    }
 }
+
+/// Whether the last call of a disk that failed did so by this.
+fn failed_by(why: Option<ErrorKind>, kind: &str) -> bool {
+    match why {
+        None => kind == "nothing",
+        Some(ErrorKind::NotFound) => kind == "NotFound",
+        Some(ErrorKind::IsADirectory) => kind == "IsADirectory",
+        Some(ErrorKind::NotADirectory) => kind == "NotADirectory",
+        Some(_) => false,
+    }
+}
+
+/// What a line asks of a disk, and whether it is so; none where there is no such question.
+fn asks(
+    rt: &HostRuntime,
+    disk: &mut FileDisk<HostRuntime>,
+    verb: &str,
+    name: &str,
+    value: &str,
+) -> Option<bool> {
+    match verb {
+        "open" => Some(disk.open(name).is_ok()),
+        "target" => Some(disk.target_of(name).is_ok()),
+        "write" => Some(writes(rt.alloc(), disk, name, value)),
+        "as_read" => Some(matches!(disk.is_as_read(name), Ok(true))),
+        "changed" => Some(matches!(disk.is_as_read(name), Ok(false))),
+        "stdout" => Some(is_standard_output(rt, disk, name)),
+        "why" => Some(failed_by(disk.why(), name)),
+        _ => None,
+    }
+}
+
+/// Whether a line of a script holds: a verb, a name and a value, or the same with a `not` before them.
+fn line_holds(rt: &HostRuntime, disk: &mut FileDisk<HostRuntime>, line: &str) -> bool {
+    let (call, wanted) = match line.strip_prefix("not ") {
+        Some(call) => (call, false),
+        None => (line, true),
+    };
+    let (verb, rest) = call.split_once(' ').unwrap_or((call, ""));
+    let (name, value) = rest.split_once(' ').unwrap_or((rest, ""));
+    match does(rt, verb, name, value) {
+        Some(done) => done == wanted,
+        None => asks(rt, disk, verb, name, value) == Some(wanted),
+    }
+}
+
+/// The first line of a script that does not hold, on a disk of its own; empty where all do.
+fn fails_at<'a>(rt: &HostRuntime, script: &'a str) -> &'a str {
+    let mut disk = FileDisk::new(rt);
+    let mut failed = "";
+    for line in script.split(LINE) {
+        if failed.is_empty() && is_row(line) && !line_holds(rt, &mut disk, line) {
+            failed = line;
+        }
+    }
+    failed
+}
+
+/// The same in a folder that is new.
+fn fails_in_a_folder<'a>(rt: &HostRuntime, script: &'a str) -> &'a str {
+    let _ = fs::remove_dir_all(rt, FOLDER);
+    let made = fs::create_dir(rt, FOLDER).is_ok();
+    let failed = fails_at(rt, script);
+    let gone = fs::remove_dir_all(rt, FOLDER).is_ok();
+    if failed.is_empty() && !(made && gone) {
+        return "the folder";
+    }
+    failed
+}
+
+/// How an output is written.
+const WRITTEN: &str = "
+    // A file that is new, and one with permissions of its own.
+    write teco_test/file new
+    has teco_test/file new
+    chmod teco_test/file 640
+    write teco_test/file again
+    has teco_test/file again
+    mode teco_test/file 640
+    // A file behind a link.
+    link teco_test/link file
+    write teco_test/link behind
+    has teco_test/file behind
+    is_a teco_test/link link
+    // A file that the link leads to and that is not there.
+    remove teco_test/file
+    write teco_test/link led to
+    has teco_test/file led to
+    // No folder, a folder, and a name that no file can take.
+    not write teco_test/no/file a
+    not write teco_test a
+    not write teco_test/none/ a
+    gone teco_test/.teco-7
+    // A draft of someone else's stays as it is, and another name is taken.
+    put teco_test/.teco-7 theirs
+    write teco_test/file ours
+    has teco_test/.teco-7 theirs
+    has teco_test/file ours
+    // A device is given the output, and stays one.
+    write /dev/null a
+    is_a /dev/null device
+    ";
+
+/// Whose it is.
+const WHOSE: &str = "
+    // A new file has the permissions of the file that was opened last, whatever others may be usual.
+    put teco_test/in private
+    chmod teco_test/in 600
+    open teco_test/in
+    write teco_test/out too
+    has teco_test/out too
+    mode teco_test/out 600
+    remove teco_test/out
+    put teco_test/in private
+    chmod teco_test/in 664
+    open teco_test/in
+    write teco_test/out too
+    has teco_test/out too
+    mode teco_test/out 664
+    // A file that is replaced keeps its own permissions, whatever those of the input are.
+    put teco_test/in public
+    chmod teco_test/in 644
+    chmod teco_test/out 600
+    open teco_test/in
+    write teco_test/out again
+    has teco_test/out again
+    mode teco_test/out 600
+    owner teco_test/out
+    // Where the draft would be, a link is put beforehand: it isn't followed.
+    put teco_test/in victim
+    link teco_test/.teco-7 in
+    anew teco_test/out ours
+    has teco_test/out ours
+    has teco_test/in victim
+    remove teco_test/.teco-7
+    ";
+
+/// Where it goes.
+const LEADS: &str = "
+    put teco_test/out old
+    pipe teco_test/link
+    remove teco_test/link
+    descriptor teco_test/out new
+    // A link to a link to nothing makes the file at their end; a link to itself is an error.
+    remove teco_test/out
+    link teco_test/end out
+    link teco_test/link end
+    anew teco_test/link at the end
+    has teco_test/out at the end
+    is_a teco_test/link link
+    link teco_test/self self
+    not anew teco_test/self nowhere
+    remove teco_test/link
+    link teco_test/link /proc/self/fd/1
+    stdout teco_test/link
+    ";
+
+/// What is told of a file that was opened: whether it is as it was read. The second change is another file with the same bytes.
+const CHANGES: &str = "
+    put teco_test/in as read
+    open teco_test/in
+    as_read teco_test/in
+    put teco_test/in not as read
+    changed teco_test/in
+    open teco_test/in
+    as_read teco_test/in
+    anew teco_test/in not as read
+    changed teco_test/in
+    open teco_test/in
+    remove teco_test/in
+    changed teco_test/in
+    ";
 
 /// A call that fails, and the kind of its error, which stays until the next.
-fn says_why(rt: &HostRuntime) -> bool {
-    let mut editing = Editing::new(rt);
-    editing.disk.why().is_none()
-        && !editing.opens("teco_disk_test/none")
-        && editing.failed_by(ErrorKind::NotFound)
-        && !editing.opens(FOLDER)
-        && editing.failed_by(ErrorKind::IsADirectory)
-        && editing.has_target(OUT)
-        && editing.failed_by(ErrorKind::IsADirectory)
-        && !editing.has_target("teco_disk_test/out/file")
-        && editing.failed_by(ErrorKind::NotADirectory)
-        && !editing.has_target(FOLDER)
-        && editing.failed_by(ErrorKind::IsADirectory)
-}
+const WHY: &str = "
+    put teco_test/out a
+    why nothing
+    not open teco_test/none
+    why NotFound
+    not open teco_test
+    why IsADirectory
+    target teco_test/out
+    why IsADirectory
+    not target teco_test/out/file
+    why NotADirectory
+    not target teco_test
+    why IsADirectory
+    ";
 
-fn is_whose_it_was(rt: &HostRuntime) -> bool {
-    is_as_private_as_the_input(rt, 0o600)
-        && is_as_private_as_the_input(rt, 0o664)
-        && keeps_its_permissions(rt)
-        && keeps_its_owner(rt)
-        && follows_no_link_of_a_draft(rt)
-}
-
-fn goes_where_it_leads(rt: &HostRuntime) -> bool {
-    writes_on_a_pipe(rt)
-        && replaces_by_its_descriptor(rt)
-        && makes_where_links_end(rt)
-        && refuses_standard_output(rt)
-        && sees_a_change(rt)
-        && says_why(rt)
-}
-
-fn in_a_new_folder(rt: &HostRuntime) -> bool {
-    let _ = fs::remove_dir_all(rt, FOLDER);
-    fs::create_dir(rt, FOLDER).is_ok()
-        && is_whose_it_was(rt)
-        && goes_where_it_leads(rt)
-        && fs::remove_dir_all(rt, FOLDER).is_ok()
-}
-
-/// Where memory was refused, a second time.
+/// Where memory was refused, a script holds the second time.
 #[test]
-fn tells_what_a_file_is(rt: HostRuntime) {
-    let held = in_a_new_folder(&rt) || in_a_new_folder(&rt);
-    assert!(rt; held);
-}
-
-fn gives(rt: &HostRuntime, disk: &mut MemoryDisk, bytes: &[u8]) -> bool {
-    let parts = bytes.split_at(bytes.len() / 2);
-    write_output(rt.alloc(), disk, "dev", 7, parts).is_ok()
+fn writes_whole_files_and_tells_what_a_file_is(rt: HostRuntime) {
+    for script in [WRITTEN, WHOSE, LEADS, CHANGES, WHY] {
+        let held = fails_in_a_folder(&rt, script).is_empty();
+        let failed = if held {
+            ""
+        } else {
+            fails_in_a_folder(&rt, script)
+        };
+        assert_of(&rt, failed, failed.is_empty());
+    }
 }
 
 fn has_been_given(disk: &MemoryDisk, bytes: &[u8]) -> bool {
     disk.given("dev") == Some(bytes) && disk.has_only(&[])
 }
 
-/// A device is given one output after another, and no file is made. Of an output that is refused half the first part comes.
-fn gives_a_device(rt: &HostRuntime) -> bool {
-    let mut disk = MemoryDisk::new(rt.alloc(), Refused::Nothing);
-    let mut full = MemoryDisk::new(rt.alloc(), Refused::Write);
+/// A device is given one output after another, and no file is made.
+fn gives_a_device(alloc: Global) -> bool {
+    let mut disk = MemoryDisk::new(alloc, Refused::Nothing);
     disk.put_device("dev").is_ok()
-        && gives(rt, &mut disk, b"abcd")
-        && gives(rt, &mut disk, b"efgh")
+        && writes(alloc, &mut disk, "dev", "abcd")
+        && writes(alloc, &mut disk, "dev", "efgh")
         && has_been_given(&disk, b"abcdefgh")
-        && full.put_device("dev").is_ok()
-        && !gives(rt, &mut full, b"abcd")
+}
+
+/// Of an output that is refused half the first part comes.
+fn gives_a_full_device(alloc: Global) -> bool {
+    let mut full = MemoryDisk::new(alloc, Refused::Write);
+    full.put_device("dev").is_ok()
+        && !writes(alloc, &mut full, "dev", "abcd")
         && full.why() == Some(ErrorKind::StorageFull)
         && has_been_given(&full, b"a")
 }
 
-/// Whether a disk in memory says so of a file that it opened.
-fn says_as_read(rt: &HostRuntime, refused: Refused, expected: bool) -> bool {
-    let mut disk = MemoryDisk::new(rt.alloc(), refused);
-    matches!(disk.is_as_read(IN), Ok(same) if same == expected)
-}
-
-/// A disk in memory that is to tell of a change.
-fn tells_a_change(rt: &HostRuntime) -> bool {
-    says_as_read(rt, Refused::Changed, false) && says_as_read(rt, Refused::Nothing, true)
+/// What a disk in memory says of a file that it opened: a change if it is to tell of one.
+fn is_as_read(alloc: Global, refused: Refused) -> bool {
+    let mut disk = MemoryDisk::new(alloc, refused);
+    match disk.is_as_read("in") {
+        Ok(same) => same == !matches!(refused, Refused::Changed),
+        Err(_) => false,
+    }
 }
 
 /// Where memory was refused, a second time.
 #[test]
 fn tells_what_a_device_was_given(rt: HostRuntime) {
-    let held = (gives_a_device(&rt) || gives_a_device(&rt)) && tells_a_change(&rt);
-    assert!(rt; held);
+    let alloc = rt.alloc();
+    assert!(rt; gives_a_device(alloc) || gives_a_device(alloc));
+    assert!(rt; gives_a_full_device(alloc) || gives_a_full_device(alloc));
+    assert!(rt; is_as_read(alloc, Refused::Changed) && is_as_read(alloc, Refused::Nothing));
 }

@@ -1,4 +1,5 @@
 //! What is said of how the program ends.
+use super::words_of;
 use crate::tests::assert_of;
 use std::alloc::Global;
 use teco_core::NoMemory;
@@ -9,16 +10,8 @@ use teco_program::{Fate, Served, ending, ending_of};
 #[derive(Clone, Copy)]
 struct Given<'a> {
     output: Option<&'a str>,
-    more: &'a [&'a str],
+    more: &'a str,
     in_place: bool,
-}
-
-fn owned(alloc: Global, names: &[&str]) -> Result<Vec<String>, NoMemory> {
-    let mut owned = Vec::new(alloc);
-    for name in names {
-        owned.push(String::from_str(alloc, name)?)?;
-    }
-    Ok(owned)
 }
 
 fn line(alloc: Global, given: Given) -> Result<Line, NoMemory> {
@@ -26,9 +19,13 @@ fn line(alloc: Global, given: Given) -> Result<Line, NoMemory> {
         Some(name) => Some(String::from_str(alloc, name)?),
         None => None,
     };
+    let more = match given.more {
+        "" => Vec::new(alloc),
+        names => words_of(alloc, names)?,
+    };
     Ok(Line {
         input: String::from_str(alloc, "in")?,
-        more: owned(alloc, given.more)?,
+        more,
         output,
         in_place: given.in_place,
         page_lines: None,
@@ -47,13 +44,13 @@ type Row<'a> = (Given<'a>, Fate, u8, &'a str);
 /// Nothing but the input.
 const ALONE: Given = Given {
     output: None,
-    more: &[],
+    more: "",
     in_place: false,
 };
 
 /// Two inputs, of which the first is spoken of.
 const TWO: Given = Given {
-    more: &["two"],
+    more: "two",
     ..ALONE
 };
 
@@ -62,16 +59,16 @@ const IN_PLACE: Given = Given {
     ..ALONE
 };
 
-fn ended(alloc: Global, row: &Row) -> Result<(u8, String), NoMemory> {
-    let line = line(alloc, row.0)?;
-    if row.0.more.is_empty() {
-        return ending(alloc, &line, row.1);
-    }
-    ending_of(alloc, &line, "in", row.1)
-}
-
 fn ends_so(alloc: Global, row: &Row) -> bool {
-    match ended(alloc, row) {
+    let Ok(line) = line(alloc, row.0) else {
+        return false;
+    };
+    let ended = if row.0.more.is_empty() {
+        ending(alloc, &line, row.1)
+    } else {
+        ending_of(alloc, &line, "in", row.1)
+    };
+    match ended {
         Ok((status, text)) => status == row.2 && text.as_str() == row.3,
         Err(NoMemory) => false,
     }
@@ -132,10 +129,7 @@ static ROWS: [Row<'static>; 19] = [
 #[test]
 fn says_how_it_ends(rt: HostRuntime) {
     for row in &ROWS {
-        assert_of(
-            &rt,
-            row.3,
-            ends_so(rt.alloc(), row) || ends_so(rt.alloc(), row),
-        );
+        let held = ends_so(rt.alloc(), row) || ends_so(rt.alloc(), row);
+        assert_of(&rt, row.3, held);
     }
 }

@@ -1,39 +1,28 @@
 //! What is read of sources that end, fail, or give too much.
+use crate::tests::bytes::joined;
 use std::alloc::Global;
-use teco_core::NoMemory;
-use teco_files::{InputFault, MemorySource, ReaderSource, read_input};
+use teco_files::{InputFault, MemorySource, ReaderSource, Source, read_input};
 use teco_step::FailAfter;
-
-/// A source that gives `12345678` in three pieces, and then ends or fails.
-fn eight(alloc: Global, fails: bool) -> Result<MemorySource, NoMemory> {
-    let bytes = Vec::from_slice(alloc, b"12345678")?;
-    let cuts = Vec::from_slice(alloc, &[3, 5])?;
-    Ok(MemorySource::new(bytes, cuts, fails))
-}
 
 /// Whether the source fails, the most bytes that may be, and the fault of reading it; none where it gives all eight.
 type Row = (bool, usize, Option<InputFault>);
 
-fn is_fault(fault: InputFault, wanted: Option<InputFault>) -> bool {
-    match fault {
-        InputFault::Read => matches!(wanted, Some(InputFault::Read)),
-        InputFault::TooLarge => matches!(wanted, Some(InputFault::TooLarge)),
-        InputFault::Memory => false,
+fn reads<S: Source>(alloc: Global, source: &mut S, row: &Row) -> bool {
+    match (read_input(alloc, source, row.1), row.2) {
+        (Ok(input), None) => input.as_slice() == b"12345678".as_slice(),
+        (Err(InputFault::Read), Some(InputFault::Read)) => true,
+        (Err(InputFault::TooLarge), Some(InputFault::TooLarge)) => true,
+        _ => false,
     }
 }
 
-fn reads(alloc: Global, source: &mut MemorySource, row: &Row) -> bool {
-    match read_input(alloc, source, row.1) {
-        Ok(input) => row.2.is_none() && input.as_slice() == b"12345678".as_slice(),
-        Err(fault) => is_fault(fault, row.2),
-    }
-}
-
+/// Whether a source that gives `12345678` in three pieces, and then ends or fails, is read so.
 fn reads_anew(alloc: Global, row: &Row) -> bool {
-    match eight(alloc, row.0) {
-        Ok(mut source) => reads(alloc, &mut source, row),
-        Err(NoMemory) => false,
-    }
+    let Ok(cuts) = Vec::from_slice(alloc, &[3, 5]) else {
+        return false;
+    };
+    let bytes = joined(alloc, &[b"12345678"]);
+    reads(alloc, &mut MemorySource::new(bytes, cuts, row.0), row)
 }
 
 // With room for all bytes, and more, and with too little.
@@ -63,12 +52,11 @@ fn reads_all_or_a_fault(rt: HostRuntime) {
     }
 }
 
+const FAILS: Row = (true, 8, Some(InputFault::Read));
+
 fn is_failed_read(alloc: Global, front: &[u8]) -> bool {
-    let Ok(bytes) = Vec::from_slice(alloc, front) else {
-        return false;
-    };
-    let mut source = ReaderSource::new(FailAfter::new(bytes));
-    matches!(read_input(alloc, &mut source, 8), Err(InputFault::Read))
+    let reader = FailAfter::new(joined(alloc, &[front]));
+    reads(alloc, &mut ReaderSource::new(reader), &FAILS)
 }
 
 /// However many bytes came before the read that fails; where memory was refused, it reads a second time.

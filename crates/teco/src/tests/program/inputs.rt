@@ -1,8 +1,6 @@
 //! Of teco_program: where the input comes from and where the output goes, several inputs, and inputs that are edited in place.
-use super::{Run, all_run};
+use super::{Row, Run, all_run};
 use teco_files::Refused;
-
-type Row<'a> = super::Row<'a>;
 
 const IN: (&str, &str) = ("in", "hi\n");
 
@@ -309,21 +307,9 @@ static PAGES: [Row<'static>; 2] = [
 ];
 
 #[test]
-fn reads_and_writes_streams(rt: HostRuntime) {
+fn runs_over_streams_and_several_inputs(rt: HostRuntime) {
     all_run(&rt, rt.alloc(), &STREAMS);
-}
-
-#[test]
-fn runs_over_several_inputs(rt: HostRuntime) {
     all_run(&rt, rt.alloc(), &SEVERAL);
-}
-
-#[test]
-fn edits_in_place(rt: HostRuntime) {
     all_run(&rt, rt.alloc(), &IN_PLACE);
-}
-
-#[test]
-fn takes_pages_of_lines(rt: HostRuntime) {
     all_run(&rt, rt.alloc(), &PAGES);
 }

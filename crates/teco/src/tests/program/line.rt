@@ -1,156 +1,13 @@
 //! What the words of a line say.
+use super::words_of;
 use crate::tests::assert_of;
 use std::alloc::Global;
 use std::io;
-use teco_core::NoMemory;
+use std::process::Abort;
 use teco_line::{
     Commands, Line, LineFault, fault_of_words, is_standard_input, is_standard_output, line_of,
     not_text, refused_status,
 };
-
-/// The status that an argument which is not UTF-8 leads to; none where memory was refused.
-fn status_without_text(alloc: Global) -> Option<u8> {
-    match fault_of_words(io::Error::from(io::ErrorKind::InvalidData), not_text(alloc)) {
-        LineFault::Refused(error) => Some(refused_status(&error)),
-        LineFault::NoMemory => None,
-    }
-}
-
-#[test]
-fn refuses_what_is_no_text(rt: HostRuntime) {
-    let status = status_without_text(rt.alloc()).or_else(|| status_without_text(rt.alloc()));
-    assert!(rt; status == Some(3));
-}
-
-/// Where the commands come from.
-#[derive(Clone, Copy)]
-enum Origin<'a> {
-    StandardInput,
-    /// The sources of files, and of a word.
-    Sources(&'a [&'a str], Option<&'a str>),
-    Pages(&'a str),
-    Bytes(&'a str),
-}
-
-fn are_sources(names: &[String], word: Option<&str>, origin: &Origin) -> bool {
-    match origin {
-        Origin::Sources(files, text) => are_names(names, files) && word == *text,
-        _ => false,
-    }
-}
-
-fn is_from(commands: &Commands, origin: &Origin) -> bool {
-    match commands {
-        Commands::StandardInput => matches!(origin, Origin::StandardInput),
-        Commands::Sources(names, word) => are_sources(
-            names.as_slice(),
-            word.as_ref().map(|text| text.as_str()),
-            origin,
-        ),
-        Commands::Pages(text) => matches!(origin, Origin::Pages(word) if text.as_str() == *word),
-        Commands::Bytes(name) => matches!(origin, Origin::Bytes(file) if name.as_str() == *file),
-    }
-}
-
-fn comes_from(alloc: Global, words: &str, origin: &Origin) -> bool {
-    match words_of(alloc, words) {
-        Ok(words) => match line_of(alloc, words.as_slice()) {
-            Ok(line) => is_from(&line.commands, origin),
-            Err(_) => false,
-        },
-        Err(NoMemory) => false,
-    }
-}
-
-static SOURCES: [(&str, Origin); 20] = [
-    ("teco in", Origin::StandardInput),
-    ("teco -e Y$$EX$$ in", Origin::Sources(&[], Some("Y$$EX$$"))),
-    (
-        "teco in --execute ^EX$$",
-        Origin::Sources(&[], Some("^EX$$")),
-    ),
-    ("teco --execute=-C$$ in", Origin::Sources(&[], Some("-C$$"))),
-    // A value may begin with a hyphen, as any other.
-    ("teco -e -C$$ in", Origin::Sources(&[], Some("-C$$"))),
-    ("teco --execute -C$$ in", Origin::Sources(&[], Some("-C$$"))),
-    ("teco -e -- in", Origin::Sources(&[], Some("--"))),
-    ("teco -e -f in", Origin::Sources(&[], Some("-f"))),
-    ("teco -p 0K in", Origin::Pages("0K")),
-    ("teco in --pages=0K", Origin::Pages("0K")),
-    ("teco in more -p -C", Origin::Pages("-C")),
-    ("teco -f a in", Origin::Sources(&["a"], None)),
-    ("teco in -fa", Origin::Sources(&["a"], None)),
-    ("teco in --file=a", Origin::Sources(&["a"], None)),
-    ("teco -f - in", Origin::Sources(&["-"], None)),
-    // The files in their order, and then the word, wherever it stands.
-    ("teco -f a -f b in", Origin::Sources(&["a", "b"], None)),
-    (
-        "teco -f b -e EX$$ --file=a in",
-        Origin::Sources(&["b", "a"], Some("EX$$")),
-    ),
-    (
-        "teco -e EX$$ -f a in",
-        Origin::Sources(&["a"], Some("EX$$")),
-    ),
-    ("teco -b a in", Origin::Bytes("a")),
-    ("teco in --bytes=-", Origin::Bytes("-")),
-];
-
-/// Where memory was refused, a row holds the second time.
-#[test]
-fn says_where_the_commands_come_from(rt: HostRuntime) {
-    for (words, origin) in &SOURCES {
-        let held = comes_from(rt.alloc(), words, origin) || comes_from(rt.alloc(), words, origin);
-        assert_of(&rt, words, held);
-    }
-}
-
-/// The status of a refused line; none where memory was refused.
-fn status_of(alloc: Global, words: &str) -> Option<u8> {
-    let words = words_of(alloc, words).ok()?;
-    match line_of(alloc, words.as_slice()) {
-        Err(LineFault::Refused(error)) => Some(refused_status(&error)),
-        _ => None,
-    }
-}
-
-static REFUSED: [(&str, u8); 26] = [
-    ("teco -e EX$$ -b a in", 3),
-    ("teco -f a -b a in", 3),
-    ("teco -p 0K -b a in", 3),
-    ("teco -b a -b a in", 3),
-    ("teco -e EX$$ -p 0K in", 3),
-    ("teco -p 0K -f a in", 3),
-    ("teco -e EX$$ -e EX$$ in", 3),
-    ("teco -e EX$$ -o b -i in", 3),
-    ("teco -e EX$$ --output - --in-place in", 3),
-    ("teco -e EX$$ -o b in more", 3),
-    ("teco in more", 3),
-    ("teco -i in more", 3),
-    ("teco -", 3),
-    ("teco /dev/stdin", 3),
-    ("teco -f - -", 3),
-    ("teco -f a -f /dev/stdin in /dev/fd/0", 3),
-    ("teco -b - -", 3),
-    ("teco -i -e EX$$ -", 3),
-    ("teco -i -e EX$$ in /proc/self/fd/0", 3),
-    ("teco --limit -1 in", 3),
-    ("teco -o", 3),
-    ("teco -- -e EX$$ in", 3),
-    ("teco --what in", 3),
-    ("teco -i -i in", 3),
-    ("teco --help", 0),
-    ("teco -V", 0),
-];
-
-/// Where memory was refused, a row holds the second time.
-#[test]
-fn gives_the_status_of_a_refused_line(rt: HostRuntime) {
-    for (words, status) in &REFUSED {
-        let got = status_of(rt.alloc(), words).or_else(|| status_of(rt.alloc(), words));
-        assert_of(&rt, words, got == Some(*status));
-    }
-}
 
 /// What a line says but for its commands.
 #[derive(Clone, Copy)]
@@ -167,59 +24,145 @@ struct Given<'a> {
     page_lines: Option<u64>,
 }
 
-/// Words with blanks between them, and what they give; none where they are refused.
-type Row<'a> = (&'a str, Option<Given<'a>>);
-
-fn words_of(alloc: Global, text: &str) -> Result<Vec<String>, NoMemory> {
-    let mut words = Vec::new(alloc);
-    for word in text.split(' ') {
-        words.push(String::from_str(alloc, word)?)?;
-    }
-    Ok(words)
+/// What is said by words.
+#[derive(Clone, Copy)]
+enum Said<'a> {
+    /// The commands come from standard input,
+    StandardInput,
+    /// from the sources of files, and of a word,
+    Sources(&'a [&'a str], Option<&'a str>),
+    /// from a word that is run on every page,
+    Pages(&'a str),
+    /// or from the bytes of a file.
+    Bytes(&'a str),
+    /// All but the commands.
+    Given(Given<'a>),
+    /// The line is refused with this status.
+    Refused(u8),
 }
+
+/// Words with blanks between them, and what they say.
+type Row<'a> = (&'a str, Said<'a>);
 
 fn are_names(names: &[String], given: &[&str]) -> bool {
-    names.len() == given.len()
-        && names
-            .iter()
-            .zip(given.iter())
-            .all(|(name, given)| name.as_str() == *given)
+    let mut held = names.len() == given.len();
+    for (name, given) in names.iter().zip(given) {
+        held = held && name.as_str() == *given;
+    }
+    held
 }
 
-fn has_numbers(line: &Line, given: &Given) -> bool {
-    line.limit == given.limit && line.undo == given.undo && line.page_lines == given.page_lines
+fn is_name(name: &Option<String>, given: Option<&str>) -> bool {
+    match (name, given) {
+        (Some(name), Some(given)) => name.as_str() == given,
+        (None, None) => true,
+        _ => false,
+    }
 }
 
-fn has_flags(line: &Line, given: &Given) -> bool {
-    line.in_place == given.in_place
+fn is_given(line: &Line, given: &Given) -> bool {
+    line.input.as_str() == given.input
+        && are_names(line.more.as_slice(), given.more)
+        && is_name(&line.output, given.output)
+        && line.in_place == given.in_place
         && line.prompt == given.prompt
         && line.check == given.check
         && line.explain == given.explain
+        && line.limit == given.limit
+        && line.undo == given.undo
+        && line.page_lines == given.page_lines
 }
 
-fn is_line(line: &Line, given: &Given) -> bool {
-    let named = line.output.as_ref().map(|name| name.as_str());
-    line.input.as_str() == given.input
-        && are_names(line.more.as_slice(), given.more)
-        && named == given.output
-        && has_flags(line, given)
-        && has_numbers(line, given)
-}
-
-fn is_given(line: Result<Line, LineFault>, given: &Option<Given>) -> bool {
-    match line {
-        Ok(line) => given.is_some_and(|given| is_line(&line, &given)),
-        Err(LineFault::Refused(_)) => given.is_none(),
-        Err(LineFault::NoMemory) => false,
+fn is_line(line: &Line, said: &Said) -> bool {
+    match (&line.commands, said) {
+        (_, Said::Given(given)) => is_given(line, given),
+        (Commands::StandardInput, Said::StandardInput) => true,
+        (Commands::Sources(names, word), Said::Sources(files, text)) => {
+            are_names(names.as_slice(), files) && is_name(word, *text)
+        }
+        (Commands::Pages(text), Said::Pages(word)) => text.as_str() == *word,
+        (Commands::Bytes(name), Said::Bytes(file)) => name.as_str() == *file,
+        _ => false,
     }
 }
 
 fn says(alloc: Global, row: &Row) -> bool {
-    match words_of(alloc, row.0) {
-        Ok(words) => is_given(line_of(alloc, words.as_slice()), &row.1),
-        Err(NoMemory) => false,
+    let Ok(words) = words_of(alloc, row.0) else {
+        return false;
+    };
+    match (line_of(alloc, words.as_slice()), &row.1) {
+        (Ok(line), said) => is_line(&line, said),
+        (Err(LineFault::Refused(error)), Said::Refused(status)) => refused_status(&error)
+            == *status,
+        _ => false,
     }
 }
+
+/// Where memory was refused, a row holds the second time.
+fn all_say(rt: &impl Abort, alloc: Global, rows: &[Row]) {
+    for row in rows {
+        assert_of(rt, row.0, says(alloc, row) || says(alloc, row));
+    }
+}
+
+/// Where the commands come from.
+static SOURCES: [Row<'static>; 20] = [
+    ("teco in", Said::StandardInput),
+    ("teco -e Y$$EX$$ in", Said::Sources(&[], Some("Y$$EX$$"))),
+    ("teco in --execute ^EX$$", Said::Sources(&[], Some("^EX$$"))),
+    ("teco --execute=-C$$ in", Said::Sources(&[], Some("-C$$"))),
+    // A value may begin with a hyphen, as any other.
+    ("teco -e -C$$ in", Said::Sources(&[], Some("-C$$"))),
+    ("teco --execute -C$$ in", Said::Sources(&[], Some("-C$$"))),
+    ("teco -e -- in", Said::Sources(&[], Some("--"))),
+    ("teco -e -f in", Said::Sources(&[], Some("-f"))),
+    ("teco -p 0K in", Said::Pages("0K")),
+    ("teco in --pages=0K", Said::Pages("0K")),
+    ("teco in more -p -C", Said::Pages("-C")),
+    ("teco -f a in", Said::Sources(&["a"], None)),
+    ("teco in -fa", Said::Sources(&["a"], None)),
+    ("teco in --file=a", Said::Sources(&["a"], None)),
+    ("teco -f - in", Said::Sources(&["-"], None)),
+    // The files in their order, and then the word, wherever it stands.
+    ("teco -f a -f b in", Said::Sources(&["a", "b"], None)),
+    (
+        "teco -f b -e EX$$ --file=a in",
+        Said::Sources(&["b", "a"], Some("EX$$")),
+    ),
+    ("teco -e EX$$ -f a in", Said::Sources(&["a"], Some("EX$$"))),
+    ("teco -b a in", Said::Bytes("a")),
+    ("teco in --bytes=-", Said::Bytes("-")),
+];
+
+/// Lines that are refused, or ask for the help or the version.
+static REFUSED: [Row<'static>; 26] = [
+    ("teco -e EX$$ -b a in", Said::Refused(3)),
+    ("teco -f a -b a in", Said::Refused(3)),
+    ("teco -p 0K -b a in", Said::Refused(3)),
+    ("teco -b a -b a in", Said::Refused(3)),
+    ("teco -e EX$$ -p 0K in", Said::Refused(3)),
+    ("teco -p 0K -f a in", Said::Refused(3)),
+    ("teco -e EX$$ -e EX$$ in", Said::Refused(3)),
+    ("teco -e EX$$ -o b -i in", Said::Refused(3)),
+    ("teco -e EX$$ --output - --in-place in", Said::Refused(3)),
+    ("teco -e EX$$ -o b in more", Said::Refused(3)),
+    ("teco in more", Said::Refused(3)),
+    ("teco -i in more", Said::Refused(3)),
+    ("teco -", Said::Refused(3)),
+    ("teco /dev/stdin", Said::Refused(3)),
+    ("teco -f - -", Said::Refused(3)),
+    ("teco -f a -f /dev/stdin in /dev/fd/0", Said::Refused(3)),
+    ("teco -b - -", Said::Refused(3)),
+    ("teco -i -e EX$$ -", Said::Refused(3)),
+    ("teco -i -e EX$$ in /proc/self/fd/0", Said::Refused(3)),
+    ("teco --limit -1 in", Said::Refused(3)),
+    ("teco -o", Said::Refused(3)),
+    ("teco -- -e EX$$ in", Said::Refused(3)),
+    ("teco --what in", Said::Refused(3)),
+    ("teco -i -i in", Said::Refused(3)),
+    ("teco --help", Said::Refused(0)),
+    ("teco -V", Said::Refused(0)),
+];
 
 /// The line of an input alone.
 const IN: Given = Given {
@@ -235,11 +178,12 @@ const IN: Given = Given {
     page_lines: None,
 };
 
+/// What the other options say.
 static ROWS: [Row<'static>; 23] = [
-    ("teco in", Some(IN)),
+    ("teco in", Said::Given(IN)),
     (
         "teco --limit 5 --output o --prompt in",
-        Some(Given {
+        Said::Given(Given {
             limit: 5,
             output: Some("o"),
             prompt: true,
@@ -248,7 +192,7 @@ static ROWS: [Row<'static>; 23] = [
     ),
     (
         "teco in --limit=1000000000000 --explain -o -",
-        Some(Given {
+        Said::Given(Given {
             limit: 1_000_000_000_000,
             explain: true,
             output: Some("-"),
@@ -257,74 +201,87 @@ static ROWS: [Row<'static>; 23] = [
     ),
     (
         "teco --undo 1 in",
-        Some(Given {
+        Said::Given(Given {
             undo: Some(1),
             ..IN
         }),
     ),
     (
         "teco in --undo=100000",
-        Some(Given {
+        Said::Given(Given {
             undo: Some(100_000),
             ..IN
         }),
     ),
     (
         "teco in -i",
-        Some(Given {
+        Said::Given(Given {
             in_place: true,
             ..IN
         }),
     ),
-    ("teco -b EX --check in", Some(Given { check: true, ..IN })),
-    ("teco --check --prompt in", None),
+    (
+        "teco -b EX --check in",
+        Said::Given(Given { check: true, ..IN }),
+    ),
+    ("teco --check --prompt in", Said::Refused(3)),
     (
         "teco -p 0K in --in-place a b -- -c",
-        Some(Given {
+        Said::Given(Given {
             more: &["a", "b", "-c"],
             in_place: true,
             ..IN
         }),
     ),
-    ("teco -e EX$$ in -", Some(Given { more: &["-"], ..IN })),
-    ("teco -e EX$$ -", Some(Given { input: "-", ..IN })),
+    (
+        "teco -e EX$$ in -",
+        Said::Given(Given { more: &["-"], ..IN }),
+    ),
+    ("teco -e EX$$ -", Said::Given(Given { input: "-", ..IN })),
     (
         "teco -o -b in",
-        Some(Given {
+        Said::Given(Given {
             output: Some("-b"),
             ..IN
         }),
     ),
     (
         "teco --page-lines 1 in",
-        Some(Given {
+        Said::Given(Given {
             page_lines: Some(1),
             ..IN
         }),
     ),
     (
         "teco in --page-lines=1000000000",
-        Some(Given {
+        Said::Given(Given {
             page_lines: Some(1_000_000_000),
             ..IN
         }),
     ),
-    ("teco --page-lines 0 in", None),
-    ("teco --page-lines 1000000001 in", None),
-    ("teco --page-lines -1 in", None),
-    ("teco --limit 1000000000001 in", None),
-    ("teco --limit -1 in", None),
-    ("teco --undo 0 in", None),
-    ("teco --undo 100001 in", None),
-    ("teco --undo x in", None),
-    ("teco -i=true in", None),
+    ("teco --page-lines 0 in", Said::Refused(3)),
+    ("teco --page-lines 1000000001 in", Said::Refused(3)),
+    ("teco --page-lines -1 in", Said::Refused(3)),
+    ("teco --limit 1000000000001 in", Said::Refused(3)),
+    ("teco --limit -1 in", Said::Refused(3)),
+    ("teco --undo 0 in", Said::Refused(3)),
+    ("teco --undo 100001 in", Said::Refused(3)),
+    ("teco --undo x in", Said::Refused(3)),
+    ("teco -i=true in", Said::Refused(3)),
 ];
 
-// Where memory was refused, a row holds the second time.
 #[test]
 fn gives_what_the_words_say(rt: HostRuntime) {
-    for row in &ROWS {
-        assert_of(&rt, row.0, says(rt.alloc(), row) || says(rt.alloc(), row));
+    all_say(&rt, rt.alloc(), &SOURCES);
+    all_say(&rt, rt.alloc(), &REFUSED);
+    all_say(&rt, rt.alloc(), &ROWS);
+}
+
+/// The status that an argument which is not UTF-8 leads to; none where memory was refused.
+fn status_without_text(alloc: Global) -> Option<u8> {
+    match fault_of_words(io::Error::from(io::ErrorKind::InvalidData), not_text(alloc)) {
+        LineFault::Refused(error) => Some(refused_status(&error)),
+        LineFault::NoMemory => None,
     }
 }
 
@@ -343,9 +300,14 @@ static NAMES: [(&str, bool, bool); 10] = [
 ];
 
 #[test]
-fn knows_the_names_of_the_streams(rt: HostRuntime) {
+fn knows_the_names_of_the_streams_and_what_is_no_text(rt: HostRuntime) {
     for (name, input, output) in &NAMES {
         let held = is_standard_input(name) == *input && is_standard_output(name) == *output;
         assert_of(&rt, name, held);
     }
+    let status = match status_without_text(rt.alloc()) {
+        Some(status) => Some(status),
+        None => status_without_text(rt.alloc()),
+    };
+    assert!(rt; status == Some(3));
 }

@@ -27,18 +27,15 @@ impl Read for Stumbling {
 /// A read into so much room: what it gives; none where it fails.
 type Row<'a> = (usize, Option<&'a [u8]>);
 
-fn reads<R: Read + Drop>(source: &mut ReaderSource<R>, row: &Row) -> bool {
-    let mut room = [0; 4];
-    match source.read(&mut room[..row.0.min(4)]) {
-        Ok(n) => row.1 == Some(&room[..n.min(4)]),
-        Err(_) => row.1.is_none(),
-    }
-}
-
 fn reads_all<R: Read + Drop>(source: &mut ReaderSource<R>, rows: &[Row]) -> bool {
     let mut held = true;
-    for row in rows {
-        held = held && reads(source, row);
+    let mut room = [0; 4];
+    for (len, given) in rows {
+        let is_so = match source.read(&mut room[..(*len).min(4)]) {
+            Ok(n) => *given == Some(&room[..n.min(4)]),
+            Err(_) => given.is_none(),
+        };
+        held = held && is_so;
     }
     held
 }
@@ -52,17 +49,13 @@ static STUMBLING: [Row<'static>; 6] = [
     (4, Some(b"")),
 ];
 
-#[test]
-fn fails_where_the_reader_does(rt: HostRuntime) {
-    let mut source = ReaderSource::new(Stumbling { reads: 0 });
-    assert!(rt; reads_all(&mut source, &STUMBLING));
-}
-
+/// The last byte that may come, and the failure after it.
 static LAST: [Row<'static>; 2] = [(4, Some(b"a")), (4, None)];
 
-// The last byte that may come, and the failure after it.
 #[test]
-fn fails_after_the_most_bytes(rt: HostRuntime) {
+fn fails_where_the_reader_does_and_after_the_most_bytes(rt: HostRuntime) {
+    let mut source = ReaderSource::new(Stumbling { reads: 0 });
+    assert!(rt; reads_all(&mut source, &STUMBLING));
     let mut source = ReaderSource::up_to(b"ab".as_slice(), 1);
     assert!(rt; reads_all(&mut source, &LAST));
 }

@@ -1,7 +1,6 @@
 //! What is typed and written at streams of commands, and how serving them ends.
-use crate::tests::assert_of;
 use crate::tests::bytes::are_both;
-use crate::tests::rows::{LINE, cells_of, is_row};
+use crate::tests::rows::{self, Rule, cells_of};
 use std::alloc::Global;
 use std::process::Abort;
 use teco_core::{DEPTH_LIMIT, FILE_LIMIT, NoMemory};
@@ -26,6 +25,8 @@ struct How<'a> {
     strings: Option<usize>,
     // what is served after it in the same session, each to the end of its stream
     then: &'a [Row<'a>],
+    // the bytes that a page doesn't tell of what is typed
+    untold: &'a [u8],
 }
 
 /// Over an empty input, under a limit of 1000 steps, without a prompt, to the end of the stream.
@@ -38,6 +39,7 @@ const PLAIN: How = How {
     served: Served::EndOfCommands,
     strings: None,
     then: &[],
+    untold: &[],
 };
 
 /// As plain, but the source fails in place of its end.
@@ -47,8 +49,9 @@ const FAILED: How = How {
     ..PLAIN
 };
 
-/// A stream, where `$` is ESC and a backquote the byte 5, and what serving it gives: what is typed, and what is written to the output.
-type Row<'a> = (&'a str, &'a str, &'a str);
+/// A stream, where `$` is ESC and a backquote the byte 5, and what serving it gives: what is typed, and what is written to the output, if
+/// that is said.
+type Row<'a> = (&'a str, &'a str, Option<&'a str>);
 
 /// A table of rows that are served in the same way, each in a session of its own.
 type Group<'a> = (How<'a>, &'a str);
@@ -102,65 +105,62 @@ fn session_over(alloc: Global, input: &str, depth: Option<usize>) -> Option<Sess
     }
 }
 
-/// Whether a session has the row's output and notes so many strings, if that is said.
-fn is_left(session: &Session, how: &How, row: &Row) -> bool {
-    are_both(session.editor().output(), row.2.as_bytes())
-        && (how.strings.is_none() || how.strings == Some(session.strings()))
+/// Whether the bytes are this text, but for those that it doesn't tell.
+fn are_told(bytes: &[u8], text: &str, untold: &[u8]) -> bool {
+    let mut left = text.as_bytes();
+    for byte in bytes {
+        if untold.contains(byte) {
+            continue;
+        }
+        match left {
+            [first, rest @ ..] if first == byte => left = rest,
+            _ => return false,
+        }
+    }
+    left.is_empty()
 }
 
-/// Whether serving a source in a session gives what the row says.
-fn serves(
-    alloc: Global,
-    source: &mut MemorySource,
-    session: &mut Session,
-    how: &How,
-    row: &Row,
-) -> bool {
+/// Whether a session has the row's output and notes so many strings, if that is said.
+fn is_left(session: &Session, how: &How, row: &Row) -> bool {
+    let is_written = match row.2 {
+        Some(output) => are_both(session.editor().output(), output.as_bytes()),
+        None => true,
+    };
+    is_written && (how.strings.is_none() || how.strings == Some(session.strings()))
+}
+
+/// Whether serving the row's stream in a session, as one piece or in single bytes, gives what the row says.
+fn serves(alloc: Global, session: &mut Session, how: &How, row: &Row, single: bool) -> bool {
+    let Ok(mut source) = source_of(alloc, row.0.as_bytes(), single, how.fails) else {
+        return false;
+    };
     let mut term = MemoryTerminal::new(alloc);
     let served = serve(
         alloc,
-        source,
+        &mut source,
         session,
         how.limit,
         how.prompt,
         &mut term,
         &mut Silent,
     );
-    served == how.served && term.bytes() == row.1.as_bytes() && is_left(session, how, row)
+    served == how.served && are_told(term.bytes(), row.1, how.untold) && is_left(session, how, row)
 }
 
-/// Whether serving the row's stream in a session gives what the row says.
-fn serves_in(alloc: Global, session: &mut Session, how: &How, row: &Row, single: bool) -> bool {
-    match source_of(alloc, row.0.as_bytes(), single, how.fails) {
-        Ok(mut source) => serves(alloc, &mut source, session, how, row),
-        Err(NoMemory) => false,
-    }
-}
-
-/// Whether the row holds in a session, and then what is served after it.
-fn serves_in_turn(
-    alloc: Global,
-    session: &mut Session,
-    how: &How,
-    row: &Row,
-    single: bool,
-) -> bool {
-    let mut held = serves_in(alloc, session, how, row, single);
+/// Whether the row holds in a session whose history has this depth, if one is given, and then what is served after it.
+fn holds_once(alloc: Global, how: &How, row: &Row, single: bool, depth: Option<usize>) -> bool {
+    let Some(mut session) = session_over(alloc, how.input, depth) else {
+        return false;
+    };
     let after = How {
         served: Served::EndOfCommands,
         ..*how
     };
+    let mut held = serves(alloc, &mut session, how, row, single);
     for row in how.then {
-        held = serves_in(alloc, session, &after, row, single) && held;
+        held = serves(alloc, &mut session, &after, row, single) && held;
     }
     held
-}
-
-fn holds_once(alloc: Global, how: &How, row: &Row, single: bool, depth: Option<usize>) -> bool {
-    match session_over(alloc, how.input, depth) {
-        Some(mut session) => serves_in_turn(alloc, &mut session, how, row, single),
-        None => false,
-    }
 }
 
 /// Whether the row holds with its stream as one piece and in single bytes, and with a history that is deep enough for its strings.
@@ -171,30 +171,24 @@ fn holds_in_each_way(alloc: Global, how: &How, row: &Row) -> bool {
 }
 
 /// The row holds in each way; where memory was refused, a second time.
-fn holds(rt: &impl Abort, alloc: Global, how: &How, row: &Row) {
-    let held = holds_in_each_way(alloc, how, row) || holds_in_each_way(alloc, how, row);
-    assert!(rt; held, "{}", row.0);
+fn holds(alloc: Global, how: &How, row: &Row) -> bool {
+    holds_in_each_way(alloc, how, row) || holds_in_each_way(alloc, how, row)
 }
 
-fn line_holds(rt: &impl Abort, alloc: Global, how: &How, line: &str) {
-    match cells_of(line) {
-        Some(row) => holds(rt, alloc, how, &row),
-        None => assert_of(rt, line, false),
-    }
-}
-
-/// Each row of a table holds.
-fn all_hold_so(rt: &impl Abort, alloc: Global, how: &How, table: &str) {
-    for line in table.split(LINE) {
-        if is_row(line) {
-            line_holds(rt, alloc, how, line);
+impl Rule for How<'_> {
+    fn holds(&self, alloc: Global, row: &str) -> bool {
+        match cells_of(row) {
+            Some((stream, typed, output, None)) => {
+                holds(alloc, self, &(stream, typed, Some(output)))
+            }
+            _ => false,
         }
     }
 }
 
 fn all_hold(rt: &impl Abort, alloc: Global, groups: &[Group]) {
     for (how, table) in groups {
-        all_hold_so(rt, alloc, how, table);
+        rows::all_hold(rt, alloc, how, table);
     }
 }
 
@@ -298,8 +292,8 @@ static GROUPS: [Group<'static>; 16] = [
             limit: 2,
             served: Served::Exit,
             then: &[
-                ("1=$$", "?END\r\n", "a"),
-                ("{$$1=$$}$$", "1\r\n?NTR\r\n", ""),
+                ("1=$$", "?END\r\n", Some("a")),
+                ("{$$1=$$}$$", "1\r\n?NTR\r\n", Some("")),
             ],
             ..PLAIN
         },
@@ -347,8 +341,22 @@ const FRONTS_WITH_TWO_STRINGS: &str = "
     ";
 
 #[test]
-fn serves_requests(rt: HostRuntime) {
+fn serves_streams(rt: HostRuntime) {
     all_hold(&rt, rt.alloc(), &GROUPS);
+    all_hold(&rt, rt.alloc(), &rewinds::GROUPS);
+    all_hold(&rt, rt.alloc(), &pages::GROUPS);
+}
+
+#[test]
+fn serves_commands(rt: HostRuntime) {
+    rows::all_hold(&rt, rt.alloc(), &PLAIN, commands::ROWS);
+    rows::all_hold(&rt, rt.alloc(), &PLAIN, searches::ROWS);
+    rows::all_hold(&rt, rt.alloc(), &depths::TWO, depths::ROWS);
+}
+
+#[test]
+fn leaves_what_the_rows_say(rt: HostRuntime) {
+    all_hold(&rt, rt.alloc(), &worked::GROUPS);
 }
 
 mod commands;

@@ -9,19 +9,14 @@ use std::test::*;
 use teco_core::Code;
 use teco_scan::{Found, token_at};
 
-/// Whether a text begins with a token, or is ILL.
-fn begins(text: &[u8]) -> Option<bool> {
-    match token_at(text, 0) {
-        Found::Token(_) => Some(true),
-        Found::Fault(Code::Ill) => Some(false),
-        _ => None,
-    }
-}
-
-/// Whether modifiers are read before a command as they are to be.
+/// Whether a text begins with a token where that is wanted, and else is ILL.
 fn is_read(alloc: Global, modifiers: &str, command: &str, wanted: bool) -> bool {
     let text = joined(alloc, &[modifiers.as_bytes(), command.as_bytes()]);
-    begins(text.as_slice()) == Some(wanted)
+    match token_at(text.as_slice(), 0) {
+        Found::Token(_) => wanted,
+        Found::Fault(Code::Ill) => !wanted,
+        _ => false,
+    }
 }
 
 /// A command admits these modifiers, and no others of the four.
@@ -29,13 +24,6 @@ fn admits(rt: &impl Abort, alloc: Global, admitted: &[&str], command: &str) {
     for modifiers in MODIFIERS {
         let held = is_read(alloc, modifiers, command, admitted.contains(modifiers));
         assert_of(rt, command, held);
-    }
-}
-
-#[test]
-fn commands_admit_their_modifiers_alone(rt: HostRuntime) {
-    for (command, admitted, _) in COMMANDS {
-        admits(&rt, rt.alloc(), admitted, command);
     }
 }
 
@@ -67,6 +55,10 @@ static ROWS: &[Ends] = &[
 ];
 
 #[test]
-fn modifiers_come_in_any_order(rt: HostRuntime) {
+fn commands_admit_their_modifiers_alone(rt: HostRuntime) {
+    for (command, admitted, _) in COMMANDS {
+        admits(&rt, rt.alloc(), admitted, command);
+    }
+    // They come in any order.
     all_end(&rt, rt.alloc(), ROWS);
 }

@@ -1,8 +1,9 @@
 //! The elements of search texts, and what they match. Each is compared at the beginning of the text, and then the pointer is typed.
-use crate::tests::step::all_type;
+use crate::tests::rows::all_hold;
+use crate::tests::step::Types;
 use std::test::*;
 
-static ROWS: &str = "
+const ROWS: &str = "
     // Single elements match what they mean.
     I\0\x1bJ::S\x18\x1b=.= => -1\r\n1\r\n
     I\x1bJ::S\x18\x1b=.= => 0\r\n0\r\n
@@ -90,5 +91,5 @@ static ROWS: &str = "
 
 #[test]
 fn elements_match_what_they_mean(rt: HostRuntime) {
-    all_type(&rt, rt.alloc(), ROWS);
+    all_hold(&rt, rt.alloc(), &Types, ROWS);
 }

@@ -4,20 +4,16 @@ use std::alloc::Global;
 use teco_core::CaseMode;
 use teco_search::Pattern;
 
-fn is_shown(alloc: Global, pattern: &Pattern, wanted: &str) -> bool {
-    match format!(in alloc; "{pattern}") {
-        Ok(shown) => shown.as_str() == wanted,
-        Err(_) => false,
-    }
-}
-
 /// Whether the pattern of a text is shown so.
 fn shows(alloc: Global, text: &[u8], wanted: &str) -> bool {
     if text.is_empty() {
         return false;
     }
-    match Pattern::read(alloc, text, CaseMode::Exact) {
-        Ok(pattern) => is_shown(alloc, &pattern, wanted),
+    let Ok(pattern) = Pattern::read(alloc, text, CaseMode::Exact) else {
+        return false;
+    };
+    match format!(in alloc; "{pattern}") {
+        Ok(shown) => shown.as_str() == wanted,
         Err(_) => false,
     }
 }

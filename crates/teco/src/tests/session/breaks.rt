@@ -2,10 +2,9 @@
 use super::requests::session_over;
 use crate::tests::exec::breaks::After;
 use std::alloc::Global;
-use std::process::Abort;
 use teco_core::Code;
 use teco_exec::Outcome;
-use teco_session::{Answer, Answered, Session};
+use teco_session::{Answer, Session};
 use teco_step::MemoryTerminal;
 use teco_store::Desk;
 
@@ -42,30 +41,22 @@ fn tries(alloc: Global) -> bool {
     is_broken_off(&mut session, &mut term) && is_turned(&mut session)
 }
 
-#[test]
-fn strings_that_are_broken_off_are_undone(rt: HostRuntime) {
-    assert!(rt; tries(rt.alloc()) || tries(rt.alloc()));
-}
-
-/// Whether the place that is told is that of the third move.
-fn is_third(answered: &Answered) -> bool {
-    match &answered.place {
-        Ok(Some(place)) => place.at == 2 && place.steps == 2,
-        Ok(None) | Err(_) => false,
-    }
-}
-
-/// The same where the place is told.
+/// Whether such a string tells the place of the third move.
 fn tells(alloc: Global) -> bool {
     let mut session = session_over(alloc, b"abc");
     let mut term = MemoryTerminal::new(alloc);
     let _ = session.run(b"Y", 100, &mut term);
     let answered = session.run_where_until(b"CCC", 100, &mut After(2), &mut term);
-    let is_broken_off = answered.answer == BROKEN_OFF;
-    is_broken_off && is_third(&answered)
+    let is_third = match &answered.place {
+        Ok(Some(place)) => place.at == 2 && place.steps == 2,
+        Ok(None) | Err(_) => false,
+    };
+    is_third && answered.answer == BROKEN_OFF
 }
 
+/// Where memory was refused, a second time.
 #[test]
-fn strings_that_are_broken_off_tell_where(rt: HostRuntime) {
+fn strings_that_are_broken_off_are_undone(rt: HostRuntime) {
+    assert!(rt; tries(rt.alloc()) || tries(rt.alloc()));
     assert!(rt; tells(rt.alloc()) || tells(rt.alloc()));
 }

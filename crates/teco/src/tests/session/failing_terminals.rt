@@ -1,51 +1,33 @@
 //! Strings on a terminal that fails after so many bytes, and undone then.
 use super::requests::session_over;
 use crate::tests::assert_of;
-use crate::tests::bytes::{failing_after, joined};
+use crate::tests::bytes::{are_both, failing_after};
 use std::alloc::Global;
 use std::test::*;
 use teco_core::Code;
 use teco_exec::Outcome;
 use teco_session::{Answer, Session};
-use teco_step::{FailAfter, WriterTerminal};
+use teco_step::WriterTerminal;
 use teco_store::Desk;
 
 /// A string, how many bytes its terminal takes, the code by which it ends and its steps, what is shown, and the text that is left.
 type Row<'a> = (&'a str, usize, Option<Code>, u64, &'a str, &'a str);
 
-fn has_text(alloc: Global, session: &Session, text: &str) -> bool {
-    let (before, after) = session.editor().halves();
-    joined(alloc, &[before, after]).as_slice() == text.as_bytes()
-}
-
-fn run_on(session: &mut Session, text: &str, writer: &mut FailAfter) -> Answer {
-    let mut terminal = WriterTerminal::new(writer);
-    session.run(text.as_bytes(), 1000, &mut terminal)
-}
-
-fn ends_on(session: &mut Session, row: &Row, writer: &mut FailAfter) -> bool {
-    let (text, _, code, steps, shown, _) = *row;
-    run_on(session, text, writer) == Answer::Ended(Outcome { code, steps })
-        && writer.before() == shown.as_bytes()
-}
-
 /// Whether a string ends so on its terminal.
 fn ends(alloc: Global, session: &mut Session, row: &Row) -> bool {
-    let mut writer = failing_after(alloc, row.1);
-    ends_on(session, row, &mut writer)
-}
-
-fn comes_back(alloc: Global, session: &mut Session, row: &Row) -> bool {
-    ends(alloc, session, row)
-        && has_text(alloc, session, row.5)
-        && session.undo().is_ok()
-        && has_text(alloc, session, "")
+    let (text, room, code, steps, shown, _) = *row;
+    let mut writer = failing_after(alloc, room);
+    let answer = session.run(text.as_bytes(), 1000, &mut WriterTerminal::new(&mut writer));
+    answer == Answer::Ended(Outcome { code, steps }) && writer.before() == shown.as_bytes()
 }
 
 /// Whether a string ends so, leaves its text, and leaves an empty one once it is undone.
-fn ends_and_comes_back(alloc: Global, row: &Row) -> bool {
+fn comes_back(alloc: Global, row: &Row) -> bool {
     let mut session = session_over(alloc, b"");
-    comes_back(alloc, &mut session, row)
+    ends(alloc, &mut session, row)
+        && are_both(session.editor().halves(), row.5.as_bytes())
+        && session.undo().is_ok()
+        && are_both(session.editor().halves(), b"")
 }
 
 // A step whose put fails is not done: its beginning is shown, and the state is that of the steps before.
@@ -71,7 +53,6 @@ static ROWS: [Row<'static>; 14] = [
 fn ends_where_the_terminal_fails(rt: HostRuntime) {
     let alloc = rt.alloc();
     for row in &ROWS {
-        let held = ends_and_comes_back(alloc, row) || ends_and_comes_back(alloc, row);
-        assert_of(&rt, row.0, held);
+        assert_of(&rt, row.0, comes_back(alloc, row) || comes_back(alloc, row));
     }
 }

@@ -102,24 +102,16 @@ fn made(alloc: Global, seed: &mut u32) -> Vec<u8> {
     text
 }
 
-/// Puts a state behind others, for which memory is asked a second time where it was refused.
-fn put_state(states: &mut Vec<Vec<u8>>, state: Vec<u8>) -> bool {
-    let _ = states.reserve(1).is_ok() || states.reserve(1).is_ok();
-    states.push(state).is_ok()
-}
-
-/// Drops the first state where there is one too many.
-fn drop_first(states: &mut Vec<Vec<u8>>, most: usize) {
-    if states.len() > most {
-        states.remove(0);
-    }
-}
-
-/// Keeps the state that is seen, after so many that stay, and drops the first one where it would be one too many.
+/// Keeps the state that is seen, after so many that stay, and drops the first one where it would be one too many. Where memory was
+/// refused for that, it is asked for a second time.
 fn keep(alloc: Global, trial: &mut Trial, stay: usize) -> bool {
     trial.states.truncate(stay);
-    let is_kept = put_state(&mut trial.states, seen(alloc, trial.session.editor()));
-    drop_first(&mut trial.states, trial.most);
+    let _ = trial.states.reserve(1).is_ok() || trial.states.reserve(1).is_ok();
+    let state = seen(alloc, trial.session.editor());
+    let is_kept = trial.states.push(state).is_ok();
+    if trial.states.len() > trial.most {
+        trial.states.remove(0);
+    }
     is_kept
 }
 
@@ -131,18 +123,14 @@ fn is_as_before(alloc: Global, trial: &Trial) -> bool {
     }
 }
 
-/// Runs a string, at once or after a refusal.
-fn answer_to(session: &mut Session, text: &[u8], term: &mut MemoryTerminal) -> Answer {
-    match session.run(text, 200, term) {
-        Answer::NotBegun => session.run(text, 200, term),
-        answer => answer,
-    }
-}
-
+/// Runs a string that is made, at once or after a refusal.
 fn answer_to_made(alloc: Global, trial: &mut Trial) -> Answer {
     let text = made(alloc, &mut trial.seed);
     let mut term = MemoryTerminal::new(alloc);
-    answer_to(&mut trial.session, &text, &mut term)
+    match trial.session.run(&text, 200, &mut term) {
+        Answer::NotBegun => trial.session.run(&text, 200, &mut term),
+        answer => answer,
+    }
 }
 
 /// Runs a string. The state after it is kept; where it is not begun, the state stays.
@@ -205,14 +193,6 @@ fn shallow_session(alloc: Global) -> Option<Session> {
     None
 }
 
-fn thousand_come_back(alloc: Global, trial: &mut Trial) -> bool {
-    let mut held = keep(alloc, trial, 0);
-    for _ in 0..1000 {
-        held = runs(alloc, trial) && turns_some(alloc, trial) && held;
-    }
-    held && turns_all(alloc, trial)
-}
-
 /// Whether each state comes back, where a thousand strings are run and at most so many states are kept.
 fn come_back(alloc: Global, session: Session, most: usize) -> bool {
     let mut trial = Trial {
@@ -221,7 +201,11 @@ fn come_back(alloc: Global, session: Session, most: usize) -> bool {
         most,
         seed: 1,
     };
-    thousand_come_back(alloc, &mut trial)
+    let mut held = keep(alloc, &mut trial, 0);
+    for _ in 0..1000 {
+        held = runs(alloc, &mut trial) && turns_some(alloc, &mut trial) && held;
+    }
+    held && turns_all(alloc, &mut trial)
 }
 
 #[test]

@@ -1,16 +1,16 @@
 //! What strings leave for their undo: how much it is, and the pages that it turns back.
-use super::requests::session_over;
+use super::requests::{Asks, answers, answers_over, code_of};
+use crate::tests::assert_of;
 use crate::tests::bytes::{are_both, joined};
 use std::alloc::Global;
-use std::process::Abort;
 use std::test::*;
-use teco_core::FILE_LIMIT;
+use teco_core::{Code, DEPTH_LIMIT, FILE_LIMIT};
 use teco_session::{Answer, Session};
 use teco_step::MemoryTerminal;
 use teco_store::{ChangeKind, Desk};
 
 /// Strings, and the most bytes that the changes of the last one may hold.
-type Row<'a> = (&'a [&'a [u8]], usize);
+type Row<'a> = (&'a [&'a str], usize);
 
 /// Whether the last string has at most six changes for each of its steps, and they hold at most so many bytes.
 fn is_within(session: &Session, most: usize) -> bool {
@@ -26,56 +26,42 @@ fn is_within(session: &Session, most: usize) -> bool {
     changes.len() as u64 <= session.steps(strings - 1).saturating_mul(6) && held <= most
 }
 
-fn runs(session: &mut Session, texts: &[&[u8]], term: &mut MemoryTerminal) -> bool {
-    for text in texts {
-        if session.run(text, 100, term) == Answer::NotBegun {
-            return false;
-        }
-    }
-    true
-}
-
 /// Whether the last string of a row is within its bounds when it is run, undone and redone.
-fn holds_in(session: &mut Session, row: &Row, term: &mut MemoryTerminal) -> bool {
-    runs(session, row.0, term)
-        && is_within(session, row.1)
-        && session.undo().is_ok()
-        && is_within(session, row.1)
-        && session.redo().is_ok()
-        && is_within(session, row.1)
-}
-
-fn holds_once(alloc: Global, row: &Row) -> bool {
+fn is_small(alloc: Global, row: &Row) -> bool {
     let mut session = Session::new(Vec::new(alloc));
     let mut term = MemoryTerminal::new(alloc);
-    holds_in(&mut session, row, &mut term)
-}
-
-fn all_hold(rt: &impl Abort, alloc: Global, rows: &[Row]) {
-    for row in rows {
-        let held = holds_once(alloc, row) || holds_once(alloc, row);
-        assert!(rt; held, "at most {} bytes", row.1);
+    let mut begun = true;
+    for text in row.0 {
+        begun = session.run(text.as_bytes(), 100, &mut term) != Answer::NotBegun && begun;
     }
+    begun
+        && is_within(&session, row.1)
+        && session.undo().is_ok()
+        && is_within(&session, row.1)
+        && session.redo().is_ok()
+        && is_within(&session, row.1)
 }
 
+static ROWS: [Row<'static>; 10] = [
+    (&["Iab\x1b3D\x1b"], 2),
+    (&["Ihello\x1b", "HK\x1b"], 5),
+    (&["Ihello\x1b", "J\x1b"], 0),
+    (&["Ihello\x1b", "HXA\x1b"], 5),
+    (&["@^UA/abc/\x1b", "[A^UAde\x1b]A\x1b"], 13),
+    (&["Iabc\x1b", "0JSc\x1b"], 1),
+    (&["Iabc\x1b", "0JFSb\x1bxy\x1b"], 4),
+    (&["5UA<%A>\x1b"], 0),
+    (&["1=\x1b"], 0),
+    (&["\x1b"], 0),
+];
+
+// Where memory was refused, a row holds the second time.
 #[test]
 fn entries_are_small(rt: HostRuntime) {
-    all_hold(
-        &rt,
-        rt.alloc(),
-        &[
-            (&[b"Iab\x1b3D\x1b"], 2),
-            (&[b"Ihello\x1b", b"HK\x1b"], 5),
-            (&[b"Ihello\x1b", b"J\x1b"], 0),
-            (&[b"Ihello\x1b", b"HXA\x1b"], 5),
-            (&[b"@^UA/abc/\x1b", b"[A^UAde\x1b]A\x1b"], 13),
-            (&[b"Iabc\x1b", b"0JSc\x1b"], 1),
-            (&[b"Iabc\x1b", b"0JFSb\x1bxy\x1b"], 4),
-            (&[b"5UA<%A>\x1b"], 0),
-            (&[b"1=\x1b"], 0),
-            (&[b"\x1b"], 0),
-        ],
-    );
+    for row in &ROWS {
+        let held = is_small(rt.alloc(), row) || is_small(rt.alloc(), row);
+        assert!(rt; held, "at most {} bytes", row.1);
+    }
 }
 
 /// Whether the changes of the first string are of these kinds.
@@ -96,216 +82,129 @@ fn splice(at: usize, gone: usize, came: usize) -> ChangeKind {
     ChangeKind::Splice { at, gone, came }
 }
 
-fn ways_are_shown(session: &Session) -> bool {
-    are(
-        session,
-        &[
-            splice(0, 3, 0),
-            splice(2, 0, 1),
-            splice(2, 2, 0),
-            ChangeKind::Point,
-        ],
-    )
-}
-
-fn ways_back_are_shown(session: &Session) -> bool {
-    are(
-        session,
-        &[
-            splice(0, 0, 3),
-            splice(2, 1, 0),
-            splice(2, 0, 2),
-            ChangeKind::Point,
-        ],
-    )
-}
-
 /// Whether a string shows the kinds of its changes, and the way back once it is undone.
-fn kinds_are_shown_in(session: &mut Session, term: &mut MemoryTerminal) -> bool {
-    runs(session, &[b"Iabc\x1b-DIxy\x1bJ\x1b"], term)
-        && ways_are_shown(session)
-        && session.undo().is_ok()
-        && ways_back_are_shown(session)
-}
-
 fn kinds_are_shown(alloc: Global) -> bool {
     let mut session = Session::new(Vec::new(alloc));
     let mut term = MemoryTerminal::new(alloc);
-    kinds_are_shown_in(&mut session, &mut term)
+    let point = ChangeKind::Point;
+    let forth = [splice(0, 3, 0), splice(2, 0, 1), splice(2, 2, 0), point];
+    let back = [splice(0, 0, 3), splice(2, 1, 0), splice(2, 0, 2), point];
+    session.run(b"Iabc\x1b-DIxy\x1bJ\x1b", 100, &mut term) != Answer::NotBegun
+        && are(&session, &forth)
+        && session.undo().is_ok()
+        && are(&session, &back)
 }
 
-#[test]
-fn changes_show_what_is_drawn_anew(rt: HostRuntime) {
-    let held = kinds_are_shown(rt.alloc()) || kinds_are_shown(rt.alloc());
-    assert!(rt; held, "the kinds of changes");
-}
-
-/// Whether the text is so many bytes `x`.
-fn is_all_x(session: &Session, count: usize) -> bool {
-    let (before, after) = session.editor().halves();
-    before.iter().chain(after.iter()).all(|byte| *byte == b'x')
-        && before.len().saturating_add(after.len()) == count
-}
-
-fn undoes(session: &mut Session, count: usize) -> bool {
-    for _ in 0..count {
-        if session.undo().is_err() {
-            return false;
-        }
+/// Whether a request is done a hundred times.
+fn hundred_are_done(session: &mut Session, request: &str, term: &mut MemoryTerminal) -> bool {
+    let mut held = true;
+    for _ in 0..100 {
+        held = held && code_of(session, request, term).is_none();
     }
-    true
-}
-
-fn redoes(session: &mut Session, count: usize) -> bool {
-    for _ in 0..count {
-        if session.redo().is_err() {
-            return false;
-        }
-    }
-    true
+    held
 }
 
 /// Whether a hundred strings are undone, each by itself, and redone, and one redo more is refused.
-fn hundred_come_back_in(session: &mut Session, term: &mut MemoryTerminal) -> bool {
-    let text: &[u8] = b"Ix\x1b";
-    runs(session, &[text; 100], term)
-        && undoes(session, 100)
-        && session.undo().is_err()
-        && is_all_x(session, 0)
-        && redoes(session, 100)
-        && session.redo().is_err()
-        && is_all_x(session, 100)
-}
-
 fn hundred_come_back(alloc: Global) -> bool {
     let mut session = Session::new(Vec::new(alloc));
     let mut term = MemoryTerminal::new(alloc);
-    hundred_come_back_in(&mut session, &mut term)
+    hundred_are_done(&mut session, "Ix\x1b", &mut term)
+        && hundred_are_done(&mut session, "{", &mut term)
+        && session.undo().is_err()
+        && are_both(session.editor().halves(), b"")
+        && hundred_are_done(&mut session, "}", &mut term)
+        && session.redo().is_err()
+        && are_both(session.editor().halves(), &[b'x'; 100])
 }
 
 // Where memory was refused once, all come back the second time.
 #[test]
-fn many_strings_come_back(rt: HostRuntime) {
-    let held = hundred_come_back(rt.alloc()) || hundred_come_back(rt.alloc());
-    assert!(rt; held, "a hundred strings");
+fn strings_show_what_they_changed_and_come_back(rt: HostRuntime) {
+    let alloc = rt.alloc();
+    let held = kinds_are_shown(alloc) || kinds_are_shown(alloc);
+    assert_of(&rt, "the kinds of changes", held);
+    let held = hundred_come_back(alloc) || hundred_come_back(alloc);
+    assert_of(&rt, "a hundred strings", held);
 }
 
-fn has(session: &Session, text: &[u8], output: &[u8]) -> bool {
-    let (before, after) = session.editor().halves();
-    before.iter().chain(after.iter()).eq(text.iter()) && are_both(session.editor().output(), output)
-}
+/// A page that was turned is turned back with its output, and forth again; and the output goes on from where the undo left it.
+static PAGES: [Asks<'static>; 6] = [
+    ("YP\x1b", None, Some("two\n"), "one\n\x0c"),
+    ("{", None, Some(""), ""),
+    ("}", None, Some("two\n"), "one\n\x0c"),
+    ("{", None, Some(""), ""),
+    ("YIx\x1bP\x1b", None, Some("two\n"), "xone\n\x0c"),
+    ("}", Some(Code::Ntr), Some("two\n"), "xone\n\x0c"),
+];
 
-/// Whether a page that was turned is turned back with its output, and forth again.
-fn page_turns_back(session: &mut Session, term: &mut MemoryTerminal) -> bool {
-    runs(session, &[b"YP\x1b"], term)
-        && has(session, b"two\n", b"one\n\x0c")
-        && session.undo().is_ok()
-        && has(session, b"", b"")
-        && session.redo().is_ok()
-        && has(session, b"two\n", b"one\n\x0c")
-}
+/// Requests over an input of three lines and pages of two, how many strings are kept to be undone, if that is said, and how many are
+/// then noted.
+type Turns<'a> = (&'a [Asks<'a>], Option<usize>, usize);
 
-/// Whether the output goes on from where the undo left it.
-fn page_is_written_anew(session: &mut Session, term: &mut MemoryTerminal) -> bool {
-    session.undo().is_ok()
-        && runs(session, &[b"YIx\x1bP\x1b"], term)
-        && has(session, b"two\n", b"xone\n\x0c")
-        && session.redo().is_err()
-}
+static TURNS: [Turns<'static>; 3] = [
+    // A page that lines ended is turned back with its output, and forth again.
+    (
+        &[
+            ("YP\x1b", None, Some("three\n"), "one\ntwo\n"),
+            ("{", None, Some(""), ""),
+            ("}", None, Some("three\n"), "one\ntwo\n"),
+        ],
+        None,
+        1,
+    ),
+    // A session that keeps one string goes back to the page before it, and no further.
+    (
+        &[
+            ("Y\x1b", None, Some("one\ntwo\n"), ""),
+            ("P\x1b", None, Some("three\n"), "one\ntwo\n"),
+            ("{", None, Some("one\ntwo\n"), ""),
+            ("{", Some(Code::Ntu), Some("one\ntwo\n"), ""),
+            ("}", None, Some("three\n"), "one\ntwo\n"),
+        ],
+        Some(1),
+        1,
+    ),
+    // A session that keeps no string goes on from each, and back to none.
+    (
+        &[
+            ("Y\x1b", None, Some("one\ntwo\n"), ""),
+            ("P\x1b", None, Some("three\n"), "one\ntwo\n"),
+            ("{", Some(Code::Ntu), Some("three\n"), "one\ntwo\n"),
+            ("}", Some(Code::Ntr), Some("three\n"), "one\ntwo\n"),
+            ("~", Some(Code::Ntu), Some("three\n"), "one\ntwo\n"),
+        ],
+        Some(0),
+        0,
+    ),
+];
 
-fn page_comes_back(session: &mut Session, term: &mut MemoryTerminal) -> bool {
-    page_turns_back(session, term) && page_is_written_anew(session, term)
-}
-
-fn pages_once(alloc: Global) -> bool {
-    let mut session = session_over(alloc, b"one\n\x0ctwo\n");
-    let mut term = MemoryTerminal::new(alloc);
-    page_comes_back(&mut session, &mut term)
-}
-
-#[test]
-fn pages_come_back(rt: HostRuntime) {
-    let held = pages_once(rt.alloc()) || pages_once(rt.alloc());
-    assert!(rt; held, "a page turned back and forth");
-}
-
-/// An input of three lines.
-fn three_lines(alloc: Global) -> Vec<u8> {
+/// A session over the three lines, where so many strings are kept.
+fn session_of_lines(alloc: Global, depth: Option<usize>) -> Option<Session> {
     let mut input = joined(alloc, &[b"one\ntwo\nthree\n"]);
     input.truncate(FILE_LIMIT);
-    input
-}
-
-/// Whether a page that lines ended is turned back with its output, and forth again.
-fn page_of_lines_turns_back(session: &mut Session, term: &mut MemoryTerminal) -> bool {
-    runs(session, &[b"YP\x1b"], term)
-        && has(session, b"three\n", b"one\ntwo\n")
-        && session.undo().is_ok()
-        && has(session, b"", b"")
-        && session.redo().is_ok()
-        && has(session, b"three\n", b"one\ntwo\n")
-}
-
-/// Whether a session that keeps one string goes back to the page before it, and no further.
-fn last_page_turns_back(session: &mut Session, term: &mut MemoryTerminal) -> bool {
-    runs(session, &[b"Y\x1b", b"P\x1b"], term)
-        && has(session, b"three\n", b"one\ntwo\n")
-        && session.undo().is_ok()
-        && has(session, b"one\ntwo\n", b"")
-        && session.undo().is_err()
-        && session.redo().is_ok()
-        && has(session, b"three\n", b"one\ntwo\n")
-}
-
-/// Whether a session that keeps no string goes on from each, and back to none.
-fn no_page_turns_back(session: &mut Session, term: &mut MemoryTerminal) -> bool {
-    runs(session, &[b"Y\x1b", b"P\x1b"], term)
-        && has(session, b"three\n", b"one\ntwo\n")
-        && session.strings() == 0
-        && session.undo().is_err()
-        && session.redo().is_err()
-        && session.rewind(0).is_err()
-        && has(session, b"three\n", b"one\ntwo\n")
-}
-
-fn comes_back_through_every_string(alloc: Global) -> bool {
-    let mut term = MemoryTerminal::new(alloc);
-    let mut input = three_lines(alloc);
-    input.truncate(FILE_LIMIT);
-    match Session::with_pages(input, 2, None) {
-        Ok(mut session) => page_of_lines_turns_back(&mut session, &mut term),
-        Err(_) => false,
+    match depth {
+        Some(depth) if depth <= DEPTH_LIMIT => Session::with_pages(input, 2, Some(depth)).ok(),
+        Some(_) => None,
+        None => Session::with_pages(input, 2, None).ok(),
     }
 }
 
-fn comes_back_through_one_string(alloc: Global) -> bool {
-    let mut term = MemoryTerminal::new(alloc);
-    let mut input = three_lines(alloc);
-    input.truncate(FILE_LIMIT);
-    match Session::with_pages(input, 2, Some(1)) {
-        Ok(mut session) => last_page_turns_back(&mut session, &mut term),
-        Err(_) => false,
+fn turns(alloc: Global, row: &Turns) -> bool {
+    match session_of_lines(alloc, row.1) {
+        Some(mut session) => answers(alloc, &mut session, row.0, "") && session.strings() == row.2,
+        None => false,
     }
 }
 
-fn comes_back_through_no_string(alloc: Global) -> bool {
-    let mut term = MemoryTerminal::new(alloc);
-    let mut input = three_lines(alloc);
-    input.truncate(FILE_LIMIT);
-    match Session::with_pages(input, 2, Some(0)) {
-        Ok(mut session) => no_page_turns_back(&mut session, &mut term),
-        Err(_) => false,
-    }
-}
-
-fn pages_of_lines_once(alloc: Global) -> bool {
-    comes_back_through_every_string(alloc)
-        && comes_back_through_one_string(alloc)
-        && comes_back_through_no_string(alloc)
-}
-
+// Where memory was refused, a row holds the second time.
 #[test]
-fn pages_of_lines_come_back(rt: HostRuntime) {
-    let held = pages_of_lines_once(rt.alloc()) || pages_of_lines_once(rt.alloc());
-    assert!(rt; held, "a page of lines turned back and forth");
+fn pages_come_back(rt: HostRuntime) {
+    let alloc = rt.alloc();
+    let held = answers_over(alloc, b"one\n\x0ctwo\n", &PAGES, "")
+        || answers_over(alloc, b"one\n\x0ctwo\n", &PAGES, "");
+    assert_of(&rt, "a page turned back and forth", held);
+    for row in &TURNS {
+        let held = turns(alloc, row) || turns(alloc, row);
+        assert!(rt; held, "{:?}", row.1);
+    }
 }

@@ -4,27 +4,52 @@ use std::alloc::Global;
 use teco_core::{Code, FILE_LIMIT};
 use teco_session::Session;
 use teco_step::MemoryTerminal;
-use teco_store::Desk;
+use teco_store::{Desk, Editor};
 
-/// A request, the code of its answer, and the output after it. `{` undoes a string, and `}` redoes one.
-pub(crate) type Asks<'a> = (&'a str, Option<Code>, &'a str);
+/// A request, the code of its answer, the text after it, if that is said, and the output. `{` undoes a string, `}` redoes one, `~` goes
+/// back to before the first step, and any other request is run.
+pub(crate) type Asks<'a> = (&'a str, Option<Code>, Option<&'a str>, &'a str);
 
-fn code_of(session: &mut Session, request: &str, term: &mut MemoryTerminal) -> Option<Code> {
+pub(crate) fn code_of(
+    session: &mut Session,
+    request: &str,
+    term: &mut MemoryTerminal,
+) -> Option<Code> {
     match request {
-        "{" => session.undo().err().map(Code::from),
-        "}" => session.redo().err().map(Code::from),
+        "{" => match session.undo() {
+            Ok(()) => None,
+            Err(refused) => Some(Code::from(refused)),
+        },
+        "}" => match session.redo() {
+            Ok(()) => None,
+            Err(refused) => Some(Code::from(refused)),
+        },
+        "~" => match session.rewind(0) {
+            Ok(()) => None,
+            Err(refused) => Some(Code::from(refused)),
+        },
         text => session.run(text.as_bytes(), 1000, term).code(),
     }
 }
 
-fn are_answered(session: &mut Session, rows: &[Asks], term: &mut MemoryTerminal) -> bool {
+fn is_left(editor: &Editor, text: Option<&str>, output: &str) -> bool {
+    let is_text = match text {
+        Some(text) => are_both(editor.halves(), text.as_bytes()),
+        None => true,
+    };
+    is_text && are_both(editor.output(), output.as_bytes())
+}
+
+/// Whether the requests are answered so, and type this in all.
+pub(crate) fn answers(alloc: Global, session: &mut Session, rows: &[Asks], typed: &str) -> bool {
+    let mut term = MemoryTerminal::new(alloc);
     let mut held = true;
-    for (request, code, output) in rows {
-        held = code_of(session, request, term) == *code
-            && are_both(session.editor().output(), output.as_bytes())
+    for (request, code, text, output) in rows {
+        held = code_of(session, request, &mut term) == *code
+            && is_left(session.editor(), *text, output)
             && held;
     }
-    held
+    held && term.bytes() == typed.as_bytes()
 }
 
 pub(crate) fn session_over(alloc: Global, input: &[u8]) -> Session {
@@ -33,18 +58,8 @@ pub(crate) fn session_over(alloc: Global, input: &[u8]) -> Session {
     Session::new(input)
 }
 
-fn types(session: &mut Session, rows: &[Asks], typed: &str, term: &mut MemoryTerminal) -> bool {
-    are_answered(session, rows, term) && term.bytes() == typed.as_bytes()
-}
-
-/// Whether the requests are answered so over an input, and type this in all.
-fn answers(alloc: Global, input: &[u8], rows: &[Asks], typed: &str) -> bool {
+/// The same over an input.
+pub(crate) fn answers_over(alloc: Global, input: &[u8], rows: &[Asks], typed: &str) -> bool {
     let mut session = session_over(alloc, input);
-    let mut term = MemoryTerminal::new(alloc);
-    types(&mut session, rows, typed, &mut term)
-}
-
-/// The same; where memory was refused, at the second time.
-pub(crate) fn all_answered(alloc: Global, input: &[u8], rows: &[Asks], typed: &str) -> bool {
-    answers(alloc, input, rows, typed) || answers(alloc, input, rows, typed)
+    answers(alloc, &mut session, rows, typed)
 }

@@ -3,11 +3,10 @@ use super::requests::session_over;
 use crate::tests::commands::COMMANDS;
 use crate::tests::store::states::seen;
 use std::alloc::Global;
-use std::process::Abort;
 use std::test::*;
 use teco_core::Code;
 use teco_exec::Outcome;
-use teco_session::{Answer, Session};
+use teco_session::Answer;
 use teco_step::MemoryTerminal;
 
 /// Whether a command's name begins with a byte: a letter in either case, or for a caret and a letter the control byte.
@@ -56,50 +55,24 @@ fn outcome_of(kind: u8) -> Outcome {
     Outcome { code, steps }
 }
 
-/// Whether a byte ends as it means, types nothing, and is undone.
-fn ends_so(session: &mut Session, terminal: &mut MemoryTerminal, byte: u8) -> bool {
-    let answer = session.run(&[byte], 1000, terminal);
-    answer == Answer::Ended(outcome_of(kind_of(byte)))
-        && terminal.bytes().is_empty()
-        && session.undo().is_ok()
-}
-
-fn is_seen(alloc: Global, session: &Session, state: &[u8]) -> bool {
-    seen(alloc, session.editor()).as_slice() == state
-}
-
-fn ends_alone_in(
-    alloc: Global,
-    session: &mut Session,
-    terminal: &mut MemoryTerminal,
-    byte: u8,
-    first: &[u8],
-) -> bool {
-    ends_so(session, terminal, byte) && is_seen(alloc, session, first)
-}
-
-/// Whether a byte ends so in a new session, and is undone to the first state.
+/// Whether a byte ends as it means in a new session, types nothing, and is undone to the first state.
 fn ends_alone(alloc: Global, byte: u8, first: &[u8]) -> bool {
     let mut session = session_over(alloc, b"");
     let mut terminal = MemoryTerminal::new(alloc);
-    ends_alone_in(alloc, &mut session, &mut terminal, byte, first)
+    let answer = session.run(&[byte], 1000, &mut terminal);
+    let is_undone = answer == Answer::Ended(outcome_of(kind_of(byte)))
+        && terminal.bytes().is_empty()
+        && session.undo().is_ok();
+    is_undone && seen(alloc, session.editor()).as_slice() == first
 }
 
 /// Where memory was refused, a byte is run a second time.
-fn each_ends(rt: &impl Abort, alloc: Global, first: &[u8]) {
-    for byte in 0..=u8::MAX {
-        let held = ends_alone(alloc, byte, first) || ends_alone(alloc, byte, first);
-        assert!(rt; held, "byte {byte}");
-    }
-}
-
-fn first_state(alloc: Global) -> Vec<u8> {
-    let session = session_over(alloc, b"");
-    seen(alloc, session.editor())
-}
-
 #[test]
 fn single_bytes_end_as_they_mean(rt: HostRuntime) {
-    let first = first_state(rt.alloc());
-    each_ends(&rt, rt.alloc(), &first);
+    let alloc = rt.alloc();
+    let first = seen(alloc, session_over(alloc, b"").editor());
+    for byte in 0..=u8::MAX {
+        let held = ends_alone(alloc, byte, &first) || ends_alone(alloc, byte, &first);
+        assert!(rt; held, "byte {byte}");
+    }
 }

@@ -1,8 +1,6 @@
 //! Lines and ranges, the push-down list, and what is typed of bytes and numbers.
-use super::all_type;
-use std::test::*;
 
-static ROWS: &str = "
+pub(super) const ROWS: &str = "
     // Lines and ranges are killed.
     Ione\ntwo\nthree\x1bJKHT => two\nthree
     Ione\ntwo\n\x1b-LK.=HT => 4\r\none\n
@@ -30,8 +28,3 @@ static ROWS: &str = "
     -1==8:==0== => 37777777777\r\n100\r\n
     -2147483647-1==2147483647:== => 20000000000\r\n17777777777
     ";
-
-#[test]
-fn killing_extracting_and_typing_take_their_ranges(rt: HostRuntime) {
-    all_type(&rt, rt.alloc(), ROWS);
-}

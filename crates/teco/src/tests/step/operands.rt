@@ -1,8 +1,6 @@
 //! Values and operators in each place: after nothing, a number, a sign, an operator, a parenthesis or a comma.
-use super::all_type;
-use std::test::*;
 
-static ROWS: &str = "
+pub(super) const ROWS: &str = "
     // Registers are given in each form.
     5Ua1Qa => => ARG
     5Ua-Qa= => -5\r\n
@@ -76,8 +74,3 @@ static ROWS: &str = "
     (\x1b5= => 5\r\n
     1,\x1b5= => 5\r\n
     ";
-
-#[test]
-fn operands_are_given_in_each_form(rt: HostRuntime) {
-    all_type(&rt, rt.alloc(), ROWS);
-}

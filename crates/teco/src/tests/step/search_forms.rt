@@ -1,9 +1,7 @@
 //! The forms of arguments before searches and the commands of pages: none, n, m,n, a lone sign, after an open parenthesis, an operator
 //! and a comma.
-use super::all_type;
-use std::test::*;
 
-static ROWS: &str = "
+pub(super) const ROWS: &str = "
     // Searches take their forms.
     Iaa\x1bJSa\x1b.= => 1\r\n
     Iaa\x1bJ2Sa\x1b.= => 2\r\n
@@ -120,8 +118,3 @@ static ROWS: &str = "
     0+EX => => ARG
     0,EX => => ARG
     ";
-
-#[test]
-fn searches_and_pages_take_their_forms(rt: HostRuntime) {
-    all_type(&rt, rt.alloc(), ROWS);
-}

@@ -1,8 +1,6 @@
 //! Searches, numbers in the buffer, and the case mode.
-use super::all_type;
-use std::test::*;
 
-static ROWS: &str = "
+pub(super) const ROWS: &str = "
     // Texts are searched for.
     Ixabxab\x1b-2Sab\x1b.= => 3\r\n
     Ia1  b\x1b0JS\x05D\x05Sb\x1b.= => 5\r\n
@@ -37,8 +35,3 @@ static ROWS: &str = "
     0^XIAb\x1bJ:SaB\x1b= => -1\r\n
     0^X-1^XIAb\x1bJ:SaB\x1b= => 0\r\n
     ";
-
-#[test]
-fn searches_and_replacements_do_what_they_mean(rt: HostRuntime) {
-    all_type(&rt, rt.alloc(), ROWS);
-}

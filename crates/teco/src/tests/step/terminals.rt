@@ -8,24 +8,32 @@ fn puts_again(terminal: &mut MemoryTerminal, bytes: &[u8], before: &[u8]) -> boo
     terminal.put(bytes).is_ok() || terminal.bytes() == before && terminal.put(bytes).is_ok()
 }
 
+/// Whether what was shown is handed over, and the terminal then begins anew.
 fn keeps(terminal: &mut MemoryTerminal) -> bool {
-    puts_again(terminal, b"1", b"")
+    let kept = puts_again(terminal, b"1", b"")
         && puts_again(terminal, b"", b"1")
         && puts_again(terminal, b"=23456789012345\r\n", b"1")
-        && terminal.bytes() == b"1=23456789012345\r\n".as_slice()
+        && terminal.bytes() == b"1=23456789012345\r\n".as_slice();
+    let taken = terminal.take();
+    kept && taken.as_slice() == b"1=23456789012345\r\n".as_slice()
+        && puts_again(terminal, b"2", b"")
+        && terminal.bytes() == b"2".as_slice()
 }
 
-/// Whether what was shown is handed over, and the terminal then begins anew.
-fn hands_over(terminal: &mut MemoryTerminal) -> bool {
-    let taken = terminal.take();
-    taken.as_slice() == b"1=23456789012345\r\n".as_slice() && puts_again(terminal, b"2", b"")
+/// Whether `hi` and then `!` are put, where a growth that is refused the first time isn't the second, and each is flushed.
+fn flushes_each(terminal: &mut WriterTerminal<MemorySink>) -> bool {
+    (terminal.put(b"hi").is_ok() || terminal.put(b"hi").is_ok())
+        && terminal.sink().flushed() == b"hi".as_slice()
+        && (terminal.put(b"!").is_ok() || terminal.put(b"!").is_ok())
+        && terminal.sink().flushed() == b"hi!".as_slice()
 }
 
 #[test]
-fn keeps_what_is_shown(rt: HostRuntime) {
+fn keeps_and_flushes_what_is_shown(rt: HostRuntime) {
     let mut terminal = MemoryTerminal::new(rt.alloc());
-    assert!(rt; keeps(&mut terminal) && hands_over(&mut terminal));
-    assert!(rt; terminal.bytes() == b"2".as_slice());
+    assert!(rt; keeps(&mut terminal));
+    let mut terminal = WriterTerminal::new(MemorySink::new(rt.alloc()));
+    assert!(rt; flushes_each(&mut terminal));
 }
 
 /// How a writer fails.
@@ -37,10 +45,6 @@ enum Fault {
     TakesNothing,
     /// Each flush is an error.
     Flush,
-}
-
-fn error() -> io::Error {
-    io::Error::from(io::ErrorKind::Other)
 }
 
 /// Takes at most two bytes a write, and `left` in all. What it took is shown by a flush alone.
@@ -56,7 +60,7 @@ struct Narrow {
 impl Write for Narrow {
     fn write(&mut self, bytes: &[u8]) -> io::Result<usize> {
         if self.left == 0 && matches!(self.fault, Fault::Write) {
-            return Err(error());
+            return Err(io::Error::from(io::ErrorKind::Other));
         }
         let left = self.left;
         let n = left.min(2).min(bytes.len());
@@ -72,7 +76,7 @@ impl Write for Narrow {
 
     fn flush(&mut self) -> io::Result<()> {
         if matches!(self.fault, Fault::Flush) {
-            return Err(error());
+            return Err(io::Error::from(io::ErrorKind::Other));
         }
         self.shown = self.len;
         Ok(())
@@ -91,12 +95,7 @@ static ROWS: [Row<'static>; 5] = [
     (8, Fault::Flush, false, false, "hello!", ""),
 ];
 
-/// Whether `hello` and then `!` are put as wanted on a terminal over the writer.
-fn puts(writer: &mut Narrow, hello: bool, mark: bool) -> bool {
-    let mut terminal = WriterTerminal::new(writer);
-    terminal.put(b"hello").is_ok() == hello && terminal.put(b"!").is_ok() == mark
-}
-
+/// Whether `hello` and then `!` are put as the row says on a terminal over its writer.
 fn takes(row: &Row) -> bool {
     let (left, fault, hello, mark, taken, shown) = *row;
     let mut writer = Narrow {
@@ -106,8 +105,11 @@ fn takes(row: &Row) -> bool {
         left,
         fault,
     };
-    puts(&mut writer, hello, mark)
-        && &writer.taken[..writer.len.min(8)] == taken.as_bytes()
+    let put = {
+        let mut terminal = WriterTerminal::new(&mut writer);
+        terminal.put(b"hello").is_ok() == hello && terminal.put(b"!").is_ok() == mark
+    };
+    put && &writer.taken[..writer.len.min(8)] == taken.as_bytes()
         && &writer.taken[..writer.shown.min(8)] == shown.as_bytes()
 }
 
@@ -116,18 +118,4 @@ fn writes_all_or_fails(rt: HostRuntime) {
     for row in &ROWS {
         assert_of(&rt, row.4, takes(row));
     }
-}
-
-/// Whether `hi` and then `!` are put, where a growth that is refused the first time isn't the second, and each is flushed.
-fn flushes_each(terminal: &mut WriterTerminal<MemorySink>) -> bool {
-    (terminal.put(b"hi").is_ok() || terminal.put(b"hi").is_ok())
-        && terminal.sink().flushed() == b"hi".as_slice()
-        && (terminal.put(b"!").is_ok() || terminal.put(b"!").is_ok())
-        && terminal.sink().flushed() == b"hi!".as_slice()
-}
-
-#[test]
-fn flushes_a_sink_in_memory(rt: HostRuntime) {
-    let mut terminal = WriterTerminal::new(MemorySink::new(rt.alloc()));
-    assert!(rt; flushes_each(&mut terminal));
 }

@@ -1,8 +1,6 @@
 //! The pointer, and texts that are put in, deleted and typed.
-use super::all_type;
-use std::test::*;
 
-static ROWS: &str = "
+pub(super) const ROWS: &str = "
     // The pointer is moved.
     Ihello\x1b0J3C.= => 3\r\n
     5J => => POP
@@ -32,8 +30,3 @@ static ROWS: &str = "
     ^Ahello\x01@^A/x/ => hellox
     1^Ahello\x01 => => ARG
     ";
-
-#[test]
-fn texts_are_edited_and_typed(rt: HostRuntime) {
-    all_type(&rt, rt.alloc(), ROWS);
-}

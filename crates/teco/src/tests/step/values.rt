@@ -1,8 +1,6 @@
 //! Numbers, arguments and the codes of characters.
-use super::all_type;
-use std::test::*;
 
-static ROWS: &str = "
+pub(super) const ROWS: &str = "
     // Values are typed.
     2+3*4= => 20\r\n
     7-9/2= => -1\r\n
@@ -32,8 +30,3 @@ static ROWS: &str = "
     Ihello\x1b1,(-A-108)T => el
     1+A => => ARG
     ";
-
-#[test]
-fn arguments_are_built_and_typed(rt: HostRuntime) {
-    all_type(&rt, rt.alloc(), ROWS);
-}

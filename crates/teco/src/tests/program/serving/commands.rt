@@ -1,9 +1,7 @@
 //! What is typed at the commands, and what they leave.
-use super::{PLAIN, all_hold_so};
-use std::test::*;
 
 /// Streams and what they type.
-const ROWS: &str = "
+pub(super) const ROWS: &str = "
     // Edits.
     Ihello$R.=HT$$ => 4\r\nhello
     Ia$10I$Ib$0JL.=HT$$ => 2\r\na\nb
@@ -62,8 +60,3 @@ const ROWS: &str = "
     ]A$$ => ?CPQ\r\n
     ^UAab$7UA[A$$^UAx$0UA$${$$]BGB:GAQB=$$HTQA=$$ => ab7\r\nab7\r\n
     ";
-
-#[test]
-fn serves_commands(rt: HostRuntime) {
-    all_hold_so(&rt, rt.alloc(), &PLAIN, ROWS);
-}

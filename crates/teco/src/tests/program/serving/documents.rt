@@ -1,17 +1,10 @@
 //! The examples of the pages in docs. `docs/rows --write` makes their tables.
-use super::{How, PLAIN, session_over, source_of};
-use crate::tests::assert_of;
-use crate::tests::bytes::are_both;
-use crate::tests::rows::{self, four_cells_of, is_row};
+use super::{How, PLAIN, holds};
+use crate::tests::rows::{Rule, all_hold, cells_of};
 use std::alloc::Global;
 use std::process::Abort;
 use std::test::*;
-use teco_core::NoMemory;
-use teco_files::MemorySource;
-use teco_program::{Served, Silent, serve};
-use teco_session::Session;
-use teco_step::MemoryTerminal;
-use teco_store::Desk;
+use teco_program::Served;
 
 /// As a command line without options says.
 const LINE: How = How {
@@ -24,114 +17,35 @@ const PROMPT: How = How {
     ..LINE
 };
 
-/// The input, the strings, where `$` is ESC and a backquote the byte 5, what is typed but for the bytes that the page does not tell,
-/// and the output, if they end by an exit.
-type Example<'a> = (&'a str, &'a str, &'a str, Option<&'a str>);
-
-/// A table of examples that are served in the same way, each in a session of its own.
+/// A table of examples that are served in the same way, each in a session of its own. A row is the input, the strings, where `$` is ESC
+/// and a backquote the byte 5, what is typed but for the bytes that the page does not tell, and the output, if they end by an exit.
 type Group<'a> = (How<'a>, &'a str);
 
-/// The bytes that a page tells.
-fn told_of(alloc: Global, bytes: &[u8], untold: &[u8]) -> Result<Vec<u8>, NoMemory> {
-    let mut told = Vec::new(alloc);
-    for byte in bytes {
-        if !untold.contains(byte) {
-            told.push(*byte)?;
-        }
-    }
-    Ok(told)
-}
+/// Examples that are served so.
+#[derive(Clone, Copy)]
+struct Examples<'a>(How<'a>);
 
-/// Whether the bytes that a page tells are this text.
-fn are_told(alloc: Global, bytes: &[u8], text: &str, untold: &[u8]) -> bool {
-    match told_of(alloc, bytes, untold) {
-        Ok(told) => told.as_slice() == text.as_bytes(),
-        Err(NoMemory) => false,
-    }
-}
-
-/// Whether the strings ended by an exit with this output, or without an exit.
-fn is_ended(served: Served, session: &Session, output: Option<&str>) -> bool {
-    match output {
-        Some(output) => {
-            served == Served::Exit && are_both(session.editor().output(), output.as_bytes())
-        }
-        None => served == Served::EndOfCommands,
+impl Rule for Examples<'_> {
+    fn holds(&self, alloc: Global, row: &str) -> bool {
+        let Some((input, strings, typed, output)) = cells_of(row) else {
+            return false;
+        };
+        let served = match output {
+            Some(_) => Served::Exit,
+            None => Served::EndOfCommands,
+        };
+        let how = How {
+            input,
+            served,
+            ..self.0
+        };
+        holds(alloc, &how, &(strings, typed, output))
     }
 }
 
-/// Whether serving a source in a session gives what the example tells.
-fn serves(
-    alloc: Global,
-    source: &mut MemorySource,
-    session: &mut Session,
-    how: &How,
-    example: &Example,
-    untold: &[u8],
-) -> bool {
-    let mut term = MemoryTerminal::new(alloc);
-    let served = serve(
-        alloc,
-        source,
-        session,
-        how.limit,
-        how.prompt,
-        &mut term,
-        &mut Silent,
-    );
-    are_told(alloc, term.bytes(), example.2, untold) && is_ended(served, session, example.3)
-}
-
-fn serves_in(
-    alloc: Global,
-    session: &mut Session,
-    how: &How,
-    example: &Example,
-    single: bool,
-    untold: &[u8],
-) -> bool {
-    match source_of(alloc, example.1.as_bytes(), single, false) {
-        Ok(mut source) => serves(alloc, &mut source, session, how, example, untold),
-        Err(NoMemory) => false,
-    }
-}
-
-/// Whether the example holds with its strings as one piece or in single bytes.
-fn holds_once(alloc: Global, how: &How, example: &Example, single: bool, untold: &[u8]) -> bool {
-    match session_over(alloc, example.0, how.depth) {
-        Some(mut session) => serves_in(alloc, &mut session, how, example, single, untold),
-        None => false,
-    }
-}
-
-fn holds(alloc: Global, how: &How, example: &Example, untold: &[u8]) -> bool {
-    holds_once(alloc, how, example, false, untold) && holds_once(alloc, how, example, true, untold)
-}
-
-/// Whether the example of a line holds; where memory was refused, the second time.
-fn line_holds(alloc: Global, how: &How, line: &str, untold: &[u8]) -> bool {
-    match four_cells_of(line) {
-        Some(example) => {
-            holds(alloc, how, &example, untold) || holds(alloc, how, &example, untold)
-        }
-        None => false,
-    }
-}
-
-/// Each example of a table holds.
-fn all_hold_so(rt: &impl Abort, alloc: Global, how: &How, table: &str, untold: &[u8]) {
-    for line in table.split(rows::LINE) {
-        assert_of(
-            rt,
-            line,
-            !is_row(line) || line_holds(alloc, how, line, untold),
-        );
-    }
-}
-
-fn all_hold(rt: &impl Abort, alloc: Global, groups: &[Group], untold: &[u8]) {
+fn all_tell(rt: &impl Abort, alloc: Global, groups: &[Group], untold: &[u8]) {
     for (how, table) in groups {
-        all_hold_so(rt, alloc, how, table, untold);
+        all_hold(rt, alloc, &Examples(How { untold, ..*how }), table);
     }
 }
 
@@ -142,45 +56,30 @@ const RETURN: &[u8] = b"\r";
 const BETWEEN_WORDS: &[u8] = b"\r\n ";
 
 #[test]
-fn the_tour_tells_what_is_typed_and_written(rt: HostRuntime) {
-    all_hold(&rt, rt.alloc(), tour::EXAMPLES, RETURN);
+fn pages_tell_what_is_typed_and_written(rt: HostRuntime) {
+    let alloc = rt.alloc();
+    all_tell(&rt, alloc, tour::EXAMPLES, RETURN);
+    all_tell(&rt, alloc, man_page::EXAMPLES, RETURN);
+    all_tell(&rt, alloc, reference::EXAMPLES, BETWEEN_WORDS);
+    all_tell(&rt, alloc, macros::EXAMPLES, BETWEEN_WORDS);
 }
 
 #[test]
 fn the_cookbook_tells_what_is_typed_and_written(rt: HostRuntime) {
-    all_hold(&rt, rt.alloc(), cookbook_replacing::EXAMPLES, RETURN);
-    all_hold(&rt, rt.alloc(), cookbook_lines::EXAMPLES, RETURN);
-    all_hold(
+    let alloc = rt.alloc();
+    all_tell(&rt, alloc, cookbook_replacing::EXAMPLES, RETURN);
+    all_tell(&rt, alloc, cookbook_lines::EXAMPLES, RETURN);
+    all_tell(&rt, alloc, cookbook_columns_and_fields::EXAMPLES, RETURN);
+    all_tell(&rt, alloc, cookbook_paragraphs::EXAMPLES, RETURN);
+    all_tell(&rt, alloc, cookbook_numbers::EXAMPLES, RETURN);
+    all_tell(&rt, alloc, cookbook_macros_and_bytes::EXAMPLES, RETURN);
+    all_tell(&rt, alloc, cookbook_pages::EXAMPLES, RETURN);
+    all_tell(
         &rt,
-        rt.alloc(),
-        cookbook_columns_and_fields::EXAMPLES,
-        RETURN,
-    );
-    all_hold(&rt, rt.alloc(), cookbook_paragraphs::EXAMPLES, RETURN);
-    all_hold(&rt, rt.alloc(), cookbook_numbers::EXAMPLES, RETURN);
-    all_hold(&rt, rt.alloc(), cookbook_macros_and_bytes::EXAMPLES, RETURN);
-    all_hold(&rt, rt.alloc(), cookbook_pages::EXAMPLES, RETURN);
-    all_hold(
-        &rt,
-        rt.alloc(),
+        alloc,
         cookbook_looking_and_taking_back::EXAMPLES,
         RETURN,
     );
-}
-
-#[test]
-fn the_reference_tells_what_is_typed(rt: HostRuntime) {
-    all_hold(&rt, rt.alloc(), reference::EXAMPLES, BETWEEN_WORDS);
-}
-
-#[test]
-fn the_page_for_those_who_know_another_teco_tells_what_is_typed(rt: HostRuntime) {
-    all_hold(&rt, rt.alloc(), macros::EXAMPLES, BETWEEN_WORDS);
-}
-
-#[test]
-fn the_man_page_tells_what_is_typed_and_written(rt: HostRuntime) {
-    all_hold(&rt, rt.alloc(), man_page::EXAMPLES, RETURN);
 }
 
 mod cookbook_columns_and_fields;

@@ -1,6 +1,5 @@
 //! What is typed and written at streams of commands over an input of three pages.
-use super::{Group, How, PLAIN, all_hold};
-use std::test::*;
+use super::{Group, How, PLAIN};
 use teco_program::Served;
 
 /// The pages `one`, `two` and `three`.
@@ -46,7 +45,7 @@ const TO_AN_EXIT: &str = "
     YHT$$FSone$1$HT$$PHT$$HK$${$$HT$$PZJIend\n$EX$$ => one\n1\ntwo\ntwo\n => 1\n\x0ctwo\n\x0cthree\nend\n
     ";
 
-static GROUPS: [Group<'static>; 2] = [
+pub(super) static GROUPS: [Group<'static>; 2] = [
     (PAGES, OVER_PAGES),
     (
         How {
@@ -56,8 +55,3 @@ static GROUPS: [Group<'static>; 2] = [
         TO_AN_EXIT,
     ),
 ];
-
-#[test]
-fn serves_pages(rt: HostRuntime) {
-    all_hold(&rt, rt.alloc(), &GROUPS);
-}

@@ -1,6 +1,5 @@
 //! Rewinds to a step, and what is left of the string, of its history and of what it wrote.
-use super::{Group, How, PLAIN, all_hold};
-use std::test::*;
+use super::{Group, How, PLAIN};
 use teco_program::Served;
 
 /// Over three pages, `a`, `b` and `c`.
@@ -42,14 +41,9 @@ const OVER_PAGES: &str = "
     YNc$$3~$$PHT$$ => c => a\x0cb\x0c
     ";
 
-static GROUPS: [Group<'static>; 3] = [
+pub(super) static GROUPS: [Group<'static>; 3] = [
     (PLAIN, STRINGS),
     (PAGES, OVER_PAGES),
     // An exit is gone back before the serving sees it done; after it nothing is asked.
     (EXIT, "Ia$EX$$~$$ => => a"),
 ];
-
-#[test]
-fn rewinds_to_steps(rt: HostRuntime) {
-    all_hold(&rt, rt.alloc(), &GROUPS);
-}

@@ -1,9 +1,7 @@
 //! Streams with searches.
-use super::{PLAIN, all_hold_so};
-use std::test::*;
 
 /// Streams and what they type.
-const ROWS: &str = "
+pub(super) const ROWS: &str = "
     // Searches.
     Ihello$JSl$.=S$.=$$HT$$ => 3\r\n4\r\nhello
     Ihello$:Sx$=$$HT$$ => 0\r\nhello
@@ -15,8 +13,3 @@ const ROWS: &str = "
     Iab$JSb$${$$}$$S$$HT$$ => ?SRH\r\nab
     Iaaaa$0J<Saa$;%A$>$$HTQA=$$ => aaaa2\r\n
     ";
-
-#[test]
-fn serves_searches(rt: HostRuntime) {
-    all_hold_so(&rt, rt.alloc(), &PLAIN, ROWS);
-}

@@ -1,6 +1,5 @@
 //! Worked rows: what a stream types, and what its last strings then type of the state that it left.
-use super::{Group, How, PLAIN, all_hold};
-use std::test::*;
+use super::{Group, How, PLAIN};
 use teco_program::Served;
 
 /// Three pages.
@@ -9,7 +8,7 @@ const PAGES: How = How {
     ..PLAIN
 };
 
-const TWO_PAGES: How = How {
+pub(super) const TWO_PAGES: How = How {
     input: "a\x0cb",
     ..PLAIN
 };
@@ -90,7 +89,7 @@ const TO_TWO_STEPS: &str = "
     Y_b$$ => ?LIM\r\n
     ";
 
-static GROUPS: [Group<'static>; 11] = [
+pub(super) static GROUPS: [Group<'static>; 11] = [
     (PLAIN, STRINGS),
     // A search that fails is a step: where it is the last that the limit allows, the pointer is at 0.
     (
@@ -148,8 +147,3 @@ static GROUPS: [Group<'static>; 11] = [
         "Y$$Z=$$EX$$ => 3\r\n => hi\n",
     ),
 ];
-
-#[test]
-fn leaves_what_the_rows_say(rt: HostRuntime) {
-    all_hold(&rt, rt.alloc(), &GROUPS);
-}
