@@ -17,3 +17,4 @@ pub mod Turns
 pub mod Outermost
 pub mod Placings
 pub mod Semicolons
+pub mod Remembering

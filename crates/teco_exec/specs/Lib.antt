@@ -11,6 +11,7 @@ pub mod Places
 pub mod Telling
 pub mod Watching
 pub mod Frames
+pub mod Remembered
 pub mod Tokens
 pub mod View
 pub mod Runs

@@ -5,18 +5,21 @@ ghost use Rattle.teco_exec.specs.Semicolon.{is_semicolon};
 ghost use Rattle.teco_exec.specs.CursorMoves as machine;
 
 use crate::blocks::{Block, Blocks};
+use crate::remembered::Remembered;
 use teco_core::{Args, BLOCK_LIMIT, is_filler};
 use teco_scan::spelling;
 
-/// Where a text is being run: how many of its bytes come before, the arguments so far, and the open blocks.
+/// Where a text is being run: how many of its bytes come before, the arguments so far, the open blocks, and what is remembered of it.
 #[derive(Drop)]
 pub(crate) struct Cursor<'t> {
     pub text: &'t [u8],
     pub at: usize,
     pub args: Args,
     pub blocks: Blocks<'t>,
+    pub remembered: Remembered<'t>,
     ghost within: { at ≤ length text.now },
     ghost begin: { All (λ b. b.start ≤ length text.now) blocks },
+    ghost same: { remembered ≡ text.now },
 }
 
 impl<'t> Cursor<'t> {
@@ -35,6 +38,7 @@ impl<'t> Cursor<'t> {
             at: 0,
             args,
             blocks: Blocks::new(room),
+            remembered: Remembered::new(text),
         }
     }
 

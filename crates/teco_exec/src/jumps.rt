@@ -1,11 +1,12 @@
 //! Iterations that are left, and jumps to tags.
-ghost use Rattle.std.specs.Prelude.{◌≡◌, OnErr};
+ghost use Rattle.std.specs.Prelude.{◌≡◌, OnErr, length};
+ghost use Rattle.teco_scan.specs.Seen.{IsSpanIn, bytes_in};
 ghost use Rattle.teco_exec.specs.CursorMoves as machine;
 ghost use Rattle.teco_exec.specs.View.{ResultFinishes, Stays, cursor, cursor_or_error};
 
 use crate::cursor::Cursor;
 use teco_core::Code;
-use teco_scan::{Kind, find_tag, skip_whole_block};
+use teco_scan::{Kind, Span};
 
 impl<'t> Cursor<'t> {
     /// Leaves the innermost iteration. Where it can't, the cursor stays.
@@ -21,7 +22,7 @@ impl<'t> Cursor<'t> {
         let mut depth = self.blocks.len();
         'leaving: while depth > 0 {
             let kind = self.blocks.get(depth).body.kind();
-            at = skip_whole_block(self.text, at, kind, depth)?;
+            at = self.remembered.skip_whole(at, kind, depth)?;
             depth -= 1;
             match kind {
                 Kind::Iter => {
@@ -35,19 +36,20 @@ impl<'t> Cursor<'t> {
         Err(Code::Sni)
     }
 
-    /// Jumps past the first tag of this name that is directly in the innermost list of commands that has one. Where none has, the cursor
+    /// Jumps past the first tag of this name, which lies in the text, that is directly in the innermost list of commands that has one. Where none has, the cursor
     /// stays.
-    pub fn jump(&mut self, name: &[u8]) -> Result<(), Code>
+    pub fn jump(&mut self, name: Span) -> Result<(), Code>
+        requires { IsSpanIn (length self.old.text.now) name }
         ensures text { self.new.text ≡ self.old.text }
         ensures moves { cursor_or_error self.new result
-            ≡ machine.after_jump name.now self.old.text.now (cursor self.old).blocks (cursor self.old).args }
+            ≡ machine.after_jump (bytes_in self.old.text.now name) self.old.text.now (cursor self.old).blocks (cursor self.old).args }
         ensures finished { ResultFinishes result }
         ensures stays { OnErr result (Stays self.old self.new) }
     {
         let mut depth = self.blocks.len();
         'jumping: loop {
             let start = self.blocks.list_start(depth);
-            if let Some(to) = find_tag(self.text, start, depth, name) {
+            if let Some(to) = self.remembered.tag(start, depth, name) {
                 self.blocks.truncate(depth);
                 self.at = to;
                 return Ok(());

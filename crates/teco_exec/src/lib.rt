@@ -12,6 +12,7 @@ mod laws;
 mod moves;
 mod outcome;
 mod place;
+mod remembered;
 mod running;
 mod stepping;
 mod stop;

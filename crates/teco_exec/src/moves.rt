@@ -10,9 +10,7 @@ use crate::blocks::{Block, Body};
 use crate::conditions::holds;
 use crate::cursor::Cursor;
 use teco_core::{BLOCK_LIMIT, Code, Taken};
-use teco_scan::{
-    BlockMark, Found, Kind, Test, TokenKind, block_laws, skip_block, skip_whole_block,
-};
+use teco_scan::{BlockMark, Found, Kind, Test, TokenKind, block_laws};
 
 /// What opens a block or ends a turn: a step that no item makes.
 #[derive(Clone, Copy)]
@@ -145,7 +143,7 @@ impl<'t> Cursor<'t> {
             None => Coming::Fault(Code::Ill),
             Some(block) => match block.body.kind() {
                 Kind::Iter | Kind::Else => Coming::Fault(Code::Ill),
-                Kind::Then => match skip_block(self.text, to, Kind::Else, depth) {
+                Kind::Then => match self.remembered.skip(to, Kind::Else, depth) {
                     Err(code) => Coming::Fault(code),
                     Ok(stop) => {
                         self.blocks.pop();
@@ -293,7 +291,8 @@ impl<'t> Cursor<'t> {
         ensures finished { ResultFinishes result }
         ensures stays { OnErr result (Stays self.old self.new) }
     {
-        self.at = skip_whole_block(self.text, start, Kind::Iter, self.blocks.len() + 1)?;
+        let depth = self.blocks.len() + 1;
+        self.at = self.remembered.skip_whole(start, Kind::Iter, depth)?;
         Ok(())
     }
 
@@ -307,7 +306,8 @@ impl<'t> Cursor<'t> {
         ensures finished { ResultFinishes result }
         ensures stays { OnErr result (Stays self.old self.new) }
     {
-        let stop = skip_block(self.text, start, Kind::Then, self.blocks.len() + 1)?;
+        let depth = self.blocks.len() + 1;
+        let stop = self.remembered.skip(start, Kind::Then, depth)?;
         if stop.divided {
             self.enter(stop.to, Body::Else);
         } else {

@@ -2,7 +2,7 @@
 ghost use Rattle.std.specs.Prelude.{◌≡◌, ◌<◌, ◌≤◌, ◌⊎◌, ℕ, List, None, Some, MatchOption, MatchResult, drop, false, length, true};
 ghost use Rattle.teco_core.specs.declared.code.Code.TheVariants.{Lim};
 ghost use Rattle.teco_scan.specs.Scan.{scan};
-ghost use Rattle.teco_scan.specs.Seen.{IsFoundAt, found_in};
+ghost use Rattle.teco_scan.specs.Seen.{IsFoundAt, IsSpanIn, bytes_in, found_in};
 ghost use Rattle.teco_store.specs.State.{State};
 ghost use Rattle.teco_step.specs.Stepping.{IsStepIn, end_of, is_unfinished, is_unfinished_code, name_in, takes_nothing_in};
 ghost use Rattle.teco_step.specs.Terminal.{Screen};
@@ -23,7 +23,7 @@ use crate::moves::{BlockStep, Coming};
 use crate::stop::Stop;
 use teco_core::{Code, Reg};
 use teco_scan::{
-    Bare, Command, Found, Item, RegisterCommand, TextCommand, Token, TokenKind, block_laws,
+    Bare, Command, Found, Item, RegisterCommand, Span, TextCommand, Token, TokenKind, block_laws,
 };
 use teco_step::{Next, Terminal, Work, effect_laws, step_token};
 use teco_store::Desk;
@@ -231,7 +231,7 @@ fn resume(cursor: &mut Cursor, token: &Token, next: Next) -> Progress
         Next::On => Progress::Done(Flow::On),
         Next::Leave => Progress::Done(on_unless(cursor.leave())),
         Next::Go => {
-            let name = name_of(cursor.text, token);
+            let name = name_of(token);
             Progress::Done(on_unless(cursor.jump(name)))
         }
         // A token that calls is no step of its own: `run_called` does it.
@@ -315,14 +315,14 @@ fn on_unless(moved: Result<(), Code>) -> Flow
     }
 }
 
-/// The name of the tag that a jump goes to.
+/// Where the name of the tag lies that a jump goes to.
 #[inline(always)]
-fn name_of<'a>(text: &'a [u8], token: &Token) -> &'a [u8]
-    requires { IsStepIn text.now token.now }
-    ensures { result.now ≡ name_in text.now token.now }
+fn name_of(token: &Token) -> Span
+    ensures named { (text : List ℕ) → IsStepIn text token.now → bytes_in text result ≡ name_in text token.now }
+    ensures inside { (text : List ℕ) → IsStepIn text token.now → IsSpanIn (length text) result }
 {
     match token.kind {
-        TokenKind::Item(Item::Text(_, span)) => &text[span.from..span.to],
-        _ => &[],
+        TokenKind::Item(Item::Text(_, span)) => span,
+        _ => Span { from: 0, to: 0 },
     }
 }

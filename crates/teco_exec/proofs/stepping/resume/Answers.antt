@@ -16,7 +16,7 @@ pub returns-in-Leave-clause-resumes : goal.returns-in-Leave-clause-resumes
 returns-in-Leave-clause-resumes c s callers now = ends_so callers now s c.args.cursor.now c.args.token.now _ _ (reached_by_flow c.leave.new.self callers c.on_unless.result) c.in-Leave.is (moves_on callers now c.args.cursor.now c.leave.new.self c.leave.ensures.text c.leave.result _ c.on_unless.ensures _ c.leave.ensures.moves)
 
 pub returns-in-Go-clause-resumes : goal.returns-in-Go-clause-resumes
-returns-in-Go-clause-resumes c s callers now = ends_so callers now s c.args.cursor.now c.args.token.now _ _ (reached_by_flow c.jump.new.self callers c.on_unless-in-Go.result) c.in-Go.is (moves_on callers now c.args.cursor.now c.jump.new.self c.jump.ensures.text c.jump.result _ c.on_unless-in-Go.ensures _ (c.jump.ensures.moves ∙ ap (λ name. after_jump name c.args.cursor.now.text.now (cursor c.args.cursor.now).blocks (cursor c.args.cursor.now).args) c.name_of-name.ensures))
+returns-in-Go-clause-resumes c s callers now = ends_so callers now s c.args.cursor.now c.args.token.now _ _ (reached_by_flow c.jump.new.self callers c.on_unless-in-Go.result) c.in-Go.is (moves_on callers now c.args.cursor.now c.jump.new.self c.jump.ensures.text c.jump.result _ c.on_unless-in-Go.ensures _ (c.jump.ensures.moves ∙ ap (λ name. after_jump name c.args.cursor.now.text.now (cursor c.args.cursor.now).blocks (cursor c.args.cursor.now).args) (c.name_of-name.ensures.named c.args.cursor.now.text.now c.requires.token)))
 
 pub returns-in-Again-clause-resumes : goal.returns-in-Again-clause-resumes
 returns-in-Again-clause-resumes c s callers now = ends_so callers now s c.args.cursor.now c.args.token.now _ _ (goes (at_token c.args.cursor.now c.args.token.now (Some c.in-Again.work) callers)) c.in-Again.is (goes_further callers now c.args.cursor.now c.args.token.now c.in-Again.work)
@@ -35,3 +35,6 @@ returns-in-Leave-clause-stays c = unless_stays c.args.cursor.now c.leave.new.sel
 
 pub returns-in-Go-clause-stays : goal.returns-in-Go-clause-stays
 returns-in-Go-clause-stays c = unless_stays c.args.cursor.now c.jump.new.self c.jump.result c.on_unless-in-Go.result c.on_unless-in-Go.ensures c.jump.ensures.stays
+
+pub jump-requires : goal.jump-requires
+jump-requires c = c.name_of-name.ensures.inside c.args.cursor.now.text.now c.requires.token

@@ -10,6 +10,7 @@ invariant_of-self c =
     record {
       within = subst (λ start. start ≤ length c.args.self.now.text.now) c.in-Some.ensures.1 (start_within c.next_turn.new.self new);
       begin = new;
+      same = c.args.self.now.same;
     }
 
 pub invariant_of-self-in-None-clause-begin : goal.invariant_of-self-in-None-clause-begin

@@ -1,17 +1,18 @@
 use Rattle.std.proofs.Common.{◌≡◌, ◌≤◌, drop, length}
 use Rattle.teco_exec.specs.CursorMoves as machine
 use Rattle.teco_exec.specs.Frames.{frames, outermost}
-use Rattle.teco_exec.specs.View.{cursor}
+use Rattle.teco_exec.specs.View.{Stays, cursor}
 use Rattle.teco_exec.proofs.cursor.Cursor.leave.Given as goal
 
 -- The blocks so far are left: it goes on in those around them as from the first place.
 abbrev pub invariant-leaving : goal.invariant-leaving
 invariant-leaving l = record {
-  still : l.self ≡ l.fn.self;
+  text : l.self.text ≡ l.fn.self.text;
+  stays : Stays l.fn.self l.self;
   few : l.depth ≤ 64;
   open_blocks : l.depth ≤ length l.self.blocks;
   within : l.at ≤ length l.self.text.now;
-  same : machine.after_leaving_iteration (frames l.self.text.now (outermost l.depth l.self.blocks)) (cursor l.self).args (drop l.at l.self.text.now) ≡ machine.after_leaving_iteration (cursor l.self).blocks (cursor l.self).args (cursor l.self).left;
+  same : machine.after_leaving_iteration (frames l.self.text.now (outermost l.depth l.self.blocks)) (cursor l.self).args (drop l.at l.self.text.now) ≡ machine.after_leaving_iteration (cursor l.fn.self).blocks (cursor l.fn.self).args (cursor l.fn.self).left;
 }
 
 abbrev pub decreases-leaving : goal.decreases-leaving

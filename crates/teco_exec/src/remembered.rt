@@ -1,0 +1,233 @@
+//! What skips and jumps in a text came to last, so that a loop finds it at once.
+ghost use Rattle.std.specs.Prelude.{◌≡◌, ◌<◌, ◌≤◌, IfErr, IfOk, IfSome, Some, drop, length, true};
+ghost use Rattle.teco_scan.specs.Lists.{behind_block, closed, list_at, tag_at};
+ghost use Rattle.teco_scan.specs.Seen.{IsSpanIn, bytes_in, close_of, past_of, tag_of};
+ghost use Rattle.teco_scan.specs.Tree.{is_fault};
+ghost use Rattle.teco_scan.specs.declared.blocks.Kind.TheVariants.{Then};
+
+use std::marker::Model;
+use teco_core::{BLOCK_LIMIT, Code};
+use teco_scan::{Kind, Span, Stop, find_tag, skip_block};
+
+/// The most skips that are remembered of a text.
+const SKIPS: usize = 8;
+
+/// The most searches that are remembered of a text.
+const SEARCHES: usize = 4;
+
+/// A skip that was made, from a place in a block of this kind and at this depth, and where it stopped.
+#[derive(Clone, Copy)]
+pub(crate) struct Skip {
+    pub at: u32,
+    pub to: u32,
+    pub depth: u8,
+    pub kind: Kind,
+    pub divided: bool,
+}
+
+/// A search for a tag that was made, in the list that begins at a place and at this depth. Its name lies in the text too.
+#[derive(Clone, Copy)]
+pub(crate) struct Search {
+    pub start: u32,
+    pub depth: u8,
+    pub from: u32,
+    pub to: u32,
+    /// The place after the tag, if there is one.
+    pub found: Option<u32>,
+}
+
+impl Search {
+    /// The place after the tag, if there is one.
+    fn place(self) -> Option<usize>
+        ensures { result ≡ self.found }
+    {
+        match self.found {
+            Some(to) => Some(to as usize),
+            None => None,
+        }
+    }
+}
+
+/// The latest skips and searches of a text. A skip that was refused is not remembered.
+///
+/// A clause sees the text. What is remembered of it changes nothing that a clause says.
+#[derive(Drop)]
+pub(crate) struct Remembered<'t> {
+    text: &'t [u8],
+    /// By the place of each, modulo [`SKIPS`].
+    skips: [Option<Skip>; SKIPS],
+    /// By the place of the name and the depth, modulo [`SEARCHES`].
+    searches: [Option<Search>; SEARCHES],
+}
+
+impl<'t> Model for Remembered<'t> {
+    ghost use Rattle.std.specs.Prelude.{All, List, ℕ};
+    ghost use Rattle.teco_exec.specs.Remembered.{IsSearchIfAny, IsSkipIfAny};
+
+    ghost Value = { List ℕ };
+
+    ghost view = { λ r. r.text.now };
+
+    ghost invariant = { λ r. (All (IsSkipIfAny r.text.now) r.skips)
+        × (All (IsSearchIfAny r.text.now) r.searches) };
+}
+
+impl<'t> Remembered<'t> {
+    ghost use Rattle.std.specs.Prelude.{◌≡◌, ◌≤◌};
+    ghost use Rattle.teco_exec.specs.Remembered.{IsSearchOf};
+
+    /// Nothing is remembered of this text.
+    pub fn new(text: &'t [u8]) -> Remembered<'t>
+        ensures { result ≡ text.now }
+    {
+        Remembered {
+            text,
+            skips: [None; SKIPS],
+            searches: [None; SEARCHES],
+        }
+    }
+
+    /// What [`skip_block`] gives of the text. It is found at once where it was the latest of its place.
+    pub fn skip(&mut self, at: usize, kind: Kind, depth: usize) -> Result<Stop, Code>
+        requires inside { at ≤ length self.old }
+        requires few { depth ≤ BLOCK_LIMIT }
+        ensures text { self.new ≡ self.old }
+        ensures closes { close_of self.old result ≡ (list_at (Some kind) depth (drop at self.old)).1 }
+        ensures within { IfOk result (λ stop. stop.to ≤ length self.old) }
+        ensures divided { IfOk result (λ stop. stop.divided ≡ true → kind ≡ Then) }
+        ensures fault { IfErr result (λ code. is_fault code ≡ true) }
+    {
+        match self.skipped(at, kind, depth) {
+            Some(stop) => Ok(stop),
+            None => self.skip_anew(at, kind, depth),
+        }
+    }
+
+    /// What [`skip_whole_block`] gives of the text, by at most two such skips.
+    pub fn skip_whole(&mut self, at: usize, kind: Kind, depth: usize) -> Result<usize, Code>
+        requires inside { at ≤ length self.old }
+        requires few { depth ≤ BLOCK_LIMIT }
+        ensures text { self.new ≡ self.old }
+        ensures passes { past_of self.old result
+            ≡ behind_block list_at kind depth (list_at (Some kind) depth (drop at self.old)).1 }
+        ensures within { IfOk result (λ to. to ≤ length self.old) }
+        ensures fault { IfErr result (λ code. is_fault code ≡ true) }
+    {
+        let stop = self.skip(at, kind, depth)?;
+        if stop.divided {
+            let end = self.skip(stop.to, Kind::Else, depth)?;
+            return Ok(end.to);
+        }
+        Ok(stop.to)
+    }
+
+    /// What [`find_tag`] gives of the text, for a name that lies in it. It is found at once where it was the latest of its place.
+    pub fn tag(&mut self, start: usize, depth: usize, name: Span) -> Option<usize>
+        requires inside { start ≤ length self.old }
+        requires few { depth ≤ BLOCK_LIMIT }
+        requires name { IsSpanIn (length self.old) name }
+        ensures text { self.new ≡ self.old }
+        ensures finds { tag_of self.old result ≡ tag_at (bytes_in self.old name) depth (drop start self.old) }
+        ensures within { IfSome result (λ to. to ≤ length self.old) }
+    {
+        match self.searched(start, depth, name) {
+            Some(search) => search.place(),
+            None => self.search_anew(start, depth, name),
+        }
+    }
+
+    /// Where this skip stopped, if it is remembered.
+    #[inline(always)]
+    fn skipped(&self, at: usize, kind: Kind, depth: usize) -> Option<Stop>
+        ensures closes { IfSome result (λ stop.
+            closed stop.divided (drop stop.to self.now) ≡ (list_at (Some kind) depth (drop at self.now)).1) }
+        ensures within { IfSome result (λ stop. stop.to ≤ length self.now) }
+        ensures divided { IfSome result (λ stop. stop.divided ≡ true → kind ≡ Then) }
+    {
+        let skip = self.skips[at % SKIPS]?;
+        if skip.at as usize == at && skip.depth as usize == depth && skip.kind == kind {
+            return Some(Stop {
+                to: skip.to as usize,
+                divided: skip.divided,
+            });
+        }
+        None
+    }
+
+    /// Skips in the text, and remembers it.
+    #[inline(never)]
+    fn skip_anew(&mut self, at: usize, kind: Kind, depth: usize) -> Result<Stop, Code>
+        requires inside { at ≤ length self.old }
+        requires few { depth ≤ BLOCK_LIMIT }
+        ensures text { self.new ≡ self.old }
+        ensures closes { close_of self.old result ≡ (list_at (Some kind) depth (drop at self.old)).1 }
+        ensures within { IfOk result (λ stop. stop.to ≤ length self.old) }
+        ensures divided { IfOk result (λ stop. stop.divided ≡ true → kind ≡ Then) }
+        ensures fault { IfErr result (λ code. is_fault code ≡ true) }
+    {
+        let stop = skip_block(self.text, at, kind, depth)?;
+        if self.text.len() <= u32::MAX as usize {
+            self.skips[at % SKIPS] = Some(Skip {
+                at: at as u32,
+                to: stop.to as u32,
+                depth: depth as u8,
+                kind,
+                divided: stop.divided,
+            });
+        }
+        Ok(stop)
+    }
+
+    /// This search, if it is remembered.
+    #[inline(always)]
+    fn searched(&self, start: usize, depth: usize, name: Span) -> Option<Search>
+        ensures is { IfSome result (λ search. IsSearchOf self.now search) }
+        ensures asked { IfSome result (λ search. (search.start ≡ start) × (search.depth ≡ depth)) }
+        ensures named { IfSome result (λ search. (search.from ≡ name.from) × (search.to ≡ name.to)) }
+    {
+        let search = self.searches[search_place(depth, name)]?;
+        if search.start as usize == start
+            && search.depth as usize == depth
+            && search.from as usize == name.from
+            && search.to as usize == name.to
+        {
+            return Some(search);
+        }
+        None
+    }
+
+    /// Searches the text for a tag, and remembers it.
+    #[inline(never)]
+    fn search_anew(&mut self, start: usize, depth: usize, name: Span) -> Option<usize>
+        requires inside { start ≤ length self.old }
+        requires few { depth ≤ BLOCK_LIMIT }
+        requires name { IsSpanIn (length self.old) name }
+        ensures text { self.new ≡ self.old }
+        ensures finds { tag_of self.old result ≡ tag_at (bytes_in self.old name) depth (drop start self.old) }
+        ensures within { IfSome result (λ to. to ≤ length self.old) }
+    {
+        let text = self.text;
+        let found = find_tag(text, start, depth, &text[name.from..name.to]);
+        if text.len() <= u32::MAX as usize {
+            self.searches[search_place(depth, name)] = Some(Search {
+                start: start as u32,
+                depth: depth as u8,
+                from: name.from as u32,
+                to: name.to as u32,
+                found: match found {
+                    Some(to) => Some(to as u32),
+                    None => None,
+                },
+            });
+        }
+        found
+    }
+}
+
+/// The place of a search among those that are remembered.
+#[inline(always)]
+fn search_place(depth: usize, name: Span) -> usize
+    ensures { result < SEARCHES }
+{
+    (name.from ^ depth) % SEARCHES
+}
