@@ -164,7 +164,8 @@ impl Output {
         requires few { shown + (length halves.0.now + length halves.1.now + 1) < 2 ^ 64 }
         ensures own { OnOk result (self.new.own.items ≡ take shown (bytes_of self.old input.now)
             ++ ((halves.entry.0.now ++ halves.entry.1.now) ++ form_feed_if form_feed)) }
-        ensures none { OnOk result ((self.new.from ≡ 0) × (self.new.upto ≡ 0)) }
+        ensures ok { OnOk result (bytes_of self.new input.now ≡ take shown (bytes_of self.old input.now)
+            ++ ((halves.entry.0.now ++ halves.entry.1.now) ++ form_feed_if form_feed)) }
         ensures err { OnErr result (bytes_of self.new input.now ≡ bytes_of self.old input.now) }
         ensures part { IsIn self.new input.now }
     {

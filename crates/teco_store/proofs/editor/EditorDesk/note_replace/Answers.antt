@@ -1,0 +1,33 @@
+use Rattle.std.proofs.Common.{arith}
+use Rattle.std.proofs.lemmas.Grind.{common_steps}
+use Rattle.teco_store.proofs.editor.EditorDesk.note_replace.Goals as goal
+
+pub overflow_sub-kept : goal.overflow_sub-kept
+overflow_sub-kept c = grind (arith, common_steps)
+
+pub returns-then-is_long-clause-big : goal.returns-then-is_long-clause-big
+returns-then-is_long-clause-big c = grind (arith, common_steps)
+
+pub overflow_add-kept : goal.overflow_add-kept
+overflow_add-kept c = grind (arith, common_steps)
+
+pub returns-in_err-reserve-clause-big : goal.returns-in_err-reserve-clause-big
+returns-in_err-reserve-clause-big c = grind (arith, common_steps)
+
+pub returns-in_err-note_text-clause-big : goal.returns-in_err-note_text-clause-big
+returns-in_err-note_text-clause-big c = grind (arith, common_steps)
+
+pub replace-requires-clause-lands : goal.replace-requires-clause-lands
+replace-requires-clause-lands c = grind (arith, common_steps)
+
+pub replace-requires-clause-small : goal.replace-requires-clause-small
+replace-requires-clause-small c = grind (arith, common_steps)
+
+pub replace-requires-clause-room : goal.replace-requires-clause-room
+replace-requires-clause-room c = grind (arith, common_steps)
+
+pub invariant_of-self : goal.invariant_of-self
+invariant_of-self c = grind (arith, common_steps)
+
+pub returns-clause-ok : goal.returns-clause-ok
+returns-clause-ok c = grind (arith, common_steps)
