@@ -1,4 +1,4 @@
-use Rattle.std.proofs.Common.{◌∙◌, ◌++◌, ap, List, ℕ, arith, take}
+use Rattle.std.proofs.Common.{◌∙◌, ◌++◌, ap, List, ℕ, take}
 use Rattle.teco_store.specs.Output.{bytes_of}
 use Rattle.teco_store.specs.Page.{form_feed_if}
 use Rattle.teco_store.proofs.Outputs.{page_then}
