@@ -1,9 +1,9 @@
 -- Outputs of which the first bytes are shown, and pages that stand in the input.
-use Rattle.std.proofs.Common.{◌≡◌, ◌∙◌, ap, sym, ℕ, ◌+◌, ◌-◌, ◌≤◌, ◌<◌, List, ◌++◌, length, take, drop, slice_range, append_assoc, arith, length-append, length-take, ⊎_elim}
+use Rattle.std.proofs.Common.{◌≡◌, ◌∙◌, ap, sym, Result, Ok, Err, OnOk, OnErr, ℕ, ◌+◌, ◌-◌, ◌≤◌, ◌<◌, List, ◌++◌, length, take, drop, slice_range, append_assoc, arith, length-append, length-take, ⊎_elim}
 use Rattle.std.proofs.lemmas.Bool.{cases_lt}
 use Rattle.std.proofs.lemmas.List.{append-nil, length-take-le, take-append-le, take-take, take_all}
-use Rattle.std.proofs.lemmas.List.{take-append-drop, drop-append-le}
-use Rattle.std.proofs.lemmas.Slice.{between_to_end}
+use Rattle.std.proofs.lemmas.List.{drop-append-le}
+use Rattle.std.proofs.lemmas.Slice.{between_is}
 use Rattle.std.proofs.Math.Seq.{take-append-add, take-add, drop-drop, drop-append_seam}
 
 -- all of the first list is within the first `shown` bytes
@@ -59,8 +59,20 @@ stands read l₁ l₂ l₃ before after flag e₁ e₂ e₃ =
     e₁ ∙ ap (λ (l : List ℕ). l ++ flag) (e₂ ∙ ap (λ (l : List ℕ). l ++ after) e₃ ∙ append_assoc l₃ before after) ∙ append_assoc l₃ (before ++ after) flag in
     ap (drop (length l₃)) whole ∙ drop-append_seam l₃ ((before ++ after) ++ flag)
 
--- the input from such a page to the end
-pub rest_from : (input page : List ℕ) (at place end : ℕ) → at ≤ length (take place input) → drop at (take place input) ≡ page → length input ≤ end → slice_range input at end ≡ page ++ drop place input
-rest_from input page at place end inside is all =
-    between_to_end input at end all ∙ ap (drop at) (sym (take-append-drop place input)) ∙ drop-append-le at (take place input) (drop place input) inside
-    ∙ ap (λ (l : List ℕ). l ++ drop place input) is
+-- the input from such a page up to another place
+pub page_then : (input page : List ℕ) (at place upto : ℕ) → place ≤ upto → at ≤ length (take place input) → drop at (take place input) ≡ page → slice_range input at upto ≡ page ++ slice_range input place upto
+page_then input page at place upto order inside is =
+    let front : place + (upto - place) ≡ upto = omega arith in
+    let whole : take upto input ≡ take place input ++ slice_range input place upto = ap (λ (k : ℕ). take k input) (sym front) ∙ take-add place (upto - place) input in
+    between_is input at upto ∙ ap (drop at) whole ∙ drop-append-le at (take place input) (slice_range input place upto) inside
+    ∙ ap (λ (l : List ℕ). l ++ slice_range input place upto) is
+
+-- What is shown is as before, whether other bytes are stored behind it or none.
+pub shows : {E : Type 0} (r : Result (Unit {0}) E) (old new more : List ℕ) (shown : ℕ) → shown ≤ length old → OnOk r (new ≡ take shown old ++ more) → OnErr r (new ≡ old)
+    → (take shown new ≡ take shown old) × (shown ≤ length new)
+shows (Ok u) old new more shown within ok err =
+    let len = length-take-le shown old within in (
+      ap (take shown) ok ∙ take-append-le shown (take shown old) more (omega arith) ∙ take_all shown (take shown old) (omega arith),
+      still_there old new more shown within ok,
+    )
+shows (Err e) old new more shown within ok err = (ap (take shown) err, rw err within)

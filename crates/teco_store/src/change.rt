@@ -159,17 +159,31 @@ impl Change {
     {
         match &self.kind {
             Kind::Number(q, number) => {
-                let kind = Kind::Number(*q, *number);
-                self.kind = editor.put(kind);
+                let held = Kind::Number(*q, *number);
+                self.exchange(held, editor);
             }
             Kind::Point(pointer) => {
-                let kind = Kind::Point(*pointer);
-                self.kind = editor.put(kind);
+                let held = Kind::Point(*pointer);
+                self.exchange(held, editor);
             }
             _ => {
                 let held = mem::replace(&mut self.kind, Kind::TakeOff);
-                self.kind = editor.put(held);
+                self.exchange(held, editor);
             }
         }
+    }
+
+    // Puts a value in its place, and holds what stood there.
+    #[inline(always)]
+    fn exchange(&mut self, held: Kind, editor: &mut Editor)
+        requires room { HasRoom held }
+        requires fits { FitsFull (turn_of held) editor.old }
+        ensures editor { editor.new ≡ full_after (turn_of held) editor.old }
+        ensures change { self.new ≡ record {
+          step = self.old.step;
+          turn = turn_after (turn_of held) editor.old.body;
+        } }
+    {
+        self.kind = editor.put(held);
     }
 }

@@ -6,7 +6,7 @@ use teco_core::Reg;
 ///
 /// Of a splice it tells what a turn does now: an undo, where the string is not undone, and else a redo. Once the change is turned, the
 /// bytes that came are those that go.
-#[derive(Clone, Copy, Debug, PartialEq, Eq)]
+#[derive(Clone, Copy, PartialEq, Eq)]
 pub enum ChangeKind {
     /// At the place `at` of the text `gone` bytes go and `came` others come. The pointer moves too.
     Splice { at: usize, gone: usize, came: usize },

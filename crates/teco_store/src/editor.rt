@@ -2,13 +2,14 @@
 ghost use Rattle.std.specs.Prelude.{◌≡◌, ◌≤◌, vec_len, IfOk};
 ghost use Rattle.teco_store.specs.State.{new_full, new_paged_full, state_of};
 
+mod changing;
 mod putting;
 mod storing;
 
 use crate::desk::{Desk, Refused};
-use crate::noting::{is_long, note_text};
+use crate::noting::is_long;
 use crate::output::Output;
-use crate::pages::{is_past, make_room, next_page, replace_text};
+use crate::pages::{is_past, replace_text};
 use std::marker::Model;
 use teco_core::{CaseMode, FILE_LIMIT, NoMemory, PushList, Reg, Registers, TEXT_LIMIT};
 use teco_gap::GapBuffer;
@@ -194,55 +195,45 @@ impl Desk for Editor {
     }
 
     fn read_page(&mut self) -> Result<(), Refused> {
-        let page = next_page(&self.input[self.place..], self.page_lines);
-        if page.bytes.len() > TEXT_LIMIT {
+        let len = self.page().bytes.len();
+        if len > TEXT_LIMIT {
             return Err(Refused::Big);
         }
-        make_room(*self.input.allocator(), &mut self.text, page.bytes.len())?;
-        replace_text(&mut self.text, page.bytes);
-        self.pointer = 0;
-        self.place += page.bytes.len() + usize::from(page.form_feed);
-        self.form_feed = page.form_feed;
+        let there = self.len();
+        let end = self.shown();
+        self.reserve(len)?;
+        self.bring_page(0, there, 0, end);
         Ok(())
     }
 
     fn append_page(&mut self) -> Result<(), Refused> {
-        if self.place == self.input.len() {
+        let there = self.len();
+        if self.is_input_over() {
             return Ok(());
         }
-        let page = next_page(&self.input[self.place..], self.page_lines);
-        let end = self.text.len();
-        if is_past(TEXT_LIMIT, end, page.bytes.len()) {
+        let len = self.page().bytes.len();
+        if is_past(TEXT_LIMIT, there, len) {
             return Err(Refused::Big);
         }
-        make_room(
-            *self.input.allocator(),
-            &mut self.text,
-            end + page.bytes.len(),
-        )?;
-        self.text.splice(end, 0, page.bytes);
-        self.place += page.bytes.len() + usize::from(page.form_feed);
-        self.form_feed = page.form_feed;
+        let pointer = self.pointer();
+        let end = self.shown();
+        self.reserve(there + len)?;
+        self.bring_page(there, 0, pointer, end);
         Ok(())
     }
 
     fn turn_page(&mut self) -> Result<(), Refused> {
-        let len = next_page(&self.input[self.place..], self.page_lines)
-            .bytes
-            .len();
+        let len = self.page().bytes.len();
         if len > TEXT_LIMIT {
             return Err(Refused::Big);
         }
         let Some(end) = self.end_after_page() else {
             return Err(Refused::Big);
         };
-        self.store_page(len)?;
-        let page = next_page(&self.input[self.place..], self.page_lines);
-        replace_text(&mut self.text, page.bytes);
-        self.pointer = 0;
-        self.place += page.bytes.len() + usize::from(page.form_feed);
-        self.shown = end;
-        self.form_feed = page.form_feed;
+        let there = self.len();
+        self.reserve(len)?;
+        self.store_page()?;
+        self.bring_page(0, there, 0, end);
         Ok(())
     }
 
@@ -264,7 +255,7 @@ impl Desk for Editor {
         if is_long(text) {
             return Err(Refused::Big);
         }
-        note_text(*self.input.allocator(), &mut self.last_search, text)?;
+        self.note_text(text)?;
         self.last_found = found;
         self.pointer = place;
         Ok(())
@@ -277,16 +268,14 @@ impl Desk for Editor {
         del: usize,
         ins: &[u8],
     ) -> Result<(), Refused> {
-        let kept = self.text.len() - del;
+        let kept = self.len() - del;
         if is_long(text) || is_past(TEXT_LIMIT, kept, ins.len()) {
             return Err(Refused::Big);
         }
-        let alloc = *self.input.allocator();
-        self.text.reserve(alloc, kept + ins.len())?;
-        note_text(alloc, &mut self.last_search, text)?;
-        self.text.splice(at, del, ins);
+        self.reserve(kept + ins.len())?;
+        self.note_text(text)?;
+        self.replace(at, del, ins, at + ins.len());
         self.last_found = true;
-        self.pointer = at + ins.len();
         Ok(())
     }
 

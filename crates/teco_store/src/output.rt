@@ -1,5 +1,5 @@
 //! The output of an editor. What is written as it stands in the input is not copied.
-ghost use Rattle.std.specs.Prelude.{◌≡◌, ℕ, List, ◌+◌, ◌-◌, ◌<◌, ◌≤◌, ◌^◌, ◌++◌, [], length, take, drop, slice_range, IfSome, IsTrue, OnOk};
+ghost use Rattle.std.specs.Prelude.{◌≡◌, ℕ, List, ◌+◌, ◌-◌, ◌<◌, ◌≤◌, ◌^◌, ◌++◌, [], length, take, drop, slice_range, IfSome, IsTrue, OnOk, OnErr};
 ghost use Rattle.std.specs.Vec.{vec_capacity};
 ghost use Rattle.teco_store.specs.Output.{bytes_of, EndsAt, IsIn};
 ghost use Rattle.teco_store.specs.Page.{form_feed_if};
@@ -74,7 +74,7 @@ impl Output {
     }
 
     // Where the page stands at the end of what was read, if it stands there and the part can be lengthened by it.
-    pub(crate) fn place_after(
+    fn place_after(
         &self,
         shown: usize,
         read: &[u8],
@@ -95,7 +95,7 @@ impl Output {
     }
 
     // Makes the input from one place up to another come after the first `shown` bytes.
-    pub(crate) fn lengthen(&mut self, shown: usize, at: usize, upto: usize)
+    fn lengthen(&mut self, shown: usize, at: usize, upto: usize)
         requires part { (self.old.from ≤ self.old.upto) × (at ≤ upto) }
         requires there { shown ≤ length self.old.own.items + (self.old.upto - self.old.from) }
         requires ends { EndsAt self.old shown at }
@@ -111,7 +111,7 @@ impl Output {
     }
 
     // Finds room for so many bytes after the first `shown`.
-    pub(crate) fn reserve(&mut self, shown: usize, more: usize) -> Result<(), NoMemory>
+    fn reserve(&mut self, shown: usize, more: usize) -> Result<(), NoMemory>
         requires { shown + more < 2 ^ 64 }
         ensures own { self.new.own.items ≡ self.old.own.items }
         ensures part { (self.new.from ≡ self.old.from) × (self.new.upto ≡ self.old.upto) }
@@ -122,14 +122,7 @@ impl Output {
     }
 
     // Puts the two parts of a text, and a form feed where one is asked for, after the first `shown` bytes. There is room for them.
-    pub(crate) fn put(
-        &mut self,
-        input: &[u8],
-        shown: usize,
-        before: &[u8],
-        after: &[u8],
-        form_feed: bool,
-    )
+    fn put(&mut self, input: &[u8], shown: usize, before: &[u8], after: &[u8], form_feed: bool)
         requires part { IsIn self.old input.now }
         requires there { shown ≤ length (bytes_of self.old input.now) }
         requires room { shown + (length before.now + length after.now + length
@@ -150,11 +143,67 @@ impl Output {
     }
 
     // Makes the input from one place up to another come after its own bytes.
-    pub(crate) fn follow(&mut self, from: usize, upto: usize)
+    fn follow(&mut self, from: usize, upto: usize)
         ensures own { self.new.own.items ≡ self.old.own.items }
         ensures part { (self.new.from ≡ from) × (self.new.upto ≡ upto) }
     {
         self.from = from;
         self.upto = upto;
+    }
+
+    // Copies the two parts of a text, and a form feed where one is asked for, after the first `shown` bytes.
+    pub(crate) fn copy(
+        &mut self,
+        input: &[u8],
+        shown: usize,
+        halves: (&[u8], &[u8]),
+        form_feed: bool,
+    ) -> Result<(), NoMemory>
+        requires part { IsIn self.old input.now }
+        requires there { shown ≤ length (bytes_of self.old input.now) }
+        requires few { shown + (length halves.0.now + length halves.1.now + 1) < 2 ^ 64 }
+        ensures own { OnOk result (self.new.own.items ≡ take shown (bytes_of self.old input.now)
+            ++ ((halves.entry.0.now ++ halves.entry.1.now) ++ form_feed_if form_feed)) }
+        ensures ok { OnOk result (bytes_of self.new input.now ≡ take shown (bytes_of self.old input.now)
+            ++ ((halves.entry.0.now ++ halves.entry.1.now) ++ form_feed_if form_feed)) }
+        ensures err { OnErr result (bytes_of self.new input.now ≡ bytes_of self.old input.now) }
+        ensures part { IsIn self.new input.now }
+    {
+        let more = halves.0.len() + halves.1.len() + usize::from(form_feed);
+        self.reserve(shown, more)?;
+        self.put(input, shown, halves.0, halves.1, form_feed);
+        Ok(())
+    }
+
+    // Stores a page, which is the two parts of a text with its form feed, and the input from `place` up to another place, after the
+    // first `shown` bytes. A page that stands in the input before `place` is not copied.
+    pub(crate) fn store(
+        &mut self,
+        input: &[u8],
+        shown: usize,
+        place: usize,
+        upto: usize,
+        halves: (&[u8], &[u8]),
+        form_feed: bool,
+    ) -> Result<(), NoMemory>
+        requires part { IsIn self.old input.now }
+        requires there { shown ≤ length (bytes_of self.old input.now) }
+        requires few { shown + (length halves.0.now + length halves.1.now + 1) < 2 ^ 64 }
+        requires order { place ≤ upto }
+        requires within { upto ≤ length input.now }
+        ensures ok { OnOk result (bytes_of self.new input.now ≡ take shown (bytes_of self.old input.now)
+            ++ (((halves.entry.0.now ++ halves.entry.1.now) ++ form_feed_if form_feed)
+            ++ slice_range input.now place upto)) }
+        ensures err { OnErr result (bytes_of self.new input.now ≡ bytes_of self.old input.now) }
+        ensures part { IsIn self.new input.now }
+    {
+        match self.place_after(shown, &input[..place], halves.0, halves.1, form_feed) {
+            Some(at) => self.lengthen(shown, at, upto),
+            None => {
+                self.copy(input, shown, halves, form_feed)?;
+                self.follow(place, upto);
+            }
+        }
+        Ok(())
     }
 }

@@ -1,5 +1,5 @@
 //! A desk that notes each change, so that it can be turned back.
-ghost use Rattle.std.specs.Prelude.{◌≡◌, ◌+◌, ◌<◌, ◌≤◌, length, [], take, IfOk, IsOk, OnOk, OnErr};
+ghost use Rattle.std.specs.Prelude.{◌≡◌, ◌+◌, ◌<◌, ◌≤◌, length, [], take, IfOk, IsOk, MatchOption, OnOk, OnErr};
 ghost use Rattle.std.specs.Vec.{vec_capacity};
 ghost use Rattle.teco_store.specs.ChangeView.{turn_of, HasRoom};
 ghost use Rattle.teco_store.specs.Entry.{weight};
@@ -157,6 +157,30 @@ impl Recorder {
         self.reserve_text(len)
     }
 
+    // Finds room for so many changes, and for a text of `len` bytes; and memory for `bytes` bytes that are to be noted, if they are not few.
+    fn find_held(
+        &mut self,
+        changes: usize,
+        bytes: usize,
+        len: usize,
+    ) -> Result<Option<Vec<u8>>, NoMemory>
+        ensures body { self.new.full.body ≡ self.old.full.body }
+        ensures stored { self.new.full.stored ≡ self.old.full.stored }
+        ensures sound { IsSound self.new.full.room (length self.new.full.stored) self.new.full.body }
+        ensures held { IfOk result (λ held. MatchOption held (bytes ≤ SHORT_LIMIT)
+            (λ v. (v.items ≡ []) × (bytes ≤ vec_capacity v))) }
+        ensures spare { OnOk result (changes ≤ self.new.spare) }
+        ensures room { OnOk result (len ≤ self.new.full.room) }
+        ensures keeps { StillFollows self.old self.new }
+    {
+        if bytes <= SHORT_LIMIT {
+            self.find_room(changes, len)?;
+            return Ok(None);
+        }
+        let held = self.find_memory(changes, bytes, len)?;
+        Ok(Some(held))
+    }
+
     // Puts a value in its place, and notes what stood there.
     #[inline(always)]
     fn note(&mut self, kind: Kind)
@@ -208,5 +232,32 @@ impl Recorder {
         let _shown = self.editor.shown();
         let held = self.editor.exchange_short(at, there, ins, pointer);
         self.entry.push_reserved(Change::new(self.done, held));
+    }
+
+    // Puts `ins` for the `there` bytes at `at`, and notes those that stood there, in memory if that was found.
+    fn replace(
+        &mut self,
+        at: usize,
+        there: usize,
+        ins: &[u8],
+        pointer: usize,
+        held: Option<Vec<u8>>,
+    )
+        requires spare { 0 < self.old.spare }
+        requires memory { MatchOption held (there + length ins.now ≤ SHORT_LIMIT)
+            (λ v. (v.items ≡ []) × (there + length ins.now ≤ vec_capacity v)) }
+        requires there { at + there ≤ length self.old.full.body.text }
+        requires lands { pointer + there ≤ length self.old.full.body.text + length ins.now }
+        requires small { length self.old.full.body.text + length ins.now ≤ TEXT_LIMIT + there }
+        requires room { length self.old.full.body.text + length ins.now ≤ self.old.full.room + there }
+        ensures full { self.new.full ≡ full_after (Splice at there pointer ins.now) self.old.full }
+        ensures sound { IsSound self.new.full.room (length self.new.full.stored) self.new.full.body }
+        ensures spare { self.new.spare + 1 ≡ self.old.spare }
+        ensures goes { FollowsAfterChanges (there + length ins.now) 1 self.old self.new }
+    {
+        match held {
+            None => self.exchange_short(at, there, ins, pointer),
+            Some(held) => self.exchange(at, there, ins, pointer, held),
+        }
     }
 }

@@ -1,5 +1,5 @@
 //! How an editor gets room, and how its output is stored before it counts.
-ghost use Rattle.std.specs.Prelude.{◌≡◌, ◌+◌, ◌≤◌, ◌++◌, length, take, drop, OnOk, OnErr};
+ghost use Rattle.std.specs.Prelude.{◌≡◌, ◌+◌, ◌≤◌, ◌++◌, length, take, drop, slice_range, OnOk, OnErr};
 ghost use Rattle.teco_store.specs.Page.{finished, form_feed_if, is_ended, left_of, page, page_span, with_next_page, with_range_written, written};
 ghost use Rattle.teco_store.specs.State.{Extends, IsEnd, IsSound, state_of, with_stored};
 
@@ -111,51 +111,39 @@ impl Editor {
         ensures extends { Extends self.old self.new }
     {
         let (before, after) = self.text.halves();
-        let (before, after) = part(before, after, from, to);
-        let more = before.len() + after.len() + usize::from(form_feed);
-        self.output.reserve(self.shown, more)?;
-        self.output
-            .put(&self.input, self.shown, before, after, form_feed);
-        Ok(())
+        let halves = part(before, after, from, to);
+        self.output.copy(&self.input, self.shown, halves, form_feed)
     }
 
-    // Stores the page after the output, and makes room for a text of `len` bytes.
-    pub(crate) fn store_page(&mut self, len: usize) -> Result<(), NoMemory>
+    // Stores the page after the output, and the input from its place up to another.
+    fn store_upto(&mut self, upto: usize) -> Result<(), NoMemory>
+        requires order { self.old.body.place ≤ upto }
+        requires within { upto ≤ length self.old.body.input }
         ensures ok { OnOk result (self.new
-            ≡ with_stored self.old (written (state_of self.old)) self.new.room) }
-        ensures room { OnOk result (len ≤ self.new.room) }
+            ≡ with_stored self.old (written (state_of self.old)
+            ++ slice_range self.old.body.input self.old.body.place upto) self.old.room) }
         ensures err { OnErr result (self.new ≡ self.old) }
         ensures extends { Extends self.old self.new }
     {
-        let (before, after) = self.text.halves();
-        let read = &self.input[..self.place];
-        let at = self
-            .output
-            .place_after(self.shown, read, before, after, self.form_feed);
-        match at {
-            Some(at) => {
-                make_room(*self.input.allocator(), &mut self.text, len)?;
-                self.output.lengthen(self.shown, at, self.place);
-                Ok(())
-            }
-            None => self.copy_page(len),
-        }
+        let halves = self.text.halves();
+        self.output.store(
+            &self.input,
+            self.shown,
+            self.place,
+            upto,
+            halves,
+            self.form_feed,
+        )
     }
 
-    // Copies the page after the output, and makes room for a text of `len` bytes.
-    fn copy_page(&mut self, len: usize) -> Result<(), NoMemory>
+    // Stores the page after the output.
+    pub(crate) fn store_page(&mut self) -> Result<(), NoMemory>
         ensures ok { OnOk result (self.new
-            ≡ with_stored self.old (written (state_of self.old)) self.new.room) }
-        ensures room { OnOk result (len ≤ self.new.room) }
+            ≡ with_stored self.old (written (state_of self.old)) self.old.room) }
         ensures err { OnErr result (self.new ≡ self.old) }
         ensures extends { Extends self.old self.new }
     {
-        self.output.reserve(self.shown, self.text.len() + 1)?;
-        make_room(*self.input.allocator(), &mut self.text, len)?;
-        let (before, after) = self.text.halves();
-        self.output
-            .put(&self.input, self.shown, before, after, self.form_feed);
-        Ok(())
+        self.store_upto(self.place)
     }
 
     // Stores the page and the rest of the input after the output.
@@ -166,33 +154,7 @@ impl Editor {
         ensures err { OnErr result (self.new ≡ self.old) }
         ensures extends { Extends self.old self.new }
     {
-        let (before, after) = self.text.halves();
-        let read = &self.input[..self.place];
-        let at = self
-            .output
-            .place_after(self.shown, read, before, after, self.form_feed);
-        match at {
-            Some(at) => {
-                self.output.lengthen(self.shown, at, self.input.len());
-                Ok(())
-            }
-            None => self.copy_page_before_rest(),
-        }
-    }
-
-    // Copies the page after the output. The rest of the input, which follows it, is not copied.
-    fn copy_page_before_rest(&mut self) -> Result<(), NoMemory>
-        ensures ok { OnOk result (self.new
-            ≡ with_stored self.old (written (state_of self.old)
-            ++ left_of (state_of self.old)) self.old.room) }
-        ensures err { OnErr result (self.new ≡ self.old) }
-        ensures extends { Extends self.old self.new }
-    {
-        self.output.reserve(self.shown, self.text.len() + 1)?;
-        let (before, after) = self.text.halves();
-        self.output
-            .put(&self.input, self.shown, before, after, self.form_feed);
-        self.output.follow(self.place, self.input.len());
-        Ok(())
+        let end = self.input.len();
+        self.store_upto(end)
     }
 }

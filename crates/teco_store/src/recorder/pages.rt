@@ -28,18 +28,17 @@ impl Recorder {
         self.editor.store_part(from, to, form_feed)
     }
 
-    // Stores the page after the output, and makes room for a text of `len` bytes.
-    fn store_page(&mut self, len: usize) -> Result<(), NoMemory>
+    // Stores the page after the output.
+    fn store_page(&mut self) -> Result<(), NoMemory>
         ensures ok { OnOk result (self.new.full
-            ≡ with_stored self.old.full (written (state_of self.old.full)) self.new.full.room) }
-        ensures room { OnOk result (len ≤ self.new.full.room) }
+            ≡ with_stored self.old.full (written (state_of self.old.full)) self.old.full.room) }
         ensures err { OnErr result (self.new.full ≡ self.old.full) }
         ensures spare { self.new.spare ≡ self.old.spare }
         ensures sound { IsSound self.new.full.room (length self.new.full.stored) self.new.full.body }
         ensures keeps { StillFollows self.old self.new }
     {
         let _shown = self.editor.shown();
-        self.editor.store_page(len)
+        self.editor.store_page()
     }
 
     // Stores the page and the rest of the input after the output.
@@ -82,16 +81,15 @@ impl Recorder {
         requires { there + len < 2 ^ 64 }
         ensures ok { OnOk result (self.new.full
             ≡ with_stored self.old.full (written (state_of self.old.full)) self.new.full.room) }
-        ensures err { OnErr result (self.new.full ≡ self.old.full) }
+        ensures err { OnErr result (state_of self.new.full ≡ state_of self.old.full) }
         ensures memory { IfOk result (λ v. (v.items ≡ []) × (vec_capacity v ≡ there + len)) }
         ensures spare { OnOk result (2 ≤ self.new.spare) }
         ensures room { OnOk result (len ≤ self.new.full.room) }
         ensures sound { IsSound self.new.full.room (length self.new.full.stored) self.new.full.body }
         ensures keeps { StillFollows self.old self.new }
     {
-        self.reserve(2)?;
-        let held = self.memory(there + len)?;
-        self.store_page(len)?;
+        let held = self.find_memory(2, there + len, len)?;
+        self.store_page()?;
         Ok(held)
     }
 

@@ -7,7 +7,6 @@ use crate::desk::{Desk, Refused};
 use crate::noting::is_long;
 use crate::pages::is_past;
 use crate::recorder::Recorder;
-use crate::short_text::SHORT_LIMIT;
 use teco_core::{CaseMode, PushList, Reg, Registers, TEXT_LIMIT};
 
 // Where the pointer comes to stand.
@@ -91,13 +90,8 @@ impl Desk for Recorder {
         if is_past(TEXT_LIMIT, kept, ins.len()) {
             return Err(Refused::Big);
         }
-        if del + ins.len() <= SHORT_LIMIT {
-            self.find_room(1, kept + ins.len())?;
-            self.exchange_short(at, del, ins, landing(at, ins, point));
-            return Ok(());
-        }
-        let held = self.find_memory(1, del + ins.len(), kept + ins.len())?;
-        self.exchange(at, del, ins, landing(at, ins, point), held);
+        let held = self.find_held(1, del + ins.len(), kept + ins.len())?;
+        self.replace(at, del, ins, landing(at, ins, point), held);
         Ok(())
     }
 
@@ -224,17 +218,10 @@ impl Desk for Recorder {
             return Err(Refused::Big);
         }
         let text = self.fresh_text(text)?;
-        if del + ins.len() <= SHORT_LIMIT {
-            self.find_room(3, kept + ins.len())?;
-            self.note_text(text);
-            self.note(Kind::Found(true));
-            self.exchange_short(at, del, ins, at + ins.len());
-            return Ok(());
-        }
-        let held = self.find_memory(3, del + ins.len(), kept + ins.len())?;
+        let held = self.find_held(3, del + ins.len(), kept + ins.len())?;
         self.note_text(text);
         self.note(Kind::Found(true));
-        self.exchange(at, del, ins, at + ins.len(), held);
+        self.replace(at, del, ins, at + ins.len(), held);
         Ok(())
     }
 

@@ -1,9 +1,29 @@
-use Rattle.std.proofs.Common.{arith}
-use Rattle.std.proofs.lemmas.Grind.{common_steps}
+use Rattle.std.proofs.Common.{◌++◌, List, ℕ, arith, length, subst, refl}
+use Rattle.teco_store.specs.Output.{bytes_of}
+use Rattle.teco_store.specs.Page.{form_feed_if}
+use Rattle.teco_store.specs.State.{Extends, Full}
+use Rattle.teco_store.specs.View.{body_in}
+use Rattle.teco_store.proofs.Entries.{sound_within}
+use Rattle.teco_store.proofs.Outputs.{shows}
 use Rattle.teco_store.proofs.editor.Editor.store_part.Goals as goal
 
-pub invariant_of-self-2 : goal.invariant_of-self-2
-invariant_of-self-2 c = grind (arith, common_steps)
-
 pub returns-clause-extends : goal.returns-clause-extends
-returns-clause-extends c = grind (arith, common_steps)
+returns-clause-extends c =
+    let e = c.self.inside in
+    let input = e.input.items in
+    let new = bytes_of c.copy.new.self input in
+    let part : List ℕ = (c.part-halves.result.0.now ++ c.part-halves.result.1.now) ++ form_feed_if c.args.form_feed in
+    let stores = rw c.deref.ensures.value at c.copy.ensures in
+    let kept = shows c.copy.result (bytes_of e.output input) new part e.shown c.self.invariant.0.stored stores.ok stores.err in
+    subst (λ (f : Full). Extends f (record { body = body_in e; stored = new; room = e.text.cap })) c.self.view_is
+    (record { body = refl; stored = kept.0; top = kept.1; room = omega arith })
+
+pub invariant_of-self : goal.invariant_of-self
+invariant_of-self c =
+    let e = c.self.inside in
+    let input = e.input.items in
+    let new = bytes_of c.copy.new.self input in
+    let part : List ℕ = (c.part-halves.result.0.now ++ c.part-halves.result.1.now) ++ form_feed_if c.args.form_feed in
+    let stores = rw c.deref.ensures.value at c.copy.ensures in
+    let kept = shows c.copy.result (bytes_of e.output input) new part e.shown c.self.invariant.0.stored stores.ok stores.err in
+    (sound_within e.text.cap (length (bytes_of e.output input)) (length new) (body_in e) kept.1 c.self.invariant.0, stores.part)

@@ -9,28 +9,17 @@ use Rattle.teco_store.proofs.Searches.{fresh_load_noted}
 use Rattle.teco_store.proofs.recorder.recording.RecorderDesk.note_replace.Goals as goal
 
 pub returns-in_err-held-clause-keeps : goal.returns-in_err-held-clause-keeps
-returns-in_err-held-clause-keeps c = let p = err_from_is_err_and c.from_residual-in_err-held.result c.from_residual-in_err-held.ensures.1 in rw p.1 c.find_memory.ensures.keeps
-
-pub returns-then-del-ins-le-SHORT_LIMIT-clause-follows : goal.returns-then-del-ins-le-SHORT_LIMIT-clause-follows
-returns-then-del-ins-le-SHORT_LIMIT-clause-follows c =
-    let text = option_copied c.args.text in
-    let m = c.args.del + length c.args.ins.now in
-    let n = note_load (state_of c.args.self.now.full) text + m in
-    let load = fresh_load_noted (state_of c.args.self.now.full) text _ _ (ap (λ (b : Body). b.last_search) c.find_room.ensures.body) c.in_ok-text.ensures.copy in
-    goes_call c.args.self.now c.find_room.new.self c.exchange_short.new.self (_ + 0 + m) 3 n c.find_room.ensures.keeps
-    (goes_then c.find_room.new.self c.note.new.self c.exchange_short.new.self (_ + 0) m 2 1
-    (goes_then c.find_room.new.self c.note_text.new.self c.note.new.self _ 0 1 1 c.note_text.ensures.goes c.note.ensures.goes) c.exchange_short.ensures.goes)
-    (omega (arith, load)) (omega arith)
+returns-in_err-held-clause-keeps c = let p = err_from_is_err_and c.from_residual-in_err-held.result c.from_residual-in_err-held.ensures.1 in rw p.1 c.find_held.ensures.keeps
 
 pub returns-clause-follows : goal.returns-clause-follows
 returns-clause-follows c =
     let text = option_copied c.args.text in
     let m = c.args.del + length c.args.ins.now in
     let n = note_load (state_of c.args.self.now.full) text + m in
-    let load = fresh_load_noted (state_of c.args.self.now.full) text _ _ (ap (λ (b : Body). b.last_search) c.find_memory.ensures.body) c.in_ok-text.ensures.copy in
-    goes_call c.args.self.now c.find_memory.new.self c.exchange.new.self (_ + 0 + m) 3 n c.find_memory.ensures.keeps
-    (goes_then c.find_memory.new.self c.note-2.new.self c.exchange.new.self (_ + 0) m 2 1
-    (goes_then c.find_memory.new.self c.note_text-2.new.self c.note-2.new.self _ 0 1 1 c.note_text-2.ensures.goes c.note-2.ensures.goes) c.exchange.ensures.goes)
+    let load = fresh_load_noted (state_of c.args.self.now.full) text _ _ (ap (λ (b : Body). b.last_search) c.find_held.ensures.body) c.in_ok-text.ensures.copy in
+    goes_call c.args.self.now c.find_held.new.self c.replace.new.self (_ + 0 + m) 3 n c.find_held.ensures.keeps
+    (goes_then c.find_held.new.self c.note.new.self c.replace.new.self (_ + 0) m 2 1
+    (goes_then c.find_held.new.self c.note_text.new.self c.note.new.self _ 0 1 1 c.note_text.ensures.goes c.note.ensures.goes) c.replace.ensures.goes)
     (omega (arith, load)) (omega arith)
 
 pub returns-then-is_long-clause-big : goal.returns-then-is_long-clause-big
@@ -38,9 +27,6 @@ returns-then-is_long-clause-big c = grind (arith, common_steps)
 
 pub returns-in_err-text-clause-big : goal.returns-in_err-text-clause-big
 returns-in_err-text-clause-big c = grind (arith, common_steps)
-
-pub returns-in_err-find_room-clause-big : goal.returns-in_err-find_room-clause-big
-returns-in_err-find_room-clause-big c = grind (arith, common_steps)
 
 pub returns-in_err-held-clause-big : goal.returns-in_err-held-clause-big
 returns-in_err-held-clause-big c = grind (arith, common_steps)

@@ -1,0 +1,13 @@
+use Rattle.std.proofs.Common.{◌∙◌, ◌++◌, ap, List, ℕ, take}
+use Rattle.teco_store.specs.Output.{bytes_of}
+use Rattle.teco_store.specs.Page.{form_feed_if}
+use Rattle.teco_store.proofs.Outputs.{page_then}
+use Rattle.teco_store.proofs.output.Output.store.Goals as goal
+
+pub returns-in-Some-clause-ok : goal.returns-in-Some-clause-ok
+returns-in-Some-clause-ok c =
+    let input = c.args.input.now in
+    let page : List ℕ = (c.args.halves.0.now ++ c.args.halves.1.now) ++ form_feed_if c.args.form_feed in
+    c.lengthen.ensures.bytes input c.requires.part c.requires.within
+    ∙ ap (λ (l : List ℕ). take c.args.shown (bytes_of c.args.self.now input) ++ l)
+    (page_then input page c.in-Some.at c.args.place c.args.upto c.requires.order c.in-Some.ensures.there.0 c.in-Some.ensures.there.1)

@@ -1,0 +1,55 @@
+//! Parts of an editor are changed, and nothing of what stood there is kept.
+ghost use Rattle.std.specs.Prelude.{◌≡◌, ◌+◌, ◌≤◌, length, None, Some, IsOk, OnOk, OnErr};
+ghost use Rattle.std.specs.Option.{option_copied};
+ghost use Rattle.teco_store.specs.Page.{brought, page};
+ghost use Rattle.teco_store.specs.Search.{fresh, length_of, text_after};
+ghost use Rattle.teco_store.specs.State.{spliced, with_body};
+
+use crate::editor::Editor;
+use crate::noting::note_text;
+use crate::pages::next_page;
+use teco_core::{FILE_LIMIT, NoMemory, TEXT_LIMIT};
+
+impl Editor {
+    // Brings in the next page for the `there` bytes at `at`; the output then ends at `end`, within what is stored.
+    pub(super) fn bring_page(&mut self, at: usize, there: usize, pointer: usize, end: usize)
+        requires there { at + there ≤ length self.old.body.text }
+        requires lands { pointer + there ≤ length self.old.body.text + length (page self.old.body) }
+        requires small { length self.old.body.text + length (page self.old.body) ≤ TEXT_LIMIT + there }
+        requires room { length self.old.body.text + length (page self.old.body) ≤ self.old.room + there }
+        requires ends { (end ≤ length self.old.stored) × (end ≤ FILE_LIMIT) }
+        ensures { self.new ≡ with_body self.old (brought self.old.body at there pointer end) }
+    {
+        let page = next_page(&self.input[self.place..], self.page_lines);
+        self.text.splice(at, there, page.bytes);
+        self.pointer = pointer;
+        self.place += page.bytes.len() + usize::from(page.form_feed);
+        self.shown = end;
+        self.form_feed = page.form_feed;
+    }
+
+    // Puts `ins` for the `del` bytes at `at`, and the pointer at a place.
+    pub(super) fn replace(&mut self, at: usize, del: usize, ins: &[u8], pointer: usize)
+        requires there { at + del ≤ length self.old.body.text }
+        requires lands { pointer + del ≤ length self.old.body.text + length ins.now }
+        requires small { length self.old.body.text + length ins.now ≤ TEXT_LIMIT + del }
+        requires room { length self.old.body.text + length ins.now ≤ self.old.room + del }
+        ensures { self.new ≡ with_body self.old (spliced self.old.body at del ins.now (Some pointer)) }
+    {
+        self.text.splice(at, del, ins);
+        self.pointer = pointer;
+    }
+
+    // Makes a text the last search text; none leaves it. The same text again takes no memory.
+    pub(super) fn note_text(&mut self, text: Option<&[u8]>) -> Result<(), NoMemory>
+        requires { length_of (option_copied text) ≤ TEXT_LIMIT }
+        ensures ok { OnOk result (self.new ≡ with_body self.old (record self.old.body {
+          last_search = text_after self.old.body.last_search (option_copied text.entry);
+        })) }
+        ensures err { OnErr result (self.new ≡ self.old) }
+        ensures none { fresh self.old.body.last_search (option_copied text.entry) ≡ None → IsOk result }
+    {
+        note_text(*self.input.allocator(), &mut self.last_search, text)?;
+        Ok(())
+    }
+}
