@@ -79,6 +79,16 @@ impl Log {
         None
     }
 
+    /// A copy of the bytes of a file, if it is there.
+    fn copied(&self, name: &str) -> io::Result<Vec<u8>>
+        ensures { IfOk result (λ bytes. files_of self.now name.now ≡ Some bytes.items) }
+    {
+        let Some(bytes) = self.bytes(name) else {
+            return Err(io::Error::from(ErrorKind::NotFound));
+        };
+        Ok(Vec::from_slice(self.alloc, bytes)?)
+    }
+
     /// Whether each file has one of these names.
     pub(super) fn has_only(&self, names: &[(&str, &str)]) -> bool {
         let mut held = true;
@@ -99,12 +109,9 @@ impl Log {
             } ∷ self.old) }
         ensures err { OnErr result (self.new ≡ self.old) }
     {
-        let note = Note {
-            gone: String::from_str(self.alloc, gone)?,
-            name: String::from_str(self.alloc, name)?,
-            bytes,
-        };
-        Ok(self.notes.insert(0, note)?)
+        let gone = String::from_str(self.alloc, gone)?;
+        let name = String::from_str(self.alloc, name)?;
+        Ok(self.notes.insert(0, Note { gone, name, bytes })?)
     }
 }
 
@@ -120,10 +127,7 @@ impl Log {
         ensures { IfOk result
             (λ input. Opens (Some (files_of self.now)) name.now (⟦<MemorySource as Source>⟧.coming input)) }
     {
-        let Some(bytes) = self.bytes(name) else {
-            return Err(io::Error::from(ErrorKind::NotFound));
-        };
-        let bytes = Vec::from_slice(self.alloc, bytes)?;
+        let bytes = self.copied(name)?;
         let fails = matches!(refused, Refused::Read);
         Ok(MemorySource::new(bytes, Vec::new(self.alloc), fails))
     }
@@ -148,10 +152,7 @@ impl Log {
         ensures others { SameBut name.now (files_of self.old) (files_of self.new) }
         ensures grows { GrowsByOne self.old self.new }
     {
-        let Some(had) = self.bytes(name) else {
-            return Err(io::Error::from(ErrorKind::NotFound));
-        };
-        let mut all = Vec::from_slice(self.alloc, had)?;
+        let mut all = self.copied(name)?;
         if matches!(refused, Refused::Write) {
             all.extend_from_slice(&bytes[..bytes.len() / 2])?;
             self.note(name, name, Some(all))?;
@@ -184,10 +185,7 @@ impl Log {
         if matches!(refused, Refused::Rename | Refused::RenameAndRemove) {
             return Err(io::Error::from(ErrorKind::PermissionDenied));
         }
-        let Some(bytes) = self.bytes(from) else {
-            return Err(io::Error::from(ErrorKind::NotFound));
-        };
-        let bytes = Vec::from_slice(self.alloc, bytes)?;
+        let bytes = self.copied(from)?;
         Ok(self.note(from, to, Some(bytes))?)
     }
 

@@ -1,6 +1,5 @@
-use Rattle.std.proofs.Common.{sym}
 use Rattle.teco_files.proofs.FileLogs.{renames}
 use Rattle.teco_files.proofs.memory_disk.log.Log.renamed.Goals as goal
 
 pub returns-clause-ok : goal.returns-clause-ok
-returns-clause-ok c = renames c.requires (sym c.in-Some.ensures) (rw c.in_ok-bytes.ensures.items at c.in_ok-note.ensures.ok)
+returns-clause-ok c = renames c.requires c.in_ok-bytes.ensures c.in_ok-note.ensures.ok
