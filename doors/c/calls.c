@@ -210,6 +210,11 @@ static void turns(void)
     HOLDS(teco_steps(&t, 2, &steps) == TECO_OUTSIDE && steps == 0);
     HOLDS(teco_undo(&t) == 0 && teco_rewind(&t, UINT64_MAX) == 0 && teco_redo(&t) == TECO_NTR);
     HOLDS(teco_strings(&t, &n) == 0 && n == 1 && teco_text(&t, 0, room, 64, &n) == 0 && has("ab"));
+    HOLDS(teco_forget(&t) == 0 && teco_strings(&t, &n) == 0 && n == 1);
+    HOLDS(teco_undo(&t) == 0 && teco_forget(&t) == 0 && teco_redo(&t) == TECO_NTR && teco_undo(&t) == TECO_NTU);
+    HOLDS(teco_strings(&t, &n) == 0 && n == 0 && teco_text(&t, 0, room, 64, &n) == 0 && has("a"));
+    HOLDS(run(&t, "Ic\033", 0) == 0 && run(&t, "EX", 0) == 0 && teco_forget(&t) == 0 && teco_done(&t) == 1);
+    HOLDS(teco_undo(&t) == 0 && teco_forget(&t) == 0 && teco_cursor(&t, &n) == 0 && n == 1 && teco_undo(&t) == 0 && teco_redo(&t) == 0);
     teco_close(&t);
 }
 
@@ -219,6 +224,10 @@ static void looks(void)
     int32_t number;
     teco_open(&t, bytes("one\ftwo"), 7, 0);
     HOLDS(teco_search(&t, room, 64, &n) == TECO_OUTSIDE && n == 0);
+    HOLDS(teco_input(&t, 0, room, 64, &n) == 0 && has("one\ftwo") && teco_input(&t, 5, room, 64, &n) == 0 && has("wo"));
+    HOLDS(teco_input(&t, 7, room, 64, &n) == 0 && has("") && teco_input(&t, SIZE_MAX, room, 64, &n) == 0 && has(""));
+    memset(room, '.', sizeof room);
+    HOLDS(teco_input(&t, 4, room, 2, &n) == 0 && n == 3 && memcmp(room, "tw.", 3) == 0);
     HOLDS(run(&t, "Y-7UQ@^UA/text/[A2C", 64) == 0);
     HOLDS(teco_length(&t, &n) == 0 && n == 3 && teco_pointer(&t, &n) == 0 && n == 2);
     HOLDS(teco_place(&t, &n) == 0 && n == 4 && teco_form_feed(&t) == 1);
@@ -308,6 +317,7 @@ static void closed(void)
     teco_stopper_close(&here);
     teco_stopper_close(&there);
     HOLDS(teco_undo(&t) == TECO_CLOSED && teco_redo(&t) == TECO_CLOSED && teco_rewind(&t, 0) == TECO_CLOSED);
+    HOLDS(teco_forget(&t) == TECO_CLOSED && (one = 1, teco_input(&t, 0, room, 64, &one)) == TECO_CLOSED && one == 0);
     HOLDS((one = 1, teco_lines(&t, 0, 9, &one)) == TECO_CLOSED && one == 0);
     HOLDS(teco_strings(&t, &one) == TECO_CLOSED && one == 0);
     HOLDS((one = 1, teco_cursor(&t, &one)) == TECO_CLOSED && one == 0);
@@ -342,7 +352,7 @@ static int told(const struct teco *t)
         + (teco_splice(t, 0, 0, &n, &one, &two) == 0) + (teco_length(t, &n) == 0) + (teco_pointer(t, &n) == 0)
         + (teco_text(t, 0, room, 64, &n) == 0) + (teco_output(t, 0, room, 64, &n) == 0) + (teco_number(t, 'A', &number) == 0)
         + (teco_register(t, 'A', room, 64, &n) == 0) + (teco_search(t, room, 64, &n) == 0) + (teco_pushed(t, &n) == 0)
-        + (teco_place(t, &n) == 0) + (teco_lines(t, 0, 9, &n) == 0)
+        + (teco_place(t, &n) == 0) + (teco_lines(t, 0, 9, &n) == 0) + (teco_input(t, 0, room, 64, &n) == 0)
         + (teco_done(t) <= 1) + (teco_found(t) <= 1) + (teco_form_feed(t) <= 1) + (teco_either_case(t) <= 1);
 }
 
@@ -351,11 +361,11 @@ static void unwritten(void)
 {
     struct teco *t = mmap(NULL, sizeof *t, PROT_READ, MAP_PRIVATE | MAP_ANONYMOUS, -1, 0);
     HOLDS(t != MAP_FAILED && told(t) == 0 && run(t, "Y", 64) == TECO_CLOSED && where(t, "Y", 64) == TECO_CLOSED);
-    HOLDS(teco_undo(t) == TECO_CLOSED && teco_redo(t) == TECO_CLOSED && teco_rewind(t, 0) == TECO_CLOSED);
+    HOLDS(teco_undo(t) == TECO_CLOSED && teco_redo(t) == TECO_CLOSED && teco_rewind(t, 0) == TECO_CLOSED && teco_forget(t) == TECO_CLOSED);
     HOLDS(mprotect(t, sizeof *t, PROT_READ | PROT_WRITE) == 0 && teco_open(t, bytes("one"), 3, 0) == 0);
     HOLDS(mprotect(t, sizeof *t, PROT_READ) == 0);
-    HOLDS(run(t, "YSe\033I.\033", 64) == 0 && told(t) == 21);
-    HOLDS(teco_undo(t) == 0 && teco_redo(t) == 0 && teco_rewind(t, 1) == 0 && teco_undo(t) == 0);
+    HOLDS(run(t, "YSe\033I.\033", 64) == 0 && told(t) == 22);
+    HOLDS(teco_undo(t) == 0 && teco_redo(t) == 0 && teco_rewind(t, 1) == 0 && teco_undo(t) == 0 && teco_forget(t) == 0);
     HOLDS(where(t, "J9J", 64) == 20 && stopped(2, 0));
     HOLDS(mprotect(t, sizeof *t, PROT_READ | PROT_WRITE) == 0);
     teco_close(t);

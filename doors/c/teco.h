@@ -194,6 +194,9 @@ uint8_t teco_redo(struct teco *t);
  */
 uint8_t teco_rewind(struct teco *t, uint64_t n);
 
+/* Drops the strings that are undone, so that none is left to redo: 0. Nothing else changes. Asks for no memory; may be made after an exit. */
+uint8_t teco_forget(struct teco *t);
+
 /*
  * Reads a text of n bytes, of no session: what stands at the place `at` after fillers, which are SP, CR, LF and NUL.
  * 0 for a token: its first byte is at `from`, and `to` is the place behind its last; `kind` is its number above, and `size` says how
@@ -253,6 +256,9 @@ uint8_t teco_pointer(const struct teco *t, size_t *pointer);
 /* The text of the buffer from a place on, and the output so far from a place on. Past the end there is nothing, of length 0. */
 uint8_t teco_text(const struct teco *t, size_t from, uint8_t *room, size_t size, size_t *length);
 uint8_t teco_output(const struct teco *t, size_t from, uint8_t *room, size_t size, size_t *length);
+
+/* The input from a place on, as it was given to teco_open. Past its end there is nothing, of length 0. */
+uint8_t teco_input(const struct teco *t, size_t from, uint8_t *room, size_t size, size_t *length);
 
 /* How many line ends, LF, VT and FF, the text of the buffer has between two places. It takes the time of the way between them. */
 uint8_t teco_lines(const struct teco *t, size_t from, size_t to, size_t *count);

@@ -5,10 +5,26 @@
 #include <stdlib.h>
 #include <string.h>
 
+/* The session has a copy of INPUT. */
+static enum fate open_over(struct work *work, const struct bytes *input)
+{
+    const uint8_t *text = input->count > 0 ? input->at : (const uint8_t *)"";
+    if (teco_open(&work->session, text, input->count, (size_t)work->options->depth) != 0
+        || teco_stopper_open(&work->asked, &work->asks) != 0)
+        return NO_MEMORY;
+    return GOES_ON;
+}
+
 enum fate work_open(struct work *work, const struct options *options)
 {
     *work = (struct work){.options = options, .journal = {.limit = options->limit}};
-    enum fate fate = file_read(options->input, &work->input, &work->read);
+    struct bytes input = {0};
+    enum fate fate = file_read(options->input, &input, &work->read);
+    if (fate == GOES_ON) {
+        work->size = input.count;
+        fate = open_over(work, &input);
+    }
+    bytes_free(&input);
     if (fate != GOES_ON)
         return fate;
     work->warned = work->read;
@@ -19,10 +35,6 @@ enum fate work_open(struct work *work, const struct options *options)
     if (work->room == NULL || work->output == NULL)
         return NO_MEMORY;
     (void)snprintf(work->output, size, "%s%s", output, options->output != NULL ? "" : ".out");
-    const uint8_t *input = work->input.count > 0 ? work->input.at : (const uint8_t *)"";
-    if (teco_open(&work->session, input, work->input.count, (size_t)options->depth) != 0
-        || teco_stopper_open(&work->asked, &work->asks) != 0)
-        return NO_MEMORY;
     journal_watch(&work->journal, options->input);
     return GOES_ON;
 }
@@ -33,7 +45,6 @@ void work_close(struct work *work)
     teco_close(&work->session);
     teco_stopper_close(&work->asked);
     teco_stopper_close(&work->asks);
-    bytes_free(&work->input);
     free(work->output);
     free(work->room);
 }
@@ -154,14 +165,15 @@ typedef uint8_t look(const struct teco *session, size_t from, uint8_t *room, siz
 /* Whether the bytes that a look gives from a place on are those of INPUT from `at` on, which goes behind them. */
 static bool is_of_input(struct work *work, look *call, size_t from, size_t *at)
 {
-    enum { PIECE = 1 << 18 };
-    static uint8_t piece[PIECE];
-    size_t length;
+    enum { PIECE = 1 << 16 };
+    static uint8_t piece[PIECE], wanted[PIECE];
+    size_t length, left;
     do {
-        if (call(&work->session, from, piece, PIECE, &length) != 0 || length > work->input.count - *at)
+        if (call(&work->session, from, piece, PIECE, &length) != 0 || teco_input(&work->session, *at, wanted, PIECE, &left) != 0
+            || length > left)
             return false;
         size_t n = length < PIECE ? length : PIECE;
-        if (n > 0 && memcmp(piece, work->input.at + *at, n) != 0)
+        if (memcmp(piece, wanted, n) != 0)
             return false;
         from += n;
         *at += n;

@@ -141,7 +141,7 @@ struct work {
     const struct options *options;
     struct teco session;
     struct teco_stopper asked, asks; /* a run is asked to stop, and the keys ask it */
-    struct bytes input;
+    size_t size;              /* of INPUT */
     struct stat read, warned; /* the file as it was read, and as it was when a person was told that it had changed */
     char *output;             /* the name of the output */
     struct journal journal;

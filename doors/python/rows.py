@@ -54,6 +54,9 @@ def calls():
     session.redo()
     refused(NTR, session.redo, "redo")
     session.undo()
+    session.forget()
+    refused(NTR, session.redo, "forget")
+    holds(session.strings == [b"@^UA/J9J/ MA"] and session.input == b"one\n\ftwo", "forget and input")
     refused(OUTSIDE, lambda: session.search, "search")
     session.run(b"Sn\x1b")
     holds(session.search == b"n" and session.found, "search")
@@ -61,6 +64,8 @@ def calls():
     session.close()
     refused(CLOSED, lambda: session.text, "closed")
     refused(CLOSED, lambda: session.done, "closed, asked")
+    refused(CLOSED, lambda: session.input, "closed, input")
+    refused(CLOSED, session.forget, "closed, forget")
     refused(CLOSED, lambda: session.run(b"J"), "closed, run")
 
 

@@ -56,13 +56,13 @@ def _calls():
     return {
         "open": [c_void_p, c_size_t, c_size_t],
         "run": run, "where": [*run, size, size],
-        "undo": [], "redo": [], "rewind": [c_uint64],
+        "undo": [], "redo": [], "rewind": [c_uint64], "forget": [],
         "strings": [size], "cursor": [size], "steps": [c_size_t, word],
         "string": [c_size_t, *room, size], "changes": [c_size_t, size],
         "change": [c_size_t, c_size_t, byte, byte, word],
         "splice": [c_size_t, c_size_t, size, size, size],
         "length": [size], "pointer": [size], "lines": [c_size_t, c_size_t, size],
-        "text": [c_size_t, *room, size], "output": [c_size_t, *room, size],
+        "text": [c_size_t, *room, size], "output": [c_size_t, *room, size], "input": [c_size_t, *room, size],
         "number": [c_uint8, POINTER(c_int32)], "register": [c_uint8, *room, size],
         "search": [*room, size], "pushed": [size], "place": [size],
         "done": [], "found": [], "form_feed": [], "either_case": [],
@@ -287,6 +287,10 @@ class Session:
     def rewind(self, n):
         self._call("rewind", _steps(n))
 
+    def forget(self):
+        """Drops the strings that are undone, so that none is left to redo."""
+        self._call("forget")
+
     def close(self):
         if threading.get_ident() != self._thread:
             raise RuntimeError("a session stays on the thread that opened it")
@@ -311,6 +315,11 @@ class Session:
     @property
     def output(self):
         return self._copied("output", 0)
+
+    @property
+    def input(self):
+        """The input, as it was given."""
+        return self._copied("input", 0)
 
     @property
     def strings(self):

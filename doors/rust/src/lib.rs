@@ -123,6 +123,11 @@ impl Session {
         turned(unsafe { raw::teco_rewind(&mut self.handle, n) })
     }
 
+    /// Drops the strings that are undone, so that none is left to redo. Asks for no memory.
+    pub fn forget(&mut self) {
+        unsafe { raw::teco_forget(&mut self.handle) };
+    }
+
     /// How many strings are kept, undone ones too.
     pub fn strings(&self) -> usize {
         self.told(|at, count| unsafe { raw::teco_strings(at, count) })
@@ -189,6 +194,12 @@ impl Session {
     /// The output so far.
     pub fn output(&self) -> Vec<u8> {
         self.copied(|at, room, size, length| unsafe { raw::teco_output(at, 0, room, size, length) })
+            .unwrap_or_default()
+    }
+
+    /// The input, as it was given to [`Session::open`].
+    pub fn input(&self) -> Vec<u8> {
+        self.copied(|at, room, size, length| unsafe { raw::teco_input(at, 0, room, size, length) })
             .unwrap_or_default()
     }
 

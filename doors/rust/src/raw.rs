@@ -56,6 +56,7 @@ extern "C" {
     pub fn teco_undo(t: *mut Handle) -> u8;
     pub fn teco_redo(t: *mut Handle) -> u8;
     pub fn teco_rewind(t: *mut Handle, n: u64) -> u8;
+    pub fn teco_forget(t: *mut Handle) -> u8;
     pub fn teco_token(
         text: *const u8,
         n: usize,
@@ -77,6 +78,7 @@ extern "C" {
     pub fn teco_text(t: *const Handle, from: usize, room: *mut u8, size: usize, length: *mut usize) -> u8;
     pub fn teco_lines(t: *const Handle, from: usize, to: usize, count: *mut usize) -> u8;
     pub fn teco_output(t: *const Handle, from: usize, room: *mut u8, size: usize, length: *mut usize) -> u8;
+    pub fn teco_input(t: *const Handle, from: usize, room: *mut u8, size: usize, length: *mut usize) -> u8;
     pub fn teco_number(t: *const Handle, name: u8, number: *mut i32) -> u8;
     pub fn teco_register(t: *const Handle, name: u8, room: *mut u8, size: usize, length: *mut usize) -> u8;
     pub fn teco_search(t: *const Handle, room: *mut u8, size: usize, length: *mut usize) -> u8;

@@ -21,6 +21,18 @@ fn a_string_is_run_undone_and_redone() {
 }
 
 #[test]
+fn undone_strings_are_forgotten() {
+    let mut session = Session::open(b"one", 0).unwrap();
+    session.run(b"Y", LIMIT, 0);
+    session.run(b"Ia\x1b", LIMIT, 0);
+    session.forget();
+    assert_eq!((session.strings(), session.undo(), session.undo()), (2, Ok(()), Ok(())));
+    session.forget();
+    assert_eq!((session.strings(), session.redo(), session.undo()), (0, Err(Nothing), Err(Nothing)));
+    assert_eq!((session.text(), session.input()), (b"".to_vec(), b"one".to_vec()));
+}
+
+#[test]
 fn a_string_that_fails_is_noted_and_undone() {
     let mut session = Session::open(b"", 3).unwrap();
     assert_eq!(session.run(b"Iab\x1b99J", LIMIT, 0).stop, Some(Stop::Code(20)));
