@@ -59,7 +59,22 @@ pub struct Place {
     pub calls: usize,
 }
 
+/// A call that is open: its place in the text that calls, and the name of the register whose text it calls.
+#[derive(Clone, Copy, Debug, PartialEq, Eq)]
+pub struct Call {
+    pub at: usize,
+    pub name: u8,
+}
+
+/// Where a command string stopped: the place of the command in the innermost text, and each call that is open, the latest first.
+#[derive(Clone, Debug, PartialEq, Eq)]
+pub struct Frames {
+    pub at: usize,
+    pub calls: Vec<Call>,
+}
+
 const SPLICE: u8 = 1;
+const MOST_CALLS: usize = 32;
 const MEM: u8 = 28;
 const END: u8 = 32;
 const NOT_BEGUN: u8 = 252;
@@ -106,6 +121,19 @@ impl Session {
                 &mut self.handle, text.as_ptr(), text.len(), limit, stopper.raw(), typed, room, made, steps, &mut at, &mut calls)
         });
         (outcome, (at != NOWHERE).then_some(Place { at, calls }))
+    }
+
+    /// Runs a command string as [`Session::run_until`] does, and tells each call that is open where it stopped.
+    pub fn run_frames(&mut self, text: &[u8], limit: u64, room: usize, stopper: &Stopper) -> (Outcome, Option<Frames>) {
+        let (mut at, mut calls) = (NOWHERE, 0);
+        let mut open = [raw::Call { at: 0, name: 0 }; MOST_CALLS];
+        let outcome = ran(room, |typed, made, steps| unsafe {
+            raw::teco_frames(
+                &mut self.handle, text.as_ptr(), text.len(), limit, stopper.raw(), typed, room, made, steps, &mut at, &mut calls,
+                open.as_mut_ptr(), MOST_CALLS)
+        });
+        let calls = open.iter().take(calls).map(|call| Call { at: call.at, name: call.name }).collect();
+        (outcome, (at != NOWHERE).then_some(Frames { at, calls }))
     }
 
     /// Goes back by a string. Asks for no memory.

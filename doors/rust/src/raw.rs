@@ -12,6 +12,13 @@ pub struct Stopper {
     pub at: *mut c_void,
 }
 
+#[repr(C)]
+#[derive(Clone, Copy)]
+pub struct Call {
+    pub at: usize,
+    pub name: u8,
+}
+
 extern "C" {
     pub fn teco_open(t: *mut Handle, input: *const u8, n: usize, depth: usize) -> u8;
     pub fn teco_close(t: *mut Handle);
@@ -49,6 +56,21 @@ extern "C" {
         steps: *mut u64,
         at: *mut usize,
         calls: *mut usize,
+    ) -> u8;
+    pub fn teco_frames(
+        t: *mut Handle,
+        text: *const u8,
+        n: usize,
+        limit: u64,
+        s: *const Stopper,
+        room: *mut u8,
+        size: usize,
+        made: *mut usize,
+        steps: *mut u64,
+        at: *mut usize,
+        calls: *mut usize,
+        open: *mut Call,
+        most: usize,
     ) -> u8;
     pub fn teco_stopper_open(here: *mut Stopper, there: *mut Stopper) -> u8;
     pub fn teco_stopper_close(s: *mut Stopper);
