@@ -121,6 +121,14 @@ uint8_t work_rewind(struct work *work, uint64_t steps)
     return code;
 }
 
+void work_run(struct work *work, const uint8_t *text, size_t n, uint64_t limit, const struct teco_stopper *asked, struct told *told)
+{
+    told->code = teco_frames(&work->session, text, n, limit, asked, work->room, ROOM, &told->made, &told->steps, &told->at, &told->calls,
+        told->open, CALLS);
+    if (told->calls > 0)
+        told->at = told->open[told->calls - 1].at;
+}
+
 /* Runs a string, which Ctrl-C breaks off. */
 static void run(struct work *work, const uint8_t *text, size_t n, struct told *told)
 {
@@ -131,8 +139,7 @@ static void run(struct work *work, const uint8_t *text, size_t n, struct told *t
     }
     (void)teco_stop(&work->asks, 0);
     tty_watch(&work->asks);
-    told->code = teco_where_until(&work->session, text, n, limit, &work->asked, work->room, ROOM, &told->made, &told->steps, &told->at,
-        &told->calls);
+    work_run(work, text, n, limit, &work->asked, told);
     tty_unwatch();
     told->is_broken_off = told->code == TECO_LIM && told->steps < limit;
     if (told->code != TECO_NOT_BEGUN && told->code != TECO_END)
