@@ -42,6 +42,25 @@ static uint8_t until(struct teco *t, const char *text, size_t size, const struct
     return teco_where_until(t, bytes(text), strlen(text), 1000, stopper, room, size, &n, &steps, &at, &calls);
 }
 
+static struct teco_call called[3];
+
+static uint8_t frames(struct teco *t, const char *text, size_t most, const struct teco_stopper *stopper)
+{
+    memset(called, '.', sizeof called);
+    return teco_frames(t, bytes(text), strlen(text), 1000, stopper, room, sizeof room, &n, &steps, &at, &calls, called, most);
+}
+
+/* Whether this call is told there; and whether nothing is. */
+static int is_called(int i, size_t place, char name)
+{
+    return called[i].at == place && called[i].name == (uint8_t)name;
+}
+
+static int is_untold(int i)
+{
+    return is_called(i, (size_t)0x2e2e2e2e2e2e2e2e, '.');
+}
+
 /* Whether a string stopped there, inside of so many macros. */
 static int stopped(size_t place, size_t macros)
 {
@@ -110,6 +129,27 @@ static void wheres(void)
     HOLDS(teco_strings(&t, &n) == 0 && n == 11 && teco_undo(&t) == 0 && teco_rewind(&t, 0) == 0);
     HOLDS(where(&t, "EX", 0) == 0 && stopped(TECO_NOWHERE, 0) && teco_done(&t) == 1);
     HOLDS(where(&t, "9J", 0) == TECO_END && steps == 0 && stopped(TECO_NOWHERE, 0));
+    teco_close(&t);
+}
+
+static void open_calls(void)
+{
+    struct teco t = {0};
+    struct teco_stopper here = {0}, there = {0};
+    teco_open(&t, bytes(""), 0, 0);
+    HOLDS(frames(&t, "2=J", 3, &here) == 0 && has("2\r\n") && steps == 3 && stopped(TECO_NOWHERE, 0) && is_untold(0) && here.at == NULL);
+    HOLDS(frames(&t, "J 9J", 3, &here) == 20 && stopped(3, 0) && is_untold(0));
+    HOLDS(frames(&t, "@^UA/J9J/@^U7/ MA/J J M7ZJ", 3, &here) == 20 && stopped(2, 2));
+    HOLDS(is_called(0, 1, 'A') && is_called(1, 22, '7') && is_untold(2));
+    HOLDS(frames(&t, "J Ma", 0, &here) == 20 && stopped(2, 1) && is_untold(0));
+    HOLDS(frames(&t, "M7", 1, &here) == 20 && stopped(2, 2) && is_called(0, 1, 'A') && is_untold(1));
+    HOLDS(teco_stopper_open(&here, &there) == 0 && teco_stop(&there, 1) == 0);
+    HOLDS(frames(&t, " M7", 3, &here) == TECO_LIM && steps == 0 && stopped(1, 0) && is_untold(0) && teco_stop(&there, 0) == 0);
+    HOLDS(frames(&t, " M7", 3, &here) == 20 && stopped(2, 2) && is_called(1, 1, '7'));
+    HOLDS(teco_strings(&t, &n) == 0 && n == 7 && teco_undo(&t) == 0);
+    HOLDS(frames(&t, "EX", 3, &here) == 0 && frames(&t, "9J", 3, &here) == TECO_END && steps == 0 && stopped(TECO_NOWHERE, 0) && is_untold(0));
+    teco_stopper_close(&here);
+    teco_stopper_close(&there);
     teco_close(&t);
 }
 
@@ -210,6 +250,11 @@ static void turns(void)
     HOLDS(teco_steps(&t, 2, &steps) == TECO_OUTSIDE && steps == 0);
     HOLDS(teco_undo(&t) == 0 && teco_rewind(&t, UINT64_MAX) == 0 && teco_redo(&t) == TECO_NTR);
     HOLDS(teco_strings(&t, &n) == 0 && n == 1 && teco_text(&t, 0, room, 64, &n) == 0 && has("ab"));
+    HOLDS(teco_forget(&t) == 0 && teco_strings(&t, &n) == 0 && n == 1);
+    HOLDS(teco_undo(&t) == 0 && teco_forget(&t) == 0 && teco_redo(&t) == TECO_NTR && teco_undo(&t) == TECO_NTU);
+    HOLDS(teco_strings(&t, &n) == 0 && n == 0 && teco_text(&t, 0, room, 64, &n) == 0 && has("a"));
+    HOLDS(run(&t, "Ic\033", 0) == 0 && run(&t, "EX", 0) == 0 && teco_forget(&t) == 0 && teco_done(&t) == 1);
+    HOLDS(teco_undo(&t) == 0 && teco_forget(&t) == 0 && teco_cursor(&t, &n) == 0 && n == 1 && teco_undo(&t) == 0 && teco_redo(&t) == 0);
     teco_close(&t);
 }
 
@@ -219,6 +264,10 @@ static void looks(void)
     int32_t number;
     teco_open(&t, bytes("one\ftwo"), 7, 0);
     HOLDS(teco_search(&t, room, 64, &n) == TECO_OUTSIDE && n == 0);
+    HOLDS(teco_input(&t, 0, room, 64, &n) == 0 && has("one\ftwo") && teco_input(&t, 5, room, 64, &n) == 0 && has("wo"));
+    HOLDS(teco_input(&t, 7, room, 64, &n) == 0 && has("") && teco_input(&t, SIZE_MAX, room, 64, &n) == 0 && has(""));
+    memset(room, '.', sizeof room);
+    HOLDS(teco_input(&t, 4, room, 2, &n) == 0 && n == 3 && memcmp(room, "tw.", 3) == 0);
     HOLDS(run(&t, "Y-7UQ@^UA/text/[A2C", 64) == 0);
     HOLDS(teco_length(&t, &n) == 0 && n == 3 && teco_pointer(&t, &n) == 0 && n == 2);
     HOLDS(teco_place(&t, &n) == 0 && n == 4 && teco_form_feed(&t) == 1);
@@ -305,9 +354,12 @@ static void closed(void)
     HOLDS(teco_stopper_open(&here, &there) == 0 && teco_stop(&there, 1) == 0);
     n = steps = at = calls = 1;
     HOLDS(until(&t, "9J", 64, &here) == TECO_CLOSED && n == 0 && steps == 0 && stopped(TECO_NOWHERE, 0));
+    n = steps = at = calls = 1;
+    HOLDS(frames(&t, "9J", 3, &here) == TECO_CLOSED && n == 0 && steps == 0 && stopped(TECO_NOWHERE, 0) && is_untold(0));
     teco_stopper_close(&here);
     teco_stopper_close(&there);
     HOLDS(teco_undo(&t) == TECO_CLOSED && teco_redo(&t) == TECO_CLOSED && teco_rewind(&t, 0) == TECO_CLOSED);
+    HOLDS(teco_forget(&t) == TECO_CLOSED && (one = 1, teco_input(&t, 0, room, 64, &one)) == TECO_CLOSED && one == 0);
     HOLDS((one = 1, teco_lines(&t, 0, 9, &one)) == TECO_CLOSED && one == 0);
     HOLDS(teco_strings(&t, &one) == TECO_CLOSED && one == 0);
     HOLDS((one = 1, teco_cursor(&t, &one)) == TECO_CLOSED && one == 0);
@@ -342,7 +394,7 @@ static int told(const struct teco *t)
         + (teco_splice(t, 0, 0, &n, &one, &two) == 0) + (teco_length(t, &n) == 0) + (teco_pointer(t, &n) == 0)
         + (teco_text(t, 0, room, 64, &n) == 0) + (teco_output(t, 0, room, 64, &n) == 0) + (teco_number(t, 'A', &number) == 0)
         + (teco_register(t, 'A', room, 64, &n) == 0) + (teco_search(t, room, 64, &n) == 0) + (teco_pushed(t, &n) == 0)
-        + (teco_place(t, &n) == 0) + (teco_lines(t, 0, 9, &n) == 0)
+        + (teco_place(t, &n) == 0) + (teco_lines(t, 0, 9, &n) == 0) + (teco_input(t, 0, room, 64, &n) == 0)
         + (teco_done(t) <= 1) + (teco_found(t) <= 1) + (teco_form_feed(t) <= 1) + (teco_either_case(t) <= 1);
 }
 
@@ -351,12 +403,13 @@ static void unwritten(void)
 {
     struct teco *t = mmap(NULL, sizeof *t, PROT_READ, MAP_PRIVATE | MAP_ANONYMOUS, -1, 0);
     HOLDS(t != MAP_FAILED && told(t) == 0 && run(t, "Y", 64) == TECO_CLOSED && where(t, "Y", 64) == TECO_CLOSED);
-    HOLDS(teco_undo(t) == TECO_CLOSED && teco_redo(t) == TECO_CLOSED && teco_rewind(t, 0) == TECO_CLOSED);
+    HOLDS(teco_undo(t) == TECO_CLOSED && teco_redo(t) == TECO_CLOSED && teco_rewind(t, 0) == TECO_CLOSED && teco_forget(t) == TECO_CLOSED);
     HOLDS(mprotect(t, sizeof *t, PROT_READ | PROT_WRITE) == 0 && teco_open(t, bytes("one"), 3, 0) == 0);
     HOLDS(mprotect(t, sizeof *t, PROT_READ) == 0);
-    HOLDS(run(t, "YSe\033I.\033", 64) == 0 && told(t) == 21);
-    HOLDS(teco_undo(t) == 0 && teco_redo(t) == 0 && teco_rewind(t, 1) == 0 && teco_undo(t) == 0);
+    HOLDS(run(t, "YSe\033I.\033", 64) == 0 && told(t) == 22);
+    HOLDS(teco_undo(t) == 0 && teco_redo(t) == 0 && teco_rewind(t, 1) == 0 && teco_undo(t) == 0 && teco_forget(t) == 0);
     HOLDS(where(t, "J9J", 64) == 20 && stopped(2, 0));
+    HOLDS(frames(t, "@^UA/9J/MA", 3, &(struct teco_stopper){0}) == 20 && stopped(1, 1) && is_called(0, 8, 'A'));
     HOLDS(mprotect(t, sizeof *t, PROT_READ | PROT_WRITE) == 0);
     teco_close(t);
     munmap(t, sizeof *t);
@@ -402,6 +455,7 @@ int main(void)
     runs();
     wheres();
     breaks();
+    open_calls();
     tokens();
     turns();
     looks();

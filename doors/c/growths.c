@@ -81,6 +81,7 @@ static void turn(struct teco *t, long nth, int i)
     teco_text(t, 0, room, sizeof room, &n);
     teco_string(t, 0, room, sizeof room, &n);
     teco_output(t, 0, room, sizeof room, &n);
+    teco_input(t, 0, room, sizeof room, &n);
     if (end() != 0 || redone != 0 || (undone != 0 && undone != TECO_NTU))
         wrong("an undo, a redo or a look asks for memory", nth, i);
 }
@@ -118,9 +119,9 @@ static long try(long nth)
             wrong("an undo and a redo lead elsewhere", nth, i);
     }
     begin(1, LONG_MAX);
-    int rewound = teco_rewind(&t, 0);
-    if (end() != 0 || (opened == 0 ? rewound != 0 && rewound != TECO_NTU : rewound != TECO_CLOSED))
-        wrong("a rewind asks for memory", nth, STRINGS);
+    int rewound = teco_rewind(&t, 0), forgot = teco_undo(&t) == TECO_CLOSED ? 0 : teco_forget(&t);
+    if (end() != 0 || forgot != 0 || (opened == 0 ? rewound != 0 && rewound != TECO_NTU : rewound != TECO_CLOSED))
+        wrong("a rewind or a forget asks for memory", nth, STRINGS);
     teco_close(&t);
     teco_close(&twin);
     return counted;

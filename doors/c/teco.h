@@ -28,7 +28,7 @@
  * ANSWERS
  *   0 is success. 1 to 32 are the numbers of the codes by which a command string, or a call, ends; those that a call itself can lead
  *   to have their names below. The four calls at the end answer 1 and 0 for yes and no. Each other call that answers something else
- *   than 0 has changed nothing, told 0 and copied nothing. Only teco_run, teco_where, teco_where_until and teco_token say otherwise.
+ *   than 0 has changed nothing, told 0 and copied nothing. Only teco_run, teco_where, teco_where_until, teco_frames and teco_token say otherwise.
  *
  * THREADS AND SIGNALS
  *   The handle of a session stays on the thread that opened it. Different sessions share nothing, and may be in calls at the same time on
@@ -36,7 +36,7 @@
  *
  * STOPPERS
  *   A stopper is a flag with two handles that are alike, each a `struct teco_stopper`: so a thread can ask for a stop while another one
- *   runs a string. The thread that runs gives its handle to teco_where_until, and the other one calls teco_stop with the other handle, at
+ *   runs a string. The thread that runs gives its handle to teco_where_until or teco_frames, and the other one calls teco_stop with the other handle, at
  *   any time. What is said above of a handle holds for each of the two, but that each may go to another thread: by the start or the join
  *   of a thread, under a lock, or by an atomic that is sequentially consistent. Each is in one call at a time, so where several threads
  *   ask, they share a handle under a lock.
@@ -169,6 +169,21 @@ uint8_t teco_where(struct teco *t, const uint8_t *text, size_t n, uint64_t limit
 uint8_t teco_where_until(struct teco *t, const uint8_t *text, size_t n, uint64_t limit, const struct teco_stopper *stopper, uint8_t *room,
     size_t size, size_t *made, uint64_t *steps, size_t *at, size_t *calls);
 
+/* A call that is open: its place in the text that calls, as of the M in MA, and the name of the register whose text it calls. */
+struct teco_call {
+    size_t at;
+    uint8_t name;
+};
+
+/*
+ * Runs a command string just as teco_where_until does, and tells each call that is open where it stopped, the latest first, as many as
+ * there is room for. `calls` are open, at most 32. `at` is the place in the innermost text: that of the register which the first of them
+ * calls, or the string itself where none is open. The place of the last one is what teco_where_until tells as `at`. Elements of the room
+ * behind those that were told stay as they were.
+ */
+uint8_t teco_frames(struct teco *t, const uint8_t *text, size_t n, uint64_t limit, const struct teco_stopper *stopper, uint8_t *room,
+    size_t size, size_t *made, uint64_t *steps, size_t *at, size_t *calls, struct teco_call *open, size_t most);
+
 /*
  * Opens a stopper, with two handles: no stop is asked. 0 or TECO_MEM. Where it isn't 0 both handles are as they were; where it is 0, what
  * was open in them is closed.
@@ -193,6 +208,9 @@ uint8_t teco_redo(struct teco *t);
  * memory; may be made after an exit.
  */
 uint8_t teco_rewind(struct teco *t, uint64_t n);
+
+/* Drops the strings that are undone, so that none is left to redo: 0. Nothing else changes. Asks for no memory; may be made after an exit. */
+uint8_t teco_forget(struct teco *t);
 
 /*
  * Reads a text of n bytes, of no session: what stands at the place `at` after fillers, which are SP, CR, LF and NUL.
@@ -253,6 +271,9 @@ uint8_t teco_pointer(const struct teco *t, size_t *pointer);
 /* The text of the buffer from a place on, and the output so far from a place on. Past the end there is nothing, of length 0. */
 uint8_t teco_text(const struct teco *t, size_t from, uint8_t *room, size_t size, size_t *length);
 uint8_t teco_output(const struct teco *t, size_t from, uint8_t *room, size_t size, size_t *length);
+
+/* The input from a place on, as it was given to teco_open. Past its end there is nothing, of length 0. */
+uint8_t teco_input(const struct teco *t, size_t from, uint8_t *room, size_t size, size_t *length);
 
 /* How many line ends, LF, VT and FF, the text of the buffer has between two places. It takes the time of the way between them. */
 uint8_t teco_lines(const struct teco *t, size_t from, size_t to, size_t *count);

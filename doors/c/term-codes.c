@@ -1,5 +1,6 @@
 /* The codes by which strings end, by their numbers, with the sentences of docs/MANUAL.md. */
 #include "terminal.h"
+#include <stdio.h>
 
 static const struct code {
     const char *letters, *sentence;
@@ -58,4 +59,15 @@ const char *code_sentence(uint8_t number)
 const char *told_sentence(const struct told *told)
 {
     return told->is_broken_off ? "broken off by Ctrl-C" : code_sentence(told->code);
+}
+
+void told_macros(const struct told *told, char *text, size_t size)
+{
+    enum { NAMED = 3 };
+    size_t named = told->calls < NAMED ? told->calls : NAMED, used = 0;
+    text[0] = '\0';
+    for (size_t i = 0; i < named && used < size; i++)
+        used += (size_t)snprintf(text + used, size - used, "%sM%c", i > 0 ? " of " : "", told->open[i].name);
+    if (told->calls > named && used < size)
+        (void)snprintf(text + used, size - used, " of %zu more", told->calls - named);
 }

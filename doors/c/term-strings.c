@@ -17,11 +17,11 @@ static enum fate say_last_steps(struct editor *editor)
     return work_steps(&editor->work, &steps) ? say_steps(steps) : shown(tty_say("[no string]\r\n"));
 }
 
-static enum fate say_macros(size_t calls)
+static enum fate say_macros(const struct told *told)
 {
     char text[48];
-    (void)snprintf(text, sizeof text, "[inside %zu macro%s]\r\n", calls, calls == 1 ? "" : "s");
-    return shown(tty_say(text));
+    told_macros(told, text, sizeof text);
+    return shown(tty_say("[inside ") && tty_say(text) && tty_say("]\r\n"));
 }
 
 static bool is_one_of(const struct bytes *text, size_t at, const char *bytes)
@@ -47,7 +47,7 @@ enum fate show_failed(const struct editor *editor)
     if (!tty_say("?\r\n"))
         return SHOW_FAULT;
     enum fate fate = line_show_text(&front);
-    return fate == GOES_ON && editor->told.calls > 0 ? say_macros(editor->told.calls) : fate;
+    return fate == GOES_ON && editor->told.calls > 0 ? say_macros(&editor->told) : fate;
 }
 
 static enum fate say_code(struct editor *editor)

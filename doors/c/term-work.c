@@ -5,10 +5,26 @@
 #include <stdlib.h>
 #include <string.h>
 
+/* The session has a copy of INPUT. */
+static enum fate open_over(struct work *work, const struct bytes *input)
+{
+    const uint8_t *text = input->count > 0 ? input->at : (const uint8_t *)"";
+    if (teco_open(&work->session, text, input->count, (size_t)work->options->depth) != 0
+        || teco_stopper_open(&work->asked, &work->asks) != 0)
+        return NO_MEMORY;
+    return GOES_ON;
+}
+
 enum fate work_open(struct work *work, const struct options *options)
 {
     *work = (struct work){.options = options, .journal = {.limit = options->limit}};
-    enum fate fate = file_read(options->input, &work->input, &work->read);
+    struct bytes input = {0};
+    enum fate fate = file_read(options->input, &input, &work->read);
+    if (fate == GOES_ON) {
+        work->size = input.count;
+        fate = open_over(work, &input);
+    }
+    bytes_free(&input);
     if (fate != GOES_ON)
         return fate;
     work->warned = work->read;
@@ -19,10 +35,6 @@ enum fate work_open(struct work *work, const struct options *options)
     if (work->room == NULL || work->output == NULL)
         return NO_MEMORY;
     (void)snprintf(work->output, size, "%s%s", output, options->output != NULL ? "" : ".out");
-    const uint8_t *input = work->input.count > 0 ? work->input.at : (const uint8_t *)"";
-    if (teco_open(&work->session, input, work->input.count, (size_t)options->depth) != 0
-        || teco_stopper_open(&work->asked, &work->asks) != 0)
-        return NO_MEMORY;
     journal_watch(&work->journal, options->input);
     return GOES_ON;
 }
@@ -33,7 +45,6 @@ void work_close(struct work *work)
     teco_close(&work->session);
     teco_stopper_close(&work->asked);
     teco_stopper_close(&work->asks);
-    bytes_free(&work->input);
     free(work->output);
     free(work->room);
 }
@@ -110,6 +121,14 @@ uint8_t work_rewind(struct work *work, uint64_t steps)
     return code;
 }
 
+void work_run(struct work *work, const uint8_t *text, size_t n, uint64_t limit, const struct teco_stopper *asked, struct told *told)
+{
+    told->code = teco_frames(&work->session, text, n, limit, asked, work->room, ROOM, &told->made, &told->steps, &told->at, &told->calls,
+        told->open, CALLS);
+    if (told->calls > 0)
+        told->at = told->open[told->calls - 1].at;
+}
+
 /* Runs a string, which Ctrl-C breaks off. */
 static void run(struct work *work, const uint8_t *text, size_t n, struct told *told)
 {
@@ -120,8 +139,7 @@ static void run(struct work *work, const uint8_t *text, size_t n, struct told *t
     }
     (void)teco_stop(&work->asks, 0);
     tty_watch(&work->asks);
-    told->code = teco_where_until(&work->session, text, n, limit, &work->asked, work->room, ROOM, &told->made, &told->steps, &told->at,
-        &told->calls);
+    work_run(work, text, n, limit, &work->asked, told);
     tty_unwatch();
     told->is_broken_off = told->code == TECO_LIM && told->steps < limit;
     if (told->code != TECO_NOT_BEGUN && told->code != TECO_END)
@@ -154,14 +172,15 @@ typedef uint8_t look(const struct teco *session, size_t from, uint8_t *room, siz
 /* Whether the bytes that a look gives from a place on are those of INPUT from `at` on, which goes behind them. */
 static bool is_of_input(struct work *work, look *call, size_t from, size_t *at)
 {
-    enum { PIECE = 1 << 18 };
-    static uint8_t piece[PIECE];
-    size_t length;
+    enum { PIECE = 1 << 16 };
+    static uint8_t piece[PIECE], wanted[PIECE];
+    size_t length, left;
     do {
-        if (call(&work->session, from, piece, PIECE, &length) != 0 || length > work->input.count - *at)
+        if (call(&work->session, from, piece, PIECE, &length) != 0 || teco_input(&work->session, *at, wanted, PIECE, &left) != 0
+            || length > left)
             return false;
         size_t n = length < PIECE ? length : PIECE;
-        if (n > 0 && memcmp(piece, work->input.at + *at, n) != 0)
+        if (memcmp(piece, wanted, n) != 0)
             return false;
         from += n;
         *at += n;

@@ -127,11 +127,15 @@ void journal_leave(void);
 /* The most bytes that a string may type: memory that is not written to costs none. */
 enum { ROOM = 64 << 20 };
 
+/* The most calls of macros that are open at once. */
+enum { CALLS = 32 };
+
 /* How a string ended that was run. */
 struct told {
     uint8_t code;
     bool is_broken_off;
-    size_t at, calls; /* where it stopped, or TECO_NOWHERE; and how many macros were open there */
+    size_t at, calls; /* where it stopped in the string itself, or TECO_NOWHERE; and how many macros were open there, */
+    struct teco_call open[CALLS]; /* which are these, the latest first */
     uint64_t steps;
     size_t made;
 };
@@ -141,7 +145,7 @@ struct work {
     const struct options *options;
     struct teco session;
     struct teco_stopper asked, asks; /* a run is asked to stop, and the keys ask it */
-    struct bytes input;
+    size_t size;              /* of INPUT */
     struct stat read, warned; /* the file as it was read, and as it was when a person was told that it had changed */
     char *output;             /* the name of the output */
     struct journal journal;
@@ -160,6 +164,9 @@ uint8_t work_asks(const uint8_t *text, size_t n, uint64_t *number);
 /* Does what a string of n bytes asks: runs it, undoes, redoes or rewinds. What it typed is in the room. Where memory is refused for
    noting it, it isn't begun: TECO_NOT_BEGUN. */
 struct told work_do(struct work *work, const uint8_t *text, size_t n);
+/* Runs a string of n bytes that is asked to stop by this stopper. What it typed is in the room. */
+void work_run(struct work *work, const uint8_t *text, size_t n, uint64_t limit, const struct teco_stopper *asked, struct told *told);
+
 uint8_t work_undo(struct work *work, uint64_t times);
 uint8_t work_redo(struct work *work, uint64_t times);
 uint8_t work_rewind(struct work *work, uint64_t steps);
@@ -181,6 +188,9 @@ enum fate work_write_to(struct work *work, const uint8_t *name, size_t n, char *
 const char *code_letters(uint8_t number);
 const char *code_sentence(uint8_t number);
 const char *told_sentence(const struct told *told);
+
+/* Names the macros that were open, the innermost first: three of them, and how many more. */
+void told_macros(const struct told *told, char *text, size_t size);
 
 /* THE TERMINAL */
 

@@ -7,8 +7,8 @@ import signal
 import sys
 import threading
 
-from teco import (DEEP, IQC, IQN, ILL, LIM, NO_TOKEN, NTR, NTU, OUTSIDE, POP, TTY, UTC, CLOSED, Place, Refused, Session, Stopper, Token,
-                  token)
+from teco import (DEEP, IQC, IQN, ILL, LIM, NO_TOKEN, NTR, NTU, OUTSIDE, POP, TTY, UTC, CLOSED, Call, Frames, Place, Refused, Session,
+                  Stopper, Token, token)
 
 failed = False
 
@@ -40,6 +40,9 @@ def calls():
     holds(session.run(b"12=", room=0) == (TTY, b"", 1), "no room")
     holds(session.run_where(b"ZJ 9J")[0::3] == (POP, Place(4, 0)) and session.run_where(b"J")[3] is None, "run_where")
     holds(session.run_where(b"@^UA/J9J/ MA")[3] == Place(10, 1), "run_where in a macro")
+    holds(session.run_frames(b"@^U7/ MA/J M7")[3] == Frames(2, [Call(1, "A"), Call(11, "7")]), "run_frames")
+    holds(session.run_frames(b" 9J")[3] == Frames(2, []) and session.run_frames(b"J")[3] is None, "run_frames without a call")
+    session.run_where(b"@^UA/J9J/ MA")
     holds(session.run(b"J") == (0, b"", 1), "run")
     holds((session.length, session.pointer, session.place, session.pushed) == (4, 0, 5, 0), "numbers")
     holds(session.text == b"one\n" and session.output == b"", "texts")
@@ -54,6 +57,9 @@ def calls():
     session.redo()
     refused(NTR, session.redo, "redo")
     session.undo()
+    session.forget()
+    refused(NTR, session.redo, "forget")
+    holds(session.strings == [b"@^UA/J9J/ MA"] and session.input == b"one\n\ftwo", "forget and input")
     refused(OUTSIDE, lambda: session.search, "search")
     session.run(b"Sn\x1b")
     holds(session.search == b"n" and session.found, "search")
@@ -61,6 +67,8 @@ def calls():
     session.close()
     refused(CLOSED, lambda: session.text, "closed")
     refused(CLOSED, lambda: session.done, "closed, asked")
+    refused(CLOSED, lambda: session.input, "closed, input")
+    refused(CLOSED, session.forget, "closed, forget")
     refused(CLOSED, lambda: session.run(b"J"), "closed, run")
 
 
@@ -123,6 +131,7 @@ def elsewhere():
     """On another thread than the main one, with no stopper."""
     session = Session(b"one")
     holds(session.run(b"YHT") == (0, b"one", 3) and session.run_where(b"9J")[3] == Place(1, 0), "a session of another thread")
+    holds(session.run_frames(b"@^UA/9J/MA")[3] == Frames(1, [Call(8, "A")]), "its open calls")
     session.close()
 
 

@@ -35,6 +35,12 @@ Change = namedtuple("Change", "kind step name at gone came", defaults=(None, Non
 Place = namedtuple("Place", "at calls")
 NOWHERE = c_size_t(-1).value
 
+# The same with each call that is open, the latest first: `at` is the place in the innermost text. Of a call the place in the text that
+# calls, and the name of the register whose text it calls.
+Frames = namedtuple("Frames", "at calls")
+Call = namedtuple("Call", "at name")
+MOST_CALLS = 32
+
 # What stands at a place of a text. `code` is 0 for a token, NO_TOKEN where none is left, or the number of the code by which none is
 # read. It goes from `begin` up to `end`; its last text has `size` bytes.
 Token = namedtuple("Token", "code begin end kind size")
@@ -48,6 +54,10 @@ class StopperHandle(ctypes.Structure):
     _fields_ = [("at", c_void_p)]
 
 
+class OpenCall(ctypes.Structure):
+    _fields_ = [("at", c_size_t), ("name", c_uint8)]
+
+
 def _calls():
     """The arguments of each call of teco.h, after its handle."""
     size, word, byte = POINTER(c_size_t), POINTER(c_uint64), POINTER(c_uint8)
@@ -56,17 +66,18 @@ def _calls():
     return {
         "open": [c_void_p, c_size_t, c_size_t],
         "run": run, "where": [*run, size, size],
-        "undo": [], "redo": [], "rewind": [c_uint64],
+        "undo": [], "redo": [], "rewind": [c_uint64], "forget": [],
         "strings": [size], "cursor": [size], "steps": [c_size_t, word],
         "string": [c_size_t, *room, size], "changes": [c_size_t, size],
         "change": [c_size_t, c_size_t, byte, byte, word],
         "splice": [c_size_t, c_size_t, size, size, size],
         "length": [size], "pointer": [size], "lines": [c_size_t, c_size_t, size],
-        "text": [c_size_t, *room, size], "output": [c_size_t, *room, size],
+        "text": [c_size_t, *room, size], "output": [c_size_t, *room, size], "input": [c_size_t, *room, size],
         "number": [c_uint8, POINTER(c_int32)], "register": [c_uint8, *room, size],
         "search": [*room, size], "pushed": [size], "place": [size],
         "done": [], "found": [], "form_feed": [], "either_case": [],
         "where_until": [*run[:3], POINTER(StopperHandle), *run[3:], size, size],
+        "frames": [*run[:3], POINTER(StopperHandle), *run[3:], size, size, POINTER(OpenCall), c_size_t],
     }
 
 
@@ -254,15 +265,17 @@ class Session:
             raise TypeError(f"a Stopper is wanted, and not {type(stopper).__name__}")
         return stopper
 
-    def _run(self, name, text, limit, room, stopper, at, calls):
+    def _run(self, name, text, limit, room, stopper, at, calls, *opened):
         text, limit, typed, stopper = _bytes(text), _steps(limit), _room(room), self._stopper_of(stopper)
         made, steps = c_size_t(), c_uint64()
         given, told = (text, len(text), limit), [typed, len(typed) - 1, byref(made), byref(steps), byref(at), byref(calls)]
-        if stopper is None:
+        if stopper is None and opened:
+            answer = self._answer(name, *given, byref(StopperHandle()), *told, *opened)
+        elif stopper is None:
             answer = self._answer(name, *given, *told[: 6 if name == "where" else 4])
         else:
             with stopper._lent() as handle, breaking_off(stopper):
-                answer = self._answer("where_until", *given, byref(handle), *told)
+                answer = self._answer("frames" if opened else "where_until", *given, byref(handle), *told, *opened)
         if answer in (NOT_BEGUN, END, CLOSED):
             raise Refused(answer)
         return answer, typed.raw[:made.value], steps.value
@@ -278,6 +291,12 @@ class Session:
         ran = self._run("where", text, limit, room, stopper, at, calls)
         return *ran, Place(at.value, calls.value) if at.value != NOWHERE else None
 
+    def run_frames(self, text, limit=1000000, room=65536, stopper=None):
+        """Runs it just so, and gives also each call that was open where it stopped: None where run_where does."""
+        at, calls, opened = c_size_t(), c_size_t(), (OpenCall * MOST_CALLS)()
+        ran = self._run("frames", text, limit, room, stopper, at, calls, opened, MOST_CALLS)
+        return *ran, Frames(at.value, [Call(one.at, chr(one.name)) for one in opened[:calls.value]]) if at.value != NOWHERE else None
+
     def undo(self):
         self._call("undo")
 
@@ -286,6 +305,10 @@ class Session:
 
     def rewind(self, n):
         self._call("rewind", _steps(n))
+
+    def forget(self):
+        """Drops the strings that are undone, so that none is left to redo."""
+        self._call("forget")
 
     def close(self):
         if threading.get_ident() != self._thread:
@@ -311,6 +334,11 @@ class Session:
     @property
     def output(self):
         return self._copied("output", 0)
+
+    @property
+    def input(self):
+        """The input, as it was given."""
+        return self._copied("input", 0)
 
     @property
     def strings(self):

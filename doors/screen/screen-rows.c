@@ -131,9 +131,11 @@ static void describe_end(const struct view *view, bool is_preview, char *text, s
         (void)snprintf(text, size, "?MEM shown after %llu steps: the memory of a preview is used up", steps);
     else
         (void)snprintf(text, size, "?%s: %s", code_letters(told->code), told_sentence(told));
+    char macros[48];
     size_t used = strlen(text);
+    told_macros(told, macros, sizeof macros);
     if (told->calls > 0 && used < size)
-        (void)snprintf(text + used, size - used, ", inside %zu macro%s", told->calls, told->calls == 1 ? "" : "s");
+        (void)snprintf(text + used, size - used, ", inside %s", macros);
 }
 
 static void describe(const struct screen *screen, char *text, size_t size)

@@ -26,7 +26,7 @@ double since(const struct timespec *time)
 static void run(struct work *work, const uint8_t *text, size_t n, uint64_t limit)
 {
     struct told *told = &view.told;
-    told->code = teco_where(&work->session, text, n, limit, work->room, ROOM, &told->made, &told->steps, &told->at, &told->calls);
+    work_run(work, text, n, limit, &(struct teco_stopper){0}, told);
     view.tail = told->made < TAIL ? told->made : TAIL;
     memcpy(view.typed, work->room + told->made - view.tail, view.tail);
 }

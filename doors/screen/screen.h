@@ -112,7 +112,7 @@ bool lines_are_counted(void);
 size_t lines_before(const struct teco *t, size_t place, size_t same);
 
 /* The page of a place of INPUT, from 1, or 0 where nothing is read. */
-size_t page_at(const struct bytes *input, size_t place);
+size_t page_at(const struct work *work, size_t place);
 
 /* PREVIEWS */
 

@@ -35,7 +35,7 @@ static enum fate edit_on_screen(struct screen *screen)
     if (!draw_begin())
         return POOR_TERMINAL;
     draw_anew();
-    if (screen->work.input.count > 0)
+    if (screen->work.size > 0)
         screen->still.told = work_do(&screen->work, (const uint8_t *)"Y", 1);
     else
         screen->still.told.at = TECO_NOWHERE;

@@ -4,3 +4,4 @@ mod AsFlag
 mod OpensFlag
 mod Filling
 mod Dropping
+mod OpenCalls

@@ -5,8 +5,8 @@ use Rattle.teco_core.specs.declared.code.Code.TheVariants.{Ntu, Ntr}
 use Rattle.teco_exec.specs.Runs.{Answers, RunsWithin}
 use Rattle.teco_session.specs.Answers.{is_unbegun, string_outcome}
 use Rattle.teco_session.specs.declared.request.Answer.{Answer}
-use Rattle.teco_session.specs.History.{undone, redone, rewound}
-use Rattle.teco_session.specs.Kept.{history_of, reverted, applied, cut_to}
+use Rattle.teco_session.specs.History.{undone, redone, rewound, without_undone}
+use Rattle.teco_session.specs.Kept.{history_of, reverted, applied, cut_to, forgotten}
 use Rattle.teco_session.specs.Step.{RunStep}
 use Rattle.teco_c.specs.Handle.{Kept}
 use Rattle.teco_c.specs.declared.answers.TheConstants.{CLOSED}
@@ -38,6 +38,11 @@ abbrev pub Rewinds : ℕ → Kept → ℕ → Kept → Type 0
 Rewinds n old code new =
     ((code ≡ 0) × (0 < old.cursor) × (new ≡ cut_to n old) × (history_of new ≡ rewound n (history_of old)))
     ⊎ ((code ≡ number_of Ntu) × (old.cursor ≡ 0) × (new ≡ old))
+
+-- It drops the undone strings, and nothing else changes.
+abbrev pub Forgets : Kept → ℕ → Kept → Type 0
+Forgets old code new =
+    (code ≡ 0) × (new ≡ forgotten old) × (history_of new ≡ without_undone (history_of old))
 
 -- A string runs on it with this answer and these typed bytes; where it is not begun, it is the same.
 abbrev pub RunsTo : ℕ → Kept → List ℕ → Answer → List ℕ → Kept → Type 0

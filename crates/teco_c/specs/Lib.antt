@@ -10,3 +10,4 @@ pub mod Places
 pub mod Looks
 pub mod Changes
 pub mod Tokens
+pub mod Frames

@@ -1,5 +1,5 @@
 -- What is told of what stands at a place of a text.
-use Rattle.std.specs.Prelude.{ℕ, List, [], length}
+use Rattle.std.specs.Prelude.{ℕ, List, []}
 use Rattle.teco_core.specs.Code.{number_of}
 use Rattle.teco_scan.specs.Scan.{Item, digits, bare, register, byte, text, set_text, replace, Instruction, step, mark, decide, tag, escape, Scanned, found, ended, fault}
 use Rattle.teco_scan.specs.declared.command.Bare.{Bare}

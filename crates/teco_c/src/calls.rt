@@ -4,7 +4,7 @@ ghost use Rattle.teco_core.specs.Code.{number_of};
 ghost use Rattle.teco_core.specs.declared.code.Code.TheVariants.{Mem};
 ghost use Rattle.teco_session.specs.Kept.{new_session};
 ghost use Rattle.teco_session.specs.declared.request.Answer.{Answer as RunAnswer};
-ghost use Rattle.teco_c.specs.Calls.{StaysClosed, Undoes, Redoes, Rewinds, RunsTo, depth_asked};
+ghost use Rattle.teco_c.specs.Calls.{StaysClosed, Undoes, Redoes, Rewinds, Forgets, RunsTo, depth_asked};
 ghost use Rattle.teco_c.specs.Handle.{SessionGoes};
 ghost use Rattle.teco_c.specs.Numbers.{answer_number, steps_of};
 
@@ -108,6 +108,19 @@ pub extern "C" fn teco_rewind(t: &mut Teco, n: u64) -> u8
         Ok(()) => 0,
         Err(_) => Code::Ntu.number(),
     }
+}
+
+/// Drops the undone strings, where there are any: 0. Takes no memory.
+#[unsafe(no_mangle)]
+pub extern "C" fn teco_forget(t: &mut Teco) -> u8
+    ensures open { SessionGoes t.old.value t.new.value (λ old new. Forgets old result new) }
+    ensures closed { StaysClosed t.old.value result t.new.value }
+{
+    let Some(session) = t.session() else {
+        return CLOSED;
+    };
+    session.forget();
+    0
 }
 
 /// Runs a string on an empty room, which keeps the room that it writes to.

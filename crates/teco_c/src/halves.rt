@@ -14,7 +14,7 @@ pub fn halves_from<'a>(before: &'a [u8], after: &'a [u8], from: usize) -> (&'a [
 }
 
 /// What is left of a text from a place on.
-fn bytes_from(bytes: &[u8], from: usize) -> &[u8]
+pub fn bytes_from(bytes: &[u8], from: usize) -> &[u8]
     ensures { result.now ≡ drop from bytes.now }
 {
     &bytes[from.min(bytes.len())..]

@@ -74,7 +74,7 @@ pub fn number_of_kind(kind: ChangeKind) -> u8
 }
 
 /// The byte that names a register, a capital letter or a digit.
-fn name_of(q: Reg) -> u8
+pub fn name_of(q: Reg) -> u8
     ensures name { result ≡ register_name q }
     ensures names_it { register_of result ≡ Some q }
 {

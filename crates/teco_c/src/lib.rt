@@ -7,6 +7,7 @@ mod answers;
 mod calls;
 mod changes;
 mod flag;
+mod frames;
 mod halves;
 mod handle;
 mod history;

@@ -37,7 +37,7 @@ fn told_at(place: &Result<Option<Place>, NoMemory>, size: usize) -> usize
 }
 
 /// How many calls are open there.
-fn told_calls(place: &Result<Option<Place>, NoMemory>) -> usize
+pub fn told_calls(place: &Result<Option<Place>, NoMemory>) -> usize
     ensures { result ≡ told_calls place.now }
 {
     match place {
@@ -123,7 +123,7 @@ pub extern "C" fn teco_where(
 }
 
 /// Runs a string over a room until a stopper, if it is open, asks to stop.
-fn run_asked(
+pub fn run_asked(
     session: &mut Session,
     text: &[u8],
     limit: u64,

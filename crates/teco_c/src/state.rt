@@ -4,7 +4,7 @@ ghost use Rattle.teco_core.specs.Ascii.{is_line_end};
 ghost use Rattle.teco_c.specs.Looks.{Tells, TellsIf, Says, Copies, CopiesIf, register_named_by, state_now, is_either};
 
 use crate::answers::{CLOSED, OUTSIDE};
-use crate::halves::{halves_between, halves_from, line_ends_in};
+use crate::halves::{bytes_from, halves_between, halves_from, line_ends_in};
 use crate::handle::Teco;
 use crate::room::{copy_front, copy_halves};
 use teco_core::{CaseMode, Reg};
@@ -92,6 +92,24 @@ pub extern "C" fn teco_output(t: &mut Teco, from: usize, room: &mut [u8], len: &
     let (before, after) = halves_from(own, rest, from);
     *len = before.len() + after.len();
     copy_halves(room, before, after);
+    0
+}
+
+/// Copies the input from a place on into the room, as much as there is room for, and writes how long it is from there. Takes no memory.
+#[unsafe(no_mangle)]
+pub extern "C" fn teco_input(t: &mut Teco, from: usize, room: &mut [u8], len: &mut usize) -> u8
+    ensures length { Tells t.old.value result len.new
+        (λ kept. length (drop from (state_now kept).input)) }
+    ensures input { Copies t.old.value room.old room.new (λ kept. drop from (state_now kept).input) }
+    ensures same { t.new ≡ t.old }
+{
+    let Some(session) = t.look() else {
+        *len = 0;
+        return CLOSED;
+    };
+    let left = bytes_from(session.editor().input(), from);
+    *len = left.len();
+    copy_front(room, left);
     0
 }
 

@@ -18,12 +18,12 @@ state_after-append s [] ys = refl
 state_after-append s (x ∷ xs) ys = state_after-append x.state xs ys
 
 -- The first notes are meant, and so are the others from the state after them.
-record Parts (s : State) (notes : List NotedString) (n : ℕ) : Type 0 where
+pub record Parts (s : State) (notes : List NotedString) (n : ℕ) : Type 0 where
   pub first : AreMeant s (take n notes)
   pub last : state_after s (take n notes) (length (take n notes)) ≡ state_after s notes n
   pub rest : AreMeant (state_after s notes n) (drop n notes)
 
-parts : (s : State) (notes : List NotedString) (n : ℕ) → AreMeant s notes → Parts s notes n
+pub parts : (s : State) (notes : List NotedString) (n : ℕ) → AreMeant s notes → Parts s notes n
 parts s notes zero m = record { first = tt; last = refl; rest = m }
 parts s [] (suc n) m = record { first = tt; last = refl; rest = tt }
 parts s (x ∷ notes) (suc n) m = let p = parts x.state notes n m.1 in record { first = (m.0, p.first); last = p.last; rest = p.rest }

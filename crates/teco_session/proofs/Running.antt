@@ -69,7 +69,7 @@ notes_split st (x ∷ xs) b ns =
     ∙ sym (append_assoc (done_notes st xs (body_back x.changes b) []) (n ∷ []) ns)
     ∙ ap (λ (l : List NotedString). l ++ ns) (sym (notes_split st xs (body_back x.changes b) (n ∷ [])))
 
-notes_cut : (st : List ℕ) (xs : List KeptString) (b : Body) (ns : List NotedString) (c : ℕ) → length xs ≡ c → take c (done_notes st xs b ns) ≡ done_notes st xs b []
+pub notes_cut : (st : List ℕ) (xs : List KeptString) (b : Body) (ns : List NotedString) (c : ℕ) → length xs ≡ c → take c (done_notes st xs b ns) ≡ done_notes st xs b []
 notes_cut st xs b ns c n =
     let none : List NotedString = [] in
     let size : length (done_notes st xs b none) ≡ length xs + length none = length-done_notes st xs b none in

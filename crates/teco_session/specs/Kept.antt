@@ -149,6 +149,10 @@ reverted s = turned_back s (string_at s (s.cursor - 1)) (s.cursor - 1)
 abbrev pub applied : KeptSession → KeptSession
 applied s = turned_forth s (string_at s s.cursor) s.cursor
 
+-- The undone strings are dropped, and the editor stays.
+abbrev pub forgotten : KeptSession → KeptSession
+forgotten s = record s { strings = take s.cursor s.strings }
+
 -- a string with its first `n` steps alone
 abbrev pub string_cut : ℕ → KeptString → KeptString
 string_cut n x = record { text = x.text; steps = n; changes = before n x.changes }

@@ -6,8 +6,8 @@ ghost use Rattle.teco_exec.specs.Telling.{TellsPlace};
 ghost use Rattle.teco_store.specs.State.{state_of};
 ghost use Rattle.teco_step.specs.Terminal.{Shows};
 ghost use Rattle.teco_session.specs.Answers.{answer_code, is_unbegun, outcome_of, string_outcome};
-ghost use Rattle.teco_session.specs.History.{IsHistory, IsWithinDepth, new_history, new_paged_history, note_at, present, redone, rewound, state_after, undone};
-ghost use Rattle.teco_session.specs.Kept.{IsSession, IsSmall, applied, cut_to, history_of, new_paged_session, new_session, reverted, string_at};
+ghost use Rattle.teco_session.specs.History.{IsHistory, IsWithinDepth, new_history, new_paged_history, note_at, present, redone, rewound, state_after, undone, without_undone};
+ghost use Rattle.teco_session.specs.Kept.{IsSession, IsSmall, applied, cut_to, forgotten, history_of, new_paged_session, new_session, reverted, string_at};
 ghost use Rattle.teco_session.specs.Step.{Step, RunStep, Reply, is_terminal_failure};
 ghost use Rattle.teco_session.specs.Play.{Play, ShowsAll, answers_of};
 
@@ -210,6 +210,14 @@ impl Session {
         self.entries.rewind(i, self.recorder.editor_mut(), n);
         self.entries.truncate(self.cursor);
         Ok(())
+    }
+
+    /// Drops the strings that are undone, so that none is left to redo. Takes no memory, also after an exit.
+    pub fn forget(&mut self)
+        ensures value { self.new ≡ forgotten self.old }
+        ensures history { history_of self.new ≡ without_undone (history_of self.old) }
+    {
+        self.entries.truncate(self.cursor);
     }
 
     /// Runs a command string under a limit of steps, and notes it, however it ends; strings that are undone are dropped, and with a depth

@@ -59,7 +59,22 @@ pub struct Place {
     pub calls: usize,
 }
 
+/// A call that is open: its place in the text that calls, and the name of the register whose text it calls.
+#[derive(Clone, Copy, Debug, PartialEq, Eq)]
+pub struct Call {
+    pub at: usize,
+    pub name: u8,
+}
+
+/// Where a command string stopped: the place of the command in the innermost text, and each call that is open, the latest first.
+#[derive(Clone, Debug, PartialEq, Eq)]
+pub struct Frames {
+    pub at: usize,
+    pub calls: Vec<Call>,
+}
+
 const SPLICE: u8 = 1;
+const MOST_CALLS: usize = 32;
 const MEM: u8 = 28;
 const END: u8 = 32;
 const NOT_BEGUN: u8 = 252;
@@ -108,6 +123,19 @@ impl Session {
         (outcome, (at != NOWHERE).then_some(Place { at, calls }))
     }
 
+    /// Runs a command string as [`Session::run_until`] does, and tells each call that is open where it stopped.
+    pub fn run_frames(&mut self, text: &[u8], limit: u64, room: usize, stopper: &Stopper) -> (Outcome, Option<Frames>) {
+        let (mut at, mut calls) = (NOWHERE, 0);
+        let mut open = [raw::Call { at: 0, name: 0 }; MOST_CALLS];
+        let outcome = ran(room, |typed, made, steps| unsafe {
+            raw::teco_frames(
+                &mut self.handle, text.as_ptr(), text.len(), limit, stopper.raw(), typed, room, made, steps, &mut at, &mut calls,
+                open.as_mut_ptr(), MOST_CALLS)
+        });
+        let calls = open.iter().take(calls).map(|call| Call { at: call.at, name: call.name }).collect();
+        (outcome, (at != NOWHERE).then_some(Frames { at, calls }))
+    }
+
     /// Goes back by a string. Asks for no memory.
     pub fn undo(&mut self) -> Result<(), Nothing> {
         turned(unsafe { raw::teco_undo(&mut self.handle) })
@@ -121,6 +149,11 @@ impl Session {
     /// Goes back to the state after the first `n` steps of the last string. Asks for no memory.
     pub fn rewind(&mut self, n: u64) -> Result<(), Nothing> {
         turned(unsafe { raw::teco_rewind(&mut self.handle, n) })
+    }
+
+    /// Drops the strings that are undone, so that none is left to redo. Asks for no memory.
+    pub fn forget(&mut self) {
+        unsafe { raw::teco_forget(&mut self.handle) };
     }
 
     /// How many strings are kept, undone ones too.
@@ -189,6 +222,12 @@ impl Session {
     /// The output so far.
     pub fn output(&self) -> Vec<u8> {
         self.copied(|at, room, size, length| unsafe { raw::teco_output(at, 0, room, size, length) })
+            .unwrap_or_default()
+    }
+
+    /// The input, as it was given to [`Session::open`].
+    pub fn input(&self) -> Vec<u8> {
+        self.copied(|at, room, size, length| unsafe { raw::teco_input(at, 0, room, size, length) })
             .unwrap_or_default()
     }
 

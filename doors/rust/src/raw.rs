@@ -12,6 +12,13 @@ pub struct Stopper {
     pub at: *mut c_void,
 }
 
+#[repr(C)]
+#[derive(Clone, Copy)]
+pub struct Call {
+    pub at: usize,
+    pub name: u8,
+}
+
 extern "C" {
     pub fn teco_open(t: *mut Handle, input: *const u8, n: usize, depth: usize) -> u8;
     pub fn teco_close(t: *mut Handle);
@@ -50,12 +57,28 @@ extern "C" {
         at: *mut usize,
         calls: *mut usize,
     ) -> u8;
+    pub fn teco_frames(
+        t: *mut Handle,
+        text: *const u8,
+        n: usize,
+        limit: u64,
+        s: *const Stopper,
+        room: *mut u8,
+        size: usize,
+        made: *mut usize,
+        steps: *mut u64,
+        at: *mut usize,
+        calls: *mut usize,
+        open: *mut Call,
+        most: usize,
+    ) -> u8;
     pub fn teco_stopper_open(here: *mut Stopper, there: *mut Stopper) -> u8;
     pub fn teco_stopper_close(s: *mut Stopper);
     pub fn teco_stop(s: *const Stopper, asked: u8) -> u8;
     pub fn teco_undo(t: *mut Handle) -> u8;
     pub fn teco_redo(t: *mut Handle) -> u8;
     pub fn teco_rewind(t: *mut Handle, n: u64) -> u8;
+    pub fn teco_forget(t: *mut Handle) -> u8;
     pub fn teco_token(
         text: *const u8,
         n: usize,
@@ -77,6 +100,7 @@ extern "C" {
     pub fn teco_text(t: *const Handle, from: usize, room: *mut u8, size: usize, length: *mut usize) -> u8;
     pub fn teco_lines(t: *const Handle, from: usize, to: usize, count: *mut usize) -> u8;
     pub fn teco_output(t: *const Handle, from: usize, room: *mut u8, size: usize, length: *mut usize) -> u8;
+    pub fn teco_input(t: *const Handle, from: usize, room: *mut u8, size: usize, length: *mut usize) -> u8;
     pub fn teco_number(t: *const Handle, name: u8, number: *mut i32) -> u8;
     pub fn teco_register(t: *const Handle, name: u8, room: *mut u8, size: usize, length: *mut usize) -> u8;
     pub fn teco_search(t: *const Handle, room: *mut u8, size: usize, length: *mut usize) -> u8;

@@ -1,6 +1,6 @@
 use std::thread;
 use std::time::Duration;
-use teco::{token, Change, Fault, Kind, Nothing, OpenError, Place, Session, Stop, Stopper, Token, TokenKind};
+use teco::{token, Call, Change, Fault, Frames, Kind, Nothing, OpenError, Place, Session, Stop, Stopper, Token, TokenKind};
 
 const LIMIT: u64 = 1_000_000;
 
@@ -18,6 +18,18 @@ fn a_string_is_run_undone_and_redone() {
     assert_eq!(session.redo(), Ok(()));
     assert_eq!(session.redo(), Err(Nothing));
     assert_eq!(session.text(), b"two\n");
+}
+
+#[test]
+fn undone_strings_are_forgotten() {
+    let mut session = Session::open(b"one", 0).unwrap();
+    session.run(b"Y", LIMIT, 0);
+    session.run(b"Ia\x1b", LIMIT, 0);
+    session.forget();
+    assert_eq!((session.strings(), session.undo(), session.undo()), (2, Ok(()), Ok(())));
+    session.forget();
+    assert_eq!((session.strings(), session.redo(), session.undo()), (0, Err(Nothing), Err(Nothing)));
+    assert_eq!((session.text(), session.input()), (b"".to_vec(), b"one".to_vec()));
 }
 
 #[test]
@@ -46,6 +58,17 @@ fn a_string_that_fails_tells_where() {
     assert_eq!(session.run_where(b"@^UA/J9J/ MA", LIMIT, 0).1, Some(Place { at: 10, calls: 1 }));
     assert_eq!(session.run_where(b"J", LIMIT, 0).1, None);
     assert_eq!(session.strings(), 3);
+}
+
+#[test]
+fn each_call_that_is_open_is_told() {
+    let (here, _there) = Stopper::pair().unwrap();
+    let mut session = Session::open(b"", 0).unwrap();
+    let (outcome, frames) = session.run_frames(b"@^UA/J9J/@^U7/ MA/J J M7", LIMIT, 0, &here);
+    assert_eq!(outcome.stop, Some(Stop::Code(20)));
+    assert_eq!(frames, Some(Frames { at: 2, calls: vec![Call { at: 1, name: b'A' }, Call { at: 22, name: b'7' }] }));
+    assert_eq!(session.run_frames(b" 9J", LIMIT, 0, &here).1, Some(Frames { at: 2, calls: vec![] }));
+    assert_eq!(session.run_frames(b"J", LIMIT, 0, &here).1, None);
 }
 
 #[test]

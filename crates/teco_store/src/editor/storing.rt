@@ -9,6 +9,13 @@ use std::alloc::Global;
 use teco_core::NoMemory;
 
 impl Editor {
+    /// The input, as it was given. Takes no memory.
+    pub fn input(&self) -> &[u8]
+        ensures { result.now ≡ (state_of self.now).input }
+    {
+        self.input.as_slice()
+    }
+
     // How many bytes of the output there are.
     pub(crate) fn shown(&self) -> usize
         ensures value { result ≡ self.now.body.output }
