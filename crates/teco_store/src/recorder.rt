@@ -157,7 +157,8 @@ impl Recorder {
         self.reserve_text(len)
     }
 
-    // Finds room for so many changes, and for a text of `len` bytes; and memory for `bytes` bytes that are to be noted, if they are not few.
+    // Finds room for so many changes, and for a text of `len` bytes; and memory for `bytes` bytes that are to be noted, where they
+    // are not few.
     fn find_held(
         &mut self,
         changes: usize,
