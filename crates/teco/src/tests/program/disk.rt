@@ -173,26 +173,26 @@ fn line_holds(rt: &HostRuntime, disk: &mut FileDisk<HostRuntime>, line: &str) ->
     }
 }
 
-/// The first line of a script that does not hold, on a disk of its own; empty where all do.
-fn fails_at<'a>(rt: &HostRuntime, script: &'a str) -> &'a str {
-    let mut disk = FileDisk::new(rt);
-    let mut failed = "";
+/// The first line of a script that does not hold on a disk; empty where all do.
+fn fails_at<'a>(rt: &HostRuntime, disk: &mut FileDisk<HostRuntime>, script: &'a str) -> &'a str {
     for line in script.split(LINE) {
-        if failed.is_empty() && is_row(line) && !line_holds(rt, &mut disk, line) {
-            failed = line;
+        if is_row(line) && !line_holds(rt, disk, line) {
+            return line;
         }
     }
-    failed
+    ""
 }
 
-/// The same in a folder that is new.
+/// The same on a disk of its own, in a folder that is new.
 fn fails_in_a_folder<'a>(rt: &HostRuntime, script: &'a str) -> &'a str {
     let _ = fs::remove_dir_all(rt, FOLDER);
-    let made = fs::create_dir(rt, FOLDER).is_ok();
-    let failed = fails_at(rt, script);
-    let gone = fs::remove_dir_all(rt, FOLDER).is_ok();
-    if failed.is_empty() && !(made && gone) {
+    if fs::create_dir(rt, FOLDER).is_err() {
         return "the folder";
+    }
+    let failed = fails_at(rt, &mut FileDisk::new(rt), script);
+    let is_gone = fs::remove_dir_all(rt, FOLDER).is_ok();
+    if failed.is_empty() && !is_gone {
+        return "the folder's end";
     }
     failed
 }
