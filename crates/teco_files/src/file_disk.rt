@@ -5,7 +5,7 @@ ghost use Rattle.teco_files.specs.Disk.{Counts};
 use crate::disk::Disk;
 use crate::draft::{give_mode, make_like, open_new};
 use crate::reader_source::ReaderSource;
-use crate::target::{Target, append, is_same_file, target_of};
+use crate::target::{Target, append, is_same_file, known, target_of};
 use std::fs::{Files, Metadata, OpenFile};
 use std::io::{ErrorKind, Write};
 use std::os::fd::AsFd;
@@ -35,15 +35,6 @@ fn open_known<R: Files>(rt: &R, name: &str) -> io::Result<(R::File, Metadata)> {
         return Err(io::Error::from(ErrorKind::IsADirectory));
     }
     Ok((file, about))
-}
-
-/// What is known of the file of this name, if it is there.
-fn known<R: Files>(rt: &R, name: &str) -> io::Result<Option<Metadata>> {
-    match fs::metadata(rt, name) {
-        Ok(about) => Ok(Some(about)),
-        Err(error) if error.kind() == ErrorKind::NotFound => Ok(None),
-        Err(error) => Err(error),
-    }
 }
 
 /// Whether it is the same file, of the same size, which nobody has written to since.

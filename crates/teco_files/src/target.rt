@@ -34,9 +34,12 @@ pub fn is_same_file(one: &Metadata, other: &Metadata) -> bool {
 
 /// Whether a file is the one that the program's own standard output goes to.
 fn is_standard_output<R: Files>(rt: &R, file: &Metadata) -> bool {
-    STANDARD_OUTPUT.iter().any(|name| {
-        matches!(fs::metadata(rt, *name), Ok(output) if is_same_file(&output, file))
-    })
+    for name in STANDARD_OUTPUT.iter() {
+        if matches!(fs::metadata(rt, *name), Ok(output) if is_same_file(&output, file)) {
+            return true;
+        }
+    }
+    false
 }
 
 /// The name at the end of the links that begin at this one; the name itself, if it is no link. There may be no file of it.
@@ -58,16 +61,41 @@ fn end_of_links<R: Files + AllocGlobal>(rt: &R, name: &str) -> io::Result<String
     Err(io::Error::from(ErrorKind::FilesystemLoop))
 }
 
-/// The target where a file is there. It has to be one that may be written. The file that standard output goes to is refused:
-/// replaced, it would lose what the program and its caller have put there.
-fn file_there<R: Files>(rt: &R, name: String) -> io::Result<Found> {
-    let file = OpenOptions::new().append(true).open(rt, name.as_str())?;
-    let replaced = file.metadata()?;
-    if is_standard_output(rt, &replaced) {
+/// What is known of the file of this name, if it is there.
+pub fn known<R: Files>(rt: &R, name: &str) -> io::Result<Option<Metadata>> {
+    match fs::metadata(rt, name) {
+        Ok(about) => Ok(Some(about)),
+        Err(error) if error.kind() == ErrorKind::NotFound => Ok(None),
+        Err(error) => Err(error),
+    }
+}
+
+/// What is known of a file that may be written. The file that standard output goes to is refused: replaced, it would lose what the
+/// program and its caller have put there.
+fn file_to_write<R: Files>(rt: &R, name: &str) -> io::Result<Metadata> {
+    let file = OpenOptions::new().append(true).open(rt, name)?;
+    let about = file.metadata()?;
+    if is_standard_output(rt, &about) {
         return Err(io::Error::from(ErrorKind::ResourceBusy));
     }
+    Ok(about)
+}
+
+/// The target where something has the name. A file has to be one that may be written.
+fn target_there<R: Files + AllocGlobal>(rt: &R, name: &str, about: &Metadata) -> io::Result<Found> {
+    if about.is_dir() {
+        return Err(io::Error::from(ErrorKind::IsADirectory));
+    }
+    if !about.is_file() {
+        return Ok(Found {
+            target: Target::Stream,
+            replaced: None,
+        });
+    }
+    let end = end_of_links(rt, name)?;
+    let replaced = file_to_write(rt, end.as_str())?;
     Ok(Found {
-        target: Target::File(name),
+        target: Target::File(end),
         replaced: Some(replaced),
     })
 }
@@ -78,18 +106,12 @@ fn file_there<R: Files>(rt: &R, name: String) -> io::Result<Found> {
 /// to, as `> link` does in a shell. The links are those that the system followed just before: one that it doesn't follow, as
 /// another user's in /tmp, is an error.
 pub fn target_of<R: Files + AllocGlobal>(rt: &R, name: &str) -> io::Result<Found> {
-    match fs::metadata(rt, name) {
-        Ok(about) if about.is_file() => file_there(rt, end_of_links(rt, name)?),
-        Ok(about) if about.is_dir() => Err(io::Error::from(ErrorKind::IsADirectory)),
-        Ok(_) => Ok(Found {
-            target: Target::Stream,
-            replaced: None,
-        }),
-        Err(error) if error.kind() == ErrorKind::NotFound => Ok(Found {
+    match known(rt, name)? {
+        Some(about) => target_there(rt, name, &about),
+        None => Ok(Found {
             target: Target::File(end_of_links(rt, name)?),
             replaced: None,
         }),
-        Err(error) => Err(error),
     }
 }
 

@@ -51,6 +51,16 @@ impl Model for Log {
     ghost view = { λ log. log.notes.items };
 }
 
+/// Whether one of these files has the name.
+fn is_among(files: &[(&str, &str)], name: &str) -> bool {
+    for file in files.iter() {
+        if file.0 == name {
+            return true;
+        }
+    }
+    false
+}
+
 impl Log {
     pub(super) fn new(alloc: Global) -> Log
         ensures { result ≡ [] }
@@ -94,7 +104,7 @@ impl Log {
         let mut held = true;
         for note in self.notes.iter() {
             let name = note.name.as_str();
-            held = held && (self.bytes(name).is_none() || names.iter().any(|file| file.0 == name));
+            held = held && (self.bytes(name).is_none() || is_among(names, name));
         }
         held
     }

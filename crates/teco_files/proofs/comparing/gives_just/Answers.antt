@@ -1,4 +1,4 @@
-use Rattle.std.proofs.Common.{◌≡◌, ◌∙◌, ◌++◌, ap, sym, take, append_assoc}
+use Rattle.std.proofs.Common.{◌∙◌, ◌++◌, ap, sym, take, append_assoc}
 use Rattle.teco_files.proofs.Sources.{Gives-more}
 use Rattle.teco_files.proofs.comparing.gives_just.Goals as goal
 
