@@ -5,6 +5,7 @@
  */
 #include "screen.h"
 #include <errno.h>
+#include <poll.h>
 #include <stdatomic.h>
 #include <stdlib.h>
 #include <string.h>
@@ -72,6 +73,12 @@ bool preview_next(struct request *request)
         return false;
     *request = shared->request;
     return true;
+}
+
+bool preview_is_awaited(void)
+{
+    struct pollfd link = {.fd = other_end, .events = POLLIN};
+    return poll(&link, 1, 0) != 0;
 }
 
 static void close_end(int *place)

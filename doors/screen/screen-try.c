@@ -80,6 +80,21 @@ static void take_back(struct work *work)
         (void)teco_undo(&work->session);
 }
 
+/* Readies the buffer of the copy for an insertion where the string ended, if no request waits. The first insertion at a place moves up to all
+   of the text, and in a copy of the process it copies as many pages: so it is made before the key that wants it. */
+static void ready_place(struct work *work)
+{
+    char text[40];
+    struct told told;
+    size_t length;
+    if (preview_is_awaited() || teco_length(&work->session, &length) != 0)
+        return;
+    int n = snprintf(text, sizeof text, "%zuJ@I/x/", view.pointer < length ? view.pointer : length);
+    work_run(work, (const uint8_t *)text, (size_t)n, FIRST_LIMIT, &(struct teco_stopper){0}, &told);
+    if (told.code != TECO_NOT_BEGUN && told.code != TECO_END)
+        (void)teco_undo(&work->session);
+}
+
 /* The string, under one limit after the other, until it ends by another reason. */
 static void try_string(struct work *work, const struct request *request, const uint8_t *text)
 {
@@ -99,6 +114,7 @@ static void try_string(struct work *work, const struct request *request, const u
         take_back(work);
         limit *= GROWS;
     } while (view.goes_on);
+    ready_place(work);
     (void)alarm(0);
 }
 

@@ -150,6 +150,9 @@ void preview_tell(const struct view *view);
 void preview_be_copy(struct work *work, const uint8_t *text);
 bool preview_next(struct request *request);
 
+/* Whether the next request has come. */
+bool preview_is_awaited(void);
+
 /* Milliseconds since a time. */
 double since(const struct timespec *time);
 
