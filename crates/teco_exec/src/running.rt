@@ -16,7 +16,7 @@ ghost use Rattle.teco_exec.specs.StringMeaning.{string_meaning};
 ghost use Rattle.teco_exec.specs.declared.flow.Exit.TheVariants as exit;
 
 use crate::blocks::{Block, Body};
-use crate::called::{SHORT_LIMIT, copy_short};
+use crate::called::{SHORT_LIMIT, Spare, copy_short};
 use crate::cursor::Cursor;
 use crate::dispatch::step;
 use crate::flow::{Exit, Flow, Steps};
@@ -165,7 +165,10 @@ fn run_watched<D: Desk, S: Stop, T: Terminal, W: Watch>(
     meaning_laws();
     let mut args = Args::new();
     let mut steps = Steps { done: 0, limit };
-    let exit = run_text(desk, text, 0, &mut args, &mut steps, stop, term, watch);
+    let mut spare = Spare::new();
+    let exit = run_text(
+        desk, text, 0, &mut args, &mut steps, &mut spare, stop, term, watch,
+    );
     Outcome {
         code: exit.code(),
         steps: steps.done,
@@ -180,6 +183,7 @@ fn run_text<D: Desk, S: Stop, T: Terminal, W: Watch>(
     depth: usize,
     args: &mut Args,
     steps: &mut Steps,
+    spare: &mut Spare,
     stop: &mut S,
     term: &mut T,
     watch: &mut W,
@@ -208,7 +212,18 @@ fn run_text<D: Desk, S: Stop, T: Terminal, W: Watch>(
         match step(desk, &mut cursor, steps, stop, term) {
             Flow::On => continue 'running,
             Flow::Call(q) => {
-                match run_called(desk, q, depth, &mut cursor, at, steps, stop, term, watch) {
+                match run_called(
+                    desk,
+                    q,
+                    depth,
+                    &mut cursor,
+                    at,
+                    steps,
+                    spare,
+                    stop,
+                    term,
+                    watch,
+                ) {
                     Exit::Return => continue 'running,
                     Exit::Over => return Exit::Over,
                     Exit::Fail(code) => return Exit::Fail(code),
@@ -235,7 +250,8 @@ fn run_text<D: Desk, S: Stop, T: Terminal, W: Watch>(
 /// Does the step that calls the text of this register, at the cursor of a text at this depth of calls. Where the text returns, the
 /// cursor goes on.
 ///
-/// A copy of it is run. A short one lies in the frame of this call, and the memory of a longer one is found before the step counts.
+/// A copy of it is run. A short one lies in the frame of this call. A longer one lies in the room that is spare, or memory is found for
+/// it before the step counts.
 #[cycle(run_text)]
 fn run_called<D: Desk, S: Stop, T: Terminal, W: Watch>(
     desk: &mut D,
@@ -244,6 +260,7 @@ fn run_called<D: Desk, S: Stop, T: Terminal, W: Watch>(
     cursor: &mut Cursor,
     at: usize,
     steps: &mut Steps,
+    spare: &mut Spare,
     stop: &mut S,
     term: &mut T,
     watch: &mut W,
@@ -284,14 +301,21 @@ fn run_called<D: Desk, S: Stop, T: Terminal, W: Watch>(
             cursor,
             at,
             steps,
+            spare,
             stop,
             term,
             watch,
         );
     }
     let alloc = *desk.registers().value(q).text.allocator();
-    match Vec::from_slice(alloc, text) {
-        Ok(copy) => run_copy(desk, q, &copy, depth, cursor, at, steps, stop, term, watch),
+    match spare.copy(alloc, text) {
+        Ok(copy) => {
+            let exit = run_copy(
+                desk, q, &copy, depth, cursor, at, steps, spare, stop, term, watch,
+            );
+            spare.keep(copy);
+            exit
+        }
         Err(_) => {
             watch.stood(steps.done, at, cursor);
             Exit::Stop(Code::Mem)
@@ -309,6 +333,7 @@ fn run_copy<D: Desk, S: Stop, T: Terminal, W: Watch>(
     cursor: &mut Cursor,
     at: usize,
     steps: &mut Steps,
+    spare: &mut Spare,
     stop: &mut S,
     term: &mut T,
     watch: &mut W,
@@ -341,7 +366,17 @@ fn run_copy<D: Desk, S: Stop, T: Terminal, W: Watch>(
         return Exit::Fail(Code::Pdo);
     }
     let args = &mut cursor.args;
-    match run_text(desk, called, depth + 1, args, steps, stop, term, watch) {
+    match run_text(
+        desk,
+        called,
+        depth + 1,
+        args,
+        steps,
+        spare,
+        stop,
+        term,
+        watch,
+    ) {
         Exit::Return => Exit::Return,
         Exit::Over => Exit::Over,
         Exit::Fail(code) => {
