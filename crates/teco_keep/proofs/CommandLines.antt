@@ -8,7 +8,7 @@ use Rattle.clap.specs.Kinds.{HasKind, IsAmong}
 use Rattle.clap.specs.Values.{kind_of}
 use Rattle.clap.specs.Matches.{ReadsOne, found_of}
 use Rattle.clap.specs.Built.{AddsArg}
-use Rattle.clap.specs.Walk.{Row, Rule, Text, rows_of, rule_of}
+use Rattle.clap.specs.Walk.{Rule, Text, rows_of, rule_of}
 use Rattle.clap.specs.Simple.{App, HasMatchesOf, app_of, is_simple, matches_of, with_rule}
 use Rattle.clap.specs.declared.builder.arg.Arg.{Arg}
 use Rattle.clap.specs.Faults.{fault_of, is_simple_and_free}

@@ -9,7 +9,6 @@ pub mod Draft
 pub mod Writing
 pub mod Refusing
 pub mod Seen
-pub mod Refusing
 pub mod Run
 pub mod Sources
 pub mod Checks
