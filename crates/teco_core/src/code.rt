@@ -77,6 +77,13 @@ pub enum Code {
     End,
 }
 
+/// The letters of each code, in the order of the codes.
+const NAMES: [&str; 32] = [
+    "ARG", "BNI", "CPQ", "DTB", "ICE", "IIA", "ILL", "IPA", "IQC", "IQN", "ISA", "ISS", "MRP",
+    "NAE", "NAQ", "NAU", "OVF", "DVZ", "PDO", "POP", "SNI", "SRH", "TAG", "UTC", "YCA", "BIG",
+    "LIM", "MEM", "TTY", "NTU", "NTR", "END",
+];
+
 impl Code {
     /// The number of the code, from 1 to 32.
     pub fn number(self) -> u8
@@ -98,40 +105,7 @@ impl Code {
         ensures letters { result.now ≡ letters_of self }
         ensures three { length result.now ≡ 3 }
     {
-        match self {
-            Code::Arg => "ARG",
-            Code::Bni => "BNI",
-            Code::Cpq => "CPQ",
-            Code::Dtb => "DTB",
-            Code::Ice => "ICE",
-            Code::Iia => "IIA",
-            Code::Ill => "ILL",
-            Code::Ipa => "IPA",
-            Code::Iqc => "IQC",
-            Code::Iqn => "IQN",
-            Code::Isa => "ISA",
-            Code::Iss => "ISS",
-            Code::Mrp => "MRP",
-            Code::Nae => "NAE",
-            Code::Naq => "NAQ",
-            Code::Nau => "NAU",
-            Code::Ovf => "OVF",
-            Code::Dvz => "DVZ",
-            Code::Pdo => "PDO",
-            Code::Pop => "POP",
-            Code::Sni => "SNI",
-            Code::Srh => "SRH",
-            Code::Tag => "TAG",
-            Code::Utc => "UTC",
-            Code::Yca => "YCA",
-            Code::Big => "BIG",
-            Code::Lim => "LIM",
-            Code::Mem => "MEM",
-            Code::Tty => "TTY",
-            Code::Ntu => "NTU",
-            Code::Ntr => "NTR",
-            Code::End => "END",
-        }
+        NAMES[self as usize]
     }
 }
 
