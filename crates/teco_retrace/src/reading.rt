@@ -1,0 +1,43 @@
+//! Reading files.
+ghost use Rattle.std.specs.Prelude.{◌≡◌, ◌≤◌, IfOk, vec_len, map};
+ghost use Rattle.teco_core.specs.declared.limits.TheConstants.{FILE_LIMIT};
+ghost use Rattle.teco_retrace.specs.Spelling.{escaped};
+
+use std::alloc::Global;
+use std::io;
+use std::io::ErrorKind;
+use teco_core::{ESC, FILE_LIMIT, NoMemory};
+use teco_files::{Disk, InputFault, read_input};
+
+/// Why a file is not read that could not be opened.
+fn fault_of(error: io::Error) -> InputFault {
+    match error.kind() {
+        ErrorKind::OutOfMemory => InputFault::Memory,
+        _ => InputFault::Read,
+    }
+}
+
+/// The bytes of a file, at most 2^30.
+pub fn read_file<D: Disk>(alloc: Global, name: &str, disk: &mut D) -> Result<Vec<u8>, InputFault>
+    ensures { IfOk result (λ bytes. vec_len bytes ≤ FILE_LIMIT) }
+{
+    let mut source = match disk.open(name) {
+        Ok(source) => source,
+        Err(error) => return Err(fault_of(error)),
+    };
+    read_input(alloc, &mut source, FILE_LIMIT)
+}
+
+/// The byte that a byte of a string stands for where a dollar sign is ESC.
+fn escaped(byte: u8) -> u8
+    ensures { result ≡ escaped byte }
+{
+    if byte == b'$' { ESC } else { byte }
+}
+
+/// The string with each dollar sign made ESC.
+pub fn with_escapes(alloc: Global, text: &[u8]) -> Result<Vec<u8>, NoMemory>
+    ensures { IfOk result (λ string. string.items ≡ map escaped text.now) }
+{
+    text.iter().copied().map(escaped).collect(alloc)
+}
