@@ -17,8 +17,8 @@ fn words_given(rt: &HostRuntime) -> io::Result<Vec<String>> {
 fn main(rt: HostRuntime) -> ExitCode {
     program(
         rt.alloc(),
-        words_given(&rt),
-        rt.stdin(),
+        &words_given(&rt),
+        &mut rt.reader(),
         &mut WriterTerminal::new(rt.stdout()),
         &mut WriterTerminal::new(rt.stderr()),
         &mut FileDisk::new(&rt),

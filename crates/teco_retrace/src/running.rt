@@ -8,14 +8,15 @@ use crate::reading::{read_file, with_escapes};
 use crate::serving::{Debugger, Served, serve};
 use std::alloc::Global;
 use std::io;
-use std::io::{BufReader, ErrorKind, Read};
+use std::io::{BufRead, ErrorKind};
 use std::process::ExitCode;
+use teco_core::NoMemory;
 use teco_files::Disk;
 use teco_step::Terminal;
 use teco_walk::Walk;
 
 /// What these words say.
-fn line_by(alloc: Global, words: io::Result<Vec<String>>) -> Result<Line, Failure> {
+fn line_by(alloc: Global, words: &io::Result<Vec<String>>) -> Result<Line, Failure> {
     match words {
         Ok(words) => line_of(alloc, words.as_slice()),
         Err(error) => match error.kind() {
@@ -54,33 +55,13 @@ fn input_of<D: Disk>(alloc: Global, line: &Line, disk: &mut D) -> Result<Vec<u8>
     }
 }
 
-/// The walk that the line asks for.
-fn walk_of<D: Disk>(alloc: Global, line: &Line, disk: &mut D) -> Result<Walk, Failure> {
+/// The debugger that the line asks for.
+fn debugger_of<D: Disk>(alloc: Global, line: &Line, disk: &mut D) -> Result<Debugger, Failure> {
     let text = text_of(alloc, line, disk)?;
     let input = input_of(alloc, line, disk)?;
-    Ok(Walk::new(input, text)?)
-}
-
-/// The debugger that the words ask for.
-fn debugger_of<D: Disk>(
-    alloc: Global,
-    words: io::Result<Vec<String>>,
-    disk: &mut D,
-) -> Result<Debugger, Failure> {
-    let line = line_by(alloc, words)?;
-    Ok(Debugger::new(walk_of(alloc, &line, disk)?, line.limit))
-}
-
-/// Serves the commands.
-fn served<C: Read + Drop, T: Terminal>(
-    alloc: Global,
-    debugger: &mut Debugger,
-    commands: C,
-    term: &mut T,
-) -> Served {
-    match BufReader::new(alloc, commands) {
-        Ok(mut commands) => serve(alloc, debugger, &mut commands, term),
-        Err(_) => Served::NoMemory,
+    match Walk::new(input, text) {
+        Ok(walk) => Ok(Debugger::new(walk, line.limit)),
+        Err(NoMemory) => Err(Failure::NoMemory),
     }
 }
 
@@ -94,27 +75,42 @@ fn ending(served: Served) -> Result<(), Failure> {
     }
 }
 
-fn debug<C: Read + Drop, T: Terminal, D: Disk>(
+/// Serves the commands over what the line asks for.
+fn debug<C: BufRead, T: Terminal, D: Disk>(
     alloc: Global,
-    words: io::Result<Vec<String>>,
-    commands: C,
+    line: &Line,
+    commands: &mut C,
     term: &mut T,
     disk: &mut D,
 ) -> Result<(), Failure> {
-    let mut debugger = debugger_of(alloc, words, disk)?;
-    ending(served(alloc, &mut debugger, commands, term))
+    match debugger_of(alloc, line, disk) {
+        Ok(mut debugger) => ending(serve(alloc, &mut debugger, commands, term)),
+        Err(failure) => Err(failure),
+    }
+}
+
+/// Does what these words say.
+fn debug_by<C: BufRead, T: Terminal, D: Disk>(
+    alloc: Global,
+    words: &io::Result<Vec<String>>,
+    commands: &mut C,
+    term: &mut T,
+    disk: &mut D,
+) -> Result<(), Failure> {
+    let line = line_by(alloc, words)?;
+    debug(alloc, &line, commands, term, disk)
 }
 
 /// Goes back and forth over what these words ask for, as the commands say, and gives the status.
-pub fn program<C: Read + Drop, T: Terminal, E: Terminal, D: Disk>(
+pub fn program<C: BufRead, T: Terminal, E: Terminal, D: Disk>(
     alloc: Global,
-    words: io::Result<Vec<String>>,
-    commands: C,
+    words: &io::Result<Vec<String>>,
+    commands: &mut C,
     term: &mut T,
     errors: &mut E,
     disk: &mut D,
 ) -> ExitCode {
-    match debug(alloc, words, commands, term, disk) {
+    match debug_by(alloc, words, commands, term, disk) {
         Ok(()) => ExitCode::from(0),
         Err(failure) => {
             tell(alloc, &failure, term, errors);
