@@ -86,9 +86,18 @@ fn splice(at: usize, gone: usize, came: usize) -> ChangeKind {
 fn kinds_are_shown(alloc: Global) -> bool {
     let mut session = Session::new(Vec::new(alloc));
     let mut term = MemoryTerminal::new(alloc);
-    let point = ChangeKind::Point;
-    let forth = [splice(0, 3, 0), splice(2, 0, 1), splice(2, 2, 0), point];
-    let back = [splice(0, 0, 3), splice(2, 1, 0), splice(2, 0, 2), point];
+    let forth = [
+        splice(0, 3, 0),
+        splice(2, 0, 1),
+        splice(2, 2, 0),
+        ChangeKind::Point,
+    ];
+    let back = [
+        splice(0, 0, 3),
+        splice(2, 1, 0),
+        splice(2, 0, 2),
+        ChangeKind::Point,
+    ];
     session.run(b"Iabc\x1b-DIxy\x1bJ\x1b", 100, &mut term) != Answer::NotBegun
         && are(&session, &forth)
         && session.undo().is_ok()

@@ -25,14 +25,25 @@ fn bytes_of(alloc: Global, long: Long) -> Vec<u8> {
 /// An input, a string over it, what that types, and the code by which it ends.
 type Ends<'a> = (Long<'a>, Long<'a>, &'a str, Option<Code>);
 
-fn ends(alloc: Global, row: &Ends) -> bool {
-    let input = bytes_of(alloc, row.0);
-    let text = bytes_of(alloc, row.1);
+fn ends_over<'a>(
+    alloc: Global,
+    input: &'a [u8],
+    text: &'a [u8],
+    typed: &'a str,
+    code: Option<Code>,
+) -> bool {
     let row = Row {
-        input: input.as_slice(),
-        ..Row::new(text.as_slice(), row.2, row.3)
+        input,
+        ..Row::new(text, typed, code)
     };
     holds(alloc, &row)
+}
+
+fn ends(alloc: Global, row: &Ends) -> bool {
+    let (input, text, typed, code) = *row;
+    let input = bytes_of(alloc, input);
+    let text = bytes_of(alloc, text);
+    ends_over(alloc, input.as_slice(), text.as_slice(), typed, code)
 }
 
 const NOTHING: Long = ("", 0, "");
