@@ -34,7 +34,7 @@ pub(crate) enum Coming {
     Fault(Code),
 }
 
-impl<'t> Cursor<'t> {
+impl<'t, 'a> Cursor<'t, 'a> {
     /// Passes a token that uses no step, or tells what comes.
     ///
     /// It is the token that was found here.
@@ -43,6 +43,7 @@ impl<'t> Cursor<'t> {
         requires read { found_in self.old.text.now found.now ≡ scan (drop self.old.at self.old.text.now) }
         requires place { IsFoundAt self.old.text.now self.old.at found.now }
         ensures text { self.new.text ≡ self.old.text }
+        ensures lent { self.new.args.ghost_name ≡ self.old.args.ghost_name }
         ensures comes { coming_of self.new found.now result ≡ machine.pass (cursor self.old) }
         ensures told { TellsComing self.old self.new found.now result }
     {
@@ -83,6 +84,7 @@ impl<'t> Cursor<'t> {
     fn pass_mark(&mut self, mark: BlockMark, to: usize) -> Coming
         requires { to ≤ length self.old.text.now }
         ensures text { self.new.text ≡ self.old.text }
+        ensures lent { self.new.args.ghost_name ≡ self.old.args.ghost_name }
         ensures comes { (found : Found)
             → coming_of self.new found result
             ≡ machine.pass_mark mark (drop to self.old.text.now) (cursor self.old) }
@@ -133,6 +135,7 @@ impl<'t> Cursor<'t> {
     fn pass_divider(&mut self, to: usize) -> Coming
         requires { to ≤ length self.old.text.now }
         ensures text { self.new.text ≡ self.old.text }
+        ensures lent { self.new.args.ghost_name ≡ self.old.args.ghost_name }
         ensures comes { (found : Found)
             → coming_of self.new found result
             ≡ machine.pass_divider (drop to self.old.text.now) (cursor self.old).blocks }
@@ -160,6 +163,7 @@ impl<'t> Cursor<'t> {
     fn pass_part_end(&mut self, to: usize) -> Coming
         requires { to ≤ length self.old.text.now }
         ensures text { self.new.text ≡ self.old.text }
+        ensures lent { self.new.args.ghost_name ≡ self.old.args.ghost_name }
         ensures comes { (found : Found)
             → coming_of self.new found result
             ≡ machine.pass_part_end (drop to self.old.text.now) (cursor self.old).blocks }
@@ -185,6 +189,7 @@ impl<'t> Cursor<'t> {
         requires within { to ≤ length self.old.text.now }
         requires opens { MayOpen block self.old.blocks }
         ensures text { self.new.text ≡ self.old.text }
+        ensures lent { self.new.args.ghost_name ≡ self.old.args.ghost_name }
         ensures moves { cursor_or_error self.new result
             ≡ machine.after_block_step (block_step_of block) (drop to self.old.text.now) (cursor self.old) }
         ensures finished { ResultFinishes result }
@@ -205,6 +210,7 @@ impl<'t> Cursor<'t> {
         requires within { to ≤ length self.old.text.now }
         requires few { length self.old.blocks < BLOCK_LIMIT }
         ensures text { self.new.text ≡ self.old.text }
+        ensures lent { self.new.args.ghost_name ≡ self.old.args.ghost_name }
         ensures moves { cursor_or_error self.new result
             ≡ machine.after_block_step machine.iterates (drop to self.old.text.now) (cursor self.old) }
         ensures finished { ResultFinishes result }
@@ -231,6 +237,7 @@ impl<'t> Cursor<'t> {
         requires within { to ≤ length self.old.text.now }
         requires few { length self.old.blocks < BLOCK_LIMIT }
         ensures text { self.new.text ≡ self.old.text }
+        ensures lent { self.new.args.ghost_name ≡ self.old.args.ghost_name }
         ensures moves { cursor_or_error self.new result
             ≡ machine.after_block_step (machine.decides test) (drop to self.old.text.now) (cursor self.old) }
         ensures finished { ResultFinishes result }
@@ -255,6 +262,7 @@ impl<'t> Cursor<'t> {
         requires within { to ≤ length self.old.text.now }
         requires ends { EndsTurn self.old.blocks }
         ensures text { self.new.text ≡ self.old.text }
+        ensures lent { self.new.args.ghost_name ≡ self.old.args.ghost_name }
         ensures moves { Ok (cursor self.new)
             ≡ machine.after_block_step machine.ends_turn (drop to self.old.text.now) (cursor self.old) }
     {
@@ -273,6 +281,7 @@ impl<'t> Cursor<'t> {
         requires within { start ≤ length self.old.text.now }
         requires few { length self.old.blocks < BLOCK_LIMIT }
         ensures text { self.new.text ≡ self.old.text }
+        ensures lent { self.new.args.ghost_name ≡ self.old.args.ghost_name }
         ensures enters { cursor self.new
             ≡ machine.inside_block (kind_of body) (turns_left body) (drop start self.old.text.now)
             (cursor self.old) }
@@ -286,6 +295,7 @@ impl<'t> Cursor<'t> {
         requires within { start ≤ length self.old.text.now }
         requires few { length self.old.blocks < BLOCK_LIMIT }
         ensures text { self.new.text ≡ self.old.text }
+        ensures lent { self.new.args.ghost_name ≡ self.old.args.ghost_name }
         ensures moves { cursor_or_error self.new result
             ≡ machine.after_counted_start 0 (drop start self.old.text.now) (cursor self.old) }
         ensures finished { ResultFinishes result }
@@ -301,6 +311,7 @@ impl<'t> Cursor<'t> {
         requires within { start ≤ length self.old.text.now }
         requires few { length self.old.blocks < BLOCK_LIMIT }
         ensures text { self.new.text ≡ self.old.text }
+        ensures lent { self.new.args.ghost_name ≡ self.old.args.ghost_name }
         ensures moves { cursor_or_error self.new result
             ≡ machine.after_first_part (drop start self.old.text.now) (cursor self.old) }
         ensures finished { ResultFinishes result }

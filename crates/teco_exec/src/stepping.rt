@@ -44,6 +44,7 @@ pub(crate) fn step_found<D: Desk, S: Stop, T: Terminal>(
     requires read { found_in cursor.old.text.now found.now ≡ scan (drop cursor.old.at cursor.old.text.now) }
     requires place { IsFoundAt cursor.old.text.now cursor.old.at found.now }
     ensures text { cursor.new.text ≡ cursor.old.text }
+    ensures lent { cursor.new.args.ghost_name ≡ cursor.old.args.ghost_name }
     ensures counts { CountsSteps (S.answered stop.old) (S.answered stop.new) (result ≡ flow.Stop Lim)
         steps.old steps.new }
     ensures advances { GoesOn result
@@ -89,6 +90,7 @@ fn token_steps<D: Desk, S: Stop, T: Terminal>(
 ) -> Flow
     requires { IsStepIn cursor.old.text.now token.now }
     ensures text { cursor.new.text ≡ cursor.old.text }
+    ensures lent { cursor.new.args.ghost_name ≡ cursor.old.args.ghost_name }
     ensures counts { CountsSteps (S.answered stop.old) (S.answered stop.new) (result ≡ flow.Stop Lim)
         steps.old steps.new }
     ensures more { GoesOn result → steps.old.done < steps.new.done }
@@ -131,6 +133,7 @@ fn token_step<D: Desk, S: Stop, T: Terminal>(
 ) -> Progress
     requires { IsStepIn cursor.old.text.now token.now }
     ensures text { cursor.new.text ≡ cursor.old.text }
+    ensures lent { cursor.new.args.ghost_name ≡ cursor.old.args.ghost_name }
     ensures counts { CountsSteps (S.answered stop.old) (S.answered stop.new)
         (result ≡ progress.Done (flow.Stop Lim)) steps.old steps.new }
     ensures more { Continues result → steps.old.done < steps.new.done }
@@ -160,7 +163,7 @@ fn token_step<D: Desk, S: Stop, T: Terminal>(
         cursor.text,
         token,
         work,
-        &mut cursor.args,
+        &mut *cursor.args,
         inside,
         before,
         term,
@@ -186,6 +189,7 @@ fn block_step<D: Desk, S: Stop>(
     requires within { to ≤ length cursor.old.text.now }
     requires opens { MayOpen block cursor.old.blocks }
     ensures text { cursor.new.text ≡ cursor.old.text }
+    ensures lent { cursor.new.args.ghost_name ≡ cursor.old.args.ghost_name }
     ensures counts { CountsSteps (S.answered stop.old) (S.answered stop.new) (result ≡ flow.Stop Lim)
         steps.old steps.new }
     ensures more { GoesOn result → steps.old.done < steps.new.done }
@@ -214,6 +218,7 @@ fn resume(cursor: &mut Cursor, token: &Token, next: Next) -> Progress
     requires finished { is_unfinished next ≡ false }
     requires no_call { (q : ℕ) → next ≡ Call q → ⊥ }
     ensures text { cursor.new.text ≡ cursor.old.text }
+    ensures lent { cursor.new.args.ghost_name ≡ cursor.old.args.ghost_name }
     ensures finished { ProgressFinishes result }
     ensures stays { ProgressStays cursor.old cursor.new result }
     ensures resumes { (s : State) (callers : List Caller) (now : Now)
