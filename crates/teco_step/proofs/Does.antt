@@ -9,7 +9,7 @@ use Rattle.teco_step.specs.declared.next.Next.TheVariants as next
 use Rattle.teco_step.specs.Step.{Attempt, Step, Action, done_by, End, go, Moment, settled}
 use Rattle.teco_step.specs.Families.{next_of, code_of_failure, tag_of, IsRefusal, ActsFrom, Scene, Types, Carries}
 use Rattle.teco_step.specs.Stepping.{Steps, end_of, is_unfinished, name_of, trail_after}
-use Rattle.teco_step.specs.Terminal.{Screen, Shows}
+use Rattle.teco_terminal.specs.Terminal.{Screen, Shows}
 use Rattle.teco_step.proofs.Ends.{MayEnd}
 use Rattle.teco_step.proofs.Shown.{Shows-nil}
 

@@ -17,8 +17,8 @@ use Rattle.teco_step.specs.declared.next.Next.{Next}
 use Rattle.teco_step.specs.declared.next.Next.TheVariants as next
 use Rattle.teco_step.specs.Step.{Attempt, Action, done_by, goes_on, End, go, types, Range}
 use Rattle.teco_step.specs.Stepping.{end_of, is_unfinished, is_unfinished_code}
-use Rattle.teco_step.specs.Terminal.{Screen, Shows, IsFrontOf}
-use Rattle.teco_step.specs.declared.terminal.Terminal.{Ghosts as TerminalView}
+use Rattle.teco_terminal.specs.Terminal.{Screen, Shows, IsFrontOf}
+use Rattle.teco_terminal.specs.declared.terminal.Terminal.{Ghosts as TerminalView}
 
 -- failures and their codes
 abbrev pub code_of_failure : Failure → Code

@@ -14,11 +14,11 @@ use crate::failure::Failure;
 use crate::joining::joined;
 use crate::next::Next;
 use crate::taking::{give, given, sum, takes_none, takes_one, takes_reach};
-use crate::terminal::Terminal;
 use crate::typing::show;
 use teco_core::{Args, Code, Level, Reg};
 use teco_scan::Modifiers;
 use teco_store::{Desk, part};
+use teco_terminal::Terminal;
 
 /// The length of the text of `q`, in bytes.
 fn length_of<D: Desk>(desk: &D, q: Reg) -> usize

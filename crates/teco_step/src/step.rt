@@ -21,12 +21,12 @@ use crate::page_searching::{search_pages, search_pages_quietly};
 use crate::pages::{exit, next_page, turn_pages, write_page};
 use crate::registers::{extract, get, increment, pop, push, register_value, set_number, set_text};
 use crate::searching::{search_and_replace, search_or_compare};
-use crate::terminal::Terminal;
 use crate::typing::{print, print_octal, type_byte, type_out, type_text, view};
 use crate::value::{arithmetic, at_level, byte, number, quantity};
 use teco_core::{Args, Code, Reg};
 use teco_scan::{Bare, Command, Item, RegisterCommand, Span, TextCommand, Token, TokenKind};
 use teco_store::Desk;
+use teco_terminal::Terminal;
 
 /// A step of a command without an operand.
 fn command_step<D: Desk, T: Terminal>(
