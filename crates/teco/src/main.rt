@@ -9,7 +9,7 @@ use std::process::ExitCode;
 use teco_files::{FileDisk, ReaderSource};
 use teco_line::{LineFault, fault_of_words, not_text};
 use teco_program::program;
-use teco_step::WriterTerminal;
+use teco_terminal::WriterTerminal;
 
 // The theorem ends here: that these are the program's words, streams and files is told by no contract.
 

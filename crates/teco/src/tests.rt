@@ -16,6 +16,7 @@ mod search;
 pub(crate) mod session;
 pub(crate) mod step;
 pub(crate) mod store;
+mod terminal;
 
 /// Ends the test where what is said of a text does not hold.
 pub(crate) fn assert_of(rt: &impl Abort, text: &str, holds: bool) {

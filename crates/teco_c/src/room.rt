@@ -1,9 +1,9 @@
 //! A terminal over the room of a caller, and what is copied into one.
 ghost use Rattle.std.specs.Prelude.{◌≡◌, ◌≤◌, ◌<◌, ◌+◌, ◌↔◌, ◌++◌, ◌∷◌, length, take, IsErr, Some};
-ghost use Rattle.teco_step.specs.Terminal.{Puts};
+ghost use Rattle.teco_terminal.specs.Terminal.{Puts};
 ghost use Rattle.teco_c.specs.Rooms.{filled};
 
-use teco_step::{Terminal, TerminalFault};
+use teco_terminal::{Terminal, TerminalFault};
 
 /// A terminal that writes to a room. A put that finds too little room left is a failure, and then nothing is written.
 ///

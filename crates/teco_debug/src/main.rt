@@ -5,7 +5,7 @@ use std::process::ExitCode;
 use std::{env, io};
 use teco_files::FileDisk;
 use teco_retrace::program;
-use teco_step::WriterTerminal;
+use teco_terminal::WriterTerminal;
 
 // That these are the program's words, streams and files is told by no contract.
 

@@ -24,7 +24,7 @@ use Rattle.teco_core.specs.Arguments.{Arguments, no_arguments}
 use Rattle.teco_core.specs.declared.arguments.Args.{Args}
 use Rattle.teco_core.specs.declared.code.Code.TheVariants.{Lim, Pdo}
 use Rattle.teco_store.specs.Trail.{Trail}
-use Rattle.teco_step.specs.Terminal.{Shows}
+use Rattle.teco_terminal.specs.Terminal.{Shows}
 use Rattle.teco_exec.specs.MachineLaws.{MachineMeans}
 use Rattle.teco_exec.specs.Places.{standing}
 use Rattle.teco_exec.specs.declared.flow.Exit.{Exit}

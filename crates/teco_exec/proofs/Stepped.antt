@@ -31,7 +31,7 @@ use Rattle.teco_store.specs.Trail.{Trail, moved, stepped}
 use Rattle.teco_step.specs.declared.next.Next.{Next}
 use Rattle.teco_step.specs.declared.next.Next.TheVariants as next
 use Rattle.teco_step.specs.Laws.{CallsByCalls}
-use Rattle.teco_step.specs.Terminal.{Screen}
+use Rattle.teco_terminal.specs.Terminal.{Screen}
 use Rattle.teco_exec.specs.Running.{Origin, Host, host, Continuation, RunGoesOn, ReachesContinuation, ReachesEnd, Reached, Reaches, over, Alike, Comes, sight, ready_run, config, at_call, at_register_call, at_token, at_block_step, reached_by_flow, FlowFinishes}
 use Rattle.teco_exec.specs.declared.flow.Flow.{Flow}
 use Rattle.teco_exec.specs.declared.flow.Flow.TheVariants.{On, Call, Return, Over, Fail, Stop}

@@ -21,8 +21,8 @@ use teco_scan::{
     Form, Found, bare_token, digits_token, end_found, escape_token, filler_end, lead, mark_token,
     register_token, tag_token, test_token, text_token, token_at,
 };
-use teco_step::Terminal;
 use teco_store::Desk;
+use teco_terminal::Terminal;
 
 /// Passes what comes at the cursor, where it uses no step, or else does its steps. What uses no step is passed one token at a time.
 ///

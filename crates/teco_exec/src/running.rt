@@ -6,7 +6,7 @@ ghost use Rattle.teco_core.specs.declared.code.Code.TheVariants.{Lim, Mem};
 ghost use Rattle.teco_scan.specs.Lists.{nodes};
 ghost use Rattle.teco_exec.specs.Places.{IsPlaceAfter, IsReadAt, Told, call_token};
 ghost use Rattle.teco_exec.specs.Telling.{IsLastPlace};
-ghost use Rattle.teco_step.specs.Terminal.{Shows};
+ghost use Rattle.teco_terminal.specs.Terminal.{Shows};
 ghost use Rattle.teco_exec.specs.Running.{RunLeadsAt, StandsFrom, Tells, code_left, at_beginning, at_register_call, reached_by_exit, reached_after_call, host};
 ghost use Rattle.teco_exec.specs.Tokens.{CountsSteps};
 ghost use Rattle.teco_exec.specs.View.{cursor as cursor_of};
@@ -26,8 +26,8 @@ use crate::stop::{Never, Stop};
 use crate::watch::{Unwatched, Watch, Watched};
 use std::alloc::Global;
 use teco_core::{Args, BLOCK_LIMIT, CALL_LIMIT, Code, NoMemory, Reg};
-use teco_step::Terminal;
 use teco_store::Desk;
+use teco_terminal::Terminal;
 
 /// Runs a command string on a desk and a terminal, for at most `limit` steps.
 ///

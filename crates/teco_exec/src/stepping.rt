@@ -5,7 +5,7 @@ ghost use Rattle.teco_scan.specs.Scan.{scan};
 ghost use Rattle.teco_scan.specs.Seen.{IsFoundAt, IsSpanIn, bytes_in, found_in};
 ghost use Rattle.teco_store.specs.State.{State};
 ghost use Rattle.teco_step.specs.Stepping.{IsStepIn, end_of, is_unfinished, is_unfinished_code, name_in, takes_nothing_in};
-ghost use Rattle.teco_step.specs.Terminal.{Screen};
+ghost use Rattle.teco_terminal.specs.Terminal.{Screen};
 ghost use Rattle.teco_step.specs.declared.next.Next.TheVariants.{Call, Error};
 ghost use Rattle.teco_exec.specs.CursorMoves.{inside_iteration, leave_is_next};
 ghost use Rattle.teco_exec.specs.Machine.{Caller, Now, after_step_end, ready_of};
@@ -25,8 +25,9 @@ use teco_core::{Code, Reg};
 use teco_scan::{
     Bare, Command, Found, Item, RegisterCommand, Span, TextCommand, Token, TokenKind, block_laws,
 };
-use teco_step::{Next, Terminal, Work, effect_laws, step_token};
+use teco_step::{Next, Work, effect_laws, step_token};
 use teco_store::Desk;
+use teco_terminal::Terminal;
 
 /// Passes what was found at the cursor, where it uses no step, or else does its steps.
 ///

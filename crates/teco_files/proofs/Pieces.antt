@@ -5,7 +5,7 @@ use Rattle.std.proofs.lemmas.Bool.{le-leb, lt-leb, leb-true, leb-false}
 use Rattle.std.proofs.Math.ListN.{drop_of_length-le}
 use Rattle.std.proofs.Math.Seq.{drop-nil, take-nil}
 use Rattle.std.proofs.lemmas.List.{take-append-drop, take-append-le, append-nil, append_assoc, take_min, drop_more, drop_min, drop-take, drop-drop, length-take}
-use Rattle.teco_step.specs.Terminal.{count_after}
+use Rattle.teco_terminal.specs.Terminal.{count_after}
 use Rattle.teco_files.specs.Source.{Gives}
 use Rattle.teco_files.specs.Pieces.{Pieces, before_others, given_by, left_by, pieces_at}
 

@@ -1,7 +1,7 @@
 -- Lemmas on what a source gives, read after read.
 use Rattle.std.proofs.Common.{◌≡◌, ◌≤◌, ◌+◌, ℕ, List, [], ◌++◌, length, take, Bool, false, Option, refl, ap, ◌∙◌, arith, subst, append-nil, length-append, length-take-le}
 use Rattle.std.proofs.KnownBytes.{Consumes-nil, Consumes-trans}
-use Rattle.teco_step.specs.Terminal.{count_after}
+use Rattle.teco_terminal.specs.Terminal.{count_after}
 use Rattle.teco_files.specs.Source.{Gives}
 
 pub Gives-nil : {S : Type 0} (coming : S → Option (List ℕ)) (bound : S → ℕ) (failures : S → ℕ) (s : S) → Gives coming bound failures s s [] false

@@ -1,7 +1,7 @@
 -- Files by their names, and how a call changes what they hold.
 use Rattle.std.specs.Prelude.{◌≡◌, ◌≢◌, ◌⊎◌, ◌++◌, ℕ, List, Option, Some, None, Result, Ok, Err, true, false}
 use Rattle.std.specs.String.{string_bytes}
-use Rattle.teco_step.specs.Terminal.{count_after}
+use Rattle.teco_terminal.specs.Terminal.{count_after}
 use Rattle.teco_files.specs.declared.target.Target.{Target}
 use Rattle.teco_files.specs.declared.target.Target.TheVariants as target
 

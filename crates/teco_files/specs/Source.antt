@@ -1,7 +1,7 @@
 -- What a read takes from a source.
 use Rattle.std.specs.Prelude.{◌≡◌, ℕ, ◌+◌, List, length, Option, Bool, true}
 use Rattle.std.specs.Io.KnownBytes.{Consumes, IsAtEnd}
-use Rattle.teco_step.specs.Terminal.{count_after}
+use Rattle.teco_terminal.specs.Terminal.{count_after}
 
 -- These bytes were given, off the front of what was still to come, where the source tells it, and off the
 -- bound; and the count rose if and only if the read failed.

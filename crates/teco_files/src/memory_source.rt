@@ -1,7 +1,7 @@
 //! A source over memory.
 ghost use Rattle.std.specs.Prelude.{◌≡◌, ◌≤◌, ◌<◌, ◌↔◌, ℕ, List, [], Some, drop, false, true, length, slice_index, min, take, vec_len, ◌⊎◌, IfOk, IsErr, OnErr, is_err};
 ghost use Rattle.std.specs.List.{concat};
-ghost use Rattle.teco_step.specs.Terminal.{count_after};
+ghost use Rattle.teco_terminal.specs.Terminal.{count_after};
 ghost use Rattle.teco_files.specs.Pieces.{given_by, left_by, pieces_at};
 
 use crate::source::{Source, SourceFault};

@@ -10,7 +10,7 @@ use Rattle.teco_program.specs.Refusing.{Tells}
 use Rattle.teco_program.specs.Run.{KeepsDisk, WritesOutput}
 use Rattle.teco_program.specs.Seen.{DiskSeen}
 use Rattle.teco_program.proofs.Doings.{kept_same}
-use Rattle.teco_step.specs.Terminal.{Puts, Screen, Shows}
+use Rattle.teco_terminal.specs.Terminal.{Puts, Screen, Shows}
 use Rattle.teco_keep.specs.Keeping.{EndsWritten, FailsToPut, FailsToWrite, MakesAndPuts, Output, PutsOut, output_to}
 use Rattle.teco_keep.specs.declared.fate.Fate.{Fate}
 use Rattle.teco_keep.specs.Ending.{IsFateOf, is_told, said, status_of, text_of}

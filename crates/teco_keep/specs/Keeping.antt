@@ -15,7 +15,7 @@ use Rattle.teco_program.specs.Run.{IsInput, IsStreamed, KeepsDisk, WritesOutput}
 use Rattle.teco_program.specs.Runs.{Host, KeepsStream}
 use Rattle.teco_program.specs.Seen.{DiskSeen, SourceView}
 use Rattle.teco_program.specs.Writing.{AddsDrafts, IsWriteError, IsWriting}
-use Rattle.teco_step.specs.Terminal.{IsFrontOf, Screen, Shows}
+use Rattle.teco_terminal.specs.Terminal.{IsFrontOf, Screen, Shows}
 use Rattle.teco_keep.specs.Ending.{IsFateOf, fate_without_input, is_told, said, spot_in, status_of, text_of}
 use Rattle.teco_keep.specs.Made.{IsMade}
 use Rattle.teco_keep.specs.declared.fate.Fate.{Fate}

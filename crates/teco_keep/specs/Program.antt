@@ -7,7 +7,7 @@ use Rattle.std.specs.declared.vec.Vec.{Vec}
 use Rattle.teco_line.specs.declared.line.LineFault.{LineFault}
 use Rattle.teco_program.specs.Refusing.{IsRefusedBy}
 use Rattle.teco_program.specs.Runs.{Host}
-use Rattle.teco_step.specs.Terminal.{Screen}
+use Rattle.teco_terminal.specs.Terminal.{Screen}
 use Rattle.teco_keep.specs.CommandLine.{SayNoLineIn, SayLineIn}
 use Rattle.teco_keep.specs.Ending.{said}
 use Rattle.teco_keep.specs.Keeping.{Keeps, View}

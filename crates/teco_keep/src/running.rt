@@ -25,7 +25,7 @@ use teco_core::NoMemory;
 use teco_files::{Disk, Source};
 use teco_line::{LineFault, is_standard_input, is_standard_output};
 use teco_program::refuse;
-use teco_step::Terminal;
+use teco_terminal::Terminal;
 
 /// What is told where memory is refused to the program.
 const NO_MEMORY: &[u8] = b"tecol: no memory\n";

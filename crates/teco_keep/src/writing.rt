@@ -3,13 +3,13 @@ ghost use Rattle.std.specs.Prelude.{IfErr, OnOk, false};
 ghost use Rattle.teco_keep.specs.Keeping.{FailsToPut, FailsToWrite};
 ghost use Rattle.teco_program.specs.Run.{WritesOutput};
 ghost use Rattle.teco_program.specs.Seen.{disk_seen, source_view};
-ghost use Rattle.teco_step.specs.Terminal.{Shows};
+ghost use Rattle.teco_terminal.specs.Terminal.{Shows};
 
 use crate::fate::{Fate, fate_of};
 use std::alloc::Global;
 use teco_files::Disk;
 use teco_program::write_output;
-use teco_step::{Terminal, TerminalFault};
+use teco_terminal::{Terminal, TerminalFault};
 
 /// Writes to a file, which has the bytes whole at each moment or is as it was. Says how that ended, if it failed.
 pub fn put_in_file<D: Disk>(

@@ -7,7 +7,7 @@ use Rattle.teco_files.specs.declared.input.InputFault.{InputFault}
 use Rattle.teco_files.specs.declared.input.InputFault.TheVariants as input
 use Rattle.teco_line.specs.declared.line.Line.{Line}
 use Rattle.teco_line.specs.StreamNames.{is_standard_output}
-use Rattle.teco_step.specs.Terminal.{Screen}
+use Rattle.teco_terminal.specs.Terminal.{Screen}
 use Rattle.teco_program.specs.Writing.{IsPut}
 use Rattle.teco_program.specs.Ending.{fate_without_input, output_of}
 use Rattle.teco_program.specs.Seen.{CommandsSeen, DiskSeen, InputSeen, OutputSeen, RunSeen, SourceView, TerminalSeen, run_seen, terminal_seen}

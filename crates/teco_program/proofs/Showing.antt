@@ -2,7 +2,7 @@
 use Rattle.std.proofs.Common.{ℕ, List, [], ◌∷◌, ◌++◌, Bool, true, false, Result, Ok, Err, refl, sym, ap, subst, append-nil, append_assoc, ◌∙◌}
 use Rattle.std.specs.Prelude.{◌≢◌, OnErr}
 use Rattle.std.proofs.KnownBytes.{Appends-trans, Appends-nil}
-use Rattle.teco_step.specs.Terminal.{IsFrontOf, Screen, Shows, Puts, count_after}
+use Rattle.teco_terminal.specs.Terminal.{IsFrontOf, Screen, Shows, Puts, count_after}
 use Rattle.teco_program.specs.Exchange.{BreaksOff}
 
 pub Shows-nil : (t : Screen) → Shows t t [] false

@@ -3,7 +3,7 @@ use Rattle.std.specs.Prelude.{◌≡◌, ◌⊎◌, ℕ, List, Bool, codes, fals
 use Rattle.teco_advice.specs.Strings.{is_faulty}
 use Rattle.teco_program.specs.Ending.{said}
 use Rattle.teco_program.specs.Refusing.{Tells}
-use Rattle.teco_step.specs.Terminal.{Screen, Shows}
+use Rattle.teco_terminal.specs.Terminal.{Screen, Shows}
 
 -- It says whether one of the strings of these commands has a fault, where some registers hold code.
 abbrev pub SaysWhether : List ℕ → Bool → Type 0

@@ -2,7 +2,7 @@
 use Rattle.std.specs.Prelude.{◌≡◌, ◌≢◌, ℕ, zero, suc, List, [], ◌∷◌, ◌++◌, Bool, true, false, ◌&&◌, not}
 use Rattle.std.specs.Prelude.{if◌then◌else◌}
 use Rattle.std.specs.Bool.{MatchBool}
-use Rattle.teco_step.specs.Terminal.{IsFrontOf}
+use Rattle.teco_terminal.specs.Terminal.{IsFrontOf}
 use Rattle.teco_session.specs.Answers.{is_refused}
 use Rattle.teco_session.specs.History.{History, present}
 use Rattle.teco_session.specs.Step.{Step, RunStep, Reply}

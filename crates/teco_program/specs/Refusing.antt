@@ -3,7 +3,7 @@ use Rattle.std.specs.Prelude.{◌≡◌, ◌⊎◌, ℕ, List, Option, Some, Non
 use Rattle.std.specs.String.{string_bytes}
 use Rattle.std.specs.declared.string.String.{String}
 use Rattle.std.specs.declared.alloc.Global.{Global}
-use Rattle.teco_step.specs.Terminal.{IsFrontOf, Screen, Shows}
+use Rattle.teco_terminal.specs.Terminal.{IsFrontOf, Screen, Shows}
 use Rattle.teco_line.specs.declared.line.LineFault.{LineFault}
 use Rattle.teco_line.specs.declared.line.LineFault.TheVariants as line_fault
 use Rattle.teco_line.specs.declared.line.refusal.RefusedAs.{RefusedAs}

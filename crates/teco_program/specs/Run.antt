@@ -5,7 +5,7 @@ use Rattle.std.specs.String.{string_bytes}
 use Rattle.std.specs.declared.string.String.{String}
 use Rattle.std.specs.declared.vec.Vec.{Vec}
 use Rattle.std.specs.declared.alloc.Global.{Global}
-use Rattle.teco_step.specs.Terminal.{IsFrontOf, Screen, Shows}
+use Rattle.teco_terminal.specs.Terminal.{IsFrontOf, Screen, Shows}
 use Rattle.teco_line.specs.CommandLine.{IsLine, IsLineFault}
 use Rattle.teco_line.specs.StreamNames.{is_standard_output}
 use Rattle.teco_line.specs.declared.line.LineFault.{LineFault}

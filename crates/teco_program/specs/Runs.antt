@@ -6,7 +6,7 @@ use Rattle.std.specs.declared.vec.Vec.{Vec}
 use Rattle.std.specs.declared.alloc.Global.{Global}
 use Rattle.std.specs.declared.io.Error.{Error}
 use Rattle.teco_files.specs.Disk.{Opens}
-use Rattle.teco_step.specs.Terminal.{Screen}
+use Rattle.teco_terminal.specs.Terminal.{Screen}
 use Rattle.teco_line.specs.Conflict.{has_more}
 use Rattle.teco_line.specs.StreamNames.{is_standard_input}
 use Rattle.teco_line.specs.declared.line.Commands.{Commands}

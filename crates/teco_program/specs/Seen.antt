@@ -4,7 +4,7 @@ use Rattle.std.specs.declared.io.Error.{Error}
 use Rattle.teco_files.specs.Disk.{Files}
 use Rattle.teco_files.specs.Source.{Gives, HasEnded}
 use Rattle.teco_program.specs.declared.fate.Fate.{Fate}
-use Rattle.teco_step.specs.Terminal.{Screen, Shows}
+use Rattle.teco_terminal.specs.Terminal.{Screen, Shows}
 
 -- how a source is seen at each of its states
 pub record SourceView (S : Type 0) : Type 0 where

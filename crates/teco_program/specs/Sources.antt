@@ -16,7 +16,7 @@ use Rattle.teco_program.specs.Seen.{SourceView}
 use Rattle.teco_program.specs.declared.sources.CommandsFault.{CommandsFault}
 use Rattle.teco_program.specs.declared.sources.CommandsFault.TheVariants.{Memory, Unread, Caret}
 use Rattle.teco_source.specs.Source.{commands_of}
-use Rattle.teco_step.specs.Terminal.{Screen}
+use Rattle.teco_terminal.specs.Terminal.{Screen}
 use Rattle.teco_telling.specs.Shown.{spot_shown}
 use Rattle.teco_telling.specs.Spot.{spot_of}
 use Rattle.teco_telling.specs.declared.spot.Spot.{Spot}

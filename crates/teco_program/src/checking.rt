@@ -17,7 +17,7 @@ use teco_files::{Disk, Source, WordSource};
 use teco_line::{Commands, Line};
 use teco_scan::Span;
 use teco_source::beginnings;
-use teco_step::{Terminal, TerminalFault};
+use teco_terminal::{Terminal, TerminalFault};
 
 /// What a check tells, and whether it found a fault.
 #[derive(Drop)]

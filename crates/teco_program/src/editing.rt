@@ -10,7 +10,7 @@ ghost use Rattle.teco_program.specs.Seen.{commands_seen, disk_seen, run_seen, so
 ghost use Rattle.teco_program.specs.Serving.{Serves};
 ghost use Rattle.teco_program.specs.Writing.{both};
 ghost use Rattle.teco_session.specs.Kept.{history_of};
-ghost use Rattle.teco_step.specs.Terminal.{Shows};
+ghost use Rattle.teco_terminal.specs.Terminal.{Shows};
 
 use crate::comparing::has_bytes;
 use crate::fate::{Fate, output_name};
@@ -25,8 +25,8 @@ use teco_core::{FILE_LIMIT, NoMemory};
 use teco_files::{Disk, Source, read_input};
 use teco_line::{Commands, Line, is_standard_input, is_standard_output};
 use teco_session::Session;
-use teco_step::{Terminal, TerminalFault};
 use teco_store::Desk;
+use teco_terminal::{Terminal, TerminalFault};
 
 /// How the program ends at an error of the system: by want of memory where the error is that, otherwise as given.
 pub fn fate_of(error: io::Error, other: Fate) -> Fate

@@ -8,9 +8,9 @@ use std::io::ErrorKind;
 use teco_core::{Code, NoMemory, TEXT_LIMIT, is_filler};
 use teco_line::Line;
 use teco_session::{Answer, Answered, Session};
-use teco_step::Terminal;
 use teco_store::{Change, ChangeKind, Desk};
 use teco_telling::{Limits, show_code, show_stop};
+use teco_terminal::Terminal;
 
 /// What is told of an exit before any page was read.
 const COPIED: &str = "EX came before any page was read: the input is copied\n";

@@ -3,7 +3,7 @@ ghost use Rattle.std.specs.Prelude.{◌≡◌};
 ghost use Rattle.teco_program.specs.Refusing.{IsRefusedBy, ShowsAsked, TellsText};
 
 use teco_line::{LineFault, Refusal, RefusedAs, refused_status};
-use teco_step::{Terminal, TerminalFault};
+use teco_terminal::{Terminal, TerminalFault};
 
 /// Tells the text of a refusal, or, where memory was refused for it, the text for that.
 fn tell<E: Terminal>(refusal: &Refusal, no_memory: &[u8], errors: &mut E)

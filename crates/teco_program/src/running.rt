@@ -22,7 +22,7 @@ use std::process::ExitCode;
 use teco_core::NoMemory;
 use teco_files::{Disk, Source, WordSource};
 use teco_line::{Commands, Line, LineFault, is_standard_input, line_of};
-use teco_step::Terminal;
+use teco_terminal::Terminal;
 
 /// What is told where memory is refused to the program.
 const NO_MEMORY: &[u8] = b"teco: no memory\n";

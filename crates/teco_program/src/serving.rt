@@ -5,7 +5,7 @@ ghost use Rattle.teco_program.specs.Exchange.{Exchange};
 ghost use Rattle.teco_program.specs.Held.{CutsOff, Emptied, HeldEnds};
 ghost use Rattle.teco_program.specs.Serving.{Exchanges, Serves};
 ghost use Rattle.teco_files.specs.Source.{Gives, HasEnded};
-ghost use Rattle.teco_step.specs.Terminal.{Shows};
+ghost use Rattle.teco_terminal.specs.Terminal.{Shows};
 
 use crate::exchange::{do_exchange, show_prompt};
 use crate::listener::Listens;
@@ -14,7 +14,7 @@ use crate::splitter::Splitter;
 use std::alloc::Global;
 use teco_files::{Source, SourceFault};
 use teco_session::Session;
-use teco_step::{Terminal, TerminalFault};
+use teco_terminal::{Terminal, TerminalFault};
 
 /// The most bytes of a piece.
 const PIECE: usize = 4096;

@@ -14,7 +14,7 @@ use crate::sources::{Parts, commands_given, decline};
 use std::alloc::Global;
 use teco_files::{Disk, Source, WordSource};
 use teco_line::Line;
-use teco_step::Terminal;
+use teco_terminal::Terminal;
 
 /// The worse of two statuses: 1, if a file or memory failed; else 2, if there was no exit; else 0.
 fn worse(a: u8, b: u8) -> u8

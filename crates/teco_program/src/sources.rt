@@ -17,8 +17,8 @@ use teco_core::NoMemory;
 use teco_files::{Disk, Source};
 use teco_line::{Commands, commands_on_pages, is_standard_input};
 use teco_source::{SourceFault, commands};
-use teco_step::Terminal;
 use teco_telling::{Spot, spot_of};
+use teco_terminal::Terminal;
 
 /// Why the commands of a line are not had.
 #[derive(Clone, Copy)]

@@ -4,7 +4,7 @@ use std::alloc::Global;
 use std::fmt::Write;
 use teco_core::NoMemory;
 use teco_files::InputFault;
-use teco_step::Terminal;
+use teco_terminal::Terminal;
 
 /// Why a run does not end well.
 #[derive(Drop)]

@@ -12,7 +12,7 @@ use std::io::{BufRead, ErrorKind};
 use std::process::ExitCode;
 use teco_core::NoMemory;
 use teco_files::Disk;
-use teco_step::Terminal;
+use teco_terminal::Terminal;
 use teco_walk::Walk;
 
 /// What these words say.

@@ -8,9 +8,9 @@ use std::fmt::Write;
 use std::io::BufRead;
 use teco_core::NoMemory;
 use teco_exec::Place;
-use teco_step::{Terminal, TerminalFault};
 use teco_store::Desk;
 use teco_telling::{Spot, spell, spot_of};
+use teco_terminal::{Terminal, TerminalFault};
 use teco_walk::{Command, Counted, Part, Plain, VERBS, VerbRow, Walk};
 
 /// Where the letters stand in a line of the help, and the texts after them.

@@ -4,14 +4,14 @@ ghost use Rattle.teco_store.specs.State.{IsSound, state_of};
 ghost use Rattle.teco_store.specs.Follows.{LeadsBack};
 ghost use Rattle.teco_exec.specs.Runs.{Runs, RunsWithin, is_tty, trail_of};
 ghost use Rattle.teco_exec.specs.StringMeaning.{string_meaning};
-ghost use Rattle.teco_step.specs.Terminal.{Shows};
+ghost use Rattle.teco_terminal.specs.Terminal.{Shows};
 ghost use Rattle.teco_session.specs.Kept.{HasRun};
 
 use std::alloc::Global;
 use teco_core::NoMemory;
 use teco_exec::{Outcome, Place, Stop, meaning_laws, run_until, run_where_until};
-use teco_step::Terminal;
 use teco_store::{Change, Desk, Editor, Recorder, editor_laws, record_laws};
+use teco_terminal::Terminal;
 
 /// What runs a string, and may tell more than how it ended.
 pub(crate) trait Runner {

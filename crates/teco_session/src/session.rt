@@ -4,7 +4,7 @@ ghost use Rattle.std.specs.Option.{ForSome};
 ghost use Rattle.teco_exec.specs.Runs.{RunsWithin};
 ghost use Rattle.teco_exec.specs.Telling.{TellsPlace};
 ghost use Rattle.teco_store.specs.State.{state_of};
-ghost use Rattle.teco_step.specs.Terminal.{Shows};
+ghost use Rattle.teco_terminal.specs.Terminal.{Shows};
 ghost use Rattle.teco_session.specs.Answers.{answer_code, is_unbegun, outcome_of, string_outcome};
 ghost use Rattle.teco_session.specs.History.{IsHistory, IsWithinDepth, new_history, new_paged_history, note_at, present, redone, rewound, state_after, undone, without_undone};
 ghost use Rattle.teco_session.specs.Kept.{IsSession, IsSmall, applied, cut_to, forgotten, history_of, new_paged_session, new_session, reverted, string_at};
@@ -21,8 +21,8 @@ use std::alloc::Global;
 use std::marker::Model;
 use teco_core::{DEPTH_LIMIT, FILE_LIMIT, NoMemory};
 use teco_exec::{Never, Stop};
-use teco_step::Terminal;
 use teco_store::{Change, Desk, Editor, Recorder, record_laws};
+use teco_terminal::Terminal;
 
 /// Command strings one after another, each of which can be undone and redone.
 ///

@@ -17,7 +17,7 @@ use Rattle.teco_step.specs.declared.next.Next.{Next}
 use Rattle.teco_step.specs.declared.next.Next.TheVariants as next
 use Rattle.teco_step.specs.Step.{Attempt, Action, End, Made, as_byte, done_by, edits, goes_on}
 use Rattle.teco_step.specs.Stepping.{end_of, is_unfinished}
-use Rattle.teco_step.specs.Families.{Acts, IsActed, IsRefusal, IsUnacted, Takes, failure_of, tag_of}
+use Rattle.teco_step.specs.Families.{ActsFrom, IsActed, IsRefusal, IsUnacted, Scene, Takes, failure_of, tag_of}
 
 -- A refusal refuses what was to follow;
 pub refusal_then : {A B : Type 0} (h : Failure) (r : Result A Code) (k : A → Result B Code) → IsRefusal h r → IsRefusal h (r >>= k)
@@ -78,22 +78,26 @@ pub memory_why : (d : Refused) (attempt : Attempt) → (IsBig (Err d) → ⊥) �
 memory_why Big attempt never = absurd (never refl)
 memory_why NoMemory attempt never = inr refl
 
+-- a scene of these parts
+abbrev pub scene_of : State → Arguments → (Trail → Type 0) → Scene
+scene_of s a F = record { state = s; arguments = a; follows = F }
+
 -- Nothing was done, by a refusal or for want of memory.
 pub acts_undone : (f : Action) (s new : State) (a : Arguments) (F G : Trail → Type 0) (h : Failure) (r : Result Next Failure) → IsErrAnd r (λ e. e ≡ h)
-    → IsRefusal h (done_by f s a) ⊎ (h ≡ failure.Memory) → new ≡ s → ((t : Trail) → F t → G t) → Acts f s new a a F G r
+    → IsRefusal h (done_by f s a) ⊎ (h ≡ failure.Memory) → new ≡ s → ((t : Trail) → F t → G t) → ActsFrom f (scene_of s a F) (scene_of new a G) r
 acts_undone f s new a F G h (Ok n) is why same keeps = absurd is
 acts_undone f s new a F G h (Err e) is why same keeps =
-    subst (λ e. IsUnacted (done_by f s a) s new a a F G e) (sym is) (record { why = why; state = same; arguments = refl; follows = keeps })
+    subst (λ e. IsUnacted (done_by f s a) (scene_of s a F) (scene_of new a G) e) (sym is) (record { why = why; state = same; arguments = refl; follows = keeps })
 
 -- It was refused before a call could change anything.
 pub acts_refused : (f : Action) (s : State) (a : Arguments) (F : Trail → Type 0) (h : Failure) (r : Result Next Failure) → IsErrAnd r (λ e. e ≡ h)
-    → IsRefusal h (done_by f s a) → Acts f s s a a F F r
+    → IsRefusal h (done_by f s a) → ActsFrom f (scene_of s a F) (scene_of s a F) r
 acts_refused f s a F h r is u = acts_undone f s s a F F h r is (inl u) refl (λ t b. b)
 
 -- A change was made, and the string goes on.
-pub goes_done : (s t new : State) (left args : Arguments) (made : Made) (load : ℕ) (F G : Trail → Type 0) → made ≡ edits t left load → new ≡ t → args ≡ left
-    → t.is_done ≡ s.is_done → ((u : Trail) → F u → G (moved u load)) → IsActed (goes_on s made) new args F G next.On
-goes_done s t new left args made load F G e same here done carries = record {
+pub goes_done : (s t new : State) (left args : Arguments) (made : Made) (load : ℕ) (before : Scene) (G : Trail → Type 0) → made ≡ edits t left load → new ≡ t → args ≡ left
+    → t.is_done ≡ s.is_done → ((u : Trail) → before.follows u → G (moved u load)) → IsActed (goes_on s made) before (scene_of new args G) next.On
+goes_done s t new left args made load before G e same here done carries = record {
   load = load;
   end = _;
   step = ap (goes_on s) e ∙ ap (λ d. goes_on (record s { is_done = d }) (edits t left load)) (sym done) ∙ ap (λ u. goes_on u (edits u left load)) (sym same) ∙ ap (λ b. goes_on new (edits new b load)) (sym here);
@@ -104,15 +108,15 @@ goes_done s t new left args made load F G e same here done carries = record {
 
 -- It was done by a call that does the same.
 pub acts_as : (f h : Action) (s new : State) (a left : Arguments) (F G : Trail → Type 0) (r : Result Next Failure) → done_by f s a ≡ done_by h s a
-    → Acts h s new a left F G r → Acts f s new a left F G r
-acts_as f h s new a left F G (Ok n) e d = subst (λ m. IsActed m new left F G n) (sym e) d
-acts_as f h s new a left F G (Err u) e d = subst (λ m. IsUnacted m s new a left F G u) (sym e) d
+    → ActsFrom h (scene_of s a F) (scene_of new left G) r → ActsFrom f (scene_of s a F) (scene_of new left G) r
+acts_as f h s new a left F G (Ok n) e d = subst (λ m. IsActed m (scene_of s a F) (scene_of new left G) n) (sym e) d
+acts_as f h s new a left F G (Err u) e d = subst (λ m. IsUnacted m (scene_of s a F) (scene_of new left G) u) (sym e) d
 
 -- the same of a step that ends as it says
-pub steers_done : (attempt : Attempt) (t new : State) (left args : Arguments) (load : ℕ) (end : End) (F G : Trail → Type 0) (n : Next)
+pub steers_done : (attempt : Attempt) (t new : State) (left args : Arguments) (load : ℕ) (end : End) (before : Scene) (G : Trail → Type 0) (n : Next)
     → attempt ≡ Ok (record { state = t; arguments = left; typed = []; load = load; end = end }) → new ≡ t → args ≡ left → end_of new (tag_of end) n ≡ end → is_unfinished n ≡ false
-    → ((u : Trail) → F u → G (moved u load)) → IsActed attempt new args F G n
-steers_done attempt t new left args load end F G n e same here leads finished carries = record {
+    → ((u : Trail) → before.follows u → G (moved u load)) → IsActed attempt before (scene_of new args G) n
+steers_done attempt t new left args load end before G n e same here leads finished carries = record {
   load = load;
   end = end;
   step = e ∙ ap (λ u. Ok (record { state = u; arguments = left; typed = []; load = load; end = end })) (sym same) ∙ ap (λ b. Ok (record { state = new; arguments = b; typed = []; load = load; end = end })) (sym here);
@@ -127,8 +131,9 @@ as_byte_in (pos n) low high = grind (arith, nat_tests)
 as_byte_in (negsuc n) low high = cc
 
 -- The arguments alone are left anew.
-pub goes_left : (s : State) (left args : Arguments) (made : Made) (F : Trail → Type 0) → made ≡ edits s left 0 → args ≡ left → IsActed (goes_on s made) s args F F next.On
-goes_left s left args made F e here = record {
+pub goes_left : (s : State) (a left args : Arguments) (made : Made) (F : Trail → Type 0) → made ≡ edits s left 0 → args ≡ left
+    → IsActed (goes_on s made) (scene_of s a F) (scene_of s args F) next.On
+goes_left s a left args made F e here = record {
   load = 0;
   end = _;
   step = ap (goes_on s) e ∙ ap (λ b. goes_on s (edits s b 0)) (sym here);

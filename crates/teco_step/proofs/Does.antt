@@ -1,5 +1,5 @@
 -- From what a function for a token did to what a step may do.
-use Rattle.std.proofs.Common.{◌≡◌, ◌∙◌, sym, ap, subst, refl, ℕ, [], true, false, Bool, Result, Ok, Err, inl, inr}
+use Rattle.std.proofs.Common.{◌≡◌, ◌∙◌, sym, ap, subst, refl, ℕ, [], true, false, Bool, Result, Ok, Err, ◌⊎◌, inl, inr}
 use Rattle.teco_scan.specs.Scan.{Item}
 use Rattle.teco_store.specs.State.{State}
 use Rattle.teco_store.specs.Trail.{Trail, moved}
@@ -7,9 +7,9 @@ use Rattle.teco_step.specs.declared.failure.Failure.{Failure}
 use Rattle.teco_step.specs.declared.next.Next.{Next}
 use Rattle.teco_step.specs.declared.next.Next.TheVariants as next
 use Rattle.teco_step.specs.Step.{Attempt, Step, Action, done_by, End, go, Moment, settled}
-use Rattle.teco_step.specs.Families.{next_of, code_of_failure, tag_of, IsRefusal, Acts, Types, Does, Carries}
+use Rattle.teco_step.specs.Families.{next_of, code_of_failure, tag_of, IsRefusal, ActsFrom, Scene, Types, Carries}
 use Rattle.teco_step.specs.Stepping.{Steps, end_of, is_unfinished, name_of, trail_after}
-use Rattle.teco_step.specs.Terminal.{Screen, Shows}
+use Rattle.teco_terminal.specs.Terminal.{Screen, Shows}
 use Rattle.teco_step.proofs.Ends.{MayEnd}
 use Rattle.teco_step.proofs.Shown.{Shows-nil}
 
@@ -29,13 +29,23 @@ still_shows old new same = subst (λ (w : Screen). Shows old w [] false) (sym sa
 finished : (n : Next) (t : Trail) (load : ℕ) → is_unfinished n ≡ false → trail_after n t load ≡ moved t load
 finished n t load is = ap (λ b. elim b as (λ _. Trail) [ true ↦ t | false ↦ moved t load ]) is
 
+-- what stands at a moment, with what the desk follows
+abbrev pub scene_at : Moment → (Trail → Type 0) → Scene
+scene_at m F = record { state = m.state; arguments = m.arguments; follows = F }
+
+-- what a function for any token did, from one moment to another
+abbrev pub DoesFrom : Action → Moment → Moment → (Trail → Type 0) → (Trail → Type 0) → Result Next Failure → Type 0
+DoesFrom f old new F G r =
+    ((new.screen ≡ old.screen) × ActsFrom f (scene_at old F) (scene_at new G) r)
+    ⊎ ((new.state ≡ old.state) × ((t : Trail) → F t → G t) × Types f old.state old.arguments new.arguments old.screen new.screen r)
+
 module _ (inside : Bool) (i : Item) (old new : Moment) where
   -- the step of what is meant
   abbrev pub meant : Attempt → Step
   meant attempt = settled old.state old.arguments attempt
 
   acts_steps : (attempt : Attempt) (F G : Trail → Type 0) (r : Result Next Failure) (f : Action) → attempt ≡ done_by f old.state old.arguments → MayEnd inside i (meant attempt).end
-      → new.screen ≡ old.screen → Acts f old.state new.state old.arguments new.arguments F G r → Steps (meant attempt) (name_of i) old new (next_of r)
+      → new.screen ≡ old.screen → ActsFrom f (scene_at old F) (scene_at new G) r → Steps (meant attempt) (name_of i) old new (next_of r)
   acts_steps attempt F G (Ok n) f is may same m =
       let e = is ∙ m.step in
       let may_here = subst (λ (u : Attempt). MayEnd inside i (meant u).end) e may in
@@ -81,7 +91,7 @@ module _ (inside : Bool) (i : Item) (old new : Moment) where
       })))
 
   pub does_steps : (f : Action) (F G : Trail → Type 0) (r : Result Next Failure) → MayEnd inside i (meant (done_by f old.state old.arguments)).end
-      → Does f old new F G r → Steps (meant (done_by f old.state old.arguments)) (name_of i) old new (next_of r)
+      → DoesFrom f old new F G r → Steps (meant (done_by f old.state old.arguments)) (name_of i) old new (next_of r)
   does_steps f F G r may (inl d) = acts_steps (done_by f old.state old.arguments) F G r f refl may d.0 d.1
   does_steps f F G r may (inr d) = types_steps (done_by f old.state old.arguments) r f refl d.0 d.2
 
@@ -96,7 +106,7 @@ module _ (inside : Bool) (i : Item) (old new : Moment) where
       (subst (λ (k : Attempt). G (trail_after (next.Error r.code) t (meant k).load)) (sym r.refused)
       (subst G (sym (finished (next.Error r.code) t 0 r.own)) (eases t g)))
 
-  pub does_follows : (f : Action) (F G : Trail → Type 0) (r : Result Next Failure) → Does f old new F G r → ((t : Trail) → G t → G (moved t 0))
+  pub does_follows : (f : Action) (F G : Trail → Type 0) (r : Result Next Failure) → DoesFrom f old new F G r → ((t : Trail) → G t → G (moved t 0))
       → (t : Trail) → F t → G (trail_after (next_of r) t (meant (done_by f old.state old.arguments)).load)
   does_follows f F G (Ok n) (inl (same, m)) eases t h =
       subst (λ (u : Attempt). G (trail_after n t (meant u).load)) (sym m.step) (subst G (sym (finished n t m.load m.finished)) (carries_on F G m.load m.carries eases t h))

@@ -2,7 +2,7 @@
 use Rattle.std.proofs.Common.{ℕ, ◌≢◌, List, [], ◌∷◌, ◌++◌, Bool, true, false, Result, Ok, Err, IsErr, refl, sym, ap, append_assoc, ◌∙◌}
 use Rattle.std.proofs.lemmas.Bool.{false≢true}
 use Rattle.std.proofs.KnownBytes.{Appends-trans, Appends-nil}
-use Rattle.teco_step.specs.Terminal.{IsFrontOf, Screen, Shows, Puts, count_after}
+use Rattle.teco_terminal.specs.Terminal.{IsFrontOf, Screen, Shows, Puts, count_after}
 
 pub Shows-nil : (w : Screen) → Shows w w [] false
 Shows-nil w = record { more = Appends-nil w.shown; count = refl }

@@ -1,5 +1,5 @@
--- What the effect of a token and what a terminal shows always say.
-use Rattle.std.specs.Prelude.{◌≡◌, ◌≢◌, ◌≤◌, List, [], ◌++◌, length, ℕ, Bool, true, false, ◌⊎◌, ℤ, int_le}
+-- What the effect of a token always says.
+use Rattle.std.specs.Prelude.{◌≡◌, ◌≢◌, ◌≤◌, List, [], ◌++◌, length, ℕ, true, false, ◌⊎◌, ℤ, int_le}
 use Rattle.teco_core.specs.declared.code.Code.{Code}
 use Rattle.teco_core.specs.declared.code.Code.TheVariants.{Srh}
 use Rattle.teco_core.specs.Arguments.{Arguments}
@@ -12,7 +12,6 @@ use Rattle.teco_step.specs.Effect.{effect}
 use Rattle.teco_step.specs.Load.{Moves}
 use Rattle.teco_step.specs.Step.{Setting, on, leave, go, call, again, out, stop}
 use Rattle.teco_step.specs.Stepping.{is_call, may_go_further, name_of, takes_nothing}
-use Rattle.teco_step.specs.Terminal.{Screen, Shows}
 use Rattle.teco_step.specs.declared.next.Work.{Work}
 
 -- An iteration is left only inside one.
@@ -66,12 +65,3 @@ abbrev pub ReadsWhatItInserts : Type 0
 ReadsWhatItInserts = (n : ℤ) (rest : List ℕ) → int_le lowest n ≡ true → int_le n highest ≡ true
     → begins_run rest ≡ false
     → numeral_at (signed_decimal n ++ rest) ≡ record { value = n; size = length (signed_decimal n) }
-
--- A screen that is left alone shows nothing more.
-abbrev pub StillShows : Type 0
-StillShows = (w : Screen) → Shows w w [] false
-
--- What is shown, and then more, is shown together.
-abbrev pub ShowsMore : Type 0
-ShowsMore = (a b c : Screen) (xs ys : List ℕ) (failed : Bool) → Shows a b xs false → Shows b c ys failed
-    → Shows a c (xs ++ ys) failed

@@ -10,7 +10,7 @@ use Rattle.teco_store.specs.State.{State}
 pub use Rattle.teco_step.specs.declared.next.Setting.{Setting}
 use Rattle.teco_step.specs.declared.next.Work.{Work}
 use Rattle.teco_step.specs.Line.{line}
-use Rattle.teco_step.specs.Terminal.{Screen}
+use Rattle.teco_terminal.specs.Terminal.{Screen}
 
 -- How a step ends.
 pub data End : Type 0 where

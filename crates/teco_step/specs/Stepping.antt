@@ -12,7 +12,7 @@ use Rattle.teco_scan.specs.declared.command.RegisterCommand.TheVariants as regis
 use Rattle.teco_scan.specs.declared.command.TextCommand.TheVariants as text_command
 use Rattle.teco_store.specs.State.{State}
 use Rattle.teco_store.specs.Trail.{Trail, moved}
-use Rattle.teco_step.specs.Terminal.{Shows, IsFrontOf}
+use Rattle.teco_terminal.specs.Terminal.{Shows, IsFrontOf}
 use Rattle.teco_scan.specs.declared.token.Token.{Token}
 use Rattle.teco_scan.specs.declared.token.TokenKind.{TokenKind}
 use Rattle.teco_scan.specs.declared.token.TokenKind.TheVariants as kind

@@ -1,5 +1,4 @@
 //! The case mode of searches.
-ghost use Rattle.teco_core.specs.ArgumentsView.{arguments};
 ghost use Rattle.teco_step.specs.Case as case;
 ghost use Rattle.teco_step.specs.Families.{Acts, Takes};
 ghost use Rattle.teco_step.specs.Step.{goes};
@@ -23,9 +22,7 @@ fn mode_of(n: i32) -> Result<CaseMode, Failure>
 
 /// `n^X` lets searches tell the cases of a letter apart, or not.
 pub(crate) fn set_case<D: Desk>(desk: &mut D, args: &mut Args) -> Result<Next, Failure>
-    ensures { Acts (goes case.set_case) (D.state desk.old) (D.state desk.new) (arguments args.old)
-        (arguments args.new)
-        (D.follows desk.old) (D.follows desk.new) result }
+    ensures { Acts D.Desk (goes case.set_case) (desk.old, args.old) (desk.new, args.new) result }
 {
     let mode = mode_of(takes_one(args, Code::Arg)?)?;
     desk.set_case(mode)?;

@@ -1,7 +1,6 @@
 //! Commands that leave an iteration, jump, or run a text. They change no state and take no memory, and one that is not
 //! done keeps the arguments.
 ghost use Rattle.std.specs.Prelude.{◌≡◌, Err};
-ghost use Rattle.teco_core.specs.ArgumentsView.{arguments};
 ghost use Rattle.teco_step.specs.Control as control;
 ghost use Rattle.teco_step.specs.Families.{Acts};
 ghost use Rattle.teco_step.specs.Step.{steers};
@@ -20,9 +19,8 @@ pub(crate) fn leave_or_not<D: Desk>(
     inside: bool,
     args: &mut Args,
 ) -> Result<Next, Failure>
-    ensures does { Acts (steers (control.leave_or_not inside)) (D.state desk.now) (D.state desk.now)
-        (arguments args.old) (arguments args.new)
-        (D.follows desk.now) (D.follows desk.now) result }
+    ensures does { Acts D.Desk (steers (control.leave_or_not inside))
+        (desk.now, args.old) (desk.now, args.new) result }
     ensures no_memory { result ≡ Err Memory → ⊥ }
 {
     let n = takes_one_or(args, truth(desk.last_result()))?;
@@ -38,9 +36,8 @@ pub(crate) fn leave_or_not<D: Desk>(
 
 /// `Oname$` goes on after the tag of the name that the token has.
 pub(crate) fn jump_to<D: Desk>(desk: &D, name: &[u8], args: &mut Args) -> Result<Next, Failure>
-    ensures does { Acts (steers (control.jump_to name.now)) (D.state desk.now) (D.state desk.now)
-        (arguments args.old) (arguments args.new)
-        (D.follows desk.now) (D.follows desk.now) result }
+    ensures does { Acts D.Desk (steers (control.jump_to name.now))
+        (desk.now, args.old) (desk.now, args.new) result }
     ensures no_memory { result ≡ Err Memory → ⊥ }
 {
     takes_none(args)?;
@@ -51,8 +48,8 @@ pub(crate) fn jump_to<D: Desk>(desk: &D, name: &[u8], args: &mut Args) -> Result
 /// `Mq` runs the text of q. The arguments stay.
 #[inline(always)]
 pub(crate) fn run_register<D: Desk>(desk: &D, q: Reg, args: &Args) -> Result<Next, Failure>
-    ensures does { let s = D.state desk.now in let a = arguments args.now in
-        Acts (steers (control.run_register q)) s s a a (D.follows desk.now) (D.follows desk.now) result }
+    ensures does { Acts D.Desk (steers (control.run_register q))
+        (desk.now, args.now) (desk.now, args.now) result }
     ensures no_memory { result ≡ Err Memory → ⊥ }
 {
     Ok(Next::Call(q))

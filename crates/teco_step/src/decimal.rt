@@ -1,6 +1,5 @@
 //! Numbers in decimal that are in the buffer.
 ghost use Rattle.std.specs.Prelude.{◌≡◌, ◌+◌, ◌≤◌, ◌++◌, length, drop, min};
-ghost use Rattle.teco_core.specs.ArgumentsView.{arguments};
 ghost use Rattle.teco_core.specs.Number.{digits_value, fitted};
 ghost use Rattle.teco_scan.specs.Scan.{begins_run, run_of};
 ghost use Rattle.teco_step.specs.Decimal as decimal;
@@ -95,9 +94,7 @@ fn fit(value: i64) -> Result<i32, Failure>
 
 /// Gives the number at the pointer, which goes after it. Where it can't be given, neither the arguments nor the pointer change.
 fn read_number<D: Desk>(desk: &mut D, args: &mut Args) -> Result<Next, Failure>
-    ensures { Acts (goes decimal.read_number) (D.state desk.old) (D.state desk.new) (arguments args.old)
-        (arguments args.new)
-        (D.follows desk.old) (D.follows desk.new) result }
+    ensures { Acts D.Desk (goes decimal.read_number) (desk.old, args.old) (desk.new, args.new) result }
 {
     let (before, after) = desk.halves();
     let written = numeral_at(before, after, desk.pointer());
@@ -110,9 +107,7 @@ fn read_number<D: Desk>(desk: &mut D, args: &mut Args) -> Result<Next, Failure>
 
 /// `n\` inserts n in decimal.
 fn insert_number<D: Desk>(desk: &mut D, args: &mut Args) -> Result<Next, Failure>
-    ensures { Acts (goes decimal.insert_number) (D.state desk.old) (D.state desk.new) (arguments args.old)
-        (arguments args.new)
-        (D.follows desk.old) (D.follows desk.new) result }
+    ensures { Acts D.Desk (goes decimal.insert_number) (desk.old, args.old) (desk.new, args.new) result }
 {
     let n = takes_one(args, Code::Arg)?;
     let pointer = desk.pointer();
@@ -122,9 +117,7 @@ fn insert_number<D: Desk>(desk: &mut D, args: &mut Args) -> Result<Next, Failure
 
 /// `\` inserts a number where the level has one, and else reads the one at the pointer.
 pub(crate) fn decimal<D: Desk>(desk: &mut D, args: &mut Args) -> Result<Next, Failure>
-    ensures { Acts (goes decimal.decimal) (D.state desk.old) (D.state desk.new) (arguments args.old)
-        (arguments args.new)
-        (D.follows desk.old) (D.follows desk.new) result }
+    ensures { Acts D.Desk (goes decimal.decimal) (desk.old, args.old) (desk.new, args.new) result }
 {
     match args.level() {
         Level::Value(_) => insert_number(desk, args),

@@ -1,6 +1,5 @@
 //! Commands that move the pointer or change the text. One that is not done keeps the arguments and the state.
 ghost use Rattle.std.specs.Prelude.{◌+◌, ◌≤◌, length};
-ghost use Rattle.teco_core.specs.ArgumentsView.{arguments};
 ghost use Rattle.teco_step.specs.Editing as editing;
 ghost use Rattle.teco_step.specs.Families.{Acts, Takes};
 ghost use Rattle.teco_step.specs.Step.{goes};
@@ -18,9 +17,7 @@ use teco_store::Desk;
 /// Puts the pointer at a place. The command is then done, and its arguments gone.
 fn move_to<D: Desk>(desk: &mut D, place: usize, args: &mut Args) -> Result<Next, Failure>
     requires { place ≤ length (D.state desk.old).text }
-    ensures { Acts (goes (editing.moves place)) (D.state desk.old) (D.state desk.new) (arguments args.old)
-        (arguments args.new)
-        (D.follows desk.old) (D.follows desk.new) result }
+    ensures { Acts D.Desk (goes (editing.moves place)) (desk.old, args.old) (desk.new, args.new) result }
 {
     desk.point(place)?;
     args.clear();
@@ -29,9 +26,7 @@ fn move_to<D: Desk>(desk: &mut D, place: usize, args: &mut Args) -> Result<Next,
 
 /// `nJ`: the pointer to n, or to 0.
 pub(crate) fn jump<D: Desk>(desk: &mut D, args: &mut Args) -> Result<Next, Failure>
-    ensures { Acts (goes editing.jump) (D.state desk.old) (D.state desk.new) (arguments args.old)
-        (arguments args.new)
-        (D.follows desk.old) (D.follows desk.new) result }
+    ensures { Acts D.Desk (goes editing.jump) (desk.old, args.old) (desk.new, args.new) result }
 {
     let n = takes_one_or(args, 0)?;
     let place = place_in(desk, Code::Pop, i64::from(n))?;
@@ -40,9 +35,7 @@ pub(crate) fn jump<D: Desk>(desk: &mut D, args: &mut Args) -> Result<Next, Failu
 
 /// `nC`: the pointer forward by n, or by 1.
 pub(crate) fn forward<D: Desk>(desk: &mut D, args: &mut Args) -> Result<Next, Failure>
-    ensures { Acts (goes editing.forward) (D.state desk.old) (D.state desk.new) (arguments args.old)
-        (arguments args.new)
-        (D.follows desk.old) (D.follows desk.new) result }
+    ensures { Acts D.Desk (goes editing.forward) (desk.old, args.old) (desk.new, args.new) result }
 {
     let n = takes_one_or(args, 1)?;
     let place = place_after(desk, Code::Pop, n)?;
@@ -51,9 +44,7 @@ pub(crate) fn forward<D: Desk>(desk: &mut D, args: &mut Args) -> Result<Next, Fa
 
 /// `nR`: the pointer back by n, or by 1.
 pub(crate) fn back<D: Desk>(desk: &mut D, args: &mut Args) -> Result<Next, Failure>
-    ensures { Acts (goes editing.back) (D.state desk.old) (D.state desk.new) (arguments args.old)
-        (arguments args.new)
-        (D.follows desk.old) (D.follows desk.new) result }
+    ensures { Acts D.Desk (goes editing.back) (desk.old, args.old) (desk.new, args.new) result }
 {
     let n = takes_one_or(args, 1)?;
     let place = place_before(desk, n)?;
@@ -62,9 +53,7 @@ pub(crate) fn back<D: Desk>(desk: &mut D, args: &mut Args) -> Result<Next, Failu
 
 /// `nL`: the pointer to line n, or to the next one.
 pub(crate) fn to_line<D: Desk>(desk: &mut D, args: &mut Args) -> Result<Next, Failure>
-    ensures { Acts (goes editing.to_line) (D.state desk.old) (D.state desk.new) (arguments args.old)
-        (arguments args.new)
-        (D.follows desk.old) (D.follows desk.new) result }
+    ensures { Acts D.Desk (goes editing.to_line) (desk.old, args.old) (desk.new, args.new) result }
 {
     let n = takes_one_or(args, 1)?;
     let place = line_from(desk, n);
@@ -81,9 +70,8 @@ pub(crate) fn put<D: Desk>(
     args: &mut Args,
 ) -> Result<Next, Failure>
     requires { at + deleted ≤ length (D.state desk.old).text }
-    ensures { Acts (goes (editing.puts at deleted bytes.now)) (D.state desk.old) (D.state desk.new)
-        (arguments args.old) (arguments args.new)
-        (D.follows desk.old) (D.follows desk.new) result }
+    ensures { Acts D.Desk (goes (editing.puts at deleted bytes.now))
+        (desk.old, args.old) (desk.new, args.new) result }
 {
     desk.splice(at, deleted, bytes, None)?;
     args.clear();
@@ -92,9 +80,7 @@ pub(crate) fn put<D: Desk>(
 
 /// `nD`: deletes n characters after the pointer, or -n before it; one where it takes none.
 pub(crate) fn delete<D: Desk>(desk: &mut D, args: &mut Args) -> Result<Next, Failure>
-    ensures { Acts (goes editing.delete) (D.state desk.old) (D.state desk.new) (arguments args.old)
-        (arguments args.new)
-        (D.follows desk.old) (D.follows desk.new) result }
+    ensures { Acts D.Desk (goes editing.delete) (desk.old, args.old) (desk.new, args.new) result }
 {
     let n = takes_one_or(args, 1)?;
     let range = rising(desk.pointer(), place_after(desk, Code::Dtb, n)?);
@@ -103,9 +89,7 @@ pub(crate) fn delete<D: Desk>(desk: &mut D, args: &mut Args) -> Result<Next, Fai
 
 /// `nK` deletes what n lines reach, and `m,nK` the range. The pointer goes where they began.
 pub(crate) fn kill<D: Desk>(desk: &mut D, args: &mut Args) -> Result<Next, Failure>
-    ensures { Acts (goes editing.kill) (D.state desk.old) (D.state desk.new) (arguments args.old)
-        (arguments args.new)
-        (D.follows desk.old) (D.follows desk.new) result }
+    ensures { Acts D.Desk (goes editing.kill) (desk.old, args.old) (desk.new, args.new) result }
 {
     let range = takes_reach(desk, args)?;
     put(desk, range.start, range.end - range.start, &[], args)
@@ -129,9 +113,7 @@ fn inserted_byte(text: &[u8], taken: Taken) -> Result<Option<u8>, Failure>
 
 /// `Itext$` and `nI$`.
 pub(crate) fn insert<D: Desk>(desk: &mut D, text: &[u8], args: &mut Args) -> Result<Next, Failure>
-    ensures { Acts (goes (editing.insert text.now)) (D.state desk.old) (D.state desk.new) (arguments args.old)
-        (arguments args.new)
-        (D.follows desk.old) (D.follows desk.new) result }
+    ensures { Acts D.Desk (goes (editing.insert text.now)) (desk.old, args.old) (desk.new, args.new) result }
 {
     let pointer = desk.pointer();
     match inserted_byte(text, taken(args)?)? {
@@ -157,9 +139,8 @@ pub(crate) fn insert_tab<D: Desk>(
     text: &[u8],
     args: &mut Args,
 ) -> Result<Next, Failure>
-    ensures { Acts (goes (editing.insert_tab text.now)) (D.state desk.old) (D.state desk.new)
-        (arguments args.old) (arguments args.new)
-        (D.follows desk.old) (D.follows desk.new) result }
+    ensures { Acts D.Desk (goes (editing.insert_tab text.now))
+        (desk.old, args.old) (desk.new, args.new) result }
 {
     untaken(taken(args)?)?;
     let bytes = joined(desk, b"\t", text)?;

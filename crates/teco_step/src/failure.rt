@@ -4,10 +4,10 @@ ghost use Rattle.teco_step.specs.Families as family;
 ghost use Rattle.teco_step.specs.declared.failure.Failure.TheVariants as failure;
 
 use crate::next::Next;
-use crate::terminal::TerminalFault;
 use std::alloc::AllocError;
 use teco_core::Code;
 use teco_store::Refused;
+use teco_terminal::TerminalFault;
 
 /// Why a step was not done.
 #[derive(Clone, Copy)]

@@ -1,5 +1,5 @@
-//! What the effect of a token and what a terminal shows always say.
-ghost use Rattle.teco_step.specs.Laws.{CallsByCalls, ChangesOrTypes, ErrorsChangeNothing, GoesFurtherIfItMay, JumpsToItsName, LeavesInside, LoadIsWhatMoves, OnlyExits, ReadsWhatItInserts, ShowsMore, StillShows, ValueGoesOn};
+//! What the effect of a token always says.
+ghost use Rattle.teco_step.specs.Laws.{CallsByCalls, ChangesOrTypes, ErrorsChangeNothing, GoesFurtherIfItMay, JumpsToItsName, LeavesInside, LoadIsWhatMoves, OnlyExits, ReadsWhatItInserts, ValueGoesOn};
 
 use teco_search::{occurrences, search_texts};
 
@@ -22,10 +22,4 @@ pub fn effect_laws()
 /// Numbers in the buffer. It does nothing: its clause is a law.
 pub fn decimal_laws()
     ensures back { ReadsWhatItInserts }
-{}
-
-/// What a terminal shows, one put after another. It does nothing: its clauses are laws.
-pub fn screen_laws()
-    ensures nothing { StillShows }
-    ensures more { ShowsMore }
 {}

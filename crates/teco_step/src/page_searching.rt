@@ -45,9 +45,8 @@ fn run_out<D: Desk>(
     left: i32,
     args: &mut Args,
 ) -> Result<Next, Failure>
-    ensures { Acts (steers (paging.runs_out text.now setting left)) (D.state desk.old) (D.state desk.new)
-        (arguments args.old) (arguments args.new)
-        (D.follows desk.old) (D.follows desk.new) result }
+    ensures { Acts D.Desk (steers (paging.runs_out text.now setting left))
+        (desk.old, args.old) (desk.new, args.new) result }
 {
     if desk.is_input_over() {
         return fail(desk, text, setting, args);
@@ -67,9 +66,8 @@ fn search_page<D: Desk>(
     setting: Setting,
     args: &mut Args,
 ) -> Result<Next, Failure>
-    ensures { Acts (steers (paging.search_page text.now setting)) (D.state desk.old) (D.state desk.new)
-        (arguments args.old) (arguments args.new)
-        (D.follows desk.old) (D.follows desk.new) result }
+    ensures { Acts D.Desk (steers (paging.search_page text.now setting))
+        (desk.old, args.old) (desk.new, args.new) result }
 {
     let n = wanted(setting.work, args)?;
     let pattern = sought(desk, text)?;
@@ -81,9 +79,8 @@ fn search_page<D: Desk>(
 
 /// Turns the page. The search of the next one is a further step.
 fn turn_on<D: Desk>(desk: &mut D, left: i32, args: &mut Args) -> Result<Next, Failure>
-    ensures { Acts (steers (λ s _. paging.goes_to_page with_page_turned left s)) (D.state desk.old)
-        (D.state desk.new) (arguments args.old) (arguments args.new)
-        (D.follows desk.old) (D.follows desk.new) result }
+    ensures { Acts D.Desk (steers (λ s _. paging.goes_to_page with_page_turned left s))
+        (desk.old, args.old) (desk.new, args.new) result }
 {
     desk.turn_page()?;
     args.clear();
@@ -92,9 +89,8 @@ fn turn_on<D: Desk>(desk: &mut D, left: i32, args: &mut Args) -> Result<Next, Fa
 
 /// Reads the next page. Where the buffer isn't empty it is [`Code::Yca`]. The search of the page is a further step.
 fn read_on<D: Desk>(desk: &mut D, left: i32, args: &mut Args) -> Result<Next, Failure>
-    ensures { Acts (steers (λ s _. paging.goes_to_page with_page_read left s)) (D.state desk.old)
-        (D.state desk.new) (arguments args.old) (arguments args.new)
-        (D.follows desk.old) (D.follows desk.new) result }
+    ensures { Acts D.Desk (steers (λ s _. paging.goes_to_page with_page_read left s))
+        (desk.old, args.old) (desk.new, args.new) result }
 {
     if text_length(desk) > 0 {
         return Err(Failure::Command(Code::Yca));
@@ -111,9 +107,8 @@ pub(crate) fn search_pages<D: Desk>(
     setting: Setting,
     args: &mut Args,
 ) -> Result<Next, Failure>
-    ensures { Acts (steers (paging.search_pages with_page_turned text.now setting)) (D.state desk.old)
-        (D.state desk.new) (arguments args.old) (arguments args.new)
-        (D.follows desk.old) (D.follows desk.new) result }
+    ensures { Acts D.Desk (steers (paging.search_pages with_page_turned text.now setting))
+        (desk.old, args.old) (desk.new, args.new) result }
 {
     match setting.work {
         Some(work) if !work.search => turn_on(desk, work.left, args),
@@ -128,9 +123,8 @@ pub(crate) fn search_pages_quietly<D: Desk>(
     setting: Setting,
     args: &mut Args,
 ) -> Result<Next, Failure>
-    ensures { Acts (steers (paging.search_pages with_page_read text.now setting)) (D.state desk.old)
-        (D.state desk.new) (arguments args.old) (arguments args.new)
-        (D.follows desk.old) (D.follows desk.new) result }
+    ensures { Acts D.Desk (steers (paging.search_pages with_page_read text.now setting))
+        (desk.old, args.old) (desk.new, args.new) result }
 {
     match setting.work {
         Some(work) if !work.search => read_on(desk, work.left, args),

@@ -15,9 +15,7 @@ use teco_store::Desk;
 
 /// `Y`: the next page replaces the buffer. Where the buffer isn't empty it is [`Code::Yca`].
 pub(crate) fn next_page<D: Desk>(desk: &mut D, args: &mut Args) -> Result<Next, Failure>
-    ensures { Acts (goes pages.next_page) (D.state desk.old) (D.state desk.new) (arguments args.old)
-        (arguments args.new)
-        (D.follows desk.old) (D.follows desk.new) result }
+    ensures { Acts D.Desk (goes pages.next_page) (desk.old, args.old) (desk.new, args.new) result }
 {
     takes_none(args)?;
     if text_length(desk) > 0 {
@@ -30,9 +28,7 @@ pub(crate) fn next_page<D: Desk>(desk: &mut D, args: &mut Args) -> Result<Next, 
 
 /// `A`: the next page comes after the text of the buffer, and the pointer stays. With no input left nothing changes.
 pub(crate) fn append_page<D: Desk>(desk: &mut D, args: &mut Args) -> Result<Next, Failure>
-    ensures { Acts (goes pages.append_page) (D.state desk.old) (D.state desk.new) (arguments args.old)
-        (arguments args.new)
-        (D.follows desk.old) (D.follows desk.new) result }
+    ensures { Acts D.Desk (goes pages.append_page) (desk.old, args.old) (desk.new, args.new) result }
 {
     takes_none(args)?;
     desk.append_page()?;
@@ -76,9 +72,7 @@ pub(crate) fn turn_pages<D: Desk>(
     work: Option<Work>,
     args: &mut Args,
 ) -> Result<Next, Failure>
-    ensures { Acts (steers (pages.turn_pages work)) (D.state desk.old) (D.state desk.new) (arguments args.old)
-        (arguments args.new)
-        (D.follows desk.old) (D.follows desk.new) result }
+    ensures { Acts D.Desk (steers (pages.turn_pages work)) (desk.old, args.old) (desk.new, args.new) result }
 {
     let n = pages_left(work, args)?;
     desk.turn_page()?;
@@ -95,9 +89,8 @@ fn write_out<D: Desk>(
 ) -> Result<Next, Failure>
     requires ordered { range.start ≤ range.end }
     requires within { range.end ≤ length (D.state desk.old).text }
-    ensures { Acts (goes (pages.writes range.start range.end form_feed)) (D.state desk.old) (D.state desk.new)
-        (arguments args.old) (arguments args.new)
-        (D.follows desk.old) (D.follows desk.new) result }
+    ensures { Acts D.Desk (goes (pages.writes range.start range.end form_feed))
+        (desk.old, args.old) (desk.new, args.new) result }
 {
     desk.write_out(range.start, range.end, form_feed)?;
     args.clear();
@@ -106,9 +99,7 @@ fn write_out<D: Desk>(
 
 /// `PW` writes the buffer and a form feed, and `m,nPW` the range alone.
 pub(crate) fn write_page<D: Desk>(desk: &mut D, args: &mut Args) -> Result<Next, Failure>
-    ensures { Acts (goes pages.write_page) (D.state desk.old) (D.state desk.new) (arguments args.old)
-        (arguments args.new)
-        (D.follows desk.old) (D.follows desk.new) result }
+    ensures { Acts D.Desk (goes pages.write_page) (desk.old, args.old) (desk.new, args.new) result }
 {
     match taken(args)? {
         Taken::None => {
@@ -125,9 +116,7 @@ pub(crate) fn write_page<D: Desk>(desk: &mut D, args: &mut Args) -> Result<Next,
 
 /// `EX`: the page in the buffer and the rest of the input are written, and the session is done.
 pub(crate) fn exit<D: Desk>(desk: &mut D, args: &mut Args) -> Result<Next, Failure>
-    ensures { Acts (steers pages.exit) (D.state desk.old) (D.state desk.new) (arguments args.old)
-        (arguments args.new)
-        (D.follows desk.old) (D.follows desk.new) result }
+    ensures { Acts D.Desk (steers pages.exit) (desk.old, args.old) (desk.new, args.new) result }
 {
     takes_none(args)?;
     desk.finish()?;

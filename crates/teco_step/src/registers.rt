@@ -6,7 +6,7 @@ ghost use Rattle.teco_core.specs.Register.{content};
 ghost use Rattle.teco_core.specs.declared.limits.TheConstants.{TEXT_LIMIT};
 ghost use Rattle.teco_step.specs.Families.{Acts, Does, Types};
 ghost use Rattle.teco_step.specs.Registers as registers;
-ghost use Rattle.teco_step.specs.Step.{at, goes};
+ghost use Rattle.teco_step.specs.Step.{goes};
 ghost use Rattle.teco_step.specs.declared.failure.Failure.TheVariants.{Memory};
 
 use crate::edit::put;
@@ -14,11 +14,11 @@ use crate::failure::Failure;
 use crate::joining::joined;
 use crate::next::Next;
 use crate::taking::{give, given, sum, takes_none, takes_one, takes_reach};
-use crate::terminal::Terminal;
 use crate::typing::show;
 use teco_core::{Args, Code, Level, Reg};
 use teco_scan::Modifiers;
 use teco_store::{Desk, part};
+use teco_terminal::Terminal;
 
 /// The length of the text of `q`, in bytes.
 fn length_of<D: Desk>(desk: &D, q: Reg) -> usize
@@ -46,9 +46,8 @@ pub(crate) fn register_value<D: Desk>(
     q: Reg,
     args: &mut Args,
 ) -> Result<Next, Failure>
-    ensures does { Acts (goes (registers.register_value modifiers q)) (D.state desk.now) (D.state desk.now)
-        (arguments args.old) (arguments args.new)
-        (D.follows desk.now) (D.follows desk.now) result }
+    ensures does { Acts D.Desk (goes (registers.register_value modifiers q))
+        (desk.now, args.old) (desk.now, args.new) result }
     ensures no_memory { result ≡ Err Memory → ⊥ }
 {
     give(args, value_of(desk, modifiers, q))?;
@@ -58,9 +57,7 @@ pub(crate) fn register_value<D: Desk>(
 /// `nUq`: the number of q becomes n.
 #[inline(always)]
 pub(crate) fn set_number<D: Desk>(desk: &mut D, q: Reg, args: &mut Args) -> Result<Next, Failure>
-    ensures { Acts (goes (registers.set_number q)) (D.state desk.old) (D.state desk.new) (arguments args.old)
-        (arguments args.new)
-        (D.follows desk.old) (D.follows desk.new) result }
+    ensures { Acts D.Desk (goes (registers.set_number q)) (desk.old, args.old) (desk.new, args.new) result }
 {
     let n = takes_one(args, Code::Nau)?;
     desk.set_number(q, n)?;
@@ -84,9 +81,7 @@ pub(crate) fn give_alone(args: &mut Args, value: i32)
 /// Adds `n` to the number of q, and gives the sum in place of what the level has.
 #[inline(always)]
 fn add_alone<D: Desk>(desk: &mut D, q: Reg, n: i32, args: &mut Args) -> Result<Next, Failure>
-    ensures { Acts (goes (registers.adds_alone q n)) (D.state desk.old) (D.state desk.new)
-        (arguments args.old) (arguments args.new)
-        (D.follows desk.old) (D.follows desk.new) result }
+    ensures { Acts D.Desk (goes (registers.adds_alone q n)) (desk.old, args.old) (desk.new, args.new) result }
 {
     let sum = sum(desk.registers().number(q), n)?;
     desk.set_number(q, sum)?;
@@ -96,9 +91,7 @@ fn add_alone<D: Desk>(desk: &mut D, q: Reg, n: i32, args: &mut Args) -> Result<N
 
 /// Adds 1 to the number of q, and gives the sum to the operator that waits, which may refuse it.
 fn add_one<D: Desk>(desk: &mut D, q: Reg, args: &mut Args) -> Result<Next, Failure>
-    ensures { Acts (goes (registers.adds q (pos 1))) (D.state desk.old) (D.state desk.new)
-        (arguments args.old) (arguments args.new)
-        (D.follows desk.old) (D.follows desk.new) result }
+    ensures { Acts D.Desk (goes (registers.adds q (pos 1))) (desk.old, args.old) (desk.new, args.new) result }
 {
     let sum = sum(desk.registers().number(q), 1)?;
     let left = given(args, sum)?;
@@ -110,9 +103,7 @@ fn add_one<D: Desk>(desk: &mut D, q: Reg, args: &mut Args) -> Result<Next, Failu
 /// `n%q`: the sum becomes the number of q, and is given.
 #[inline(always)]
 pub(crate) fn increment<D: Desk>(desk: &mut D, q: Reg, args: &mut Args) -> Result<Next, Failure>
-    ensures { Acts (goes (registers.increment q)) (D.state desk.old) (D.state desk.new) (arguments args.old)
-        (arguments args.new)
-        (D.follows desk.old) (D.follows desk.new) result }
+    ensures { Acts D.Desk (goes (registers.increment q)) (desk.old, args.old) (desk.new, args.new) result }
 {
     match args.level() {
         Level::Value(n) => add_alone(desk, q, n, args),
@@ -140,9 +131,8 @@ pub(crate) fn set_text<D: Desk>(
     text: &[u8],
     args: &mut Args,
 ) -> Result<Next, Failure>
-    ensures { Acts (goes (registers.set_text q text.now)) (D.state desk.old) (D.state desk.new)
-        (arguments args.old) (arguments args.new)
-        (D.follows desk.old) (D.follows desk.new) result }
+    ensures { Acts D.Desk (goes (registers.set_text q text.now))
+        (desk.old, args.old) (desk.new, args.new) result }
 {
     takes_none(args)?;
     let text = copy(desk, q, text)?;
@@ -153,9 +143,7 @@ pub(crate) fn set_text<D: Desk>(
 
 /// `nXq`: what n lines reach becomes the text of q, and with `m,nXq` the range.
 pub(crate) fn extract<D: Desk>(desk: &mut D, q: Reg, args: &mut Args) -> Result<Next, Failure>
-    ensures { Acts (goes (registers.extract q)) (D.state desk.old) (D.state desk.new) (arguments args.old)
-        (arguments args.new)
-        (D.follows desk.old) (D.follows desk.new) result }
+    ensures { Acts D.Desk (goes (registers.extract q)) (desk.old, args.old) (desk.new, args.new) result }
 {
     let range = takes_reach(desk, args)?;
     let (before, after) = desk.halves();
@@ -168,9 +156,7 @@ pub(crate) fn extract<D: Desk>(desk: &mut D, q: Reg, args: &mut Args) -> Result<
 
 /// `[q` pushes what q holds. The arguments stay.
 pub(crate) fn push<D: Desk>(desk: &mut D, q: Reg, args: &Args) -> Result<Next, Failure>
-    ensures { Acts (goes (registers.push q)) (D.state desk.old) (D.state desk.new) (arguments args.now)
-        (arguments args.now)
-        (D.follows desk.old) (D.follows desk.new) result }
+    ensures { Acts D.Desk (goes (registers.push q)) (desk.old, args.now) (desk.new, args.now) result }
 {
     if desk.pushed().is_full() {
         return Err(Failure::Command(Code::Pdo));
@@ -181,9 +167,7 @@ pub(crate) fn push<D: Desk>(desk: &mut D, q: Reg, args: &Args) -> Result<Next, F
 
 /// `]q` takes off what was pushed last, and puts it into q. The arguments stay.
 pub(crate) fn pop<D: Desk>(desk: &mut D, q: Reg, args: &Args) -> Result<Next, Failure>
-    ensures { Acts (goes (registers.pop q)) (D.state desk.old) (D.state desk.new) (arguments args.now)
-        (arguments args.now)
-        (D.follows desk.old) (D.follows desk.new) result }
+    ensures { Acts D.Desk (goes (registers.pop q)) (desk.old, args.now) (desk.new, args.now) result }
 {
     if desk.pushed().is_empty() {
         return Err(Failure::Command(Code::Cpq));
@@ -208,9 +192,7 @@ fn type_text<D: Desk, T: Terminal>(
 
 /// `Gq` inserts the text of q.
 fn insert_text<D: Desk>(desk: &mut D, q: Reg, args: &mut Args) -> Result<Next, Failure>
-    ensures { Acts (goes (registers.insert_text q)) (D.state desk.old) (D.state desk.new) (arguments args.old)
-        (arguments args.new)
-        (D.follows desk.old) (D.follows desk.new) result }
+    ensures { Acts D.Desk (goes (registers.insert_text q)) (desk.old, args.old) (desk.new, args.new) result }
 {
     takes_none(args)?;
     let text = copy(desk, q, desk.registers().text(q))?;
@@ -226,10 +208,8 @@ pub(crate) fn get<D: Desk, T: Terminal>(
     args: &mut Args,
     term: &mut T,
 ) -> Result<Next, Failure>
-    ensures { Does (goes (registers.get modifiers q))
-        (at (D.state desk.old) (arguments args.old) (T.screen term.old))
-        (at (D.state desk.new) (arguments args.new) (T.screen term.new)) (D.follows desk.old)
-        (D.follows desk.new) result }
+    ensures { Does D.Desk T.Terminal (goes (registers.get modifiers q))
+        (desk.old, args.old, term.old) (desk.new, args.new, term.new) result }
 {
     if modifiers.colons == 1 {
         return type_text(desk, q, args, term);

@@ -103,9 +103,8 @@ pub(crate) fn fail<D: Desk>(
     setting: Setting,
     args: &mut Args,
 ) -> Result<Next, Failure>
-    ensures { Acts (steers (searching.fails text.now setting)) (D.state desk.old) (D.state desk.new)
-        (arguments args.old) (arguments args.new)
-        (D.follows desk.old) (D.follows desk.new) result }
+    ensures { Acts D.Desk (steers (searching.fails text.now setting))
+        (desk.old, args.old) (desk.new, args.new) result }
 {
     desk.note_search(noted_text(text), false, 0)?;
     answer_colon(setting, false, args);
@@ -124,9 +123,8 @@ pub(crate) fn succeed<D: Desk>(
     args: &mut Args,
 ) -> Result<Next, Failure>
     requires { end ≤ length (D.state desk.old).text }
-    ensures { Acts (steers (λ s _. searching.succeeds text.now setting end s)) (D.state desk.old)
-        (D.state desk.new) (arguments args.old) (arguments args.new)
-        (D.follows desk.old) (D.follows desk.new) result }
+    ensures { Acts D.Desk (steers (λ s _. searching.succeeds text.now setting end s))
+        (desk.old, args.old) (desk.new, args.new) result }
 {
     desk.note_search(noted_text(text), true, end)?;
     answer_colon(setting, true, args);
@@ -140,9 +138,8 @@ fn search<D: Desk>(
     setting: Setting,
     args: &mut Args,
 ) -> Result<Next, Failure>
-    ensures { Acts (steers (searching.search text.now setting)) (D.state desk.old) (D.state desk.new)
-        (arguments args.old) (arguments args.new)
-        (D.follows desk.old) (D.follows desk.new) result }
+    ensures { Acts D.Desk (steers (searching.search text.now setting))
+        (desk.old, args.old) (desk.new, args.new) result }
 {
     let Some((_, end)) = found(desk, text, args)? else {
         return fail(desk, text, setting, args);
@@ -170,9 +167,8 @@ fn note<D: Desk>(
     args: &mut Args,
 ) -> Result<Next, Failure>
     requires { place ≤ length (D.state desk.old).text }
-    ensures { Acts (steers (λ s _. searching.notes text.now found place (searching.answer found) on s))
-        (D.state desk.old) (D.state desk.new) (arguments args.old) (arguments args.new)
-        (D.follows desk.old) (D.follows desk.new) result }
+    ensures { Acts D.Desk (steers (λ s _. searching.notes text.now found place (searching.answer found) on s))
+        (desk.old, args.old) (desk.new, args.new) result }
 {
     desk.note_search(noted_text(text), found, place)?;
     answer(found, args);
@@ -181,9 +177,8 @@ fn note<D: Desk>(
 
 /// `::S` tells whether the text is at the pointer, and puts the pointer after it.
 fn compare<D: Desk>(desk: &mut D, text: &[u8], args: &mut Args) -> Result<Next, Failure>
-    ensures { Acts (steers (searching.compare text.now)) (D.state desk.old) (D.state desk.new)
-        (arguments args.old) (arguments args.new)
-        (D.follows desk.old) (D.follows desk.new) result }
+    ensures { Acts D.Desk (steers (searching.compare text.now))
+        (desk.old, args.old) (desk.new, args.new) result }
 {
     takes_none(args)?;
     match matched(desk, text)? {
@@ -202,9 +197,8 @@ pub(crate) fn search_or_compare<D: Desk>(
     setting: Setting,
     args: &mut Args,
 ) -> Result<Next, Failure>
-    ensures { Acts (steers (searching.search_or_compare text.now setting)) (D.state desk.old)
-        (D.state desk.new) (arguments args.old) (arguments args.new)
-        (D.follows desk.old) (D.follows desk.new) result }
+    ensures { Acts D.Desk (steers (searching.search_or_compare text.now setting))
+        (desk.old, args.old) (desk.new, args.new) result }
 {
     if setting.modifiers.colons == 2 {
         return compare(desk, text, args);
@@ -220,9 +214,8 @@ pub(crate) fn search_and_replace<D: Desk>(
     setting: Setting,
     args: &mut Args,
 ) -> Result<Next, Failure>
-    ensures { Acts (steers (searching.search_and_replace text.now bytes.now setting)) (D.state desk.old)
-        (D.state desk.new) (arguments args.old) (arguments args.new)
-        (D.follows desk.old) (D.follows desk.new) result }
+    ensures { Acts D.Desk (steers (searching.search_and_replace text.now bytes.now setting))
+        (desk.old, args.old) (desk.new, args.new) result }
 {
     let Some((start, end)) = found(desk, text, args)? else {
         return fail(desk, text, setting, args);

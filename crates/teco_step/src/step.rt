@@ -21,12 +21,12 @@ use crate::page_searching::{search_pages, search_pages_quietly};
 use crate::pages::{exit, next_page, turn_pages, write_page};
 use crate::registers::{extract, get, increment, pop, push, register_value, set_number, set_text};
 use crate::searching::{search_and_replace, search_or_compare};
-use crate::terminal::Terminal;
 use crate::typing::{print, print_octal, type_byte, type_out, type_text, view};
 use crate::value::{arithmetic, at_level, byte, number, quantity};
 use teco_core::{Args, Code, Reg};
 use teco_scan::{Bare, Command, Item, RegisterCommand, Span, TextCommand, Token, TokenKind};
 use teco_store::Desk;
+use teco_terminal::Terminal;
 
 /// A step of a command without an operand.
 fn command_step<D: Desk, T: Terminal>(
@@ -36,10 +36,8 @@ fn command_step<D: Desk, T: Terminal>(
     args: &mut Args,
     term: &mut T,
 ) -> Result<Next, Failure>
-    ensures { Does (command_effect command setting)
-        (at (D.state desk.old) (arguments args.old) (T.screen term.old))
-        (at (D.state desk.new) (arguments args.new) (T.screen term.new)) (D.follows desk.old)
-        (D.follows desk.new) result }
+    ensures { Does D.Desk T.Terminal (command_effect command setting)
+        (desk.old, args.old, term.old) (desk.new, args.new, term.new) result }
 {
     match command {
         Command::Jump => jump(desk, args),
@@ -70,10 +68,8 @@ fn bare_step<D: Desk, T: Terminal>(
     args: &mut Args,
     term: &mut T,
 ) -> Result<Next, Failure>
-    ensures does { Does (bare_effect bare setting)
-        (at (D.state desk.old) (arguments args.old) (T.screen term.old))
-        (at (D.state desk.new) (arguments args.new) (T.screen term.new)) (D.follows desk.old)
-        (D.follows desk.new) result }
+    ensures does { Does D.Desk T.Terminal (bare_effect bare setting)
+        (desk.old, args.old, term.old) (desk.new, args.new, term.new) result }
     ensures no_memory { takes_nothing (token.bare bare) ≡ true → result ≡ Err Memory → ⊥ }
 {
     match bare {
@@ -94,10 +90,8 @@ fn register_step<D: Desk, T: Terminal>(
     args: &mut Args,
     term: &mut T,
 ) -> Result<Next, Failure>
-    ensures does { Does (register_effect command q setting)
-        (at (D.state desk.old) (arguments args.old) (T.screen term.old))
-        (at (D.state desk.new) (arguments args.new) (T.screen term.new)) (D.follows desk.old)
-        (D.follows desk.new) result }
+    ensures does { Does D.Desk T.Terminal (register_effect command q setting)
+        (desk.old, args.old, term.old) (desk.new, args.new, term.new) result }
     ensures no_memory { takes_nothing (token.register command q) ≡ true → result ≡ Err Memory → ⊥ }
 {
     match command {
@@ -121,10 +115,8 @@ fn text_step<D: Desk, T: Terminal>(
     args: &mut Args,
     term: &mut T,
 ) -> Result<Next, Failure>
-    ensures { Does (text_effect command text.now setting)
-        (at (D.state desk.old) (arguments args.old) (T.screen term.old))
-        (at (D.state desk.new) (arguments args.new) (T.screen term.new)) (D.follows desk.old)
-        (D.follows desk.new) result }
+    ensures { Does D.Desk T.Terminal (text_effect command text.now setting)
+        (desk.old, args.old, term.old) (desk.new, args.new, term.new) result }
 {
     match command {
         TextCommand::Insert => insert(desk, text, args),
@@ -156,10 +148,8 @@ fn item_step<D: Desk, T: Terminal>(
     term: &mut T,
 ) -> Result<Next, Failure>
     requires { IsItemIn (length text.now) item }
-    ensures does { Does (item_effect (item_in text.now item) setting)
-        (at (D.state desk.old) (arguments args.old) (T.screen term.old))
-        (at (D.state desk.new) (arguments args.new) (T.screen term.new)) (D.follows desk.old)
-        (D.follows desk.new) result }
+    ensures does { Does D.Desk T.Terminal (item_effect (item_in text.now item) setting)
+        (desk.old, args.old, term.old) (desk.new, args.new, term.new) result }
     ensures no_memory { takes_nothing (item_in text.now item) ≡ true → result ≡ Err Memory → ⊥ }
 {
     match item {

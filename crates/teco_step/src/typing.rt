@@ -5,18 +5,18 @@ ghost use Rattle.teco_core.specs.ArgumentsView.{arguments};
 ghost use Rattle.teco_core.specs.Number.{to_word};
 ghost use Rattle.teco_step.specs.Families.{Types};
 ghost use Rattle.teco_step.specs.Step.{goes};
-ghost use Rattle.teco_step.specs.Terminal.{Puts};
+ghost use Rattle.teco_terminal.specs.Terminal.{Puts};
 ghost use Rattle.teco_step.specs.Typing as typing;
 
 use crate::failure::Failure;
 use crate::next::Next;
 use crate::taking::{as_byte, line_around, takes_none, takes_one, takes_reach};
-use crate::terminal::{Terminal, TerminalFault};
 use itoa::Buffer;
 use std::ops::Range;
 use teco_core::{Args, Code};
 use teco_scan::Modifiers;
 use teco_store::{Desk, part};
+use teco_terminal::{Terminal, TerminalFault};
 
 /// Shows the bytes, and puts nothing where there are none.
 fn put_some<T: Terminal>(bytes: &[u8], term: &mut T) -> Result<(), TerminalFault>

@@ -1,7 +1,6 @@
 //! Tokens that give a value or build arguments. But for the commands that the level decides on, they change no state and take no
 //! memory. One that is refused keeps the arguments.
 ghost use Rattle.std.specs.Prelude.{◌≡◌, ◌++◌, ◌+ℤ◌, pos, Err};
-ghost use Rattle.teco_core.specs.ArgumentsView.{arguments};
 ghost use Rattle.teco_step.specs.Families.{Acts};
 ghost use Rattle.teco_step.specs.Step.{goes};
 ghost use Rattle.teco_step.specs.Values as values;
@@ -20,9 +19,8 @@ use teco_store::Desk;
 
 /// A run of digits gives its value.
 pub(crate) fn number<D: Desk>(desk: &D, digits: &[u8], args: &mut Args) -> Result<Next, Failure>
-    ensures does { Acts (goes (values.number digits.now)) (D.state desk.now) (D.state desk.now)
-        (arguments args.old) (arguments args.new)
-        (D.follows desk.now) (D.follows desk.now) result }
+    ensures does { Acts D.Desk (goes (values.number digits.now))
+        (desk.now, args.old) (desk.now, args.new) result }
     ensures no_memory { result ≡ Err Memory → ⊥ }
 {
     give(args, decimal(digits)?)?;
@@ -48,9 +46,8 @@ pub(crate) fn quantity<D: Desk>(
     quantity: Quantity,
     args: &mut Args,
 ) -> Result<Next, Failure>
-    ensures does { Acts (goes (values.give_quantity quantity)) (D.state desk.now) (D.state desk.now)
-        (arguments args.old) (arguments args.new)
-        (D.follows desk.now) (D.follows desk.now) result }
+    ensures does { Acts D.Desk (goes (values.give_quantity quantity))
+        (desk.now, args.old) (desk.now, args.new) result }
     ensures no_memory { result ≡ Err Memory → ⊥ }
 {
     give(args, value_of(desk, quantity))?;
@@ -59,9 +56,8 @@ pub(crate) fn quantity<D: Desk>(
 
 /// `^^` and a byte gives the byte's code.
 pub(crate) fn byte<D: Desk>(desk: &D, byte: u8, args: &mut Args) -> Result<Next, Failure>
-    ensures does { Acts (goes (values.give_byte byte)) (D.state desk.now) (D.state desk.now)
-        (arguments args.old) (arguments args.new)
-        (D.follows desk.now) (D.follows desk.now) result }
+    ensures does { Acts D.Desk (goes (values.give_byte byte))
+        (desk.now, args.old) (desk.now, args.new) result }
     ensures no_memory { result ≡ Err Memory → ⊥ }
 {
     give(args, i32::from(byte))?;
@@ -74,9 +70,8 @@ pub(crate) fn arithmetic<D: Desk>(
     arithmetic: Arithmetic,
     args: &mut Args,
 ) -> Result<Next, Failure>
-    ensures does { Acts (goes (values.build arithmetic)) (D.state desk.now) (D.state desk.now)
-        (arguments args.old) (arguments args.new)
-        (D.follows desk.now) (D.follows desk.now) result }
+    ensures does { Acts D.Desk (goes (values.build arithmetic))
+        (desk.now, args.old) (desk.now, args.new) result }
     ensures no_memory { result ≡ Err Memory → ⊥ }
 {
     match arithmetic {
@@ -120,9 +115,7 @@ fn code_near<D: Desk>(desk: &D, n: i32) -> i32
 
 /// Gives the code of the character `n` after the pointer, in place of what the level has.
 fn give_code<D: Desk>(desk: &D, n: i32, args: &mut Args) -> Result<Next, Failure>
-    ensures does { Acts (goes (values.gives_code n)) (D.state desk.now) (D.state desk.now)
-        (arguments args.old) (arguments args.new)
-        (D.follows desk.now) (D.follows desk.now) result }
+    ensures does { Acts D.Desk (goes (values.gives_code n)) (desk.now, args.old) (desk.now, args.new) result }
     ensures no_memory { result ≡ Err Memory → ⊥ }
 {
     let code = code_near(desk, n);
@@ -132,9 +125,7 @@ fn give_code<D: Desk>(desk: &D, n: i32, args: &mut Args) -> Result<Next, Failure
 
 /// `nA` gives the code of a character. `A` without n reads a page.
 fn append<D: Desk>(desk: &mut D, args: &mut Args) -> Result<Next, Failure>
-    ensures { Acts (goes values.append) (D.state desk.old) (D.state desk.new) (arguments args.old)
-        (arguments args.new)
-        (D.follows desk.old) (D.follows desk.new) result }
+    ensures { Acts D.Desk (goes values.append) (desk.old, args.old) (desk.new, args.new) result }
 {
     match args.level() {
         Level::Value(n) => give_code(desk, n, args),
@@ -150,9 +141,7 @@ pub(crate) fn at_level<D: Desk>(
     command: LevelCommand,
     args: &mut Args,
 ) -> Result<Next, Failure>
-    ensures { Acts (goes (values.at_level command)) (D.state desk.old) (D.state desk.new) (arguments args.old)
-        (arguments args.new)
-        (D.follows desk.old) (D.follows desk.new) result }
+    ensures { Acts D.Desk (goes (values.at_level command)) (desk.old, args.old) (desk.new, args.new) result }
 {
     match command {
         LevelCommand::Append => append(desk, args),

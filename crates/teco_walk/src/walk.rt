@@ -12,8 +12,8 @@ use std::marker::Model;
 use teco_core::{Code, NoMemory};
 use teco_exec::{Outcome, Place, meaning_laws, run_where};
 use teco_session::{Answer, Session};
-use teco_step::MemoryTerminal;
 use teco_store::{Change, Editor};
+use teco_terminal::MemoryTerminal;
 
 /// A command string over an input, of which some steps are done.
 ///

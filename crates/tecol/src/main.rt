@@ -9,7 +9,7 @@ use std::process::ExitCode;
 use teco_files::{FileDisk, ReaderSource};
 use teco_keep::{not_text, program};
 use teco_line::{LineFault, fault_of_words};
-use teco_step::WriterTerminal;
+use teco_terminal::WriterTerminal;
 
 // That these are the program's words, streams and files is told by no contract.
 

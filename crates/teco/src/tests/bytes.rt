@@ -1,6 +1,6 @@
 //! Bytes in memory of their own. Where memory was refused, it is asked for a second time.
 use std::alloc::Global;
-use teco_step::FailAfter;
+use teco_terminal::FailAfter;
 
 /// Puts a part at the end.
 pub(crate) fn put(bytes: &mut Vec<u8>, part: &[u8]) {

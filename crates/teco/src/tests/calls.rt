@@ -11,8 +11,9 @@ use teco_program::{Asked, Splitter};
 use teco_scan::{Found, first_fault, token_at};
 use teco_search::{Pattern, find};
 use teco_session::Session;
-use teco_step::{MemoryTerminal, Terminal};
+use teco_step::line_place;
 use teco_store::{Desk, Editor};
+use teco_terminal::{MemoryTerminal, Terminal};
 
 /// teco_core: a sum is given, and a command takes it.
 fn a_sum_is_taken() -> bool {
@@ -55,10 +56,15 @@ fn an_edit_is_made(alloc: Global) -> bool {
         && are_both(editor.halves(), b"ab")
 }
 
-/// teco_step: a terminal in memory shows what is put on it.
+/// teco_terminal: a terminal in memory shows what is put on it.
 fn a_put_is_shown(alloc: Global) -> bool {
     let mut terminal = MemoryTerminal::new(alloc);
     terminal.put(b"2\r\n").is_ok() && terminal.bytes() == b"2\r\n".as_slice()
+}
+
+/// teco_step: the next line begins after the line end that comes, across the place where the halves meet.
+fn a_line_is_placed() -> bool {
+    line_place(b"one\ntw", b"o\nthree", 5, 1) == 8
 }
 
 /// teco_exec: a loop is run under a limit of steps.
@@ -122,6 +128,6 @@ fn all_hold(alloc: Global) -> bool {
 
 #[test]
 fn crates_are_called_so(rt: HostRuntime) {
-    assert!(rt; a_sum_is_taken() && a_token_is_read());
+    assert!(rt; a_sum_is_taken() && a_token_is_read() && a_line_is_placed());
     assert!(rt; all_hold(rt.alloc()) || all_hold(rt.alloc()));
 }

@@ -1,7 +1,8 @@
 //! The functions that do nothing, whose clauses are laws of tokens, steps, screens and strings.
 use teco_exec::meaning_laws;
 use teco_scan::spelling;
-use teco_step::{effect_laws, screen_laws};
+use teco_step::effect_laws;
+use teco_terminal::screen_laws;
 
 #[test]
 fn laws_are_told() {

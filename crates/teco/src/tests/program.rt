@@ -8,7 +8,7 @@ use teco_core::NoMemory;
 use teco_files::{Disk, FileDisk, MemoryDisk, MemorySource, Refused, Source};
 use teco_line::LineFault;
 use teco_program::program;
-use teco_step::MemoryTerminal;
+use teco_terminal::MemoryTerminal;
 
 mod disk;
 mod ending;

@@ -73,6 +73,5 @@ mod failed_searches;
 mod operands;
 mod search_forms;
 mod searches;
-mod terminals;
 mod texts;
 mod values;

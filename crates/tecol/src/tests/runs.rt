@@ -6,7 +6,7 @@ use teco_core::NoMemory;
 use teco_files::{MemoryDisk, MemorySource, Refused};
 use teco_keep::program;
 use teco_line::LineFault;
-use teco_step::{FailAfter, MemoryTerminal, Terminal, WriterTerminal};
+use teco_terminal::{FailAfter, MemoryTerminal, Terminal, WriterTerminal};
 
 /// The words of a run, with blanks between them, what comes on standard input, what it types and tells, and its status.
 #[derive(Clone, Copy)]

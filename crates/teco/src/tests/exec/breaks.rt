@@ -4,8 +4,8 @@ use crate::tests::assert_of;
 use std::alloc::Global;
 use teco_core::Code;
 use teco_exec::{Never, Outcome, Stop, Stopped, run_until, run_where_until};
-use teco_step::MemoryTerminal;
 use teco_store::Editor;
+use teco_terminal::MemoryTerminal;
 
 /// Asks a run to stop after so many steps.
 #[derive(Clone, Copy)]

@@ -5,8 +5,8 @@ use std::fmt::Write;
 use std::test::*;
 use teco_core::NoMemory;
 use teco_exec::{Stopped, run_where};
-use teco_step::MemoryTerminal;
 use teco_store::Editor;
+use teco_terminal::MemoryTerminal;
 
 /// A text; the code by which it ends and where its run last stood; and the first fault of the text there, with the
 /// place of what opens the block in which the text ends.

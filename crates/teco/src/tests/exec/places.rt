@@ -10,8 +10,8 @@ use std::process::Abort;
 use std::test::*;
 use teco_core::Reg;
 use teco_exec::{Call, Place, Stopped, run_where};
-use teco_step::MemoryTerminal;
 use teco_store::Editor;
+use teco_terminal::MemoryTerminal;
 
 fn are_callers(calls: &[Call], callers: &[Caller]) -> bool {
     let mut held = calls.len() == callers.len();

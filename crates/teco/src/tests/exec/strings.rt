@@ -6,8 +6,8 @@ use std::alloc::Global;
 use std::process::Abort;
 use teco_core::{Code, FILE_LIMIT};
 use teco_exec::{Outcome, run};
-use teco_step::MemoryTerminal;
 use teco_store::{Desk, Editor};
+use teco_terminal::MemoryTerminal;
 
 /// A command string over an input under a limit of steps, and how it ends.
 #[derive(Clone, Copy)]

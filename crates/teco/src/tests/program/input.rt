@@ -2,7 +2,7 @@
 use crate::tests::bytes::joined;
 use std::alloc::Global;
 use teco_files::{InputFault, MemorySource, ReaderSource, Source, read_input};
-use teco_step::FailAfter;
+use teco_terminal::FailAfter;
 
 /// Whether the source fails, the most bytes that may be, and the fault of reading it; none where it gives all eight.
 type Row = (bool, usize, Option<InputFault>);

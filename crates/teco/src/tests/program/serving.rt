@@ -7,8 +7,8 @@ use teco_core::{DEPTH_LIMIT, FILE_LIMIT, NoMemory};
 use teco_files::MemorySource;
 use teco_program::{Served, Silent, serve};
 use teco_session::Session;
-use teco_step::MemoryTerminal;
 use teco_store::Desk;
+use teco_terminal::MemoryTerminal;
 
 /// How a stream is served, and how that ends.
 #[derive(Clone, Copy)]

@@ -5,8 +5,8 @@ use std::alloc::Global;
 use teco_core::Code;
 use teco_exec::Outcome;
 use teco_session::{Answer, Session};
-use teco_step::MemoryTerminal;
 use teco_store::Desk;
+use teco_terminal::MemoryTerminal;
 
 const BROKEN_OFF: Answer = Answer::Ended(Outcome {
     code: Some(Code::Lim),

@@ -7,8 +7,8 @@ use std::test::*;
 use teco_core::Code;
 use teco_exec::Outcome;
 use teco_session::{Answer, Session};
-use teco_step::WriterTerminal;
 use teco_store::Desk;
+use teco_terminal::WriterTerminal;
 
 /// A string, how many bytes its terminal takes, the code by which it ends and its steps, what is shown, and the text that is left.
 type Row<'a> = (&'a str, usize, Option<Code>, u64, &'a str, &'a str);

@@ -7,8 +7,8 @@ use std::process::Abort;
 use teco_core::{NoMemory, Reg};
 use teco_exec::Outcome;
 use teco_session::{Answer, Request, Session};
-use teco_step::MemoryTerminal;
 use teco_store::{Desk, Editor};
+use teco_terminal::MemoryTerminal;
 
 /// Whether a string is begun, at once or after a refusal, and undone strings are dropped then.
 fn begins(session: &mut Session, term: &mut MemoryTerminal) -> bool {

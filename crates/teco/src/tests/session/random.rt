@@ -7,7 +7,7 @@ use std::alloc::Global;
 use std::test::*;
 use teco_core::FILE_LIMIT;
 use teco_session::{Answer, Session};
-use teco_step::MemoryTerminal;
+use teco_terminal::MemoryTerminal;
 
 /// What strings are made of: edits, searches, pages and registers, a row each.
 static PARTS: [&[u8]; 64] = [

@@ -6,8 +6,8 @@ use std::alloc::Global;
 use std::test::*;
 use teco_core::{Code, DEPTH_LIMIT, FILE_LIMIT};
 use teco_session::{Answer, Session};
-use teco_step::MemoryTerminal;
 use teco_store::{ChangeKind, Desk};
+use teco_terminal::MemoryTerminal;
 
 /// Strings, and the most bytes that the changes of the last one may hold.
 type Row<'a> = (&'a [&'a str], usize);

@@ -3,8 +3,8 @@ use crate::tests::bytes::{are_both, joined};
 use std::alloc::Global;
 use teco_core::{Code, FILE_LIMIT};
 use teco_session::Session;
-use teco_step::MemoryTerminal;
 use teco_store::{Desk, Editor};
+use teco_terminal::MemoryTerminal;
 
 /// A request, the code of its answer, the text after it, if that is said, and the output. `{` undoes a string, `}` redoes one, `~` goes
 /// back to before the first step, and any other request is run.

@@ -7,7 +7,7 @@ use std::test::*;
 use teco_core::Code;
 use teco_exec::Outcome;
 use teco_session::Answer;
-use teco_step::MemoryTerminal;
+use teco_terminal::MemoryTerminal;
 
 /// Whether a command's name begins with a byte: a letter in either case, or for a caret and a letter the control byte.
 fn begins(command: &[u8], byte: u8) -> bool {

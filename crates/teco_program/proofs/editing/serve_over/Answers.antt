@@ -1,7 +1,7 @@
 use Rattle.std.proofs.Common.{subst}
 use Rattle.teco_session.specs.History.{History}
 use Rattle.teco_session.specs.Kept.{history_of}
-use Rattle.teco_step.specs.Terminal.{Shows}
+use Rattle.teco_terminal.specs.Terminal.{Shows}
 use Rattle.teco_program.specs.Serving.{Serves}
 use Rattle.teco_files.specs.Source.{Gives, HasEnded}
 use Rattle.teco_program.proofs.editing.serve_over.Goals as goal

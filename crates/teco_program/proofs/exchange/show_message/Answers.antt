@@ -1,5 +1,5 @@
 use Rattle.std.proofs.Common.{subst, ap, ◌∙◌, false}
-use Rattle.teco_step.specs.Terminal.{Shows, Puts}
+use Rattle.teco_terminal.specs.Terminal.{Shows, Puts}
 use Rattle.teco_program.specs.Message.{lines_of, message}
 use Rattle.teco_program.proofs.Showing.{Shows-nil}
 use Rattle.teco_program.proofs.exchange.show_message.Goals as goal

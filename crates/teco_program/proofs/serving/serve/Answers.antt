@@ -1,7 +1,7 @@
 use Rattle.std.proofs.Common.{◌≡◌, [], ◌++◌, take, false, refl, sym, ap, subst, append-nil, arith, rules, true≢false, inl}
 use Rattle.std.proofs.lemmas.Grind.{common_steps}
 use Rattle.teco_session.specs.Kept.{history_of}
-use Rattle.teco_step.specs.Terminal.{Shows}
+use Rattle.teco_terminal.specs.Terminal.{Shows}
 use Rattle.teco_files.specs.Source.{Gives}
 use Rattle.teco_program.specs.Stream.{requests, texts_of}
 use Rattle.teco_program.specs.Message.{star}

@@ -1,6 +1,6 @@
 use Rattle.std.proofs.Common.{◌≡◌, ℕ, List, [], false}
 use Rattle.teco_session.specs.Kept.{history_of}
-use Rattle.teco_step.specs.Terminal.{Shows}
+use Rattle.teco_terminal.specs.Terminal.{Shows}
 use Rattle.teco_files.specs.Source.{Gives}
 use Rattle.teco_program.specs.Stream.{texts_of}
 use Rattle.teco_program.specs.Exchange.{Exchange}

@@ -10,7 +10,7 @@ use teco_core::NoMemory;
 use teco_files::{MemorySource, ReaderSource, Source};
 use teco_program::{Served, Silent, serve};
 use teco_session::Session;
-use teco_step::{FailAfter, MemoryTerminal, WriterTerminal};
+use teco_terminal::{FailAfter, MemoryTerminal, WriterTerminal};
 
 /// Three pages.
 const INPUT: &[u8] = b"a\x0cb\x0cc";

@@ -1,6 +1,6 @@
 //! A terminal that keeps its bytes in memory.
 ghost use Rattle.std.specs.Prelude.{◌≡◌, ℕ, [], Some, OnErr};
-ghost use Rattle.teco_step.specs.Terminal.{Puts};
+ghost use Rattle.teco_terminal.specs.Terminal.{Puts};
 
 use crate::terminal::{Terminal, TerminalFault};
 use std::alloc::Global;

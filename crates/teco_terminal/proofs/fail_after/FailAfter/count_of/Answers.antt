@@ -2,8 +2,8 @@ use Rattle.std.proofs.Common.{◌≡◌, length, drop, ap, ◌∙◌, arith}
 use Rattle.std.proofs.lemmas.Bool.{false≢true}
 use Rattle.std.proofs.lemmas.Grind.{common_steps}
 use Rattle.std.proofs.lemmas.List.{length-drop}
-use Rattle.teco_step.proofs.fail_after.FailAfter.count_of.Goals as goal
-use Rattle.teco_step.proofs.fail_after.FailAfter.count_of.Goals.{else-wanted-gt0-via-then-wanted-gt0+else-left-eq0, else-wanted-gt0-via-else-wanted-gt0}
+use Rattle.teco_terminal.proofs.fail_after.FailAfter.count_of.Goals as goal
+use Rattle.teco_terminal.proofs.fail_after.FailAfter.count_of.Goals.{else-wanted-gt0-via-then-wanted-gt0+else-left-eq0, else-wanted-gt0-via-else-wanted-gt0}
 
 pub returns-clause-fails : goal.returns-clause-fails
 returns-clause-fails c =

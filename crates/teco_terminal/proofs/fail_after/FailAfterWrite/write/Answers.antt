@@ -3,7 +3,7 @@ use Rattle.std.proofs.lemmas.Grind.{common_steps}
 use Rattle.std.proofs.lemmas.List.{take_at}
 use Rattle.std.proofs.Math.Seq.{drop-append_seam}
 use borrow.Rule.Slice.PartMut.{post_of}
-use Rattle.teco_step.proofs.fail_after.FailAfterWrite.write.Goals as goal
+use Rattle.teco_terminal.proofs.fail_after.FailAfterWrite.write.Goals as goal
 
 pub returns-clause-left : goal.returns-clause-left
 returns-clause-left c =

@@ -1,7 +1,7 @@
 //! Terminals whose puts are refused or fail.
 use crate::tests::assert_of;
 use std::io::{self, Write};
-use teco_step::{MemorySink, MemoryTerminal, Terminal, WriterTerminal};
+use teco_terminal::{MemorySink, MemoryTerminal, Terminal, WriterTerminal};
 
 /// Whether a put is done; one that is refused adds nothing, and the same put can be tried again.
 fn puts_again(terminal: &mut MemoryTerminal, bytes: &[u8], before: &[u8]) -> bool {

@@ -1,7 +1,7 @@
 -- What a call of a sink does to its count of failures, and what a terminal over a sink is over.
 use Rattle.std.specs.Prelude.{◌≡◌, ℕ, Option, Some, IfSome, Result, Ok, Err, Bool, true, ◌==◌}
-use Rattle.teco_step.specs.Terminal.{count_after}
-use Rattle.teco_step.specs.declared.writer_terminal.WriterTerminal.{WriterTerminal}
+use Rattle.teco_terminal.specs.Terminal.{count_after}
+use Rattle.teco_terminal.specs.declared.writer_terminal.WriterTerminal.{WriterTerminal}
 
 -- a write that is refused, or that takes no byte
 abbrev pub takes_nothing : {E : Type 0} → Result ℕ E → Bool

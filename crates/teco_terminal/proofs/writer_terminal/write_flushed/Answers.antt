@@ -5,9 +5,9 @@ use Rattle.std.proofs.lemmas.Bool.{ne_eqb}
 use Rattle.std.proofs.lemmas.Grind.{common_steps}
 use Rattle.std.proofs.lemmas.List.{take_rest}
 use Rattle.std.specs.Io.KnownBytes.{Appends}
-use Rattle.teco_step.specs.Sink.{Counts}
-use Rattle.teco_step.proofs.Counting.{Counts-trans}
-use Rattle.teco_step.proofs.writer_terminal.write_flushed.Goals as goal
+use Rattle.teco_terminal.specs.Sink.{Counts}
+use Rattle.teco_terminal.proofs.Counting.{Counts-trans}
+use Rattle.teco_terminal.proofs.writer_terminal.write_flushed.Goals as goal
 
 pub returns-in-Ok-eq0-clause-err : goal.returns-in-Ok-eq0-clause-err
 returns-in-Ok-eq0-clause-err g c =

@@ -2,7 +2,7 @@
 ghost use Rattle.std.specs.Io.{WritesAtMost};
 ghost use Rattle.std.specs.Io.KnownBytes.{Keeps, WriteAppends};
 ghost use Rattle.std.specs.Prelude.{◌≡◌, ◌<◌, ℕ, List, Option, None, length, OnOk, is_err};
-ghost use Rattle.teco_step.specs.Sink.{Counts, takes_nothing};
+ghost use Rattle.teco_terminal.specs.Sink.{Counts, takes_nothing};
 
 use std::io::{self, Write};
 

@@ -1,7 +1,7 @@
 use Rattle.std.proofs.Common.{length, take, ◌-◌, ◌≤◌, false}
 use Rattle.std.specs.Io.KnownBytes.{Appends}
-use Rattle.teco_step.specs.Sink.{Counts}
-use Rattle.teco_step.proofs.writer_terminal.write_flushed.Given as goal
+use Rattle.teco_terminal.specs.Sink.{Counts}
+use Rattle.teco_terminal.proofs.writer_terminal.write_flushed.Given as goal
 
 abbrev pub invariant-loop-at : goal.invariant-loop-at
 invariant-loop-at g l = record {

@@ -1,5 +1,5 @@
 //! Terminals.
-ghost use Rattle.teco_step.specs.Terminal.{Puts, Screen};
+ghost use Rattle.teco_terminal.specs.Terminal.{Puts, Screen};
 
 use teco_core::Code;
 use thiserror::Error;

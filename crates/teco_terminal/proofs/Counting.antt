@@ -1,6 +1,6 @@
 -- Counts of failures, one call after another.
 use Rattle.std.proofs.Common.{subst, refl, Bool, false, Option, None, Some, ℕ}
-use Rattle.teco_step.specs.Sink.{Counts}
+use Rattle.teco_terminal.specs.Sink.{Counts}
 
 pub Counts-kept : (old : Option ℕ) → Counts old old false
 Counts-kept None = tt

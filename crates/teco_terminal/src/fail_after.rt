@@ -20,7 +20,7 @@ pub struct FailAfter {
 
 impl Model for FailAfter {
     ghost use Rattle.std.specs.Prelude.{take, drop};
-    ghost use Rattle.teco_step.specs.Progress.{Progress};
+    ghost use Rattle.teco_terminal.specs.Progress.{Progress};
 
     ghost Value = { Progress };
 

@@ -1,8 +1,8 @@
 //! A terminal over a writer.
 ghost use Rattle.std.specs.Io.KnownBytes.{Appends};
 ghost use Rattle.std.specs.Prelude.{◌≡◌, ℕ, List, OnErr, OnOk, is_err};
-ghost use Rattle.teco_step.specs.Sink.{Counts, sink_of};
-ghost use Rattle.teco_step.specs.Terminal.{IsFrontOf, Puts};
+ghost use Rattle.teco_terminal.specs.Sink.{Counts, sink_of};
+ghost use Rattle.teco_terminal.specs.Terminal.{IsFrontOf, Puts};
 
 use crate::sink::Sink;
 use crate::terminal::{Terminal, TerminalFault};

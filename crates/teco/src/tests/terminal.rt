@@ -1,0 +1,2 @@
+//! Of teco_terminal: terminals and sinks.
+mod terminals;

@@ -1,0 +1,4 @@
+pub mod Terminal
+pub mod Sink
+pub mod Progress
+pub mod Laws
