@@ -14,7 +14,7 @@ use Rattle.teco_step.specs.Effect.{effect}
 use Rattle.teco_scan.specs.Lists.{nodes}
 use Rattle.teco_exec.specs.Test.{holds}
 use Rattle.teco_exec.specs.World.{World, WorldAndEnd, without_arguments, world_after, pay_from, pay}
-use Rattle.teco_exec.specs.Laws.{MeaningUnrolls, with_fuel, comes_to, StepEnds, first_effect, stepped_world, EmptyListEnds, FaultStops, TagIsPassed, EscapeDrops, NothingWithoutFuel, StepGoesOn, StepStops, JumpLands, JumpLeaves, CallReturns, CallTooDeep, FurtherStep, IterationCounts, IterationGoesOn, TurnEnds, LeavingEnds, ConditionalChooses}
+use Rattle.teco_exec.specs.Laws.{MeaningUnrolls, with_fuel, comes_to, StepEnds, first_effect, stepped_world, EmptyListEnds, FaultStops, TagIsPassed, EscapeDrops, NothingWithoutFuel, StepComesTo, FurtherStep, BlockComesTo, TurnEnds, LeavingEnds}
 use Rattle.teco_exec.specs.Meaning.{Meaning, run_after_tag, then_rest, after_call, run_call, run_after_step, run_step, turns_of, run_iteration, after_part, run_conditional, leave_comes, first_setting, list_by, after_turn, run_turn, turns_by, further_by, layer, layers, meaning}
 use Rattle.std.proofs.lemmas.Bool.Decides.{nat_tests}
 use Rattle.teco_scan.specs.declared.command.Modifiers.{Modifiers}
@@ -204,53 +204,47 @@ module _ (whole rest : Nodes) (m : Modifiers) (i : Item) (w : World) (depth n : 
   stepped : (e : End) → (first_effect m i rest w inside).end ≡ e → meaning.list whole (item m i rest) w depth inside ≡ comes_to whole rest i (first_setting m inside (leave_comes rest)) depth (stepped_world m i rest w inside n) e
   stepped e is = step_ends whole rest m i w depth n inside fuel ∙ ap (comes_to whole rest i (first_setting m inside (leave_comes rest)) depth (stepped_world m i rest w inside n)) is
 
-pub step : StepGoesOn
-step whole rest m i w depth n inside fuel is = stepped whole rest m i w depth n inside fuel on is
-
-pub error : StepStops
-error whole rest m i c w depth n inside fuel is = stepped whole rest m i w depth n inside fuel (stop c) is
-
-pub jump_caught : JumpLands
-jump_caught whole rest later m i name w depth n inside fuel is found = stepped whole rest m i w depth n inside fuel (go name) is ∙ ap (run_after_tag meaning whole (stepped_world m i rest w inside n) depth inside name) found
-
-pub jump_not_caught : JumpLeaves
-jump_not_caught whole rest m i name w depth n inside fuel is found = stepped whole rest m i w depth n inside fuel (go name) is ∙ ap (run_after_tag meaning whole (stepped_world m i rest w inside n) depth inside name) found
-
 -- what a call comes to, by the test of its depth
 abbrev calls_by : Nodes → Nodes → Bool → ℕ → World → WorldAndEnd → Bool → WorldAndEnd
 calls_by whole rest inside depth u r deep = if deep then (u, stop Pdo) else (let q : WorldAndEnd = after_call r.0 r.1 in then_rest meaning whole rest depth inside q.0 q.1)
 
-pub call_too_deep : CallTooDeep
-call_too_deep whole rest m i text w depth n inside fuel is deep =
+pub step : StepComesTo
+step whole rest m i w depth n inside fuel =
     let u : World = stepped_world m i rest w inside n in
-    let test : (depth == 32) ≡ true = grind (arith, nat_tests) in
-    stepped whole rest m i w depth n inside fuel (call text) is ∙ ap (calls_by whole rest inside depth u (meaning.list (nodes text) (nodes text) u (depth + 1) false)) test
-
-pub macro_call : CallReturns
-macro_call whole rest m i text w v depth n inside fuel is shallow back =
-    let u : World = stepped_world m i rest w inside n in
-    let test : (depth == 32) ≡ false = grind (arith, nat_tests) in
-    stepped whole rest m i w depth n inside fuel (call text) is ∙ ap (calls_by whole rest inside depth u (meaning.list (nodes text) (nodes text) u (depth + 1) false)) test
-    ∙ ap (λ (r : WorldAndEnd). calls_by whole rest inside depth u r false) back
+    let comes : (e : End) → (first_effect m i rest w inside).end ≡ e → meaning.list whole (item m i rest) w depth inside ≡ comes_to whole rest i (first_setting m inside (leave_comes rest)) depth u e = stepped whole rest m i w depth n inside fuel in
+    let called : List ℕ → WorldAndEnd = λ text. meaning.list (nodes text) (nodes text) u (depth + 1) false in
+    record {
+      goes_on = λ is. comes on is;
+      error = λ c is. comes (stop c) is;
+      lands = λ name later is found. comes (go name) is ∙ ap (run_after_tag meaning whole u depth inside name) found;
+      leaves = λ name is found. comes (go name) is ∙ ap (run_after_tag meaning whole u depth inside name) found;
+      returns = λ text v is shallow back.
+          let test : (depth == 32) ≡ false = grind (arith, nat_tests) in
+          comes (call text) is ∙ ap (calls_by whole rest inside depth u (called text)) test ∙ ap (λ (r : WorldAndEnd). calls_by whole rest inside depth u r false) back;
+      too_deep = λ text is deep.
+          let test : (depth == 32) ≡ true = grind (arith, nat_tests) in
+          comes (call text) is ∙ ap (calls_by whole rest inside depth u (called text)) test;
+    }
 
 pub further_step : FurtherStep
 unfolding further_by
 further_step i setting w depth n fuel is =
     unrolls.further i setting w depth ∙ paying (suc n) w _ fuel ∙ ap (λ e. run_after_step meaning i setting depth (world_after (with_fuel w n) (effect i setting w.state w.arguments)) e) is
 
-pub iteration : IterationCounts
+pub block : BlockComesTo
 unfolding list_by
-iteration whole body rest k w v depth n inside fuel taken back =
-    unrolls.list whole (iter body rest) w depth inside ∙ paying (suc n) w _ fuel
-    ∙ ap (λ t. let r : WorldAndEnd = run_iteration meaning body (with_fuel w n) depth t in then_rest meaning whole rest depth inside r.0 r.1) taken
-    ∙ ap (λ (r : WorldAndEnd). then_rest meaning whole rest depth inside r.0 r.1) back
-
-pub endless_iteration : IterationGoesOn
-unfolding list_by
-endless_iteration whole body rest w v depth n inside fuel taken back =
-    unrolls.list whole (iter body rest) w depth inside ∙ paying (suc n) w _ fuel
-    ∙ ap (λ t. let r : WorldAndEnd = run_iteration meaning body (with_fuel w n) depth t in then_rest meaning whole rest depth inside r.0 r.1) taken
-    ∙ ap (λ (r : WorldAndEnd). then_rest meaning whole rest depth inside r.0 r.1) back
+block whole rest w v depth n inside fuel =
+    let follows : WorldAndEnd → WorldAndEnd = λ r. then_rest meaning whole rest depth inside r.0 r.1 in
+    let begins : (here : Nodes) → meaning.list whole here w depth inside ≡ list_by meaning whole here w depth inside = λ here. unrolls.list whole here w depth inside in
+    let turns : Nodes → Result Taken Code → WorldAndEnd = λ body t. follows (run_iteration meaning body (with_fuel w n) depth t) in
+    record {
+      counted = λ body k taken back. begins (iter body rest) ∙ paying (suc n) w _ fuel ∙ ap (turns body) taken ∙ ap follows back;
+      endless = λ body taken back. begins (iter body rest) ∙ paying (suc n) w _ fuel ∙ ap (turns body) taken ∙ ap follows back;
+      chooses = λ first second t k taken back.
+          begins (cond t first second rest) ∙ paying (suc n) w _ fuel
+          ∙ ap (λ x. follows (run_conditional meaning t first second (with_fuel w n) depth inside x)) taken
+          ∙ ap (λ (q : WorldAndEnd). follows (after_part q.0 q.1)) back;
+    }
 
 turned : (left : Option ℕ) (body : Nodes) (w : World) (depth : ℕ) (r : WorldAndEnd) → meaning.list body body w depth true ≡ r → run_turn meaning left body w depth ≡ after_turn meaning left body depth r.0 r.1
 turned left body w depth r e = ap (λ (x : WorldAndEnd). after_turn meaning left body depth x.0 x.1) (sym (unrolls.list body body w depth true) ∙ e)
@@ -271,9 +265,3 @@ leaving = record {
   endless = λ body w v depth e. unrolls.turns None body w depth ∙ turned None body w depth (v, leave) e;
 }
 
-pub conditional : ConditionalChooses
-unfolding list_by
-conditional whole first second rest t k w v depth n inside fuel taken back =
-    unrolls.list whole (cond t first second rest) w depth inside ∙ paying (suc n) w _ fuel
-    ∙ ap (λ x. let r : WorldAndEnd = run_conditional meaning t first second (with_fuel w n) depth inside x in then_rest meaning whole rest depth inside r.0 r.1) taken
-    ∙ ap (λ (q : WorldAndEnd). let r : WorldAndEnd = after_part q.0 q.1 in then_rest meaning whole rest depth inside r.0 r.1) back

@@ -15,7 +15,7 @@ use Rattle.teco_step.specs.Effect.{effect}
 use Rattle.teco_store.specs.State.{State}
 use Rattle.teco_scan.specs.Lists.{nodes}
 use Rattle.teco_exec.specs.Test.{holds}
-use Rattle.teco_exec.specs.World.{World, WorldAndEnd, without_arguments, world_after}
+use Rattle.teco_exec.specs.World.{World, WorldAndEnd, and_then, without_arguments, world_after}
 use Rattle.teco_exec.specs.Meaning.{meaning, run_after_tag, then_rest, after_call, turns_of, leave_comes, first_setting, list_by, turns_by, further_by}
 use Rattle.teco_exec.specs.StringMeaning.{StringMeaning, string_meaning}
 
@@ -81,63 +81,56 @@ comes_to whole rest i setting depth w (go name) =
 comes_to whole rest i setting depth w (call text) =
     if depth == CALL_LIMIT
     then (w, stop code.Pdo)
-    else (let r : WorldAndEnd = meaning.list (nodes text) (nodes text) w (depth + 1) false in
-    let q : WorldAndEnd = after_call r.0 r.1 in then_rest meaning whole rest depth setting.inside q.0 q.1)
+    else and_then (and_then (meaning.list (nodes text) (nodes text) w (depth + 1) false) after_call)
+    (then_rest meaning whole rest depth setting.inside)
 comes_to whole rest i setting depth w out = (w, out)
 comes_to whole rest i setting depth w (again work) =
-    let r : WorldAndEnd = meaning.further i (record setting { work = Some work }) w depth in
-    then_rest meaning whole rest depth setting.inside r.0 r.1
+    and_then (meaning.further i (record setting { work = Some work }) w depth)
+    (then_rest meaning whole rest depth setting.inside)
 comes_to whole rest i setting depth w (stop c) = (w, stop c)
 
 -- So a step of an item, whatever its end: the list comes to what follows the effect.
 abbrev pub StepEnds : Type 0
 StepEnds = (whole rest : Nodes) (m : Modifiers) (i : Item) (w : World) (depth n : ℕ) (inside : Bool)
-    → w.fuel ≡ suc n → (let d : Step = first_effect m i rest w inside in
-    meaning.list whole (item m i rest) w depth inside
+    → w.fuel ≡ suc n → meaning.list whole (item m i rest) w depth inside
     ≡ comes_to whole rest i (first_setting m inside (leave_comes rest)) depth
-    (stepped_world m i rest w inside n) d.end)
+    (stepped_world m i rest w inside n) (first_effect m i rest w inside).end
 
--- Where the effect lets the string go on, the rest of the list follows.
-abbrev pub StepGoesOn : Type 0
-StepGoesOn = (whole rest : Nodes) (m : Modifiers) (i : Item) (w : World) (depth n : ℕ) (inside : Bool)
-    → w.fuel ≡ suc n → (first_effect m i rest w inside).end ≡ on
-    → meaning.list whole (item m i rest) w depth inside
-    ≡ meaning.list whole rest (stepped_world m i rest w inside n) depth inside
+-- A list comes to an item.
+module _ (whole rest : Nodes) (m : Modifiers) (i : Item) (w : World) (depth n : ℕ) (inside : Bool) where
 
--- Where it is an error, the list ends by its code, after the step.
-abbrev pub StepStops : Type 0
-StepStops = (whole rest : Nodes) (m : Modifiers) (i : Item) (c : Code) (w : World) (depth n : ℕ)
-    (inside : Bool) → w.fuel ≡ suc n → (first_effect m i rest w inside).end ≡ stop c
-    → meaning.list whole (item m i rest) w depth inside ≡ (stepped_world m i rest w inside n, stop c)
+  -- how the effect of the item ends; the world that its step leaves; and what the list comes to
+  abbrev pub ends : End
+  ends = (first_effect m i rest w inside).end
 
--- A jump goes on after the first such tag directly in the list;
-abbrev pub JumpLands : Type 0
-JumpLands = (whole rest later : Nodes) (m : Modifiers) (i : Item) (name : List ℕ) (w : World) (depth n : ℕ)
-    (inside : Bool) → w.fuel ≡ suc n → (first_effect m i rest w inside).end ≡ go name
-    → after_tag name whole ≡ Some later
-    → meaning.list whole (item m i rest) w depth inside
-    ≡ meaning.list whole later (stepped_world m i rest w inside n) depth inside
+  abbrev pub left : World
+  left = stepped_world m i rest w inside n
 
--- where there is none, the jump leaves the list.
-abbrev pub JumpLeaves : Type 0
-JumpLeaves = (whole rest : Nodes) (m : Modifiers) (i : Item) (name : List ℕ) (w : World) (depth n : ℕ)
-    (inside : Bool) → w.fuel ≡ suc n → (first_effect m i rest w inside).end ≡ go name
-    → after_tag name whole ≡ None
-    → meaning.list whole (item m i rest) w depth inside ≡ (stepped_world m i rest w inside n, go name)
+  abbrev pub here : WorldAndEnd
+  here = meaning.list whole (item m i rest) w depth inside
 
--- A call runs the text with the same arguments, one deeper and inside no iteration; where it ends well, the
--- calling list goes on with what it left.
-abbrev pub CallReturns : Type 0
-CallReturns = (whole rest : Nodes) (m : Modifiers) (i : Item) (text : List ℕ) (w v : World) (depth n : ℕ)
-    (inside : Bool) → w.fuel ≡ suc n → (first_effect m i rest w inside).end ≡ call text → depth ≢ CALL_LIMIT
-    → meaning.list (nodes text) (nodes text) (stepped_world m i rest w inside n) (depth + 1) false ≡ (v, on)
-    → meaning.list whole (item m i rest) w depth inside ≡ meaning.list whole rest v depth inside
+  -- What follows the step of an item.
+  pub record StepSentences : Type 0 where
+    -- If the effect lets the string go on, the rest of the list follows.
+    pub goes_on : ends ≡ on → here ≡ meaning.list whole rest left depth inside
+    -- An error ends the list by its code, after the step.
+    pub error : (c : Code) → ends ≡ stop c → here ≡ (left, stop c)
+    -- A jump goes on after the first such tag directly in the list. If there is none, it leaves the list.
+    pub lands : (name : List ℕ) (later : Nodes) → ends ≡ go name → after_tag name whole ≡ Some later
+        → here ≡ meaning.list whole later left depth inside
+    pub leaves : (name : List ℕ) → ends ≡ go name → after_tag name whole ≡ None → here ≡ (left, go name)
+    -- A call runs the text with the same arguments, one deeper and inside no iteration. If the text ends well,
+    -- the calling list goes on with what it left.
+    pub returns : (text : List ℕ) (v : World) → ends ≡ call text → depth ≢ CALL_LIMIT
+        → meaning.list (nodes text) (nodes text) left (depth + 1) false ≡ (v, on)
+        → here ≡ meaning.list whole rest v depth inside
+    -- A call inside CALL_LIMIT others is PDO.
+    pub too_deep : (text : List ℕ) → ends ≡ call text → depth ≡ CALL_LIMIT → here ≡ (left, stop code.Pdo)
 
--- A call inside CALL_LIMIT others is PDO.
-abbrev pub CallTooDeep : Type 0
-CallTooDeep = (whole rest : Nodes) (m : Modifiers) (i : Item) (text : List ℕ) (w : World) (depth n : ℕ)
-    (inside : Bool) → w.fuel ≡ suc n → (first_effect m i rest w inside).end ≡ call text → depth ≡ CALL_LIMIT
-    → meaning.list whole (item m i rest) w depth inside ≡ (stepped_world m i rest w inside n, stop code.Pdo)
+-- These hold of the step of each item for which there is fuel.
+abbrev pub StepComesTo : Type 0
+StepComesTo = (whole rest : Nodes) (m : Modifiers) (i : Item) (w : World) (depth n : ℕ) (inside : Bool)
+    → w.fuel ≡ suc n → StepSentences whole rest m i w depth n inside
 
 -- A further step of a token has fuel of its own, and this work left.
 abbrev pub FurtherStep : Type 0
@@ -146,20 +139,33 @@ FurtherStep = (i : Item) (setting : Setting) (w : World) (depth n : ℕ) → w.f
     → meaning.further i setting w depth
     ≡ (world_after (with_fuel w n) (effect i setting w.state w.arguments), on)
 
--- An iteration uses one of the fuel and takes n. It runs its body n times and goes on with the arguments that
--- are left;
-abbrev pub IterationCounts : Type 0
-IterationCounts = (whole body rest : Nodes) (k : ℤ) (w v : World) (depth n : ℕ) (inside : Bool)
-    → w.fuel ≡ suc n → taken_from w.arguments ≡ Ok (taken.One k)
-    → meaning.turns (Some (turns_of k)) body (without_arguments (with_fuel w n)) depth ≡ (v, on)
-    → meaning.list whole (iter body rest) w depth inside ≡ meaning.list whole rest v depth inside
+-- A list comes to an iteration or a conditional, which leaves the world `v`.
+module _ (whole rest : Nodes) (w v : World) (depth n : ℕ) (inside : Bool) where
 
--- without n it runs it until it is left.
-abbrev pub IterationGoesOn : Type 0
-IterationGoesOn = (whole body rest : Nodes) (w v : World) (depth n : ℕ) (inside : Bool) → w.fuel ≡ suc n
-    → taken_from w.arguments ≡ Ok taken.None
-    → meaning.turns None body (without_arguments (with_fuel w n)) depth ≡ (v, on)
-    → meaning.list whole (iter body rest) w depth inside ≡ meaning.list whole rest v depth inside
+  -- Each uses one of the fuel, and takes its arguments.
+  abbrev pub begun : World
+  begun = without_arguments (with_fuel w n)
+
+  -- the rest of the list follows
+  abbrev pub RestFollows : Nodes → World → Type 0
+  RestFollows block u = meaning.list whole block w depth inside ≡ meaning.list whole rest u depth inside
+
+  pub record BlockSentences : Type 0 where
+    -- An iteration that takes n runs its body n times; without n it runs it until it is left.
+    pub counted : (body : Nodes) (k : ℤ) → taken_from w.arguments ≡ Ok (taken.One k)
+        → meaning.turns (Some (turns_of k)) body begun depth ≡ (v, on) → RestFollows (iter body rest) v
+    pub endless : (body : Nodes) → taken_from w.arguments ≡ Ok taken.None
+        → meaning.turns None body begun depth ≡ (v, on) → RestFollows (iter body rest) v
+    -- A conditional takes a number, runs the part that its test chooses, and drops the arguments.
+    pub chooses : (first second : Nodes) (t : Test) (k : ℤ) → takes_one code.Naq w.arguments ≡ Ok k
+        → (let part : Nodes = if holds t k then first else second in
+        meaning.list part part begun depth inside ≡ (v, on))
+        → RestFollows (cond t first second rest) (without_arguments v)
+
+-- These hold of each iteration and conditional for which there is fuel.
+abbrev pub BlockComesTo : Type 0
+BlockComesTo = (whole rest : Nodes) (w v : World) (depth n : ℕ) (inside : Bool)
+    → w.fuel ≡ suc n → BlockSentences whole rest w v depth n inside
 
 -- The end of a turn uses one of the fuel and drops the arguments. After the last turn nothing more is done;
 -- the body runs inside an iteration.
@@ -183,17 +189,6 @@ pub record LeavingEnds : Type 0 where
       → meaning.turns (Some (suc left)) body w depth ≡ (v, on)
   pub endless : (body : Nodes) (w v : World) (depth : ℕ) → meaning.list body body w depth true ≡ (v, leave)
       → meaning.turns None body w depth ≡ (v, on)
-
--- A conditional uses one of the fuel, takes a number, runs the part that its test chooses, and drops the
--- arguments.
-abbrev pub ConditionalChooses : Type 0
-ConditionalChooses =
-    (whole first second rest : Nodes) (t : Test) (k : ℤ) (w v : World) (depth n : ℕ) (inside : Bool)
-    → w.fuel ≡ suc n → takes_one code.Naq w.arguments ≡ Ok k
-    → (let part : Nodes = if holds t k then first else second in
-    meaning.list part part (without_arguments (with_fuel w n)) depth inside ≡ (v, on))
-    → meaning.list whole (cond t first second rest) w depth inside
-    ≡ meaning.list whole rest (without_arguments v) depth inside
 
 -- No string takes more steps than its limit.
 abbrev pub StepsWithinLimit : Type 0

@@ -17,7 +17,7 @@ use Rattle.teco_step.specs.Step.{Step, End, on, leave, go, call, again, stop, ta
 use Rattle.teco_step.specs.Effect.{effect}
 use Rattle.teco_scan.specs.Lists.{nodes}
 use Rattle.teco_exec.specs.Test.{holds}
-use Rattle.teco_exec.specs.World.{World, WorldAndEnd, without_arguments, world_after, pay}
+use Rattle.teco_exec.specs.World.{World, WorldAndEnd, and_then, without_arguments, world_after, pay}
 
 -- the meaning of a list from a place in it; of the turns of an iteration that are left (none: without end);
 -- and of a further step
@@ -50,8 +50,7 @@ abbrev pub run_call : Meaning → List ℕ → World → ℕ → WorldAndEnd
 run_call m text w depth =
     if depth == CALL_LIMIT
     then (w, stop code.Pdo)
-    else (let r : WorldAndEnd = m.list (nodes text) (nodes text) w (depth + 1) false in
-    after_call r.0 r.1)
+    else and_then (m.list (nodes text) (nodes text) w (depth + 1) false) after_call
 
 -- what a token does after a step of it: a call runs its text, and a further step has fuel of its own
 abbrev pub run_after_step : Meaning → Item → Setting → ℕ → World → End → WorldAndEnd
@@ -82,9 +81,7 @@ after_part w on = (without_arguments w, on)
 after_part w e = (w, e)
 
 abbrev pub run_part : Meaning → Nodes → World → ℕ → Bool → WorldAndEnd
-run_part m nodes w depth inside =
-    let r : WorldAndEnd = m.list nodes nodes w depth inside in
-    after_part r.0 r.1
+run_part m nodes w depth inside = and_then (m.list nodes nodes w depth inside) after_part
 
 abbrev pub run_conditional : Meaning → Test → Nodes → Nodes → World → ℕ → Bool → Result ℤ Code → WorldAndEnd
 run_conditional m t first second w depth inside (Ok n) =
@@ -110,15 +107,14 @@ list_by m whole (faulty c) w depth inside = (w, stop c)
 list_by m whole (tag name rest) w depth inside = list_by m whole rest w depth inside
 list_by m whole (escape rest) w depth inside = list_by m whole rest (without_arguments w) depth inside
 list_by m whole (item marks i rest) w depth inside =
-    pay w (λ v. let r : WorldAndEnd = run_step m i (first_setting marks inside (leave_comes rest)) v depth in
-    then_rest m whole rest depth inside r.0 r.1)
+    pay w (λ v. and_then (run_step m i (first_setting marks inside (leave_comes rest)) v depth)
+    (then_rest m whole rest depth inside))
 list_by m whole (iter body rest) w depth inside =
-    pay w (λ v. let r : WorldAndEnd = run_iteration m body v depth (taken_from v.arguments) in
-    then_rest m whole rest depth inside r.0 r.1)
+    pay w (λ v. and_then (run_iteration m body v depth (taken_from v.arguments))
+    (then_rest m whole rest depth inside))
 list_by m whole (cond t first second rest) w depth inside =
-    pay w (λ v. let r : WorldAndEnd =
-    run_conditional m t first second v depth inside (takes_one code.Naq v.arguments) in
-    then_rest m whole rest depth inside r.0 r.1)
+    pay w (λ v. and_then (run_conditional m t first second v depth inside (takes_one code.Naq v.arguments))
+    (then_rest m whole rest depth inside))
 
 -- The end of each turn uses a step and drops the arguments; leaving ends the iteration.
 abbrev pub after_turn : Meaning → Option ℕ → Nodes → ℕ → World → End → WorldAndEnd
@@ -127,9 +123,7 @@ after_turn m left body depth w leave = (w, on)
 after_turn m left body depth w e = (w, e)
 
 abbrev pub run_turn : Meaning → Option ℕ → Nodes → World → ℕ → WorldAndEnd
-run_turn m left body w depth =
-    let r : WorldAndEnd = list_by m body body w depth true in
-    after_turn m left body depth r.0 r.1
+run_turn m left body w depth = and_then (list_by m body body w depth true) (after_turn m left body depth)
 
 unfoldable pub turns_by : Meaning → Option ℕ → Nodes → World → ℕ → WorldAndEnd
 turns_by m None body w depth = run_turn m None body w depth

@@ -1,5 +1,5 @@
 //! What the meaning of command strings says, and the machine beside it.
-ghost use Rattle.teco_exec.specs.Laws.{MeaningUnrolls, EmptyListEnds, FaultStops, TagIsPassed, EscapeDrops, NothingWithoutFuel, StepEnds, StepGoesOn, StepStops, JumpLands, JumpLeaves, CallReturns, CallTooDeep, FurtherStep, IterationCounts, IterationGoesOn, TurnEnds, LeavingEnds, ConditionalChooses, StepsWithinLimit, MoreLimitChangesNothing, EnoughIsEnough, ZeroLimitChangesNothing, ExitEndsWell};
+ghost use Rattle.teco_exec.specs.Laws.{MeaningUnrolls, EmptyListEnds, FaultStops, TagIsPassed, EscapeDrops, NothingWithoutFuel, StepEnds, StepComesTo, FurtherStep, BlockComesTo, TurnEnds, LeavingEnds, StepsWithinLimit, MoreLimitChangesNothing, EnoughIsEnough, ZeroLimitChangesNothing, ExitEndsWell};
 ghost use Rattle.teco_exec.specs.MachineLaws.{MachineMeans, MachineFollows};
 
 use teco_scan::block_laws;
@@ -14,18 +14,11 @@ pub fn meaning_laws()
     ensures escape { EscapeDrops }
     ensures no_fuel { NothingWithoutFuel }
     ensures step_ends { StepEnds }
-    ensures step { StepGoesOn }
-    ensures error { StepStops }
-    ensures jump_caught { JumpLands }
-    ensures jump_not_caught { JumpLeaves }
-    ensures macro_call { CallReturns }
-    ensures call_too_deep { CallTooDeep }
+    ensures step { StepComesTo }
     ensures further_step { FurtherStep }
-    ensures iteration { IterationCounts }
-    ensures endless_iteration { IterationGoesOn }
+    ensures block { BlockComesTo }
     ensures turn_end { TurnEnds }
     ensures leaving { LeavingEnds }
-    ensures conditional { ConditionalChooses }
     ensures within_limit { StepsWithinLimit }
     ensures more_limit { MoreLimitChangesNothing }
     ensures enough { EnoughIsEnough }
