@@ -67,5 +67,17 @@ void look(const struct teco *t, struct view *view, const struct window *window)
     (void)teco_output(t, 0, view->typed, 0, &view->output);
     view->is_done = teco_done(t) == 1;
     find_window(t, view, window);
-    view->line = 1 + lines_before(t, view->pointer, mark_changes(t, view));
+    struct same same = mark_changes(t, view);
+    if (view->subject == OF_SESSION || view->subject == OF_STRING)
+        view->same = same;
+    view->line = 1 + lines_before(t, view->pointer, view->length, view->same);
+}
+
+void keep_same(const struct teco *t, struct view *view)
+{
+    view->count = 0;
+    (void)teco_length(t, &view->length);
+    struct same same = mark_changes(t, view);
+    view->same.front = same.front < view->same.front ? same.front : view->same.front;
+    view->same.back = same.back < view->same.back ? same.back : view->same.back;
 }

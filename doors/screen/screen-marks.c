@@ -74,25 +74,35 @@ static bool follow_piece(struct pieces *pieces, size_t i, const struct splice *s
     return true;
 }
 
-size_t mark_changes(const struct teco *t, struct view *view)
+/* Less is as it was with one more splice, which is undone in a text of so many bytes; and how many there are then. */
+static size_t narrow(struct same *same, const struct splice *splice, size_t length)
+{
+    size_t behind = length - splice->at - splice->gone;
+    same->front = splice->at < same->front ? splice->at : same->front;
+    same->back = behind < same->back ? behind : same->back;
+    return length - splice->gone + splice->came;
+}
+
+struct same mark_changes(const struct teco *t, struct view *view)
 {
     static struct pieces pieces;
-    size_t strings, changes, first = view->length;
+    size_t strings, changes, length = view->length;
+    struct same same = {length, length};
     memset(view->marks, 0, view->count + 1);
     pieces = (struct pieces){.view = view, .count = 1};
     pieces.at[0] = (struct piece){0, view->count + (view->from + view->count == view->length), view->from};
     if (teco_cursor(t, &strings) != 0 || strings == 0 || teco_changes(t, strings - 1, &changes) != 0)
-        return first;
+        return same;
     if (changes > MOST_CHANGES)
-        return 0;
+        return (struct same){0};
     for (size_t k = changes; k-- > 0;) {
         struct splice splice;
         if (teco_splice(t, strings - 1, k, &splice.at, &splice.gone, &splice.came) != 0 || (splice.gone == 0 && splice.came == 0))
             continue;
-        first = splice.at < first ? splice.at : first;
+        length = narrow(&same, &splice, length);
         splice.is_marked = !is_of_page(t, strings - 1, k);
         for (size_t i = pieces.count; i-- > 0 && follow_piece(&pieces, i, &splice);)
             continue;
     }
-    return first;
+    return same;
 }

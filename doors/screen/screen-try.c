@@ -71,6 +71,7 @@ static void begin_view(const struct request *request)
     view.n = request->n;
     view.closed = view.tail = 0;
     view.is_search_alone = view.goes_on = view.is_broken_off = false;
+    view.same = (struct same){SIZE_MAX, SIZE_MAX};
 }
 
 /* Takes the string back, if it was begun. */
@@ -133,6 +134,7 @@ static void try_step(struct work *work, const struct request *request)
     size_t cursor, n;
     (void)alarm(LAST_SECONDS);
     begin_view(request);
+    keep_same(&work->session, &view);
     uint8_t code = teco_rewind(&work->session, request->number);
     tell_steps(work, request, code, code == 0);
     if (code != 0 || teco_cursor(&work->session, &cursor) != 0 || teco_string(&work->session, cursor - 1, closed, LONGEST, &n) != 0)
@@ -145,8 +147,13 @@ static void try_step(struct work *work, const struct request *request)
 static void try_history(struct work *work, const struct request *request)
 {
     begin_view(request);
-    for (uint64_t i = 0; view.told.code == 0 && i < request->number; i++)
+    for (uint64_t i = 0; view.told.code == 0 && i < request->number; i++) {
+        if (request->subject == OF_UNDO)
+            keep_same(&work->session, &view);
         view.told.code = request->subject == OF_UNDO ? teco_undo(&work->session) : teco_redo(&work->session);
+        if (request->subject == OF_REDO)
+            keep_same(&work->session, &view);
+    }
     look(&work->session, &view, &request->window);
     preview_tell(&view);
 }

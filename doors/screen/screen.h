@@ -38,6 +38,11 @@ struct request {
     struct window window;
 };
 
+/* How much of a text is as it was: so many bytes at its beginning, and so many at its end. */
+struct same {
+    size_t front, back;
+};
+
 /* What is drawn of a session: plain values and bytes, so that another process can hand it over. */
 struct view {
     enum subject subject;
@@ -49,6 +54,7 @@ struct view {
     bool is_broken_off;      /* it took too long */
     bool is_done;            /* an exit has ended the session */
     size_t length, pointer, place, output, line;
+    struct same same;        /* of the text whose lines were counted */
     size_t from, count;      /* the bytes below are those from a place on */
     size_t tail;             /* the last bytes that were typed */
     uint8_t typed[TAIL];
@@ -101,15 +107,18 @@ size_t row_of_pointer(const struct view *view, size_t rows, size_t columns);
 /* Looks at a session. The window follows the pointer, but not of a search that failed while it is typed. */
 void look(const struct teco *t, struct view *view, const struct window *window);
 
-/* Marks what the last string changed in the window, and tells the first place that it changed, or 0 where that takes too long. */
-size_t mark_changes(const struct teco *t, struct view *view);
+/* Before a string is undone or cut, and after one is redone: what it changed is no longer as it was. */
+void keep_same(const struct teco *t, struct view *view);
+
+/* Marks what the last string changed in the window, and tells how much it left as it was, or nothing where that takes too long. */
+struct same mark_changes(const struct teco *t, struct view *view);
 
 /* Line ends of the text of a session, counted once for as long as it stays: lines_count does it, lines_forget drops it, and lines_before
-   tells how many are before a place of a text of which nothing before `same` has changed since then. */
+   tells how many are before a place of a text of so many bytes, of which so much is the same. */
 void lines_count(const struct teco *t);
 void lines_forget(void);
 bool lines_are_counted(void);
-size_t lines_before(const struct teco *t, size_t place, size_t same);
+size_t lines_before(const struct teco *t, size_t place, size_t length, struct same same);
 
 /* The page of a place of INPUT, from 1, or 0 where nothing is read. */
 size_t page_at(const struct work *work, size_t place);
