@@ -2,6 +2,7 @@
 ghost use Rattle.std.specs.Prelude.{◌≡◌, ◌<◌, ◌≤◌, ◌-◌, [], ◌∷◌, IfOk, None, Some, length, MatchOption, slice_get};
 ghost use Rattle.teco_exec.specs.Frames.{EndsTurn, has_iteration, kind_of, list_start, next_turn, outermost, turns_open};
 
+use crate::room::Room;
 use std::alloc::Global;
 use std::marker::Model;
 use teco_core::{BLOCK_LIMIT, NoMemory};
@@ -45,7 +46,7 @@ pub(crate) struct Block {
 #[derive(Drop)]
 pub(crate) struct Blocks<'r> {
     /// The outermost first; after the open ones come blocks that mean nothing.
-    open: &'r mut [Block],
+    room: &'r mut Room,
     depth: usize,
 }
 
@@ -56,20 +57,18 @@ impl<'r> Model for Blocks<'r> {
 
     ghost Value = { List Block };
 
-    ghost view = { λ b. reverse (take b.depth b.open.now) };
+    ghost view = { λ b. reverse (take b.depth b.room.now) };
 
-    ghost invariant = { λ b. (b.depth ≤ BLOCK_LIMIT) × (length b.open.now ≡ BLOCK_LIMIT) };
+    ghost invariant = { λ b. (b.depth ≤ BLOCK_LIMIT) × (length b.room.now ≡ BLOCK_LIMIT) };
 }
 
 impl<'r> Blocks<'r> {
     /// No block is open. What is in the room means nothing.
-    pub fn new(room: &'r mut [Block; BLOCK_LIMIT]) -> Blocks<'r>
+    pub fn new(room: &'r mut Room) -> Blocks<'r>
+        requires { length room.old ≡ BLOCK_LIMIT }
         ensures { result ≡ [] }
     {
-        Blocks {
-            open: room,
-            depth: 0,
-        }
+        Blocks { room, depth: 0 }
     }
 
     /// How many blocks are open, from 0 to 64.
@@ -85,7 +84,7 @@ impl<'r> Blocks<'r> {
         requires { length self.old < BLOCK_LIMIT }
         ensures { self.new ≡ block ∷ self.old }
     {
-        self.open[self.depth] = block;
+        self.room.set(self.depth, block);
         self.depth += 1;
     }
 
@@ -97,7 +96,7 @@ impl<'r> Blocks<'r> {
             return None;
         }
         self.depth -= 1;
-        Some(self.open[self.depth])
+        Some(self.room.get(self.depth))
     }
 
     /// The innermost block, if one is open.
@@ -107,7 +106,7 @@ impl<'r> Blocks<'r> {
         if self.depth == 0 {
             return None;
         }
-        Some(self.open[self.depth - 1])
+        Some(self.room.get(self.depth - 1))
     }
 
     /// Begins the next turn of the innermost block, an iteration, and tells where its list begins. There is none after the last
@@ -121,15 +120,17 @@ impl<'r> Blocks<'r> {
         if self.depth == 0 {
             return None;
         }
-        let block = self.open[self.depth - 1];
+        let block = self.room.get(self.depth - 1);
         match block.body {
             Body::Endless => Some(block.start),
             Body::Turns(left) => {
                 if left == 0 {
                     return None;
                 }
-                self.open[self.depth - 1].body = Body::Turns(left - 1);
-                Some(block.start)
+                let start = block.start;
+                let body = Body::Turns(left - 1);
+                self.room.set(self.depth - 1, Block { start, body });
+                Some(start)
             }
             Body::Then | Body::Else => None,
         }
@@ -142,7 +143,7 @@ impl<'r> Blocks<'r> {
         requires few { depth ≤ BLOCK_LIMIT }
         ensures { outermost depth self.now ≡ result ∷ outermost (depth - 1) self.now }
     {
-        self.open[depth - 1]
+        self.room.get(depth - 1)
     }
 
     /// Closes the innermost blocks, so that as many as this depth are left.
@@ -173,7 +174,7 @@ impl<'r> Blocks<'r> {
         let mut depth = self.depth;
         'outward: while depth > 0 {
             depth -= 1;
-            match self.open[depth].body {
+            match self.room.get(depth).body {
                 Body::Endless => turns.push(None)?,
                 Body::Turns(left) => turns.push(Some(left))?,
                 Body::Then | Body::Else => {}
@@ -189,7 +190,7 @@ impl<'r> Blocks<'r> {
         let mut depth = self.depth;
         while depth > 0 {
             depth -= 1;
-            match self.open[depth].body.kind() {
+            match self.room.get(depth).body.kind() {
                 Kind::Iter => return true,
                 Kind::Then | Kind::Else => {}
             }

@@ -13,6 +13,7 @@ mod moves;
 mod outcome;
 mod place;
 mod remembered;
+mod room;
 mod running;
 mod stepping;
 mod stop;
