@@ -4,6 +4,7 @@ use Rattle.teco_session.specs.Kept.{history_of}
 use Rattle.teco_step.specs.Terminal.{Shows}
 use Rattle.teco_files.specs.Source.{Gives}
 use Rattle.teco_program.specs.Stream.{requests, texts_of}
+use Rattle.teco_program.specs.Exchange.{HasRung, allowance}
 use Rattle.teco_program.specs.Message.{star}
 use Rattle.teco_program.proofs.Showing.{Shows-joins}
 use Rattle.teco_files.proofs.Sources.{Gives-nil, Gives-more, Gives-on}
@@ -103,7 +104,7 @@ returns-in-Some g c =
       bytes = bytes;
       read = subst (λ b. Gives g.S.Source.coming g.S.Source.bound g.S.Source.failures c.args.source.now c.read.new.self bytes b) (sym ends.read) (Gives-more inv.2 c.in-Ok.ensures.ok);
       exchanges = inv.1 ++ d.0;
-      done = Exchanges-append c.args.limit (history_of c.args.session.now) (history_of c.pieces.session) (history_of c.serve_held.new.session) inv.1 d.0 inv.3 d.1;
+      done = Exchanges-append (allowance c.args.bounds (HasRung g.A.Stop.answered)) (history_of c.args.session.now) (history_of c.pieces.session) (history_of c.serve_held.new.session) inv.1 d.0 inv.3 d.1;
       first = CutsOff-first bytes c.serve_held.new.splitter (inv.1 ++ d.0) cut;
       all = λ out. absurd (ends.all out);
       ended = λ end. absurd (ends.ended end);
@@ -123,7 +124,7 @@ pieces-preserved g c =
       bytes,
       inv.1 ++ d.0,
       Gives-more inv.2 c.in-Ok.ensures.ok,
-      Exchanges-append c.args.limit (history_of c.args.session.now) (history_of c.pieces.session) (history_of c.serve_held.new.session) inv.1 d.0 inv.3 d.1,
+      Exchanges-append (allowance c.args.bounds (HasRung g.A.Stop.answered)) (history_of c.args.session.now) (history_of c.pieces.session) (history_of c.serve_held.new.session) inv.1 d.0 inv.3 d.1,
       cut,
       d.3,
       GoOn-append inv.1 d.0 inv.6 d.4.0,
