@@ -25,7 +25,7 @@ pub runs_allowed : {A : Type 0} (answered : A → Answers) (alarm : A) (bounds :
     → RunsAllowed (allowance bounds (HasRung answered)) outcome RanUnder
 runs_allowed answered alarm bounds outcome RanUnder under some within (inl e) ran = inl (subst RanUnder e ran)
 runs_allowed answered alarm bounds outcome RanUnder under some within (inr b) ran = inr (record {
-  asked = (some, alarm, b.asked);
+  asked = (some, (alarm, b.asked));
   within = subst (λ k. k ≤ bounds.steps) b.steps within;
   code = b.code;
   ran = subst RanUnder b.steps ran;

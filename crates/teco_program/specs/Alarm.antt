@@ -1,5 +1,5 @@
 -- What is seen of an alarm by a clock.
-use Rattle.std.specs.Prelude.{◌≤◌, ◌-◌, ◌/◌, ℕ, Option, Some, None}
+use Rattle.std.specs.Prelude.{◌≤◌, ◌-◌, ◌/◌, ℕ, Option, Some}
 use Rattle.std.specs.Time.{instant_nanos}
 use Rattle.std.specs.declared.time.Instant.{Instant}
 

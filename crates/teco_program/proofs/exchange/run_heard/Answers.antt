@@ -1,4 +1,4 @@
-use Rattle.std.proofs.Common.{◌≡◌, inl, refl, rules}
+use Rattle.std.proofs.Common.{inl, rules}
 use Rattle.std.specs.Prelude.{IsSome}
 use Rattle.teco_session.specs.Answers.{string_outcome}
 use Rattle.teco_session.specs.Kept.{history_of}
@@ -10,8 +10,7 @@ pub returns-in-Some-clause-step : goal.returns-in-Some-clause-step
 returns-in-Some-clause-step g c =
     let ran = c.run_where_until.ensures.step in
     let some : IsSome c.args.bounds.seconds = search rules in
-    let answer = c.run_where_until.result.answer in
-    (
+    let answer = c.run_where_until.result.answer in (
       ran.so.0,
       runs_allowed g.A.Stop.answered c.run_where_until.new.stop c.args.bounds (string_outcome answer)
           (λ limit. RunStep limit (history_of c.args.session.now) c.args.text.now answer ran.so.0 (history_of c.run_where_until.new.self))
