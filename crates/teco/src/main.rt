@@ -8,10 +8,10 @@ use std::process;
 use std::process::ExitCode;
 use teco_files::{FileDisk, ReaderSource};
 use teco_line::{LineFault, fault_of_words, not_text};
-use teco_program::program;
+use teco_program::{ClockAlarm, program};
 use teco_terminal::WriterTerminal;
 
-// The theorem ends here: that these are the program's words, streams and files is told by no contract.
+// The theorem ends here: that these are the program's words, streams, clock and files is told by no contract.
 
 /// The words that the program was called with.
 fn words_given(rt: &HostRuntime) -> Result<Vec<String>, LineFault> {
@@ -27,6 +27,7 @@ fn main(rt: HostRuntime) -> ExitCode {
         words_given(&rt),
         process::id(rt.process()),
         &mut ReaderSource::new(rt.stdin()),
+        &mut ClockAlarm::new(&rt),
         &mut WriterTerminal::new(rt.stdout()),
         &mut WriterTerminal::new(rt.stderr()),
         &mut WriterTerminal::new(rt.stderr()),

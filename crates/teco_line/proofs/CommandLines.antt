@@ -217,6 +217,7 @@ module _ (c : Command) (is : app_of c ≡ teco_app) (m : ArgMatches) (p : IsPars
   given_is = record {
     input = required_given (codes "input") refl refl refl refl;
     limit = number_given (codes "limit") refl 0 1000000000000 refl refl refl refl;
+    seconds = number_fits (codes "seconds") refl 1 1000000000000 refl;
     undo = number_fits (codes "undo") refl 1 DEPTH_LIMIT refl;
     page_lines = number_fits (codes "page-lines") refl 1 1000000000 refl;
   }

@@ -17,6 +17,7 @@ pub record Row : Type 0 where
   pub check : Option Text
   pub explain : Option Text
   pub limit : Option Text
+  pub seconds : Option Text
   pub undo : Option Text
   pub page_lines : Option Text
 
@@ -30,6 +31,7 @@ row_of words = record {
   check = one_of (codes "check") (matches_of teco_app words);
   explain = one_of (codes "explain") (matches_of teco_app words);
   limit = one_of (codes "limit") (matches_of teco_app words);
+  seconds = one_of (codes "seconds") (matches_of teco_app words);
   undo = one_of (codes "undo") (matches_of teco_app words);
   page_lines = one_of (codes "page-lines") (matches_of teco_app words);
 }
@@ -45,6 +47,7 @@ plain input = record {
   check = Some (codes "false");
   explain = Some (codes "false");
   limit = Some (codes "1000000");
+  seconds = None;
   undo = None;
   page_lines = None;
 }
@@ -54,12 +57,14 @@ alone : row_of (codes "teco" ∷ codes "a" ∷ []) ≡ plain (codes "a")
 unfolding clap_on_literals
 alone = refl
 
--- teco --limit 5 a; teco --undo 1 a; teco a --page-lines=7
+-- teco --limit 5 a; teco --seconds 9 a; teco --undo 1 a; teco a --page-lines=7
 numbers : map row_of (
     (codes "teco" ∷ codes "--limit" ∷ codes "5" ∷ codes "a" ∷ [])
+    ∷ (codes "teco" ∷ codes "--seconds" ∷ codes "9" ∷ codes "a" ∷ [])
     ∷ (codes "teco" ∷ codes "--undo" ∷ codes "1" ∷ codes "a" ∷ [])
     ∷ (codes "teco" ∷ codes "a" ∷ codes "--page-lines=7" ∷ [])
     ∷ []) ≡ record (plain (codes "a")) { limit = Some (codes "5") }
+    ∷ record (plain (codes "a")) { seconds = Some (codes "9") }
     ∷ record (plain (codes "a")) { undo = Some (codes "1") }
     ∷ record (plain (codes "a")) { page_lines = Some (codes "7") }
     ∷ []
@@ -166,6 +171,8 @@ faults : map (fault_of teco_app) (
     ∷ (codes "teco" ∷ codes "a" ∷ codes "--limit" ∷ [])
     ∷ (codes "teco" ∷ codes "a" ∷ codes "--limit=x" ∷ [])
     ∷ (codes "teco" ∷ codes "a" ∷ codes "--limit=1000000000001" ∷ [])
+    ∷ (codes "teco" ∷ codes "a" ∷ codes "--seconds=0" ∷ [])
+    ∷ (codes "teco" ∷ codes "a" ∷ codes "--seconds=1000000000001" ∷ [])
     ∷ (codes "teco" ∷ codes "a" ∷ codes "--undo=0" ∷ [])
     ∷ (codes "teco" ∷ codes "a" ∷ codes "--undo=100001" ∷ [])
     ∷ (codes "teco" ∷ codes "a" ∷ codes "--undo=x" ∷ [])
@@ -179,6 +186,7 @@ faults : map (fault_of teco_app) (
     ∷ (codes "teco" ∷ codes "a" ∷ codes "-bc" ∷ codes "--bytes=d" ∷ [])
     ∷ (codes "teco" ∷ codes "--help" ∷ [])
     ∷ []) ≡ (MissingRequiredArgument ∷ []) ∷ (InvalidValue ∷ []) ∷ (ValueValidation ∷ []) ∷ (ValueValidation ∷ [])
+    ∷ (ValueValidation ∷ []) ∷ (ValueValidation ∷ [])
     ∷ (ValueValidation ∷ []) ∷ (ValueValidation ∷ []) ∷ (ValueValidation ∷ []) ∷ (ValueValidation ∷ []) ∷ (ValueValidation ∷ []) ∷ (TooManyValues ∷ []) ∷ (ArgumentConflict ∷ []) ∷ (UnknownArgument ∷ [])
     ∷ (InvalidValue ∷ []) ∷ (UnknownArgument ∷ []) ∷ (ArgumentConflict ∷ []) ∷ (DisplayHelp ∷ []) ∷ []
 unfolding clap_on_literals

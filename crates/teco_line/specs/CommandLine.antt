@@ -127,6 +127,8 @@ pub record HasLine (rows : List Row) (line : Line) : Type 0 where
   pub commands : SaysCommands rows line.commands
   -- the limit, which is there: by its default where it is not given
   pub limit : option_map number_of (one_of (codes "limit") rows) ≡ Some line.limit
+  -- the seconds that a string may run, if they are given
+  pub seconds : option_map number_of (one_of (codes "seconds") rows) ≡ line.seconds
   pub prompt : IsTrue line.prompt ↔ (one_of (codes "prompt") rows ≡ Some (codes "true"))
   pub in_place : IsTrue line.in_place ↔ (one_of (codes "in-place") rows ≡ Some (codes "true"))
   pub check : IsTrue line.check ↔ (one_of (codes "check") rows ≡ Some (codes "true"))
@@ -156,6 +158,7 @@ IsNumber text = IsNumeral 10 (without_leading_plus text) × (number_of text < 2 
 pub record IsGiven (rows : List Row) : Type 0 where
   pub input : is_some (first_of (codes "input") rows) ≡ true
   pub limit : IsSomeAnd (one_of (codes "limit") rows) (IsUnsignedIn 0 1000000000000)
+  pub seconds : IfSome (one_of (codes "seconds") rows) (IsUnsignedIn 1 1000000000000)
   pub undo : IfSome (one_of (codes "undo") rows) (IsUnsignedIn 1 DEPTH_LIMIT)
   pub page_lines : IfSome (one_of (codes "page-lines") rows) (IsUnsignedIn 1 1000000000)
 

@@ -59,6 +59,7 @@ option_rules = with_text (codes "execute") (Some 101)
     ∷ flag (codes "check") None
     ∷ with_number (codes "page-lines") None 1 1000000000 []
     ∷ with_number (codes "limit") None 0 1000000000000 (codes "1000000" ∷ [])
+    ∷ with_number (codes "seconds") None 1 1000000000000 []
     ∷ with_number (codes "undo") None 1 DEPTH_LIMIT []
     ∷ flag (codes "prompt") None
     ∷ flag (codes "explain") None

@@ -1,6 +1,8 @@
 -- Why a line is refused: what it is told as, its text and its status.
-use Rattle.std.specs.Prelude.{ℕ, List, ◌∷◌, [], ◌++◌, codes, ◌≡◌, ◌≢◌, Some, option_map}
+use Rattle.std.specs.Prelude.{ℕ, List, ◌∷◌, [], ◌++◌, codes, ◌≡◌, ◌≢◌, IfSome, Option, Some, option_map}
 use Rattle.std.specs.String.{string_bytes}
+use Rattle.std.specs.declared.string.String.{String}
+use Rattle.std.specs.declared.alloc.Global.{Global}
 use Rattle.clap.specs.declared.error.kind.ErrorKind.{ErrorKind}
 use Rattle.clap.specs.declared.error.kind.ErrorKind.TheVariants as kind
 use Rattle.teco_line.specs.declared.line.refusal.RefusedAs.{RefusedAs}
@@ -21,6 +23,10 @@ status_of_refusal Help = 0
 status_of_refusal Version = 0
 status_of_refusal Faulty = 3
 status_of_refusal NoMemory = 3
+
+-- The text is the bytes that an error shows, if its type tells them.
+abbrev pub IsShown : Option (List ℕ) → String Global → Type 0
+IsShown output text = IfSome output (λ shown. string_bytes text ≡ shown)
 
 -- the text of a faulty line of a program with this usage
 abbrev pub fault_text : List ℕ → List ℕ → List ℕ

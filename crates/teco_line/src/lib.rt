@@ -4,7 +4,7 @@
 mod line;
 
 pub use line::{
-    Commands, Line, LineFault, MOST_PAGE_LINES, MOST_STEPS, Refusal, RefusedAs, VERSION,
-    commands_on_pages, fault_of_words, faulty, is_standard_input, is_standard_output, line_of,
-    not_text, refused_by, refused_status,
+    Commands, Line, LineFault, MOST_PAGE_LINES, MOST_SECONDS, MOST_STEPS, Refusal, RefusedAs,
+    VERSION, commands_on_pages, fault_of_words, faulty, is_standard_input, is_standard_output,
+    line_of, not_text, refused_by, refused_status,
 };

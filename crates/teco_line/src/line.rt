@@ -21,6 +21,9 @@ use values::{are_given, flag_at, number_at, text_at, text_given, texts_at, texts
 /// The most steps that a command string may be given.
 pub const MOST_STEPS: u64 = 1_000_000_000_000;
 
+/// The most seconds that a command string may be given.
+pub const MOST_SECONDS: u64 = 1_000_000_000_000;
+
 /// The most line ends that a page may be asked to end after.
 pub const MOST_PAGE_LINES: u64 = 1_000_000_000;
 
@@ -67,6 +70,8 @@ pub struct Line {
     pub commands: Commands,
     /// The most steps that each command string may take, at most [`MOST_STEPS`].
     pub limit: u64,
+    /// The most seconds that each command string may run, from 1 to [`MOST_SECONDS`]; without it none is broken off.
+    pub seconds: Option<u64>,
     /// Whether the output is written over the input.
     pub in_place: bool,
     /// Whether the commands are checked, and nothing is run.
@@ -208,6 +213,7 @@ fn line_in<'a>(alloc: Global, matches: &ArgMatches<'a>) -> Result<Line, LineFaul
     let more = texts_at(alloc, matches, "more")?;
     let output = text_at(alloc, matches, "output")?;
     let limit = number_at(matches, "limit").unwrap();
+    let seconds = number_at(matches, "seconds");
     let undo = number_at(matches, "undo");
     let page_lines = number_at(matches, "page-lines");
     let prompt = flag_at(matches, "prompt");
@@ -220,6 +226,7 @@ fn line_in<'a>(alloc: Global, matches: &ArgMatches<'a>) -> Result<Line, LineFaul
         output,
         commands,
         limit,
+        seconds,
         prompt,
         in_place,
         check,

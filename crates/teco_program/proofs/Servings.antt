@@ -2,7 +2,7 @@
 use Rattle.std.proofs.Common.{◌≡◌, ℕ, List, [], ◌∷◌, ◌++◌, map, Bool, true, false, Some, refl, sym, ap, ◌∙◌, subst, append-nil, append_assoc, true≢false, inr}
 use Rattle.teco_session.specs.History.{History}
 use Rattle.teco_program.specs.Message.{star}
-use Rattle.teco_program.specs.Exchange.{BreaksOff, Exchange, exchange_shown}
+use Rattle.teco_program.specs.Exchange.{Allowance, BreaksOff, Exchange, exchange_shown}
 use Rattle.teco_program.specs.Stream.{Asks, asks_of, requests, texts_of}
 use Rattle.teco_program.specs.Serving.{AreFirstOf, Exchanges, Exits, GoOn, Shown, all_shown, asked_in, exchanges_shown, is_read_fault, is_read_out}
 use Rattle.teco_program.specs.Held.{IsExchange, ExchangeEnds, HeldEnds, CutsOff}
@@ -13,13 +13,13 @@ use Rattle.teco_program.specs.declared.served.Served.TheVariants.{Exit, EndOfCom
 use Rattle.teco_program.proofs.Showing.{BreaksOff-after, BreaksOff-first, Joins}
 
 -- one exchange more
-pub Exchanges-more : (limit : ℕ) (old mid new : History) (exchanges : List Exchange) (exchange : Exchange) (asked : Asks) → Exchanges limit old exchanges mid → IsExchange limit asked mid new exchange → Exchanges limit old (exchanges ++ exchange ∷ []) new
-Exchanges-more limit old mid new [] exchange asked p t = (t.before_is ∙ p, t.does, sym t.after_is)
-Exchanges-more limit old mid new (u ∷ us) exchange asked p t = (p.0, p.1, Exchanges-more limit u.after mid new us exchange asked p.2 t)
+pub Exchanges-more : (allowed : Allowance) (old mid new : History) (exchanges : List Exchange) (exchange : Exchange) (asked : Asks) → Exchanges allowed old exchanges mid → IsExchange allowed asked mid new exchange → Exchanges allowed old (exchanges ++ exchange ∷ []) new
+Exchanges-more allowed old mid new [] exchange asked p t = (t.before_is ∙ p, t.does, sym t.after_is)
+Exchanges-more allowed old mid new (u ∷ us) exchange asked p t = (p.0, p.1, Exchanges-more allowed u.after mid new us exchange asked p.2 t)
 
-pub Exchanges-append : (limit : ℕ) (old mid new : History) (xs ys : List Exchange) → Exchanges limit old xs mid → Exchanges limit mid ys new → Exchanges limit old (xs ++ ys) new
-Exchanges-append limit old mid new [] ys p q = subst (λ h. Exchanges limit h ys new) p q
-Exchanges-append limit old mid new (x ∷ xs) ys p q = (p.0, p.1, Exchanges-append limit x.after mid new xs ys p.2 q)
+pub Exchanges-append : (allowed : Allowance) (old mid new : History) (xs ys : List Exchange) → Exchanges allowed old xs mid → Exchanges allowed mid ys new → Exchanges allowed old (xs ++ ys) new
+Exchanges-append allowed old mid new [] ys p q = subst (λ h. Exchanges allowed h ys new) p q
+Exchanges-append allowed old mid new (x ∷ xs) ys p q = (p.0, p.1, Exchanges-append allowed x.after mid new xs ys p.2 q)
 
 pub GoOn-append : (xs ys : List Exchange) → GoOn xs → GoOn ys → GoOn (xs ++ ys)
 GoOn-append [] ys p q = q
@@ -64,11 +64,11 @@ CutsOff-all bytes held exchanges p none =
     ap requests (sym (append-nil bytes)) ∙ p.asks [] ∙ ap (λ l. asked_in exchanges ++ requests l) (append-nil held) ∙ ap (λ l. asked_in exchanges ++ map asks_of l) none ∙ append-nil (asked_in exchanges)
 
 -- a exchange for a text that is cut off
-pub exchange_more : (limit : ℕ) (start mid new : History) (h0 h1 h2 : List ℕ) (exchanges : List Exchange) (exchange : Exchange) (asked : Asked)
-    → Exchanges limit start exchanges mid → CutsOff h0 exchanges h1 → AsksFirst h1 (Some asked) h2 → IsExchange limit (value_of asked) mid new exchange
-    → Exchanges limit start (exchanges ++ exchange ∷ []) new × CutsOff h0 (exchanges ++ exchange ∷ []) h2
-exchange_more limit start mid new h0 h1 h2 exchanges exchange asked p q first t =
-    (Exchanges-more limit start mid new exchanges exchange (value_of asked) p t, CutsOff-append h0 h1 h2 exchanges (exchange ∷ []) q (CutsOff-cut h1 h2 exchange asked first t.asked_is))
+pub exchange_more : (allowed : Allowance) (start mid new : History) (h0 h1 h2 : List ℕ) (exchanges : List Exchange) (exchange : Exchange) (asked : Asked)
+    → Exchanges allowed start exchanges mid → CutsOff h0 exchanges h1 → AsksFirst h1 (Some asked) h2 → IsExchange allowed (value_of asked) mid new exchange
+    → Exchanges allowed start (exchanges ++ exchange ∷ []) new × CutsOff h0 (exchanges ++ exchange ∷ []) h2
+exchange_more allowed start mid new h0 h1 h2 exchanges exchange asked p q first t =
+    (Exchanges-more allowed start mid new exchanges exchange (value_of asked) p t, CutsOff-append h0 h1 h2 exchanges (exchange ∷ []) q (CutsOff-cut h1 h2 exchange asked first t.asked_is))
 
 joined : (prompt : Bool) (xs ys : List Exchange) → all_shown prompt xs ++ exchanges_shown prompt ys ≡ all_shown prompt (xs ++ ys)
 joined prompt xs ys = append_assoc (star prompt) (exchanges_shown prompt xs) (exchanges_shown prompt ys) ∙ ap (λ l. star prompt ++ l) (sym (exchanges_shown-append prompt xs ys))

@@ -1,9 +1,12 @@
 -- One exchange: what is done for one text of the stream, and what is shown of it.
-use Rattle.std.specs.Prelude.{◌≡◌, ◌≢◌, ℕ, zero, suc, List, [], ◌∷◌, ◌++◌, Bool, true, false, ◌&&◌, not}
+use Rattle.std.specs.Prelude.{◌≡◌, ◌≢◌, ◌≤◌, ◌⊎◌, ℕ, zero, suc, IsSome, Some, List, [], ◌∷◌, ◌++◌, Bool, true, false, ◌&&◌, not}
 use Rattle.std.specs.Prelude.{if◌then◌else◌}
 use Rattle.std.specs.Bool.{MatchBool}
+use Rattle.teco_core.specs.declared.code.Code.TheVariants.{Lim}
 use Rattle.teco_terminal.specs.Terminal.{IsFrontOf}
-use Rattle.teco_session.specs.Answers.{is_refused}
+use Rattle.teco_exec.specs.Runs.{Answers}
+use Rattle.teco_exec.specs.declared.outcome.Outcome.{Outcome}
+use Rattle.teco_session.specs.Answers.{is_refused, string_outcome}
 use Rattle.teco_session.specs.History.{History, present}
 use Rattle.teco_session.specs.Step.{Step, RunStep, Reply}
 use Rattle.teco_session.specs.declared.request.Request.{Request}
@@ -11,6 +14,32 @@ use Rattle.teco_session.specs.declared.request.Request.TheVariants as request
 use Rattle.teco_program.specs.Stream.{Asks}
 use Rattle.teco_program.specs.Stream.Asks.{Run, Undo, Redo, Rewind}
 use Rattle.teco_program.specs.Message.{replies_shown, star}
+use Rattle.teco_program.specs.declared.alarm.Bounds.{Bounds}
+
+-- What a command string is allowed: its most steps, and after how many it was asked to stop.
+pub record Allowance : Type 1 where
+  pub steps : ℕ
+  pub asked : ℕ → Type 0
+
+-- One with no bound of seconds is never asked to stop.
+abbrev pub allowance : Bounds → (ℕ → Type 0) → Allowance
+allowance bounds asked = record { steps = bounds.steps; asked = λ done. IsSome bounds.seconds × asked done }
+
+-- An alarm that was asked after so many steps has answered that the string is to stop.
+abbrev pub HasRung : {A : Type 0} → (A → Answers) → ℕ → Type 0
+HasRung {A} answered done = (alarm : A) × answered alarm done true
+
+-- A string was broken off: it was asked to stop after the steps that it did, it ended by LIM, and it ran as under
+-- a limit of just these steps.
+pub record EndsEarly (allowed : Allowance) (outcome : Outcome) (RanUnder : ℕ → Type 0) : Type 0 where
+  pub asked : allowed.asked outcome.steps
+  pub within : outcome.steps ≤ allowed.steps
+  pub code : outcome.code ≡ Some Lim
+  pub ran : RanUnder outcome.steps
+
+-- A string ran under its limit of steps, or was broken off.
+abbrev pub RunsAllowed : Allowance → Outcome → (ℕ → Type 0) → Type 0
+RunsAllowed allowed outcome RanUnder = RanUnder allowed.steps ⊎ EndsEarly allowed outcome RanUnder
 
 -- An undo, a redo and a rewind go to another place of the history; a run does not.
 abbrev pub MovesInHistory : Request → Type 0
@@ -28,12 +57,12 @@ Repeats limit request (suc n) old (reply ∷ replies) new = (mid : History) × S
     (Repeats limit request n mid replies new)
 
 -- From the old history, what is asked may have these replies and leave the new history.
-abbrev pub Does : ℕ → Asks → History → List Reply → History → Type 0
-Does limit (Run text) old replies new = (reply : Reply) × (replies ≡ reply ∷ [])
-    × RunStep limit old text reply.answer reply.typed new
-Does limit (Undo n) old replies new = Repeats limit request.Undo n old replies new
-Does limit (Redo n) old replies new = Repeats limit request.Redo n old replies new
-Does limit (Rewind n) old replies new = Repeats limit (request.Rewind n) 1 old replies new
+abbrev pub Does : Allowance → Asks → History → List Reply → History → Type 0
+Does allowed (Run text) old replies new = (reply : Reply) × (replies ≡ reply ∷ [])
+    × RunsAllowed allowed (string_outcome reply.answer) (λ limit. RunStep limit old text reply.answer reply.typed new)
+Does allowed (Undo n) old replies new = Repeats allowed.steps request.Undo n old replies new
+Does allowed (Redo n) old replies new = Repeats allowed.steps request.Redo n old replies new
+Does allowed (Rewind n) old replies new = Repeats allowed.steps (request.Rewind n) 1 old replies new
 
 -- an exchange: what a text asks, the history before, the replies, and the history after
 pub record Exchange : Type 0 where

@@ -2,17 +2,17 @@
 use Rattle.std.specs.Prelude.{◌≡◌, ℕ, List, [], ◌++◌, Option, Some, None, Bool, true, false}
 use Rattle.teco_session.specs.History.{History}
 use Rattle.teco_program.specs.Stream.{Asks, requests, texts_of}
-use Rattle.teco_program.specs.Exchange.{Exchange, BreaksOff, Does, exits, exchange_shown}
+use Rattle.teco_program.specs.Exchange.{Allowance, Exchange, BreaksOff, Does, exits, exchange_shown}
 use Rattle.teco_program.specs.Serving.{EndsBy, GoOn, asked_in, exchanges_shown}
 use Rattle.teco_program.specs.declared.served.Served.{Served}
 use Rattle.teco_program.specs.declared.served.Served.TheVariants.{Exit, EndOfCommands, ReadFault, ShowFault}
 
 -- an exchange that did what was asked, from the old history to the new one
-pub record IsExchange (limit : ℕ) (asked : Asks) (old new : History) (exchange : Exchange) : Type 0 where
+pub record IsExchange (allowed : Allowance) (asked : Asks) (old new : History) (exchange : Exchange) : Type 0 where
   pub asked_is : exchange.asked ≡ asked
   pub before_is : exchange.before ≡ old
   pub after_is : exchange.after ≡ new
-  pub does : Does limit exchange.asked exchange.before exchange.replies exchange.after
+  pub does : Does allowed exchange.asked exchange.before exchange.replies exchange.after
 
 -- what one exchange showed, and if it ended the serving
 abbrev pub ExchangeEnds : (List ℕ → Bool → Type 0) → Bool → Exchange → Option Served → Type 0

@@ -1,6 +1,7 @@
 pub mod Stream
 pub mod Cut
 pub mod Message
+pub mod Alarm
 pub mod Exchange
 pub mod Serving
 pub mod Held

@@ -18,11 +18,13 @@ use Rattle.teco_files.specs.Disk.{Changes, Files, Opens, Passes, SameBut}
 use Rattle.teco_program.specs.Ending.{fate_without_input, output_of, said, status_of, text_of}
 use Rattle.teco_files.specs.Input.{IsFaultOf}
 use Rattle.teco_program.specs.Refusing.{IsRefusedBy, Tells}
+use Rattle.teco_program.specs.Exchange.{allowance}
 use Rattle.teco_program.specs.Serving.{Serves}
 use Rattle.teco_program.specs.Seen.{CommandsSeen, DiskSeen, InputSeen, OutputSeen, RunSeen, SourceView, TerminalSeen}
 use Rattle.teco_program.specs.Seen.{terminal_seen}
 use Rattle.teco_files.specs.Source.{Gives, HasEnded}
 use Rattle.teco_program.specs.Writing.{AddsDrafts, IsPut, IsWriteError, IsWriting}
+use Rattle.teco_program.specs.declared.alarm.Bounds.{Bounds}
 use Rattle.teco_program.specs.declared.fate.Fate.{Fate}
 use Rattle.teco_program.specs.declared.fate.Fate.TheVariants.{NoCommands, NoInput, LargeInput, NoMemory, NoOutput}
 use Rattle.teco_program.specs.declared.fate.Fate.TheVariants.{Changed, Unchanged}
@@ -103,14 +105,18 @@ depth_of line = elim line.undo [ Some depth ↦ Some depth | None ↦ depth_by l
 abbrev pub history_over : Line → List ℕ → History
 history_over line input = new_paged_history (unwrap_or line.page_lines 0) (depth_of line) input
 
--- The commands were served over an input, from its first state, by the line's limit, prompt, pages and depth. This
--- ended so, with this output.
+-- the steps of a string, and its seconds if they are given
+abbrev pub bounds_of : Line → Bounds
+bounds_of line = record { steps = line.limit; seconds = line.seconds }
+
+-- The commands were served over an input, from its first state, by the line's limit, seconds, prompt, pages and
+-- depth. This ended so, with this output.
 pub record ServesInput (line : Line) (is_input : List ℕ → Type 0) (commands : CommandsSeen)
     (term : TerminalSeen) (served : Served) (output : List ℕ) : Type 0 where
   pub input : List ℕ
   pub input_is : is_input input
   pub history : History
-  pub serves : Serves line.limit line.prompt commands.gave commands.ended term.showed
+  pub serves : Serves (allowance (bounds_of line) commands.asked) line.prompt commands.gave commands.ended term.showed
       (history_over line input) history served
   pub output_is : output ≡ (present history).output
 

@@ -38,10 +38,13 @@ pub record HostView (D I S T W : Type 0) : Type 1 where
   pub stream : SourceView S
   pub screen : T → Screen
   pub word : SourceView W
+  -- after so many steps a command string was asked to stop
+  pub asked : ℕ → Type 0
 
 abbrev pub host_view : {D I S T W : Type 0} → (D → DiskSeen I) → SourceView S → (T → Screen) → SourceView W
-    → HostView D I S T W
-host_view disk stream screen word = record { disk = disk; stream = stream; screen = screen; word = word }
+    → (ℕ → Type 0) → HostView D I S T W
+host_view disk stream screen word asked =
+    record { disk = disk; stream = stream; screen = screen; word = word; asked = asked }
 
 -- A run over this input of the line, a file or standard input, by the commands that were given.
 abbrev pub EditsInput : {D I S T W : Type 0} → HostView D I S T W → Line → List ℕ → CommandsSeen → Host D S T
@@ -67,7 +70,7 @@ pub record EditsByBytes {D I S T W : Type 0} (view : HostView D I S T W) (line :
   pub kept : KeepsStream input old new
   pub edits : ((fate ≡ NoMemory) × IsIdle view old new)
       ⊎ ((first : W) × (last : W) × (view.word.coming first ≡ Some bytes)
-      × EditsInput view line input (commands_seen view.word first last) old new fate
+      × EditsInput view line input (commands_seen view.word first last view.asked) old new fate
       × (fate ≢ Ended served.ReadFault))
 
 -- By the commands of a file: nothing is done if the disk refuses to open it; else the run is over what it opened.
@@ -77,13 +80,13 @@ pub record EditsByFile {D I S T W : Type 0} (view : HostView D I S T W) (line : 
   pub edits : ((error : Error) × (view.disk new.disk).gave error × IsFateOf error NoCommands fate
       × IsIdle view old new)
       ⊎ ((first : I) × (last : I) × Opens (view.disk old.disk).files name ((view.disk old.disk).input.coming first)
-      × EditsInput view line input (commands_seen (view.disk old.disk).input first last) old new fate)
+      × EditsInput view line input (commands_seen (view.disk old.disk).input first last view.asked) old new fate)
 
 -- By the commands of standard input, which come as they are wanted.
 abbrev pub EditsByStream : {D I S T W : Type 0} → HostView D I S T W → Line → List ℕ → Host D S T → Host D S T → Fate
     → Type 0
 EditsByStream view line input old new fate =
-    EditsInput view line input (commands_seen view.stream old.stream new.stream) old new fate
+    EditsInput view line input (commands_seen view.stream old.stream new.stream view.asked) old new fate
 
 -- A file of commands that has a name of standard input is that.
 abbrev pub EditsByNamed : {D I S T W : Type 0} → Bool → HostView D I S T W → Line → List ℕ → List ℕ → Host D S T

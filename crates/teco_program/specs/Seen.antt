@@ -55,12 +55,15 @@ pub record CommandsSeen : Type 1 where
   pub gave : List ℕ → Bool → Type 0
   -- their source has ended
   pub ended : Type 0
+  -- after so many steps one of them was asked to stop
+  pub asked : ℕ → Type 0
 
-abbrev pub commands_seen : {S : Type 0} → SourceView S → S → S → CommandsSeen
-commands_seen source old new = record {
+abbrev pub commands_seen : {S : Type 0} → SourceView S → S → S → (ℕ → Type 0) → CommandsSeen
+commands_seen source old new asked = record {
   still = new ≡ old;
   gave = Gives source.coming source.bound source.failures old new;
   ended = HasEnded (source.coming new) (source.ended new);
+  asked = asked;
 }
 
 -- what is seen of the terminal of a run

@@ -4,15 +4,15 @@ use Rattle.std.specs.List.{flat_map}
 use Rattle.teco_session.specs.History.{History}
 use Rattle.teco_program.specs.Stream.{Asks, requests}
 use Rattle.teco_program.specs.Message.{star}
-use Rattle.teco_program.specs.Exchange.{Exchange, Does, BreaksOff, exits, exchange_shown}
+use Rattle.teco_program.specs.Exchange.{Allowance, Exchange, Does, BreaksOff, exits, exchange_shown}
 use Rattle.teco_program.specs.declared.served.Served.{Served}
 use Rattle.teco_program.specs.declared.served.Served.TheVariants.{Exit, EndOfCommands, ReadFault, ShowFault, NoMemory}
 
 -- The exchanges lead, one after another, from the old history to the new one, and each did what it was asked.
-abbrev pub Exchanges : ℕ → History → List Exchange → History → Type 0
-Exchanges limit old [] new = new ≡ old
-Exchanges limit old (x ∷ xs) new = (x.before ≡ old) × Does limit x.asked x.before x.replies x.after
-    × Exchanges limit x.after xs new
+abbrev pub Exchanges : Allowance → History → List Exchange → History → Type 0
+Exchanges allowed old [] new = new ≡ old
+Exchanges allowed old (x ∷ xs) new = (x.before ≡ old) × Does allowed x.asked x.before x.replies x.after
+    × Exchanges allowed x.after xs new
 
 -- none of the exchanges ends the serving
 abbrev pub GoOn : List Exchange → Type 0
@@ -87,17 +87,17 @@ Shown showed prompt exchanges EndOfCommands = showed (all_shown prompt exchanges
 Shown showed prompt exchanges ReadFault = showed (all_shown prompt exchanges) false
 Shown showed prompt exchanges NoMemory = showed (all_shown prompt exchanges) false
 
--- What serving a stream does, under a limit for each string, with a prompt or without.
+-- What serving a stream does, with what each string is allowed, with a prompt or without.
 -- `gave` says which bytes the source gave, and whether a read failed; `at_end` that it has ended; `showed`
 -- which bytes the terminal showed, and whether it failed.
-pub record Serves (limit : ℕ) (prompt : Bool) (gave : List ℕ → Bool → Type 0) (at_end : Type 0)
+pub record Serves (allowed : Allowance) (prompt : Bool) (gave : List ℕ → Bool → Type 0) (at_end : Type 0)
     (showed : List ℕ → Bool → Type 0) (old new : History) (served : Served) : Type 0 where
   -- what was read; a read failed only where the serving ended by that
   pub bytes : List ℕ
   pub read : gave bytes (is_read_fault served)
   -- what was done: a beginning of what those bytes ask,
   pub exchanges : List Exchange
-  pub done : Exchanges limit old exchanges new
+  pub done : Exchanges allowed old exchanges new
   pub first : AreFirstOf exchanges bytes
   -- and all of it where nothing more could be read
   pub all : is_read_out served ≡ true → requests bytes ≡ asked_in exchanges

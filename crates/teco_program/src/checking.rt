@@ -156,7 +156,7 @@ pub fn check_line<S: Source, T: Terminal, E: Terminal, D: Disk>(
         (source_view D.Input.coming D.Input.bound D.Input.failures D.Input.ended))
         (source_view S.coming S.bound S.failures S.ended) T.screen
         (source_view ⟦<WordSource as Source>⟧.coming ⟦<WordSource as Source>⟧.bound
-        ⟦<WordSource as Source>⟧.failures ⟦<WordSource as Source>⟧.ended) in
+        ⟦<WordSource as Source>⟧.failures ⟦<WordSource as Source>⟧.ended) (λ done. ⊥) in
         ChecksLine view E.screen line.now (host disk.old commands.old term.old) (host disk.new commands.new term.new)
         errors.old errors.new result }
 {

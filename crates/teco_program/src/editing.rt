@@ -5,13 +5,15 @@ ghost use Rattle.teco_core.specs.declared.limits.TheConstants.{DEPTH_LIMIT, FILE
 ghost use Rattle.teco_files.specs.Source.{Gives, HasEnded};
 ghost use Rattle.teco_line.specs.CommandLine.{IsDepth};
 ghost use Rattle.teco_line.specs.StreamNames.{is_standard_input, is_standard_output};
-ghost use Rattle.teco_program.specs.Run.{Edits, EndsBy, FinishesIn, FailsToStream, IsFateOf, IsInput, IsStreamed, KeepsDisk, LacksInput, depth_of, doings_after, given_input, history_over, input_from, named_input, named_output, standard_input, standard_output};
+ghost use Rattle.teco_program.specs.Exchange.{HasRung, allowance};
+ghost use Rattle.teco_program.specs.Run.{Edits, EndsBy, FinishesIn, FailsToStream, IsFateOf, IsInput, IsStreamed, KeepsDisk, LacksInput, bounds_of, depth_of, doings_after, given_input, history_over, input_from, named_input, named_output, standard_input, standard_output};
 ghost use Rattle.teco_program.specs.Seen.{commands_seen, disk_seen, run_seen, source_view};
 ghost use Rattle.teco_program.specs.Serving.{Serves};
 ghost use Rattle.teco_program.specs.Writing.{both};
 ghost use Rattle.teco_session.specs.Kept.{history_of};
 ghost use Rattle.teco_terminal.specs.Terminal.{Shows};
 
+use crate::alarm::{Alarm, Bounds};
 use crate::comparing::has_bytes;
 use crate::fate::{Fate, output_name};
 use crate::listener::Listens;
@@ -97,17 +99,18 @@ fn session_over(line: &Line, input: Vec<u8>) -> Result<Session, NoMemory>
 }
 
 /// Serves the commands over the input. Gives the session that is left, and how the serving ended.
-fn serve_over<S: Source, T: Terminal, L: Listens>(
+fn serve_over<S: Source, A: Alarm, T: Terminal, L: Listens>(
     alloc: Global,
     line: &Line,
     input: Vec<u8>,
     commands: &mut S,
+    alarm: &mut A,
     term: &mut T,
     listener: &mut L,
 ) -> Result<(Session, Served), NoMemory>
     requires small { vec_len input ≤ FILE_LIMIT }
     requires depth { IfSome line.now.undo IsDepth }
-    ensures serves { IfOk result (λ ended. Serves line.now.limit line.now.prompt
+    ensures serves { IfOk result (λ ended. Serves (allowance (bounds_of line.now) (HasRung A.answered)) line.now.prompt
         (Gives S.coming S.bound S.failures commands.old commands.new)
         (HasEnded (S.coming commands.new) (S.ended commands.new))
         (Shows (T.screen term.old) (T.screen term.new))
@@ -119,8 +122,12 @@ fn serve_over<S: Source, T: Terminal, L: Listens>(
         alloc,
         commands,
         &mut session,
-        line.limit,
+        Bounds {
+            steps: line.limit,
+            seconds: line.seconds,
+        },
         line.prompt,
+        alarm,
         term,
         listener,
     );
@@ -231,13 +238,14 @@ fn finish<T: Terminal, D: Disk>(
 }
 
 /// Serves the commands over an input that was read, and after an exit writes the output. The number is for the name of a draft.
-fn edit_over<S: Source, T: Terminal, L: Listens, D: Disk>(
+fn edit_over<S: Source, A: Alarm, T: Terminal, L: Listens, D: Disk>(
     alloc: Global,
     line: &Line,
     name: &str,
     number: u32,
     input: Vec<u8>,
     commands: &mut S,
+    alarm: &mut A,
     term: &mut T,
     listener: &mut L,
     disk: &mut D,
@@ -247,13 +255,15 @@ fn edit_over<S: Source, T: Terminal, L: Listens, D: Disk>(
     ensures { let seen = disk_seen D.files D.streams D.left D.gave D.changed
         (source_view D.Input.coming D.Input.bound D.Input.failures D.Input.ended) in
         Edits line.now name.now (run_seen (given_input input.items)
-        (commands_seen (source_view S.coming S.bound S.failures S.ended) commands.old commands.new)
+        (commands_seen (source_view S.coming S.bound S.failures S.ended) commands.old commands.new
+        (HasRung A.answered))
         (seen disk.old) (seen disk.new) T.screen term.old term.new) result }
 {
     let Ok(to) = output_name(alloc, line, name) else {
         return Fate::NoMemory;
     };
-    let Ok((session, served)) = serve_over(alloc, line, input, commands, term, listener) else {
+    let Ok((session, served)) = serve_over(alloc, line, input, commands, alarm, term, listener)
+    else {
         return Fate::NoMemory;
     };
     finish(
@@ -269,12 +279,13 @@ fn edit_over<S: Source, T: Terminal, L: Listens, D: Disk>(
 }
 
 /// Reads an input that is a file, and edits it by these commands.
-pub fn edit_file<S: Source, T: Terminal, L: Listens, D: Disk>(
+pub fn edit_file<S: Source, A: Alarm, T: Terminal, L: Listens, D: Disk>(
     alloc: Global,
     line: &Line,
     name: &str,
     number: u32,
     commands: &mut S,
+    alarm: &mut A,
     term: &mut T,
     listener: &mut L,
     disk: &mut D,
@@ -283,25 +294,27 @@ pub fn edit_file<S: Source, T: Terminal, L: Listens, D: Disk>(
     ensures { let seen = disk_seen D.files D.streams D.left D.gave D.changed
         (source_view D.Input.coming D.Input.bound D.Input.failures D.Input.ended) in
         Edits line.now name.now (run_seen (named_input (seen disk.old) (seen disk.new) name.now)
-        (commands_seen (source_view S.coming S.bound S.failures S.ended) commands.old commands.new)
+        (commands_seen (source_view S.coming S.bound S.failures S.ended) commands.old commands.new
+        (HasRung A.answered))
         (seen disk.old) (seen disk.new) T.screen term.old term.new) result }
 {
     match input_of_file(alloc, name, disk) {
         Ok(input) => edit_over(
-            alloc, line, name, number, input, commands, term, listener, disk,
+            alloc, line, name, number, input, commands, alarm, term, listener, disk,
         ),
         Err(fate) => fate,
     }
 }
 
 /// Reads an input that is standard input, and edits it by these commands.
-fn edit_stream<C: Source, S: Source, T: Terminal, L: Listens, D: Disk>(
+fn edit_stream<C: Source, S: Source, A: Alarm, T: Terminal, L: Listens, D: Disk>(
     alloc: Global,
     line: &Line,
     name: &str,
     number: u32,
     commands: &mut C,
     stream: &mut S,
+    alarm: &mut A,
     term: &mut T,
     listener: &mut L,
     disk: &mut D,
@@ -311,25 +324,27 @@ fn edit_stream<C: Source, S: Source, T: Terminal, L: Listens, D: Disk>(
         (source_view D.Input.coming D.Input.bound D.Input.failures D.Input.ended) in
         Edits line.now name.now (run_seen
         (standard_input (source_view S.coming S.bound S.failures S.ended) stream.old stream.new)
-        (commands_seen (source_view C.coming C.bound C.failures C.ended) commands.old commands.new)
+        (commands_seen (source_view C.coming C.bound C.failures C.ended) commands.old commands.new
+        (HasRung A.answered))
         (seen disk.old) (seen disk.new) T.screen term.old term.new) result }
 {
     match input_of_stream(alloc, stream) {
         Ok(input) => edit_over(
-            alloc, line, name, number, input, commands, term, listener, disk,
+            alloc, line, name, number, input, commands, alarm, term, listener, disk,
         ),
         Err(fate) => fate,
     }
 }
 
 /// Reads an input, standard input or a file, and edits it by these commands.
-pub fn edit_input<C: Source, S: Source, T: Terminal, L: Listens, D: Disk>(
+pub fn edit_input<C: Source, S: Source, A: Alarm, T: Terminal, L: Listens, D: Disk>(
     alloc: Global,
     line: &Line,
     name: &str,
     number: u32,
     commands: &mut C,
     stream: &mut S,
+    alarm: &mut A,
     term: &mut T,
     listener: &mut L,
     disk: &mut D,
@@ -340,14 +355,17 @@ pub fn edit_input<C: Source, S: Source, T: Terminal, L: Listens, D: Disk>(
         Edits line.now name.now (run_seen (input_from (is_standard_input name.now)
         (standard_input (source_view S.coming S.bound S.failures S.ended) stream.old stream.new)
         (named_input (seen disk.old) (seen disk.new) name.now))
-        (commands_seen (source_view C.coming C.bound C.failures C.ended) commands.old commands.new)
+        (commands_seen (source_view C.coming C.bound C.failures C.ended) commands.old commands.new
+        (HasRung A.answered))
         (seen disk.old) (seen disk.new) T.screen term.old term.new) result }
     ensures still { is_standard_input name.now ≡ false → stream.new ≡ stream.old }
 {
     if is_standard_input(name) {
         return edit_stream(
-            alloc, line, name, number, commands, stream, term, listener, disk,
+            alloc, line, name, number, commands, stream, alarm, term, listener, disk,
         );
     }
-    edit_file(alloc, line, name, number, commands, term, listener, disk)
+    edit_file(
+        alloc, line, name, number, commands, alarm, term, listener, disk,
+    )
 }

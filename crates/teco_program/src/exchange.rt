@@ -1,16 +1,17 @@
 //! One text of the stream: what it asks is done, and the answers are shown.
 ghost use Rattle.std.specs.Prelude.{◌≡◌, ◌≢◌, ℕ, List, [], ◌&&◌, not, None, true, false, OnErr};
 ghost use Rattle.teco_program.specs.Cut.{value_of};
-ghost use Rattle.teco_program.specs.Exchange.{Does, Exchange, MovesInHistory, Repeats, is_exit, is_run};
+ghost use Rattle.teco_program.specs.Exchange.{Does, Exchange, HasRung, MovesInHistory, Repeats, RunsAllowed, allowance, is_exit, is_run};
 ghost use Rattle.teco_program.specs.Held.{ExchangeEnds, IsExchange};
 ghost use Rattle.teco_program.specs.Message.{code_line, message, replies_shown, star};
 ghost use Rattle.teco_program.specs.Stream.Asks.{Run};
-ghost use Rattle.teco_session.specs.Answers.{answer_code};
+ghost use Rattle.teco_session.specs.Answers.{answer_code, string_outcome};
 ghost use Rattle.teco_session.specs.History.{present};
 ghost use Rattle.teco_session.specs.Kept.{history_of};
 ghost use Rattle.teco_session.specs.Step.{Reply, RunStep, is_terminal_failure};
 ghost use Rattle.teco_terminal.specs.Terminal.{Puts, Shows};
 
+use crate::alarm::{Alarm, Bounds};
 use crate::listener::Listens;
 use crate::served::Served;
 use crate::splitter::Asked;
@@ -107,45 +108,53 @@ fn repeat<T: Terminal, L: Listens>(
     Ok(())
 }
 
-/// Runs a text. Tells where its run last stood only where that is wanted.
-fn run_heard<T: Terminal>(
+/// Runs a text. With seconds the alarm is set, and may break it off. Tells where its run last stood where that is wanted.
+fn run_heard<A: Alarm, T: Terminal>(
     text: &[u8],
     session: &mut Session,
-    limit: u64,
+    bounds: Bounds,
+    alarm: &mut A,
     term: &mut T,
     wants_place: bool,
 ) -> Answered
     ensures step { (typed : List ℕ)
-        × RunStep limit (history_of session.old) text.now result.answer typed (history_of session.new)
+        × RunsAllowed (allowance bounds (HasRung A.answered)) (string_outcome result.answer)
+        (λ limit. RunStep limit (history_of session.old) text.now result.answer typed (history_of session.new))
         × Shows (T.screen term.old) (T.screen term.new) typed (is_terminal_failure result.answer) }
     ensures exit { (present (history_of session.old)).is_done ≡ false
         → (present (history_of session.new)).is_done ≡ true → answer_code result.answer ≡ None }
 {
+    if let Some(seconds) = bounds.seconds {
+        alarm.set(seconds);
+        return session.run_where_until(text, bounds.steps, alarm, term);
+    }
     if wants_place {
-        return session.run_where(text, limit, term);
+        return session.run_where(text, bounds.steps, term);
     }
     Answered {
-        answer: session.run(text, limit, term),
+        answer: session.run(text, bounds.steps, term),
         place: Ok(None),
     }
 }
 
 /// Runs a text, and shows the message of the answer.
-fn run_text<T: Terminal, L: Listens>(
+fn run_text<A: Alarm, T: Terminal, L: Listens>(
     text: &[u8],
     session: &mut Session,
-    limit: u64,
+    bounds: Bounds,
+    alarm: &mut A,
     term: &mut T,
     listener: &mut L,
 ) -> Result<(), TerminalFault>
     ensures done { (replies : List Reply)
-        × Does limit (Run text.now) (history_of session.old) replies (history_of session.new)
+        × Does (allowance bounds (HasRung A.answered)) (Run text.now) (history_of session.old) replies (history_of session.new)
         × Puts (T.screen term.old) (T.screen term.new) (replies_shown replies) result
         × OnErr result (replies_shown replies ≢ []) }
     ensures err { OnErr result
         (is_exit (Run text.now) (history_of session.old) (history_of session.new) ≡ false) }
 {
-    let answered = run_heard(text, session, limit, term, listener.wants_place());
+    let wants_place = listener.wants_place();
+    let answered = run_heard(text, session, bounds, alarm, term, wants_place);
     if answered.answer.is_terminal_failure() {
         return Err(TerminalFault);
     }
@@ -154,29 +163,30 @@ fn run_text<T: Terminal, L: Listens>(
 
 /// Does what a text asks, and shows the messages of the answers. No put follows one that failed. Where a run made the session done,
 /// none fails.
-fn do_asked<T: Terminal, L: Listens>(
+fn do_asked<A: Alarm, T: Terminal, L: Listens>(
     asked: &Asked,
     session: &mut Session,
-    limit: u64,
+    bounds: Bounds,
+    alarm: &mut A,
     term: &mut T,
     listener: &mut L,
 ) -> Result<(), TerminalFault>
     ensures done { (replies : List Reply)
-        × Does limit (value_of asked.now) (history_of session.old) replies (history_of session.new)
+        × Does (allowance bounds (HasRung A.answered)) (value_of asked.now) (history_of session.old) replies (history_of session.new)
         × Puts (T.screen term.old) (T.screen term.new) (replies_shown replies) result
         × OnErr result (replies_shown replies ≢ []) }
     ensures err { OnErr result
         (is_exit (value_of asked.now) (history_of session.old) (history_of session.new) ≡ false) }
 {
     match asked {
-        Asked::Run(text) => run_text(text.as_slice(), session, limit, term, listener),
-        Asked::Undo(n) => repeat(&Request::Undo, *n, session, limit, term, listener),
-        Asked::Redo(n) => repeat(&Request::Redo, *n, session, limit, term, listener),
+        Asked::Run(text) => run_text(text.as_slice(), session, bounds, alarm, term, listener),
+        Asked::Undo(n) => repeat(&Request::Undo, *n, session, bounds.steps, term, listener),
+        Asked::Redo(n) => repeat(&Request::Redo, *n, session, bounds.steps, term, listener),
         Asked::Rewind(n) => repeat(
             &Request::Rewind(u64::from(*n)),
             1,
             session,
-            limit,
+            bounds.steps,
             term,
             listener,
         ),
@@ -192,20 +202,22 @@ fn exits(asked: &Asked, was_done: bool, is_done: bool) -> bool
 
 /// Does what a text asks and shows its answers, and then a star unless a run has made the session done. Says how the serving ends,
 /// if it does.
-pub fn do_exchange<T: Terminal, L: Listens>(
+pub fn do_exchange<A: Alarm, T: Terminal, L: Listens>(
     asked: &Asked,
     session: &mut Session,
-    limit: u64,
+    bounds: Bounds,
     prompt: bool,
+    alarm: &mut A,
     term: &mut T,
     listener: &mut L,
 ) -> Option<Served>
     ensures { (exchange : Exchange)
-        × IsExchange limit (value_of asked.now) (history_of session.old) (history_of session.new) exchange
+        × IsExchange (allowance bounds (HasRung A.answered)) (value_of asked.now) (history_of session.old)
+        (history_of session.new) exchange
         × ExchangeEnds (Shows (T.screen term.old) (T.screen term.new)) prompt exchange result }
 {
     let was_done = session.editor().done();
-    if let Err(TerminalFault) = do_asked(asked, session, limit, term, listener) {
+    if let Err(TerminalFault) = do_asked(asked, session, bounds, alarm, term, listener) {
         return Some(Served::ShowFault);
     }
     if exits(asked, was_done, session.editor().done()) {

@@ -1,6 +1,7 @@
 //! A run of the program, from the words of its command line to its status, over any files and streams.
 #![tactic(auto)]
 
+mod alarm;
 mod checking;
 mod comparing;
 mod editing;
@@ -16,6 +17,7 @@ mod several;
 mod sources;
 mod splitter;
 
+pub use alarm::{Alarm, Bounds, ClockAlarm};
 pub use fate::{Fate, ending, ending_of};
 pub use listener::Silent;
 pub use output::write_output;

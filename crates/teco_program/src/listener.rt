@@ -67,6 +67,17 @@ pub struct Explainer<'a, N: Terminal> {
     place: usize,
 }
 
+/// The limits that are told of an answer: seconds only if the string was broken off, since it had steps left.
+fn limits_met(limits: Limits, answer: Answer) -> Limits {
+    match answer {
+        Answer::Ended(outcome) if outcome.steps < limits.steps => limits,
+        _ => Limits {
+            seconds: None,
+            ..limits
+        },
+    }
+}
+
 /// What is told of the text of number `n` that was run.
 fn lines_of_run(
     alloc: Global,
@@ -90,7 +101,7 @@ fn lines_of_run(
             registers,
             text,
             code,
-            Some(wanted.limits),
+            Some(limits_met(wanted.limits, answered.answer)),
         )?;
         lines.push_str("\n")?;
     }
@@ -213,6 +224,7 @@ impl<'a, N: Terminal> Explainer<'a, N> {
     pub fn new(alloc: Global, line: &Line, notes: &'a mut N) -> Explainer<'a, N> {
         let limits = Limits {
             steps: line.limit,
+            seconds: line.seconds,
             bytes: TEXT_LIMIT as u64,
         };
         Explainer {

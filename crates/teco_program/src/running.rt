@@ -6,11 +6,13 @@ ghost use Rattle.teco_line.specs.CommandLine.{IsDepth};
 ghost use Rattle.teco_line.specs.Conflict.{has_conflict};
 ghost use Rattle.teco_line.specs.StreamNames.{is_standard_input};
 ghost use Rattle.teco_program.specs.Ending.{said};
+ghost use Rattle.teco_program.specs.Exchange.{HasRung};
 ghost use Rattle.teco_program.specs.Refusing.{Tells};
 ghost use Rattle.teco_program.specs.Run.{Concludes, IsFaultIn, IsLineIn};
 ghost use Rattle.teco_program.specs.Runs.{EditsBy, EditsByFile, EditsByNamed, Runs, RunsOrChecks, host, host_view, is_streamed};
 ghost use Rattle.teco_program.specs.Seen.{disk_seen, source_view};
 
+use crate::alarm::Alarm;
 use crate::checking::check_line;
 use crate::editing::{edit_file, edit_input, fate_of};
 use crate::fate::{Fate, ending_of};
@@ -28,12 +30,13 @@ use teco_terminal::Terminal;
 const NO_MEMORY: &[u8] = b"teco: no memory\n";
 
 /// Edits the input of the line by the commands that are in this file.
-fn edit_by_file<S: Source, T: Terminal, L: Listens, D: Disk>(
+fn edit_by_file<S: Source, A: Alarm, T: Terminal, L: Listens, D: Disk>(
     alloc: Global,
     line: &Line,
     file: &str,
     number: u32,
     commands: &mut S,
+    alarm: &mut A,
     term: &mut T,
     listener: &mut L,
     disk: &mut D,
@@ -43,7 +46,7 @@ fn edit_by_file<S: Source, T: Terminal, L: Listens, D: Disk>(
         (source_view D.Input.coming D.Input.bound D.Input.failures D.Input.ended))
         (source_view S.coming S.bound S.failures S.ended) T.screen
         (source_view ⟦<WordSource as Source>⟧.coming ⟦<WordSource as Source>⟧.bound
-        ⟦<WordSource as Source>⟧.failures ⟦<WordSource as Source>⟧.ended) in
+        ⟦<WordSource as Source>⟧.failures ⟦<WordSource as Source>⟧.ended) (HasRung A.answered) in
         EditsByFile view line.now (string_bytes line.now.input) file.now (host disk.old commands.old term.old)
         (host disk.new commands.new term.new) result }
 {
@@ -53,17 +56,18 @@ fn edit_by_file<S: Source, T: Terminal, L: Listens, D: Disk>(
     };
     let name = line.input.as_str();
     edit_input(
-        alloc, line, name, number, &mut given, commands, term, listener, disk,
+        alloc, line, name, number, &mut given, commands, alarm, term, listener, disk,
     )
 }
 
 /// The same, and a name of standard input is that.
-fn edit_by_name<S: Source, T: Terminal, L: Listens, D: Disk>(
+fn edit_by_name<S: Source, A: Alarm, T: Terminal, L: Listens, D: Disk>(
     alloc: Global,
     line: &Line,
     file: &str,
     number: u32,
     commands: &mut S,
+    alarm: &mut A,
     term: &mut T,
     listener: &mut L,
     disk: &mut D,
@@ -74,23 +78,28 @@ fn edit_by_name<S: Source, T: Terminal, L: Listens, D: Disk>(
         (source_view D.Input.coming D.Input.bound D.Input.failures D.Input.ended))
         (source_view S.coming S.bound S.failures S.ended) T.screen
         (source_view ⟦<WordSource as Source>⟧.coming ⟦<WordSource as Source>⟧.bound
-        ⟦<WordSource as Source>⟧.failures ⟦<WordSource as Source>⟧.ended) in
+        ⟦<WordSource as Source>⟧.failures ⟦<WordSource as Source>⟧.ended) (HasRung A.answered) in
         EditsByNamed (is_standard_input file.now) view line.now (string_bytes line.now.input) file.now
         (host disk.old commands.old term.old) (host disk.new commands.new term.new) result }
 {
     if is_standard_input(file) {
         let name = line.input.as_str();
-        return edit_file(alloc, line, name, number, commands, term, listener, disk);
+        return edit_file(
+            alloc, line, name, number, commands, alarm, term, listener, disk,
+        );
     }
-    edit_by_file(alloc, line, file, number, commands, term, listener, disk)
+    edit_by_file(
+        alloc, line, file, number, commands, alarm, term, listener, disk,
+    )
 }
 
 /// Edits the input of the line by commands as they come: those on standard input, or those of a file.
-fn edit_by_line<S: Source, T: Terminal, L: Listens, D: Disk>(
+fn edit_by_line<S: Source, A: Alarm, T: Terminal, L: Listens, D: Disk>(
     alloc: Global,
     line: &Line,
     number: u32,
     commands: &mut S,
+    alarm: &mut A,
     term: &mut T,
     listener: &mut L,
     disk: &mut D,
@@ -102,14 +111,14 @@ fn edit_by_line<S: Source, T: Terminal, L: Listens, D: Disk>(
         (source_view D.Input.coming D.Input.bound D.Input.failures D.Input.ended))
         (source_view S.coming S.bound S.failures S.ended) T.screen
         (source_view ⟦<WordSource as Source>⟧.coming ⟦<WordSource as Source>⟧.bound
-        ⟦<WordSource as Source>⟧.failures ⟦<WordSource as Source>⟧.ended) in
+        ⟦<WordSource as Source>⟧.failures ⟦<WordSource as Source>⟧.ended) (HasRung A.answered) in
         EditsBy view line.now (string_bytes line.now.input) line.now.commands (host disk.old commands.old term.old)
         (host disk.new commands.new term.new) result }
 {
     let name = line.input.as_str();
     match &line.commands {
         Commands::StandardInput => edit_file(
-            alloc, line, name, number, commands, term, listener, disk,
+            alloc, line, name, number, commands, alarm, term, listener, disk,
         ),
         Commands::Bytes(file) => edit_by_name(
             alloc,
@@ -117,6 +126,7 @@ fn edit_by_line<S: Source, T: Terminal, L: Listens, D: Disk>(
             file.as_str(),
             number,
             commands,
+            alarm,
             term,
             listener,
             disk,
@@ -134,11 +144,12 @@ fn is_streamed(line: &Line) -> bool
 }
 
 /// The same, and where the line asks for it what is done is explained in notes.
-fn edit_noted<S: Source, T: Terminal, N: Terminal, D: Disk>(
+fn edit_noted<S: Source, A: Alarm, T: Terminal, N: Terminal, D: Disk>(
     alloc: Global,
     line: &Line,
     number: u32,
     commands: &mut S,
+    alarm: &mut A,
     term: &mut T,
     notes: &mut N,
     disk: &mut D,
@@ -150,16 +161,34 @@ fn edit_noted<S: Source, T: Terminal, N: Terminal, D: Disk>(
         (source_view D.Input.coming D.Input.bound D.Input.failures D.Input.ended))
         (source_view S.coming S.bound S.failures S.ended) T.screen
         (source_view ⟦<WordSource as Source>⟧.coming ⟦<WordSource as Source>⟧.bound
-        ⟦<WordSource as Source>⟧.failures ⟦<WordSource as Source>⟧.ended) in
+        ⟦<WordSource as Source>⟧.failures ⟦<WordSource as Source>⟧.ended) (HasRung A.answered) in
         EditsBy view line.now (string_bytes line.now.input) line.now.commands (host disk.old commands.old term.old)
         (host disk.new commands.new term.new) result }
     ensures silent { line.now.explain ≡ false → notes.new ≡ notes.old }
 {
     if !line.explain {
-        return edit_by_line(alloc, line, number, commands, term, &mut Silent, disk);
+        return edit_by_line(
+            alloc,
+            line,
+            number,
+            commands,
+            alarm,
+            term,
+            &mut Silent,
+            disk,
+        );
     }
     let mut explainer = Explainer::new(alloc, line, notes);
-    let fate = edit_by_line(alloc, line, number, commands, term, &mut explainer, disk);
+    let fate = edit_by_line(
+        alloc,
+        line,
+        number,
+        commands,
+        alarm,
+        term,
+        &mut explainer,
+        disk,
+    );
     explainer.ended(line, line.input.as_str(), fate, disk.why());
     fate
 }
@@ -205,11 +234,12 @@ fn line_in(alloc: Global, words: Result<Vec<String>, LineFault>) -> Result<Line,
 }
 
 /// Runs over a line, or checks it if it asks for that, and tells how that ends. Gives the status.
-fn run_over<S: Source, T: Terminal, E: Terminal, N: Terminal, D: Disk>(
+fn run_over<S: Source, A: Alarm, T: Terminal, E: Terminal, N: Terminal, D: Disk>(
     alloc: Global,
     line: &Line,
     number: u32,
     commands: &mut S,
+    alarm: &mut A,
     term: &mut T,
     errors: &mut E,
     notes: &mut N,
@@ -221,7 +251,7 @@ fn run_over<S: Source, T: Terminal, E: Terminal, N: Terminal, D: Disk>(
         (source_view D.Input.coming D.Input.bound D.Input.failures D.Input.ended))
         (source_view S.coming S.bound S.failures S.ended) T.screen
         (source_view ⟦<WordSource as Source>⟧.coming ⟦<WordSource as Source>⟧.bound
-        ⟦<WordSource as Source>⟧.failures ⟦<WordSource as Source>⟧.ended) in
+        ⟦<WordSource as Source>⟧.failures ⟦<WordSource as Source>⟧.ended) (HasRung A.answered) in
         RunsOrChecks view E.screen line.now (host disk.old commands.old term.old) (host disk.new commands.new term.new)
         errors.old errors.new result }
     ensures silent { line.now.explain ≡ false → notes.new ≡ notes.old }
@@ -230,19 +260,22 @@ fn run_over<S: Source, T: Terminal, E: Terminal, N: Terminal, D: Disk>(
         return check_line(alloc, line, commands, term, errors, disk);
     }
     if is_streamed(line) {
-        let fate = edit_noted(alloc, line, number, commands, term, notes, disk);
+        let fate = edit_noted(alloc, line, number, commands, alarm, term, notes, disk);
         return conclude(alloc, line, line.input.as_str(), fate, errors);
     }
-    edit_all(alloc, line, number, commands, term, errors, notes, disk)
+    edit_all(
+        alloc, line, number, commands, alarm, term, errors, notes, disk,
+    )
 }
 
-/// Runs over the line of these words, and gives the status. The number is for the name of a draft. The notes are for what the line asks
-/// to be explained.
-pub fn program<S: Source, T: Terminal, E: Terminal, N: Terminal, D: Disk>(
+/// Runs over the line of these words, and gives the status. The number is for the name of a draft. The alarm breaks off command strings
+/// of a line that gives them seconds. The notes are for what the line asks to be explained.
+pub fn program<S: Source, A: Alarm, T: Terminal, E: Terminal, N: Terminal, D: Disk>(
     alloc: Global,
     words: Result<Vec<String>, LineFault>,
     number: u32,
     commands: &mut S,
+    alarm: &mut A,
     term: &mut T,
     errors: &mut E,
     notes: &mut N,
@@ -252,14 +285,14 @@ pub fn program<S: Source, T: Terminal, E: Terminal, N: Terminal, D: Disk>(
         (source_view D.Input.coming D.Input.bound D.Input.failures D.Input.ended))
         (source_view S.coming S.bound S.failures S.ended) T.screen
         (source_view ⟦<WordSource as Source>⟧.coming ⟦<WordSource as Source>⟧.bound
-        ⟦<WordSource as Source>⟧.failures ⟦<WordSource as Source>⟧.ended) in
+        ⟦<WordSource as Source>⟧.failures ⟦<WordSource as Source>⟧.ended) (HasRung A.answered) in
         Runs view E.screen words (host disk.old commands.old term.old) (host disk.new commands.new term.new)
         errors.old errors.new (exit_status result) }
     ensures silent { (line : Line) → IsLineIn words line → line.explain ≡ false → notes.new ≡ notes.old }
 {
     match line_in(alloc, words) {
         Ok(line) => ExitCode::from(run_over(
-            alloc, &line, number, commands, term, errors, notes, disk,
+            alloc, &line, number, commands, alarm, term, errors, notes, disk,
         )),
         Err(fault) => ExitCode::from(refuse(&fault, NO_MEMORY, term, errors)),
     }

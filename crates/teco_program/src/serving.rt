@@ -1,12 +1,13 @@
 //! Serving a stream of commands.
 ghost use Rattle.std.specs.Prelude.{List};
 ghost use Rattle.teco_session.specs.Kept.{history_of};
-ghost use Rattle.teco_program.specs.Exchange.{Exchange};
+ghost use Rattle.teco_program.specs.Exchange.{Exchange, HasRung, allowance};
 ghost use Rattle.teco_program.specs.Held.{CutsOff, Emptied, HeldEnds};
 ghost use Rattle.teco_program.specs.Serving.{Exchanges, Serves};
 ghost use Rattle.teco_files.specs.Source.{Gives, HasEnded};
 ghost use Rattle.teco_terminal.specs.Terminal.{Shows};
 
+use crate::alarm::{Alarm, Bounds};
 use crate::exchange::{do_exchange, show_prompt};
 use crate::listener::Listens;
 use crate::served::Served;
@@ -20,16 +21,17 @@ use teco_terminal::{Terminal, TerminalFault};
 const PIECE: usize = 4096;
 
 /// Does what each held text asks, unless that ends the serving; says how the serving ends, if it does.
-fn serve_held<T: Terminal, L: Listens>(
+fn serve_held<A: Alarm, T: Terminal, L: Listens>(
     splitter: &mut Splitter,
     session: &mut Session,
-    limit: u64,
+    bounds: Bounds,
     prompt: bool,
+    alarm: &mut A,
     term: &mut T,
     listener: &mut L,
 ) -> Option<Served>
     ensures { (exchanges : List Exchange)
-        × Exchanges limit (history_of session.old) exchanges (history_of session.new)
+        × Exchanges (allowance bounds (HasRung A.answered)) (history_of session.old) exchanges (history_of session.new)
         × CutsOff splitter.old exchanges splitter.new
         × Emptied result splitter.new
         × HeldEnds (Shows (T.screen term.old) (T.screen term.new)) prompt exchanges result }
@@ -39,7 +41,8 @@ fn serve_held<T: Terminal, L: Listens>(
             Err(_) => return Some(Served::NoMemory),
             Ok(None) => return None,
             Ok(Some(asked)) => {
-                if let Some(served) = do_exchange(&asked, session, limit, prompt, term, listener) {
+                let ended = do_exchange(&asked, session, bounds, prompt, alarm, term, listener);
+                if let Some(served) = ended {
                     return Some(served);
                 }
             }
@@ -47,21 +50,23 @@ fn serve_held<T: Terminal, L: Listens>(
     }
 }
 
-/// Reads pieces of the stream, cuts them into texts, and does what each asks before it reads again; `limit` is the most steps that
-/// each command string may take. With `prompt` a star asks for commands. The listener hears what is done for each text.
+/// Reads pieces of the stream, cuts them into texts, and does what each asks before it reads again. Each command string may run as far
+/// as `bounds` say, and the alarm is set for each anew. With `prompt` a star asks for commands. The listener hears what is done for each
+/// text.
 ///
 /// However the source cuts its bytes, what is done is a beginning of what they ask, and all of it at the end of the stream and where
 /// a read fails. It ends where a run makes the session done, and at the first put that fails; nothing is done after that.
-pub fn serve<S: Source, T: Terminal, L: Listens>(
+pub fn serve<S: Source, A: Alarm, T: Terminal, L: Listens>(
     alloc: Global,
     source: &mut S,
     session: &mut Session,
-    limit: u64,
+    bounds: Bounds,
     prompt: bool,
+    alarm: &mut A,
     term: &mut T,
     listener: &mut L,
 ) -> Served
-    ensures { Serves limit prompt
+    ensures { Serves (allowance bounds (HasRung A.answered)) prompt
         (Gives S.coming S.bound S.failures source.old source.new)
         (HasEnded (S.coming source.new) (S.ended source.new))
         (Shows (T.screen term.old) (T.screen term.new))
@@ -84,7 +89,16 @@ pub fn serve<S: Source, T: Terminal, L: Listens>(
         if splitter.feed(&piece[..n]).is_err() {
             return Served::NoMemory;
         }
-        if let Some(served) = serve_held(&mut splitter, session, limit, prompt, term, listener) {
+        let ended = serve_held(
+            &mut splitter,
+            session,
+            bounds,
+            prompt,
+            alarm,
+            term,
+            listener,
+        );
+        if let Some(served) = ended {
             listener.left(splitter.held(), true);
             return served;
         }

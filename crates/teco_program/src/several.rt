@@ -3,9 +3,11 @@ ghost use Rattle.std.specs.Prelude.{◌≡◌, false, IfSome};
 ghost use Rattle.teco_line.specs.CommandLine.{IsDepth};
 ghost use Rattle.teco_line.specs.Conflict.{are_awaited};
 ghost use Rattle.teco_program.specs.Ending.{worse};
+ghost use Rattle.teco_program.specs.Exchange.{HasRung};
 ghost use Rattle.teco_program.specs.Runs.{EditsByBytes, LinkOver, RunsInOrder, RunsOverAll, host, host_view, inputs_of, is_streamed};
 ghost use Rattle.teco_program.specs.Seen.{disk_seen, source_view};
 
+use crate::alarm::Alarm;
 use crate::editing::edit_input;
 use crate::fate::Fate;
 use crate::listener::{Explainer, Listens, Silent};
@@ -30,13 +32,14 @@ fn worse(a: u8, b: u8) -> u8
 }
 
 /// Edits this input of the line by these bytes as commands, if there is memory for them.
-fn edit_by_bytes<S: Source, T: Terminal, L: Listens, D: Disk>(
+fn edit_by_bytes<S: Source, A: Alarm, T: Terminal, L: Listens, D: Disk>(
     alloc: Global,
     line: &Line,
     name: &str,
     number: u32,
     bytes: Vec<u8>,
     commands: &mut S,
+    alarm: &mut A,
     term: &mut T,
     listener: &mut L,
     disk: &mut D,
@@ -46,24 +49,25 @@ fn edit_by_bytes<S: Source, T: Terminal, L: Listens, D: Disk>(
         (source_view D.Input.coming D.Input.bound D.Input.failures D.Input.ended))
         (source_view S.coming S.bound S.failures S.ended) T.screen
         (source_view ⟦<WordSource as Source>⟧.coming ⟦<WordSource as Source>⟧.bound
-        ⟦<WordSource as Source>⟧.failures ⟦<WordSource as Source>⟧.ended) in
+        ⟦<WordSource as Source>⟧.failures ⟦<WordSource as Source>⟧.ended) (HasRung A.answered) in
         EditsByBytes view line.now name.now bytes.items (host disk.old commands.old term.old)
         (host disk.new commands.new term.new) result }
 {
     let mut given = WordSource::new(bytes);
     edit_input(
-        alloc, line, name, number, &mut given, commands, term, listener, disk,
+        alloc, line, name, number, &mut given, commands, alarm, term, listener, disk,
     )
 }
 
 /// Edits this input of the line by a copy of these bytes as commands.
-fn edit_by_copy<S: Source, T: Terminal, L: Listens, D: Disk>(
+fn edit_by_copy<S: Source, A: Alarm, T: Terminal, L: Listens, D: Disk>(
     alloc: Global,
     line: &Line,
     name: &str,
     number: u32,
     bytes: &[u8],
     commands: &mut S,
+    alarm: &mut A,
     term: &mut T,
     listener: &mut L,
     disk: &mut D,
@@ -73,26 +77,27 @@ fn edit_by_copy<S: Source, T: Terminal, L: Listens, D: Disk>(
         (source_view D.Input.coming D.Input.bound D.Input.failures D.Input.ended))
         (source_view S.coming S.bound S.failures S.ended) T.screen
         (source_view ⟦<WordSource as Source>⟧.coming ⟦<WordSource as Source>⟧.bound
-        ⟦<WordSource as Source>⟧.failures ⟦<WordSource as Source>⟧.ended) in
+        ⟦<WordSource as Source>⟧.failures ⟦<WordSource as Source>⟧.ended) (HasRung A.answered) in
         EditsByBytes view line.now name.now bytes.now (host disk.old commands.old term.old)
         (host disk.new commands.new term.new) result }
 {
     match Vec::from_slice(alloc, bytes) {
         Ok(bytes) => edit_by_bytes(
-            alloc, line, name, number, bytes, commands, term, listener, disk,
+            alloc, line, name, number, bytes, commands, alarm, term, listener, disk,
         ),
         Err(_) => Fate::NoMemory,
     }
 }
 
 /// The same, and where the line asks for it what is done is explained in notes.
-fn edit_noted<S: Source, T: Terminal, N: Terminal, D: Disk>(
+fn edit_noted<S: Source, A: Alarm, T: Terminal, N: Terminal, D: Disk>(
     alloc: Global,
     line: &Line,
     name: &str,
     number: u32,
     bytes: &[u8],
     commands: &mut S,
+    alarm: &mut A,
     term: &mut T,
     notes: &mut N,
     disk: &mut D,
@@ -102,7 +107,7 @@ fn edit_noted<S: Source, T: Terminal, N: Terminal, D: Disk>(
         (source_view D.Input.coming D.Input.bound D.Input.failures D.Input.ended))
         (source_view S.coming S.bound S.failures S.ended) T.screen
         (source_view ⟦<WordSource as Source>⟧.coming ⟦<WordSource as Source>⟧.bound
-        ⟦<WordSource as Source>⟧.failures ⟦<WordSource as Source>⟧.ended) in
+        ⟦<WordSource as Source>⟧.failures ⟦<WordSource as Source>⟧.ended) (HasRung A.answered) in
         EditsByBytes view line.now name.now bytes.now (host disk.old commands.old term.old)
         (host disk.new commands.new term.new) result }
     ensures silent { line.now.explain ≡ false → notes.new ≡ notes.old }
@@ -115,6 +120,7 @@ fn edit_noted<S: Source, T: Terminal, N: Terminal, D: Disk>(
             number,
             bytes,
             commands,
+            alarm,
             term,
             &mut Silent,
             disk,
@@ -128,6 +134,7 @@ fn edit_noted<S: Source, T: Terminal, N: Terminal, D: Disk>(
         number,
         bytes,
         commands,
+        alarm,
         term,
         &mut explainer,
         disk,
@@ -137,13 +144,14 @@ fn edit_noted<S: Source, T: Terminal, N: Terminal, D: Disk>(
 }
 
 /// Runs over this input of the line, and tells how that ends. Gives the status.
-fn edit_told<S: Source, T: Terminal, E: Terminal, N: Terminal, D: Disk>(
+fn edit_told<S: Source, A: Alarm, T: Terminal, E: Terminal, N: Terminal, D: Disk>(
     alloc: Global,
     line: &Line,
     name: &str,
     number: u32,
     bytes: &[u8],
     commands: &mut S,
+    alarm: &mut A,
     term: &mut T,
     errors: &mut E,
     notes: &mut N,
@@ -154,24 +162,25 @@ fn edit_told<S: Source, T: Terminal, E: Terminal, N: Terminal, D: Disk>(
         (source_view D.Input.coming D.Input.bound D.Input.failures D.Input.ended))
         (source_view S.coming S.bound S.failures S.ended) T.screen
         (source_view ⟦<WordSource as Source>⟧.coming ⟦<WordSource as Source>⟧.bound
-        ⟦<WordSource as Source>⟧.failures ⟦<WordSource as Source>⟧.ended) in
+        ⟦<WordSource as Source>⟧.failures ⟦<WordSource as Source>⟧.ended) (HasRung A.answered) in
         LinkOver view E.screen line.now bytes.now name.now (host disk.old commands.old term.old, errors.old)
         (host disk.new commands.new term.new, errors.new) result }
     ensures silent { line.now.explain ≡ false → notes.new ≡ notes.old }
 {
     let fate = edit_noted(
-        alloc, line, name, number, bytes, commands, term, notes, disk,
+        alloc, line, name, number, bytes, commands, alarm, term, notes, disk,
     );
     conclude(alloc, line, name, fate, errors)
 }
 
 /// Runs over each input of the line in order, by these bytes as commands. Gives the worst status.
-fn edit_each<S: Source, T: Terminal, E: Terminal, N: Terminal, D: Disk>(
+fn edit_each<S: Source, A: Alarm, T: Terminal, E: Terminal, N: Terminal, D: Disk>(
     alloc: Global,
     line: &Line,
     number: u32,
     bytes: &[u8],
     commands: &mut S,
+    alarm: &mut A,
     term: &mut T,
     errors: &mut E,
     notes: &mut N,
@@ -182,7 +191,7 @@ fn edit_each<S: Source, T: Terminal, E: Terminal, N: Terminal, D: Disk>(
         (source_view D.Input.coming D.Input.bound D.Input.failures D.Input.ended))
         (source_view S.coming S.bound S.failures S.ended) T.screen
         (source_view ⟦<WordSource as Source>⟧.coming ⟦<WordSource as Source>⟧.bound
-        ⟦<WordSource as Source>⟧.failures ⟦<WordSource as Source>⟧.ended) in
+        ⟦<WordSource as Source>⟧.failures ⟦<WordSource as Source>⟧.ended) (HasRung A.answered) in
         RunsInOrder view E.screen line.now bytes.now (inputs_of line.now)
         (host disk.old commands.old term.old, errors.old)
         (host disk.new commands.new term.new, errors.new) result }
@@ -190,13 +199,13 @@ fn edit_each<S: Source, T: Terminal, E: Terminal, N: Terminal, D: Disk>(
 {
     let name = line.input.as_str();
     let first = edit_told(
-        alloc, line, name, number, bytes, commands, term, errors, notes, disk,
+        alloc, line, name, number, bytes, commands, alarm, term, errors, notes, disk,
     );
     let mut status = worse(0, first);
     for name in line.more.iter() {
         let name = name.as_str();
         let next = edit_told(
-            alloc, line, name, number, bytes, commands, term, errors, notes, disk,
+            alloc, line, name, number, bytes, commands, alarm, term, errors, notes, disk,
         );
         status = worse(status, next);
     }
@@ -204,11 +213,12 @@ fn edit_each<S: Source, T: Terminal, E: Terminal, N: Terminal, D: Disk>(
 }
 
 /// Runs over each input of the line by commands that are had once, before. Gives the worst status.
-pub fn edit_all<S: Source, T: Terminal, E: Terminal, N: Terminal, D: Disk>(
+pub fn edit_all<S: Source, A: Alarm, T: Terminal, E: Terminal, N: Terminal, D: Disk>(
     alloc: Global,
     line: &Line,
     number: u32,
     commands: &mut S,
+    alarm: &mut A,
     term: &mut T,
     errors: &mut E,
     notes: &mut N,
@@ -221,7 +231,7 @@ pub fn edit_all<S: Source, T: Terminal, E: Terminal, N: Terminal, D: Disk>(
         (source_view D.Input.coming D.Input.bound D.Input.failures D.Input.ended))
         (source_view S.coming S.bound S.failures S.ended) T.screen
         (source_view ⟦<WordSource as Source>⟧.coming ⟦<WordSource as Source>⟧.bound
-        ⟦<WordSource as Source>⟧.failures ⟦<WordSource as Source>⟧.ended) in
+        ⟦<WordSource as Source>⟧.failures ⟦<WordSource as Source>⟧.ended) (HasRung A.answered) in
         RunsOverAll view E.screen line.now (host disk.old commands.old term.old) (host disk.new commands.new term.new)
         errors.old errors.new result }
     ensures silent { line.now.explain ≡ false → notes.new ≡ notes.old }
@@ -234,6 +244,7 @@ pub fn edit_all<S: Source, T: Terminal, E: Terminal, N: Terminal, D: Disk>(
             number,
             bytes.as_slice(),
             commands,
+            alarm,
             term,
             errors,
             notes,

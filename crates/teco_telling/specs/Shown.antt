@@ -1,5 +1,5 @@
 -- What is shown of a place and of a code.
-use Rattle.std.specs.Prelude.{ℕ, List, ◌++◌, length, codes, nat_lt, if◌then◌else◌}
+use Rattle.std.specs.Prelude.{ℕ, List, ◌++◌, length, codes, nat_lt, if◌then◌else◌, Option, Some, None}
 use Rattle.std.specs.Fmt.{decimal}
 use Rattle.teco_core.specs.Code.{letters_of}
 use Rattle.teco_core.specs.declared.code.Code.{Code}
@@ -55,10 +55,15 @@ sentence_of code.End = codes "session is done"
 abbrev pub code_shown : Code → List ℕ
 code_shown code = codes ": " ++ letters_of code ++ codes ", " ++ sentence_of code
 
+-- LIM: a string has done all its steps, or it was broken off since its seconds are over
+abbrev pub limit_shown : ℕ → Option ℕ → List ℕ
+limit_shown steps None = codes ": LIM, " ++ decimal steps ++ codes " steps are done: --limit N allows more"
+limit_shown steps (Some seconds) =
+    codes ": LIM, the time of " ++ decimal seconds ++ codes " s is over: --seconds N allows more"
+
 -- the same; where a limit is reached, how large it is and what helps
 abbrev pub code_shown_with : Limits → Code → List ℕ
-code_shown_with limits code.Lim =
-    codes ": LIM, " ++ decimal limits.steps ++ codes " steps are done: --limit N allows more"
+code_shown_with limits code.Lim = limit_shown limits.steps limits.seconds
 code_shown_with limits code.Big =
     codes ": BIG, a text may have " ++ decimal limits.bytes ++ codes " bytes: --page-lines N makes smaller pages"
 code_shown_with limits c = code_shown c

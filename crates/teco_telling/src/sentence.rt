@@ -2,7 +2,7 @@
 
 ghost use Rattle.std.specs.Prelude.{◌≡◌, ◌++◌, OnOk};
 ghost use Rattle.std.specs.String.{string_bytes};
-ghost use Rattle.teco_telling.specs.Shown.{code_shown, code_shown_with, sentence_of};
+ghost use Rattle.teco_telling.specs.Shown.{code_shown, code_shown_with, limit_shown, sentence_of};
 
 use std::fmt::Write;
 use teco_core::{Code, NoMemory};
@@ -12,6 +12,8 @@ use teco_core::{Code, NoMemory};
 pub struct Limits {
     /// The most steps that a string may take.
     pub steps: u64,
+    /// The most seconds that it may run, if it was broken off since they were over.
+    pub seconds: Option<u64>,
     /// The most bytes that a text may have.
     pub bytes: u64,
 }
@@ -64,15 +66,25 @@ pub fn show_code(out: &mut String, code: Code) -> Result<(), NoMemory>
     write!(out, ": {code}, {said}")
 }
 
+/// Shows LIM: that a string has done all its steps; or, if it was broken off after some seconds, that these are over.
+fn show_limit(out: &mut String, steps: u64, seconds: Option<u64>) -> Result<(), NoMemory>
+    ensures { OnOk result (string_bytes out.new ≡ string_bytes out.old ++ limit_shown steps seconds) }
+{
+    match seconds {
+        None => write!(out, ": LIM, {steps} steps are done: --limit N allows more"),
+        Some(seconds) => write!(
+            out,
+            ": LIM, the time of {seconds} s is over: --seconds N allows more"
+        ),
+    }
+}
+
 /// Shows a code and what it says; where a limit is reached, how large it is and what helps.
 pub fn show_code_with_limits(out: &mut String, code: Code, limits: Limits) -> Result<(), NoMemory>
     ensures { OnOk result (string_bytes out.new ≡ string_bytes out.old ++ code_shown_with limits code) }
 {
     match code {
-        Code::Lim => {
-            let steps = limits.steps;
-            write!(out, ": LIM, {steps} steps are done: --limit N allows more")
-        }
+        Code::Lim => show_limit(out, limits.steps, limits.seconds),
         Code::Big => {
             let bytes = limits.bytes;
             write!(

@@ -3,11 +3,14 @@
 use super::assert_of;
 use super::bytes::joined;
 use std::alloc::Global;
+use std::cell::Cell;
+use std::io;
 use std::process::{Abort, ExitCode};
+use std::time::{Clock, Duration};
 use teco_core::NoMemory;
 use teco_files::{Disk, FileDisk, MemoryDisk, MemorySource, Refused, Source};
 use teco_line::LineFault;
-use teco_program::program;
+use teco_program::{ClockAlarm, program};
 use teco_terminal::MemoryTerminal;
 
 mod disk;
@@ -51,6 +54,32 @@ fn is_unread(commands: &mut MemorySource, run: &Run) -> bool {
             && piece.starts_with(NOT_READ.as_bytes())
 }
 
+/// A clock that tells a second more each time.
+#[derive(Drop)]
+pub(super) struct Ticking {
+    seconds: Cell<u64>,
+}
+
+impl Ticking {
+    pub(super) fn new() -> Ticking {
+        Ticking {
+            seconds: Cell::new(0),
+        }
+    }
+}
+
+impl Clock for Ticking {
+    fn monotonic(&self) -> io::Result<Duration> {
+        let now = self.seconds.get();
+        self.seconds.set(now.saturating_add(1));
+        Ok(Duration::from_secs(now))
+    }
+
+    fn since_1970(&self) -> io::Result<Duration> {
+        self.monotonic()
+    }
+}
+
 /// Whether a run by its commands ends so and types, tells and notes this.
 fn runs_on<D: Disk>(alloc: Global, disk: &mut D, run: &Run) -> bool {
     let words = match words_of(alloc, run.words) {
@@ -62,11 +91,13 @@ fn runs_on<D: Disk>(alloc: Global, disk: &mut D, run: &Run) -> bool {
     let mut term = MemoryTerminal::new(alloc);
     let mut errors = MemoryTerminal::new(alloc);
     let mut notes = MemoryTerminal::new(alloc);
+    let clock = Ticking::new();
     let status = program(
         alloc,
         words,
         7,
         &mut commands,
+        &mut ClockAlarm::new(&clock),
         &mut term,
         &mut errors,
         &mut notes,
@@ -188,8 +219,42 @@ static UNFINISHED: [Row<'static>; 2] = [
     ),
 ];
 
-/// The limit and the depth are those of the line.
-static LIMITED: [Row<'static>; 3] = [
+/// The limit, the seconds and the depth are those of the line. What a string that was broken off leaves is what its steps as a limit
+/// leave, and an undo takes it back. The time of each string begins anew.
+static LIMITED: [Row<'static>; 6] = [
+    (
+        Run {
+            words: "teco --seconds 3 in",
+            commands: "<%A>\x1b\x1bQA=\x1b\x1b2{\x1b\x1bQA=\x1b\x1b",
+            typed: "?LIM\r\n256\r\n0\r\n",
+            ..ENDS
+        },
+        &[IN],
+        Refused::Nothing,
+        &[IN],
+    ),
+    (
+        Run {
+            words: "teco --limit 512 in",
+            commands: "<%A>\x1b\x1bQA=\x1b\x1b2{\x1b\x1bQA=\x1b\x1b",
+            typed: "?LIM\r\n256\r\n0\r\n",
+            ..ENDS
+        },
+        &[IN],
+        Refused::Nothing,
+        &[IN],
+    ),
+    (
+        Run {
+            words: "teco --seconds 3 in",
+            commands: "1=\x1b\x1b2=\x1b\x1b3=\x1b\x1b4=\x1b\x1b5=\x1b\x1b",
+            typed: "1\r\n2\r\n3\r\n4\r\n5\r\n",
+            ..ENDS
+        },
+        &[IN],
+        Refused::Nothing,
+        &[IN],
+    ),
     (
         Run {
             words: "teco --limit 0 in",

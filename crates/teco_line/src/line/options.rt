@@ -3,7 +3,7 @@ ghost use Rattle.clap.specs.Words.{app_of, rule_of, with_rule};
 ghost use Rattle.std.specs.Prelude.{◌≡◌, IfOk, false, map};
 ghost use Rattle.teco_line.specs.OptionTable.{option, option_rules, rule_by, with_rules};
 
-use super::{MOST_PAGE_LINES, MOST_STEPS};
+use super::{MOST_PAGE_LINES, MOST_SECONDS, MOST_STEPS};
 use clap::builder::ValueParser;
 use clap::{Arg, ArgAction, Command};
 use std::alloc::Global;
@@ -40,7 +40,7 @@ pub(crate) struct OptionRow {
 }
 
 /// Every option, in the order of the help.
-static OPTIONS: [OptionRow; 12] = [
+static OPTIONS: [OptionRow; 13] = [
     OptionRow {
         name: "execute",
         short: Some('e'),
@@ -103,6 +103,13 @@ static OPTIONS: [OptionRow; 12] = [
         takes: Takes::NumberOr(0, MOST_STEPS, "1000000"),
         value: "N",
         help: "The most steps that each command string may take, at most 1000000000000",
+    },
+    OptionRow {
+        name: "seconds",
+        short: None,
+        takes: Takes::Number(1, MOST_SECONDS),
+        value: "N",
+        help: "The most seconds that each command string may run, at most 1000000000000; any time without it",
     },
     OptionRow {
         name: "undo",

@@ -1,7 +1,7 @@
 //! Why the parser takes no line.
 ghost use Rattle.clap.specs.Words.{kind_of};
-ghost use Rattle.std.specs.Prelude.{◌≡◌, IfOk};
-ghost use Rattle.teco_line.specs.Refusals.{IsFaulty, IsToldAs, status_of_refusal};
+ghost use Rattle.std.specs.Prelude.{◌≡◌, IfOk, IfSome};
+ghost use Rattle.teco_line.specs.Refusals.{IsFaulty, IsShown, IsToldAs, status_of_refusal};
 
 use clap::error::ErrorKind;
 use std::alloc::Global;
@@ -41,7 +41,10 @@ fn refused_as(kind: ErrorKind) -> RefusedAs
     }
 }
 
-fn text_of<E: Display>(alloc: Global, error: &E) -> Result<String, NoMemory> {
+/// The text that an error shows.
+fn text_of<E: Display>(alloc: Global, error: &E) -> Result<String, NoMemory>
+    ensures { IfOk result (IsShown (E.output error.now)) }
+{
     let mut text = String::new(alloc);
     write!(text, "{error}")?;
     Ok(text)
@@ -49,7 +52,8 @@ fn text_of<E: Display>(alloc: Global, error: &E) -> Result<String, NoMemory> {
 
 /// The refusal of a line that is this, with the parser's text.
 pub fn refused_by<E: Display>(alloc: Global, refused_as: RefusedAs, error: &E) -> Refusal
-    ensures { result.refused_as ≡ refused_as }
+    ensures told { result.refused_as ≡ refused_as }
+    ensures text { IfSome result.text (IsShown (E.output error.now)) }
 {
     Refusal {
         refused_as,

@@ -57,7 +57,7 @@ pub(super) static EXPLAINED: [Row<'static>; 4] = [
 
 /// How the commands ended is told too: what was not run of them, an exit that nothing came before, why a file can't be had, and which
 /// limit a string came to.
-pub(super) static ENDED: [Row<'static>; 7] = [
+pub(super) static ENDED: [Row<'static>; 9] = [
     (
         Run {
             words: "teco --explain -e Y$$HK$$EX in",
@@ -116,6 +116,31 @@ pub(super) static ENDED: [Row<'static>; 7] = [
             words: "teco --explain --limit 2 -e YJJ$$ in",
             typed: "?LIM\r\n",
             noted: "string 1, step 2, 1:3, J: LIM, 2 steps are done: --limit N allows more\n\
+                the commands ended without EX: in.out is not written\n",
+            status: 2,
+            ..PAGE
+        },
+        &[IN],
+        &[IN],
+    ),
+    // The clock of a test tells a second more each time.
+    (
+        Run {
+            words: "teco --explain --seconds 3 -e <>$$ in",
+            typed: "?LIM\r\n",
+            noted: "string 1, step 512, 1:2, >: LIM, the time of 3 s is over: --seconds N allows more\n\
+                the commands ended without EX: in.out is not written\n",
+            status: 2,
+            ..PAGE
+        },
+        &[IN],
+        &[IN],
+    ),
+    (
+        Run {
+            words: "teco --explain --seconds 3 --limit 512 -e <>$$ in",
+            typed: "?LIM\r\n",
+            noted: "string 1, step 512, 1:2, >: LIM, 512 steps are done: --limit N allows more\n\
                 the commands ended without EX: in.out is not written\n",
             status: 2,
             ..PAGE

@@ -20,6 +20,7 @@ pub(super) static HELP: [Row<'static>; 1] = [(
                 --check              Tells the faults of the commands, with their places; runs nothing, and reads no INPUT\n      \
                 --page-lines <N>     The most lines of a page, at most 1000000000; without it form feeds alone end pages\n      \
                 --limit <N>          The most steps that each command string may take, at most 1000000000000 [default: 1000000]\n      \
+                --seconds <N>        The most seconds that each command string may run, at most 1000000000000; any time without it\n      \
                 --undo <N>           The most command strings kept to be undone, at most 100000; all without it\n      \
                 --prompt             Types * where a command string is awaited\n      \
                 --explain            Explains each error, and with --prompt what was done, on standard error\n  \

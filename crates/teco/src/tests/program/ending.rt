@@ -31,6 +31,7 @@ fn line(alloc: Global, given: Given) -> Result<Line, NoMemory> {
         page_lines: None,
         commands: Commands::Bytes(String::from_str(alloc, "strings")?),
         limit: 0,
+        seconds: None,
         prompt: false,
         check: false,
         explain: false,

@@ -20,6 +20,7 @@ struct Given<'a> {
     check: bool,
     explain: bool,
     limit: u64,
+    seconds: Option<u64>,
     undo: Option<u64>,
     page_lines: Option<u64>,
 }
@@ -69,6 +70,7 @@ fn is_given(line: &Line, given: &Given) -> bool {
         && line.check == given.check
         && line.explain == given.explain
         && line.limit == given.limit
+        && line.seconds == given.seconds
         && line.undo == given.undo
         && line.page_lines == given.page_lines
 }
@@ -174,12 +176,13 @@ const IN: Given = Given {
     check: false,
     explain: false,
     limit: 1_000_000,
+    seconds: None,
     undo: None,
     page_lines: None,
 };
 
 /// What the other options say.
-static ROWS: [Row<'static>; 23] = [
+static ROWS: [Row<'static>; 30] = [
     ("teco in", Said::Given(IN)),
     (
         "teco --limit 5 --output o --prompt in",
@@ -196,6 +199,20 @@ static ROWS: [Row<'static>; 23] = [
             limit: 1_000_000_000_000,
             explain: true,
             output: Some("-"),
+            ..IN
+        }),
+    ),
+    (
+        "teco --seconds 1 in",
+        Said::Given(Given {
+            seconds: Some(1),
+            ..IN
+        }),
+    ),
+    (
+        "teco in --seconds=1000000000000",
+        Said::Given(Given {
+            seconds: Some(1_000_000_000_000),
             ..IN
         }),
     ),
@@ -264,6 +281,11 @@ static ROWS: [Row<'static>; 23] = [
     ("teco --page-lines -1 in", Said::Refused(3)),
     ("teco --limit 1000000000001 in", Said::Refused(3)),
     ("teco --limit -1 in", Said::Refused(3)),
+    ("teco --seconds 0 in", Said::Refused(3)),
+    ("teco --seconds x in", Said::Refused(3)),
+    ("teco --seconds 1000000000001 in", Said::Refused(3)),
+    ("teco --seconds 1 --seconds 1 in", Said::Refused(3)),
+    ("teco --seconds in", Said::Refused(3)),
     ("teco --undo 0 in", Said::Refused(3)),
     ("teco --undo 100001 in", Said::Refused(3)),
     ("teco --undo x in", Said::Refused(3)),

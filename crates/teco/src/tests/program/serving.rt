@@ -1,11 +1,12 @@
 //! What is typed and written at streams of commands, and how serving them ends.
+use super::Ticking;
 use crate::tests::bytes::are_both;
 use crate::tests::rows::{self, Rule, cells_of};
 use std::alloc::Global;
 use std::process::Abort;
 use teco_core::{DEPTH_LIMIT, FILE_LIMIT, NoMemory};
 use teco_files::MemorySource;
-use teco_program::{Served, Silent, serve};
+use teco_program::{Bounds, ClockAlarm, Served, Silent, serve};
 use teco_session::Session;
 use teco_store::Desk;
 use teco_terminal::MemoryTerminal;
@@ -139,8 +140,12 @@ fn serves(alloc: Global, session: &mut Session, how: &How, row: &Row, single: bo
         alloc,
         &mut source,
         session,
-        how.limit,
+        Bounds {
+            steps: how.limit,
+            seconds: None,
+        },
         how.prompt,
+        &mut ClockAlarm::new(&Ticking::new()),
         &mut term,
         &mut Silent,
     );

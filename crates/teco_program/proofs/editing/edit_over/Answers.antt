@@ -1,5 +1,6 @@
 use Rattle.std.proofs.Common.{◌∙◌, inl, ap, refl}
 use Rattle.teco_session.specs.Kept.{history_of}
+use Rattle.teco_program.specs.Exchange.{HasRung}
 use Rattle.teco_program.specs.Run.{ServesInput, given_input}
 use Rattle.teco_program.specs.Seen.{commands_seen, source_view, terminal_seen}
 use Rattle.teco_program.specs.Writing.{both}
@@ -17,7 +18,7 @@ returns-in_default-serve_over g c =
 pub returns : goal.returns
 returns g c =
     let serves : ServesInput c.args.line.now (given_input c.args.input.items).is_input
-    (commands_seen (source_view g.S.Source.coming g.S.Source.bound g.S.Source.failures g.S.Source.ended) c.args.commands.now c.serve_over.new.commands)
+    (commands_seen (source_view g.S.Source.coming g.S.Source.bound g.S.Source.failures g.S.Source.ended) c.args.commands.now c.serve_over.new.commands (HasRung g.A.Stop.answered))
     (terminal_seen g.T.Terminal.screen c.args.term.now c.serve_over.new.term)
     c.in-Ok-serve_over.served (both c.output.result) = record {
       input = c.args.input.items;

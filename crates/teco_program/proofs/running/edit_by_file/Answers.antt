@@ -1,5 +1,6 @@
 use Rattle.std.proofs.Common.{ℕ, List, ◌∙◌, ap, inr, subst}
 use Rattle.teco_line.specs.StreamNames.{is_standard_input}
+use Rattle.teco_program.specs.Exchange.{HasRung}
 use Rattle.teco_program.specs.Run.{Edits, KeepsDisk, input_from, named_input, standard_input}
 use Rattle.teco_program.specs.Seen.{commands_seen, disk_seen, run_seen, source_view}
 use Rattle.teco_program.proofs.Doings.{edits_from}
@@ -13,7 +14,7 @@ returns g c =
     let old = seen c.args.disk.now in
     let mid = seen c.open.new.self in
     let new = seen c.edit_input.new.disk in
-    let given = commands_seen (source_view g.D.Input.Source.coming g.D.Input.Source.bound g.D.Input.Source.failures g.D.Input.Source.ended) c.in-Ok.given c.edit_input.new.commands in
+    let given = commands_seen (source_view g.D.Input.Source.coming g.D.Input.Source.bound g.D.Input.Source.failures g.D.Input.Source.ended) c.in-Ok.given c.edit_input.new.commands (HasRung g.A.Stop.answered) in
     let kept : KeepsDisk old mid = record {
       files = c.open.ensures.files;
       streams = c.open.ensures.streams;

@@ -1,5 +1,6 @@
 use Rattle.std.proofs.Common.{ℕ, inr, subst, sym}
 use Rattle.teco_files.specs.contracts.word_source.WordSourceSource.TheImpl as word
+use Rattle.teco_program.specs.Exchange.{HasRung}
 use Rattle.teco_program.specs.Runs.{RunsOrChecks, host, host_view}
 use Rattle.teco_program.specs.Seen.{disk_seen, source_view}
 use Rattle.teco_program.proofs.Runs.{same_explain}
@@ -10,7 +11,7 @@ returns-in-Ok-clause-run g c =
     let view = host_view (disk_seen g.D.Disk.files g.D.Disk.streams g.D.Disk.left g.D.Disk.gave g.D.Disk.changed
     (source_view g.D.Input.Source.coming g.D.Input.Source.bound g.D.Input.Source.failures g.D.Input.Source.ended))
     (source_view g.S.Source.coming g.S.Source.bound g.S.Source.failures g.S.Source.ended) g.T.Terminal.screen
-    (source_view (word.coming-value).it (word.bound-value).it (word.failures-value).it (word.ended-value).it) in
+    (source_view (word.coming-value).it (word.bound-value).it (word.failures-value).it (word.ended-value).it) (HasRung g.A.Stop.answered) in
     let old = host c.args.disk.now c.args.commands.now c.args.term.now in
     let new = host c.run_over.new.disk c.run_over.new.commands c.run_over.new.term in
     inr (record {

@@ -4,6 +4,7 @@ use Rattle.teco_session.specs.Kept.{history_of}
 use Rattle.teco_terminal.specs.Terminal.{Shows}
 use Rattle.teco_files.specs.Source.{Gives}
 use Rattle.teco_program.specs.Stream.{requests, texts_of}
+use Rattle.teco_program.specs.Exchange.{HasRung, allowance}
 use Rattle.teco_program.specs.Message.{star}
 use Rattle.teco_program.proofs.Showing.{Shows-joins}
 use Rattle.teco_files.proofs.Sources.{Gives-nil, Gives-more, Gives-on}
@@ -96,15 +97,15 @@ returns-in-Some g c =
     let piece = take c.in-Ok.n c.read.new.piece in
     let bytes = inv.0 ++ piece in
     let fed : c.feed.new.self ≡ c.pieces.splitter ++ piece = grind (arith, common_steps) in
-    let cut = CutsOff-append bytes c.feed.new.self c.serve_held.new.splitter inv.1 d.0 (CutsOff-fed inv.0 c.pieces.splitter piece c.feed.new.self inv.1 inv.4 fed) d.2 in
-    let joins = Shows-joins (g.T.Terminal.screen c.args.term.now) (g.T.Terminal.screen c.pieces.term) (g.T.Terminal.screen c.serve_held.new.term) in
+    let cut = CutsOff-append bytes c.feed.new.self c.serve_held-ended.new.splitter inv.1 d.0 (CutsOff-fed inv.0 c.pieces.splitter piece c.feed.new.self inv.1 inv.4 fed) d.2 in
+    let joins = Shows-joins (g.T.Terminal.screen c.args.term.now) (g.T.Terminal.screen c.pieces.term) (g.T.Terminal.screen c.serve_held-ended.new.term) in
     let ends = ends_from _ _ _ joins c.args.prompt inv.1 inv.6 d.0 c.in-Some.served inv.7 d.4 in
     record {
       bytes = bytes;
       read = subst (λ b. Gives g.S.Source.coming g.S.Source.bound g.S.Source.failures c.args.source.now c.read.new.self bytes b) (sym ends.read) (Gives-more inv.2 c.in-Ok.ensures.ok);
       exchanges = inv.1 ++ d.0;
-      done = Exchanges-append c.args.limit (history_of c.args.session.now) (history_of c.pieces.session) (history_of c.serve_held.new.session) inv.1 d.0 inv.3 d.1;
-      first = CutsOff-first bytes c.serve_held.new.splitter (inv.1 ++ d.0) cut;
+      done = Exchanges-append (allowance c.args.bounds (HasRung g.A.Stop.answered)) (history_of c.args.session.now) (history_of c.pieces.session) (history_of c.serve_held-ended.new.session) inv.1 d.0 inv.3 d.1;
+      first = CutsOff-first bytes c.serve_held-ended.new.splitter (inv.1 ++ d.0) cut;
       all = λ out. absurd (ends.all out);
       ended = λ end. absurd (ends.ended end);
       exit = ends.exit;
@@ -114,16 +115,16 @@ returns-in-Some g c =
 pub pieces-preserved : goal.pieces-preserved
 pieces-preserved g c =
     let inv = c.pieces.invariant in
-    let d = c.in_default-serve_held.ensures in
+    let d = c.in_default-ended.ensures in
     let piece = take c.in-Ok.n c.read.new.piece in
     let bytes = inv.0 ++ piece in
     let fed : c.feed.new.self ≡ c.pieces.splitter ++ piece = grind (arith, common_steps) in
-    let cut = CutsOff-append bytes c.feed.new.self c.serve_held.new.splitter inv.1 d.0 (CutsOff-fed inv.0 c.pieces.splitter piece c.feed.new.self inv.1 inv.4 fed) d.2 in
-    let joins = Shows-joins (g.T.Terminal.screen c.args.term.now) (g.T.Terminal.screen c.pieces.term) (g.T.Terminal.screen c.serve_held.new.term) in (
+    let cut = CutsOff-append bytes c.feed.new.self c.serve_held-ended.new.splitter inv.1 d.0 (CutsOff-fed inv.0 c.pieces.splitter piece c.feed.new.self inv.1 inv.4 fed) d.2 in
+    let joins = Shows-joins (g.T.Terminal.screen c.args.term.now) (g.T.Terminal.screen c.pieces.term) (g.T.Terminal.screen c.serve_held-ended.new.term) in (
       bytes,
       inv.1 ++ d.0,
       Gives-more inv.2 c.in-Ok.ensures.ok,
-      Exchanges-append c.args.limit (history_of c.args.session.now) (history_of c.pieces.session) (history_of c.serve_held.new.session) inv.1 d.0 inv.3 d.1,
+      Exchanges-append (allowance c.args.bounds (HasRung g.A.Stop.answered)) (history_of c.args.session.now) (history_of c.pieces.session) (history_of c.serve_held-ended.new.session) inv.1 d.0 inv.3 d.1,
       cut,
       d.3,
       GoOn-append inv.1 d.0 inv.6 d.4.0,

@@ -3,7 +3,7 @@ use Rattle.teco_session.specs.Kept.{history_of}
 use Rattle.teco_terminal.specs.Terminal.{Shows}
 use Rattle.teco_files.specs.Source.{Gives}
 use Rattle.teco_program.specs.Stream.{texts_of}
-use Rattle.teco_program.specs.Exchange.{Exchange}
+use Rattle.teco_program.specs.Exchange.{Exchange, HasRung, allowance}
 use Rattle.teco_program.specs.Serving.{Exchanges, GoOn, all_shown}
 use Rattle.teco_program.specs.Held.{CutsOff}
 use Rattle.teco_program.proofs.serving.serve.Given as goal
@@ -11,7 +11,7 @@ use Rattle.teco_program.proofs.serving.serve.Given as goal
 abbrev pub invariant-pieces : goal.invariant-pieces
 invariant-pieces g l =
     (bytes : List ℕ) × (exchanges : List Exchange) × Gives g.S.Source.coming g.S.Source.bound g.S.Source.failures l.fn.source l.source bytes false
-    × Exchanges l.limit (history_of l.fn.session) exchanges (history_of l.session) × CutsOff bytes exchanges l.splitter × (texts_of l.splitter ≡ []) × GoOn exchanges
+    × Exchanges (allowance l.bounds (HasRung g.A.Stop.answered)) (history_of l.fn.session) exchanges (history_of l.session) × CutsOff bytes exchanges l.splitter × (texts_of l.splitter ≡ []) × GoOn exchanges
     × Shows (g.T.Terminal.screen l.fn.term) (g.T.Terminal.screen l.term) (all_shown l.prompt exchanges) false
 
 abbrev pub decreases-pieces : goal.decreases-pieces

@@ -1,6 +1,7 @@
 use Rattle.std.proofs.Common.{[], ◌∷◌, ◌++◌, Some}
 use Rattle.teco_session.specs.Kept.{history_of}
 use Rattle.teco_program.specs.Cut.{AsksFirst}
+use Rattle.teco_program.specs.Exchange.{HasRung, allowance}
 use Rattle.teco_program.proofs.Showing.{Shows-joins}
 use Rattle.teco_program.proofs.Servings.{GoOn-append, HeldEnds-one, exchange_more, exchange_shows}
 use Rattle.teco_program.proofs.serving.serve_held.Goals as goal
@@ -10,8 +11,8 @@ returns-in-Some g c =
     let inv = c.held.invariant in
     let d = c.in-Some.ensures in
     let first : AsksFirst c.held.splitter (Some c.in-Ok-Some.asked) c.next.new.self = rw c.in-Ok-Some.field-0-is at c.in-Ok-Some.ensures.first in
-    let more = exchange_more c.args.limit _ _ (history_of c.do_exchange.new.session) _ _ _ inv.0 d.0 c.in-Ok-Some.asked inv.1 inv.2 first d.1 in
-    let joins = Shows-joins (g.T.Terminal.screen c.args.term.now) (g.T.Terminal.screen c.held.term) (g.T.Terminal.screen c.do_exchange.new.term) in
+    let more = exchange_more (allowance c.args.bounds (HasRung g.A.Stop.answered)) _ _ (history_of c.do_exchange-ended.new.session) _ _ _ inv.0 d.0 c.in-Ok-Some.asked inv.1 inv.2 first d.1 in
+    let joins = Shows-joins (g.T.Terminal.screen c.args.term.now) (g.T.Terminal.screen c.held.term) (g.T.Terminal.screen c.do_exchange-ended.new.term) in
     (inv.0 ++ d.0 ∷ [], more.0, more.1, tt, HeldEnds-one _ _ _ joins c.args.prompt inv.0 inv.3 d.0 c.in-Some.served inv.4 d.2)
 
 pub held-preserved-in_default : goal.held-preserved-in_default
@@ -19,8 +20,8 @@ held-preserved-in_default g c =
     let inv = c.held.invariant in
     let d = c.in_default.ensures in
     let first : AsksFirst c.held.splitter (Some c.in-Ok-Some.asked) c.next.new.self = rw c.in-Ok-Some.field-0-is at c.in-Ok-Some.ensures.first in
-    let more = exchange_more c.args.limit _ _ (history_of c.do_exchange.new.session) _ _ _ inv.0 d.0 c.in-Ok-Some.asked inv.1 inv.2 first d.1 in
-    let joins = Shows-joins (g.T.Terminal.screen c.args.term.now) (g.T.Terminal.screen c.held.term) (g.T.Terminal.screen c.do_exchange.new.term) in
+    let more = exchange_more (allowance c.args.bounds (HasRung g.A.Stop.answered)) _ _ (history_of c.do_exchange-ended.new.session) _ _ _ inv.0 d.0 c.in-Ok-Some.asked inv.1 inv.2 first d.1 in
+    let joins = Shows-joins (g.T.Terminal.screen c.args.term.now) (g.T.Terminal.screen c.held.term) (g.T.Terminal.screen c.do_exchange-ended.new.term) in
     (inv.0 ++ d.0 ∷ [], more.0, more.1, GoOn-append inv.0 (d.0 ∷ []) inv.3 (d.2.0, tt), exchange_shows _ _ _ joins c.args.prompt inv.0 inv.3 d.0 inv.4 d.2.1)
 
 pub held-preserved : goal.held-preserved
@@ -28,6 +29,6 @@ held-preserved g c =
     let inv = c.held.invariant in
     let d = c.in_default.ensures in
     let first : AsksFirst c.held.splitter (Some c.in-Ok-Some.asked) c.next.new.self = rw c.in-Ok-Some.field-0-is at c.in-Ok-Some.ensures.first in
-    let more = exchange_more c.args.limit _ _ (history_of c.do_exchange.new.session) _ _ _ inv.0 d.0 c.in-Ok-Some.asked inv.1 inv.2 first d.1 in
-    let joins = Shows-joins (g.T.Terminal.screen c.args.term.now) (g.T.Terminal.screen c.held.term) (g.T.Terminal.screen c.do_exchange.new.term) in
+    let more = exchange_more (allowance c.args.bounds (HasRung g.A.Stop.answered)) _ _ (history_of c.do_exchange-ended.new.session) _ _ _ inv.0 d.0 c.in-Ok-Some.asked inv.1 inv.2 first d.1 in
+    let joins = Shows-joins (g.T.Terminal.screen c.args.term.now) (g.T.Terminal.screen c.held.term) (g.T.Terminal.screen c.do_exchange-ended.new.term) in
     (inv.0 ++ d.0 ∷ [], more.0, more.1, GoOn-append inv.0 (d.0 ∷ []) inv.3 (d.2.0, tt), exchange_shows _ _ _ joins c.args.prompt inv.0 inv.3 d.0 inv.4 d.2.1)

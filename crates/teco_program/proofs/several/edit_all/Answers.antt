@@ -1,5 +1,6 @@
 use Rattle.std.proofs.Common.{ℕ, List, inl, inr, refl, subst}
 use Rattle.teco_files.specs.contracts.word_source.WordSourceSource.TheImpl as word
+use Rattle.teco_program.specs.Exchange.{HasRung}
 use Rattle.teco_program.specs.Runs.{RunsInOrder, host, host_view, inputs_of}
 use Rattle.teco_program.specs.Seen.{disk_seen, source_view}
 use Rattle.teco_program.proofs.several.edit_all.Goals as goal
@@ -9,7 +10,7 @@ returns-in-Ok-clause-runs g c =
     let view = host_view (disk_seen g.D.Disk.files g.D.Disk.streams g.D.Disk.left g.D.Disk.gave g.D.Disk.changed
     (source_view g.D.Input.Source.coming g.D.Input.Source.bound g.D.Input.Source.failures g.D.Input.Source.ended))
     (source_view g.S.Source.coming g.S.Source.bound g.S.Source.failures g.S.Source.ended) g.T.Terminal.screen
-    (source_view (word.coming-value).it (word.bound-value).it (word.failures-value).it (word.ended-value).it) in
+    (source_view (word.coming-value).it (word.bound-value).it (word.failures-value).it (word.ended-value).it) (HasRung g.A.Stop.answered) in
     let mid = host c.commands_given.new.disk c.commands_given.new.stream c.args.term.now in
     let new = host c.edit_each.new.disk c.edit_each.new.commands c.edit_each.new.term in
     record {

@@ -3,6 +3,7 @@ use Rattle.std.proofs.lemmas.List.{take_all, map-append}
 use Rattle.std.specs.String.{string_bytes}
 use Rattle.teco_files.specs.contracts.word_source.WordSourceSource.TheImpl as word
 use Rattle.teco_program.specs.Ending.{worse}
+use Rattle.teco_program.specs.Exchange.{HasRung}
 use Rattle.teco_program.specs.Runs.{Chain, Host, LinkOver, host, host_view}
 use Rattle.teco_program.specs.Seen.{disk_seen, source_view}
 use Rattle.teco_program.proofs.Runs.{chain_more, worst_more}
@@ -13,7 +14,7 @@ loop-name-init g c =
     let view = host_view (disk_seen g.D.Disk.files g.D.Disk.streams g.D.Disk.left g.D.Disk.gave g.D.Disk.changed
     (source_view g.D.Input.Source.coming g.D.Input.Source.bound g.D.Input.Source.failures g.D.Input.Source.ended))
     (source_view g.S.Source.coming g.S.Source.bound g.S.Source.failures g.S.Source.ended) g.T.Terminal.screen
-    (source_view (word.coming-value).it (word.bound-value).it (word.failures-value).it (word.ended-value).it) in
+    (source_view (word.coming-value).it (word.bound-value).it (word.failures-value).it (word.ended-value).it) (HasRung g.A.Stop.answered) in
     let old : Host g.row.D.Denot g.row.S.Denot g.row.T.Denot × g.row.E.Denot = (host c.args.disk.now c.args.commands.now c.args.term.now, c.args.errors.now) in
     let new : Host g.row.D.Denot g.row.S.Denot g.row.T.Denot × g.row.E.Denot = (host c.edit_told-first.new.disk c.edit_told-first.new.commands c.edit_told-first.new.term, c.edit_told-first.new.errors) in
     let status = c.edit_told-first.result in
@@ -25,7 +26,7 @@ loop-name-preserved g c =
     let view = host_view (disk_seen g.D.Disk.files g.D.Disk.streams g.D.Disk.left g.D.Disk.gave g.D.Disk.changed
     (source_view g.D.Input.Source.coming g.D.Input.Source.bound g.D.Input.Source.failures g.D.Input.Source.ended))
     (source_view g.S.Source.coming g.S.Source.bound g.S.Source.failures g.S.Source.ended) g.T.Terminal.screen
-    (source_view (word.coming-value).it (word.bound-value).it (word.failures-value).it (word.ended-value).it) in
+    (source_view (word.coming-value).it (word.bound-value).it (word.failures-value).it (word.ended-value).it) (HasRung g.A.Stop.answered) in
     let link = LinkOver view g.E.Terminal.screen c.args.line.now c.args.bytes.now in
     let h = c.loop-name.invariant in
     let i = c.loop-name.name-index in
@@ -56,7 +57,7 @@ returns-clause-runs g c =
     let view = host_view (disk_seen g.D.Disk.files g.D.Disk.streams g.D.Disk.left g.D.Disk.gave g.D.Disk.changed
     (source_view g.D.Input.Source.coming g.D.Input.Source.bound g.D.Input.Source.failures g.D.Input.Source.ended))
     (source_view g.S.Source.coming g.S.Source.bound g.S.Source.failures g.S.Source.ended) g.T.Terminal.screen
-    (source_view (word.coming-value).it (word.bound-value).it (word.failures-value).it (word.ended-value).it) in
+    (source_view (word.coming-value).it (word.bound-value).it (word.failures-value).it (word.ended-value).it) (HasRung g.A.Stop.answered) in
     let link = LinkOver view g.E.Terminal.screen c.args.line.now c.args.bytes.now in
     let h = c.loop-name.invariant in
     let old : Host g.row.D.Denot g.row.S.Denot g.row.T.Denot × g.row.E.Denot = (host c.args.disk.now c.args.commands.now c.args.term.now, c.args.errors.now) in

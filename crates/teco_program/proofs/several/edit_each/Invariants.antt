@@ -2,6 +2,7 @@ use Rattle.std.proofs.Common.{◌≡◌, ℕ, List, ◌∷◌, false, map, take}
 use Rattle.std.specs.String.{string_bytes}
 use Rattle.teco_files.specs.contracts.word_source.WordSourceSource.TheImpl as word
 use Rattle.teco_program.specs.Ending.{worst}
+use Rattle.teco_program.specs.Exchange.{HasRung}
 use Rattle.teco_program.specs.Runs.{Chain, LinkOver, host, host_view}
 use Rattle.teco_program.specs.Seen.{disk_seen, source_view}
 use Rattle.teco_program.proofs.several.edit_each.Given as goal
@@ -11,7 +12,7 @@ invariant-loop-name g l =
     let view = host_view (disk_seen g.D.Disk.files g.D.Disk.streams g.D.Disk.left g.D.Disk.gave g.D.Disk.changed
     (source_view g.D.Input.Source.coming g.D.Input.Source.bound g.D.Input.Source.failures g.D.Input.Source.ended))
     (source_view g.S.Source.coming g.S.Source.bound g.S.Source.failures g.S.Source.ended) g.T.Terminal.screen
-    (source_view (word.coming-value).it (word.bound-value).it (word.failures-value).it (word.ended-value).it) in
+    (source_view (word.coming-value).it (word.bound-value).it (word.failures-value).it (word.ended-value).it) (HasRung g.A.Stop.answered) in
     (statuses : List ℕ) × Chain (LinkOver view g.E.Terminal.screen l.line l.bytes) (string_bytes l.line.input ∷ map string_bytes (take l.name-index l.line.more.items))
     (host l.fn.disk l.fn.commands l.fn.term, l.fn.errors) (host l.disk l.commands l.term, l.errors) statuses
     × (l.status ≡ worst 0 statuses) × (l.line.explain ≡ false → l.notes ≡ l.fn.notes)

@@ -1,4 +1,5 @@
 //! Streams on a terminal that fails after so many bytes, and from a reader that does.
+use super::super::Ticking;
 use super::{bytes_of, source_of};
 use crate::tests::assert_of;
 use crate::tests::bytes::{failing_after, put};
@@ -8,12 +9,18 @@ use std::alloc::Global;
 use std::test::*;
 use teco_core::NoMemory;
 use teco_files::{MemorySource, ReaderSource, Source};
-use teco_program::{Served, Silent, serve};
+use teco_program::{Bounds, ClockAlarm, Served, Silent, serve};
 use teco_session::Session;
 use teco_terminal::{FailAfter, MemoryTerminal, WriterTerminal};
 
 /// Three pages.
 const INPUT: &[u8] = b"a\x0cb\x0cc";
+
+/// As far as each string may run.
+const BOUNDS: Bounds = Bounds {
+    steps: 1000,
+    seconds: None,
+};
 
 /// A stream over the three pages, where `$` is ESC, and what it types.
 type Row<'a> = (&'a str, &'a str);
@@ -75,8 +82,9 @@ fn is_shown(
         alloc,
         source,
         session,
-        1000,
+        BOUNDS,
         false,
+        &mut ClockAlarm::new(&Ticking::new()),
         &mut WriterTerminal::new(&mut writer),
         &mut Silent,
     );
@@ -109,8 +117,9 @@ fn left_by<S: Source>(alloc: Global, source: &mut S) -> (Served, Vec<u8>) {
         alloc,
         source,
         &mut session,
-        1000,
+        BOUNDS,
         false,
+        &mut ClockAlarm::new(&Ticking::new()),
         &mut term,
         &mut Silent,
     );
@@ -153,8 +162,9 @@ fn cannot_show(alloc: Global, source: &mut MemorySource) -> bool {
         alloc,
         source,
         &mut session,
-        1000,
+        BOUNDS,
         false,
+        &mut ClockAlarm::new(&Ticking::new()),
         &mut term,
         &mut Silent,
     );
