@@ -264,4 +264,3 @@ leaving = record {
   counted = λ body w v depth left e. unrolls.turns (Some (suc left)) body w depth ∙ turned (Some left) body w depth (v, leave) e;
   endless = λ body w v depth e. unrolls.turns None body w depth ∙ turned None body w depth (v, leave) e;
 }
-

@@ -98,7 +98,6 @@ StepEnds = (whole rest : Nodes) (m : Modifiers) (i : Item) (w : World) (depth n 
 
 -- A list comes to an item.
 module _ (whole rest : Nodes) (m : Modifiers) (i : Item) (w : World) (depth n : ℕ) (inside : Bool) where
-
   -- how the effect of the item ends; the world that its step leaves; and what the list comes to
   abbrev pub ends : End
   ends = (first_effect m i rest w inside).end
@@ -141,7 +140,6 @@ FurtherStep = (i : Item) (setting : Setting) (w : World) (depth n : ℕ) → w.f
 
 -- A list comes to an iteration or a conditional, which leaves the world `v`.
 module _ (whole rest : Nodes) (w v : World) (depth n : ℕ) (inside : Bool) where
-
   -- Each uses one of the fuel, and takes its arguments.
   abbrev pub begun : World
   begun = without_arguments (with_fuel w n)
