@@ -167,22 +167,22 @@ pub record RunsOverAll {D I S T W E : Type 0} (view : HostView D I S T W) (error
 
 -- A line that asks for a check: its commands are had as for a run, and what a check finds in them is told. No file changes by
 -- that, and nothing is served or put on the terminal but what is told. If the commands can't be had, that is told.
-pub record ChecksLine {D I S T W E : Type 0} (view : HostView D I S T W) (errors : E → Screen) (line : Line)
-    (old new : Host D S T) (told telling : E) (status : ℕ) : Type 0 where
+pub record ChecksLine {D I S T E : Type 0} (disk : D → DiskSeen I) (stream : SourceView S) (screen : T → Screen)
+    (errors : E → Screen) (line : Line) (old new : Host D S T) (told telling : E) (status : ℕ) : Type 0 where
   pub asked : line.check ≡ true
-  pub kept : KeepsDisk (view.disk old.disk) (view.disk new.disk)
+  pub kept : KeepsDisk (disk old.disk) (disk new.disk)
   pub tells : ((fault : CommandsFault) × (new.term ≡ old.term)
-      × LacksCommands view.stream line.commands (view.disk old.disk).files old.stream new.stream fault
+      × LacksCommands stream line.commands (disk old.disk).files old.stream new.stream fault
       × Declines line.commands fault (errors told) (errors telling) status)
-      ⊎ ((bytes : List ℕ) × IsGivenBy view.stream line.commands (view.disk old.disk).files old.stream new.stream bytes
-      × TellsVerdict view.screen errors bytes old.term new.term told telling status)
+      ⊎ ((bytes : List ℕ) × IsGivenBy stream line.commands (disk old.disk).files old.stream new.stream bytes
+      × TellsVerdict screen errors bytes old.term new.term told telling status)
 
 -- A line that asks for no check is run over, and one that asks for it is checked alone.
 abbrev pub RunsOrChecks : {D I S T W E : Type 0} → HostView D I S T W → (E → Screen) → Line → Host D S T → Host D S T → E
     → E → ℕ → Type 0
 RunsOrChecks view errors line old new told telling status = ((line.check ≡ false)
     × (RunsOverOne view errors line old new told telling status ⊎ RunsOverAll view errors line old new told telling status))
-    ⊎ ChecksLine view errors line old new told telling status
+    ⊎ ChecksLine view.disk view.stream view.screen errors line old new told telling status
 
 -- The words say a line, and it is run over or checked; or they say none, and nothing is done but that that is told.
 pub record RunsOverLine {D I S T W E : Type 0} (view : HostView D I S T W) (errors : E → Screen) (words : Result (Vec (String Global) Global) LineFault)

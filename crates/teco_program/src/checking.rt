@@ -5,7 +5,7 @@ ghost use Rattle.teco_line.specs.Conflict.{are_awaited};
 ghost use Rattle.teco_program.specs.Checks.{SaysWhether, TellsVerdict, status_of_check};
 ghost use Rattle.teco_program.specs.Ending.{said};
 ghost use Rattle.teco_program.specs.Refusing.{Tells};
-ghost use Rattle.teco_program.specs.Runs.{ChecksLine, host, host_view};
+ghost use Rattle.teco_program.specs.Runs.{ChecksLine, host};
 ghost use Rattle.teco_program.specs.Seen.{disk_seen, source_view};
 
 use crate::running::no_memory;
@@ -13,7 +13,7 @@ use crate::sources::{Parts, commands_given, decline, source_name};
 use std::alloc::Global;
 use teco_advice::{Advice, check, report, report_part};
 use teco_core::NoMemory;
-use teco_files::{Disk, Source, WordSource};
+use teco_files::{Disk, Source};
 use teco_line::{Commands, Line};
 use teco_scan::Span;
 use teco_source::beginnings;
@@ -152,13 +152,10 @@ pub fn check_line<S: Source, T: Terminal, E: Terminal, D: Disk>(
 ) -> u8
     requires asked { line.now.check ≡ true }
     requires given { are_awaited line.now.commands ≡ false }
-    ensures { let view = host_view (disk_seen D.files D.streams D.left D.gave D.changed
-        (source_view D.Input.coming D.Input.bound D.Input.failures D.Input.ended))
-        (source_view S.coming S.bound S.failures S.ended) T.screen
-        (source_view ⟦<WordSource as Source>⟧.coming ⟦<WordSource as Source>⟧.bound
-        ⟦<WordSource as Source>⟧.failures ⟦<WordSource as Source>⟧.ended) (λ done. ⊥) in
-        ChecksLine view E.screen line.now (host disk.old commands.old term.old) (host disk.new commands.new term.new)
-        errors.old errors.new result }
+    ensures { let seen = disk_seen D.files D.streams D.left D.gave D.changed
+        (source_view D.Input.coming D.Input.bound D.Input.failures D.Input.ended) in
+        ChecksLine seen (source_view S.coming S.bound S.failures S.ended) T.screen E.screen line.now
+        (host disk.old commands.old term.old) (host disk.new commands.new term.new) errors.old errors.new result }
 {
     let mut parts = Parts::kept(alloc);
     match commands_given(alloc, &line.commands, commands, disk, &mut parts) {
