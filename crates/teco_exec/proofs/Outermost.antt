@@ -1,6 +1,6 @@
 -- The outermost of the open blocks: how many they are, the innermost of them, and where they are stored.
-use Rattle.std.proofs.Common.{◌≡◌, ℕ, suc, ◌+◌, ◌-◌, ◌<◌, ◌≤◌, ◌++◌, List, [], ◌∷◌, length, reverse, take, drop, get_or, set, sym, ap, ◌∙◌, arith}
-use Rattle.std.proofs.lemmas.List.{drop_all, get_or-set_same, length-drop, length-reverse, length-set, length-take-le, reverse-append, take-append-drop, take-set, take-take}
+use Rattle.std.proofs.Common.{◌≡◌, ℕ, suc, ◌+◌, ◌-◌, ◌<◌, ◌≤◌, ◌++◌, List, [], ◌∷◌, length, reverse, take, drop, get_or, sym, ap, ◌∙◌, arith}
+use Rattle.std.proofs.lemmas.List.{drop_all, length-drop, length-reverse, length-take-le, reverse-append, take-append-drop, take-take}
 use Rattle.std.proofs.lemmas.List.Elements.{All-drop}
 use Rattle.std.proofs.Math.Seq.{drop-append_seam, drop-cons}
 use Rattle.teco_exec.specs.Frames.{outermost}
@@ -45,19 +45,3 @@ stored_cons xs depth n d some le within =
     let one : depth ≡ i + 1 = omega arith in
     let less : i < length xs = omega arith in
     outermost_stored xs depth n le within ∙ ap (λ k. reverse (take k xs)) one ∙ innermost xs i d less ∙ ap (λ (bs : List Block). get_or xs i d ∷ bs) (sym (outermost_stored xs i n (omega arith) within))
-
--- The innermost is stored last, as it is and as it is set.
-pub top_stored : (xs : List Block) (n : ℕ) (b : Block) → 0 < n → n ≤ length xs → ((d : Block) → get_or xs (n - 1) d ≡ b) → reverse (take n xs) ≡ b ∷ reverse (take (n - 1) xs)
-top_stored xs n b some within is =
-    let no : Block = record { start = 0; body = Endless } in
-    let i = n - 1 in
-    let one : n ≡ i + 1 = omega arith in
-    let less : i < length xs = omega arith in
-    ap (λ k. reverse (take k xs)) one ∙ innermost xs i no less ∙ ap (λ (x : Block). x ∷ reverse (take i xs)) (is no)
-
-pub set_stored : (xs : List Block) (n : ℕ) (b : Block) → 0 < n → n ≤ length xs → reverse (take n (set xs (n - 1) b)) ≡ b ∷ reverse (take (n - 1) xs)
-set_stored xs n b some within =
-    let i = n - 1 in
-    let less : i < length xs = omega arith in
-    let long : n ≤ length (set xs i b) = omega (arith, length-set xs i b) in
-    top_stored (set xs i b) n b some long (λ d. get_or-set_same xs i b d less) ∙ ap (λ ys. b ∷ reverse ys) (take-set xs i b)

@@ -1,8 +1,8 @@
 -- The turns of open blocks, one block after the other.
-use Rattle.std.proofs.Common.{◌≡◌, ℕ, zero, suc, ◌-◌, arith, ◌+◌, ◌<◌, ◌++◌, List, [], ◌∷◌, length, get_or, reverse, take, Option, Some, None, refl, sym, ap, ◌∙◌, append_assoc, inl, inr, ◌⊎◌}
+use Rattle.std.proofs.Common.{◌≡◌, ℕ, ◌+◌, ◌<◌, ◌++◌, List, [], ◌∷◌, length, get_or, reverse, take, Option, Some, None, refl, sym, ap, ◌∙◌, append_assoc, inl, inr, ◌⊎◌}
 use Rattle.teco_scan.specs.declared.blocks.Kind.TheVariants.{Iter}
 use Rattle.teco_scan.specs.declared.blocks.Kind.TheVariants as kinds
-use Rattle.teco_exec.specs.Frames.{frames, in_turn, kind_of, next_body, next_turn, turns_left, turns_open}
+use Rattle.teco_exec.specs.Frames.{frames, kind_of, turns_left, turns_open}
 use Rattle.teco_exec.specs.Places.{open_turns}
 use Rattle.teco_exec.specs.declared.blocks.Block.{Block}
 use Rattle.teco_exec.specs.declared.blocks.Body.{Body}
@@ -55,21 +55,3 @@ pub turns_same : (text : List ℕ) (bs : List Block) → open_turns (frames text
 unfolding frames open_turns turns_open
 turns_same text [] = refl
 turns_same text (b ∷ bs) = by_body b.body (open_turns (frames text bs)) (turns_open bs) (turns_same text bs) ∙ sym (opened b bs)
-
--- The next turn of the innermost block, by what it is.
-module _ (b : Block) (outer : List Block) where
-  pub next_none : (b.body ≡ Then) ⊎ (b.body ≡ Else) → next_turn (b ∷ outer) ≡ None
-  next_none (inl is) = ap (λ x. in_turn b outer (next_body x)) is
-  next_none (inr is) = ap (λ x. in_turn b outer (next_body x)) is
-
-  pub next_last : (left : ℕ) → b.body ≡ Turns left → left ≡ 0 → next_turn (b ∷ outer) ≡ None
-  next_last left is none = ap (λ x. in_turn b outer (next_body x)) (is ∙ ap Turns none)
-
-  pub next_endless : b.body ≡ Endless → next_turn (b ∷ outer) ≡ Some (b ∷ outer)
-  next_endless is = ap (λ x. in_turn b outer (next_body x)) is ∙ ap (λ (x : Body). Some (record b { body = x } ∷ outer)) (sym is)
-
-  pub next_counted : (left : ℕ) → b.body ≡ Turns left → (left ≡ 0 → ⊥) → next_turn (b ∷ outer) ≡ Some (record b { body = Turns (left - 1) } ∷ outer)
-  next_counted zero is some = absurd (some refl)
-  next_counted (suc n) is some =
-      let same : n ≡ suc n - 1 = omega arith in
-      ap (λ x. in_turn b outer (next_body x)) is ∙ ap (λ k. Some (record b { body = Turns k } ∷ outer)) same

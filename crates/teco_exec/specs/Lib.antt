@@ -12,7 +12,6 @@ pub mod Telling
 pub mod Watching
 pub mod Frames
 pub mod Remembered
-pub mod Room
 pub mod Tokens
 pub mod View
 pub mod Runs

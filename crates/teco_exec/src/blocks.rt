@@ -2,7 +2,6 @@
 ghost use Rattle.std.specs.Prelude.{◌≡◌, ◌<◌, ◌≤◌, ◌-◌, [], ◌∷◌, IfOk, None, Some, length, MatchOption, slice_get};
 ghost use Rattle.teco_exec.specs.Frames.{EndsTurn, has_iteration, kind_of, list_start, next_turn, outermost, turns_open};
 
-use crate::room::Room;
 use std::alloc::Global;
 use std::marker::Model;
 use teco_core::{BLOCK_LIMIT, NoMemory};
@@ -46,7 +45,7 @@ pub(crate) struct Block {
 #[derive(Drop)]
 pub(crate) struct Blocks<'r> {
     /// The outermost first; after the open ones come blocks that mean nothing.
-    room: &'r mut Room,
+    open: &'r mut [Block],
     depth: usize,
 }
 
@@ -57,18 +56,20 @@ impl<'r> Model for Blocks<'r> {
 
     ghost Value = { List Block };
 
-    ghost view = { λ b. reverse (take b.depth b.room.now) };
+    ghost view = { λ b. reverse (take b.depth b.open.now) };
 
-    ghost invariant = { λ b. (b.depth ≤ BLOCK_LIMIT) × (length b.room.now ≡ BLOCK_LIMIT) };
+    ghost invariant = { λ b. (b.depth ≤ BLOCK_LIMIT) × (length b.open.now ≡ BLOCK_LIMIT) };
 }
 
 impl<'r> Blocks<'r> {
     /// No block is open. What is in the room means nothing.
-    pub fn new(room: &'r mut Room) -> Blocks<'r>
-        requires { length room.old ≡ BLOCK_LIMIT }
+    pub fn new(room: &'r mut [Block; BLOCK_LIMIT]) -> Blocks<'r>
         ensures { result ≡ [] }
     {
-        Blocks { room, depth: 0 }
+        Blocks {
+            open: room,
+            depth: 0,
+        }
     }
 
     /// How many blocks are open, from 0 to 64.
@@ -84,7 +85,7 @@ impl<'r> Blocks<'r> {
         requires { length self.old < BLOCK_LIMIT }
         ensures { self.new ≡ block ∷ self.old }
     {
-        self.room.set(self.depth, block);
+        self.open[self.depth] = block;
         self.depth += 1;
     }
 
@@ -96,7 +97,7 @@ impl<'r> Blocks<'r> {
             return None;
         }
         self.depth -= 1;
-        Some(self.room.get(self.depth))
+        Some(self.open[self.depth])
     }
 
     /// The innermost block, if one is open.
@@ -106,7 +107,7 @@ impl<'r> Blocks<'r> {
         if self.depth == 0 {
             return None;
         }
-        Some(self.room.get(self.depth - 1))
+        Some(self.open[self.depth - 1])
     }
 
     /// Begins the next turn of the innermost block, an iteration, and tells where its list begins. There is none after the last
@@ -120,17 +121,15 @@ impl<'r> Blocks<'r> {
         if self.depth == 0 {
             return None;
         }
-        let block = self.room.get(self.depth - 1);
+        let block = self.open[self.depth - 1];
         match block.body {
             Body::Endless => Some(block.start),
             Body::Turns(left) => {
                 if left == 0 {
                     return None;
                 }
-                let start = block.start;
-                let body = Body::Turns(left - 1);
-                self.room.set(self.depth - 1, Block { start, body });
-                Some(start)
+                self.open[self.depth - 1].body = Body::Turns(left - 1);
+                Some(block.start)
             }
             Body::Then | Body::Else => None,
         }
@@ -143,7 +142,7 @@ impl<'r> Blocks<'r> {
         requires few { depth ≤ BLOCK_LIMIT }
         ensures { outermost depth self.now ≡ result ∷ outermost (depth - 1) self.now }
     {
-        self.room.get(depth - 1)
+        self.open[depth - 1]
     }
 
     /// Closes the innermost blocks, so that as many as this depth are left.
@@ -174,7 +173,7 @@ impl<'r> Blocks<'r> {
         let mut depth = self.depth;
         'outward: while depth > 0 {
             depth -= 1;
-            match self.room.get(depth).body {
+            match self.open[depth].body {
                 Body::Endless => turns.push(None)?,
                 Body::Turns(left) => turns.push(Some(left))?,
                 Body::Then | Body::Else => {}
@@ -190,7 +189,7 @@ impl<'r> Blocks<'r> {
         let mut depth = self.depth;
         while depth > 0 {
             depth -= 1;
-            match self.room.get(depth).body.kind() {
+            match self.open[depth].body.kind() {
                 Kind::Iter => return true,
                 Kind::Then | Kind::Else => {}
             }

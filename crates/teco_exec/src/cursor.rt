@@ -4,10 +4,9 @@ ghost use Rattle.teco_scan.specs.Scan.{after_fillers};
 ghost use Rattle.teco_exec.specs.Semicolon.{is_semicolon};
 ghost use Rattle.teco_exec.specs.CursorMoves as machine;
 
-use crate::blocks::Blocks;
+use crate::blocks::{Block, Blocks};
 use crate::remembered::Remembered;
-use crate::room::Room;
-use teco_core::{Args, is_filler};
+use teco_core::{Args, BLOCK_LIMIT, is_filler};
 use teco_scan::spelling;
 
 /// Where a text is being run: how many of its bytes come before, the arguments so far, the open blocks, and what is remembered of it.
@@ -26,15 +25,17 @@ pub(crate) struct Cursor<'t, 'a> {
 }
 
 impl<'t, 'a> Cursor<'t, 'a> {
-    ghost use Rattle.std.specs.Prelude.{◌≡◌, drop, length};
+    ghost use Rattle.std.specs.Prelude.{◌≡◌, drop};
     ghost use Rattle.teco_core.specs.ArgumentsView.{arguments};
-    ghost use Rattle.teco_core.specs.declared.limits.TheConstants.{BLOCK_LIMIT};
     ghost use Rattle.teco_scan.specs.Scan.{scan};
     ghost use Rattle.teco_exec.specs.View.{cursor_at_start, cursor};
 
     /// The beginning of a text, with these arguments and this room for its open blocks.
-    pub fn begin(text: &'t [u8], args: &'a mut Args, room: &'t mut Room) -> Cursor<'t, 'a>
-        requires { length room.old ≡ BLOCK_LIMIT }
+    pub fn begin(
+        text: &'t [u8],
+        args: &'a mut Args,
+        room: &'t mut [Block; BLOCK_LIMIT],
+    ) -> Cursor<'t, 'a>
         ensures text { result.text.now ≡ text.now }
         ensures lent { result.args.ghost_name ≡ args.entry.ghost_name }
         ensures begins { cursor result ≡ cursor_at_start (arguments args.old) text.now }

@@ -13,7 +13,6 @@ mod moves;
 mod outcome;
 mod place;
 mod remembered;
-mod room;
 mod running;
 mod stepping;
 mod stop;

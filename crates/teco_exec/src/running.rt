@@ -15,17 +15,17 @@ ghost use Rattle.teco_exec.specs.Runs.{Runs, RunsWithin, is_tty, trail_of};
 ghost use Rattle.teco_exec.specs.StringMeaning.{string_meaning};
 ghost use Rattle.teco_exec.specs.declared.flow.Exit.TheVariants as exit;
 
+use crate::blocks::{Block, Body};
 use crate::called::{SHORT_LIMIT, Spare, copy_short};
 use crate::cursor::Cursor;
 use crate::dispatch::step;
 use crate::flow::{Exit, Flow, Steps};
 use crate::laws::{machine_laws, meaning_laws};
 use crate::outcome::{Outcome, Stopped};
-use crate::room::Room;
 use crate::stop::{Never, Stop};
 use crate::watch::{Unwatched, Watch, Watched};
 use std::alloc::Global;
-use teco_core::{Args, CALL_LIMIT, Code, NoMemory, Reg};
+use teco_core::{Args, BLOCK_LIMIT, CALL_LIMIT, Code, NoMemory, Reg};
 use teco_store::Desk;
 use teco_terminal::Terminal;
 
@@ -202,7 +202,10 @@ fn run_text<D: Desk, S: Stop, T: Terminal, W: Watch>(
         (host (D.state desk.old) (D.follows desk.old) (T.screen term.old) steps.old.done)
         (at_beginning (arguments args.old) text.now)) }
 {
-    let mut room = Room::new();
+    let mut room = [Block {
+        start: 0,
+        body: Body::Endless,
+    }; BLOCK_LIMIT];
     let mut cursor = Cursor::begin(text, args, &mut room);
     'running: loop {
         let at = cursor.at;

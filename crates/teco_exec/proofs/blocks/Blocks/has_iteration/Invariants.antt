@@ -6,7 +6,7 @@ use Rattle.teco_exec.proofs.blocks.Blocks.has_iteration.Given as goal
 abbrev pub invariant-loop-depth : goal.invariant-loop-depth
 invariant-loop-depth l = record {
   few : l.depth ≤ 64;
-  same : has_iteration (reverse (take l.depth l.self-inside.room.now)) ≡ has_iteration l.self;
+  same : has_iteration (reverse (take l.depth l.self-inside.open.now)) ≡ has_iteration l.self;
 }
 
 abbrev pub decreases-loop-depth : goal.decreases-loop-depth

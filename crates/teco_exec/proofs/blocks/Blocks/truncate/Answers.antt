@@ -6,7 +6,7 @@ use Rattle.teco_exec.proofs.blocks.Blocks.truncate.Goals as goal
 
 pub returns : goal.returns
 returns c =
-    let xs = c.self.inside.room.now in
+    let xs = c.self.inside.open.now in
     let n = c.self.inside.depth in
     let within : n ≤ length xs = omega (arith, c.self.invariant) in
     let size : n ≡ length c.args.self.now = sym (length-take-le n xs within) ∙ sym (length-reverse _) ∙ ap length c.self.view_is in

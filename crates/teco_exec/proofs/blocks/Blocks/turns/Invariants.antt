@@ -6,7 +6,7 @@ use Rattle.teco_exec.proofs.blocks.Blocks.turns.Given as goal
 abbrev pub invariant-outward : goal.invariant-outward
 invariant-outward l = record {
   few : l.depth ≤ 64;
-  same : l.turns.items ++ turns_open (reverse (take l.depth l.self-inside.room.now)) ≡ turns_open l.self;
+  same : l.turns.items ++ turns_open (reverse (take l.depth l.self-inside.open.now)) ≡ turns_open l.self;
 }
 
 abbrev pub decreases-outward : goal.decreases-outward
