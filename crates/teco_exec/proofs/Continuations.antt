@@ -21,7 +21,6 @@ use Rattle.teco_exec.proofs.Passing.{Shorter, pass_short}
 use Rattle.std.proofs.lemmas.Bool.Decides.{nat_tests}
 use Rattle.std.proofs.Math.Nat.{mul-le-mul_right, add-mul}
 use Rattle.teco_core.specs.Arguments.{Arguments, no_arguments}
-use Rattle.teco_core.specs.declared.arguments.Args.{Args}
 use Rattle.teco_core.specs.declared.code.Code.TheVariants.{Lim, Pdo}
 use Rattle.teco_store.specs.Trail.{Trail}
 use Rattle.teco_terminal.specs.Terminal.{Shows}
@@ -66,9 +65,9 @@ module _ (laws : BlockLaws) (old to : Cursor) (found : Found) (callers : List Ca
   comes_block same o after e now =
       alike (ready (Block o after) e now ∙ ap (λ (c : Cursor). block (block_step_of o) (drop after to.text.now) (config c.text.now (cursor c) None callers now)) (sym same))
 
-  pub comes_over : to ≡ old → coming_of to found End ≡ pass (cursor old) → Settles (at_cursor old callers) (goes (at_return (arguments to.args.now) callers))
+  pub comes_over : to ≡ old → coming_of to found End ≡ pass (cursor old) → Settles (at_cursor old callers) (goes (at_return (arguments to.args) callers))
   comes_over same e now =
-      also (alike (ready End e now)) (also (returns old.text.now (cursor old) callers now) (alike (ap (λ (c : Cursor). at_return (arguments c.args.now) callers now) (sym same))))
+      also (alike (ready End e now)) (also (returns old.text.now (cursor old) callers now) (alike (ap (λ (c : Cursor). at_return (arguments c.args) callers now) (sym same))))
 
   pub comes_fault : (code : Code) → coming_of to found (Fault code) ≡ pass (cursor old) → Settles (at_cursor old callers) (stops code)
   comes_fault code e now zero = ap (ready_run zero) (ready (Fault code) e now)
@@ -117,11 +116,6 @@ pub comes_back : (a : Arguments) (c d : Cursor) (callers : List Caller) → d.te
 comes_back a c d callers text e now =
     alike (ap (λ x. ready_of (runs (config c.text.now x None callers now))) (sym e)
     ∙ ap (λ t. ready_of (runs (config t.now (cursor d) None callers now))) (sym text))
-
--- The arguments that a text leaves are those of its caller.
-pub left_by : (o : Origin) (before after : Host) (callers : List Caller) (x a : Args) → x ≡ a → ReachesContinuation o before after (at_return (arguments a) callers)
-    → ReachesContinuation o before after (at_return (arguments x) callers)
-left_by o before after callers x a e r = subst (λ y. ReachesContinuation o before after (at_return (arguments y) callers)) (sym e) r
 
 -- A called text is over: its caller goes on, or the run is over.
 pub comes_home : (limit : ℕ) (o : Origin) (h k : Host) (a : Arguments) (c d : Cursor) (callers : List Caller) → d.text ≡ c.text → cursor d ≡ cursor_after_call a (cursor c) → (x : Exit)

@@ -65,9 +65,9 @@ module _ (text : List ℕ) (w : Setting) (i b : Bool) (s : State) (a : Arguments
 -- The effect of a token is that of its item where it is.
 pub effect_here : (c : Cursor) (token : Token) (work : Option Work) (opens before : Bool) (s : State) → IsStepIn c.text.now token
     → (looks_around token.kind ≡ true → opens ≡ inside_iteration (cursor c).blocks) → (looks_around token.kind ≡ true → before ≡ leave_is_next (scan (cursor c).left))
-    → token_effect c.text.now token work opens before s (arguments c.args.now) ≡ effect (item_of_kind c.text.now token.kind) (setting_of token.modifiers work (cursor c)) s (arguments c.args.now)
+    → token_effect c.text.now token work opens before s (arguments c.args) ≡ effect (item_of_kind c.text.now token.kind) (setting_of token.modifiers work (cursor c)) s (arguments c.args)
 effect_here c token work opens before s =
-    by_kind c.text.now (record { modifiers = token.modifiers; work = work; inside = opens; before = before }) (inside_iteration (cursor c).blocks) (leave_is_next (scan (cursor c).left)) s (arguments c.args.now) token.kind
+    by_kind c.text.now (record { modifiers = token.modifiers; work = work; inside = opens; before = before }) (inside_iteration (cursor c).blocks) (leave_is_next (scan (cursor c).left)) s (arguments c.args) token.kind
 
 -- how the text goes on after a step
 module _ (callers : List Caller) (now : Now) where
@@ -117,13 +117,13 @@ module _ (c : Cursor) (token : Token) (work : Option Work) (callers : List Calle
 
   module _ (opens before : Bool) (is : IsStepIn c.text.now token) (looks : looks_around token.kind ≡ true → opens ≡ inside_iteration (cursor c).blocks) (sees : looks_around token.kind ≡ true → before ≡ leave_is_next (scan (cursor c).left)) where
     abbrev pub effect_in : State → Step
-    effect_in s = token_effect c.text.now token work opens before s (arguments c.args.now)
+    effect_in s = token_effect c.text.now token work opens before s (arguments c.args)
 
     token_pays : (s : State) → Pays (at_token c token work callers) (after_token (effect_in s).arguments (effect_in s).end) s (effect_in s).state (effect_in s).typed (effect_in s).load
     token_pays s now same = record {
       machine = after_token_step token.modifiers (item_of_kind c.text.now token.kind) work (config c.text.now (cursor c) None callers now);
       comes = refl;
-      leads = ap (λ x. (let d : Step = effect (item_of_kind c.text.now token.kind) (setting_of token.modifiers work (cursor c)) x (arguments c.args.now) in after_token d.arguments d.end (advanced d.state d.typed d.load now))) same
+      leads = ap (λ x. (let d : Step = effect (item_of_kind c.text.now token.kind) (setting_of token.modifiers work (cursor c)) x (arguments c.args) in after_token d.arguments d.end (advanced d.state d.typed d.load now))) same
           ∙ ap (λ (d : Step). after_token d.arguments d.end (advanced d.state d.typed d.load now)) (sym (effect_here c token work opens before s is looks sees));
     }
 
@@ -133,7 +133,7 @@ module _ (c : Cursor) (token : Token) (work : Option Work) (callers : List Calle
       took_so b e u f = subst (λ b. G (elim b [ true ↦ u | false ↦ moved u (effect_in h.state).load ])) e (took u f)
 
       -- it was begun and not done
-      pub token_fails : (code : Code) → n ≡ next.Error code → is_unfinished_code code ≡ true → Steps (effect_in h.state) name (at h.state (arguments c.args.now) h.screen) (at new (arguments args) w) n → ReachesEnd limit o h (host new G w h.steps) (Some code)
+      pub token_fails : (code : Code) → n ≡ next.Error code → is_unfinished_code code ≡ true → Steps (effect_in h.state) name (at h.state (arguments c.args) h.screen) (at new (arguments args) w) n → ReachesEnd limit o h (host new G w h.steps) (Some code)
       token_fails code e unfinished (inl done) = let x : true ≡ false = sym unfinished ∙ sym (ap is_unfinished e) ∙ done.finished in absurd cc
       token_fails code e unfinished (inr (inl lacks)) =
           let same : Mem ≡ code = let both : next.Error Mem ≡ next.Error code = sym lacks.code ∙ e in cc in
@@ -146,13 +146,13 @@ module _ (c : Cursor) (token : Token) (work : Option Work) (callers : List Calle
           subst (λ k. ReachesEnd limit o h (host new G w h.steps) (Some k)) same
           (no_terminal o h (at_token c token work callers) g (after_token d.arguments d.end) d.state d.typed d.load (token_pays h.state) (after_stays d.arguments d.end) limit lt new lacks.state G (took_so true (ap is_unfinished e ∙ unfinished)) w lacks.front lacks.types lacks.beginning lacks.shows)
 
-      finished_done : is_unfinished n ≡ false → Steps (effect_in h.state) name (at h.state (arguments c.args.now) h.screen) (at new (arguments args) w) n → IsDone (effect_in h.state) name (at h.state (arguments c.args.now) h.screen) (at new (arguments args) w) n
+      finished_done : is_unfinished n ≡ false → Steps (effect_in h.state) name (at h.state (arguments c.args) h.screen) (at new (arguments args) w) n → IsDone (effect_in h.state) name (at h.state (arguments c.args) h.screen) (at new (arguments args) w) n
       finished_done f (inl done) = done
       finished_done f (inr (inl lacks)) = let x : true ≡ false = sym (ap is_unfinished lacks.code) ∙ f in absurd cc
       finished_done f (inr (inr lacks)) = let x : true ≡ false = sym (ap is_unfinished lacks.code) ∙ f in absurd cc
 
       -- it was done
-      pub token_goes : is_unfinished n ≡ false → Steps (effect_in h.state) name (at h.state (arguments c.args.now) h.screen) (at new (arguments args) w) n
+      pub token_goes : is_unfinished n ≡ false → Steps (effect_in h.state) name (at h.state (arguments c.args) h.screen) (at new (arguments args) w) n
           → (steps : ℕ) → steps ≡ h.steps + 1 → (same : State) → same ≡ new → (H : Trail → Type 0)
           → ((u : Trail) → G u → u.changes ≤ 6 → steps ≡ u.steps + 1 → u.states steps ≡ new → u.load ≤ u.loads steps → H (stepped u))
           → (d : Reached) → EndsByItself d

@@ -208,7 +208,7 @@ cursor_after_call a c = record { args = a; left = c.left; blocks = c.blocks }
 abbrev pub reached_by_flow : Cursor → List Caller → Flow → Reached
 reached_by_flow c callers flow.On = goes (at_cursor c callers)
 reached_by_flow c callers (flow.Call q) = goes (at_register_call c q callers)
-reached_by_flow c callers flow.Return = goes (at_return (arguments c.args.now) callers)
+reached_by_flow c callers flow.Return = goes (at_return (arguments c.args) callers)
 reached_by_flow c callers flow.Over = over None
 reached_by_flow c callers (flow.Fail code) = over (Some code)
 reached_by_flow c callers (flow.Stop code) = stops code

@@ -23,7 +23,7 @@ use Rattle.teco_exec.specs.declared.moves.Coming.TheVariants as coming
 
 abbrev pub cursor : Cursor → machine.Cursor
 cursor c = record {
-  args = arguments c.args.now;
+  args = arguments c.args;
   left = drop c.at c.text.now;
   blocks = frames c.text.now c.blocks;
 }

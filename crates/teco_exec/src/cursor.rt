@@ -10,13 +10,11 @@ use teco_core::{Args, BLOCK_LIMIT, is_filler};
 use teco_scan::spelling;
 
 /// Where a text is being run: how many of its bytes come before, the arguments so far, the open blocks, and what is remembered of it.
-///
-/// The arguments are lent by whoever runs the text, so that a called text has them without a copy. Each move keeps the same ones.
 #[derive(Drop)]
-pub(crate) struct Cursor<'t, 'a> {
+pub(crate) struct Cursor<'t> {
     pub text: &'t [u8],
     pub at: usize,
-    pub args: &'a mut Args,
+    pub args: Args,
     pub blocks: Blocks<'t>,
     pub remembered: Remembered<'t>,
     ghost within: { at ≤ length text.now },
@@ -24,21 +22,16 @@ pub(crate) struct Cursor<'t, 'a> {
     ghost same: { remembered ≡ text.now },
 }
 
-impl<'t, 'a> Cursor<'t, 'a> {
+impl<'t> Cursor<'t> {
     ghost use Rattle.std.specs.Prelude.{◌≡◌, drop};
     ghost use Rattle.teco_core.specs.ArgumentsView.{arguments};
     ghost use Rattle.teco_scan.specs.Scan.{scan};
     ghost use Rattle.teco_exec.specs.View.{cursor_at_start, cursor};
 
     /// The beginning of a text, with these arguments and this room for its open blocks.
-    pub fn begin(
-        text: &'t [u8],
-        args: &'a mut Args,
-        room: &'t mut [Block; BLOCK_LIMIT],
-    ) -> Cursor<'t, 'a>
+    pub fn begin(text: &'t [u8], args: Args, room: &'t mut [Block; BLOCK_LIMIT]) -> Cursor<'t>
         ensures text { result.text.now ≡ text.now }
-        ensures lent { result.args.ghost_name ≡ args.entry.ghost_name }
-        ensures begins { cursor result ≡ cursor_at_start (arguments args.old) text.now }
+        ensures begins { cursor result ≡ cursor_at_start (arguments args) text.now }
     {
         Cursor {
             text,

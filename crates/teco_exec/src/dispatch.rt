@@ -37,7 +37,6 @@ pub(crate) fn step<D: Desk, S: Stop, T: Terminal>(
     term: &mut T,
 ) -> Flow
     ensures text { cursor.new.text ≡ cursor.old.text }
-    ensures lent { cursor.new.args.ghost_name ≡ cursor.old.args.ghost_name }
     ensures counts { CountsSteps (S.answered stop.old) (S.answered stop.new) (result ≡ flow.Stop Lim)
         steps.old steps.new }
     ensures advances { GoesOn result
@@ -95,7 +94,6 @@ fn step_known<D: Desk, S: Stop, T: Terminal>(
         found_in cursor.old.text.now found ≡ scan (drop cursor.old.at cursor.old.text.now)) }
     requires place { IfSome known (λ found. IsFoundAt cursor.old.text.now cursor.old.at found) }
     ensures text { cursor.new.text ≡ cursor.old.text }
-    ensures lent { cursor.new.args.ghost_name ≡ cursor.old.args.ghost_name }
     ensures counts { CountsSteps (S.answered stop.old) (S.answered stop.new) (result ≡ flow.Stop Lim)
         steps.old steps.new }
     ensures advances { GoesOn result
@@ -133,7 +131,6 @@ fn step_other<D: Desk, S: Stop, T: Terminal>(
 ) -> Flow
     requires { Begins cursor.old.text.now cursor.old.at from }
     ensures text { cursor.new.text ≡ cursor.old.text }
-    ensures lent { cursor.new.args.ghost_name ≡ cursor.old.args.ghost_name }
     ensures counts { CountsSteps (S.answered stop.old) (S.answered stop.new) (result ≡ flow.Stop Lim)
         steps.old steps.new }
     ensures advances { GoesOn result
@@ -189,7 +186,6 @@ fn step_any<D: Desk, S: Stop, T: Terminal>(
     term: &mut T,
 ) -> Flow
     ensures text { cursor.new.text ≡ cursor.old.text }
-    ensures lent { cursor.new.args.ghost_name ≡ cursor.old.args.ghost_name }
     ensures counts { CountsSteps (S.answered stop.old) (S.answered stop.new) (result ≡ flow.Stop Lim)
         steps.old steps.new }
     ensures advances { GoesOn result

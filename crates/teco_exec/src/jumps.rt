@@ -8,11 +8,10 @@ use crate::cursor::Cursor;
 use teco_core::Code;
 use teco_scan::{Kind, Span};
 
-impl<'t, 'a> Cursor<'t, 'a> {
+impl<'t> Cursor<'t> {
     /// Leaves the innermost iteration. Where it can't, the cursor stays.
     pub fn leave(&mut self) -> Result<(), Code>
         ensures text { self.new.text ≡ self.old.text }
-        ensures lent { self.new.args.ghost_name ≡ self.old.args.ghost_name }
         ensures moves { cursor_or_error self.new result
             ≡ machine.after_leaving_iteration (cursor self.old).blocks (cursor self.old).args
             (cursor self.old).left }
@@ -42,7 +41,6 @@ impl<'t, 'a> Cursor<'t, 'a> {
     pub fn jump(&mut self, name: Span) -> Result<(), Code>
         requires { IsSpanIn (length self.old.text.now) name }
         ensures text { self.new.text ≡ self.old.text }
-        ensures lent { self.new.args.ghost_name ≡ self.old.args.ghost_name }
         ensures moves { cursor_or_error self.new result
             ≡ machine.after_jump (bytes_in self.old.text.now name) self.old.text.now (cursor self.old).blocks (cursor self.old).args }
         ensures finished { ResultFinishes result }

@@ -34,7 +34,7 @@ pub(crate) enum Coming {
     Fault(Code),
 }
 
-impl<'t, 'a> Cursor<'t, 'a> {
+impl<'t> Cursor<'t> {
     /// Passes a token that uses no step, or tells what comes.
     ///
     /// It is the token that was found here.
@@ -43,7 +43,6 @@ impl<'t, 'a> Cursor<'t, 'a> {
         requires read { found_in self.old.text.now found.now ≡ scan (drop self.old.at self.old.text.now) }
         requires place { IsFoundAt self.old.text.now self.old.at found.now }
         ensures text { self.new.text ≡ self.old.text }
-        ensures lent { self.new.args.ghost_name ≡ self.old.args.ghost_name }
         ensures comes { coming_of self.new found.now result ≡ machine.pass (cursor self.old) }
         ensures told { TellsComing self.old self.new found.now result }
     {
@@ -84,7 +83,6 @@ impl<'t, 'a> Cursor<'t, 'a> {
     fn pass_mark(&mut self, mark: BlockMark, to: usize) -> Coming
         requires { to ≤ length self.old.text.now }
         ensures text { self.new.text ≡ self.old.text }
-        ensures lent { self.new.args.ghost_name ≡ self.old.args.ghost_name }
         ensures comes { (found : Found)
             → coming_of self.new found result
             ≡ machine.pass_mark mark (drop to self.old.text.now) (cursor self.old) }
@@ -135,7 +133,6 @@ impl<'t, 'a> Cursor<'t, 'a> {
     fn pass_divider(&mut self, to: usize) -> Coming
         requires { to ≤ length self.old.text.now }
         ensures text { self.new.text ≡ self.old.text }
-        ensures lent { self.new.args.ghost_name ≡ self.old.args.ghost_name }
         ensures comes { (found : Found)
             → coming_of self.new found result
             ≡ machine.pass_divider (drop to self.old.text.now) (cursor self.old).blocks }
@@ -163,7 +160,6 @@ impl<'t, 'a> Cursor<'t, 'a> {
     fn pass_part_end(&mut self, to: usize) -> Coming
         requires { to ≤ length self.old.text.now }
         ensures text { self.new.text ≡ self.old.text }
-        ensures lent { self.new.args.ghost_name ≡ self.old.args.ghost_name }
         ensures comes { (found : Found)
             → coming_of self.new found result
             ≡ machine.pass_part_end (drop to self.old.text.now) (cursor self.old).blocks }
@@ -189,7 +185,6 @@ impl<'t, 'a> Cursor<'t, 'a> {
         requires within { to ≤ length self.old.text.now }
         requires opens { MayOpen block self.old.blocks }
         ensures text { self.new.text ≡ self.old.text }
-        ensures lent { self.new.args.ghost_name ≡ self.old.args.ghost_name }
         ensures moves { cursor_or_error self.new result
             ≡ machine.after_block_step (block_step_of block) (drop to self.old.text.now) (cursor self.old) }
         ensures finished { ResultFinishes result }
@@ -210,7 +205,6 @@ impl<'t, 'a> Cursor<'t, 'a> {
         requires within { to ≤ length self.old.text.now }
         requires few { length self.old.blocks < BLOCK_LIMIT }
         ensures text { self.new.text ≡ self.old.text }
-        ensures lent { self.new.args.ghost_name ≡ self.old.args.ghost_name }
         ensures moves { cursor_or_error self.new result
             ≡ machine.after_block_step machine.iterates (drop to self.old.text.now) (cursor self.old) }
         ensures finished { ResultFinishes result }
@@ -237,7 +231,6 @@ impl<'t, 'a> Cursor<'t, 'a> {
         requires within { to ≤ length self.old.text.now }
         requires few { length self.old.blocks < BLOCK_LIMIT }
         ensures text { self.new.text ≡ self.old.text }
-        ensures lent { self.new.args.ghost_name ≡ self.old.args.ghost_name }
         ensures moves { cursor_or_error self.new result
             ≡ machine.after_block_step (machine.decides test) (drop to self.old.text.now) (cursor self.old) }
         ensures finished { ResultFinishes result }
@@ -262,7 +255,6 @@ impl<'t, 'a> Cursor<'t, 'a> {
         requires within { to ≤ length self.old.text.now }
         requires ends { EndsTurn self.old.blocks }
         ensures text { self.new.text ≡ self.old.text }
-        ensures lent { self.new.args.ghost_name ≡ self.old.args.ghost_name }
         ensures moves { Ok (cursor self.new)
             ≡ machine.after_block_step machine.ends_turn (drop to self.old.text.now) (cursor self.old) }
     {
@@ -281,7 +273,6 @@ impl<'t, 'a> Cursor<'t, 'a> {
         requires within { start ≤ length self.old.text.now }
         requires few { length self.old.blocks < BLOCK_LIMIT }
         ensures text { self.new.text ≡ self.old.text }
-        ensures lent { self.new.args.ghost_name ≡ self.old.args.ghost_name }
         ensures enters { cursor self.new
             ≡ machine.inside_block (kind_of body) (turns_left body) (drop start self.old.text.now)
             (cursor self.old) }
@@ -295,7 +286,6 @@ impl<'t, 'a> Cursor<'t, 'a> {
         requires within { start ≤ length self.old.text.now }
         requires few { length self.old.blocks < BLOCK_LIMIT }
         ensures text { self.new.text ≡ self.old.text }
-        ensures lent { self.new.args.ghost_name ≡ self.old.args.ghost_name }
         ensures moves { cursor_or_error self.new result
             ≡ machine.after_counted_start 0 (drop start self.old.text.now) (cursor self.old) }
         ensures finished { ResultFinishes result }
@@ -311,7 +301,6 @@ impl<'t, 'a> Cursor<'t, 'a> {
         requires within { start ≤ length self.old.text.now }
         requires few { length self.old.blocks < BLOCK_LIMIT }
         ensures text { self.new.text ≡ self.old.text }
-        ensures lent { self.new.args.ghost_name ≡ self.old.args.ghost_name }
         ensures moves { cursor_or_error self.new result
             ≡ machine.after_first_part (drop start self.old.text.now) (cursor self.old) }
         ensures finished { ResultFinishes result }

@@ -206,7 +206,7 @@ fn run_text<D: Desk, S: Stop, T: Terminal, W: Watch>(
         start: 0,
         body: Body::Endless,
     }; BLOCK_LIMIT];
-    let mut cursor = Cursor::begin(text, args, &mut room);
+    let mut cursor = Cursor::begin(text, *args, &mut room);
     'running: loop {
         let at = cursor.at;
         match step(desk, &mut cursor, steps, stop, term) {
@@ -231,8 +231,7 @@ fn run_text<D: Desk, S: Stop, T: Terminal, W: Watch>(
                 }
             }
             Flow::Return => {
-                // The arguments go back to the caller as they are.
-                let Cursor { args: _left, .. } = cursor;
+                *args = cursor.args;
                 return Exit::Return;
             }
             Flow::Over => return Exit::Over,
@@ -271,7 +270,6 @@ fn run_called<D: Desk, S: Stop, T: Terminal, W: Watch>(
         (cursor_of cursor.old).left }
     requires within { at ≤ length cursor.old.text.now }
     ensures text { cursor.new.text ≡ cursor.old.text }
-    ensures lent { cursor.new.args.ghost_name ≡ cursor.old.args.ghost_name }
     ensures left { (cursor_of cursor.new).left ≡ (cursor_of cursor.old).left }
     ensures counts { CountsSteps (S.answered stop.old) (S.answered stop.new) (result ≡ exit.Stop Lim)
         steps.old steps.new }
@@ -348,7 +346,6 @@ fn run_copy<D: Desk, S: Stop, T: Terminal, W: Watch>(
     requires fuel { steps.old.done < steps.old.limit }
     requires lets { S.answered stop.old steps.old.done false }
     ensures text { cursor.new.text ≡ cursor.old.text }
-    ensures lent { cursor.new.args.ghost_name ≡ cursor.old.args.ghost_name }
     ensures left { (cursor_of cursor.new).left ≡ (cursor_of cursor.old).left }
     ensures counts { CountsSteps (S.answered stop.old) (S.answered stop.new) (result ≡ exit.Stop Lim)
         steps.old steps.new }
@@ -368,7 +365,7 @@ fn run_copy<D: Desk, S: Stop, T: Terminal, W: Watch>(
         watch.stood(steps.done - 1, at, cursor);
         return Exit::Fail(Code::Pdo);
     }
-    let args = &mut *cursor.args;
+    let args = &mut cursor.args;
     match run_text(
         desk,
         called,

@@ -45,7 +45,6 @@ pub(crate) fn step_found<D: Desk, S: Stop, T: Terminal>(
     requires read { found_in cursor.old.text.now found.now ≡ scan (drop cursor.old.at cursor.old.text.now) }
     requires place { IsFoundAt cursor.old.text.now cursor.old.at found.now }
     ensures text { cursor.new.text ≡ cursor.old.text }
-    ensures lent { cursor.new.args.ghost_name ≡ cursor.old.args.ghost_name }
     ensures counts { CountsSteps (S.answered stop.old) (S.answered stop.new) (result ≡ flow.Stop Lim)
         steps.old steps.new }
     ensures advances { GoesOn result
@@ -91,7 +90,6 @@ fn token_steps<D: Desk, S: Stop, T: Terminal>(
 ) -> Flow
     requires { IsStepIn cursor.old.text.now token.now }
     ensures text { cursor.new.text ≡ cursor.old.text }
-    ensures lent { cursor.new.args.ghost_name ≡ cursor.old.args.ghost_name }
     ensures counts { CountsSteps (S.answered stop.old) (S.answered stop.new) (result ≡ flow.Stop Lim)
         steps.old steps.new }
     ensures more { GoesOn result → steps.old.done < steps.new.done }
@@ -134,7 +132,6 @@ fn token_step<D: Desk, S: Stop, T: Terminal>(
 ) -> Progress
     requires { IsStepIn cursor.old.text.now token.now }
     ensures text { cursor.new.text ≡ cursor.old.text }
-    ensures lent { cursor.new.args.ghost_name ≡ cursor.old.args.ghost_name }
     ensures counts { CountsSteps (S.answered stop.old) (S.answered stop.new)
         (result ≡ progress.Done (flow.Stop Lim)) steps.old steps.new }
     ensures more { Continues result → steps.old.done < steps.new.done }
@@ -164,7 +161,7 @@ fn token_step<D: Desk, S: Stop, T: Terminal>(
         cursor.text,
         token,
         work,
-        &mut *cursor.args,
+        &mut cursor.args,
         inside,
         before,
         term,
@@ -190,7 +187,6 @@ fn block_step<D: Desk, S: Stop>(
     requires within { to ≤ length cursor.old.text.now }
     requires opens { MayOpen block cursor.old.blocks }
     ensures text { cursor.new.text ≡ cursor.old.text }
-    ensures lent { cursor.new.args.ghost_name ≡ cursor.old.args.ghost_name }
     ensures counts { CountsSteps (S.answered stop.old) (S.answered stop.new) (result ≡ flow.Stop Lim)
         steps.old steps.new }
     ensures more { GoesOn result → steps.old.done < steps.new.done }
@@ -219,7 +215,6 @@ fn resume(cursor: &mut Cursor, token: &Token, next: Next) -> Progress
     requires finished { is_unfinished next ≡ false }
     requires no_call { (q : ℕ) → next ≡ Call q → ⊥ }
     ensures text { cursor.new.text ≡ cursor.old.text }
-    ensures lent { cursor.new.args.ghost_name ≡ cursor.old.args.ghost_name }
     ensures finished { ProgressFinishes result }
     ensures stays { ProgressStays cursor.old cursor.new result }
     ensures resumes { (s : State) (callers : List Caller) (now : Now)

@@ -3,7 +3,7 @@ use Rattle.std.proofs.lemmas.List.{length-drop}
 use Rattle.teco_core.specs.ArgumentsView.{arguments}
 use Rattle.teco_exec.specs.View.{cursor}
 use Rattle.teco_exec.specs.Running.{at_cursor, at_return, goes, host, over, reached_after_call, stops}
-use Rattle.teco_exec.proofs.Continuations.{begins, caller, comes_home, enters, left_by, less_left, too_deep}
+use Rattle.teco_exec.proofs.Continuations.{begins, caller, comes_home, enters, less_left, too_deep}
 use Rattle.teco_exec.proofs.Going.{since}
 use Rattle.teco_exec.proofs.NoMemory.{begins_quietly}
 use Rattle.teco_exec.specs.Places.{IsReadAt, call_token, told_here, with_call}
@@ -16,7 +16,6 @@ use Rattle.teco_exec.proofs.running.+run_text.Goals as goal
 pub run_text-running-init : goal.run_text-running-init
 run_text-running-init g t c = record {
   text = c.begin-cursor.ensures.text;
-  lent = refl;
   counts = counts_none (λ k b h. h);
   watch = λ knows. knows;
   quiet = begins_quietly (arguments c.args.args.now) c.args.text.now (cursor c.begin-cursor.result) c.begin-cursor.ensures.begins;
@@ -35,7 +34,6 @@ run_text-running-smaller-in-On g t c =
 pub run_text-running-preserved-in-On : goal.run_text-running-preserved-in-On
 run_text-running-preserved-in-On g t c = record {
   text = ap (λ x. x.now) c.in-On.ensures.text ∙ c.running.invariant.text;
-  lent = c.in-On.ensures.lent ∙ c.running.invariant.lent;
   counts = counts_on c.running.invariant.counts (counts_so (λ e. absurd cc) c.in-On.ensures.counts);
   watch = c.running.invariant.watch;
   quiet = λ h. c.in-On.ensures.quiet (c.running.invariant.quiet h);
@@ -47,8 +45,7 @@ run_text-running-preserved-in-On g t c = record {
 pub run_text-returns-in-Return-clause-leads : goal.run_text-returns-in-Return-clause-leads
 run_text-returns-in-Return-clause-leads g t c o callers deep e =
     let there = c.running.invariant.going o callers deep e in
-    left_by o _ _ callers _ c.step.new.cursor.args.now (search rules)
-    (since 0 o _ _ _ (goes (at_return (arguments c.step.new.cursor.args.now) callers)) there.follows (c.in-Return.ensures.leads o callers there.going))
+    since 0 o _ _ _ (goes (at_return (arguments c.step.new.cursor.args) callers)) there.follows (c.in-Return.ensures.leads o callers there.going)
 
 pub run_text-returns-in-Over-clause-leads : goal.run_text-returns-in-Over-clause-leads
 run_text-returns-in-Over-clause-leads g t c o callers deep e =
@@ -85,7 +82,6 @@ run_text-running-smaller g t c =
 pub run_text-running-preserved : goal.run_text-running-preserved
 run_text-running-preserved g t c = record {
   text = ap (λ x. x.now) (c.in-Return-run_called.ensures.text ∙ c.in-Call.ensures.text) ∙ c.running.invariant.text;
-  lent = c.in-Return-run_called.ensures.lent ∙ (c.in-Call.ensures.lent ∙ c.running.invariant.lent);
   counts = counts_on c.running.invariant.counts (counts_on (counts_so (λ e. absurd cc) c.in-Call.ensures.counts) (counts_so (λ e. absurd cc) c.in-Return-run_called.ensures.counts));
   watch = λ knows. c.in-Return-run_called.ensures.told (c.running.invariant.watch knows);
   quiet = λ h. absurd (c.in-Call.ensures.quiet (c.running.invariant.quiet h));
@@ -244,8 +240,8 @@ run_copy-returns-in-Return-clause-leads g t c o callers deep e =
     let fewer : length callers < 32 = omega (arith, deep, c.requires.deep, c.if-depth-eq-CALL_LIMIT.false) in
     let into = enters o h from c.args.called.now callers there.going fewer in
     let deeper : length (caller from ∷ callers) ≡ c.args.depth + 1 = omega (arith, deep) in
-    since 0 o _ h k (reached_after_call (record from { args = record from.args { now = left } }) callers ending.Return) there.follows
-    (comes_home 0 o h k (arguments left) from (record from { args = record from.args { now = left } }) callers refl refl ending.Return
+    since 0 o _ h k (reached_after_call (record from { args = left }) callers ending.Return) there.follows
+    (comes_home 0 o h k (arguments left) from (record from { args = left }) callers refl refl ending.Return
     (c.in-Return.ensures.leads o (caller from ∷ callers) deeper into.going))
 
 pub run_copy-returns-in-Over-clause-leads : goal.run_copy-returns-in-Over-clause-leads
@@ -259,8 +255,8 @@ run_copy-returns-in-Over-clause-leads g t c o callers deep e =
     let fewer : length callers < 32 = omega (arith, deep, c.requires.deep, c.if-depth-eq-CALL_LIMIT.false) in
     let into = enters o h from c.args.called.now callers there.going fewer in
     let deeper : length (caller from ∷ callers) ≡ c.args.depth + 1 = omega (arith, deep) in
-    since c.run_text.new.steps.limit o _ h k (reached_after_call (record from { args = record from.args { now = left } }) callers ending.Over) there.follows
-    (comes_home c.run_text.new.steps.limit o h k (arguments left) from (record from { args = record from.args { now = left } }) callers refl refl ending.Over
+    since c.run_text.new.steps.limit o _ h k (reached_after_call (record from { args = left }) callers ending.Over) there.follows
+    (comes_home c.run_text.new.steps.limit o h k (arguments left) from (record from { args = left }) callers refl refl ending.Over
     (c.in-Over.ensures.leads o (caller from ∷ callers) deeper into.going))
 
 pub run_copy-returns-in-Fail-clause-leads : goal.run_copy-returns-in-Fail-clause-leads
@@ -274,8 +270,8 @@ run_copy-returns-in-Fail-clause-leads g t c o callers deep e =
     let fewer : length callers < 32 = omega (arith, deep, c.requires.deep, c.if-depth-eq-CALL_LIMIT.false) in
     let into = enters o h from c.args.called.now callers there.going fewer in
     let deeper : length (caller from ∷ callers) ≡ c.args.depth + 1 = omega (arith, deep) in
-    since c.run_text.new.steps.limit o _ h k (reached_after_call (record from { args = record from.args { now = left } }) callers (ending.Fail c.in-Fail.code)) there.follows
-    (comes_home c.run_text.new.steps.limit o h k (arguments left) from (record from { args = record from.args { now = left } }) callers refl refl (ending.Fail c.in-Fail.code)
+    since c.run_text.new.steps.limit o _ h k (reached_after_call (record from { args = left }) callers (ending.Fail c.in-Fail.code)) there.follows
+    (comes_home c.run_text.new.steps.limit o h k (arguments left) from (record from { args = left }) callers refl refl (ending.Fail c.in-Fail.code)
     (c.in-Fail.ensures.leads o (caller from ∷ callers) deeper into.going))
 
 pub run_copy-returns-in-Stop-clause-leads : goal.run_copy-returns-in-Stop-clause-leads
@@ -289,8 +285,8 @@ run_copy-returns-in-Stop-clause-leads g t c o callers deep e =
     let fewer : length callers < 32 = omega (arith, deep, c.requires.deep, c.if-depth-eq-CALL_LIMIT.false) in
     let into = enters o h from c.args.called.now callers there.going fewer in
     let deeper : length (caller from ∷ callers) ≡ c.args.depth + 1 = omega (arith, deep) in
-    since c.run_text.new.steps.limit o _ h k (reached_after_call (record from { args = record from.args { now = left } }) callers (ending.Stop c.in-Stop.code)) there.follows
-    (comes_home c.run_text.new.steps.limit o h k (arguments left) from (record from { args = record from.args { now = left } }) callers refl refl (ending.Stop c.in-Stop.code)
+    since c.run_text.new.steps.limit o _ h k (reached_after_call (record from { args = left }) callers (ending.Stop c.in-Stop.code)) there.follows
+    (comes_home c.run_text.new.steps.limit o h k (arguments left) from (record from { args = left }) callers refl refl (ending.Stop c.in-Stop.code)
     (c.in-Stop.ensures.leads o (caller from ∷ callers) deeper into.going))
 
 pub run_copy-returns-in-Return-clause-told : goal.run_copy-returns-in-Return-clause-told

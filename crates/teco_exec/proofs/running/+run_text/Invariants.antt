@@ -20,7 +20,6 @@ decreases-run_copy g l = 3 * (32 - l.depth)
 abbrev pub invariant-run_text-running : goal.invariant-run_text-running
 invariant-run_text-running g l = record {
   text : l.cursor.text.now ≡ l.text;
-  lent : l.cursor.args.ghost_name ≡ l.initial.cursor.args.ghost_name;
   counts : CountsSteps (g.S.Stop.answered l.fn.stop) (g.S.Stop.answered l.stop) ⊥ l.fn.steps l.steps;
   watch : g.W.Watch.knows l.fn.watch None → g.W.Watch.knows l.watch None;
   quiet : takes_no_memory (nodes l.text) ≡ true → IsQuiet (cursor l.cursor);

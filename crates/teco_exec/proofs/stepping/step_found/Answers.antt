@@ -34,7 +34,7 @@ returns-in-Block-clause-leads g c o callers at =
 
 pub returns-in-End-clause-leads : goal.returns-in-End-clause-leads
 returns-in-End-clause-leads g c o callers at =
-    continues o _ _ at (at_return (arguments c.pass.new.self.args.now) callers)
+    continues o _ _ at (at_return (arguments c.pass.new.self.args) callers)
     (comes_over c.block_laws.ensures c.args.cursor.now c.pass.new.self c.args.found.now callers c.in-End.ensures.told c.in-End.ensures.comes)
 
 pub returns-in-Fault-clause-leads : goal.returns-in-Fault-clause-leads

@@ -38,7 +38,7 @@ returns-clause-leads g c o callers at =
 pub resume-requires-clause-no_call : goal.resume-requires-clause-no_call
 resume-requires-clause-no_call g c q e =
     let from = c.args.cursor.now in
-    never_calls c.effect_laws.ensures.call from.text.now c.args.token.now c.args.work c.iteration_is_seen-inside.result c.leave_is_seen-before.result (g.D.Desk.state c.args.desk.now) (arguments from.args.now)
+    never_calls c.effect_laws.ensures.call from.text.now c.args.token.now c.args.work c.iteration_is_seen-inside.result c.leave_is_seen-before.result (g.D.Desk.state c.args.desk.now) (arguments from.args)
     (name_in from.text.now c.args.token.now) _ _ c.step_token-next.result c.requires c.in_default.ensures c.step_token-next.ensures.steps q e
 
 pub returns-clause-stays : goal.returns-clause-stays

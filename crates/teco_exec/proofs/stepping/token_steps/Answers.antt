@@ -9,7 +9,6 @@ use Rattle.teco_exec.proofs.stepping.token_steps.Goals as goal
 pub stepping-preserved : goal.stepping-preserved
 stepping-preserved g c = record {
   text = c.in-Further.ensures.text ∙ c.stepping.invariant.text;
-  lent = c.in-Further.ensures.lent ∙ c.stepping.invariant.lent;
   stays = stays_on c.stepping.invariant.stays c.in-Further.ensures.stays;
   counts = counts_on c.stepping.invariant.counts (counts_so (λ e. absurd cc) c.in-Further.ensures.counts);
   quiet = λ q h. absurd (c.in-Further.ensures.quiet (c.stepping.invariant.quiet q h) (subst (λ t. takes_nothing_in t.now c.args.token.now ≡ true) (sym c.stepping.invariant.text) h));

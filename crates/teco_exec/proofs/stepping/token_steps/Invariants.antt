@@ -10,7 +10,6 @@ use Rattle.teco_exec.proofs.stepping.token_steps.Given as goal
 abbrev pub invariant-stepping : goal.invariant-stepping
 invariant-stepping g l = record {
   text : l.cursor.text ≡ l.fn.cursor.text;
-  lent : l.cursor.args.ghost_name ≡ l.fn.cursor.args.ghost_name;
   stays : Stays l.fn.cursor l.cursor;
   counts : CountsSteps (g.S.Stop.answered l.fn.stop) (g.S.Stop.answered l.stop) ⊥ l.fn.steps l.steps;
   quiet : IsQuiet (cursor l.fn.cursor) → takes_nothing_in l.fn.cursor.text.now l.token ≡ true → IsQuiet (cursor l.cursor);

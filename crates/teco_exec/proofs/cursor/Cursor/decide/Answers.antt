@@ -6,4 +6,4 @@ use Rattle.teco_exec.proofs.cursor.Cursor.decide.Goals as goal
 pub returns-in_err-take-clause-finished : goal.returns-in_err-take-clause-finished
 returns-in_err-take-clause-finished c =
     let p = err_from_is_err_and c.from_residual.result c.from_residual.ensures.1 in
-    rw (p.1, p.2) (taking_is_finished (arguments c.args.self.now.args.now) c.in_err-take.field-0.0 c.in_err-take.ensures.value)
+    rw (p.1, p.2) (taking_is_finished (arguments c.args.self.now.args) c.in_err-take.field-0.0 c.in_err-take.ensures.value)

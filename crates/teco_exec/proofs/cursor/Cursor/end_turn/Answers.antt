@@ -21,11 +21,11 @@ returns-in-Some-clause-moves c =
     let s = c.args.self.now in
     let text = s.text.now in
     ap (λ a. Ok (record { args = a; left = drop c.in-Some.start text; blocks = frames text c.next_turn.new.self })) c.clear.ensures
-    ∙ turn_goes_on text (drop c.args.to text) (drop s.at text) (arguments s.args.now) s.blocks c.requires.ends c.in-Some.ensures.0 c.in-Some.ensures.1
+    ∙ turn_goes_on text (drop c.args.to text) (drop s.at text) (arguments s.args) s.blocks c.requires.ends c.in-Some.ensures.0 c.in-Some.ensures.1
 
 pub returns-in-None-clause-moves : goal.returns-in-None-clause-moves
 returns-in-None-clause-moves c =
     let s = c.args.self.now in
     let text = s.text.now in
     ap (λ a. Ok (record { args = a; left = drop c.args.to text; blocks = frames text c.pop.new.self })) c.clear.ensures
-    ∙ turn_is_last text (drop c.args.to text) (drop s.at text) (arguments s.args.now) s.blocks c.pop.new.self c.pop.result (closed_same c.pop.new.self c.pop.result c.in-None.ensures.1 c.pop.ensures) c.requires.ends c.in-None.ensures.0
+    ∙ turn_is_last text (drop c.args.to text) (drop s.at text) (arguments s.args) s.blocks c.pop.new.self c.pop.result (closed_same c.pop.new.self c.pop.result c.in-None.ensures.1 c.pop.ensures) c.requires.ends c.in-None.ensures.0

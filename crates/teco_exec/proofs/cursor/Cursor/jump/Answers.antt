@@ -13,11 +13,10 @@ jumping-init c =
     let s = c.args.self.now in
     record {
       text = refl;
-      lent = refl;
       stays = record { place = refl; frames = refl };
       few = omega (arith, c.len-depth.ensures.few, c.len-depth.ensures.value);
       open_blocks = omega (arith, c.len-depth.ensures.value);
-      same = ap (λ bs. after_jump (bytes_in s.text.now c.args.name) s.text.now (frames s.text.now bs) (arguments s.args.now)) (outermost_all c.len-depth.result s.blocks c.len-depth.ensures.value);
+      same = ap (λ bs. after_jump (bytes_in s.text.now c.args.name) s.text.now (frames s.text.now bs) (arguments s.args)) (outermost_all c.len-depth.result s.blocks c.len-depth.ensures.value);
     }
 
 pub tag-requires-clause-few : goal.tag-requires-clause-few
@@ -37,24 +36,18 @@ tag-requires-clause-name c =
 pub returns-in-Some-clause-text : goal.returns-in-Some-clause-text
 returns-in-Some-clause-text c = c.jumping.invariant.text
 
-pub returns-in-Some-clause-lent : goal.returns-in-Some-clause-lent
-returns-in-Some-clause-lent c = c.jumping.invariant.lent
-
 pub returns-in-Some-clause-moves : goal.returns-in-Some-clause-moves
 returns-in-Some-clause-moves c =
     let s = c.jumping.self in
     let more = drop c.in-Some.to s.text.now in
     let size = sym (outermost_length c.jumping.depth s.blocks c.jumping.invariant.open_blocks) in
     let found = finds_there s.same (Some c.in-Some.to) c.args.name c.jumping.depth c.list_start-start.result c.in-Some.ensures.finds in
-    ap (λ bs. Ok (record { args = arguments s.args.now; left = more; blocks = frames s.text.now bs })) c.truncate.ensures
-    ∙ jumps s.text.now (bytes_in s.text.now c.args.name) (arguments s.args.now) (outermost c.jumping.depth s.blocks) (Some more) size c.list_start-start.ensures found
+    ap (λ bs. Ok (record { args = arguments s.args; left = more; blocks = frames s.text.now bs })) c.truncate.ensures
+    ∙ jumps s.text.now (bytes_in s.text.now c.args.name) (arguments s.args) (outermost c.jumping.depth s.blocks) (Some more) size c.list_start-start.ensures found
     ∙ c.jumping.invariant.same
 
 pub returns-then-depth-eq0-clause-text : goal.returns-then-depth-eq0-clause-text
 returns-then-depth-eq0-clause-text c = c.jumping.invariant.text
-
-pub returns-then-depth-eq0-clause-lent : goal.returns-then-depth-eq0-clause-lent
-returns-then-depth-eq0-clause-lent c = c.jumping.invariant.lent
 
 pub returns-then-depth-eq0-clause-moves : goal.returns-then-depth-eq0-clause-moves
 returns-then-depth-eq0-clause-moves c =
@@ -63,8 +56,8 @@ returns-then-depth-eq0-clause-moves c =
     let zero_ : c.jumping.depth ≡ 0 = c.if-depth-eq0.true in
     let none = ap (λ n. outermost n s.blocks) zero_ ∙ outermost_none s.blocks in
     let found = finds_there s.same None c.args.name c.jumping.depth c.list_start-start.result c.in_default.ensures.finds in
-    ap (around s.text.now (bytes_in s.text.now c.args.name) (arguments s.args.now)) (sym none)
-    ∙ jumps s.text.now (bytes_in s.text.now c.args.name) (arguments s.args.now) (outermost c.jumping.depth s.blocks) None size c.list_start-start.ensures found
+    ap (around s.text.now (bytes_in s.text.now c.args.name) (arguments s.args)) (sym none)
+    ∙ jumps s.text.now (bytes_in s.text.now c.args.name) (arguments s.args) (outermost c.jumping.depth s.blocks) None size c.list_start-start.ensures found
     ∙ c.jumping.invariant.same
 
 pub returns-then-depth-eq0-clause-stays : goal.returns-then-depth-eq0-clause-stays
@@ -79,11 +72,10 @@ jumping-preserved c =
     let found = finds_there s.same None c.args.name c.jumping.depth c.list_start-start.result c.in_default.ensures.finds in
     record {
       text = c.jumping.invariant.text;
-      lent = c.jumping.invariant.lent;
       stays = record { place = c.jumping.invariant.stays.place; frames = c.jumping.invariant.stays.frames };
       few = omega (arith, c.jumping.invariant.few);
       open_blocks = omega (arith, c.jumping.invariant.open_blocks);
-      same = ap (around s.text.now (bytes_in s.text.now c.args.name) (arguments s.args.now)) (sym inner.1)
-          ∙ jumps s.text.now (bytes_in s.text.now c.args.name) (arguments s.args.now) (outermost c.jumping.depth s.blocks) None size c.list_start-start.ensures found
+      same = ap (around s.text.now (bytes_in s.text.now c.args.name) (arguments s.args)) (sym inner.1)
+          ∙ jumps s.text.now (bytes_in s.text.now c.args.name) (arguments s.args) (outermost c.jumping.depth s.blocks) None size c.list_start-start.ensures found
           ∙ c.jumping.invariant.same;
     }

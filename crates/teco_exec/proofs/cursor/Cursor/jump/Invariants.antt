@@ -9,7 +9,6 @@ use Rattle.teco_exec.proofs.cursor.Cursor.jump.Given as goal
 abbrev pub invariant-jumping : goal.invariant-jumping
 invariant-jumping l = record {
   text : l.self.text ≡ l.fn.self.text;
-  lent : l.self.args.ghost_name ≡ l.fn.self.args.ghost_name;
   stays : Stays l.fn.self l.self;
   few : l.depth ≤ 64;
   open_blocks : l.depth ≤ length l.self.blocks;

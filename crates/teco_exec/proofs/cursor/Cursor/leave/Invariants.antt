@@ -8,7 +8,6 @@ use Rattle.teco_exec.proofs.cursor.Cursor.leave.Given as goal
 abbrev pub invariant-leaving : goal.invariant-leaving
 invariant-leaving l = record {
   text : l.self.text ≡ l.fn.self.text;
-  lent : l.self.args.ghost_name ≡ l.fn.self.args.ghost_name;
   stays : Stays l.fn.self l.self;
   few : l.depth ≤ 64;
   open_blocks : l.depth ≤ length l.self.blocks;
