@@ -219,8 +219,8 @@ static UNFINISHED: [Row<'static>; 2] = [
     ),
 ];
 
-/// The limit, the seconds and the depth are those of the line. What a string that was broken off leaves is what its steps as a limit
-/// leave, and an undo takes it back. The time of each string begins anew.
+/// The limit, the seconds and the depth are those of the line. What a string that was broken off leaves is what a limit of its steps
+/// leaves, and an undo takes it back. The time of each string begins anew.
 static LIMITED: [Row<'static>; 6] = [
     (
         Run {
