@@ -1,7 +1,9 @@
 -- Lines that are served.
-use Rattle.std.proofs.Common.{◌≡◌, ◌∙◌, ◌++◌, List, [], ◌∷◌, ℕ, Option, Some, None, refl, ap, subst}
+use Rattle.std.proofs.Common.{◌≡◌, ◌∙◌, ◌++◌, List, [], ◌∷◌, ℕ, Option, Some, None, Result, Ok, Err, refl, ap, subst, inl, inr}
 use Rattle.std.specs.Prelude.{IfSome}
 use Rattle.std.specs.Io.BufRead.{DropsThrough, take_through}
+use Rattle.teco_program.specs.Refusing.{Tells}
+use Rattle.teco_step.specs.Terminal.{Puts, Screen}
 use Rattle.teco_retrace.specs.Serving.{AnswersLines, Obeys, Stage, TakesLine}
 
 -- a line that was read into an empty buffer
@@ -15,3 +17,8 @@ pub answered_more : (lines : List (List ℕ)) (a b c : Stage) (line : List ℕ) 
     → Obeys line None b.debugger c.debugger b.screen c.screen → AnswersLines (lines ++ line ∷ []) a c
 answered_more [] a b c line same takes obeys = subst (λ x. AnswersLines (line ∷ []) x c) same (c, takes, obeys, refl)
 answered_more (x ∷ xs) a b c line h takes obeys = (h.0, h.1, h.2, answered_more xs h.0 b c line h.3 takes obeys)
+
+-- bytes that were put are told
+pub tells_put : {A E : Type 0} {old new : Screen} {bytes : List ℕ} (result : Result A E) → Puts old new bytes result → Tells old new bytes
+tells_put (Ok done) p = inl p
+tells_put (Err fault) p = inr p

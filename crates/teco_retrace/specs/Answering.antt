@@ -1,10 +1,10 @@
 -- The commands: what each does, and what is shown of it.
-use Rattle.std.specs.Prelude.{◌≡◌, ◌⊎◌, ℕ, ◌+◌, ◌-◌, min, List, [], ◌∷◌, ◌++◌, length, take, slice_get, codes, Bool, true, false, Option, Some, None, Result, Ok, Err}
+use Rattle.std.specs.Prelude.{◌≡◌, ◌⊎◌, ℕ, ◌+◌, ◌-◌, min, List, [], ◌∷◌, ◌++◌, length, map, take, slice_get, codes, Bool, true, false, Option, Some, None, Result, Ok, Err}
 use Rattle.std.specs.Fmt.{decimal}
 use Rattle.teco_telling.specs.Spelling.{spelled}
 use Rattle.teco_telling.specs.declared.spot.Spot.{Spot}
 use Rattle.teco_walk.specs.Finding.{last_change}
-use Rattle.teco_walk.specs.Verb.{words_of}
+use Rattle.teco_walk.specs.Verb.{verb_by, verbs, words_of}
 use Rattle.teco_walk.specs.Walk.{meant, state_there}
 use Rattle.teco_walk.specs.declared.command.Command.{Command}
 use Rattle.teco_walk.specs.declared.command.Command.TheVariants as command
@@ -13,7 +13,7 @@ use Rattle.teco_walk.specs.declared.verb.Counted.{Counted}
 use Rattle.teco_walk.specs.declared.verb.Counted.TheVariants.{Next, Back, Goto, Text, Undo}
 use Rattle.teco_walk.specs.declared.verb.Plain.{Plain}
 use Rattle.teco_walk.specs.declared.verb.Plain.TheVariants.{End, Start, Where, Registers, State, Continue, Typed, Help, Quit}
-use Rattle.teco_walk.specs.declared.verb.TheConstants.{VERBS}
+use Rattle.teco_walk.specs.declared.verb.VerbRow.{VerbRow}
 use Rattle.teco_walk.specs.declared.walk.Seen.{Seen}
 use Rattle.teco_retrace.specs.Help.{help_shown}
 use Rattle.teco_retrace.specs.Listing.{lines_there_shown, registers_shown, state_shown, whole_register}
@@ -33,6 +33,11 @@ OnlyShows text old new shown = (new ≡ old) × (shown ≡ text)
 abbrev pub ShowsWhere : Debugger → Debugger → List ℕ → Type 0
 ShowsWhere old new shown = (new ≡ old)
     × ((seen : Seen) × IsSeen old.walk old.walk.steps seen × (shown ≡ where_shown old.walk seen))
+
+-- A line for each command is shown, in their order, with its word and its letter.
+abbrev pub ShowsHelp : Debugger → Debugger → List ℕ → Type 0
+ShowsHelp old new shown = (new ≡ old)
+    × ((rows : List VerbRow) × (map verb_by rows ≡ verbs) × (shown ≡ help_shown rows))
 
 -- It goes on to the next step at the place to stop at, if one is noted and such a step comes.
 abbrev pub GoesOnToStop : Option Spot → Debugger → Debugger → List ℕ → Type 0
@@ -69,7 +74,7 @@ AnswersPlain Continue old new shown = GoesOnToStop old.stop old new shown
 -- all that the string typed so far
 AnswersPlain Typed old new shown =
     OnlyShows (answer_line (spelled (meant old.walk.input old.walk.text old.walk.steps).typed)) old new shown
-AnswersPlain Help old new shown = OnlyShows (help_shown VERBS) old new shown
+AnswersPlain Help old new shown = ShowsHelp old new shown
 AnswersPlain Quit old new shown = OnlyShows [] old new shown
 
 -- the commands that take a number

@@ -9,7 +9,7 @@ ghost use Rattle.teco_walk.specs.Finding.{last_change};
 ghost use Rattle.teco_walk.specs.Verb.{command_of, words_of};
 ghost use Rattle.teco_walk.specs.Walk.{meant};
 
-use crate::help::show_help;
+use crate::help::{show_help, verb_rows};
 use crate::listing::{show_register, show_registers, show_state, show_text};
 use crate::moving::{ahead, behind};
 use crate::showing::{show_step, show_where};
@@ -19,7 +19,7 @@ use std::fmt::Write;
 use teco_core::NoMemory;
 use teco_store::Desk;
 use teco_telling::{Spot, spell};
-use teco_walk::{Command, Counted, Fault, Part, Plain, VERBS, Walk};
+use teco_walk::{Command, Counted, Fault, Part, Plain, Walk};
 
 /// A walk, with what the commands need beside it.
 #[derive(Drop)]
@@ -84,13 +84,20 @@ impl Debugger {
         self.arrive(out, n)
     }
 
+    /// Where the walk stood before a move, of those that can be taken back.
+    fn before_move(&self, at: usize) -> Option<u64>
+        ensures { result ≡ slice_get self.now.moves.items at }
+    {
+        self.moves.get(at).copied()
+    }
+
     /// Takes moves back until so many are left.
     fn take_back(&mut self, out: &mut String, left: usize) -> Result<(), NoMemory>
         requires { string_bytes out.old ≡ [] }
         ensures back { OnOk result (TakesBack left (slice_get self.old.moves.items left) self.old self.new (string_bytes out.new)) }
         ensures same { SameRun self.old self.new }
     {
-        match self.moves.get(left).copied() {
+        match self.before_move(left) {
             Some(steps) => {
                 self.moves.truncate(left);
                 self.arrive(out, steps)
@@ -177,7 +184,7 @@ impl Debugger {
             Plain::State => show_state(out, self.walk.editor()),
             Plain::Continue => self.go_on(out),
             Plain::Typed => self.show_typed(out),
-            Plain::Help => show_help(out, &VERBS),
+            Plain::Help => show_help(out, verb_rows()),
             // no line is read after it
             Plain::Quit => Ok(()),
         }

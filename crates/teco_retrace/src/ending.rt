@@ -1,6 +1,7 @@
 //! How a run ends, and what is told of it.
 ghost use Rattle.std.specs.Prelude.{◌≡◌, ◌++◌, IfOk, OnErr};
 ghost use Rattle.std.specs.String.{string_bytes};
+ghost use Rattle.teco_program.specs.Refusing.{Tells};
 ghost use Rattle.teco_retrace.specs.Ending.{TellsEnding, ending_line, fault_words, input_name, status_of_ending, told_line};
 
 use crate::line::Line;
@@ -95,17 +96,25 @@ fn status(ending: Ending) -> u8
     }
 }
 
+/// Tells these bytes on standard error.
+fn tell<E: Terminal>(bytes: &[u8], errors: &mut E)
+    ensures { Tells (E.screen errors.old) (E.screen errors.new) bytes.now }
+{
+    let _ = errors.put(bytes);
+}
+
 /// Tells on standard error how a run ends, and gives the status.
 pub fn conclude<E: Terminal>(alloc: Global, line: &Line, ending: Ending, errors: &mut E) -> u8
     ensures { TellsEnding line.now ending (E.screen errors.old) (E.screen errors.new) result }
 {
     match line_of(alloc, line, ending) {
         Ok(text) => {
-            let _ = errors.put(text.as_bytes());
+            tell(text.as_bytes(), errors);
+            status(ending)
         }
         Err(NoMemory) => {
-            let _ = errors.put(NO_MEMORY);
+            tell(NO_MEMORY, errors);
+            status(ending)
         }
     }
-    status(ending)
 }

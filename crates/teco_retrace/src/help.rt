@@ -1,14 +1,22 @@
 //! The list of the commands.
-ghost use Rattle.std.specs.Prelude.{◌≡◌, ◌++◌, OnOk, replicate};
+ghost use Rattle.std.specs.Prelude.{◌≡◌, ◌++◌, OnOk, map, replicate};
 ghost use Rattle.std.specs.List.{flat_map};
 ghost use Rattle.std.specs.String.{string_bytes};
 ghost use Rattle.teco_retrace.specs.Help.{help_shown, letter_part, verb_line, word_part};
+ghost use Rattle.teco_walk.specs.Verb.{verb_by, verbs};
 
 use teco_core::NoMemory;
-use teco_walk::VerbRow;
+use teco_walk::{VERBS, VerbRow};
 
 /// Where the letters stand in a line of the help, and the texts after them.
 const LETTER_COLUMN: usize = 17;
+
+/// The table of the commands.
+pub fn verb_rows() -> &'static [VerbRow]
+    ensures { map verb_by result.now ≡ verbs }
+{
+    &VERBS
+}
 
 /// Shows so many blanks.
 fn push_blanks(out: &mut String, n: usize) -> Result<(), NoMemory>

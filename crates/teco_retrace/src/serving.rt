@@ -1,5 +1,5 @@
 //! The commands, served over a walk.
-ghost use Rattle.std.specs.Prelude.{◌≡◌};
+ghost use Rattle.std.specs.Prelude.{◌≡◌, ◌⊎◌};
 ghost use Rattle.teco_retrace.specs.Answering.{is_leaving};
 ghost use Rattle.teco_retrace.specs.Serving.{EndsUnread, Obeys, ServesLines, ServesNext, stage};
 ghost use Rattle.teco_walk.specs.Verb.{command_of};
