@@ -190,12 +190,7 @@ impl Debugger {
         }
     }
 
-    fn answer_counted(
-        &mut self,
-        out: &mut String,
-        counted: Counted,
-        n: u64,
-    ) -> Result<(), NoMemory>
+    fn answer_counted(&mut self, out: &mut String, counted: Counted, n: u64) -> Result<(), NoMemory>
         requires { string_bytes out.old ≡ [] }
         ensures answers { OnOk result (AnswersCounted counted n self.old self.new (string_bytes out.new)) }
         ensures same { SameRun self.old self.new }
