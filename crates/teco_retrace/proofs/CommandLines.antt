@@ -1,5 +1,5 @@
 -- What a parse by the program's command gives.
-use Rattle.std.proofs.Common.{◌≡◌, ◌∙◌, ℕ, Bool, true, false, refl, sym, ap, subst, min, List, [], codes, Option, Some, None, Result, Ok, Err, inl, inr, true≢false}
+use Rattle.std.proofs.Common.{◌≡◌, ◌∙◌, ℕ, Bool, true, false, refl, sym, ap, subst, min, List, [], Option, Some, None, Result, Ok, Err, inl, inr, true≢false}
 use Rattle.std.specs.Prelude.{unwrap_or, IfErr, IfOk}
 use Rattle.std.specs.Str.Parse.{ParsesUnsigned}
 use Rattle.clap.specs.Takes.{takes}

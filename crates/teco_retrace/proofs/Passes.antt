@@ -1,5 +1,5 @@
 -- Steps on the way that are looked at.
-use Rattle.std.proofs.Common.{◌≡◌, ℕ, suc, ◌+◌, ◌-◌, ◌<◌, ◌≤◌, false, sym, subst, arith, inl, inr, add-one}
+use Rattle.std.proofs.Common.{◌≡◌, ℕ, ◌+◌, ◌-◌, ◌<◌, ◌≤◌, false, sym, subst, arith, inl, inr, add-one}
 use Rattle.std.proofs.lemmas.Bool.{cases_lt}
 use Rattle.teco_telling.specs.declared.spot.Spot.{Spot}
 use Rattle.teco_walk.specs.Walk.{KeptWalk, meant}

@@ -1,5 +1,5 @@
 -- What the command line says: teco-debug [OPTIONS] MACRO
-use Rattle.std.specs.Prelude.{◌≡◌, ◌↔◌, ◌⊎◌, ⊤, ℕ, List, [], ◌∷◌, codes, map, min, Option, Some, None, option_map, unwrap_or, Bool, true, false, IsTrue, Result, Ok, Err}
+use Rattle.std.specs.Prelude.{◌≡◌, ◌↔◌, ◌⊎◌, ⊤, ℕ, List, [], ◌∷◌, codes, map, min, Option, Some, None, option_map, unwrap_or, true, false, IsTrue, Result, Ok, Err}
 use Rattle.std.specs.String.{string_bytes}
 use Rattle.std.specs.declared.alloc.Global.{Global}
 use Rattle.std.specs.declared.string.String.{String}
@@ -13,7 +13,6 @@ use Rattle.teco_line.specs.OptionTable.{flag, with_number, with_rules, with_text
 use Rattle.teco_line.specs.Refusals.{IsToldAs}
 use Rattle.teco_line.specs.declared.line.LineFault.{LineFault}
 use Rattle.teco_line.specs.declared.line.LineFault.TheVariants as line_fault
-use Rattle.teco_line.specs.declared.line.refusal.Refusal.{Refusal}
 use Rattle.teco_retrace.specs.declared.line.Line.{Line}
 
 -- MACRO: any text, and it has to be there

@@ -1,4 +1,4 @@
-use Rattle.std.proofs.Common.{◌≡◌, ◌∙◌, ◌+◌, ◌-◌, List, ℕ, true, false, ap, refl, sym}
+use Rattle.std.proofs.Common.{◌∙◌, ◌+◌, ◌-◌, List, ℕ, ap, refl, sym}
 use Rattle.teco_retrace.specs.Moving.{is_stop, work_below}
 use Rattle.teco_retrace.specs.declared.stops.TheConstants.{MOST_WORK}
 use Rattle.teco_retrace.proofs.Passes.{is_too_far, passes_more, work_more}

@@ -1,7 +1,7 @@
 use Rattle.std.proofs.Common.{ℕ, Option, subst}
 use Rattle.std.specs.Prelude.{OnOk}
 use Rattle.std.specs.String.{string_bytes}
-use Rattle.teco_retrace.specs.Answering.{FindsChange, answer_line}
+use Rattle.teco_retrace.specs.Answering.{FindsChange}
 use Rattle.teco_retrace.proofs.Answered.{only_shows}
 use Rattle.teco_retrace.proofs.debugger.Debugger.find.Goals as goal
 
