@@ -1,5 +1,5 @@
 -- What is shown of the parts of a state.
-use Rattle.std.specs.Prelude.{ℕ, ◌+◌, ◌-◌, ◌==◌, Bool, true, false, ◌&&◌, List, [], ◌∷◌, ◌++◌, length, take, drop, min, max, codes, slice_index, nat_lt, if◌then◌else◌, Option, Some, None, ℤ, pos, negsuc, ◌-ℤ◌}
+use Rattle.std.specs.Prelude.{ℕ, ◌-◌, ◌==◌, Bool, false, ◌&&◌, List, [], ◌∷◌, ◌++◌, length, take, drop, min, max, codes, slice_index, nat_lt, if◌then◌else◌, Option, Some, None, ℤ, pos, negsuc, ◌-ℤ◌}
 use Rattle.std.specs.Fmt.{decimal, signed_decimal}
 use Rattle.std.specs.List.{flat_map}
 use Rattle.teco_core.specs.Register.{Content, content, register_of}

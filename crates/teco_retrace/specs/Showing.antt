@@ -2,7 +2,6 @@
 use Rattle.std.specs.Prelude.{ℕ, zero, suc, ◌+◌, ◌-◌, List, [], ◌∷◌, ◌++◌, length, take, drop, min, max, replicate, slice_range, slice_get, codes, nat_lt, if◌then◌else◌, Option, Some, None, ◌==◌}
 use Rattle.std.specs.Fmt.{decimal}
 use Rattle.std.specs.List.{after_last, before_first, flat_map}
-use Rattle.teco_core.specs.Register.{Content}
 use Rattle.teco_core.specs.declared.code.Code.{Code}
 use Rattle.teco_core.specs.declared.code.Code.TheVariants.{Lim}
 use Rattle.teco_exec.specs.declared.place.Call.{Call}

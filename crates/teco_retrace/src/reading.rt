@@ -1,6 +1,9 @@
 //! Reading files.
-ghost use Rattle.std.specs.Prelude.{◌≡◌, ◌≤◌, IfOk, vec_len, map};
+ghost use Rattle.std.specs.Prelude.{◌≡◌, ◌≤◌, IfErr, IfOk, vec_len, map};
 ghost use Rattle.teco_core.specs.declared.limits.TheConstants.{FILE_LIMIT};
+ghost use Rattle.teco_program.specs.Run.{IsInput, KeepsDisk};
+ghost use Rattle.teco_program.specs.Seen.{disk_seen, source_view};
+ghost use Rattle.teco_retrace.specs.Reading.{IsFaultOfError, IsNotRead};
 ghost use Rattle.teco_retrace.specs.Spelling.{escaped};
 
 use std::alloc::Global;
@@ -10,7 +13,9 @@ use teco_core::{ESC, FILE_LIMIT, NoMemory};
 use teco_files::{Disk, InputFault, read_input};
 
 /// Why a file is not read that could not be opened.
-fn fault_of(error: io::Error) -> InputFault {
+fn fault_of(error: io::Error) -> InputFault
+    ensures { IsFaultOfError error result }
+{
     match error.kind() {
         ErrorKind::OutOfMemory => InputFault::Memory,
         _ => InputFault::Read,
@@ -19,7 +24,14 @@ fn fault_of(error: io::Error) -> InputFault {
 
 /// The bytes of a file, at most 2^30.
 pub fn read_file<D: Disk>(alloc: Global, name: &str, disk: &mut D) -> Result<Vec<u8>, InputFault>
-    ensures { IfOk result (λ bytes. vec_len bytes ≤ FILE_LIMIT) }
+    ensures bytes { IfOk result (λ bytes. IsInput (D.files disk.old) name.now bytes.items) }
+    ensures most { IfOk result (λ bytes. vec_len bytes ≤ FILE_LIMIT) }
+    ensures fault { let seen = disk_seen D.files D.streams D.left D.gave D.changed
+        (source_view D.Input.coming D.Input.bound D.Input.failures D.Input.ended) in
+        IfErr result (IsNotRead (D.files disk.old) (seen disk.new) name.now) }
+    ensures keeps { let seen = disk_seen D.files D.streams D.left D.gave D.changed
+        (source_view D.Input.coming D.Input.bound D.Input.failures D.Input.ended) in
+        KeepsDisk (seen disk.old) (seen disk.new) }
 {
     let mut source = match disk.open(name) {
         Ok(source) => source,

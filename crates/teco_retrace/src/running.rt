@@ -1,120 +1,133 @@
 //! A run, from the words of its command line to its status.
-ghost use Rattle.std.specs.Prelude.{◌≡◌, ◌≤◌, IfOk, vec_len};
+ghost use Rattle.std.specs.Prelude.{◌≡◌, ◌≤◌, IfErr, IfOk, vec_len};
+ghost use Rattle.std.specs.Process.{exit_status};
 ghost use Rattle.teco_core.specs.declared.limits.TheConstants.{FILE_LIMIT};
+ghost use Rattle.teco_program.specs.Run.{KeepsDisk};
+ghost use Rattle.teco_program.specs.Runs.{host};
+ghost use Rattle.teco_program.specs.Seen.{disk_seen, source_view};
+ghost use Rattle.teco_retrace.specs.CommandLine.{WordsGivenSay, WordsGivenSayNone};
+ghost use Rattle.teco_retrace.specs.Program.{RetracesBy, RetracesLine, retrace_view};
+ghost use Rattle.teco_retrace.specs.Reading.{BeginsOver, IsInputOf, IsTextOf, CannotRead};
 
-use crate::failure::{Failure, status, tell};
+use crate::debugger::Debugger;
+use crate::ending::{Ending, NO_MEMORY, conclude};
 use crate::line::{Line, line_of};
 use crate::reading::{read_file, with_escapes};
-use crate::serving::{Debugger, Served, serve};
+use crate::serving::serve;
 use std::alloc::Global;
-use std::io;
-use std::io::{BufRead, ErrorKind};
+use std::io::BufRead;
 use std::process::ExitCode;
 use teco_core::NoMemory;
 use teco_files::Disk;
+use teco_line::LineFault;
+use teco_program::refuse;
 use teco_terminal::Terminal;
 use teco_walk::Walk;
 
-/// What these words say.
-fn line_by(alloc: Global, words: &io::Result<Vec<String>>) -> Result<Line, Failure> {
-    match words {
-        Ok(words) => line_of(alloc, words.as_slice()),
-        Err(error) => match error.kind() {
-            ErrorKind::OutOfMemory => Err(Failure::NoMemory),
-            _ => Err(Failure::Words),
+/// The command string of the line.
+fn text_of<D: Disk>(alloc: Global, line: &Line, disk: &mut D) -> Result<Vec<u8>, Ending>
+    ensures text { IfOk result (λ text. IsTextOf (D.files disk.old) line.now text.items) }
+    ensures lacks { let seen = disk_seen D.files D.streams D.left D.gave D.changed
+        (source_view D.Input.coming D.Input.bound D.Input.failures D.Input.ended) in
+        IfErr result (CannotRead (D.files disk.old) (seen disk.new) line.now) }
+    ensures keeps { let seen = disk_seen D.files D.streams D.left D.gave D.changed
+        (source_view D.Input.coming D.Input.bound D.Input.failures D.Input.ended) in
+        KeepsDisk (seen disk.old) (seen disk.new) }
+{
+    match read_file(alloc, line.text.as_str(), disk) {
+        Err(fault) => Err(Ending::NoText(fault)),
+        Ok(bytes) => {
+            if line.dollar {
+                return Ok(with_escapes(alloc, bytes.as_slice())?);
+            }
+            Ok(bytes)
+        }
+    }
+}
+
+/// The input of the line, which is empty if none is named.
+fn input_of<D: Disk>(alloc: Global, line: &Line, disk: &mut D) -> Result<Vec<u8>, Ending>
+    ensures input { IfOk result (λ input. IsInputOf (D.files disk.old) line.now.input input.items) }
+    ensures most { IfOk result (λ input. vec_len input ≤ FILE_LIMIT) }
+    ensures lacks { let seen = disk_seen D.files D.streams D.left D.gave D.changed
+        (source_view D.Input.coming D.Input.bound D.Input.failures D.Input.ended) in
+        IfErr result (CannotRead (D.files disk.old) (seen disk.new) line.now) }
+    ensures keeps { let seen = disk_seen D.files D.streams D.left D.gave D.changed
+        (source_view D.Input.coming D.Input.bound D.Input.failures D.Input.ended) in
+        KeepsDisk (seen disk.old) (seen disk.new) }
+{
+    match &line.input {
+        None => Ok(Vec::new(alloc)),
+        Some(name) => match read_file(alloc, name.as_str(), disk) {
+            Err(fault) => Err(Ending::NoInput(fault)),
+            Ok(bytes) => Ok(bytes),
         },
     }
 }
 
-/// The bytes of a file, at most 2^30.
-fn file<D: Disk>(alloc: Global, name: &str, disk: &mut D) -> Result<Vec<u8>, Failure>
-    ensures { IfOk result (λ bytes. vec_len bytes ≤ FILE_LIMIT) }
-{
-    match read_file(alloc, name, disk) {
-        Ok(bytes) => Ok(bytes),
-        Err(fault) => Err(Failure::File(String::from_str(alloc, name)?, fault)),
-    }
-}
-
-/// The command string of the line.
-fn text_of<D: Disk>(alloc: Global, line: &Line, disk: &mut D) -> Result<Vec<u8>, Failure> {
-    let bytes = file(alloc, line.text.as_str(), disk)?;
-    if line.dollar {
-        return Ok(with_escapes(alloc, bytes.as_slice())?);
-    }
-    Ok(bytes)
-}
-
-/// The input of the line, which is empty where none is given.
-fn input_of<D: Disk>(alloc: Global, line: &Line, disk: &mut D) -> Result<Vec<u8>, Failure>
-    ensures { IfOk result (λ input. vec_len input ≤ FILE_LIMIT) }
-{
-    match &line.input {
-        Some(name) => file(alloc, name.as_str(), disk),
-        None => Ok(Vec::new(alloc)),
-    }
-}
-
 /// The debugger that the line asks for.
-fn debugger_of<D: Disk>(alloc: Global, line: &Line, disk: &mut D) -> Result<Debugger, Failure> {
+fn debugger_of<D: Disk>(alloc: Global, line: &Line, disk: &mut D) -> Result<Debugger, Ending>
+    ensures begins { IfOk result (BeginsOver (D.files disk.old) line.now) }
+    ensures lacks { let seen = disk_seen D.files D.streams D.left D.gave D.changed
+        (source_view D.Input.coming D.Input.bound D.Input.failures D.Input.ended) in
+        IfErr result (CannotRead (D.files disk.old) (seen disk.new) line.now) }
+    ensures keeps { let seen = disk_seen D.files D.streams D.left D.gave D.changed
+        (source_view D.Input.coming D.Input.bound D.Input.failures D.Input.ended) in
+        KeepsDisk (seen disk.old) (seen disk.new) }
+{
     let text = text_of(alloc, line, disk)?;
     let input = input_of(alloc, line, disk)?;
-    match Walk::new(input, text) {
-        Ok(walk) => Ok(Debugger::new(walk, line.limit)),
-        Err(NoMemory) => Err(Failure::NoMemory),
-    }
-}
-
-/// What a serving that ended so comes to.
-fn ending(served: Served) -> Result<(), Failure> {
-    match served {
-        Served::Quit => Ok(()),
-        Served::ReadFault => Err(Failure::Commands),
-        Served::ShowFault => Err(Failure::Show),
-        Served::NoMemory => Err(Failure::NoMemory),
-    }
+    let walk = Walk::new(input, text)?;
+    Ok(Debugger::new(walk, line.limit))
 }
 
 /// Serves the commands over what the line asks for.
-fn debug<C: BufRead, T: Terminal, D: Disk>(
+fn retrace<C: BufRead, T: Terminal, D: Disk>(
     alloc: Global,
     line: &Line,
     commands: &mut C,
     term: &mut T,
     disk: &mut D,
-) -> Result<(), Failure> {
+) -> Ending
+    ensures { let view = retrace_view (disk_seen D.files D.streams D.left D.gave D.changed
+        (source_view D.Input.coming D.Input.bound D.Input.failures D.Input.ended)) C.remaining T.screen in
+        RetracesLine view line.now (host disk.old commands.old term.old) (host disk.new commands.new term.new) result }
+{
     match debugger_of(alloc, line, disk) {
-        Ok(mut debugger) => ending(serve(alloc, &mut debugger, commands, term)),
-        Err(failure) => Err(failure),
+        Ok(mut debugger) => serve(alloc, &mut debugger, commands, term),
+        Err(ending) => ending,
     }
 }
 
-/// Does what these words say.
-fn debug_by<C: BufRead, T: Terminal, D: Disk>(
-    alloc: Global,
-    words: &io::Result<Vec<String>>,
-    commands: &mut C,
-    term: &mut T,
-    disk: &mut D,
-) -> Result<(), Failure> {
-    let line = line_by(alloc, words)?;
-    debug(alloc, &line, commands, term, disk)
+fn line_by(alloc: Global, words: Result<Vec<String>, LineFault>) -> Result<Line, LineFault>
+    ensures line { IfOk result (WordsGivenSay words) }
+    ensures fault { IfErr result (WordsGivenSayNone words) }
+{
+    match words {
+        Ok(words) => line_of(alloc, words.as_slice()),
+        Err(fault) => Err(fault),
+    }
 }
 
 /// Goes back and forth over what these words ask for, as the commands say, and gives the status.
 pub fn program<C: BufRead, T: Terminal, E: Terminal, D: Disk>(
     alloc: Global,
-    words: &io::Result<Vec<String>>,
+    words: Result<Vec<String>, LineFault>,
     commands: &mut C,
     term: &mut T,
     errors: &mut E,
     disk: &mut D,
-) -> ExitCode {
-    match debug_by(alloc, words, commands, term, disk) {
-        Ok(()) => ExitCode::from(0),
-        Err(failure) => {
-            tell(alloc, &failure, term, errors);
-            ExitCode::from(status(&failure))
+) -> ExitCode
+    ensures { let view = retrace_view (disk_seen D.files D.streams D.left D.gave D.changed
+        (source_view D.Input.coming D.Input.bound D.Input.failures D.Input.ended)) C.remaining T.screen in
+        RetracesBy view E.screen words (host disk.old commands.old term.old) (host disk.new commands.new term.new)
+        errors.old errors.new (exit_status result) }
+{
+    match line_by(alloc, words) {
+        Ok(line) => {
+            let ending = retrace(alloc, &line, commands, term, disk);
+            ExitCode::from(conclude(alloc, &line, ending, errors))
         }
+        Err(fault) => ExitCode::from(refuse(&fault, NO_MEMORY, term, errors)),
     }
 }

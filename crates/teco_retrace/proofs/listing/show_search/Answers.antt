@@ -1,4 +1,4 @@
-use Rattle.std.proofs.Common.{◌≡◌, ◌++◌, List, Option, Some, None, Bool, sym, subst, ℕ}
+use Rattle.std.proofs.Common.{◌≡◌, ◌++◌, List, Option, Bool, sym, subst, ℕ}
 use Rattle.std.specs.Prelude.{OnOk}
 use Rattle.std.specs.String.{string_bytes}
 use Rattle.teco_store.specs.State.{state_of}

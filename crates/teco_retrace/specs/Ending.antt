@@ -1,0 +1,48 @@
+-- How a run ends: its status, and the line that it tells on standard error.
+use Rattle.std.specs.Prelude.{◌≡◌, ◌⊎◌, ℕ, List, [], ◌∷◌, ◌++◌, Option, Some, None, codes}
+use Rattle.std.specs.String.{string_bytes}
+use Rattle.std.specs.declared.alloc.Global.{Global}
+use Rattle.std.specs.declared.string.String.{String}
+use Rattle.teco_files.specs.declared.input.InputFault.{InputFault}
+use Rattle.teco_files.specs.declared.input.InputFault.TheVariants as input
+use Rattle.teco_program.specs.Refusing.{Tells}
+use Rattle.teco_terminal.specs.Terminal.{Screen}
+use Rattle.teco_retrace.specs.declared.ending.Ending.{Ending}
+use Rattle.teco_retrace.specs.declared.ending.Ending.TheVariants.{Done, NoText, NoInput, NoMemory, ReadFault, ShowFault}
+use Rattle.teco_retrace.specs.declared.line.Line.{Line}
+
+-- 0 of a run that is done, 1 where a file, memory or the terminal failed
+abbrev pub status_of_ending : Ending → ℕ
+status_of_ending Done = 0
+status_of_ending _ = 1
+
+-- a line that ends by LF
+abbrev pub told_line : List ℕ → List ℕ
+told_line words = codes "teco-debug: " ++ words ++ 10 ∷ []
+
+-- why a file is not read, in words after its name
+abbrev pub fault_words : InputFault → List ℕ
+fault_words input.Read = codes ": cannot be read"
+fault_words input.TooLarge = codes ": is too large"
+fault_words input.Memory = codes ": no memory for it"
+
+-- the name of the input, or nothing if the line names none
+abbrev pub input_name : Option (String Global) → List ℕ
+input_name (Some name) = string_bytes name
+input_name None = []
+
+-- what is told: a line, or nothing
+abbrev pub ending_line : Line → Ending → List ℕ
+ending_line line Done = []
+ending_line line (NoText fault) = told_line (string_bytes line.text ++ fault_words fault)
+ending_line line (NoInput fault) = told_line (input_name line.input ++ fault_words fault)
+ending_line line NoMemory = told_line (codes "no memory")
+ending_line line ReadFault = told_line (codes "cannot read commands")
+ending_line line ShowFault = told_line (codes "cannot show")
+
+-- The status is that of the ending, and its line is told on standard error; or that there is no memory for the line,
+-- where there is one.
+pub record TellsEnding (line : Line) (ending : Ending) (old new : Screen) (status : ℕ) : Type 0 where
+  pub status_is : status ≡ status_of_ending ending
+  pub told : Tells old new (ending_line line ending)
+      ⊎ ((status_of_ending ending ≡ 1) × Tells old new (told_line (codes "no memory")))

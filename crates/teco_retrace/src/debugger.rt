@@ -1,0 +1,273 @@
+//! The commands, done by a walk.
+ghost use Rattle.std.specs.Fmt.{decimal};
+ghost use Rattle.std.specs.Prelude.{◌≡◌, ◌+◌, ◌++◌, [], codes, IfNone, IfOk, IfSome, None, Ok, OnOk, Some, slice_get};
+ghost use Rattle.std.specs.String.{string_bytes};
+ghost use Rattle.teco_retrace.specs.Answering.{IsAnswerTo, AnswersCommand, AnswersCounted, AnswersPlain, GoesOnToStop, FindsChange, ShowsWhere, TakesBack, answer_line};
+ghost use Rattle.teco_retrace.specs.Moving.{Arrives, HasNoStop, IsNextStop, MovesTo, SameRun};
+ghost use Rattle.teco_telling.specs.Spelling.{spelled};
+ghost use Rattle.teco_walk.specs.Finding.{last_change};
+ghost use Rattle.teco_walk.specs.Verb.{command_of, words_of};
+ghost use Rattle.teco_walk.specs.Walk.{meant};
+
+use crate::help::{show_help, verb_rows};
+use crate::listing::{show_register, show_registers, show_state, show_text};
+use crate::moving::{ahead, behind};
+use crate::showing::{show_step, show_where};
+use crate::stops::next_stop;
+use std::alloc::Global;
+use std::fmt::Write;
+use teco_core::NoMemory;
+use teco_store::Desk;
+use teco_telling::{Spot, spell};
+use teco_walk::{Command, Counted, Fault, Part, Plain, Walk};
+
+/// A walk, with what the commands need beside it.
+#[derive(Drop)]
+pub struct Debugger {
+    walk: Walk,
+    limit: u64,
+    /// Where the walk stood before each move that can be taken back.
+    moves: Vec<u64>,
+    stop: Option<Spot>,
+}
+
+/// Shows a line of words.
+fn show_words(out: &mut String, words: &str) -> Result<(), NoMemory>
+    ensures { OnOk result (string_bytes out.new ≡ string_bytes out.old ++ answer_line words.now) }
+{
+    out.push_str(words)?;
+    out.push_str("\n")
+}
+
+/// Shows the line of a fault.
+fn show_fault(out: &mut String, fault: Fault) -> Result<(), NoMemory>
+    ensures { OnOk result (string_bytes out.new ≡ string_bytes out.old ++ answer_line (words_of fault)) }
+{
+    writeln!(out, "{fault}")
+}
+
+impl Debugger {
+    pub fn new(walk: Walk, limit: u64) -> Debugger
+        ensures walk { result.walk ≡ walk }
+        ensures limit { result.limit ≡ limit }
+        ensures moves { result.moves.items ≡ [] }
+        ensures stop { result.stop ≡ None }
+    {
+        let moves = Vec::new(walk.alloc());
+        Debugger {
+            walk,
+            limit,
+            moves,
+            stop: None,
+        }
+    }
+
+    /// Goes to a step, and shows where the walk then stands.
+    fn arrive(&mut self, out: &mut String, n: u64) -> Result<(), NoMemory>
+        requires { string_bytes out.old ≡ [] }
+        ensures arrives { OnOk result (Arrives n self.old self.new (string_bytes out.new)) }
+        ensures moves { self.new.moves ≡ self.old.moves }
+        ensures same { SameRun self.old self.new }
+    {
+        self.walk.go(n)?;
+        let seen = self.walk.look(self.walk.steps())?;
+        show_step(out, &self.walk, &seen)
+    }
+
+    /// The same, as a move that can be taken back.
+    fn go(&mut self, out: &mut String, n: u64) -> Result<(), NoMemory>
+        requires { string_bytes out.old ≡ [] }
+        ensures moves { OnOk result (MovesTo n self.old self.new (string_bytes out.new)) }
+        ensures same { SameRun self.old self.new }
+    {
+        self.moves.push(self.walk.steps())?;
+        self.arrive(out, n)
+    }
+
+    /// Where the walk stood before a move, of those that can be taken back.
+    fn before_move(&self, at: usize) -> Option<u64>
+        ensures { result ≡ slice_get self.now.moves.items at }
+    {
+        self.moves.get(at).copied()
+    }
+
+    /// Takes moves back until so many are left.
+    fn take_back(&mut self, out: &mut String, left: usize) -> Result<(), NoMemory>
+        requires { string_bytes out.old ≡ [] }
+        ensures back { OnOk result (TakesBack left (slice_get self.old.moves.items left) self.old self.new (string_bytes out.new)) }
+        ensures same { SameRun self.old self.new }
+    {
+        match self.before_move(left) {
+            Some(steps) => {
+                self.moves.truncate(left);
+                self.arrive(out, steps)
+            }
+            None => show_words(out, "no move to take back"),
+        }
+    }
+
+    /// Goes back to before the last change of a part, where one was made.
+    fn find(&mut self, out: &mut String, part: Part) -> Result<(), NoMemory>
+        requires { string_bytes out.old ≡ [] }
+        ensures finds { OnOk result (FindsChange (last_change part self.old.walk.changes) self.old self.new (string_bytes out.new)) }
+        ensures same { SameRun self.old self.new }
+    {
+        match self.walk.last_change(&part) {
+            Some(steps) => self.go(out, steps),
+            None => show_words(out, "no step before this one changed it"),
+        }
+    }
+
+    /// The next step at the place to stop at.
+    fn next_stop(&self, stop: Spot) -> Result<Option<u64>, NoMemory>
+        ensures found { IfOk result (λ found. IfSome found (IsNextStop self.now.walk stop (self.now.walk.steps + 1))) }
+        ensures none { IfOk result (λ found. IfNone found
+            (HasNoStop self.now.walk stop (self.now.walk.steps + 1) self.now.limit)) }
+    {
+        let steps = self.walk.steps();
+        if steps >= self.limit {
+            return Ok(None);
+        }
+        next_stop(&self.walk, stop, steps + 1, self.limit)
+    }
+
+    /// Goes on to the next step at the place to stop at.
+    fn go_on_to(&mut self, out: &mut String, stop: Spot) -> Result<(), NoMemory>
+        requires { string_bytes out.old ≡ [] }
+        ensures continues { OnOk result (GoesOnToStop (Some stop) self.old self.new (string_bytes out.new)) }
+        ensures same { SameRun self.old self.new }
+    {
+        match self.next_stop(stop)? {
+            Some(n) => self.go(out, n),
+            None => show_words(out, "no step at that place comes, or it is too far"),
+        }
+    }
+
+    fn go_on(&mut self, out: &mut String) -> Result<(), NoMemory>
+        requires { string_bytes out.old ≡ [] }
+        ensures continues { OnOk result (GoesOnToStop self.old.stop self.old self.new (string_bytes out.new)) }
+        ensures same { SameRun self.old self.new }
+    {
+        match self.stop {
+            Some(stop) => self.go_on_to(out, stop),
+            None => show_words(out, "no place to stop at is noted"),
+        }
+    }
+
+    fn show_where(&self, out: &mut String) -> Result<(), NoMemory>
+        requires { string_bytes out.old ≡ [] }
+        ensures { OnOk result (ShowsWhere self.now self.now (string_bytes out.new)) }
+    {
+        let seen = self.walk.look(self.walk.steps())?;
+        show_where(out, &self.walk, &seen)
+    }
+
+    fn show_typed(&self, out: &mut String) -> Result<(), NoMemory>
+        ensures { OnOk result (string_bytes out.new ≡ string_bytes out.old
+            ++ answer_line (spelled (meant self.now.walk.input self.now.walk.text self.now.walk.steps).typed)) }
+    {
+        let seen = self.walk.look(self.walk.steps())?;
+        spell(out, seen.typed.as_slice())?;
+        out.push_str("\n")
+    }
+
+    fn answer_plain(&mut self, out: &mut String, plain: Plain) -> Result<(), NoMemory>
+        requires { string_bytes out.old ≡ [] }
+        ensures answers { OnOk result (AnswersPlain plain self.old self.new (string_bytes out.new)) }
+        ensures same { SameRun self.old self.new }
+    {
+        match plain {
+            Plain::End => self.go(out, self.limit),
+            Plain::Start => self.go(out, 0),
+            Plain::Where => self.show_where(out),
+            Plain::Registers => show_registers(out, self.walk.editor().registers()),
+            Plain::State => show_state(out, self.walk.editor()),
+            Plain::Continue => self.go_on(out),
+            Plain::Typed => self.show_typed(out),
+            Plain::Help => show_help(out, verb_rows()),
+            // no line is read after it
+            Plain::Quit => Ok(()),
+        }
+    }
+
+    fn answer_counted(&mut self, out: &mut String, counted: Counted, n: u64) -> Result<(), NoMemory>
+        requires { string_bytes out.old ≡ [] }
+        ensures answers { OnOk result (AnswersCounted counted n self.old self.new (string_bytes out.new)) }
+        ensures same { SameRun self.old self.new }
+    {
+        let steps = self.walk.steps();
+        let moves = self.moves.len();
+        match counted {
+            Counted::Next => self.go(out, ahead(steps, n, self.limit)),
+            Counted::Back => self.go(out, behind(steps, n)),
+            Counted::Goto => self.go(out, n.min(self.limit)),
+            Counted::Text => show_text(out, self.walk.editor(), n),
+            Counted::Undo => self.take_back(out, moves.saturating_sub(n as usize)),
+        }
+    }
+
+    /// Does a command, and shows what it finds.
+    fn answer(&mut self, out: &mut String, command: Command) -> Result<(), NoMemory>
+        requires { string_bytes out.old ≡ [] }
+        ensures answers { OnOk result (AnswersCommand command self.old self.new (string_bytes out.new)) }
+        ensures same { SameRun self.old self.new }
+    {
+        match command {
+            Command::Plain(plain) => self.answer_plain(out, plain),
+            Command::Counted(counted, n) => self.answer_counted(out, counted, n),
+            Command::Register(q) => show_register(out, self.walk.editor().registers(), q),
+            Command::Find(part) => self.find(out, part),
+            Command::Break(spot) => {
+                self.stop = Some(spot);
+                Ok(())
+            }
+        }
+    }
+
+    /// What is shown of a command.
+    fn answer_of(&mut self, alloc: Global, command: Command) -> Result<String, NoMemory>
+        ensures answers { IfOk result (λ text. AnswersCommand command self.old self.new (string_bytes text)) }
+        ensures same { SameRun self.old self.new }
+    {
+        let mut out = String::new(alloc);
+        self.answer(&mut out, command)?;
+        Ok(out)
+    }
+
+    /// What is shown if memory was refused to a command.
+    fn lack(&self, alloc: Global) -> Result<String, NoMemory>
+        ensures { IfOk result (λ text. string_bytes text
+            ≡ answer_line (codes "no memory; the walk stands at step " ++ decimal self.now.walk.steps)) }
+    {
+        let mut out = String::new(alloc);
+        let steps = self.walk.steps();
+        writeln!(out, "no memory; the walk stands at step {steps}")?;
+        Ok(out)
+    }
+
+    /// What is shown of a command; if memory is refused to it, that alone.
+    fn answer_or_lack(&mut self, alloc: Global, command: Command) -> Result<String, NoMemory>
+        ensures answers { IfOk result (λ text. IsAnswerTo (Ok command) self.old self.new (string_bytes text)) }
+        ensures same { SameRun self.old self.new }
+    {
+        match self.answer_of(alloc, command) {
+            Ok(text) => Ok(text),
+            Err(NoMemory) => self.lack(alloc),
+        }
+    }
+
+    /// The answer to a line.
+    pub fn answer_to(&mut self, alloc: Global, line: &[u8]) -> Result<String, NoMemory>
+        ensures answers { IfOk result (λ text. IsAnswerTo (command_of line.now) self.old self.new (string_bytes text)) }
+        ensures same { SameRun self.old self.new }
+    {
+        match Command::of(line) {
+            Ok(command) => self.answer_or_lack(alloc, command),
+            Err(fault) => {
+                let mut out = String::new(alloc);
+                show_fault(&mut out, fault)?;
+                Ok(out)
+            }
+        }
+    }
+}

@@ -1,0 +1,120 @@
+//! How a run ends, and what is told of it.
+ghost use Rattle.std.specs.Prelude.{◌≡◌, ◌++◌, IfOk, OnErr};
+ghost use Rattle.std.specs.String.{string_bytes};
+ghost use Rattle.teco_program.specs.Refusing.{Tells};
+ghost use Rattle.teco_retrace.specs.Ending.{TellsEnding, ending_line, fault_words, input_name, status_of_ending, told_line};
+
+use crate::line::Line;
+use std::alloc::Global;
+use teco_core::NoMemory;
+use teco_files::InputFault;
+use teco_terminal::Terminal;
+
+/// What is told if memory is refused to the program.
+pub const NO_MEMORY: &[u8] = b"teco-debug: no memory\n";
+
+/// How a run ends, once its command line is read.
+#[derive(Clone, Copy)]
+pub enum Ending {
+    /// By `quit`, or at the end of the commands.
+    Done,
+    /// The file of the command string is not read.
+    NoText(InputFault),
+    /// The file of the input is not read.
+    NoInput(InputFault),
+    NoMemory,
+    /// The commands cannot be read.
+    ReadFault,
+    /// The terminal failed.
+    ShowFault,
+}
+
+impl From<NoMemory> for Ending {
+    ghost use Rattle.teco_retrace.specs.declared.ending.Ending.TheVariants.{NoMemory as no_memory};
+
+    ghost from_gives = { λ _ ending. ending ≡ no_memory };
+
+    fn from(_: NoMemory) -> Ending {
+        Ending::NoMemory
+    }
+}
+
+/// Why a file is not read, in words after its name.
+fn words_of(fault: InputFault) -> &'static str
+    ensures { result.now ≡ fault_words fault }
+{
+    match fault {
+        InputFault::Read => ": cannot be read",
+        InputFault::TooLarge => ": is too large",
+        InputFault::Memory => ": no memory for it",
+    }
+}
+
+/// The name of the input, or nothing if the line names none.
+fn input_name(line: &Line) -> &str
+    ensures { result.now ≡ input_name line.now.input }
+{
+    match &line.input {
+        Some(name) => name.as_str(),
+        None => "",
+    }
+}
+
+/// A line of words after a name.
+fn told(alloc: Global, name: &str, words: &str) -> Result<String, NoMemory>
+    ensures { IfOk result (λ text. string_bytes text ≡ told_line (name.now ++ words.now)) }
+{
+    let mut text = String::from_str(alloc, "teco-debug: ")?;
+    text.push_str(name)?;
+    text.push_str(words)?;
+    text.push_str("\n")?;
+    Ok(text)
+}
+
+/// What is told: a line, or nothing.
+fn line_of(alloc: Global, line: &Line, ending: Ending) -> Result<String, NoMemory>
+    ensures ok { IfOk result (λ text. string_bytes text ≡ ending_line line.now ending) }
+    ensures err { OnErr result (status_of_ending ending ≡ 1) }
+{
+    match ending {
+        Ending::Done => Ok(String::new(alloc)),
+        Ending::NoText(fault) => told(alloc, line.text.as_str(), words_of(fault)),
+        Ending::NoInput(fault) => told(alloc, input_name(line), words_of(fault)),
+        Ending::NoMemory => told(alloc, "", "no memory"),
+        Ending::ReadFault => told(alloc, "", "cannot read commands"),
+        Ending::ShowFault => told(alloc, "", "cannot show"),
+    }
+}
+
+/// 0 of a run that is done, otherwise 1.
+fn status(ending: Ending) -> u8
+    ensures { result ≡ status_of_ending ending }
+{
+    match ending {
+        Ending::Done => 0,
+        _ => 1,
+    }
+}
+
+/// Tells these bytes on standard error.
+fn tell<E: Terminal>(bytes: &[u8], errors: &mut E)
+    ensures { Tells (E.screen errors.old) (E.screen errors.new) bytes.now }
+{
+    let _ = errors.put(bytes);
+}
+
+/// Tells on standard error how a run ends, and gives the status.
+pub fn conclude<E: Terminal>(alloc: Global, line: &Line, ending: Ending, errors: &mut E) -> u8
+    ensures { TellsEnding line.now ending (E.screen errors.old) (E.screen errors.new) result }
+{
+    match line_of(alloc, line, ending) {
+        Ok(text) => {
+            tell(text.as_bytes(), errors);
+            status(ending)
+        }
+        Err(NoMemory) => {
+            tell(NO_MEMORY, errors);
+            status(ending)
+        }
+    }
+}
