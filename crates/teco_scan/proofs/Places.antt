@@ -1,10 +1,9 @@
 -- What is at a place of a text, as the front of the bytes from there.
 use Rattle.std.proofs.Common.{◌≡◌, ℕ, suc, zero, ◌+◌, ◌-◌, ◌++◌, length-append, length-drop, ◌<◌, ◌≤◌, Bool, true, false, cond, eqb, List, [], ◌∷◌, length, get_or, take, drop, Some, None, Ok, Err, refl, sym, ap, ◌∙◌, arith, add-one, drop-cons}
-use Rattle.memchr.specs.Find.{IsFirstByte, Nowhere, Passes, is_byte}
-use Rattle.memchr.proofs.lemmas.FindLemmas.{Nowhere-then}
+use Rattle.memchr.specs.Find.{IsFirstByte, is_byte}
 use Rattle.teco_core.specs.declared.code.Code.TheVariants.{Utc}
 use Rattle.std.proofs.Math.Seq.{take-append_seam}
-use Rattle.std.proofs.lemmas.List.{take_rest, drop-drop, get_or-drop}
+use Rattle.std.proofs.lemmas.List.{take_rest, drop-drop}
 use Rattle.teco_scan.specs.declared.table.TheConstants.{ROWS}
 use Rattle.teco_core.specs.Ascii.{is_digit}
 use Rattle.teco_scan.specs.Scan.{text_at, run_of, after_run, after_fillers, token_from, scan, scan_here, scanned}
@@ -44,29 +43,6 @@ text_some d (x ∷ xs) (suc n) inside before here =
 
 pub text_at_some : (d : ℕ) (xs : List ℕ) (n : ℕ) → IsFirstByte (is_byte d) xs (Some n) → text_at d xs ≡ Ok (take n xs, drop (n + 1) xs)
 text_at_some d xs n h = text_some d xs n h.0.high (λ k below. h.0.before k (omega arith) below) h.1
-
--- The first of a byte, where the bytes before a place have none: it is the first from there on.
-module _ (d : ℕ) (xs : List ℕ) (n : ℕ) (within : n ≤ length xs) (near : Nowhere (Passes (is_byte d) xs) 0 n) where
-  passes_on : (k : ℕ) → n ≤ k → Passes (is_byte d) xs k → Passes (is_byte d) (drop n xs) (k - n)
-  passes_on k low is =
-      let along : n + (k - n) ≡ k = omega arith in
-      ap (is_byte d) (get_or-drop n xs (k - n) 0 ∙ ap (λ j. get_or xs j 0) along) ∙ is
-
-  pub first_none_on : IsFirstByte (is_byte d) (take (length xs - n) (drop n xs)) None → IsFirstByte (is_byte d) xs None
-  first_none_on h =
-      let far : IsFirstByte (is_byte d) (drop n xs) None = rw take_rest at h in
-      Nowhere-then near (λ k low high is. far (k - n) (omega arith) (omega (arith, length-drop n xs)) (passes_on k low is))
-
-  pub first_some_on : (k : ℕ) → IsFirstByte (is_byte d) (take (length xs - n) (drop n xs)) (Some k) → IsFirstByte (is_byte d) xs (Some (n + k))
-  first_some_on k h =
-      let far : IsFirstByte (is_byte d) (drop n xs) (Some k) = rw take_rest at h in (
-        record {
-          low = omega arith;
-          high = omega (arith, length-drop n xs, far.0.high);
-          before = Nowhere-then near (λ j low high is. far.0.before (j - n) (omega arith) (omega arith) (passes_on j low is));
-        },
-        ap (is_byte d) (sym (get_or-drop n xs k 0)) ∙ far.1,
-      )
 
 run_split : (bs : List ℕ) → run_of bs ++ after_run bs ≡ bs
 unfolding run_of after_run

@@ -62,11 +62,6 @@ module _ (name bs : List ℕ) (d : ℕ) where
   tag_here (token.tag other) is = ap (λ (b : Bool). choose b (Some bs) (tag_at name d bs)) is
   tag_here token.escape is = absurd cc
 
-  pub tag_other : (other : List ℕ) (i : Instruction) → i ≡ token.tag other → is_tag name i ≡ false → tag_at_instruction name (tag_at name) i bs d ≡ tag_at name d bs
-  tag_other other i is differs =
-      ap (λ x. tag_at_instruction name (tag_at name) x bs d) is
-      ∙ ap (λ (b : Bool). choose b (Some bs) (tag_at name d bs)) (sym (ap (is_tag name) is) ∙ differs)
-
   pub tag_closed : (i : Instruction) (b : BlockMark) → Some b ≡ closing_mark i → tag_at_instruction name (tag_at name) i bs d ≡ None
   tag_closed (token.step i) b is = absurd cc
   tag_closed (token.mark Iterate) b is = absurd cc

@@ -194,44 +194,6 @@ pub fn skip_whole_block(text: &[u8], at: usize, kind: Kind, depth: usize) -> Res
     Ok(stop.to)
 }
 
-/// The place after the tag that is here, if it has another name.
-#[inline(always)]
-fn other_tag_end(text: &[u8], at: usize, name: &[u8]) -> Option<usize>
-    requires { at < length text.now }
-    ensures finds { IfSome result (λ to. (d : ℕ)
-        → tag_at name.now d (drop at text.now) ≡ tag_at name.now d (drop to text.now)) }
-    ensures within { IfSome result (λ to. (at < to) × (to ≤ length text.now)) }
-{
-    if text[at] != b'!' {
-        return None;
-    }
-    match token_at(text, at) {
-        Found::Token(token) => match token.kind {
-            TokenKind::Tag(_) if !is_tag(text, token.kind, name) => Some(token.span.to),
-            _ => None,
-        },
-        Found::End | Found::Fault(_) => None,
-    }
-}
-
-/// The place after the tags of other names that come one after the other.
-#[inline(always)]
-fn other_tags_end(text: &[u8], at: usize, name: &[u8]) -> usize
-    requires { at ≤ length text.now }
-    ensures finds { (d : ℕ)
-        → tag_at name.now d (drop at text.now) ≡ tag_at name.now d (drop result text.now) }
-    ensures within { (at ≤ result) × (result ≤ length text.now) }
-{
-    let mut next = at;
-    'tags: while next < text.len() {
-        match other_tag_end(text, next, name) {
-            Some(to) => next = to,
-            None => return next,
-        }
-    }
-    next
-}
-
 /// The place after the first tag of this name that is directly in the block which goes on from a place.
 ///
 /// Places count the bytes before them; the depth counts the open blocks, so that 0 is the text itself. There is none
@@ -245,8 +207,7 @@ pub fn find_tag(text: &[u8], block_start: usize, depth: usize, name: &[u8]) -> O
 {
     let mut next = block_start;
     loop {
-        let others = other_tags_end(text, next, name);
-        let start = passed_end(text, others);
+        let start = passed_end(text, next);
         match token_at(text, start) {
             Found::End => return None,
             Found::Fault(_) => return None,

@@ -1,6 +1,5 @@
 //! Reading what follows a command's name.
 ghost use Rattle.std.specs.Prelude.{◌≡◌, ◌+◌, ◌<◌, ◌≤◌, ℕ, length, drop, IfOk};
-ghost use Rattle.memchr.specs.Find.{IsFirstByte, is_byte};
 ghost use Rattle.teco_scan.specs.Scan.{test_of, byte_at, register_at, test_at, delimiter_at, text_at, operand_at};
 ghost use Rattle.teco_scan.specs.Seen.{Gives, IsSpanIn, IsKindIn, IsKindPlaced, bytes_in, instruction_in};
 
@@ -87,28 +86,6 @@ fn delimiter_at(
     }
 }
 
-/// The most bytes that are looked at one by one before `memchr` is called. Most texts end within them, and a call takes longer.
-const NEAR: usize = 16;
-
-/// Where this byte first is, as `memchr` finds it.
-#[inline(always)]
-fn first_byte(delimiter: u8, bytes: &[u8]) -> Option<usize>
-    ensures { IsFirstByte (is_byte delimiter) bytes.now result }
-{
-    let near = bytes.len().min(NEAR);
-    let mut place = 0;
-    'places: while place < near {
-        if bytes[place] == delimiter {
-            return Some(place);
-        }
-        place += 1;
-    }
-    match memchr(delimiter, &bytes[near..]) {
-        None => None,
-        Some(n) => Some(near + n),
-    }
-}
-
 /// The bytes before the next delimiter, and the place after it.
 #[inline]
 pub(crate) fn text_at(delimiter: u8, text: &[u8], at: usize) -> Result<(Span, usize), Code>
@@ -119,7 +96,7 @@ pub(crate) fn text_at(delimiter: u8, text: &[u8], at: usize) -> Result<(Span, us
     ensures spans { IfOk result (λ x. IsSpanIn (length text.now) x.0) }
     ensures placed { IfOk result (λ x. (x.0.from ≡ at) × (x.0.to + 1 ≡ x.1)) }
 {
-    match first_byte(delimiter, &text[at..]) {
+    match memchr(delimiter, &text[at..]) {
         None => Err(Code::Utc),
         Some(n) => Ok((
             Span {

@@ -18,17 +18,17 @@ at_node : (name : List ℕ) (depth : ℕ) (text : List ℕ) (next : ℕ) (t : To
 at_node name depth text next t is = tag_found name depth (drop next text) (found (meaning_in text t) (drop t.span.to text)) is
 
 pub returns-in-End-clause-finds : goal.returns-in-End-clause-finds
-returns-in-End-clause-finds c = sym (tag_found c.args.name.now c.args.depth (drop c.passed_end-start.result c.args.text.now) ended c.in-End.ensures.read) ∙ sym (c.passed_end-start.ensures.alike.finds c.args.name.now c.args.depth) ∙ sym (c.other_tags_end-others.ensures.finds c.args.depth) ∙ c.loop-token.invariant.finds
+returns-in-End-clause-finds c = sym (tag_found c.args.name.now c.args.depth (drop c.passed_end-start.result c.args.text.now) ended c.in-End.ensures.read) ∙ sym (c.passed_end-start.ensures.alike.finds c.args.name.now c.args.depth) ∙ c.loop-token.invariant.finds
 
 pub returns-in-Fault-clause-finds : goal.returns-in-Fault-clause-finds
-returns-in-Fault-clause-finds c = sym (tag_found c.args.name.now c.args.depth (drop c.passed_end-start.result c.args.text.now) (fault _) c.in-Fault.ensures.read) ∙ sym (c.passed_end-start.ensures.alike.finds c.args.name.now c.args.depth) ∙ sym (c.other_tags_end-others.ensures.finds c.args.depth) ∙ c.loop-token.invariant.finds
+returns-in-Fault-clause-finds c = sym (tag_found c.args.name.now c.args.depth (drop c.passed_end-start.result c.args.text.now) (fault _) c.in-Fault.ensures.read) ∙ sym (c.passed_end-start.ensures.alike.finds c.args.name.now c.args.depth) ∙ c.loop-token.invariant.finds
 
 pub returns-then-is_tag-clause-finds : goal.returns-then-is_tag-clause-finds
 returns-then-is_tag-clause-finds c =
     let text = c.args.text.now in
     let k = c.in-Token.token in
     sym (tag_here c.args.name.now (drop k.span.to text) c.args.depth (instruction_in text k.kind) (sym c.is_tag.ensures ∙ c.if-is_tag.true))
-    ∙ sym (at_node c.args.name.now c.args.depth text c.passed_end-start.result k c.in-Token.ensures.read) ∙ sym (c.passed_end-start.ensures.alike.finds c.args.name.now c.args.depth) ∙ sym (c.other_tags_end-others.ensures.finds c.args.depth) ∙ c.loop-token.invariant.finds
+    ∙ sym (at_node c.args.name.now c.args.depth text c.passed_end-start.result k c.in-Token.ensures.read) ∙ sym (c.passed_end-start.ensures.alike.finds c.args.name.now c.args.depth) ∙ c.loop-token.invariant.finds
 
 pub returns-then-is_some-clause-finds : goal.returns-then-is_some-clause-finds
 returns-then-is_some-clause-finds c =
@@ -37,12 +37,12 @@ returns-then-is_some-clause-finds c =
     let some : is_some c.closing_mark.result ≡ true = sym c.is_some.ensures ∙ c.if-is_some.true in
     let b = some_mark c.closing_mark.result some in
     sym (tag_closed c.args.name.now (drop k.span.to text) c.args.depth (instruction_in text k.kind) b.0 (b.1 ∙ c.closing_mark.ensures text))
-    ∙ sym (at_node c.args.name.now c.args.depth text c.passed_end-start.result k c.in-Token.ensures.read) ∙ sym (c.passed_end-start.ensures.alike.finds c.args.name.now c.args.depth) ∙ sym (c.other_tags_end-others.ensures.finds c.args.depth) ∙ c.loop-token.invariant.finds
+    ∙ sym (at_node c.args.name.now c.args.depth text c.passed_end-start.result k c.in-Token.ensures.read) ∙ sym (c.passed_end-start.ensures.alike.finds c.args.name.now c.args.depth) ∙ c.loop-token.invariant.finds
 
 pub returns-in-Err-clause-finds : goal.returns-in-Err-clause-finds
 returns-in-Err-clause-finds c =
     sym (c.in-Err.ensures.finds c.args.name.now (sym c.is_tag.ensures ∙ c.if-is_tag.false))
-    ∙ sym (at_node c.args.name.now c.args.depth c.args.text.now c.passed_end-start.result c.in-Token.token c.in-Token.ensures.read) ∙ sym (c.passed_end-start.ensures.alike.finds c.args.name.now c.args.depth) ∙ sym (c.other_tags_end-others.ensures.finds c.args.depth) ∙ c.loop-token.invariant.finds
+    ∙ sym (at_node c.args.name.now c.args.depth c.args.text.now c.passed_end-start.result c.in-Token.token c.in-Token.ensures.read) ∙ sym (c.passed_end-start.ensures.alike.finds c.args.name.now c.args.depth) ∙ c.loop-token.invariant.finds
 
 pub returns-then-is_tag-clause-ends : goal.returns-then-is_tag-clause-ends
 returns-then-is_tag-clause-ends c =
@@ -52,7 +52,7 @@ returns-then-is_tag-clause-ends c =
 
 pub loop-token-preserved : goal.loop-token-preserved
 loop-token-preserved c = record {
-  past = omega (arith, c.other_tags_end-others.ensures.within.0, c.in-Token.ensures.place.after, c.in-Token.ensures.place.long, c.in-Ok.ensures.within.0);
+  past = omega (arith, c.in-Token.ensures.place.after, c.in-Token.ensures.place.long, c.in-Ok.ensures.within.0);
   inside = c.in-Ok.ensures.within.1;
-  finds = sym (c.in-Ok.ensures.finds c.args.name.now (sym c.is_tag.ensures ∙ c.if-is_tag.false)) ∙ sym (at_node c.args.name.now c.args.depth c.args.text.now c.passed_end-start.result c.in-Token.token c.in-Token.ensures.read) ∙ sym (c.passed_end-start.ensures.alike.finds c.args.name.now c.args.depth) ∙ sym (c.other_tags_end-others.ensures.finds c.args.depth) ∙ c.loop-token.invariant.finds;
+  finds = sym (c.in-Ok.ensures.finds c.args.name.now (sym c.is_tag.ensures ∙ c.if-is_tag.false)) ∙ sym (at_node c.args.name.now c.args.depth c.args.text.now c.passed_end-start.result c.in-Token.token c.in-Token.ensures.read) ∙ sym (c.passed_end-start.ensures.alike.finds c.args.name.now c.args.depth) ∙ c.loop-token.invariant.finds;
 }
