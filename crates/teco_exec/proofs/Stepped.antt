@@ -27,7 +27,7 @@ use Rattle.teco_core.specs.Register.{content}
 use Rattle.teco_scan.specs.Scan as items
 use Rattle.teco_scan.specs.declared.command.Modifiers.{Modifiers}
 use Rattle.teco_scan.specs.declared.command.RegisterCommand.TheVariants as register_command
-use Rattle.teco_store.specs.Trail.{Trail, moved, stepped}
+use Rattle.teco_store.specs.Trail.{Trail, most_changes, moved, stepped}
 use Rattle.teco_step.specs.declared.next.Next.{Next}
 use Rattle.teco_step.specs.declared.next.Next.TheVariants as next
 use Rattle.teco_step.specs.Laws.{CallsByCalls}
@@ -154,7 +154,7 @@ module _ (c : Cursor) (token : Token) (work : Option Work) (callers : List Calle
       -- it was done
       pub token_goes : is_unfinished n ≡ false → Steps (effect_in h.state) name (at h.state (arguments c.args) h.screen) (at new (arguments args) w) n
           → (steps : ℕ) → steps ≡ h.steps + 1 → (same : State) → same ≡ new → (H : Trail → Type 0)
-          → ((u : Trail) → G u → u.changes ≤ 6 → steps ≡ u.steps + 1 → u.states steps ≡ new → u.load ≤ u.loads steps → H (stepped u))
+          → ((u : Trail) → G u → u.changes ≤ most_changes → steps ≡ u.steps + 1 → u.states steps ≡ new → u.load ≤ u.loads steps → H (stepped u))
           → (d : Reached) → EndsByItself d
           → ((now : Now) → Comes (ready_of (after_step_end token.modifiers (item_of_kind c.text.now token.kind) (end_of new name n) (config c.text.now (record (cursor c) { args = arguments args }) None callers now))) now d)
           → Reaches limit o h (host same H w steps) d
@@ -195,7 +195,7 @@ module _ (c : Cursor) (b : BlockStep) (to : ℕ) (callers : List Caller) where
 
   pub block_leads : (o : Origin) (h : Host) → RunGoesOn o h (at_block_step c b to callers) → (limit : ℕ) → h.steps < limit
       → (steps : ℕ) → steps ≡ h.steps + 1 → (same : State) → same ≡ h.state → (G : Trail → Type 0) → ((u : Trail) → h.follows u → h.follows (moved u 0))
-      → ((u : Trail) → h.follows u → u.changes ≤ 6 → steps ≡ u.steps + 1 → u.states steps ≡ h.state → u.load ≤ u.loads steps → G (stepped u))
+      → ((u : Trail) → h.follows u → u.changes ≤ most_changes → steps ≡ u.steps + 1 → u.states steps ≡ h.state → u.load ≤ u.loads steps → G (stepped u))
       → (d : Reached) → EndsByItself d
       → ((now : Now) → Comes (ready_of (runs_or_halts (config c.text.now (cursor c) None callers now) (after_block_step (block_step_of b) (drop to c.text.now) (cursor c)))) now d)
       → Reaches limit o h (host same G h.screen steps) d
@@ -339,7 +339,7 @@ module _ (c : Cursor) (q : ℕ) (callers : List Caller) where
 
   pub call_leads : (o : Origin) (h : Host) → RunGoesOn o h (at_register_call c q callers)
       → (steps : ℕ) → steps ≡ h.steps + 1 → (same : State) → same ≡ h.state → (G : Trail → Type 0) → ((u : Trail) → h.follows u → h.follows (moved u 0))
-      → ((u : Trail) → h.follows u → u.changes ≤ 6 → steps ≡ u.steps + 1 → u.states steps ≡ h.state → u.load ≤ u.loads steps → G (stepped u))
+      → ((u : Trail) → h.follows u → u.changes ≤ most_changes → steps ≡ u.steps + 1 → u.states steps ≡ h.state → u.load ≤ u.loads steps → G (stepped u))
       → (text : List ℕ) → text ≡ text_in h.state → ReachesContinuation o h (host same G h.screen steps) (at_call c text callers)
   call_leads o h g steps count same is_same G eases marks text is =
       let later : Host = host same G h.screen steps in

@@ -1,4 +1,4 @@
--- What an entry holds: at most six changes for each step, and no more bytes than its string has moved.
+-- What an entry holds: no more changes than its steps may make, and no more bytes than its string has moved.
 use Rattle.std.proofs.Common.{◌≡◌, ℕ, zero, suc, ◌<◌, ◌≤◌, List, [], ◌∷◌, ◌++◌, length, take, reverse, get_or, refl, sym, ◌∙◌, ap, subst, arith, append_assoc}
 use Rattle.std.proofs.lemmas.List.{reverse-reverse, reverse-append, take-append-drop}
 use Rattle.teco_store.specs.State.{State, Body, IsSound, state_at}
@@ -31,8 +31,8 @@ unfolding onto AreSmallFrom
 small_back held room st [] ys b ns f s = s
 small_back held room st (x ∷ xs) ys b ns f s =
     let h = (held x.changes b).now in
-    let l = f.0.load in
-    let count = f.0.count in
+    let l = f.0.within.load in
+    let count = f.0.within.count in
     small_back held room st xs (x ∷ ys) (body_back x.changes b) (noted_as x (state_at st b) ∷ ns) f.1 (record { changes = omega arith; held = omega arith }, s)
 
 length-notes_forth : (cs : List Change) (b : Body) → length (notes_forth cs b) ≡ length cs
@@ -47,8 +47,8 @@ small_forth law held room st (x ∷ xs) b sound f =
     let again = law room (length st) x.changes b f.0.0 sound in
     let turned = notes_forth x.changes b in let after = body_forth x.changes b in
     let n = length-notes_forth x.changes b in
-    let count = f.0.1.count in
-    let l = subst (λ (z : Body). load_back turned after ≤ (string_meaning (state_at st z) x.text x.steps).load) again.body f.0.1.load in
+    let count = f.0.1.within.count in
+    let l = subst (λ (z : Body). load_back turned after ≤ (string_meaning (state_at st z) x.text x.steps).load) again.body f.0.1.within.load in
     let h = subst (λ (cs : List Change). held_in cs ≤ load_back turned after) again.notes (held turned after).turned in
     (record { changes = omega arith; held = omega arith }, small_forth law held room st xs after again.sound f.1)
 

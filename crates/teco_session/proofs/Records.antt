@@ -32,7 +32,7 @@ followed law zero old r text k sound f low =
     record {
       leads = l;
       run = subst (λ (s : State). HasCome r.full r.notes k (trail_of s text 0 k)) (sym (back_to old r.full r.notes l))
-          (subst (λ (n : ℕ). HasCome r.full r.notes n (trail_of (state_of old) text 0 k)) low.done low);
+          (subst (λ (n : ℕ). HasCome r.full r.notes n (trail_of (state_of old) text 0 k)) low.leads.done low);
     }
 
 pub run_left : LeadsToItsBeginning → ZeroLimitChangesNothing → (old from new : Full) (r0 r : Recording) (text : List ℕ) (k : ℕ) (changes : List Change) → IsSound old.room (length old.stored) old.body

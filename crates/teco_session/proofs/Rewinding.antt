@@ -37,9 +37,9 @@ cut_run law f x n le run =
     let new : Full = with_body f (body_back (since n x.changes) f.body) in
     let same : s0 ≡ state_at f.stored (body_back (before n x.changes) new.body) = ap (state_at f.stored) (sym cut.first) in
     record {
-      leads = record { room = omega arith; sound = cut.come.sound; fits = cut.come.fits; body = cut.first; stored = refl };
+      leads = record { room = omega arith; sound = cut.come.turns.sound; fits = cut.come.turns.fits; body = cut.first; stored = refl };
       run = subst (λ (s : State). HasCome new (before n x.changes) n (trail_of s x.text 0 n)) same cut.come;
-      again = ap (λ (cs : List Change). state_at f.stored (body_back cs new.body)) (sym (nothing_left (since n (before n x.changes)) cut.come.present)) ∙ cut.come.states n (omega arith);
+      again = ap (λ (cs : List Change). state_at f.stored (body_back cs new.body)) (sym (nothing_left (since n (before n x.changes)) cut.come.within.present)) ∙ cut.come.leads.states n (omega arith);
     }
 
 -- a session after a rewind

@@ -50,7 +50,7 @@ stays : BackThenForth → ComesSoExtended → (room room' m : ℕ) (st st' : Lis
 stays law more room room' m st st' [] b ns r h same sound f = record { back = tt; notes = refl; first = state_same st st' m b h same }
 stays law more room room' m st st' (x ∷ xs) b ns r h same sound f =
     let back : Body = body_back x.changes b in
-    let again = law room (length st) x.changes b f.0.fits sound in
+    let again = law room (length st) x.changes b f.0.turns.fits sound in
     let low : back.output ≤ m = let y = again.output in omega arith in
     let here : state_at st back ≡ state_at st' back = sym (state_same st st' m back low same) in
     let rest = stays law more room room' m st st' xs back (noted_as x (state_at st b) ∷ ns) r low same again.sound f.1 in

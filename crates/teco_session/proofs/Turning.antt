@@ -47,7 +47,7 @@ record StepsBack (room : ℕ) (stored : List ℕ) (x : KeptString) (ys : List Ke
 steps_back : BackThenForth → (room : ℕ) (stored : List ℕ) (x : KeptString) (ys : List KeptString) (b : Body) → IsSound room (length stored) b
     → HasRun (editor_at room stored b) x → LeadForth room stored ys b → StepsBack room stored x ys b
 steps_back law room stored x ys b sound run forth =
-    let again = law room (length stored) x.changes b run.fits sound in
+    let again = law room (length stored) x.changes b run.turns.fits sound in
     let same : string_forth (string_back x b) (body_back x.changes b) ≡ x = ap (λ (cs : List Change). let y : KeptString = record x { changes = cs } in y) again.notes in
     let here = subst (λ (y : KeptString). HasRun (editor_at room stored (body_forth (notes_back x.changes b) (body_back x.changes b))) y) (sym same)
     (subst (λ (z : Body). HasRun (editor_at room stored z) x) (sym again.body) run) in
@@ -105,7 +105,7 @@ pub undo_fits : (s : KeptSession) (x : KeptString) (i : ℕ) → s.cursor ≡ i 
 undo_fits s x i n ok is =
     let le = ok.within in
     let all = subst (λ (zs : List KeptString). LeadBack s.editor.room s.editor.stored zs s.editor.body) (last_done s.strings x s.cursor i n (omega arith) is) ok.back in
-    all.0.fits
+    all.0.turns.fits
 
 pub session_back : BackThenForth → (s : KeptSession) (x : KeptString) (i : ℕ) → s.cursor ≡ i + 1 → IsSession s → x ≡ get_or s.strings i x → Turned s (turned_back s x i) i
 session_back law s x i n ok is =

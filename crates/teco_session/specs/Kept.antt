@@ -4,6 +4,7 @@ use Rattle.std.specs.Prelude.{ℕ, ◌+◌, ◌-◌, ◌*◌, ◌≤◌, List, [
 use Rattle.std.proofs.Common.{set}
 use Rattle.teco_store.specs.State.{State, Body, Full, IsSound, state_at, new_paged_full, with_body}
 use Rattle.teco_store.specs.Follows.{HasCome}
+use Rattle.teco_store.specs.Trail.{most_changes}
 use Rattle.teco_store.specs.Turn.{Note as Change}
 use Rattle.teco_store.specs.Entry.{body_back, notes_back, body_forth, notes_forth, FitsForth, before, since, held_in}
 use Rattle.teco_exec.specs.Runs.{trail_of}
@@ -82,8 +83,8 @@ history_of s = record {
 }
 
 -- A string that is done at an editor has come there by the steps of its meaning, from the state before it:
--- its changes fit, and lead back to the state after each step; each step made at most six, and what they hold
--- is within the load.
+-- its changes fit, and lead back to the state after each step; they are no more than its steps may make, and
+-- what they hold is within the load.
 abbrev pub HasRun : Full → KeptString → Type 0
 HasRun f x = HasCome f x.changes x.steps
     (trail_of (state_at f.stored (body_back x.changes f.body)) x.text 0 x.steps)
@@ -172,8 +173,8 @@ cut_to n s =
     let x : KeptString = string_at s (s.cursor - 1) in
     cut_back s x (s.cursor - 1) (min n x.steps)
 
--- An entry has at most six changes for each step of its string, and they hold no more bytes than the string
--- moves from this state.
+-- An entry has no more changes than the steps of its string may make, and they hold no more bytes than the
+-- string moves from this state.
 pub record IsSmall (x : KeptString) (s : State) : Type 0 where
-  pub changes : length x.changes ≤ 6 * x.steps
+  pub changes : length x.changes ≤ most_changes * x.steps
   pub held : held_in x.changes ≤ (string_meaning s x.text x.steps).load

@@ -3,6 +3,7 @@ use Rattle.std.proofs.Common.{◌≡◌, ℕ, zero, suc, ◌+◌, ◌*◌, ◌<�
 use Rattle.std.proofs.lemmas.Bool.{cases_lt}
 use Rattle.std.proofs.lemmas.List.{drop_more}
 use Rattle.teco_store.specs.State.{Body, state_at}
+use Rattle.teco_store.specs.Trail.{most_changes}
 use Rattle.teco_store.specs.Turn.{Note, Fits}
 use Rattle.teco_store.specs.Entry.{body_back, FitsBack, before, since, of_step, load_back}
 use Rattle.teco_store.specs.Follows.{AreMarked}
@@ -96,8 +97,8 @@ before_none : (xs : List Note) → before 0 xs ≡ []
 before_none [] = refl
 before_none (x ∷ xs) = before_high 0 x xs (omega arith)
 
--- at most six in each step
-few_before : (n : ℕ) (xs : List Note) → ((i : ℕ) → i < n → length (of_step i xs) ≤ 6) → length (before n xs) ≤ 6 * n
+-- at most so many in each step
+few_before : (n : ℕ) (xs : List Note) → ((i : ℕ) → i < n → length (of_step i xs) ≤ most_changes) → length (before n xs) ≤ most_changes * n
 few_before zero xs few = let e : length (before 0 xs) ≡ 0 = ap length (before_none xs) in omega arith
 few_before (suc n) xs few =
     let less = few_before n xs (λ i h. few i (omega arith)) in
@@ -133,23 +134,29 @@ comes_so_far n full notes steps t le f =
     λ i h. sym (body_back-append (since i early) late b) ∙ ap (λ xs. body_back xs b) (sym (since_before i n notes h)) in
     let none : length (since n early) ≡ 0 =
     let e : length late ≡ length (since n early ++ late) = ap length (since_before n n notes (omega arith)) in omega (arith, length-append (since n early) late) in
-    let few : (i : ℕ) → i < n → length (of_step i notes) ≤ 6 = λ i h. f.each i (omega arith) in
+    let few : (i : ℕ) → i < n → length (of_step i notes) ≤ most_changes = λ i h. f.within.each i (omega arith) in
     record {
       come = record {
-        done = refl;
-        floor = f.floor;
-        sound = sound_back_all full.room (length full.stored) late b (FitsBack-since full.room n notes b f.fits) f.sound;
-        fits = FitsBack-front full.room early late b (subst (λ (xs : List Note). FitsBack full.room xs b) (sym (cut_here n notes)) f.fits);
-        marked = marked_before 0 t.steps n notes f.marked;
-        states = λ i h. ap (state_at full.stored) (at i h) ∙ f.states i (omega arith);
-        loads = λ i h.
-            let e : load_back (before i early) (body_back (since i early) b1) ≡ load_back (before i notes) (body_back (since i notes) b) =
-            ap (λ xs. load_back xs (body_back (since i early) b1)) (before_before i n notes h) ∙ ap (load_back (before i notes)) (at i h) in
-            subst (λ (m : ℕ). m ≤ t.loads i) (sym e) (f.loads i (omega arith));
-        load = f.loads n le;
-        each = λ i h. let e = same_step i n notes h in let m = few i h in omega arith;
-        present = omega arith;
-        count = let m = few_before n notes few in omega arith;
+        turns = record {
+          floor = f.turns.floor;
+          sound = sound_back_all full.room (length full.stored) late b (FitsBack-since full.room n notes b f.turns.fits) f.turns.sound;
+          fits = FitsBack-front full.room early late b (subst (λ (xs : List Note). FitsBack full.room xs b) (sym (cut_here n notes)) f.turns.fits);
+          marked = marked_before 0 t.steps n notes f.turns.marked;
+        };
+        leads = record {
+          done = refl;
+          states = λ i h. ap (state_at full.stored) (at i h) ∙ f.leads.states i (omega arith);
+        };
+        within = record {
+          loads = λ i h.
+              let e : load_back (before i early) (body_back (since i early) b1) ≡ load_back (before i notes) (body_back (since i notes) b) =
+              ap (λ xs. load_back xs (body_back (since i early) b1)) (before_before i n notes h) ∙ ap (load_back (before i notes)) (at i h) in
+              subst (λ (m : ℕ). m ≤ t.loads i) (sym e) (f.within.loads i (omega arith));
+          load = f.within.loads n le;
+          each = λ i h. let e = same_step i n notes h in let m = few i h in omega arith;
+          present = omega arith;
+          count = let m = few_before n notes few in omega arith;
+        };
       };
       first = first;
     }

@@ -45,15 +45,15 @@ pub leads : (old : Full) (r : Recording) (t : Trail) → IsSound old.room (lengt
     → Follows r t → LeadsBack old r.full r.notes
 leads old r t sound first floor f =
     let b0 : Body = body_back r.notes r.full.body in
-    let low : b0.output ≤ r.full.body.output = shown_back_all r.full.room r.notes r.full.body f.fits in
-    let top = f.sound.stored in let within = sound.stored in
+    let low : b0.output ≤ r.full.body.output = shown_back_all r.full.room r.notes r.full.body f.turns.fits in
+    let top = f.turns.sound.stored in let within = sound.stored in
     let start : state_at r.full.stored b0 ≡ state_of old =
-    ap (λ (xs : List Note). state_at r.full.stored (body_back xs r.full.body)) (sym (since_zero r.notes)) ∙ f.states 0 (omega arith) ∙ first in
+    ap (λ (xs : List Note). state_at r.full.stored (body_back xs r.full.body)) (sym (since_zero r.notes)) ∙ f.leads.states 0 (omega arith) ∙ first in
     let back : b0 ≡ old.body = body_of_state r.full.stored old.stored b0 old.body (omega arith) within start in
     record {
-      room = let x = f.floor in omega arith;
-      sound = f.sound;
-      fits = f.fits;
+      room = let x = f.turns.floor in omega arith;
+      sound = f.turns.sound;
+      fits = f.turns.fits;
       body = back;
       stored = ap (λ (b : Body). take b.output r.full.stored) (sym back) ∙ ap (λ (s : State). s.output) start;
     }

@@ -4,7 +4,7 @@ use Rattle.std.proofs.lemmas.Bool.{cases_lt, lt-ltb, le-ltb}
 use Rattle.std.proofs.lemmas.List.{length-take-le, take-take}
 use Rattle.teco_core.specs.Register.{Content, texted, content}
 use Rattle.teco_store.specs.State.{State, Body, Full, Extends, state_at, state_of}
-use Rattle.teco_store.specs.Trail.{Trail, moved, stepped}
+use Rattle.teco_store.specs.Trail.{Trail, most_changes, moved, stepped}
 use Rattle.teco_store.specs.Turn.{Turn, Note, Splice, Point, Number, Text, Push, TakeOff, PopInto, PutBack, Pages, Search, Found, Done, Mode, top_of, Stands, body_after, turn_after, Fits, full_after, FitsFull}
 use Rattle.teco_store.specs.Entry.{body_back, FitsBack, since, before, of_step, weight, load_back}
 use Rattle.teco_store.specs.Follows.{Recording, AreMarked, HasCome, Follows, FollowsAfterChanges, StillFollows, noting, with_note}
@@ -135,37 +135,43 @@ come_noted r t d f fits rises =
     let b' : Body = body_after d b in
     let c : Note = record { step = r.done; turn = turn_after d b } in
     let again : body_after c.turn b' ≡ b = body_again d b fits.0 in
-    let wide : Fits room top c.turn b' = fits_after room top d b fits f.sound in
+    let wide : Fits room top c.turn b' = fits_after room top d b fits f.turns.sound in
     let narrow : Fits room b'.output c.turn b' = shown_fits room top b'.output c.turn b' wide (subst (λ (x : Body). x.output ≤ b'.output) (sym again) rises) in
     let same_weight : weight c.turn b' ≡ weight d b = weight_after d b fits.0 in
     let back : (i : ℕ) → i ≤ t.steps → body_back (since i (r.notes ++ c ∷ [])) b' ≡ body_back (since i r.notes) b =
-    λ i h. let le : i ≤ r.done = let e = f.done in omega arith in
+    λ i h. let le : i ≤ r.done = let e = f.leads.done in omega arith in
     ap (λ (xs : List Note). body_back xs b') (since-push i r.notes c le) ∙ body_back-append (since i r.notes) (c ∷ []) b' ∙ ap (body_back (since i r.notes)) again in
     let early : (i : ℕ) → i ≤ t.steps → before i (r.notes ++ c ∷ []) ≡ before i r.notes =
-    λ i h. let le : i ≤ r.done = let e = f.done in omega arith in before-push i r.notes c le in
+    λ i h. let le : i ≤ r.done = let e = f.leads.done in omega arith in before-push i r.notes c le in
     record {
-      done = f.done;
-      floor = f.floor;
-      sound = fits.1;
-      fits = FitsBack-push room r.notes c b' (subst (λ (x : Body). FitsBack room r.notes x) (sym again) f.fits) narrow;
-      marked = AreMarked-push 0 t.steps r.notes c (omega arith) f.done f.marked;
-      states = λ i h. ap (state_at r.full.stored) (back i h) ∙ f.states i h;
-      loads = λ i h.
-          let e : load_back (before i (r.notes ++ c ∷ [])) (body_back (since i (r.notes ++ c ∷ [])) b') ≡ load_back (before i r.notes) (body_back (since i r.notes) b) =
-          ap (λ (xs : List Note). load_back xs (body_back (since i (r.notes ++ c ∷ [])) b')) (early i h) ∙ ap (load_back (before i r.notes)) (back i h) in
-          subst (λ (m : ℕ). m ≤ t.loads i) (sym e) (f.loads i h);
-      load =
-          let e : load_back (r.notes ++ c ∷ []) b' ≡ load_back r.notes b + weight c.turn b' = load_back-push r.notes c b' ∙ ap (λ (x : Body). load_back r.notes x + weight c.turn b') again in
-          let l = f.load in omega arith;
-      each = λ i h.
-          let e : of_step i (r.notes ++ c ∷ []) ≡ of_step i r.notes =
-          ap (before (i + 1)) (since-push i r.notes c (let d = f.done in omega arith)) ∙ before-push (i + 1) (since i r.notes) c (let d = f.done in omega arith) in
-          subst (λ (xs : List Note). length xs ≤ 6) (sym e) (f.each i h);
-      present =
-          let e : length (since t.steps (r.notes ++ c ∷ [])) ≡ length (since t.steps r.notes ++ c ∷ []) =
-          ap length (since-push t.steps r.notes c (let d = f.done in omega arith)) in
-          let l = f.present in omega (arith, length-append (since t.steps r.notes) (c ∷ []));
-      count = let l = f.count in omega (arith, length-append r.notes (c ∷ []));
+      turns = record {
+        floor = f.turns.floor;
+        sound = fits.1;
+        fits = FitsBack-push room r.notes c b' (subst (λ (x : Body). FitsBack room r.notes x) (sym again) f.turns.fits) narrow;
+        marked = AreMarked-push 0 t.steps r.notes c (omega arith) f.leads.done f.turns.marked;
+      };
+      leads = record {
+        done = f.leads.done;
+        states = λ i h. ap (state_at r.full.stored) (back i h) ∙ f.leads.states i h;
+      };
+      within = record {
+        loads = λ i h.
+            let e : load_back (before i (r.notes ++ c ∷ [])) (body_back (since i (r.notes ++ c ∷ [])) b') ≡ load_back (before i r.notes) (body_back (since i r.notes) b) =
+            ap (λ (xs : List Note). load_back xs (body_back (since i (r.notes ++ c ∷ [])) b')) (early i h) ∙ ap (load_back (before i r.notes)) (back i h) in
+            subst (λ (m : ℕ). m ≤ t.loads i) (sym e) (f.within.loads i h);
+        load =
+            let e : load_back (r.notes ++ c ∷ []) b' ≡ load_back r.notes b + weight c.turn b' = load_back-push r.notes c b' ∙ ap (λ (x : Body). load_back r.notes x + weight c.turn b') again in
+            let l = f.within.load in omega arith;
+        each = λ i h.
+            let e : of_step i (r.notes ++ c ∷ []) ≡ of_step i r.notes =
+            ap (before (i + 1)) (since-push i r.notes c (let d = f.leads.done in omega arith)) ∙ before-push (i + 1) (since i r.notes) c (let d = f.leads.done in omega arith) in
+            subst (λ (xs : List Note). length xs ≤ most_changes) (sym e) (f.within.each i h);
+        present =
+            let e : length (since t.steps (r.notes ++ c ∷ [])) ≡ length (since t.steps r.notes ++ c ∷ []) =
+            ap length (since-push t.steps r.notes c (let d = f.leads.done in omega arith)) in
+            let l = f.within.present in omega (arith, length-append (since t.steps r.notes) (c ∷ []));
+        count = let l = f.within.count in omega (arith, length-append r.notes (c ∷ []));
+      };
     }
 
 -- The parts of a recorder are those of its value `r`; `d` is put in, and what stood there is noted.
@@ -184,20 +190,26 @@ come_extended e g notes steps t x f =
     let b : Body = e.body in
     let more = x.room in
     let extended : HasCome (record { body = e.body; stored = g.stored; room = g.room }) notes steps t = record {
-      done = f.done;
-      floor = let n = f.floor in omega arith;
-      sound = sound_within g.room (length e.stored) (length g.stored) b x.top (sound_more e.room g.room (length e.stored) (length e.stored) b more (omega arith) f.sound);
-      fits = FitsBack-more e.room g.room notes b more f.fits;
-      marked = f.marked;
-      states = λ i h.
-          let past : Body = body_back (since i notes) b in
-          let within : past.output ≤ b.output = shown_back_all e.room (since i notes) b (FitsBack-since e.room i notes b f.fits) in
-          state_at-same e.stored g.stored b.output past within x.stored ∙ f.states i h;
-      loads = f.loads;
-      load = f.load;
-      each = f.each;
-      present = f.present;
-      count = f.count;
+      turns = record {
+        floor = let n = f.turns.floor in omega arith;
+        sound = sound_within g.room (length e.stored) (length g.stored) b x.top (sound_more e.room g.room (length e.stored) (length e.stored) b more (omega arith) f.turns.sound);
+        fits = FitsBack-more e.room g.room notes b more f.turns.fits;
+        marked = f.turns.marked;
+      };
+      leads = record {
+        done = f.leads.done;
+        states = λ i h.
+            let past : Body = body_back (since i notes) b in
+            let within : past.output ≤ b.output = shown_back_all e.room (since i notes) b (FitsBack-since e.room i notes b f.turns.fits) in
+            state_at-same e.stored g.stored b.output past within x.stored ∙ f.leads.states i h;
+      };
+      within = record {
+        loads = f.within.loads;
+        load = f.within.load;
+        each = f.within.each;
+        present = f.within.present;
+        count = f.within.count;
+      };
     } in
     subst (λ (y : Body). HasCome (record { body = y; stored = g.stored; room = g.room }) notes steps t) (sym x.body) extended
 
@@ -212,17 +224,15 @@ keeps_then r s u h k = λ t f. k t (h t f)
 come_within : (r : Recording) (t : Trail) (load changes : ℕ) → t.load ≤ load → t.changes ≤ changes → Follows r t
     → Follows r (record { states = t.states; loads = t.loads; steps = t.steps; load = load; changes = changes; floor = t.floor })
 come_within r t load changes l m f = record {
-  done = f.done;
-  floor = f.floor;
-  sound = f.sound;
-  fits = f.fits;
-  marked = f.marked;
-  states = f.states;
-  loads = f.loads;
-  load = let x = f.load in omega arith;
-  each = f.each;
-  present = let x = f.present in omega arith;
-  count = let x = f.count in omega arith;
+  turns = record { floor = f.turns.floor; sound = f.turns.sound; fits = f.turns.fits; marked = f.turns.marked };
+  leads = record { done = f.leads.done; states = f.leads.states };
+  within = record {
+    loads = f.within.loads;
+    load = let x = f.within.load in omega arith;
+    each = f.within.each;
+    present = let x = f.within.present in omega arith;
+    count = let x = f.within.count in omega arith;
+  };
 }
 
 pub goes_more : (r s : Recording) (l m c d : ℕ) → l ≤ m → c ≤ d → FollowsAfterChanges l c r s → FollowsAfterChanges m d r s
@@ -233,47 +243,54 @@ pub goes_then : (r s u : Recording) (l m c d : ℕ) → FollowsAfterChanges l c 
 goes_then r s u l m c d g h = λ t f.
     come_within u (noting (noting t l c) m d) (t.load + (l + m)) (t.changes + (c + d)) (omega arith) (omega arith) (h (noting t l c) (g t f))
 
--- A call finds memory, which keeps, and then makes at most 6 changes.
-pub goes_call : (r s u : Recording) (l c n : ℕ) → StillFollows r s → FollowsAfterChanges l c s u → l ≤ n → c ≤ 6 → (t : Trail) → Follows r t → Follows u (moved t n)
-goes_call r s u l c n k g less few = λ t f. come_within u (noting t l c) (t.load + n) (t.changes + 6) (omega arith) (omega arith) (g t (k t f))
+-- A call finds memory, which keeps, and then makes at most so many changes as a call may.
+pub goes_call : (r s u : Recording) (l c n : ℕ) → StillFollows r s → FollowsAfterChanges l c s u → l ≤ n → c ≤ most_changes → (t : Trail) → Follows r t → Follows u (moved t n)
+goes_call r s u l c n k g less few = λ t f. come_within u (noting t l c) (t.load + n) (t.changes + most_changes) (omega arith) (omega arith) (g t (k t f))
 
 -- A call finds memory, which keeps, and then makes one change, which has the load of the call.
 pub goes_once : (r s u : Recording) (l n : ℕ) → StillFollows r s → FollowsAfterChanges l 1 s u → l ≡ n → (t : Trail) → Follows r t → Follows u (moved t n)
 goes_once r s u l n k g same = goes_call r s u l 1 n k g (omega arith) (omega arith)
 
 -- a step is done
-pub come_stepped : (r : Recording) (t : Trail) → Follows r t → t.changes ≤ 6 → t.states (t.steps + 1) ≡ state_of r.full → t.load ≤ t.loads (t.steps + 1)
+pub come_stepped : (r : Recording) (t : Trail) → Follows r t → t.changes ≤ most_changes → t.states (t.steps + 1) ≡ state_of r.full → t.load ≤ t.loads (t.steps + 1)
     → HasCome r.full r.notes (t.steps + 1) (stepped t)
 come_stepped r t f few state load =
-    let none : since (t.steps + 1) r.notes ≡ [] = since_all 0 t.steps r.notes f.marked in
-    let all : before (t.steps + 1) r.notes ≡ r.notes = before_all 0 t.steps r.notes f.marked in
+    let none : since (t.steps + 1) r.notes ≡ [] = since_all 0 t.steps r.notes f.turns.marked in
+    let all : before (t.steps + 1) r.notes ≡ r.notes = before_all 0 t.steps r.notes f.turns.marked in
     let split : (i : ℕ) → i ≤ t.steps + 1 → (i ≤ t.steps) ⊎ (i ≡ t.steps + 1) = λ i h. elim (cases_lt i (t.steps + 1)) [ inl l ↦ inl (omega arith) | inr g ↦ inr (omega arith) ] in
     record {
-      done = refl;
-      floor = f.floor;
-      sound = f.sound;
-      fits = f.fits;
-      marked = AreMarked-more 0 t.steps r.notes f.marked;
-      states = λ i h. elim (split i h) [
-        | inl l ↦ f.states i l
-        | inr e ↦ subst (λ (k : ℕ). state_at r.full.stored (body_back (since k r.notes) r.full.body) ≡ t.states k) (sym e)
-            (ap (λ (xs : List Note). state_at r.full.stored (body_back xs r.full.body)) none ∙ sym state)
-      ];
-      loads = λ i h. elim (split i h) [
-        | inl l ↦ f.loads i l
-        | inr e ↦ subst (λ (k : ℕ). load_back (before k r.notes) (body_back (since k r.notes) r.full.body) ≤ t.loads k) (sym e)
-            (let w : load_back (before (t.steps + 1) r.notes) (body_back (since (t.steps + 1) r.notes) r.full.body) ≡ load_back r.notes r.full.body =
-            ap (λ (xs : List Note). load_back xs (body_back (since (t.steps + 1) r.notes) r.full.body)) all ∙ ap (λ (xs : List Note). load_back r.notes (body_back xs r.full.body)) none in
-            let l = f.load in omega arith)
-      ];
-      load = f.load;
-      each = λ i h. elim (cases_lt i t.steps) [
-        | inl l ↦ f.each i l
-        | inr g ↦
-            let here : i ≡ t.steps = omega arith in
-            let these : of_step t.steps r.notes ≡ since t.steps r.notes = before_all 0 t.steps (since t.steps r.notes) (AreMarked-since 0 t.steps t.steps r.notes f.marked) in
-            subst (λ (k : ℕ). length (of_step k r.notes) ≤ 6) (sym here) (let n : length (of_step t.steps r.notes) ≡ length (since t.steps r.notes) = ap length these in let m = f.present in omega arith)
-      ];
-      present = let n : length (since (t.steps + 1) r.notes) ≡ 0 = ap length none in omega arith;
-      count = let m = f.count in omega arith;
+      turns = record {
+        floor = f.turns.floor;
+        sound = f.turns.sound;
+        fits = f.turns.fits;
+        marked = AreMarked-more 0 t.steps r.notes f.turns.marked;
+      };
+      leads = record {
+        done = refl;
+        states = λ i h. elim (split i h) [
+          | inl l ↦ f.leads.states i l
+          | inr e ↦ subst (λ (k : ℕ). state_at r.full.stored (body_back (since k r.notes) r.full.body) ≡ t.states k) (sym e)
+              (ap (λ (xs : List Note). state_at r.full.stored (body_back xs r.full.body)) none ∙ sym state)
+        ];
+      };
+      within = record {
+        loads = λ i h. elim (split i h) [
+          | inl l ↦ f.within.loads i l
+          | inr e ↦ subst (λ (k : ℕ). load_back (before k r.notes) (body_back (since k r.notes) r.full.body) ≤ t.loads k) (sym e)
+              (let w : load_back (before (t.steps + 1) r.notes) (body_back (since (t.steps + 1) r.notes) r.full.body) ≡ load_back r.notes r.full.body =
+              ap (λ (xs : List Note). load_back xs (body_back (since (t.steps + 1) r.notes) r.full.body)) all ∙ ap (λ (xs : List Note). load_back r.notes (body_back xs r.full.body)) none in
+              let l = f.within.load in omega arith)
+        ];
+        load = f.within.load;
+        each = λ i h. elim (cases_lt i t.steps) [
+          | inl l ↦ f.within.each i l
+          | inr g ↦
+              let here : i ≡ t.steps = omega arith in
+              let these : of_step t.steps r.notes ≡ since t.steps r.notes = before_all 0 t.steps (since t.steps r.notes) (AreMarked-since 0 t.steps t.steps r.notes f.turns.marked) in
+              subst (λ (k : ℕ). length (of_step k r.notes) ≤ most_changes) (sym here)
+              (let n : length (of_step t.steps r.notes) ≡ length (since t.steps r.notes) = ap length these in let m = f.within.present in omega arith)
+        ];
+        present = let n : length (since (t.steps + 1) r.notes) ≡ 0 = ap length none in omega arith;
+        count = let m = f.within.count in omega arith;
+      };
     }

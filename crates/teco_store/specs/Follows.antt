@@ -3,7 +3,7 @@ use Rattle.std.specs.Prelude.{◌≡◌, ℕ, ◌+◌, ◌-◌, ◌*◌, ◌<◌
 use Rattle.std.proofs.Common.{subst}
 use Rattle.std.proofs.Math.Nat.{le_trans, le-add_right, add_assoc}
 use Rattle.teco_store.specs.State.{Full, state_at, IsSound}
-use Rattle.teco_store.specs.Trail.{Trail, moved}
+use Rattle.teco_store.specs.Trail.{Trail, most_changes, moved}
 use Rattle.teco_store.specs.Turn.{Turn, Note, full_after, turn_after}
 use Rattle.teco_store.specs.Entry.{body_back, FitsBack, since, before, of_step, load_back}
 
@@ -22,23 +22,34 @@ AreMarked low high (c ∷ cs) = ((low ≤ c.step) × (c.step ≤ high)) × AreMa
 abbrev pub IsInOrder : List Note → Type 0
 IsInOrder notes = (high : ℕ) × AreMarked 0 high notes
 
--- An editor and its changes, after so many steps, have come through a trail.
-pub record HasCome (full : Full) (notes : List Note) (steps : ℕ) (t : Trail) : Type 0 where
-  pub done : steps ≡ t.steps
+-- A sound editor has at least the capacity of a trail, and its changes, in the order of their steps, can be turned back.
+pub record CanBeTurnedBack (full : Full) (notes : List Note) (t : Trail) : Type 0 where
   pub floor : t.floor ≤ full.room
   pub sound : IsSound full.room (length full.stored) full.body
-  -- the changes can be turned back, and that leads to the state after each step
   pub fits : FitsBack full.room notes full.body
   pub marked : AreMarked 0 t.steps notes
+
+-- After the steps of a trail the changes lead back to the state after each of them.
+pub record LeadsThroughStates (full : Full) (notes : List Note) (steps : ℕ) (t : Trail) : Type 0 where
+  pub done : steps ≡ t.steps
   pub states : (i : ℕ) → i ≤ t.steps → state_at full.stored (body_back (since i notes) full.body) ≡ t.states i
+
+-- The changes weigh no more than the loads of a trail, and are no more than its steps may make.
+pub record IsWithinBounds (full : Full) (notes : List Note) (t : Trail) : Type 0 where
   -- the bytes of both sides of the changes of the first steps, and of all of them
   pub loads : (i : ℕ) → i ≤ t.steps
       → load_back (before i notes) (body_back (since i notes) full.body) ≤ t.loads i
   pub load : load_back notes full.body ≤ t.load
   -- the changes of each step, of the present one, and of all together
-  pub each : (i : ℕ) → i < t.steps → length (of_step i notes) ≤ 6
+  pub each : (i : ℕ) → i < t.steps → length (of_step i notes) ≤ most_changes
   pub present : length (since t.steps notes) ≤ t.changes
-  pub count : length notes ≤ 6 * t.steps + t.changes
+  pub count : length notes ≤ most_changes * t.steps + t.changes
+
+-- An editor and its changes, after so many steps, have come through a trail.
+pub record HasCome (full : Full) (notes : List Note) (steps : ℕ) (t : Trail) : Type 0 where
+  pub turns : CanBeTurnedBack full notes t
+  pub leads : LeadsThroughStates full notes steps t
+  pub within : IsWithinBounds full notes t
 
 abbrev pub Follows : Recording → Trail → Type 0
 Follows r t = HasCome r.full r.notes r.done t
@@ -74,18 +85,16 @@ with_note r d = record {
 -- The loads and the changes of a trail are bounds.
 pub follows_eases : (r : Recording) (t : Trail) → Follows r t → Follows r (moved t 0)
 follows_eases r t f = record {
-  done = f.done;
-  floor = f.floor;
-  sound = f.sound;
-  fits = f.fits;
-  marked = f.marked;
-  states = f.states;
-  loads = f.loads;
-  load = le_trans f.load (le-add_right t.load 0);
-  each = f.each;
-  present = le_trans f.present (le-add_right t.changes 6);
-  count = subst (λ (n : ℕ). length r.notes ≤ n) (add_assoc (6 * t.steps) t.changes 6)
-      (le_trans f.count (le-add_right (6 * t.steps + t.changes) 6));
+  turns = record { floor = f.turns.floor; sound = f.turns.sound; fits = f.turns.fits; marked = f.turns.marked };
+  leads = record { done = f.leads.done; states = f.leads.states };
+  within = record {
+    loads = f.within.loads;
+    load = le_trans f.within.load (le-add_right t.load 0);
+    each = f.within.each;
+    present = le_trans f.within.present (le-add_right t.changes most_changes);
+    count = subst (λ (n : ℕ). length r.notes ≤ n) (add_assoc (most_changes * t.steps) t.changes most_changes)
+        (le_trans f.within.count (le-add_right (most_changes * t.steps + t.changes) most_changes));
+  };
 }
 
 -- What a recorder leaves: changes that lead back to the body before, the output that was visible stored as before, and no less

@@ -153,9 +153,9 @@ nothing_left (c ∷ cs) h = absurd (omega (arith, h))
 stays_at : (part : Part) (f : Full) (notes : List Note) (steps i : ℕ) (t : Trail) → HasCome f notes steps t → ((m : ℕ) → last_change part notes ≡ Some m → m < i) → i ≤ t.steps
     → SamePart part (t.states i) (state_at f.stored f.body)
 stays_at part f notes steps i t come past le =
-    subst (λ s. SamePart part s (state_at f.stored f.body)) (come.states i le)
+    subst (λ s. SamePart part s (state_at f.stored f.body)) (come.leads.states i le)
     (same_at part f.stored (body_back (since i notes) f.body) f.body
-    (same_back part (since i notes) f.body (none_since part 0 t.steps i notes come.marked past)))
+    (same_back part (since i notes) f.body (none_since part 0 t.steps i notes come.turns.marked past)))
 
 pub stays : (part : Part) (f : Full) (notes : List Note) (steps i k : ℕ) (t : Trail) → HasCome f notes steps t → ((m : ℕ) → last_change part notes ≡ Some m → m < k) → k ≤ i → i ≤ t.steps
     → SamePart part (t.states i) (t.states t.steps)
@@ -168,4 +168,4 @@ stays part f notes steps i k t come past from le =
 
 pub was_made : (part : Part) (f : Full) (notes : List Note) (steps m : ℕ) (t : Trail) → HasCome f notes steps t → t.changes ≡ 0 → last_change part notes ≡ Some m → m < t.steps
 was_made part f notes steps m t come none e =
-    all_before part 0 t.steps t.steps m notes come.marked (nothing_left (since t.steps notes) (omega (arith, come.present, none))) e
+    all_before part 0 t.steps t.steps m notes come.turns.marked (nothing_left (since t.steps notes) (omega (arith, come.within.present, none))) e

@@ -21,10 +21,10 @@ ran_now c =
     has_run s (string_at s (s.cursor - 1)) (s.cursor - 1) (omega arith) c.self.invariant (at_self s (s.cursor - 1) (omega arith))
 
 pub rewind-requires-clause-fits : goal.rewind-requires-clause-fits
-rewind-requires-clause-fits c = subst (λ (f : Full). FitsBack f.room (string_at (kept_session c.self.inside) (c.self.inside.cursor - 1)).changes f.body) (sym c.editor_mut.ensures.value) (ran_now c).fits
+rewind-requires-clause-fits c = subst (λ (f : Full). FitsBack f.room (string_at (kept_session c.self.inside) (c.self.inside.cursor - 1)).changes f.body) (sym c.editor_mut.ensures.value) (ran_now c).turns.fits
 
 pub rewind-requires-clause-order : goal.rewind-requires-clause-order
-rewind-requires-clause-order c = (_, (ran_now c).marked)
+rewind-requires-clause-order c = (_, (ran_now c).turns.marked)
 
 rewound_now : (c : goal.After-truncate)
     → IsRewoundTo c.args.n (kept_session c.self.inside) (session_with c.rewind.new.editor (strings_of c.truncate.new.self) c.self.inside.cursor (depth_of c.truncate.new.self))
