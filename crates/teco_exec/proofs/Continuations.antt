@@ -8,14 +8,14 @@ use Rattle.teco_scan.specs.declared.token.Found.TheVariants.{Token}
 use Rattle.teco_exec.specs.CursorMoves.{Cursor as MachineCursor, pass}
 use Rattle.teco_exec.specs.Machine.{Caller, Config, block, Now, runs, halts, ready_where_comes, ready_of, after_text_end, step, faulty, run_within}
 use Rattle.teco_exec.specs.View.{cursor_at_start, coming_of, cursor, item_of_kind, block_step_of}
-use Rattle.teco_exec.specs.Running.{goes, over, stops, config, ready_run, at_cursor, at_token, at_block_step, at_return, Origin, Host, Continuation, RunGoesOn, Alike, sight, ReachesContinuation, ReachesEnd, at_beginning, at_call, cursor_after_call, host, Reaches, code_left, reached_by_exit, reached_after_call, now_at, whole_run, ended_by}
+use Rattle.teco_exec.specs.Running.{goes, over, stops, config, ready_run, at_cursor, at_token, at_block_step, at_return, Origin, Host, Continuation, RunGoesOn, Alike, sight, ReachesContinuation, ReachesEnd, at_beginning, at_call, cursor_after_call, Reaches, code_left, reached_by_exit, reached_after_call, now_at, whole_run, ended_by}
 use Rattle.teco_exec.specs.Runs.{Answers, IsBrokenOff, RunsWithin}
 use Rattle.teco_exec.specs.declared.cursor.Cursor.{Cursor}
 use Rattle.teco_exec.specs.declared.moves.BlockStep.{BlockStep}
 use Rattle.teco_exec.specs.declared.moves.Coming.{Coming}
 use Rattle.teco_exec.specs.declared.moves.Coming.TheVariants.{Passed, Step, Block, End, Fault}
 use Rattle.teco_exec.proofs.MachineMeans.{arrives_step, halted, halts_nowhere, halts_ready, no_steps, run_ready, arrives_stays}
-use Rattle.teco_exec.proofs.Going.{Settles, alike, also, continues, end_since, settles, now_there, shows_nothing}
+use Rattle.teco_exec.proofs.Going.{Settles, alike, also, continues, end_since, host_of, settles, now_there, shows_nothing}
 use Rattle.teco_scan.specs.ListLaws.{BlockLaws}
 use Rattle.teco_exec.proofs.Passing.{Shorter, pass_short}
 use Rattle.std.proofs.lemmas.Bool.Decides.{nat_tests}
@@ -140,7 +140,7 @@ less_left limit before k j n x y low kj jl yn (inr lt) =
 abbrev first_now : Origin → Now
 first_now o = record { state = o.state; typed = []; load = 0 }
 
-pub whole_begins : MachineMeans → (o : Origin) (F : Trail → Type 0) (a : Arguments) → a ≡ no_arguments → RunGoesOn o (host o.state F o.screen 0) (at_beginning a o.text [])
+pub whole_begins : MachineMeans → (o : Origin) (F : Trail → Type 0) (a : Arguments) → a ≡ no_arguments → RunGoesOn o (host_of o.state F o.screen 0) (at_beginning a o.text [])
 whole_begins means o F a none =
     let all : (fuel : ℕ) → run_within (0 + fuel) (whole_run o) ≡ ready_run fuel (ready_of (whole_run o)) =
     λ fuel. (let same : 0 + fuel ≡ fuel = omega arith in ap (λ k. run_within k (whole_run o)) same ∙ run_ready fuel (whole_run o)) in

@@ -11,9 +11,12 @@ use Rattle.teco_exec.specs.Machine.{Final, Machine, Now, Ready, after_steps, rea
 use Rattle.teco_exec.specs.Places.{after_coming}
 use Rattle.teco_exec.specs.StringMeaning.{StringMeaning, string_meaning}
 use Rattle.teco_exec.specs.Runs.{Runs, EndsWell, is_tty, trail_of}
-use Rattle.teco_exec.specs.Running.{Origin, Host, host, Continuation, RunGoesOn, StillFollows, ReachesContinuation, ReachesEnd, Reached, goes, over, stops, Reaches, Alike, Comes, sight, ended_at, ready_run, whole_run, now_at, ended_by, IsFinished}
+use Rattle.teco_exec.specs.Running.{Origin, Host, Continuation, RunGoesOn, StillFollows, ReachesContinuation, ReachesEnd, Reached, goes, over, stops, Reaches, Alike, Comes, sight, ended_at, ready_run, whole_run, now_at, ended_by, IsFinished}
 use Rattle.teco_exec.specs.MachineLaws.{MachineMeans}
 use Rattle.teco_exec.proofs.MachineMeans.{after_more, final_now, paid_run, paid_steps, run_ready, Stays, ready_fuel}
+
+abbrev pub host_of : State → (Trail → Type 0) → Screen → ℕ → Host
+host_of s follows w k = record { state = s; follows = follows; screen = w; steps = k }
 
 -- One piece of what a terminal shows after another.
 pub shows_nothing : (w : Screen) → Shows w w [] false
@@ -149,7 +152,7 @@ module _ (o : Origin) (h : Host) (next : Continuation) (g : RunGoesOn o h next) 
         → ReachesContinuation o h later further
     step_done later count state shows on =
         let told = trail_of o.state o.text in
-        subst (λ k. ReachesContinuation o h (host later.state later.follows later.screen k) further) (sym count) (record {
+        subst (λ k. ReachesContinuation o h (host_of later.state later.follows later.screen k) further) (sym count) (record {
           going = record {
             means = g.means;
             state = state ∙ sym (ap (λ (x : Now). x.state) now_later);
@@ -175,7 +178,7 @@ module _ (o : Origin) (h : Host) (next : Continuation) (g : RunGoesOn o h next) 
           omega arith
 
       -- memory was refused
-      pub no_memory : (w : Screen) → Shows h.screen w [] false → ReachesEnd limit o h (host new G w h.steps) (Some Mem)
+      pub no_memory : (w : Screen) → Shows h.screen w [] false → ReachesEnd limit o h (host_of new G w h.steps) (Some Mem)
       no_memory w shows = record {
         typed = (now_at o h.steps).typed;
         runs = record { before = more_steps; state = same ∙ g.state; bytes = refl };
@@ -185,7 +188,7 @@ module _ (o : Origin) (h : Host) (next : Continuation) (g : RunGoesOn o h next) 
       }
 
       -- the terminal failed in a step that types these bytes
-      pub no_terminal : (w : Screen) (front : List ℕ) → bytes ≢ [] → IsFrontOf front bytes → Shows h.screen w front true → ReachesEnd limit o h (host new G w h.steps) (Some Tty)
+      pub no_terminal : (w : Screen) (front : List ℕ) → bytes ≢ [] → IsFrontOf front bytes → Shows h.screen w front true → ReachesEnd limit o h (host_of new G w h.steps) (Some Tty)
       no_terminal w front some part shows =
           let typed = (now_at o h.steps).typed in
           let typed_on : (now_at o (h.steps + 1)).typed ≡ typed ++ bytes = ap (λ (x : Now). x.typed) now_later in

@@ -32,11 +32,11 @@ use Rattle.teco_step.specs.declared.next.Next.{Next}
 use Rattle.teco_step.specs.declared.next.Next.TheVariants as next
 use Rattle.teco_step.specs.Laws.{CallsByCalls}
 use Rattle.teco_terminal.specs.Terminal.{Screen}
-use Rattle.teco_exec.specs.Running.{Origin, Host, host, Continuation, RunGoesOn, ReachesContinuation, ReachesEnd, Reached, Reaches, over, Alike, Comes, sight, ready_run, config, at_call, at_register_call, at_token, at_block_step, reached_by_flow, FlowFinishes}
+use Rattle.teco_exec.specs.Running.{Origin, Host, Continuation, RunGoesOn, ReachesContinuation, ReachesEnd, Reached, Reaches, over, Alike, Comes, sight, ready_run, config, at_call, at_register_call, at_token, at_block_step, reached_by_flow, FlowFinishes}
 use Rattle.teco_exec.specs.declared.flow.Flow.{Flow}
 use Rattle.teco_exec.specs.declared.flow.Flow.TheVariants.{On, Call, Return, Over, Fail, Stop}
 use Rattle.teco_exec.specs.declared.moves.BlockStep.{BlockStep}
-use Rattle.teco_exec.proofs.Going.{alike, also, limit_ends, EndsByItself, Pays, advanced, since, settles, step_done, no_memory, no_terminal, shows_nothing}
+use Rattle.teco_exec.proofs.Going.{alike, also, host_of, limit_ends, EndsByItself, Pays, advanced, since, settles, step_done, no_memory, no_terminal, shows_nothing}
 use Rattle.teco_exec.proofs.MachineMeans.{going_now, resumed_now, Stays, arrives_stays, halted, halts_nowhere, run_ready}
 use Rattle.teco_exec.specs.declared.flow.Progress.{Progress}
 use Rattle.teco_exec.specs.declared.flow.Progress.TheVariants.{Further, Done}
@@ -133,17 +133,17 @@ module _ (c : Cursor) (token : Token) (work : Option Work) (callers : List Calle
       took_so b e u f = subst (λ b. G (elim b [ true ↦ u | false ↦ moved u (effect_in h.state).load ])) e (took u f)
 
       -- it was begun and not done
-      pub token_fails : (code : Code) → n ≡ next.Error code → is_unfinished_code code ≡ true → Steps (effect_in h.state) name (at h.state (arguments c.args) h.screen) (at new (arguments args) w) n → ReachesEnd limit o h (host new G w h.steps) (Some code)
+      pub token_fails : (code : Code) → n ≡ next.Error code → is_unfinished_code code ≡ true → Steps (effect_in h.state) name (at h.state (arguments c.args) h.screen) (at new (arguments args) w) n → ReachesEnd limit o h (host_of new G w h.steps) (Some code)
       token_fails code e unfinished (inl done) = let x : true ≡ false = sym unfinished ∙ sym (ap is_unfinished e) ∙ done.finished in absurd cc
       token_fails code e unfinished (inr (inl lacks)) =
           let same : Mem ≡ code = let both : next.Error Mem ≡ next.Error code = sym lacks.code ∙ e in cc in
           let d = effect_in h.state in
-          subst (λ k. ReachesEnd limit o h (host new G w h.steps) (Some k)) same
+          subst (λ k. ReachesEnd limit o h (host_of new G w h.steps) (Some k)) same
           (no_memory o h (at_token c token work callers) g (after_token d.arguments d.end) d.state d.typed d.load (token_pays h.state) (after_stays d.arguments d.end) limit lt new lacks.state G (took_so true (ap is_unfinished e ∙ unfinished)) w lacks.shows)
       token_fails code e unfinished (inr (inr lacks)) =
           let same : Tty ≡ code = let both : next.Error Tty ≡ next.Error code = sym lacks.code ∙ e in cc in
           let d = effect_in h.state in
-          subst (λ k. ReachesEnd limit o h (host new G w h.steps) (Some k)) same
+          subst (λ k. ReachesEnd limit o h (host_of new G w h.steps) (Some k)) same
           (no_terminal o h (at_token c token work callers) g (after_token d.arguments d.end) d.state d.typed d.load (token_pays h.state) (after_stays d.arguments d.end) limit lt new lacks.state G (took_so true (ap is_unfinished e ∙ unfinished)) w lacks.front lacks.types lacks.beginning lacks.shows)
 
       finished_done : is_unfinished n ≡ false → Steps (effect_in h.state) name (at h.state (arguments c.args) h.screen) (at new (arguments args) w) n → IsDone (effect_in h.state) name (at h.state (arguments c.args) h.screen) (at new (arguments args) w) n
@@ -157,11 +157,11 @@ module _ (c : Cursor) (token : Token) (work : Option Work) (callers : List Calle
           → ((u : Trail) → G u → u.changes ≤ most_changes → steps ≡ u.steps + 1 → u.states steps ≡ new → u.load ≤ u.loads steps → H (stepped u))
           → (d : Reached) → EndsByItself d
           → ((now : Now) → Comes (ready_of (after_step_end token.modifiers (item_of_kind c.text.now token.kind) (end_of new name n) (config c.text.now (record (cursor c) { args = arguments args }) None callers now))) now d)
-          → Reaches limit o h (host same H w steps) d
+          → Reaches limit o h (host_of same H w steps) d
       token_goes f did steps count same is_same H marks d fin leads =
           let e = effect_in h.state in
           let done = finished_done f did in
-          let later : Host = host same H w steps in
+          let later : Host = host_of same H w steps in
           let to : ReachesContinuation o h later (after_token e.arguments e.end) =
           step_done o h (at_token c token work callers) g (after_token e.arguments e.end) e.state e.typed e.load (token_pays h.state) (after_stays e.arguments e.end) later count (is_same ∙ done.state) done.shows
           (λ u p none at state within. marks (moved u e.load) (took_so false f u p) (omega arith) (omega arith) (ap u.states count ∙ state ∙ sym done.state) (subst (λ k. u.load + e.load ≤ u.loads k) (sym count) within)) in
@@ -198,9 +198,9 @@ module _ (c : Cursor) (b : BlockStep) (to : ℕ) (callers : List Caller) where
       → ((u : Trail) → h.follows u → u.changes ≤ most_changes → steps ≡ u.steps + 1 → u.states steps ≡ h.state → u.load ≤ u.loads steps → G (stepped u))
       → (d : Reached) → EndsByItself d
       → ((now : Now) → Comes (ready_of (runs_or_halts (config c.text.now (cursor c) None callers now) (after_block_step (block_step_of b) (drop to c.text.now) (cursor c)))) now d)
-      → Reaches limit o h (host same G h.screen steps) d
+      → Reaches limit o h (host_of same G h.screen steps) d
   block_leads o h g limit lt steps count same is_same G eases marks d fin leads =
-      let later : Host = host same G h.screen steps in
+      let later : Host = host_of same G h.screen steps in
       let there : ReachesContinuation o h later after_block =
       step_done o h (at_block_step c b to callers) g after_block h.state [] 0 (block_pays h.state) block_stays later count is_same (shows_nothing h.screen)
       (λ u p none at state within. marks (moved u 0) (eases u p) (omega arith) (omega arith) (ap u.states count ∙ state) (subst (λ k. u.load + 0 ≤ u.loads k) (sym count) within)) in
@@ -340,9 +340,9 @@ module _ (c : Cursor) (q : ℕ) (callers : List Caller) where
   pub call_leads : (o : Origin) (h : Host) → RunGoesOn o h (at_register_call c q callers)
       → (steps : ℕ) → steps ≡ h.steps + 1 → (same : State) → same ≡ h.state → (G : Trail → Type 0) → ((u : Trail) → h.follows u → h.follows (moved u 0))
       → ((u : Trail) → h.follows u → u.changes ≤ most_changes → steps ≡ u.steps + 1 → u.states steps ≡ h.state → u.load ≤ u.loads steps → G (stepped u))
-      → (text : List ℕ) → text ≡ text_in h.state → ReachesContinuation o h (host same G h.screen steps) (at_call c text callers)
+      → (text : List ℕ) → text ≡ text_in h.state → ReachesContinuation o h (host_of same G h.screen steps) (at_call c text callers)
   call_leads o h g steps count same is_same G eases marks text is =
-      let later : Host = host same G h.screen steps in
+      let later : Host = host_of same G h.screen steps in
       subst (λ x. ReachesContinuation o h later (at_call c x callers)) (sym is)
       (step_done o h (at_register_call c q callers) g (at_call c (text_in h.state) callers) h.state [] 0 (call_pays h.state) (call_stays (text_in h.state)) later count is_same (shows_nothing h.screen)
       (λ u p none at state within. marks (moved u 0) (eases u p) (omega arith) (omega arith) (ap u.states count ∙ state) (subst (λ k. u.load + 0 ≤ u.loads k) (sym count) within)))

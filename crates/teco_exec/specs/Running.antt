@@ -9,9 +9,11 @@ use Rattle.teco_scan.specs.declared.command.RegisterCommand.TheVariants as regis
 use Rattle.teco_scan.specs.declared.token.Token.{Token}
 use Rattle.teco_store.specs.State.{State}
 use Rattle.teco_store.specs.Trail.{Trail}
+use Rattle.teco_store.specs.declared.desk.Desk.{Ghosts as DeskView}
 use Rattle.teco_step.specs.declared.next.Work.{Work}
 use Rattle.teco_step.specs.Stepping.{is_unfinished_code}
 use Rattle.teco_terminal.specs.Terminal.{Screen, Shows}
+use Rattle.teco_terminal.specs.declared.terminal.Terminal.{Ghosts as TerminalView}
 use Rattle.teco_exec.specs.Machine.{Caller, Config, Further, Machine, runs, in_called_text, after_text_end, Ready, step, block, Final, Now, ready_of, final_with_fuel, final_without_fuel, run_within, after_steps, start_config}
 use Rattle.teco_exec.specs.CursorMoves as machine
 use Rattle.teco_exec.specs.MachineLaws.{MachineMeans}
@@ -25,6 +27,7 @@ use Rattle.teco_exec.specs.declared.flow.Exit.{Exit}
 use Rattle.teco_exec.specs.declared.flow.Exit.TheVariants as exit
 use Rattle.teco_exec.specs.declared.flow.Flow.{Flow}
 use Rattle.teco_exec.specs.declared.flow.Flow.TheVariants as flow
+use Rattle.teco_exec.specs.declared.flow.Steps.{Steps}
 use Rattle.teco_exec.specs.declared.moves.BlockStep.{BlockStep}
 use Rattle.teco_exec.specs.declared.outcome.Outcome.{Outcome}
 
@@ -42,8 +45,18 @@ pub record Host : Type 1 where
   pub screen : Screen
   pub steps : ℕ
 
-abbrev pub host : State → (Trail → Type 0) → Screen → ℕ → Host
-host s follows w k = record { state = s; follows = follows; screen = w; steps = k }
+-- a desk, a terminal and the steps of a run, by what is seen of such a desk and such a terminal
+abbrev pub host : {D T : Type 0} → DeskView D → TerminalView T → D × T × Steps → Host
+host desk terminal held = record {
+  state = desk.state held.0;
+  follows = desk.follows held.0;
+  screen = terminal.screen held.1;
+  steps = held.2.done;
+}
+
+-- A screen that stands in a terminal's place is seen as it is.
+abbrev pub itself : TerminalView Screen
+itself = record { screen = λ w. w }
 
 -- The run goes on so, from the state, the bytes typed and the load by then.
 abbrev pub Continuation : Type 0
@@ -117,17 +130,24 @@ Reaches limit o before after (goes next) = ReachesContinuation o before after ne
 Reaches limit o before after (over code) = ReachesOver limit o before after code
 Reaches limit o before after (stops code) = ReachesEnd limit o before after (Some code)
 
--- From one moment to a later one a run under this limit is led from a continuation to where it then has got,
--- whatever has called the text.
-abbrev pub RunLeads : ℕ → Host → Host → (List Caller → Continuation) → (List Caller → Reached) → Type 0
-RunLeads limit before after from to = (o : Origin) (callers : List Caller)
-    → RunGoesOn o before (from callers) → Reaches limit o before after (to callers)
+-- From one moment to a later one a run is led from a continuation to where it then has got: under the limit of
+-- the later one, and whatever has called the text.
+abbrev pub RunLeads : {D T : Type 0} → DeskView D → TerminalView T → D × T × Steps → D × T × Steps
+    → (List Caller → Continuation) → (List Caller → Reached) → Type 0
+RunLeads desk terminal old new from to =
+    let before = host desk terminal old in
+    let after = host desk terminal new in
+    (o : Origin) (callers : List Caller)
+    → RunGoesOn o before (from callers) → Reaches new.2.limit o before after (to callers)
 
 -- The same, for a text at this depth of calls.
-abbrev pub RunLeadsAt : ℕ → ℕ → Host → Host → (List Caller → Continuation) → (List Caller → Reached) → Type 0
-RunLeadsAt depth limit before after from to =
+abbrev pub RunLeadsAt : {D T : Type 0} → DeskView D → TerminalView T → ℕ → D × T × Steps → D × T × Steps
+    → (List Caller → Continuation) → (List Caller → Reached) → Type 0
+RunLeadsAt desk terminal depth old new from to =
+    let before = host desk terminal old in
+    let after = host desk terminal new in
     (o : Origin) (callers : List Caller) → length callers ≡ depth
-    → RunGoesOn o before (from callers) → Reaches limit o before after (to callers)
+    → RunGoesOn o before (from callers) → Reaches new.2.limit o before after (to callers)
 
 -- what a run that is over comes to
 abbrev pub ended_at : ℕ → Now → Option Code → Final
@@ -311,6 +331,17 @@ pub record StandsSomewhere (o : Origin) (k : ℕ) (c : Cursor) (callers : List C
   pub stands : StandsAt o k there
   pub is : IsStandingAt c callers there
 
+-- A run that goes on at a cursor from this moment stood there after so many steps.
+abbrev pub HasStood : {D T : Type 0} → DeskView D → TerminalView T → D × T × Steps → Cursor → ℕ → Type 0
+HasStood desk terminal old c k = (o : Origin) (callers : List Caller)
+    → RunGoesOn o (host desk terminal old) (at_cursor c callers) → StandsSomewhere o k c callers
+
+-- One that goes on with the first step of a token stood before it.
+abbrev pub HasStoodBefore : {D T : Type 0} → DeskView D → TerminalView T → D × T × Steps → Cursor → Token → ℕ → Type 0
+HasStoodBefore desk terminal old c token k = (o : Origin) (callers : List Caller)
+    → RunGoesOn o (host desk terminal old) (at_token c token None callers)
+    → StandsAt o k (token_standing c token callers)
+
 -- The run of a whole text stands where and when it is told, inside texts that have called.
 pub record StandsWhereTold (o : Origin) (callers : List Caller) (p : Told) : Type 0 where
   pub there : Standing
@@ -326,7 +357,8 @@ Tells knows (exit.Fail code) done P = (p : Told) × knows (Some p) × (p.steps +
 Tells knows (exit.Stop code) done P = (p : Told) × knows (Some p) × (p.steps ≡ done) × P p
 
 -- From a continuation of a text at this depth of calls a run has come to stand where it is told.
-abbrev pub StandsFrom : ℕ → Host → (List Caller → Continuation) → Told → Type 0
-StandsFrom depth before from p =
+abbrev pub StandsFrom : {D T : Type 0} → DeskView D → TerminalView T → ℕ → D × T × Steps
+    → (List Caller → Continuation) → Told → Type 0
+StandsFrom desk terminal depth old from p =
     (o : Origin) (callers : List Caller) → length callers ≡ depth
-    → RunGoesOn o before (from callers) → StandsWhereTold o callers p
+    → RunGoesOn o (host desk terminal old) (from callers) → StandsWhereTold o callers p

@@ -1,11 +1,10 @@
 //! One step of a text. The commonest first bytes have a copy of the code each, which the compiler makes for just their command.
-ghost use Rattle.std.specs.Prelude.{◌≡◌, ◌<◌, ◌⊎◌, ℕ, List, Some, drop, length, IfSome};
+ghost use Rattle.std.specs.Prelude.{◌≡◌, ◌<◌, ◌⊎◌, Some, drop, length, IfSome};
 ghost use Rattle.teco_core.specs.declared.code.Code.TheVariants.{Lim};
 ghost use Rattle.teco_scan.specs.Led.{Begins};
 ghost use Rattle.teco_scan.specs.Scan.{scan};
 ghost use Rattle.teco_scan.specs.Seen.{IsFoundAt, found_in};
-ghost use Rattle.teco_exec.specs.Machine.{Caller};
-ghost use Rattle.teco_exec.specs.Running.{GoesOn, GoesQuietly, OnCall, OnLast, Origin, RunGoesOn, RunLeads, StandsSomewhere, at_cursor, reached_by_flow, host};
+ghost use Rattle.teco_exec.specs.Running.{GoesOn, GoesQuietly, HasStood, OnCall, OnLast, RunLeads, at_cursor, reached_by_flow};
 ghost use Rattle.teco_exec.specs.Tokens.{CountsSteps};
 ghost use Rattle.teco_exec.specs.Places.{IsReadAt, call_token};
 ghost use Rattle.teco_exec.specs.Quiet.{IsQuiet};
@@ -42,17 +41,13 @@ pub(crate) fn step<D: Desk, S: Stop, T: Terminal>(
     ensures advances { GoesOn result
         → (steps.old.done < steps.new.done)
         ⊎ (length (cursor_of cursor.new).left < length (cursor_of cursor.old).left) }
-    ensures leads { RunLeads steps.new.limit
-        (host (D.state desk.old) (D.follows desk.old) (T.screen term.old) steps.old.done)
-        (host (D.state desk.new) (D.follows desk.new) (T.screen term.new) steps.new.done)
+    ensures leads { RunLeads D.Desk T.Terminal (desk.old, term.old, steps.old) (desk.new, term.new, steps.new)
         (at_cursor cursor.old) (λ callers. reached_by_flow cursor.new callers result) }
     ensures quiet { IsQuiet (cursor_of cursor.old) → GoesQuietly cursor.new result }
     ensures around { OnLast result steps.new.done (λ k.
         (cursor_of cursor.new).blocks ≡ (cursor_of cursor.old).blocks) }
-    ensures stood { OnLast result steps.new.done (λ k.
-        (o : Origin) (callers : List Caller)
-        → RunGoesOn o (host (D.state desk.old) (D.follows desk.old) (T.screen term.old) steps.old.done)
-        (at_cursor cursor.old callers) → StandsSomewhere o k cursor.old callers) }
+    ensures stood { OnLast result steps.new.done
+        (HasStood D.Desk T.Terminal (desk.old, term.old, steps.old) cursor.old) }
     ensures calls { OnCall result (λ q. IsReadAt cursor.old.text.now cursor.old.at (Some (call_token q))
         (cursor_of cursor.new).left) }
 {
@@ -99,17 +94,13 @@ fn step_known<D: Desk, S: Stop, T: Terminal>(
     ensures advances { GoesOn result
         → (steps.old.done < steps.new.done)
         ⊎ (length (cursor_of cursor.new).left < length (cursor_of cursor.old).left) }
-    ensures leads { RunLeads steps.new.limit
-        (host (D.state desk.old) (D.follows desk.old) (T.screen term.old) steps.old.done)
-        (host (D.state desk.new) (D.follows desk.new) (T.screen term.new) steps.new.done)
+    ensures leads { RunLeads D.Desk T.Terminal (desk.old, term.old, steps.old) (desk.new, term.new, steps.new)
         (at_cursor cursor.old) (λ callers. reached_by_flow cursor.new callers result) }
     ensures quiet { IsQuiet (cursor_of cursor.old) → GoesQuietly cursor.new result }
     ensures around { OnLast result steps.new.done (λ k.
         (cursor_of cursor.new).blocks ≡ (cursor_of cursor.old).blocks) }
-    ensures stood { OnLast result steps.new.done (λ k.
-        (o : Origin) (callers : List Caller)
-        → RunGoesOn o (host (D.state desk.old) (D.follows desk.old) (T.screen term.old) steps.old.done)
-        (at_cursor cursor.old callers) → StandsSomewhere o k cursor.old callers) }
+    ensures stood { OnLast result steps.new.done
+        (HasStood D.Desk T.Terminal (desk.old, term.old, steps.old) cursor.old) }
     ensures calls { OnCall result (λ q. IsReadAt cursor.old.text.now cursor.old.at (Some (call_token q))
         (cursor_of cursor.new).left) }
 {
@@ -136,17 +127,13 @@ fn step_other<D: Desk, S: Stop, T: Terminal>(
     ensures advances { GoesOn result
         → (steps.old.done < steps.new.done)
         ⊎ (length (cursor_of cursor.new).left < length (cursor_of cursor.old).left) }
-    ensures leads { RunLeads steps.new.limit
-        (host (D.state desk.old) (D.follows desk.old) (T.screen term.old) steps.old.done)
-        (host (D.state desk.new) (D.follows desk.new) (T.screen term.new) steps.new.done)
+    ensures leads { RunLeads D.Desk T.Terminal (desk.old, term.old, steps.old) (desk.new, term.new, steps.new)
         (at_cursor cursor.old) (λ callers. reached_by_flow cursor.new callers result) }
     ensures quiet { IsQuiet (cursor_of cursor.old) → GoesQuietly cursor.new result }
     ensures around { OnLast result steps.new.done (λ k.
         (cursor_of cursor.new).blocks ≡ (cursor_of cursor.old).blocks) }
-    ensures stood { OnLast result steps.new.done (λ k.
-        (o : Origin) (callers : List Caller)
-        → RunGoesOn o (host (D.state desk.old) (D.follows desk.old) (T.screen term.old) steps.old.done)
-        (at_cursor cursor.old callers) → StandsSomewhere o k cursor.old callers) }
+    ensures stood { OnLast result steps.new.done
+        (HasStood D.Desk T.Terminal (desk.old, term.old, steps.old) cursor.old) }
     ensures calls { OnCall result (λ q. IsReadAt cursor.old.text.now cursor.old.at (Some (call_token q))
         (cursor_of cursor.new).left) }
 {
@@ -191,17 +178,13 @@ fn step_any<D: Desk, S: Stop, T: Terminal>(
     ensures advances { GoesOn result
         → (steps.old.done < steps.new.done)
         ⊎ (length (cursor_of cursor.new).left < length (cursor_of cursor.old).left) }
-    ensures leads { RunLeads steps.new.limit
-        (host (D.state desk.old) (D.follows desk.old) (T.screen term.old) steps.old.done)
-        (host (D.state desk.new) (D.follows desk.new) (T.screen term.new) steps.new.done)
+    ensures leads { RunLeads D.Desk T.Terminal (desk.old, term.old, steps.old) (desk.new, term.new, steps.new)
         (at_cursor cursor.old) (λ callers. reached_by_flow cursor.new callers result) }
     ensures quiet { IsQuiet (cursor_of cursor.old) → GoesQuietly cursor.new result }
     ensures around { OnLast result steps.new.done (λ k.
         (cursor_of cursor.new).blocks ≡ (cursor_of cursor.old).blocks) }
-    ensures stood { OnLast result steps.new.done (λ k.
-        (o : Origin) (callers : List Caller)
-        → RunGoesOn o (host (D.state desk.old) (D.follows desk.old) (T.screen term.old) steps.old.done)
-        (at_cursor cursor.old callers) → StandsSomewhere o k cursor.old callers) }
+    ensures stood { OnLast result steps.new.done
+        (HasStood D.Desk T.Terminal (desk.old, term.old, steps.old) cursor.old) }
     ensures calls { OnCall result (λ q. IsReadAt cursor.old.text.now cursor.old.at (Some (call_token q))
         (cursor_of cursor.new).left) }
 {

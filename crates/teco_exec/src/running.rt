@@ -7,7 +7,7 @@ ghost use Rattle.teco_scan.specs.Lists.{nodes};
 ghost use Rattle.teco_exec.specs.Places.{IsPlaceAfter, IsReadAt, Told, call_token};
 ghost use Rattle.teco_exec.specs.Telling.{IsLastPlace};
 ghost use Rattle.teco_terminal.specs.Terminal.{Shows};
-ghost use Rattle.teco_exec.specs.Running.{RunLeadsAt, StandsFrom, Tells, code_left, at_beginning, at_register_call, reached_by_exit, reached_after_call, host};
+ghost use Rattle.teco_exec.specs.Running.{RunLeadsAt, StandsFrom, Tells, code_left, at_beginning, at_register_call, reached_by_exit, reached_after_call};
 ghost use Rattle.teco_exec.specs.Tokens.{CountsSteps};
 ghost use Rattle.teco_exec.specs.View.{cursor as cursor_of};
 ghost use Rattle.teco_exec.specs.Quiet.{takes_no_memory};
@@ -191,15 +191,12 @@ fn run_text<D: Desk, S: Stop, T: Terminal, W: Watch>(
     requires { depth ≤ CALL_LIMIT }
     ensures counts { CountsSteps (S.answered stop.old) (S.answered stop.new) (result ≡ exit.Stop Lim)
         steps.old steps.new }
-    ensures leads { RunLeadsAt depth steps.new.limit
-        (host (D.state desk.old) (D.follows desk.old) (T.screen term.old) steps.old.done)
-        (host (D.state desk.new) (D.follows desk.new) (T.screen term.new) steps.new.done)
+    ensures leads { RunLeadsAt D.Desk T.Terminal depth (desk.old, term.old, steps.old) (desk.new, term.new, steps.new)
         (at_beginning (arguments args.old) text.now)
         (λ callers. reached_by_exit (arguments args.new) callers result) }
     ensures no_memory { takes_no_memory (nodes text.now) ≡ true → code_left result ≡ Some Mem → ⊥ }
     ensures told { W.knows watch.old None → Tells (W.knows watch.new) result steps.new.done
-        (StandsFrom depth
-        (host (D.state desk.old) (D.follows desk.old) (T.screen term.old) steps.old.done)
+        (StandsFrom D.Desk T.Terminal depth (desk.old, term.old, steps.old)
         (at_beginning (arguments args.old) text.now)) }
 {
     let mut room = [Block {
@@ -274,14 +271,10 @@ fn run_called<D: Desk, S: Stop, T: Terminal, W: Watch>(
     ensures counts { CountsSteps (S.answered stop.old) (S.answered stop.new) (result ≡ exit.Stop Lim)
         steps.old steps.new }
     ensures more { result ≡ exit.Return → steps.old.done < steps.new.done }
-    ensures leads { RunLeadsAt depth steps.new.limit
-        (host (D.state desk.old) (D.follows desk.old) (T.screen term.old) steps.old.done)
-        (host (D.state desk.new) (D.follows desk.new) (T.screen term.new) steps.new.done)
+    ensures leads { RunLeadsAt D.Desk T.Terminal depth (desk.old, term.old, steps.old) (desk.new, term.new, steps.new)
         (at_register_call cursor.old q) (λ callers. reached_after_call cursor.new callers result) }
     ensures told { W.knows watch.old None → Tells (W.knows watch.new) result steps.new.done
-        (StandsFrom depth
-        (host (D.state desk.old) (D.follows desk.old) (T.screen term.old) steps.old.done)
-        (at_register_call cursor.old q)) }
+        (StandsFrom D.Desk T.Terminal depth (desk.old, term.old, steps.old) (at_register_call cursor.old q)) }
 {
     if steps.are_over(stop) {
         steps.limit = steps.done;
@@ -350,14 +343,10 @@ fn run_copy<D: Desk, S: Stop, T: Terminal, W: Watch>(
     ensures counts { CountsSteps (S.answered stop.old) (S.answered stop.new) (result ≡ exit.Stop Lim)
         steps.old steps.new }
     ensures more { steps.old.done < steps.new.done }
-    ensures leads { RunLeadsAt depth steps.new.limit
-        (host (D.state desk.old) (D.follows desk.old) (T.screen term.old) steps.old.done)
-        (host (D.state desk.new) (D.follows desk.new) (T.screen term.new) steps.new.done)
+    ensures leads { RunLeadsAt D.Desk T.Terminal depth (desk.old, term.old, steps.old) (desk.new, term.new, steps.new)
         (at_register_call cursor.old q) (λ callers. reached_after_call cursor.new callers result) }
     ensures told { W.knows watch.old None → Tells (W.knows watch.new) result steps.new.done
-        (StandsFrom depth
-        (host (D.state desk.old) (D.follows desk.old) (T.screen term.old) steps.old.done)
-        (at_register_call cursor.old q)) }
+        (StandsFrom D.Desk T.Terminal depth (desk.old, term.old, steps.old) (at_register_call cursor.old q)) }
 {
     steps.count();
     desk.step_done(steps.done);

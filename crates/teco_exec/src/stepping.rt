@@ -9,7 +9,7 @@ ghost use Rattle.teco_terminal.specs.Terminal.{Screen};
 ghost use Rattle.teco_step.specs.declared.next.Next.TheVariants.{Call, Error};
 ghost use Rattle.teco_exec.specs.CursorMoves.{inside_iteration, leave_is_next};
 ghost use Rattle.teco_exec.specs.Machine.{Caller, Now, after_step_end, ready_of};
-ghost use Rattle.teco_exec.specs.Running.{FlowStays, GoesOn, GoesQuietly, OnCall, OnLast, Origin, RunGoesOn, RunLeads, StandsAt, StandsSomewhere, token_standing, at_cursor, at_block_step, at_token, config, reached_by_flow, host, Comes};
+ghost use Rattle.teco_exec.specs.Running.{Comes, FlowStays, GoesOn, GoesQuietly, HasStood, HasStoodBefore, OnCall, OnLast, RunLeads, at_block_step, at_cursor, at_token, config, itself, reached_by_flow};
 ghost use Rattle.teco_exec.specs.Tokens.{Continues, CountsSteps, OnDone, ProgressFinishes, ProgressStays, ProgressesQuietly, call_of, calls_text, looks_around, reached_by_progress};
 ghost use Rattle.teco_exec.specs.Places.{IsReadAt, call_token};
 ghost use Rattle.teco_exec.specs.Quiet.{IsQuiet, is_plain};
@@ -50,17 +50,13 @@ pub(crate) fn step_found<D: Desk, S: Stop, T: Terminal>(
     ensures advances { GoesOn result
         → (steps.old.done < steps.new.done)
         ⊎ (length (cursor_of cursor.new).left < length (cursor_of cursor.old).left) }
-    ensures leads { RunLeads steps.new.limit
-        (host (D.state desk.old) (D.follows desk.old) (T.screen term.old) steps.old.done)
-        (host (D.state desk.new) (D.follows desk.new) (T.screen term.new) steps.new.done)
+    ensures leads { RunLeads D.Desk T.Terminal (desk.old, term.old, steps.old) (desk.new, term.new, steps.new)
         (at_cursor cursor.old) (λ callers. reached_by_flow cursor.new callers result) }
     ensures quiet { IsQuiet (cursor_of cursor.old) → GoesQuietly cursor.new result }
     ensures around { OnLast result steps.new.done (λ k.
         (cursor_of cursor.new).blocks ≡ (cursor_of cursor.old).blocks) }
-    ensures stood { OnLast result steps.new.done (λ k.
-        (o : Origin) (callers : List Caller)
-        → RunGoesOn o (host (D.state desk.old) (D.follows desk.old) (T.screen term.old) steps.old.done)
-        (at_cursor cursor.old callers) → StandsSomewhere o k cursor.old callers) }
+    ensures stood { OnLast result steps.new.done
+        (HasStood D.Desk T.Terminal (desk.old, term.old, steps.old) cursor.old) }
     ensures calls { OnCall result (λ q. IsReadAt cursor.old.text.now cursor.old.at (Some (call_token q))
         (cursor_of cursor.new).left) }
 {
@@ -93,18 +89,13 @@ fn token_steps<D: Desk, S: Stop, T: Terminal>(
     ensures counts { CountsSteps (S.answered stop.old) (S.answered stop.new) (result ≡ flow.Stop Lim)
         steps.old steps.new }
     ensures more { GoesOn result → steps.old.done < steps.new.done }
-    ensures leads { RunLeads steps.new.limit
-        (host (D.state desk.old) (D.follows desk.old) (T.screen term.old) steps.old.done)
-        (host (D.state desk.new) (D.follows desk.new) (T.screen term.new) steps.new.done)
+    ensures leads { RunLeads D.Desk T.Terminal (desk.old, term.old, steps.old) (desk.new, term.new, steps.new)
         (at_token cursor.old token.now None) (λ callers. reached_by_flow cursor.new callers result) }
     ensures quiet { IsQuiet (cursor_of cursor.old) → takes_nothing_in cursor.old.text.now token.now ≡ true
         → GoesQuietly cursor.new result }
     ensures stays { FlowStays cursor.old cursor.new result }
-    ensures stood { OnLast result steps.new.done (λ k.
-        (o : Origin) (callers : List Caller)
-        → RunGoesOn o (host (D.state desk.old) (D.follows desk.old) (T.screen term.old) steps.old.done)
-        (at_token cursor.old token.now None callers)
-        → StandsAt o k (token_standing cursor.old token.now callers)) }
+    ensures stood { OnLast result steps.new.done
+        (HasStoodBefore D.Desk T.Terminal (desk.old, term.old, steps.old) cursor.old token.now) }
     ensures calls { OnCall result (λ q. token.now.kind ≡ call_of q) }
 {
     let mut work = None;
@@ -135,9 +126,7 @@ fn token_step<D: Desk, S: Stop, T: Terminal>(
     ensures counts { CountsSteps (S.answered stop.old) (S.answered stop.new)
         (result ≡ progress.Done (flow.Stop Lim)) steps.old steps.new }
     ensures more { Continues result → steps.old.done < steps.new.done }
-    ensures leads { RunLeads steps.new.limit
-        (host (D.state desk.old) (D.follows desk.old) (T.screen term.old) steps.old.done)
-        (host (D.state desk.new) (D.follows desk.new) (T.screen term.new) steps.new.done)
+    ensures leads { RunLeads D.Desk T.Terminal (desk.old, term.old, steps.old) (desk.new, term.new, steps.new)
         (at_token cursor.old token.now work)
         (λ callers. reached_by_progress cursor.new token.now callers result) }
     ensures quiet { IsQuiet (cursor_of cursor.old) → takes_nothing_in cursor.old.text.now token.now ≡ true
@@ -191,8 +180,7 @@ fn block_step<D: Desk, S: Stop>(
         steps.old steps.new }
     ensures more { GoesOn result → steps.old.done < steps.new.done }
     ensures leads { (screen : Screen)
-        → RunLeads steps.new.limit (host (D.state desk.old) (D.follows desk.old) screen steps.old.done)
-        (host (D.state desk.new) (D.follows desk.new) screen steps.new.done)
+        → RunLeads D.Desk itself (desk.old, screen, steps.old) (desk.new, screen, steps.new)
         (at_block_step cursor.old block to) (λ callers. reached_by_flow cursor.new callers result) }
     ensures stood { OnLast result steps.new.done (λ k. k ≡ steps.old.done) }
     ensures stays { FlowStays cursor.old cursor.new result }

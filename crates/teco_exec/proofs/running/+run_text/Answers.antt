@@ -96,7 +96,7 @@ pub run_text-returns-in-Over-run_called-clause-leads : goal.run_text-returns-in-
 run_text-returns-in-Over-run_called-clause-leads g t c o callers deep e =
     let there = c.running.invariant.going o callers deep e in
     let here = c.in-Call.ensures.leads o callers there.going in
-    let h = host (g.D.Desk.state c.step.new.desk) (g.D.Desk.follows c.step.new.desk) (g.T.Terminal.screen c.step.new.term) c.step.new.steps.done in
+    let h = host g.D.Desk g.T.Terminal (c.step.new.desk, c.step.new.term, c.step.new.steps) in
     let r = c.in-Over-run_called.ensures.leads o callers deep here.going in
     since c.run_called.new.steps.limit o _ h _ (over None) (λ floor p. here.follows floor (there.follows floor p)) r
 
@@ -104,7 +104,7 @@ pub run_text-returns-in-Fail-run_called-clause-leads : goal.run_text-returns-in-
 run_text-returns-in-Fail-run_called-clause-leads g t c o callers deep e =
     let there = c.running.invariant.going o callers deep e in
     let here = c.in-Call.ensures.leads o callers there.going in
-    let h = host (g.D.Desk.state c.step.new.desk) (g.D.Desk.follows c.step.new.desk) (g.T.Terminal.screen c.step.new.term) c.step.new.steps.done in
+    let h = host g.D.Desk g.T.Terminal (c.step.new.desk, c.step.new.term, c.step.new.steps) in
     let r = c.in-Fail-run_called.ensures.leads o callers deep here.going in
     since c.run_called.new.steps.limit o _ h _ (over (Some c.in-Fail-run_called.code)) (λ floor p. here.follows floor (there.follows floor p)) r
 
@@ -115,7 +115,7 @@ pub run_text-returns-in-Stop-run_called-clause-leads : goal.run_text-returns-in-
 run_text-returns-in-Stop-run_called-clause-leads g t c o callers deep e =
     let there = c.running.invariant.going o callers deep e in
     let here = c.in-Call.ensures.leads o callers there.going in
-    let h = host (g.D.Desk.state c.step.new.desk) (g.D.Desk.follows c.step.new.desk) (g.T.Terminal.screen c.step.new.term) c.step.new.steps.done in
+    let h = host g.D.Desk g.T.Terminal (c.step.new.desk, c.step.new.term, c.step.new.steps) in
     let r = c.in-Stop-run_called.ensures.leads o callers deep here.going in
     since c.run_called.new.steps.limit o _ h _ (stops c.in-Stop-run_called.code) (λ floor p. here.follows floor (there.follows floor p)) r
 
@@ -210,7 +210,7 @@ run_called-returns-in-Err-clause-told g t c knows =
 
 pub run_copy-returns-then-depth-eq-CALL_LIMIT-clause-leads : goal.run_copy-returns-then-depth-eq-CALL_LIMIT-clause-leads
 run_copy-returns-then-depth-eq-CALL_LIMIT-clause-leads g t c o callers deep e =
-    let h = host (g.D.Desk.state c.step_done.new.self) (g.D.Desk.follows c.step_done.new.self) (g.T.Terminal.screen c.args.term.now) c.count.new.self.done in
+    let h = host g.D.Desk g.T.Terminal (c.step_done.new.self, c.args.term.now, c.count.new.self) in
     let from = c.args.cursor.now in
     let there = call_leads from c.args.q callers o _ e c.count.new.self.done c.count.ensures.done (g.D.Desk.state c.step_done.new.self) c.step_done.ensures.state (g.D.Desk.follows c.step_done.new.self)
     (g.met.D.Desk.eases c.args.desk.now) c.step_done.ensures.follows c.args.called.now c.requires.copy in
@@ -233,8 +233,8 @@ pub run_copy-returns-in-Return-clause-leads : goal.run_copy-returns-in-Return-cl
 run_copy-returns-in-Return-clause-leads g t c o callers deep e =
     let from = c.args.cursor.now in
     let left = c.run_text.new.args in
-    let h = host (g.D.Desk.state c.step_done.new.self) (g.D.Desk.follows c.step_done.new.self) (g.T.Terminal.screen c.args.term.now) c.count.new.self.done in
-    let k = host (g.D.Desk.state c.run_text.new.desk) (g.D.Desk.follows c.run_text.new.desk) (g.T.Terminal.screen c.run_text.new.term) c.run_text.new.steps.done in
+    let h = host g.D.Desk g.T.Terminal (c.step_done.new.self, c.args.term.now, c.count.new.self) in
+    let k = host g.D.Desk g.T.Terminal (c.run_text.new.desk, c.run_text.new.term, c.run_text.new.steps) in
     let there = call_leads from c.args.q callers o _ e c.count.new.self.done c.count.ensures.done (g.D.Desk.state c.step_done.new.self) c.step_done.ensures.state (g.D.Desk.follows c.step_done.new.self)
     (g.met.D.Desk.eases c.args.desk.now) c.step_done.ensures.follows c.args.called.now c.requires.copy in
     let fewer : length callers < 32 = omega (arith, deep, c.requires.deep, c.if-depth-eq-CALL_LIMIT.false) in
@@ -248,8 +248,8 @@ pub run_copy-returns-in-Over-clause-leads : goal.run_copy-returns-in-Over-clause
 run_copy-returns-in-Over-clause-leads g t c o callers deep e =
     let from = c.args.cursor.now in
     let left = c.run_text.new.args in
-    let h = host (g.D.Desk.state c.step_done.new.self) (g.D.Desk.follows c.step_done.new.self) (g.T.Terminal.screen c.args.term.now) c.count.new.self.done in
-    let k = host (g.D.Desk.state c.run_text.new.desk) (g.D.Desk.follows c.run_text.new.desk) (g.T.Terminal.screen c.run_text.new.term) c.run_text.new.steps.done in
+    let h = host g.D.Desk g.T.Terminal (c.step_done.new.self, c.args.term.now, c.count.new.self) in
+    let k = host g.D.Desk g.T.Terminal (c.run_text.new.desk, c.run_text.new.term, c.run_text.new.steps) in
     let there = call_leads from c.args.q callers o _ e c.count.new.self.done c.count.ensures.done (g.D.Desk.state c.step_done.new.self) c.step_done.ensures.state (g.D.Desk.follows c.step_done.new.self)
     (g.met.D.Desk.eases c.args.desk.now) c.step_done.ensures.follows c.args.called.now c.requires.copy in
     let fewer : length callers < 32 = omega (arith, deep, c.requires.deep, c.if-depth-eq-CALL_LIMIT.false) in
@@ -263,8 +263,8 @@ pub run_copy-returns-in-Fail-clause-leads : goal.run_copy-returns-in-Fail-clause
 run_copy-returns-in-Fail-clause-leads g t c o callers deep e =
     let from = c.args.cursor.now in
     let left = c.run_text.new.args in
-    let h = host (g.D.Desk.state c.step_done.new.self) (g.D.Desk.follows c.step_done.new.self) (g.T.Terminal.screen c.args.term.now) c.count.new.self.done in
-    let k = host (g.D.Desk.state c.run_text.new.desk) (g.D.Desk.follows c.run_text.new.desk) (g.T.Terminal.screen c.run_text.new.term) c.run_text.new.steps.done in
+    let h = host g.D.Desk g.T.Terminal (c.step_done.new.self, c.args.term.now, c.count.new.self) in
+    let k = host g.D.Desk g.T.Terminal (c.run_text.new.desk, c.run_text.new.term, c.run_text.new.steps) in
     let there = call_leads from c.args.q callers o _ e c.count.new.self.done c.count.ensures.done (g.D.Desk.state c.step_done.new.self) c.step_done.ensures.state (g.D.Desk.follows c.step_done.new.self)
     (g.met.D.Desk.eases c.args.desk.now) c.step_done.ensures.follows c.args.called.now c.requires.copy in
     let fewer : length callers < 32 = omega (arith, deep, c.requires.deep, c.if-depth-eq-CALL_LIMIT.false) in
@@ -278,8 +278,8 @@ pub run_copy-returns-in-Stop-clause-leads : goal.run_copy-returns-in-Stop-clause
 run_copy-returns-in-Stop-clause-leads g t c o callers deep e =
     let from = c.args.cursor.now in
     let left = c.run_text.new.args in
-    let h = host (g.D.Desk.state c.step_done.new.self) (g.D.Desk.follows c.step_done.new.self) (g.T.Terminal.screen c.args.term.now) c.count.new.self.done in
-    let k = host (g.D.Desk.state c.run_text.new.desk) (g.D.Desk.follows c.run_text.new.desk) (g.T.Terminal.screen c.run_text.new.term) c.run_text.new.steps.done in
+    let h = host g.D.Desk g.T.Terminal (c.step_done.new.self, c.args.term.now, c.count.new.self) in
+    let k = host g.D.Desk g.T.Terminal (c.run_text.new.desk, c.run_text.new.term, c.run_text.new.steps) in
     let there = call_leads from c.args.q callers o _ e c.count.new.self.done c.count.ensures.done (g.D.Desk.state c.step_done.new.self) c.step_done.ensures.state (g.D.Desk.follows c.step_done.new.self)
     (g.met.D.Desk.eases c.args.desk.now) c.step_done.ensures.follows c.args.called.now c.requires.copy in
     let fewer : length callers < 32 = omega (arith, deep, c.requires.deep, c.if-depth-eq-CALL_LIMIT.false) in
@@ -304,7 +304,7 @@ run_copy-returns-in-Fail-clause-told g t c knows =
       more.2,
       told.2,
       λ o callers deep e.
-          let h = host (g.D.Desk.state c.step_done.new.self) (g.D.Desk.follows c.step_done.new.self) (g.T.Terminal.screen c.args.term.now) c.count.new.self.done in
+          let h = host g.D.Desk g.T.Terminal (c.step_done.new.self, c.args.term.now, c.count.new.self) in
           let there = call_leads from c.args.q callers o _ e c.count.new.self.done c.count.ensures.done (g.D.Desk.state c.step_done.new.self) c.step_done.ensures.state (g.D.Desk.follows c.step_done.new.self)
           (g.met.D.Desk.eases c.args.desk.now) c.step_done.ensures.follows c.args.called.now c.requires.copy in
           let fewer : length callers < 32 = omega (arith, deep, c.requires.deep, c.if-depth-eq-CALL_LIMIT.false) in
@@ -323,7 +323,7 @@ run_copy-returns-in-Stop-clause-told g t c knows =
       more.2,
       told.2,
       λ o callers deep e.
-          let h = host (g.D.Desk.state c.step_done.new.self) (g.D.Desk.follows c.step_done.new.self) (g.T.Terminal.screen c.args.term.now) c.count.new.self.done in
+          let h = host g.D.Desk g.T.Terminal (c.step_done.new.self, c.args.term.now, c.count.new.self) in
           let there = call_leads from c.args.q callers o _ e c.count.new.self.done c.count.ensures.done (g.D.Desk.state c.step_done.new.self) c.step_done.ensures.state (g.D.Desk.follows c.step_done.new.self)
           (g.met.D.Desk.eases c.args.desk.now) c.step_done.ensures.follows c.args.called.now c.requires.copy in
           let fewer : length callers < 32 = omega (arith, deep, c.requires.deep, c.if-depth-eq-CALL_LIMIT.false) in

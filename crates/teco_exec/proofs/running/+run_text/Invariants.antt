@@ -24,9 +24,9 @@ invariant-run_text-running g l = record {
   watch : g.W.Watch.knows l.fn.watch None → g.W.Watch.knows l.watch None;
   quiet : takes_no_memory (nodes l.text) ≡ true → IsQuiet (cursor l.cursor);
   going : (o : Origin) (callers : List Caller) → length callers ≡ l.depth
-      → RunGoesOn o (host (g.D.Desk.state l.fn.desk) (g.D.Desk.follows l.fn.desk) (g.T.Terminal.screen l.fn.term) l.fn.steps.done) (at_beginning (arguments l.fn.args) l.text callers)
-      → ReachesContinuation o (host (g.D.Desk.state l.fn.desk) (g.D.Desk.follows l.fn.desk) (g.T.Terminal.screen l.fn.term) l.fn.steps.done)
-      (host (g.D.Desk.state l.desk) (g.D.Desk.follows l.desk) (g.T.Terminal.screen l.term) l.steps.done) (at_cursor l.cursor callers);
+      → RunGoesOn o (host g.D.Desk g.T.Terminal (l.fn.desk, l.fn.term, l.fn.steps)) (at_beginning (arguments l.fn.args) l.text callers)
+      → ReachesContinuation o (host g.D.Desk g.T.Terminal (l.fn.desk, l.fn.term, l.fn.steps))
+      (host g.D.Desk g.T.Terminal (l.desk, l.term, l.steps)) (at_cursor l.cursor callers);
 }
 
 abbrev pub decreases-run_text-running : goal.decreases-run_text-running

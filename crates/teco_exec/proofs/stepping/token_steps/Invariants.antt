@@ -14,9 +14,9 @@ invariant-stepping g l = record {
   counts : CountsSteps (g.S.Stop.answered l.fn.stop) (g.S.Stop.answered l.stop) ⊥ l.fn.steps l.steps;
   quiet : IsQuiet (cursor l.fn.cursor) → takes_nothing_in l.fn.cursor.text.now l.token ≡ true → IsQuiet (cursor l.cursor);
   going : (o : Origin) (callers : List Caller)
-      → RunGoesOn o (host (g.D.Desk.state l.fn.desk) (g.D.Desk.follows l.fn.desk) (g.T.Terminal.screen l.fn.term) l.fn.steps.done) (at_token l.fn.cursor l.token None callers)
-      → ReachesContinuation o (host (g.D.Desk.state l.fn.desk) (g.D.Desk.follows l.fn.desk) (g.T.Terminal.screen l.fn.term) l.fn.steps.done)
-      (host (g.D.Desk.state l.desk) (g.D.Desk.follows l.desk) (g.T.Terminal.screen l.term) l.steps.done) (at_token l.cursor l.token l.work callers);
+      → RunGoesOn o (host g.D.Desk g.T.Terminal (l.fn.desk, l.fn.term, l.fn.steps)) (at_token l.fn.cursor l.token None callers)
+      → ReachesContinuation o (host g.D.Desk g.T.Terminal (l.fn.desk, l.fn.term, l.fn.steps))
+      (host g.D.Desk g.T.Terminal (l.desk, l.term, l.steps)) (at_token l.cursor l.token l.work callers);
 }
 
 abbrev pub decreases-stepping : goal.decreases-stepping
