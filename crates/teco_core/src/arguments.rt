@@ -167,6 +167,7 @@ impl Args {
     /// Gives a value to the level in use, to which a waiting operator or sign is applied.
     ///
     /// Answers [`Code::Arg`] after a value alone, and [`Code::Ovf`] or [`Code::Dvz`] where the operator or sign has no result.
+    #[inline(always)]
     pub fn give(&mut self, value: i32) -> Result<(), Code>
         ensures ok { OnOk result (give value (arguments self.old) ≡ Ok (arguments self.new)) }
         ensures err { IfErr result (λ code. give value (arguments self.old) ≡ Err code) }

@@ -15,9 +15,10 @@ use crate::cursor::Cursor;
 use crate::flow::{Flow, Steps};
 use crate::stepping::step_found;
 use crate::stop::Stop;
+use crate::watch::Watch;
 use teco_core::ESC;
 use teco_scan::{
-    Form, Found, bare_token, digits_token, end_found, escape_token, filler_end, lead, mark_token,
+    Form, Found, bare_token, digits_token, escape_token, filler_end, lead, mark_token,
     register_token, tag_token, test_token, text_token, token_at,
 };
 use teco_store::Desk;
@@ -27,8 +28,10 @@ use teco_terminal::Terminal;
 ///
 /// Where the limit of steps is reached, the run is over. A step that ends for want of memory, or because the terminal fails, isn't
 /// counted.
+///
+/// `W` makes a copy for each kind of run: the compiler puts the code of an arm in line only where it has one caller.
 #[inline(always)]
-pub(crate) fn step<D: Desk, S: Stop, T: Terminal>(
+pub(crate) fn step<D: Desk, S: Stop, T: Terminal, W: Watch>(
     desk: &mut D,
     cursor: &mut Cursor,
     steps: &mut Steps,
@@ -54,23 +57,20 @@ pub(crate) fn step<D: Desk, S: Stop, T: Terminal>(
     let (text, at) = (cursor.text, cursor.at);
     let from = filler_end(text, at);
     if from == text.len() {
-        let found = end_found(text, at, from);
-        return step_found(desk, cursor, &found, steps, stop, term);
+        return step_any(desk, cursor, steps, stop, term);
     }
     // What has no arm of its own takes longer, and is done as well.
     match text[from] {
-        b'0'..=b'9' => {
-            let found = digits_token(text, at, from);
-            step_found(desk, cursor, &found, steps, stop, term)
-        }
-        b'%' => step_known(desk, cursor, register_at(text, at, from), steps, stop, term),
-        b'Q' => step_known(desk, cursor, register_at(text, at, from), steps, stop, term),
-        b'U' => step_known(desk, cursor, register_at(text, at, from), steps, stop, term),
-        b'M' => step_known(desk, cursor, register_at(text, at, from), steps, stop, term),
-        b'I' => step_known(desk, cursor, text_at(text, at, from), steps, stop, term),
-        b'>' => step_known(desk, cursor, mark_at(text, at, from), steps, stop, term),
-        b'"' => step_known(desk, cursor, test_at(text, at, from), steps, stop, term),
-        ESC => step_known(desk, cursor, escape_at(text, at, from), steps, stop, term),
+        b'0'..=b'9' => step_digits::<D, S, T, W>(desk, cursor, from, steps, stop, term),
+        b'%' => step_led::<D, S, T, W, b'%'>(desk, cursor, from, steps, stop, term),
+        b'Q' => step_led::<D, S, T, W, b'Q'>(desk, cursor, from, steps, stop, term),
+        b'U' => step_led::<D, S, T, W, b'U'>(desk, cursor, from, steps, stop, term),
+        b'M' => step_led::<D, S, T, W, b'M'>(desk, cursor, from, steps, stop, term),
+        b'I' => step_led::<D, S, T, W, b'I'>(desk, cursor, from, steps, stop, term),
+        b'>' => step_led::<D, S, T, W, b'>'>(desk, cursor, from, steps, stop, term),
+        b'"' => step_led::<D, S, T, W, b'"'>(desk, cursor, from, steps, stop, term),
+        b'!' => step_led::<D, S, T, W, b'!'>(desk, cursor, from, steps, stop, term),
+        ESC => step_led::<D, S, T, W, ESC>(desk, cursor, from, steps, stop, term),
         _ => step_other(desk, cursor, from, steps, stop, term),
     }
 }
@@ -110,8 +110,76 @@ fn step_known<D: Desk, S: Stop, T: Terminal>(
     }
 }
 
+/// Does the step of a token that begins at a place, of which this is the first byte: the code is made for just its command.
+fn step_led<D: Desk, S: Stop, T: Terminal, W: Watch, const BYTE: u8>(
+    desk: &mut D,
+    cursor: &mut Cursor,
+    from: usize,
+    steps: &mut Steps,
+    stop: &mut S,
+    term: &mut T,
+) -> Flow
+    requires { Begins cursor.old.text.now cursor.old.at from }
+    ensures text { cursor.new.text ≡ cursor.old.text }
+    ensures counts { CountsSteps (S.answered stop.old) (S.answered stop.new) (result ≡ flow.Stop Lim)
+        steps.old steps.new }
+    ensures advances { GoesOn result
+        → (steps.old.done < steps.new.done)
+        ⊎ (length (cursor_of cursor.new).left < length (cursor_of cursor.old).left) }
+    ensures leads { RunLeads D.Desk T.Terminal (desk.old, term.old, steps.old) (desk.new, term.new, steps.new)
+        (at_cursor cursor.old) (λ callers. reached_by_flow cursor.new callers result) }
+    ensures quiet { IsQuiet (cursor_of cursor.old) → GoesQuietly cursor.new result }
+    ensures around { OnLast result steps.new.done (λ k.
+        (cursor_of cursor.new).blocks ≡ (cursor_of cursor.old).blocks) }
+    ensures stood { OnLast result steps.new.done
+        (HasStood D.Desk T.Terminal (desk.old, term.old, steps.old) cursor.old) }
+    ensures calls { OnCall result (λ q. IsReadAt cursor.old.text.now cursor.old.at (Some (call_token q))
+        (cursor_of cursor.new).left) }
+{
+    let (text, at) = (cursor.text, cursor.at);
+    if text[from] == BYTE {
+        let known = known_at(text, at, from);
+        return step_known(desk, cursor, known, steps, stop, term);
+    }
+    step_any(desk, cursor, steps, stop, term)
+}
+
+/// Does the step of a run of digits that begins at a place.
+fn step_digits<D: Desk, S: Stop, T: Terminal, W: Watch>(
+    desk: &mut D,
+    cursor: &mut Cursor,
+    from: usize,
+    steps: &mut Steps,
+    stop: &mut S,
+    term: &mut T,
+) -> Flow
+    requires { Begins cursor.old.text.now cursor.old.at from }
+    ensures text { cursor.new.text ≡ cursor.old.text }
+    ensures counts { CountsSteps (S.answered stop.old) (S.answered stop.new) (result ≡ flow.Stop Lim)
+        steps.old steps.new }
+    ensures advances { GoesOn result
+        → (steps.old.done < steps.new.done)
+        ⊎ (length (cursor_of cursor.new).left < length (cursor_of cursor.old).left) }
+    ensures leads { RunLeads D.Desk T.Terminal (desk.old, term.old, steps.old) (desk.new, term.new, steps.new)
+        (at_cursor cursor.old) (λ callers. reached_by_flow cursor.new callers result) }
+    ensures quiet { IsQuiet (cursor_of cursor.old) → GoesQuietly cursor.new result }
+    ensures around { OnLast result steps.new.done (λ k.
+        (cursor_of cursor.new).blocks ≡ (cursor_of cursor.old).blocks) }
+    ensures stood { OnLast result steps.new.done
+        (HasStood D.Desk T.Terminal (desk.old, term.old, steps.old) cursor.old) }
+    ensures calls { OnCall result (λ q. IsReadAt cursor.old.text.now cursor.old.at (Some (call_token q))
+        (cursor_of cursor.new).left) }
+{
+    let (text, at) = (cursor.text, cursor.at);
+    if text[from].is_ascii_digit() {
+        let found = digits_token(text, at, from);
+        return step_found(desk, cursor, &found, steps, stop, term);
+    }
+    step_any(desk, cursor, steps, stop, term)
+}
+
 /// Does the step of a token that begins at a place, by the form of the command that its first byte alone names.
-#[inline(always)]
+#[inline(never)]
 fn step_other<D: Desk, S: Stop, T: Terminal>(
     desk: &mut D,
     cursor: &mut Cursor,
@@ -192,66 +260,20 @@ fn step_any<D: Desk, S: Stop, T: Terminal>(
     step_found(desk, cursor, &found, steps, stop, term)
 }
 
-/// A command on a register, which begins at a place, where its first byte alone names it.
+/// The token that begins at a place, if its first byte alone names its command and what belongs to it follows.
 #[inline(always)]
-fn register_at(text: &[u8], at: usize, from: usize) -> Option<Found>
+fn known_at(text: &[u8], at: usize, from: usize) -> Option<Found>
     requires { Begins text.now at from }
     ensures read { IfSome result (λ found. found_in text.now found ≡ scan (drop at text.now)) }
     ensures place { IfSome result (λ found. IsFoundAt text.now at found) }
 {
     match lead(text, at, from)? {
-        Form::Register(command) => register_token(text, at, from, command),
-        _ => None,
-    }
-}
-
-/// A command with one text, in the same way.
-#[inline(always)]
-fn text_at(text: &[u8], at: usize, from: usize) -> Option<Found>
-    requires { Begins text.now at from }
-    ensures read { IfSome result (λ found. found_in text.now found ≡ scan (drop at text.now)) }
-    ensures place { IfSome result (λ found. IsFoundAt text.now at found) }
-{
-    match lead(text, at, from)? {
-        Form::Text(command, usual) => text_token(text, at, from, command, usual),
-        _ => None,
-    }
-}
-
-/// A mark of a block, in the same way.
-#[inline(always)]
-fn mark_at(text: &[u8], at: usize, from: usize) -> Option<Found>
-    requires { Begins text.now at from }
-    ensures read { IfSome result (λ found. found_in text.now found ≡ scan (drop at text.now)) }
-    ensures place { IfSome result (λ found. IsFoundAt text.now at found) }
-{
-    match lead(text, at, from)? {
+        Form::Bare(command) => Some(bare_token(text, at, from, command)),
         Form::Mark(mark) => Some(mark_token(text, at, from, mark)),
-        _ => None,
-    }
-}
-
-/// The beginning of a conditional, in the same way.
-#[inline(always)]
-fn test_at(text: &[u8], at: usize, from: usize) -> Option<Found>
-    requires { Begins text.now at from }
-    ensures read { IfSome result (λ found. found_in text.now found ≡ scan (drop at text.now)) }
-    ensures place { IfSome result (λ found. IsFoundAt text.now at found) }
-{
-    match lead(text, at, from)? {
+        Form::Register(command) => register_token(text, at, from, command),
+        Form::Text(command, usual) => text_token(text, at, from, command, usual),
+        Form::Tag => tag_token(text, at, from),
         Form::Test => test_token(text, at, from),
-        _ => None,
-    }
-}
-
-/// An escape, in the same way.
-#[inline(always)]
-fn escape_at(text: &[u8], at: usize, from: usize) -> Option<Found>
-    requires { Begins text.now at from }
-    ensures read { IfSome result (λ found. found_in text.now found ≡ scan (drop at text.now)) }
-    ensures place { IfSome result (λ found. IsFoundAt text.now at found) }
-{
-    match lead(text, at, from)? {
         Form::Escape => Some(escape_token(text, at, from)),
         _ => None,
     }

@@ -16,6 +16,7 @@ mod remembered;
 mod running;
 mod stepping;
 mod stop;
+mod texts;
 mod watch;
 
 pub use laws::{machine_laws, meaning_laws};

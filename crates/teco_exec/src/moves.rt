@@ -80,6 +80,7 @@ impl<'t> Cursor<'t> {
     }
 
     /// Passes a mark that uses no step, or tells what comes.
+    #[inline(always)]
     fn pass_mark(&mut self, mark: BlockMark, to: usize) -> Coming
         requires { to ≤ length self.old.text.now }
         ensures text { self.new.text ≡ self.old.text }

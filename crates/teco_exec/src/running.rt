@@ -1,31 +1,24 @@
 //! The run of a command string.
-ghost use Rattle.std.specs.Prelude.{◌≡◌, ◌≤◌, ◌<◌, ℕ, List, ◌+◌, ◌↔◌, IfOk, IfSome, MatchOption, Ok, Option, Some, length, true, false, None};
-ghost use Rattle.teco_core.specs.ArgumentsView.{arguments};
-ghost use Rattle.teco_core.specs.Register.{content};
+ghost use Rattle.std.specs.Prelude.{◌≡◌, ℕ, List, ◌↔◌, IfOk, IfSome, MatchOption, Ok, Some, true, false, None};
 ghost use Rattle.teco_core.specs.declared.code.Code.TheVariants.{Lim, Mem};
 ghost use Rattle.teco_scan.specs.Lists.{nodes};
-ghost use Rattle.teco_exec.specs.Places.{IsPlaceAfter, IsReadAt, Told, call_token};
+ghost use Rattle.teco_exec.specs.Places.{IsPlaceAfter, Told};
 ghost use Rattle.teco_exec.specs.Telling.{IsLastPlace};
 ghost use Rattle.teco_terminal.specs.Terminal.{Shows};
-ghost use Rattle.teco_exec.specs.Running.{RunLeadsAt, StandsFrom, Tells, code_left, at_beginning, at_register_call, reached_by_exit, reached_after_call};
-ghost use Rattle.teco_exec.specs.Tokens.{CountsSteps};
-ghost use Rattle.teco_exec.specs.View.{cursor as cursor_of};
 ghost use Rattle.teco_exec.specs.Quiet.{takes_no_memory};
 ghost use Rattle.teco_exec.specs.Runs.{Runs, RunsWithin, is_tty, trail_of};
 ghost use Rattle.teco_exec.specs.StringMeaning.{string_meaning};
 ghost use Rattle.teco_exec.specs.declared.flow.Exit.TheVariants as exit;
 
-use crate::blocks::{Block, Body};
-use crate::called::{SHORT_LIMIT, Spare, copy_short};
-use crate::cursor::Cursor;
-use crate::dispatch::step;
-use crate::flow::{Exit, Flow, Steps};
+use crate::called::Spare;
+use crate::flow::Steps;
 use crate::laws::{machine_laws, meaning_laws};
 use crate::outcome::{Outcome, Stopped};
 use crate::stop::{Never, Stop};
+use crate::texts::{EMPTY_ROOM, ROOMS, run_text};
 use crate::watch::{Unwatched, Watch, Watched};
 use std::alloc::Global;
-use teco_core::{Args, BLOCK_LIMIT, CALL_LIMIT, Code, NoMemory, Reg};
+use teco_core::Args;
 use teco_store::Desk;
 use teco_terminal::Terminal;
 
@@ -166,215 +159,12 @@ fn run_watched<D: Desk, S: Stop, T: Terminal, W: Watch>(
     let mut args = Args::new();
     let mut steps = Steps { done: 0, limit };
     let mut spare = Spare::new();
+    let mut rooms = [EMPTY_ROOM; ROOMS];
     let exit = run_text(
-        desk, text, 0, &mut args, &mut steps, &mut spare, stop, term, watch,
+        desk, text, 0, &mut args, &mut rooms, &mut steps, &mut spare, stop, term, watch,
     );
     Outcome {
         code: exit.code(),
         steps: steps.done,
-    }
-}
-
-/// Runs a text at this depth of calls, from its beginning, with these arguments. Where it returns, `args` are what it leaves.
-#[cycle(run_text)]
-fn run_text<D: Desk, S: Stop, T: Terminal, W: Watch>(
-    desk: &mut D,
-    text: &[u8],
-    depth: usize,
-    args: &mut Args,
-    steps: &mut Steps,
-    spare: &mut Spare,
-    stop: &mut S,
-    term: &mut T,
-    watch: &mut W,
-) -> Exit
-    requires { depth ≤ CALL_LIMIT }
-    ensures counts { CountsSteps (S.answered stop.old) (S.answered stop.new) (result ≡ exit.Stop Lim)
-        steps.old steps.new }
-    ensures leads { RunLeadsAt D.Desk T.Terminal depth (desk.old, term.old, steps.old) (desk.new, term.new, steps.new)
-        (at_beginning (arguments args.old) text.now)
-        (λ callers. reached_by_exit (arguments args.new) callers result) }
-    ensures no_memory { takes_no_memory (nodes text.now) ≡ true → code_left result ≡ Some Mem → ⊥ }
-    ensures told { W.knows watch.old None → Tells (W.knows watch.new) result steps.new.done
-        (StandsFrom D.Desk T.Terminal depth (desk.old, term.old, steps.old)
-        (at_beginning (arguments args.old) text.now)) }
-{
-    let mut room = [Block {
-        start: 0,
-        body: Body::Endless,
-    }; BLOCK_LIMIT];
-    let mut cursor = Cursor::begin(text, *args, &mut room);
-    'running: loop {
-        let at = cursor.at;
-        match step(desk, &mut cursor, steps, stop, term) {
-            Flow::On => continue 'running,
-            Flow::Call(q) => {
-                match run_called(
-                    desk,
-                    q,
-                    depth,
-                    &mut cursor,
-                    at,
-                    steps,
-                    spare,
-                    stop,
-                    term,
-                    watch,
-                ) {
-                    Exit::Return => continue 'running,
-                    Exit::Over => return Exit::Over,
-                    Exit::Fail(code) => return Exit::Fail(code),
-                    Exit::Stop(code) => return Exit::Stop(code),
-                }
-            }
-            Flow::Return => {
-                *args = cursor.args;
-                return Exit::Return;
-            }
-            Flow::Over => return Exit::Over,
-            Flow::Fail(code) => {
-                watch.stood(steps.done - 1, at, &cursor);
-                return Exit::Fail(code);
-            }
-            Flow::Stop(code) => {
-                watch.stood(steps.done, at, &cursor);
-                return Exit::Stop(code);
-            }
-        }
-    }
-}
-
-/// Does the step that calls the text of this register, at the cursor of a text at this depth of calls. Where the text returns, the
-/// cursor goes on.
-///
-/// A copy of it is run. A short one lies in the frame of this call. A longer one lies in the room that is spare, or memory is found for
-/// it before the step counts.
-#[cycle(run_text)]
-fn run_called<D: Desk, S: Stop, T: Terminal, W: Watch>(
-    desk: &mut D,
-    q: Reg,
-    depth: usize,
-    cursor: &mut Cursor,
-    at: usize,
-    steps: &mut Steps,
-    spare: &mut Spare,
-    stop: &mut S,
-    term: &mut T,
-    watch: &mut W,
-) -> Exit
-    requires deep { depth ≤ CALL_LIMIT }
-    requires token { IsReadAt cursor.old.text.now at (Some (call_token q))
-        (cursor_of cursor.old).left }
-    requires within { at ≤ length cursor.old.text.now }
-    ensures text { cursor.new.text ≡ cursor.old.text }
-    ensures left { (cursor_of cursor.new).left ≡ (cursor_of cursor.old).left }
-    ensures counts { CountsSteps (S.answered stop.old) (S.answered stop.new) (result ≡ exit.Stop Lim)
-        steps.old steps.new }
-    ensures more { result ≡ exit.Return → steps.old.done < steps.new.done }
-    ensures leads { RunLeadsAt D.Desk T.Terminal depth (desk.old, term.old, steps.old) (desk.new, term.new, steps.new)
-        (at_register_call cursor.old q) (λ callers. reached_after_call cursor.new callers result) }
-    ensures told { W.knows watch.old None → Tells (W.knows watch.new) result steps.new.done
-        (StandsFrom D.Desk T.Terminal depth (desk.old, term.old, steps.old) (at_register_call cursor.old q)) }
-{
-    if steps.are_over(stop) {
-        steps.limit = steps.done;
-        watch.stood(steps.done, at, cursor);
-        return Exit::Stop(Code::Lim);
-    }
-    let text = desk.registers().text(q);
-    let len = text.len();
-    if len <= SHORT_LIMIT {
-        let mut copy = [0; SHORT_LIMIT];
-        copy_short(text, &mut copy);
-        return run_copy(
-            desk,
-            q,
-            &copy[..len],
-            depth,
-            cursor,
-            at,
-            steps,
-            spare,
-            stop,
-            term,
-            watch,
-        );
-    }
-    let alloc = *desk.registers().value(q).text.allocator();
-    match spare.copy(alloc, text) {
-        Ok(copy) => {
-            let exit = run_copy(
-                desk, q, &copy, depth, cursor, at, steps, spare, stop, term, watch,
-            );
-            spare.keep(copy);
-            exit
-        }
-        Err(_) => {
-            watch.stood(steps.done, at, cursor);
-            Exit::Stop(Code::Mem)
-        }
-    }
-}
-
-/// Counts the step that calls a text of which this is a copy, and runs it.
-#[cycle(run_text)]
-fn run_copy<D: Desk, S: Stop, T: Terminal, W: Watch>(
-    desk: &mut D,
-    q: Reg,
-    called: &[u8],
-    depth: usize,
-    cursor: &mut Cursor,
-    at: usize,
-    steps: &mut Steps,
-    spare: &mut Spare,
-    stop: &mut S,
-    term: &mut T,
-    watch: &mut W,
-) -> Exit
-    requires deep { depth ≤ CALL_LIMIT }
-    requires token { IsReadAt cursor.old.text.now at (Some (call_token q))
-        (cursor_of cursor.old).left }
-    requires within { at ≤ length cursor.old.text.now }
-    requires copy { called.now ≡ (content (D.state desk.old).registers q).text }
-    requires fuel { steps.old.done < steps.old.limit }
-    requires lets { S.answered stop.old steps.old.done false }
-    ensures text { cursor.new.text ≡ cursor.old.text }
-    ensures left { (cursor_of cursor.new).left ≡ (cursor_of cursor.old).left }
-    ensures counts { CountsSteps (S.answered stop.old) (S.answered stop.new) (result ≡ exit.Stop Lim)
-        steps.old steps.new }
-    ensures more { steps.old.done < steps.new.done }
-    ensures leads { RunLeadsAt D.Desk T.Terminal depth (desk.old, term.old, steps.old) (desk.new, term.new, steps.new)
-        (at_register_call cursor.old q) (λ callers. reached_after_call cursor.new callers result) }
-    ensures told { W.knows watch.old None → Tells (W.knows watch.new) result steps.new.done
-        (StandsFrom D.Desk T.Terminal depth (desk.old, term.old, steps.old) (at_register_call cursor.old q)) }
-{
-    steps.count();
-    desk.step_done(steps.done);
-    if depth == CALL_LIMIT {
-        watch.stood(steps.done - 1, at, cursor);
-        return Exit::Fail(Code::Pdo);
-    }
-    let args = &mut cursor.args;
-    match run_text(
-        desk,
-        called,
-        depth + 1,
-        args,
-        steps,
-        spare,
-        stop,
-        term,
-        watch,
-    ) {
-        Exit::Return => Exit::Return,
-        Exit::Over => Exit::Over,
-        Exit::Fail(code) => {
-            watch.called(q, at, cursor);
-            Exit::Fail(code)
-        }
-        Exit::Stop(code) => {
-            watch.called(q, at, cursor);
-            Exit::Stop(code)
-        }
     }
 }

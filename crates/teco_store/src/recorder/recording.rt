@@ -105,6 +105,7 @@ impl Desk for Recorder {
         Ok(())
     }
 
+    #[inline(always)]
     fn set_number(&mut self, q: Reg, number: i32) -> Result<(), Refused> {
         let _index = q.index();
         self.reserve(1)?;

@@ -6,19 +6,25 @@ use Rattle.teco_exec.specs.Quiet.{IsQuiet, takes_no_memory}
 use Rattle.teco_exec.specs.View.{cursor}
 use Rattle.teco_exec.specs.Running.{ReachesContinuation, RunGoesOn, Origin, at_beginning, at_cursor, host}
 use Rattle.teco_exec.specs.Tokens.{CountsSteps}
-use Rattle.teco_exec.proofs.running.+run_text.Given as goal
+use Rattle.teco_exec.proofs.texts.+run_text.Given as goal
 
 abbrev pub decreases-run_text : goal.decreases-run_text
-decreases-run_text g l = 3 * (32 - l.depth) + 2
+decreases-run_text g l = 5 * (32 - l.depth) + 4
+
+abbrev pub decreases-run_apart : goal.decreases-run_apart
+decreases-run_apart g l = 5 * (32 - l.depth) + 3
+
+abbrev pub decreases-run_in : goal.decreases-run_in
+decreases-run_in g l = 5 * (32 - l.depth) + 2
 
 abbrev pub decreases-run_called : goal.decreases-run_called
-decreases-run_called g l = 3 * (32 - l.depth) + 1
+decreases-run_called g l = 5 * (32 - l.depth) + 1
 
 abbrev pub decreases-run_copy : goal.decreases-run_copy
-decreases-run_copy g l = 3 * (32 - l.depth)
+decreases-run_copy g l = 5 * (32 - l.depth)
 
-abbrev pub invariant-run_text-running : goal.invariant-run_text-running
-invariant-run_text-running g l = record {
+abbrev pub invariant-run_in-running : goal.invariant-run_in-running
+invariant-run_in-running g l = record {
   text : l.cursor.text.now ≡ l.text;
   counts : CountsSteps (g.S.Stop.answered l.fn.stop) (g.S.Stop.answered l.stop) ⊥ l.fn.steps l.steps;
   watch : g.W.Watch.knows l.fn.watch None → g.W.Watch.knows l.watch None;
@@ -29,5 +35,5 @@ invariant-run_text-running g l = record {
       (host g.D.Desk g.T.Terminal (l.desk, l.term, l.steps)) (at_cursor l.cursor callers);
 }
 
-abbrev pub decreases-run_text-running : goal.decreases-run_text-running
-decreases-run_text-running g l = (l.steps.limit - l.steps.done) * (length l.text + 1) + length (cursor l.cursor).left
+abbrev pub decreases-run_in-running : goal.decreases-run_in-running
+decreases-run_in-running g l = (l.steps.limit - l.steps.done) * (length l.text + 1) + length (cursor l.cursor).left

@@ -11,10 +11,10 @@ use Rattle.teco_exec.specs.declared.flow.Exit.TheVariants as ending
 use Rattle.teco_exec.proofs.Placings.{call_told_here, called_told, stood_told}
 use Rattle.teco_exec.proofs.Stepped.{call_fails, call_leads, call_unpaid, counts_none, counts_on, counts_one, counts_over, counts_so}
 use Rattle.teco_core.specs.declared.code.Code.TheVariants.{Pdo}
-use Rattle.teco_exec.proofs.running.+run_text.Goals as goal
+use Rattle.teco_exec.proofs.texts.+run_text.Goals as goal
 
-pub run_text-running-init : goal.run_text-running-init
-run_text-running-init g t c = record {
+pub run_in-running-init : goal.run_in-running-init
+run_in-running-init g t c = record {
   text = c.begin-cursor.ensures.text;
   counts = counts_none (λ k b h. h);
   watch = λ knows. knows;
@@ -22,8 +22,8 @@ run_text-running-init g t c = record {
   going = λ o callers deep e. begins o _ (arguments c.args.args.now) c.args.text.now c.begin-cursor.result callers c.begin-cursor.ensures.text c.begin-cursor.ensures.begins e;
 }
 
-pub run_text-running-smaller-in-On : goal.run_text-running-smaller-in-On
-run_text-running-smaller-in-On g t c =
+pub run_in-running-smaller-in-On : goal.run_in-running-smaller-in-On
+run_in-running-smaller-in-On g t c =
     let steps = c.step.new.steps in
     let to = c.step.new.cursor in
     let short : length (drop to.at to.text.now) ≤ length c.args.text.now =
@@ -31,8 +31,8 @@ run_text-running-smaller-in-On g t c =
     omega (arith, same, length-drop to.at to.text.now) in
     less_left steps.limit c.running.steps.limit c.running.steps.done steps.done (length c.args.text.now) (length (cursor c.running.cursor).left) (length (cursor to).left) c.in-On.ensures.counts.limit c.in-On.ensures.counts.more steps.within short (c.in-On.ensures.advances tt)
 
-pub run_text-running-preserved-in-On : goal.run_text-running-preserved-in-On
-run_text-running-preserved-in-On g t c = record {
+pub run_in-running-preserved-in-On : goal.run_in-running-preserved-in-On
+run_in-running-preserved-in-On g t c = record {
   text = ap (λ x. x.now) c.in-On.ensures.text ∙ c.running.invariant.text;
   counts = counts_on c.running.invariant.counts (counts_so (λ e. absurd cc) c.in-On.ensures.counts);
   watch = c.running.invariant.watch;
@@ -42,34 +42,34 @@ run_text-running-preserved-in-On g t c = record {
       since 0 o _ _ _ (goes (at_cursor c.step.new.cursor callers)) there.follows (c.in-On.ensures.leads o callers there.going);
 }
 
-pub run_text-returns-in-Return-clause-leads : goal.run_text-returns-in-Return-clause-leads
-run_text-returns-in-Return-clause-leads g t c o callers deep e =
+pub run_in-returns-in-Return-clause-leads : goal.run_in-returns-in-Return-clause-leads
+run_in-returns-in-Return-clause-leads g t c o callers deep e =
     let there = c.running.invariant.going o callers deep e in
     since 0 o _ _ _ (goes (at_return (arguments c.step.new.cursor.args) callers)) there.follows (c.in-Return.ensures.leads o callers there.going)
 
-pub run_text-returns-in-Over-clause-leads : goal.run_text-returns-in-Over-clause-leads
-run_text-returns-in-Over-clause-leads g t c o callers deep e =
+pub run_in-returns-in-Over-clause-leads : goal.run_in-returns-in-Over-clause-leads
+run_in-returns-in-Over-clause-leads g t c o callers deep e =
     let there = c.running.invariant.going o callers deep e in
     since c.step.new.steps.limit o _ _ _ (over None) there.follows (c.in-Over.ensures.leads o callers there.going)
 
-pub run_text-returns-in-Fail-clause-leads : goal.run_text-returns-in-Fail-clause-leads
-run_text-returns-in-Fail-clause-leads g t c o callers deep e =
+pub run_in-returns-in-Fail-clause-leads : goal.run_in-returns-in-Fail-clause-leads
+run_in-returns-in-Fail-clause-leads g t c o callers deep e =
     let there = c.running.invariant.going o callers deep e in
     since c.step.new.steps.limit o _ _ _ (over (Some c.in-Fail.code)) there.follows (c.in-Fail.ensures.leads o callers there.going)
 
-pub run_text-returns-in-Fail-clause-no_memory : goal.run_text-returns-in-Fail-clause-no_memory
-run_text-returns-in-Fail-clause-no_memory g t c h e = c.in-Fail.ensures.quiet (c.running.invariant.quiet h) e
+pub run_in-returns-in-Fail-clause-no_memory : goal.run_in-returns-in-Fail-clause-no_memory
+run_in-returns-in-Fail-clause-no_memory g t c h e = c.in-Fail.ensures.quiet (c.running.invariant.quiet h) e
 
-pub run_text-returns-in-Stop-clause-leads : goal.run_text-returns-in-Stop-clause-leads
-run_text-returns-in-Stop-clause-leads g t c o callers deep e =
+pub run_in-returns-in-Stop-clause-leads : goal.run_in-returns-in-Stop-clause-leads
+run_in-returns-in-Stop-clause-leads g t c o callers deep e =
     let there = c.running.invariant.going o callers deep e in
     since c.step.new.steps.limit o _ _ _ (stops c.in-Stop.code) there.follows (c.in-Stop.ensures.leads o callers there.going)
 
-pub run_text-returns-in-Stop-clause-no_memory : goal.run_text-returns-in-Stop-clause-no_memory
-run_text-returns-in-Stop-clause-no_memory g t c h e = c.in-Stop.ensures.quiet (c.running.invariant.quiet h) e
+pub run_in-returns-in-Stop-clause-no_memory : goal.run_in-returns-in-Stop-clause-no_memory
+run_in-returns-in-Stop-clause-no_memory g t c h e = c.in-Stop.ensures.quiet (c.running.invariant.quiet h) e
 
-pub run_text-running-smaller : goal.run_text-running-smaller
-run_text-running-smaller g t c =
+pub run_in-running-smaller : goal.run_in-running-smaller
+run_in-running-smaller g t c =
     let steps = c.run_called.new.steps in
     let to = c.step.new.cursor in
     let back = c.run_called.new.cursor in
@@ -79,8 +79,8 @@ run_text-running-smaller g t c =
     omega (arith, same, left, length-drop to.at to.text.now) in
     less_left steps.limit c.running.steps.limit c.running.steps.done steps.done (length c.args.text.now) (length (cursor c.running.cursor).left) (length (cursor back).left) (omega (arith, c.in-Call.ensures.counts.limit, c.in-Return-run_called.ensures.counts.limit)) (omega (arith, c.in-Call.ensures.counts.more, c.in-Return-run_called.ensures.counts.more)) steps.within short (inl (omega (arith, c.in-Call.ensures.counts.more, c.in-Return-run_called.ensures.more refl)))
 
-pub run_text-running-preserved : goal.run_text-running-preserved
-run_text-running-preserved g t c = record {
+pub run_in-running-preserved : goal.run_in-running-preserved
+run_in-running-preserved g t c = record {
   text = ap (λ x. x.now) (c.in-Return-run_called.ensures.text ∙ c.in-Call.ensures.text) ∙ c.running.invariant.text;
   counts = counts_on c.running.invariant.counts (counts_on (counts_so (λ e. absurd cc) c.in-Call.ensures.counts) (counts_so (λ e. absurd cc) c.in-Return-run_called.ensures.counts));
   watch = λ knows. c.in-Return-run_called.ensures.told (c.running.invariant.watch knows);
@@ -92,35 +92,35 @@ run_text-running-preserved g t c = record {
       record { going = back.going; follows = λ floor p. back.follows floor (here.follows floor (there.follows floor p)) };
 }
 
-pub run_text-returns-in-Over-run_called-clause-leads : goal.run_text-returns-in-Over-run_called-clause-leads
-run_text-returns-in-Over-run_called-clause-leads g t c o callers deep e =
+pub run_in-returns-in-Over-run_called-clause-leads : goal.run_in-returns-in-Over-run_called-clause-leads
+run_in-returns-in-Over-run_called-clause-leads g t c o callers deep e =
     let there = c.running.invariant.going o callers deep e in
     let here = c.in-Call.ensures.leads o callers there.going in
     let h = host g.D.Desk g.T.Terminal (c.step.new.desk, c.step.new.term, c.step.new.steps) in
     let r = c.in-Over-run_called.ensures.leads o callers deep here.going in
     since c.run_called.new.steps.limit o _ h _ (over None) (λ floor p. here.follows floor (there.follows floor p)) r
 
-pub run_text-returns-in-Fail-run_called-clause-leads : goal.run_text-returns-in-Fail-run_called-clause-leads
-run_text-returns-in-Fail-run_called-clause-leads g t c o callers deep e =
+pub run_in-returns-in-Fail-run_called-clause-leads : goal.run_in-returns-in-Fail-run_called-clause-leads
+run_in-returns-in-Fail-run_called-clause-leads g t c o callers deep e =
     let there = c.running.invariant.going o callers deep e in
     let here = c.in-Call.ensures.leads o callers there.going in
     let h = host g.D.Desk g.T.Terminal (c.step.new.desk, c.step.new.term, c.step.new.steps) in
     let r = c.in-Fail-run_called.ensures.leads o callers deep here.going in
     since c.run_called.new.steps.limit o _ h _ (over (Some c.in-Fail-run_called.code)) (λ floor p. here.follows floor (there.follows floor p)) r
 
-pub run_text-returns-in-Fail-run_called-clause-no_memory : goal.run_text-returns-in-Fail-run_called-clause-no_memory
-run_text-returns-in-Fail-run_called-clause-no_memory g t c h e = c.in-Call.ensures.quiet (c.running.invariant.quiet h)
+pub run_in-returns-in-Fail-run_called-clause-no_memory : goal.run_in-returns-in-Fail-run_called-clause-no_memory
+run_in-returns-in-Fail-run_called-clause-no_memory g t c h e = c.in-Call.ensures.quiet (c.running.invariant.quiet h)
 
-pub run_text-returns-in-Stop-run_called-clause-leads : goal.run_text-returns-in-Stop-run_called-clause-leads
-run_text-returns-in-Stop-run_called-clause-leads g t c o callers deep e =
+pub run_in-returns-in-Stop-run_called-clause-leads : goal.run_in-returns-in-Stop-run_called-clause-leads
+run_in-returns-in-Stop-run_called-clause-leads g t c o callers deep e =
     let there = c.running.invariant.going o callers deep e in
     let here = c.in-Call.ensures.leads o callers there.going in
     let h = host g.D.Desk g.T.Terminal (c.step.new.desk, c.step.new.term, c.step.new.steps) in
     let r = c.in-Stop-run_called.ensures.leads o callers deep here.going in
     since c.run_called.new.steps.limit o _ h _ (stops c.in-Stop-run_called.code) (λ floor p. here.follows floor (there.follows floor p)) r
 
-pub run_text-returns-in-Stop-run_called-clause-no_memory : goal.run_text-returns-in-Stop-run_called-clause-no_memory
-run_text-returns-in-Stop-run_called-clause-no_memory g t c h e = c.in-Call.ensures.quiet (c.running.invariant.quiet h)
+pub run_in-returns-in-Stop-run_called-clause-no_memory : goal.run_in-returns-in-Stop-run_called-clause-no_memory
+run_in-returns-in-Stop-run_called-clause-no_memory g t c h e = c.in-Call.ensures.quiet (c.running.invariant.quiet h)
 
 pub run_called-returns-then-are_over-clause-leads : goal.run_called-returns-then-are_over-clause-leads
 run_called-returns-then-are_over-clause-leads g t c o callers deep e =
@@ -130,17 +130,17 @@ pub run_called-returns-in-Err-clause-leads : goal.run_called-returns-in-Err-clau
 run_called-returns-in-Err-clause-leads g t c o callers deep e =
     call_fails c.args.cursor.now c.args.q callers o _ e c.args.steps.now.limit (c.are_over.ensures.left c.if-are_over.false)
 
-pub run_text-returns-in-Return-clause-told : goal.run_text-returns-in-Return-clause-told
-run_text-returns-in-Return-clause-told g t c knows = c.running.invariant.watch knows
+pub run_in-returns-in-Return-clause-told : goal.run_in-returns-in-Return-clause-told
+run_in-returns-in-Return-clause-told g t c knows = c.running.invariant.watch knows
 
-pub run_text-returns-in-Over-clause-told : goal.run_text-returns-in-Over-clause-told
-run_text-returns-in-Over-clause-told g t c knows = c.running.invariant.watch knows
+pub run_in-returns-in-Over-clause-told : goal.run_in-returns-in-Over-clause-told
+run_in-returns-in-Over-clause-told g t c knows = c.running.invariant.watch knows
 
-pub run_text-returns-in-Over-run_called-clause-told : goal.run_text-returns-in-Over-run_called-clause-told
-run_text-returns-in-Over-run_called-clause-told g t c knows = c.in-Over-run_called.ensures.told (c.running.invariant.watch knows)
+pub run_in-returns-in-Over-run_called-clause-told : goal.run_in-returns-in-Over-run_called-clause-told
+run_in-returns-in-Over-run_called-clause-told g t c knows = c.in-Over-run_called.ensures.told (c.running.invariant.watch knows)
 
-pub run_text-returns-in-Fail-run_called-clause-told : goal.run_text-returns-in-Fail-run_called-clause-told
-run_text-returns-in-Fail-run_called-clause-told g t c knows =
+pub run_in-returns-in-Fail-run_called-clause-told : goal.run_in-returns-in-Fail-run_called-clause-told
+run_in-returns-in-Fail-run_called-clause-told g t c knows =
     let told = c.in-Fail-run_called.ensures.told (c.running.invariant.watch knows) in (
       told.0,
       told.1,
@@ -151,8 +151,8 @@ run_text-returns-in-Fail-run_called-clause-told g t c knows =
           told.3 o callers deep here.going,
     )
 
-pub run_text-returns-in-Stop-run_called-clause-told : goal.run_text-returns-in-Stop-run_called-clause-told
-run_text-returns-in-Stop-run_called-clause-told g t c knows =
+pub run_in-returns-in-Stop-run_called-clause-told : goal.run_in-returns-in-Stop-run_called-clause-told
+run_in-returns-in-Stop-run_called-clause-told g t c knows =
     let told = c.in-Stop-run_called.ensures.told (c.running.invariant.watch knows) in (
       told.0,
       told.1,
@@ -163,8 +163,8 @@ run_text-returns-in-Stop-run_called-clause-told g t c knows =
           told.3 o callers deep here.going,
     )
 
-pub run_text-returns-in-Fail-clause-told : goal.run_text-returns-in-Fail-clause-told
-run_text-returns-in-Fail-clause-told g t c knows =
+pub run_in-returns-in-Fail-clause-told : goal.run_in-returns-in-Fail-clause-told
+run_in-returns-in-Fail-clause-told g t c knows =
     let told = c.stood.ensures (c.running.invariant.watch knows) in
     let done = c.step.new.steps.done in (
       told_here (done - 1) c.step.new.cursor.text.now told.0 (cursor c.step.new.cursor).blocks,
@@ -176,8 +176,8 @@ run_text-returns-in-Fail-clause-told g t c knows =
           (c.in-Fail.ensures.stood.1 o callers there.going) c.in-Fail.ensures.text c.in-Fail.ensures.around.1 told.1,
     )
 
-pub run_text-returns-in-Stop-clause-told : goal.run_text-returns-in-Stop-clause-told
-run_text-returns-in-Stop-clause-told g t c knows =
+pub run_in-returns-in-Stop-clause-told : goal.run_in-returns-in-Stop-clause-told
+run_in-returns-in-Stop-clause-told g t c knows =
     let told = c.stood-in-Stop.ensures (c.running.invariant.watch knows) in (
       told_here c.step.new.steps.done c.step.new.cursor.text.now told.0 (cursor c.step.new.cursor).blocks,
       told.2,
@@ -333,42 +333,42 @@ run_copy-returns-in-Stop-clause-told g t c knows =
           (told.3 o (caller from ∷ callers) deeper into.going) c.requires.token more.1,
     )
 
-pub run_text-run_called-requires : goal.run_text-run_called-requires
-run_text-run_called-requires g t c =
+pub run_in-run_called-requires : goal.run_in-run_called-requires
+run_in-run_called-requires g t c =
     let to = c.step.new.cursor in
     let token : IsReadAt to.text.now c.running.cursor.at (Some (call_token c.in-Call.q)) (cursor to).left =
     subst (λ x. IsReadAt x.now c.running.cursor.at (Some (call_token c.in-Call.q)) (cursor to).left) (sym c.in-Call.ensures.text) c.in-Call.ensures.calls in
     let within : c.running.cursor.at ≤ length to.text.now = subst (λ x. c.running.cursor.at ≤ length x.now) (sym c.in-Call.ensures.text) c.running.cursor.within in
     search rules
 
-pub run_text-stood-requires : goal.run_text-stood-requires
-run_text-stood-requires g t c = subst (λ x. c.running.cursor.at ≤ length x.now) (sym c.in-Fail.ensures.text) c.running.cursor.within
+pub run_in-stood-requires : goal.run_in-stood-requires
+run_in-stood-requires g t c = subst (λ x. c.running.cursor.at ≤ length x.now) (sym c.in-Fail.ensures.text) c.running.cursor.within
 
-pub run_text-stood-requires-in-Stop : goal.run_text-stood-requires-in-Stop
-run_text-stood-requires-in-Stop g t c = subst (λ x. c.running.cursor.at ≤ length x.now) (sym c.in-Stop.ensures.text) c.running.cursor.within
+pub run_in-stood-requires-in-Stop : goal.run_in-stood-requires-in-Stop
+run_in-stood-requires-in-Stop g t c = subst (λ x. c.running.cursor.at ≤ length x.now) (sym c.in-Stop.ensures.text) c.running.cursor.within
 
-pub run_text-returns-in-Return-clause-counts : goal.run_text-returns-in-Return-clause-counts
-run_text-returns-in-Return-clause-counts g t c = counts_on c.running.invariant.counts (counts_so (λ e. absurd cc) c.in-Return.ensures.counts)
+pub run_in-returns-in-Return-clause-counts : goal.run_in-returns-in-Return-clause-counts
+run_in-returns-in-Return-clause-counts g t c = counts_on c.running.invariant.counts (counts_so (λ e. absurd cc) c.in-Return.ensures.counts)
 
-pub run_text-returns-in-Over-clause-counts : goal.run_text-returns-in-Over-clause-counts
-run_text-returns-in-Over-clause-counts g t c = counts_on c.running.invariant.counts (counts_so (λ e. absurd cc) c.in-Over.ensures.counts)
+pub run_in-returns-in-Over-clause-counts : goal.run_in-returns-in-Over-clause-counts
+run_in-returns-in-Over-clause-counts g t c = counts_on c.running.invariant.counts (counts_so (λ e. absurd cc) c.in-Over.ensures.counts)
 
-pub run_text-returns-in-Fail-clause-counts : goal.run_text-returns-in-Fail-clause-counts
-run_text-returns-in-Fail-clause-counts g t c = counts_on c.running.invariant.counts (counts_so (λ e. absurd cc) c.in-Fail.ensures.counts)
+pub run_in-returns-in-Fail-clause-counts : goal.run_in-returns-in-Fail-clause-counts
+run_in-returns-in-Fail-clause-counts g t c = counts_on c.running.invariant.counts (counts_so (λ e. absurd cc) c.in-Fail.ensures.counts)
 
-pub run_text-returns-in-Stop-clause-counts : goal.run_text-returns-in-Stop-clause-counts
-run_text-returns-in-Stop-clause-counts g t c = counts_on c.running.invariant.counts (counts_so (λ e. cc) c.in-Stop.ensures.counts)
+pub run_in-returns-in-Stop-clause-counts : goal.run_in-returns-in-Stop-clause-counts
+run_in-returns-in-Stop-clause-counts g t c = counts_on c.running.invariant.counts (counts_so (λ e. cc) c.in-Stop.ensures.counts)
 
-pub run_text-returns-in-Over-run_called-clause-counts : goal.run_text-returns-in-Over-run_called-clause-counts
-run_text-returns-in-Over-run_called-clause-counts g t c =
+pub run_in-returns-in-Over-run_called-clause-counts : goal.run_in-returns-in-Over-run_called-clause-counts
+run_in-returns-in-Over-run_called-clause-counts g t c =
     counts_on c.running.invariant.counts (counts_on (counts_so (λ e. absurd cc) c.in-Call.ensures.counts) (counts_so (λ e. absurd cc) c.in-Over-run_called.ensures.counts))
 
-pub run_text-returns-in-Fail-run_called-clause-counts : goal.run_text-returns-in-Fail-run_called-clause-counts
-run_text-returns-in-Fail-run_called-clause-counts g t c =
+pub run_in-returns-in-Fail-run_called-clause-counts : goal.run_in-returns-in-Fail-run_called-clause-counts
+run_in-returns-in-Fail-run_called-clause-counts g t c =
     counts_on c.running.invariant.counts (counts_on (counts_so (λ e. absurd cc) c.in-Call.ensures.counts) (counts_so (λ e. absurd cc) c.in-Fail-run_called.ensures.counts))
 
-pub run_text-returns-in-Stop-run_called-clause-counts : goal.run_text-returns-in-Stop-run_called-clause-counts
-run_text-returns-in-Stop-run_called-clause-counts g t c =
+pub run_in-returns-in-Stop-run_called-clause-counts : goal.run_in-returns-in-Stop-run_called-clause-counts
+run_in-returns-in-Stop-run_called-clause-counts g t c =
     counts_on c.running.invariant.counts (counts_on (counts_so (λ e. absurd cc) c.in-Call.ensures.counts) (counts_so (λ e. cc) c.in-Stop-run_called.ensures.counts))
 
 pub run_called-returns-then-are_over-clause-counts : goal.run_called-returns-then-are_over-clause-counts
