@@ -155,6 +155,7 @@ abbrev pub fault_line : List ℕ → Option ErrorKind → List ℕ
 fault_line name None = []
 fault_line name (Some why) = name ++ codes ": " ++ reason_of why ++ 10 ∷ []
 
+-- an output that is not written
 abbrev pub unwritten_line : List ℕ → List ℕ
 unwritten_line name = name ++ codes " is not written" ++ 10 ∷ []
 
@@ -193,6 +194,7 @@ pub record Hearing : Type 0 where
 abbrev pub counted : KeptSession → Telling → Telling
 counted session t = record t { texts = next_number t; place = (state_of session.editor).place }
 
+-- the lines of a listener that tells any
 abbrev pub lines_by : (Telling → List ℕ) → Option Telling → List ℕ
 lines_by lines None = []
 lines_by lines (Some t) = lines t
