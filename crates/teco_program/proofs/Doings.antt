@@ -8,6 +8,7 @@ use Rattle.teco_files.specs.declared.input.InputFault.TheVariants as input
 use Rattle.teco_line.specs.declared.line.Line.{Line}
 use Rattle.teco_line.specs.StreamNames.{is_standard_output}
 use Rattle.teco_terminal.specs.Terminal.{Screen}
+use Rattle.teco_program.proofs.Writings.{adds_same}
 use Rattle.teco_program.specs.Writing.{IsPut}
 use Rattle.teco_program.specs.Ending.{fate_without_input, output_of}
 use Rattle.teco_program.specs.Seen.{CommandsSeen, DiskSeen, InputSeen, OutputSeen, RunSeen, SourceView, TerminalSeen, run_seen, terminal_seen}
@@ -290,6 +291,18 @@ failed_write run output LargeInput is s f = absurd (no_other is (λ e. cc) (λ e
 failed_write run output Changed is s f = absurd (no_other is (λ e. cc) (λ e. cc))
 failed_write run output Unchanged is s f = absurd (no_other is (λ e. cc) (λ e. cc))
 failed_write run output (Ended end) is s f = absurd (no_other is (λ e. cc) (λ e. cc))
+
+-- A look at the disk that failed after an exit.
+pub failed_look : {I : Type 0} {old mid : DiskSeen I} → KeepsDisk old mid → (name output : List ℕ) (fate : Fate) {error : Error} → IsFateOf error NoOutput fate → mid.gave error
+    → FailsToWrite old mid name output fate
+failed_look kept name output fate {error} is gave = record {
+  files = adds_same name kept.files;
+  streams = λ other apart. ap (λ (streams : Files). streams other) kept.streams;
+  moments = λ before told files left. inl (kept.moments files left);
+  error = error;
+  given = inl gave;
+  fate_is = is;
+}
 
 -- Where no read of the commands can fail, no run ends by a failed read.
 reads_to : {I T : Type 0} (line : Line) (to : List ℕ) (run : RunSeen I T) (b : Bool) → ((bytes : List ℕ) → run.commands.gave bytes true → ⊥)

@@ -14,3 +14,4 @@ pub mod Run
 pub mod Sources
 pub mod Checks
 pub mod Runs
+pub mod Explaining

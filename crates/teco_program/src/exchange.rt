@@ -1,7 +1,8 @@
 //! One text of the stream: what it asks is done, and the answers are shown.
-ghost use Rattle.std.specs.Prelude.{◌≡◌, ◌≢◌, ℕ, List, [], ◌&&◌, not, None, true, false, OnErr};
+ghost use Rattle.std.specs.Prelude.{◌≡◌, ◌≢◌, ℕ, List, [], ◌&&◌, not, None, true, false, OnErr, OnOk};
 ghost use Rattle.teco_program.specs.Cut.{value_of};
 ghost use Rattle.teco_program.specs.Exchange.{Does, Exchange, HasRung, MovesInHistory, Repeats, RunsAllowed, allowance, is_exit, is_run};
+ghost use Rattle.teco_program.specs.Explaining.{HasTold, counted, move_lines, run_lines};
 ghost use Rattle.teco_program.specs.Held.{ExchangeEnds, IsExchange};
 ghost use Rattle.teco_program.specs.Message.{code_line, message, replies_shown, star};
 ghost use Rattle.teco_program.specs.Stream.Asks.{Run};
@@ -48,6 +49,8 @@ fn show_ending<T: Terminal, L: Listens>(
     term: &mut T,
     listener: &mut L,
 ) -> Result<(), TerminalFault>
+    ensures heard { OnOk result (HasTold (L.hearing listener.old) (L.hearing listener.new)
+        (λ telling. run_lines telling text.now answered.now session.now) (counted session.now)) }
     ensures puts { Puts (T.screen term.old) (T.screen term.new) (message answered.now.answer) result }
     ensures some { OnErr result (message answered.now.answer ≢ []) }
 {
@@ -65,6 +68,8 @@ fn show_refusal<T: Terminal, L: Listens>(
     term: &mut T,
     listener: &mut L,
 ) -> Result<(), TerminalFault>
+    ensures heard { OnOk result (HasTold (L.hearing listener.old) (L.hearing listener.new)
+        (λ telling. move_lines telling (answer_code answer) session.now) (counted session.now)) }
     ensures puts { Puts (T.screen term.old) (T.screen term.new) (message answer) result }
     ensures some { OnErr result (message answer ≢ []) }
 {

@@ -6,6 +6,7 @@ mod checking;
 mod comparing;
 mod editing;
 mod exchange;
+mod explaining;
 mod fate;
 mod listener;
 mod output;

@@ -1,10 +1,35 @@
+use Rattle.std.proofs.Common.{refl}
 use Rattle.std.specs.Prelude.{⊤}
 use Rattle.teco_program.specs.Writing.{both}
 use Rattle.teco_program.specs.declared.served.Served.TheVariants.{Exit}
-use Rattle.teco_program.specs.Run.{KeepsDisk}
+use Rattle.teco_program.specs.Run.{KeepsDisk, doings_after, named_output}
 use Rattle.teco_program.specs.Seen.{disk_seen, source_view}
-use Rattle.teco_program.proofs.Doings.{after_look, ends_so, keeps_after}
+use Rattle.teco_program.proofs.Doings.{after_look, ends_so, failed_look, failed_write, keeps_after}
 use Rattle.teco_program.proofs.editing.put_in_place.Goals as goal
+
+pub returns-in-Ok-false : goal.returns-in-Ok-false
+returns-in-Ok-false g c = (
+  both c.args.output,
+  (refl, refl),
+  (tt, c.in-Ok-false.ensures.told c.in-Ok-false.field-0-test),
+  record {
+    files = c.is_as_read.ensures.files;
+    streams = c.is_as_read.ensures.streams;
+    moments = c.is_as_read.ensures.moments;
+  },
+)
+
+pub returns-in-Err : goal.returns-in-Err
+returns-in-Err g c =
+    let seen = disk_seen g.D.Disk.files g.D.Disk.streams g.D.Disk.left g.D.Disk.gave g.D.Disk.changed
+    (source_view g.D.Input.Source.coming g.D.Input.Source.bound g.D.Input.Source.failures g.D.Input.Source.ended) in
+    let looked : KeepsDisk (seen c.args.disk.now) (seen c.is_as_read.new.self) = record {
+      files = c.is_as_read.ensures.files;
+      streams = c.is_as_read.ensures.streams;
+      moments = c.is_as_read.ensures.moments;
+    } in
+    failed_write (doings_after Exit (both c.args.output) ⊤ (named_output (seen c.args.disk.now) (seen c.is_as_read.new.self) c.args.name.now)) (both c.args.output) c.fate_of.result c.fate_of.ensures (refl, refl)
+    (failed_look looked c.args.name.now (both c.args.output) c.fate_of.result c.fate_of.ensures c.in-Err.ensures.error)
 
 pub returns : goal.returns
 returns g c =

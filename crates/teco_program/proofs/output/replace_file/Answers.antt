@@ -3,9 +3,30 @@ use Rattle.std.proofs.lemmas.Result.{on_err_weaker}
 use Rattle.teco_files.specs.Disk.{Changes, LeavesFiles}
 use Rattle.teco_program.specs.Writing.{AddsDrafts}
 use Rattle.teco_program.specs.Draft.{draft_beside}
-use Rattle.teco_program.proofs.Writings.{adds_more, passes_more}
+use Rattle.teco_program.proofs.Writings.{adds_more, on_err_by, passes_more}
 use Rattle.teco_program.proofs.output.replace_file.Goals as goal
 use Rattle.teco_program.proofs.output.replace_file.Goals.{in_default-via-in-Err+else-eq, in_default-via-in-Ok-1}
+
+pub returns-in_err-draft-clause-err : goal.returns-in_err-draft-clause-err
+returns-in_err-draft-clause-err g c = on_err_by c.from_residual.result c.drafts.invariant.adds
+
+pub returns-in_err-draft-clause-streams : goal.returns-in_err-draft-clause-streams
+returns-in_err-draft-clause-streams g c = c.drafts.invariant.streams
+
+pub returns-in_err-draft-clause-moments : goal.returns-in_err-draft-clause-moments
+returns-in_err-draft-clause-moments g c = c.drafts.invariant.moments
+
+pub returns-in_default-clause-streams : goal.returns-in_default-clause-streams
+returns-in_default-clause-streams g c = c.replace.ensures.streams ∙ c.drafts.invariant.streams
+
+pub returns-clause-err : goal.returns-clause-err
+returns-clause-err g c = c.drafts.invariant.adds
+
+pub returns-clause-streams : goal.returns-clause-streams
+returns-clause-streams g c = c.drafts.invariant.streams
+
+pub returns-clause-moments : goal.returns-clause-moments
+returns-clause-moments g c = c.drafts.invariant.moments
 
 pub returns-in_default-clause-err : goal.returns-in_default-clause-err
 returns-in_default-clause-err g c =

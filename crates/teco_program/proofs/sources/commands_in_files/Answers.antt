@@ -8,6 +8,18 @@ use Rattle.teco_program.proofs.CommandSources.{faulty_file, one_source_more, pas
 use Rattle.teco_program.proofs.Doings.{keeps_after}
 use Rattle.teco_program.proofs.sources.commands_in_files.Goals as goal
 
+pub returns-in_err-source-clause-keeps : goal.returns-in_err-source-clause-keeps
+returns-in_err-source-clause-keeps g c = keeps_after c.loop-at.invariant.1 c.bytes_of.ensures.keeps
+
+pub returns-in_err-strings-clause-keeps : goal.returns-in_err-strings-clause-keeps
+returns-in_err-strings-clause-keeps g c = keeps_after c.loop-at.invariant.1 c.bytes_of.ensures.keeps
+
+pub returns-in_err-extend_from_slice-clause-keeps : goal.returns-in_err-extend_from_slice-clause-keeps
+returns-in_err-extend_from_slice-clause-keeps g c = keeps_after c.loop-at.invariant.1 c.bytes_of.ensures.keeps
+
+pub returns-in_err-keep-clause-keeps : goal.returns-in_err-keep-clause-keeps
+returns-in_err-keep-clause-keeps g c = keeps_after c.loop-at.invariant.1 c.bytes_of.ensures.keeps
+
 pub returns-in_err-strings-clause-fault : goal.returns-in_err-strings-clause-fault
 returns-in_err-strings-clause-fault g c =
     let source = source_view g.S.Source.coming g.S.Source.bound g.S.Source.failures g.S.Source.ended in
