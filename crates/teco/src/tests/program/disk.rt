@@ -1,6 +1,7 @@
 //! Files of the system: how an output is written whole, what a disk tells of a file, where an output goes by what its file is, and whose
 //! it is then. And what a disk in memory gave to a device.
 use crate::tests::assert_of;
+use crate::tests::bytes::are;
 use crate::tests::rows::{LINE, is_row};
 use std::alloc::Global;
 use std::io::{ErrorKind, Read};
@@ -25,7 +26,7 @@ fn writes_anew(rt: &HostRuntime, name: &str, bytes: &str) -> bool {
 
 fn holds(rt: &HostRuntime, name: &str, bytes: &str) -> bool {
     match fs::read(rt, name) {
-        Ok(read) => read.as_slice() == bytes.as_bytes(),
+        Ok(read) => are(&read, bytes.as_bytes()),
         Err(_) => false,
     }
 }
@@ -72,7 +73,7 @@ fn keeps_its_owner(rt: &HostRuntime, name: &str) -> bool {
 /// What is written to the descriptor of this number of the process comes out of the reader.
 fn gives_through(rt: &HostRuntime, name: &str, reader: &mut io::PipeReader) -> bool {
     let mut read = [0; 4];
-    writes_anew(rt, name, "abcd") && reader.read_exact(&mut read).is_ok() && &read == b"abcd"
+    writes_anew(rt, name, "abcd") && reader.read_exact(&mut read).is_ok() && are(&read, b"abcd")
 }
 
 /// A pipe is a stream, by its name among the descriptors and by a link to that.
@@ -331,7 +332,10 @@ fn writes_whole_files_and_tells_what_a_file_is(rt: HostRuntime) {
 }
 
 fn has_been_given(disk: &MemoryDisk, bytes: &[u8]) -> bool {
-    disk.given("dev") == Some(bytes) && disk.has_only(&[])
+    match disk.given("dev") {
+        Some(given) => are(given, bytes) && disk.has_only(&[]),
+        None => false,
+    }
 }
 
 /// A device is given one output after another, and no file is made.
