@@ -21,6 +21,14 @@ pub(crate) fn are(bytes: &[u8], wanted: &[u8]) -> bool {
     bytes == wanted
 }
 
+/// Whether there are bytes, and they are these.
+pub(crate) fn are_there(found: Option<&[u8]>, wanted: &[u8]) -> bool {
+    match found {
+        Some(bytes) => are(bytes, wanted),
+        None => false,
+    }
+}
+
 /// Whether a text is this.
 pub(crate) fn is(text: &str, wanted: &str) -> bool {
     text == wanted

@@ -1,7 +1,7 @@
 //! Of teco_program: its parts, and runs of the whole program over files in memory; what it says of files of the system that it cannot
 //! read or write.
 use super::assert_of;
-use super::bytes::{are, is_typed, joined};
+use super::bytes::{are_there, is_typed, joined};
 use std::alloc::Global;
 use std::cell::Cell;
 use std::io;
@@ -127,11 +127,7 @@ fn disk_with(alloc: Global, files: Files, refused: Refused) -> Result<MemoryDisk
 fn has_just(disk: &MemoryDisk, files: Files) -> bool {
     let mut held = disk.has_only(files);
     for (name, bytes) in files {
-        held = held
-            && match disk.bytes(name) {
-                Some(found) => are(found, bytes.as_bytes()),
-                None => false,
-            };
+        held = held && are_there(disk.bytes(name), bytes.as_bytes());
     }
     held
 }

@@ -1,7 +1,7 @@
 //! Files of the system: how an output is written whole, what a disk tells of a file, where an output goes by what its file is, and whose
 //! it is then. And what a disk in memory gave to a device.
 use crate::tests::assert_of;
-use crate::tests::bytes::are;
+use crate::tests::bytes::{are, are_there, is};
 use crate::tests::rows::{LINE, is_row};
 use std::alloc::Global;
 use std::io::{ErrorKind, Read};
@@ -131,13 +131,14 @@ fn does(rt: &HostRuntime, verb: &str, name: &str, value: &str) -> Option<bool> {
 
 /// Whether the last call of a disk that failed did so by this.
 fn failed_by(why: Option<ErrorKind>, kind: &str) -> bool {
-    match why {
-        None => kind == "nothing",
-        Some(ErrorKind::NotFound) => kind == "NotFound",
-        Some(ErrorKind::IsADirectory) => kind == "IsADirectory",
-        Some(ErrorKind::NotADirectory) => kind == "NotADirectory",
-        Some(_) => false,
-    }
+    let name = match why {
+        None => "nothing",
+        Some(ErrorKind::NotFound) => "NotFound",
+        Some(ErrorKind::IsADirectory) => "IsADirectory",
+        Some(ErrorKind::NotADirectory) => "NotADirectory",
+        Some(_) => "another",
+    };
+    is(kind, name)
 }
 
 /// What a line asks of a disk, and whether it is so; none where there is no such question.
@@ -332,10 +333,7 @@ fn writes_whole_files_and_tells_what_a_file_is(rt: HostRuntime) {
 }
 
 fn has_been_given(disk: &MemoryDisk, bytes: &[u8]) -> bool {
-    match disk.given("dev") {
-        Some(given) => are(given, bytes) && disk.has_only(&[]),
-        None => false,
-    }
+    are_there(disk.given("dev"), bytes) && disk.has_only(&[])
 }
 
 /// A device is given one output after another, and no file is made.

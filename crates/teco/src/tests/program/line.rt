@@ -5,6 +5,7 @@ use crate::tests::bytes::is;
 use std::alloc::Global;
 use std::io;
 use std::process::Abort;
+use teco_core::NoMemory;
 use teco_line::{
     Commands, Line, LineFault, fault_of_words, is_standard_input, is_standard_output, line_of,
     not_text, refused_status,
@@ -89,15 +90,19 @@ fn is_line(line: &Line, said: &Said) -> bool {
     }
 }
 
-fn says(alloc: Global, row: &Row) -> bool {
-    let Ok(words) = words_of(alloc, row.0) else {
-        return false;
-    };
-    match (line_of(alloc, words.as_slice()), &row.1) {
+fn is_said(line: Result<Line, LineFault>, said: &Said) -> bool {
+    match (line, said) {
         (Ok(line), said) => is_line(&line, said),
         (Err(LineFault::Refused(error)), Said::Refused(status)) => refused_status(&error)
             == *status,
         _ => false,
+    }
+}
+
+fn says(alloc: Global, row: &Row) -> bool {
+    match words_of(alloc, row.0) {
+        Ok(words) => is_said(line_of(alloc, words.as_slice()), &row.1),
+        Err(NoMemory) => false,
     }
 }
 

@@ -2,6 +2,7 @@
 //! where the last strings alone are kept, and then no state before them comes back.
 use super::requests::{Over, Trial, holds_once};
 use crate::tests::bytes::{joined, put};
+use crate::tests::rows::LINE;
 use crate::tests::store::states::{is_seen, seen};
 use std::alloc::Global;
 use std::test::*;
@@ -9,72 +10,72 @@ use teco_session::{Answer, Session};
 use teco_terminal::MemoryTerminal;
 
 /// What strings are made of: edits, searches, pages and registers, a row each.
-static PARTS: [&[u8]; 64] = [
-    b"Ia\x1b",
-    b"Iab c\x1b",
-    b"I\nx\x1b",
-    b"\tq\x1b",
-    b"10I",
-    b"@I/yz/",
-    b"-12\\",
-    b"2<Ix\x1b>",
-    b"J",
-    b"ZJ",
-    b"C",
-    b"2R",
-    b"L",
-    b"-L",
-    b".=",
-    b"0TT",
-    b"D",
-    b"-2D",
-    b"K",
-    b"0K",
-    b"1,3K",
-    b"ZJGC",
-    b"1A=",
-    b"Z\"GD|Ie\x1b'",
-    b"Sa\x1b",
-    b":Sb\x1b",
-    b"-Sc\x1b",
-    b"::Sx\x1b",
-    b"S\x1b",
-    b"2Sa\x1b",
-    b"S\x0ea\x1b",
-    b"<Sx\x1b;D>",
-    b"FSa\x1bxy\x1b",
-    b":FSb\x1b\x1b",
-    b"@FS/c/dd/",
-    b"::FSa\x1bb\x1b",
-    b"0^X",
-    b"-1^X",
-    b":S\x1b=",
-    b"SA\x1b",
-    b"A",
-    b"Y",
-    b"HKY",
-    b"P",
-    b"PW",
-    b"0,1PW",
-    b"Nb\x1b",
-    b":Nq\x1b",
-    b"_c\x1b",
-    b"HK_b\x1b",
-    b"EX",
-    b"XC",
-    b"0,4XA",
-    b"GA",
-    b"GB",
-    b"^UBabc\x1b",
-    b"@^UA/Ix\x1b2%D/",
-    b"MA",
-    b"7UA",
-    b"-5%DUB",
-    b"[A",
-    b"[B",
-    b"]A",
-    b"3<]C>",
-];
+const PARTS: &str = "
+    Ia\x1b
+    Iab c\x1b
+    I\nx\x1b
+    \tq\x1b
+    10I
+    @I/yz/
+    -12\\
+    2<Ix\x1b>
+    J
+    ZJ
+    C
+    2R
+    L
+    -L
+    .=
+    0TT
+    D
+    -2D
+    K
+    0K
+    1,3K
+    ZJGC
+    1A=
+    Z\"GD|Ie\x1b'
+    Sa\x1b
+    :Sb\x1b
+    -Sc\x1b
+    ::Sx\x1b
+    S\x1b
+    2Sa\x1b
+    S\x0ea\x1b
+    <Sx\x1b;D>
+    FSa\x1bxy\x1b
+    :FSb\x1b\x1b
+    @FS/c/dd/
+    ::FSa\x1bb\x1b
+    0^X
+    -1^X
+    :S\x1b=
+    SA\x1b
+    A
+    Y
+    HKY
+    P
+    PW
+    0,1PW
+    Nb\x1b
+    :Nq\x1b
+    _c\x1b
+    HK_b\x1b
+    EX
+    XC
+    0,4XA
+    GA
+    GB
+    ^UBabc\x1b
+    @^UA/Ix\x1b2%D/
+    MA
+    7UA
+    -5%DUB
+    [A
+    [B
+    ]A
+    3<]C>
+    ";
 
 /// What was seen of a session before and after each string that it keeps, how many states those are at most, and what the next string is
 /// made by.
@@ -91,11 +92,19 @@ fn roll(seed: &mut u32) -> usize {
     (*seed >> 16) as usize
 }
 
+/// The part in this row, from 0 to 63.
+fn part(row: usize) -> &'static [u8] {
+    match PARTS.split(LINE).nth(row.saturating_add(1)) {
+        Some(part) => part.as_bytes(),
+        None => b"",
+    }
+}
+
 /// A string of one to four parts.
 fn made(alloc: Global, seed: &mut u32) -> Vec<u8> {
     let mut text = Vec::new(alloc);
     for _ in 0..=roll(seed) % 4 {
-        put(&mut text, PARTS[roll(seed) % 64]);
+        put(&mut text, part(roll(seed) % 64));
     }
     text
 }
