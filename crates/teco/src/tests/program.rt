@@ -1,7 +1,7 @@
 //! Of teco_program: its parts, and runs of the whole program over files in memory; what it says of files of the system that it cannot
 //! read or write.
 use super::assert_of;
-use super::bytes::joined;
+use super::bytes::{are_there, is_typed, joined};
 use std::alloc::Global;
 use std::cell::Cell;
 use std::io;
@@ -104,9 +104,9 @@ fn runs_on<D: Disk>(alloc: Global, disk: &mut D, run: &Run) -> bool {
         disk,
     );
     status == ExitCode::from(run.status)
-        && term.bytes() == run.typed.as_bytes()
-        && errors.bytes() == run.told.as_bytes()
-        && notes.bytes() == run.noted.as_bytes()
+        && is_typed(&term, run.typed)
+        && is_typed(&errors, run.told)
+        && is_typed(&notes, run.noted)
         && is_unread(&mut commands, run)
 }
 
@@ -127,7 +127,7 @@ fn disk_with(alloc: Global, files: Files, refused: Refused) -> Result<MemoryDisk
 fn has_just(disk: &MemoryDisk, files: Files) -> bool {
     let mut held = disk.has_only(files);
     for (name, bytes) in files {
-        held = held && disk.bytes(name) == Some(bytes.as_bytes());
+        held = held && are_there(disk.bytes(name), bytes.as_bytes());
     }
     held
 }

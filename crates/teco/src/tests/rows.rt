@@ -25,20 +25,28 @@ pub(crate) fn all_hold<R: Rule>(rt: &impl Abort, alloc: Global, rule: &R, table:
     }
 }
 
-/// Three cells, of which the last may be empty, and a fourth one if it is there.
-pub(crate) type Cells<'a> = (&'a str, &'a str, &'a str, Option<&'a str>);
-
 /// A cell without the blank that is before it.
 fn inner(cell: &str) -> &str {
     cell.strip_prefix(' ').unwrap_or(cell)
 }
 
-/// The cells of a row; none where it has but one.
-pub(crate) fn cells_of(row: &str) -> Option<Cells<'_>> {
-    let (first, rest) = row.split_once(" =>")?;
-    let (second, rest) = rest.split_once(" =>").unwrap_or((rest, ""));
-    match rest.split_once(" =>") {
-        Some((third, fourth)) => Some((first, inner(second), inner(third), Some(inner(fourth)))),
-        None => Some((first, inner(second), inner(rest), None)),
+/// Up to seven cells.
+pub(crate) type Cells<'a> = [Option<&'a str>; 7];
+
+/// The cells of a row, and none where it has no more; of more than seven the last ones are left out.
+pub(crate) fn cells_of(row: &str) -> Cells<'_> {
+    let mut cells = [None; 7];
+    let mut at = 0;
+    for part in row.split(" =>") {
+        if at < 7 {
+            cells[at] = Some(inner(part));
+            at += 1;
+        }
     }
+    cells
+}
+
+/// The number that a cell says.
+pub(crate) fn number_of(cell: &str) -> Option<u64> {
+    u64::from_str_radix(cell, 10).ok()
 }

@@ -1,12 +1,12 @@
 //! The first fault of the text where a run last stood: at the place, in what is skipped, or after it.
+use super::places::stopped;
+use crate::tests::bytes::is;
 use crate::tests::rows::{Rule, all_hold};
 use std::alloc::Global;
 use std::fmt::Write;
 use std::test::*;
 use teco_core::NoMemory;
-use teco_exec::{Stopped, run_where};
-use teco_store::Editor;
-use teco_terminal::MemoryTerminal;
+use teco_exec::Stopped;
 
 /// A text; the code by which it ends and where its run last stood; and the first fault of the text there, with the
 /// place of what opens the block in which the text ends.
@@ -69,12 +69,9 @@ fn write_told(out: &mut String, stopped: &Stopped) -> Result<(), NoMemory> {
 }
 
 fn try_row(alloc: Global, text: &str, told: &str) -> Result<bool, NoMemory> {
-    let mut editor = Editor::new(Vec::new(alloc));
-    let mut terminal = MemoryTerminal::new(alloc);
-    let stopped = run_where(&mut editor, text.as_bytes(), 1_000, &mut terminal, alloc);
     let mut out = String::new(alloc);
-    write_told(&mut out, &stopped)?;
-    Ok(out.as_str() == told)
+    write_told(&mut out, &stopped(alloc, text, 1000))?;
+    Ok(is(&out, told))
 }
 
 #[derive(Clone, Copy)]

@@ -1,6 +1,7 @@
 //! Files of the system: how an output is written whole, what a disk tells of a file, where an output goes by what its file is, and whose
 //! it is then. And what a disk in memory gave to a device.
 use crate::tests::assert_of;
+use crate::tests::bytes::{are, are_there, is};
 use crate::tests::rows::{LINE, is_row};
 use std::alloc::Global;
 use std::io::{ErrorKind, Read};
@@ -25,7 +26,7 @@ fn writes_anew(rt: &HostRuntime, name: &str, bytes: &str) -> bool {
 
 fn holds(rt: &HostRuntime, name: &str, bytes: &str) -> bool {
     match fs::read(rt, name) {
-        Ok(read) => read.as_slice() == bytes.as_bytes(),
+        Ok(read) => are(&read, bytes.as_bytes()),
         Err(_) => false,
     }
 }
@@ -72,7 +73,7 @@ fn keeps_its_owner(rt: &HostRuntime, name: &str) -> bool {
 /// What is written to the descriptor of this number of the process comes out of the reader.
 fn gives_through(rt: &HostRuntime, name: &str, reader: &mut io::PipeReader) -> bool {
     let mut read = [0; 4];
-    writes_anew(rt, name, "abcd") && reader.read_exact(&mut read).is_ok() && &read == b"abcd"
+    writes_anew(rt, name, "abcd") && reader.read_exact(&mut read).is_ok() && are(&read, b"abcd")
 }
 
 /// A pipe is a stream, by its name among the descriptors and by a link to that.
@@ -130,13 +131,14 @@ fn does(rt: &HostRuntime, verb: &str, name: &str, value: &str) -> Option<bool> {
 
 /// Whether the last call of a disk that failed did so by this.
 fn failed_by(why: Option<ErrorKind>, kind: &str) -> bool {
-    match why {
-        None => kind == "nothing",
-        Some(ErrorKind::NotFound) => kind == "NotFound",
-        Some(ErrorKind::IsADirectory) => kind == "IsADirectory",
-        Some(ErrorKind::NotADirectory) => kind == "NotADirectory",
-        Some(_) => false,
-    }
+    let name = match why {
+        None => "nothing",
+        Some(ErrorKind::NotFound) => "NotFound",
+        Some(ErrorKind::IsADirectory) => "IsADirectory",
+        Some(ErrorKind::NotADirectory) => "NotADirectory",
+        Some(_) => "another",
+    };
+    is(kind, name)
 }
 
 /// What a line asks of a disk, and whether it is so; none where there is no such question.
@@ -331,7 +333,7 @@ fn writes_whole_files_and_tells_what_a_file_is(rt: HostRuntime) {
 }
 
 fn has_been_given(disk: &MemoryDisk, bytes: &[u8]) -> bool {
-    disk.given("dev") == Some(bytes) && disk.has_only(&[])
+    are_there(disk.given("dev"), bytes) && disk.has_only(&[])
 }
 
 /// A device is given one output after another, and no file is made.

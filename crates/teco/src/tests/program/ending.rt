@@ -1,6 +1,7 @@
 //! What is said of how the program ends.
 use super::words_of;
 use crate::tests::assert_of;
+use crate::tests::bytes::is;
 use std::alloc::Global;
 use teco_core::NoMemory;
 use teco_line::{Commands, Line};
@@ -70,7 +71,7 @@ fn ends_so(alloc: Global, row: &Row) -> bool {
         ending_of(alloc, &line, "in", row.1)
     };
     match ended {
-        Ok((status, text)) => status == row.2 && text.as_str() == row.3,
+        Ok((status, text)) => status == row.2 && is(&text, row.3),
         Err(NoMemory) => false,
     }
 }

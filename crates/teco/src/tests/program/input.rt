@@ -1,5 +1,5 @@
 //! What is read of sources that end, fail, or give too much.
-use crate::tests::bytes::joined;
+use crate::tests::bytes::{are, joined};
 use std::alloc::Global;
 use teco_files::{InputFault, MemorySource, ReaderSource, Source, read_input};
 use teco_terminal::FailAfter;
@@ -9,7 +9,7 @@ type Row = (bool, usize, Option<InputFault>);
 
 fn reads<S: Source>(alloc: Global, source: &mut S, row: &Row) -> bool {
     match (read_input(alloc, source, row.1), row.2) {
-        (Ok(input), None) => input.as_slice() == b"12345678".as_slice(),
+        (Ok(input), None) => are(&input, b"12345678"),
         (Err(InputFault::Read), Some(InputFault::Read)) => true,
         (Err(InputFault::TooLarge), Some(InputFault::TooLarge)) => true,
         _ => false,

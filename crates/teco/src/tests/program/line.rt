@@ -1,9 +1,11 @@
 //! What the words of a line say.
 use super::words_of;
 use crate::tests::assert_of;
+use crate::tests::bytes::is;
 use std::alloc::Global;
 use std::io;
 use std::process::Abort;
+use teco_core::NoMemory;
 use teco_line::{
     Commands, Line, LineFault, fault_of_words, is_standard_input, is_standard_output, line_of,
     not_text, refused_status,
@@ -48,21 +50,21 @@ type Row<'a> = (&'a str, Said<'a>);
 fn are_names(names: &[String], given: &[&str]) -> bool {
     let mut held = names.len() == given.len();
     for (name, given) in names.iter().zip(given) {
-        held = held && name.as_str() == *given;
+        held = held && is(name, given);
     }
     held
 }
 
 fn is_name(name: &Option<String>, given: Option<&str>) -> bool {
     match (name, given) {
-        (Some(name), Some(given)) => name.as_str() == given,
+        (Some(name), Some(given)) => is(name, given),
         (None, None) => true,
         _ => false,
     }
 }
 
 fn is_given(line: &Line, given: &Given) -> bool {
-    line.input.as_str() == given.input
+    is(&line.input, given.input)
         && are_names(line.more.as_slice(), given.more)
         && is_name(&line.output, given.output)
         && line.in_place == given.in_place
@@ -82,21 +84,25 @@ fn is_line(line: &Line, said: &Said) -> bool {
         (Commands::Sources(names, word), Said::Sources(files, text)) => {
             are_names(names.as_slice(), files) && is_name(word, *text)
         }
-        (Commands::Pages(text), Said::Pages(word)) => text.as_str() == *word,
-        (Commands::Bytes(name), Said::Bytes(file)) => name.as_str() == *file,
+        (Commands::Pages(text), Said::Pages(word)) => is(text, word),
+        (Commands::Bytes(name), Said::Bytes(file)) => is(name, file),
+        _ => false,
+    }
+}
+
+fn is_said(line: Result<Line, LineFault>, said: &Said) -> bool {
+    match (line, said) {
+        (Ok(line), said) => is_line(&line, said),
+        (Err(LineFault::Refused(error)), Said::Refused(status)) => refused_status(&error)
+            == *status,
         _ => false,
     }
 }
 
 fn says(alloc: Global, row: &Row) -> bool {
-    let Ok(words) = words_of(alloc, row.0) else {
-        return false;
-    };
-    match (line_of(alloc, words.as_slice()), &row.1) {
-        (Ok(line), said) => is_line(&line, said),
-        (Err(LineFault::Refused(error)), Said::Refused(status)) => refused_status(&error)
-            == *status,
-        _ => false,
+    match words_of(alloc, row.0) {
+        Ok(words) => is_said(line_of(alloc, words.as_slice()), &row.1),
+        Err(NoMemory) => false,
     }
 }
 

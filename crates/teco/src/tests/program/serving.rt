@@ -2,9 +2,10 @@
 use super::Ticking;
 use crate::tests::bytes::are_both;
 use crate::tests::rows::{self, Rule, cells_of};
+use crate::tests::session::requests::{self, Over, Trial};
 use std::alloc::Global;
 use std::process::Abort;
-use teco_core::{DEPTH_LIMIT, FILE_LIMIT, NoMemory};
+use teco_core::NoMemory;
 use teco_files::MemorySource;
 use teco_program::{Bounds, ClockAlarm, Served, Silent, serve};
 use teco_session::Session;
@@ -93,19 +94,6 @@ fn source_of(
     Ok(MemorySource::new(bytes, cuts, fails))
 }
 
-/// A session over an input, whose history has this depth, if one is given.
-fn session_over(alloc: Global, input: &str, depth: Option<usize>) -> Option<Session> {
-    let input = Vec::from_slice(alloc, input.as_bytes()).ok()?;
-    if input.len() > FILE_LIMIT {
-        return None;
-    }
-    match depth {
-        Some(depth) if 1 <= depth && depth <= DEPTH_LIMIT => Session::with_depth(input, depth).ok(),
-        Some(_) => None,
-        None => Some(Session::new(input)),
-    }
-}
-
 /// Whether the bytes are this text, but for those that it doesn't tell.
 fn are_told(bytes: &[u8], text: &str, untold: &[u8]) -> bool {
     let mut left = text.as_bytes();
@@ -152,20 +140,41 @@ fn serves(alloc: Global, session: &mut Session, how: &How, row: &Row, single: bo
     served == how.served && are_told(term.bytes(), row.1, how.untold) && is_left(session, how, row)
 }
 
-/// Whether the row holds in a session whose history has this depth, if one is given, and then what is served after it.
-fn holds_once(alloc: Global, how: &How, row: &Row, single: bool, depth: Option<usize>) -> bool {
-    let Some(mut session) = session_over(alloc, how.input, depth) else {
-        return false;
-    };
-    let after = How {
-        served: Served::EndOfCommands,
-        ..*how
-    };
-    let mut held = serves(alloc, &mut session, how, row, single);
-    for row in how.then {
-        held = serves(alloc, &mut session, &after, row, single) && held;
+/// A row that is served as one piece or in single bytes, and then what is served after it.
+#[derive(Clone, Copy)]
+struct Serving<'a> {
+    how: How<'a>,
+    row: Row<'a>,
+    single: bool,
+}
+
+impl Trial for Serving<'_> {
+    fn holds(&self, alloc: Global, session: &mut Session, _term: &mut MemoryTerminal) -> bool {
+        let after = How {
+            served: Served::EndOfCommands,
+            ..self.how
+        };
+        let mut held = serves(alloc, session, &self.how, &self.row, self.single);
+        for row in self.how.then {
+            held = serves(alloc, session, &after, row, self.single) && held;
+        }
+        held
     }
-    held
+}
+
+/// Whether the row holds in a session whose history has this depth, if one is given.
+fn holds_once(alloc: Global, how: &How, row: &Row, single: bool, depth: Option<usize>) -> bool {
+    let over = Over {
+        input: how.input.as_bytes(),
+        page_lines: 0,
+        depth,
+    };
+    let serving = Serving {
+        how: *how,
+        row: *row,
+        single,
+    };
+    requests::holds_once(alloc, &over, &serving)
 }
 
 /// Whether the row holds with its stream as one piece and in single bytes, and with a history that is deep enough for its strings.
@@ -183,9 +192,11 @@ fn holds(alloc: Global, how: &How, row: &Row) -> bool {
 impl Rule for How<'_> {
     fn holds(&self, alloc: Global, row: &str) -> bool {
         match cells_of(row) {
-            Some((stream, typed, output, None)) => {
-                holds(alloc, self, &(stream, typed, Some(output)))
-            }
+            [Some(stream), Some(typed), output, None, ..] => holds(
+                alloc,
+                self,
+                &(stream, typed, Some(output.unwrap_or(""))),
+            ),
             _ => false,
         }
     }

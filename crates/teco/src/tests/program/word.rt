@@ -1,12 +1,13 @@
 //! The commands that run strings on every page.
 use crate::tests::assert_of;
+use crate::tests::bytes::are;
 use std::alloc::Global;
 use teco_core::NoMemory;
 use teco_line::commands_on_pages;
 
 fn gives_on_pages(alloc: Global, strings: &str, bytes: &[u8]) -> bool {
     match commands_on_pages(alloc, strings.as_bytes()) {
-        Ok(commands) => commands.as_slice() == bytes,
+        Ok(commands) => are(&commands, bytes),
         Err(NoMemory) => false,
     }
 }

@@ -1,200 +1,143 @@
 //! Faults of spelling, the order in which errors are told, and the limits of what may be open.
-use crate::tests::exec::strings::{Ends, all_end};
+use crate::tests::exec::strings::ALONE;
+use crate::tests::rows::all_hold;
 use std::test::*;
-use teco_core::Code;
 
-/// Texts that end too early are UTC.
-static CUT_TEXTS: [Ends<'static>; 20] = [
-    ("Iab", Some(Code::Utc), 0, ""),
-    ("\tab", Some(Code::Utc), 0, ""),
-    ("^Uaab", Some(Code::Utc), 0, ""),
-    ("^Ax", Some(Code::Utc), 0, ""),
-    ("Sa", Some(Code::Utc), 0, ""),
-    ("Na", Some(Code::Utc), 0, ""),
-    ("_a", Some(Code::Utc), 0, ""),
-    ("FSa", Some(Code::Utc), 0, ""),
-    ("FSa\x1bb", Some(Code::Utc), 0, ""),
-    ("Oa", Some(Code::Utc), 0, ""),
-    ("!a", Some(Code::Utc), 0, ""),
-    ("@I", Some(Code::Utc), 0, ""),
-    ("@I/a", Some(Code::Utc), 0, ""),
-    ("@^Ua", Some(Code::Utc), 0, ""),
-    ("@^Ua/b", Some(Code::Utc), 0, ""),
-    ("@^A/b", Some(Code::Utc), 0, ""),
-    ("@S/a", Some(Code::Utc), 0, ""),
-    ("@FS/a", Some(Code::Utc), 0, ""),
-    ("@FS/a/b", Some(Code::Utc), 0, ""),
-    ("@O", Some(Code::Utc), 0, ""),
-];
-
-/// Commands that end too early are UTC, after their first byte too.
-static CUT_COMMANDS: [Ends<'static>; 11] = [
-    (":Q", Some(Code::Utc), 0, ""),
-    (":G", Some(Code::Utc), 0, ""),
-    ("^U", Some(Code::Utc), 0, ""),
-    ("^^", Some(Code::Utc), 0, ""),
-    ("^A", Some(Code::Utc), 0, ""),
-    ("\x15a", Some(Code::Utc), 0, ""),
-    ("1<", Some(Code::Utc), 2, ""),
-    ("1\"E", Some(Code::Utc), 2, ""),
-    ("0\"N1|", Some(Code::Utc), 2, ""),
-    ("@^Ua/I/Ma", Some(Code::Utc), 2, ""),
-    ("@^Ua/1</Ma>", Some(Code::Utc), 4, ""),
-];
-
-/// Names of no register are refused.
-static NO_REGISTERS: [Ends<'static>; 24] = [
-    ("Q?", Some(Code::Iqn), 0, ""),
-    (":Q?", Some(Code::Iqn), 0, ""),
-    ("%?", Some(Code::Iqn), 0, ""),
-    ("U?", Some(Code::Iqn), 0, ""),
-    ("X?", Some(Code::Iqn), 0, ""),
-    ("G?", Some(Code::Iqn), 0, ""),
-    (":G?", Some(Code::Iqn), 0, ""),
-    ("[?", Some(Code::Iqn), 0, ""),
-    ("]?", Some(Code::Iqn), 0, ""),
-    ("M?", Some(Code::Iqn), 0, ""),
-    ("^U?a\x1b", Some(Code::Iqn), 0, ""),
-    ("@^U?/a/", Some(Code::Iqn), 0, ""),
-    ("Q a", Some(Code::Iqn), 0, ""),
-    ("Q\x1b", Some(Code::Iqn), 0, ""),
-    ("Q@", Some(Code::Iqn), 0, ""),
-    ("::Q?", Some(Code::Ill), 0, ""),
-    ("@Q?", Some(Code::Ill), 0, ""),
-    (":U?", Some(Code::Ill), 0, ""),
-    ("1\"Z", Some(Code::Iqc), 1, ""),
-    ("1\" E", Some(Code::Iqc), 1, ""),
-    ("\"?", Some(Code::Iqc), 0, ""),
-    ("0<Q?>", Some(Code::Iqn), 2, ""),
-    ("0<\"?>", Some(Code::Iqc), 2, ""),
-    ("5UzQZ=q0=", None, 6, "5\r\n0\r\n"),
-];
-
-/// Names of no command are ILL; of single bytes session/single_bytes has all.
-static NO_COMMANDS: [Ends<'static>; 12] = [
-    ("^B", Some(Code::Ill), 0, ""),
-    ("^I", Some(Code::Ill), 0, ""),
-    ("^?", Some(Code::Ill), 0, ""),
-    ("^ ", Some(Code::Ill), 0, ""),
-    ("^(", Some(Code::Ill), 0, ""),
-    ("EQ", Some(Code::Ill), 0, ""),
-    ("E ", Some(Code::Ill), 0, ""),
-    ("ER", Some(Code::Ill), 0, ""),
-    ("FR", Some(Code::Ill), 0, ""),
-    ("F ", Some(Code::Ill), 0, ""),
-    ("===", Some(Code::Ill), 0, ""),
-    ("\u{e9}", Some(Code::Ill), 0, ""),
-];
-
-/// Faults in blocks are told where they are.
-static IN_BLOCKS: [Ends<'static>; 14] = [
-    ("1===", Some(Code::Ill), 1, ""),
-    ("1=~", Some(Code::Ill), 2, "1\r\n"),
-    ("1\"G||'", Some(Code::Ill), 2, ""),
-    ("1\"G1||'", Some(Code::Ill), 3, ""),
-    ("1<|>", Some(Code::Ill), 2, ""),
-    ("1<'>", Some(Code::Ill), 2, ""),
-    ("0<'>", Some(Code::Ill), 2, ""),
-    ("1\"G>'", Some(Code::Bni), 2, ""),
-    ("0\"G>'", Some(Code::Bni), 2, ""),
-    ("0<~>", Some(Code::Ill), 2, ""),
-    ("0<<?>>", Some(Code::Ill), 2, ""),
-    ("0<<J>", Some(Code::Utc), 2, ""),
-    ("0\"G~'", Some(Code::Ill), 2, ""),
-    ("0<I~\x1b>", None, 2, ""),
-];
-
-/// Errors of searches come in their order.
-static OF_SEARCHES: [Ends<'static>; 13] = [
-    ("0S\x1b", Some(Code::Isa), 2, ""),
-    ("S\x1b", Some(Code::Iss), 1, ""),
-    ("S\x12\x1b", Some(Code::Ice), 1, ""),
-    ("0S\x12\x1b", Some(Code::Isa), 2, ""),
-    ("1,0S\x12\x1b", Some(Code::Arg), 4, ""),
-    ("(0S\x12\x1b", Some(Code::Mrp), 3, ""),
-    ("1+S\x1b", Some(Code::Arg), 3, ""),
-    ("::S\x12\x1b", Some(Code::Ice), 1, ""),
-    ("::S\x1b", Some(Code::Iss), 1, ""),
-    ("1::S\x12\x1b", Some(Code::Arg), 2, ""),
-    ("0FS\x1ba\x1b", Some(Code::Isa), 2, ""),
-    ("FS\x12\x1ba\x1b", Some(Code::Ice), 1, ""),
-    ("@FS//a/", Some(Code::Iss), 1, ""),
-];
-
-/// Errors of commands come in their order.
-static OF_COMMANDS: [Ends<'static>; 16] = [
-    ("1+=", Some(Code::Arg), 3, ""),
-    ("1,=", Some(Code::Arg), 3, ""),
-    ("(1+=", Some(Code::Mrp), 4, ""),
-    ("\"E'", Some(Code::Naq), 1, ""),
-    ("1,\"E'", Some(Code::Arg), 3, ""),
-    ("(256I\x1b", Some(Code::Mrp), 3, ""),
-    ("1,\tx\x1b", Some(Code::Arg), 3, ""),
-    ("1;", Some(Code::Sni), 2, ""),
-    ("1,2;", Some(Code::Arg), 4, ""),
-    ("(;", Some(Code::Mrp), 2, ""),
-    ("1Ox\x1b", Some(Code::Arg), 2, ""),
-    ("Ox\x1b", Some(Code::Tag), 1, ""),
-    ("1,0P", Some(Code::Arg), 4, ""),
-    ("1 99999999999", Some(Code::Ovf), 2, ""),
-    ("1 2", Some(Code::Arg), 2, ""),
-    ("2147483647Ua%aQa=", Some(Code::Ovf), 3, ""),
-];
-
-/// Limits are reached.
-static AT_LIMITS: [Ends<'static>; 9] = [
-    ("64<[A>[A", Some(Code::Pdo), 131, ""),
-    ("64<[A>64<]A>]A", Some(Code::Cpq), 261, ""),
-    ("((((((((((((((((1))))))))))))))))=", None, 34, "1\r\n"),
-    ("(((((((((((((((((", Some(Code::Pdo), 17, ""),
-    ("@^UA/%B-32\"LMA'/MAQB=", None, 163, "32\r\n"),
-    ("@^UA/%B-33\"LMA'/MA", Some(Code::Pdo), 162, ""),
-    ("@^UA/MB/@^UB/MA/MA", Some(Code::Pdo), 35, ""),
-    (
-        "1<1<1<1<1<1<1<1<1<1<1<1<1<1<1<1<1<1<1<1<1<1<1<1<1<1<1<1<1<1<1<1<1<1<1<1<1<1<1<1<1<1<1<1<1<1<1<1<1<1<1<1<1<1<1<1<1<1<1<1<1<1<1<1<>>>>>>>>>>>>>>>>>>>>>>>>>>>>>>>>>>>>>>>>>>>>>>>>>>>>>>>>>>>>>>>>",
-        None,
-        192,
-        "",
-    ),
-    (
-        "1<1<1<1<1<1<1<1<1<1<1<1<1<1<1<1<1<1<1<1<1<1<1<1<1<1<1<1<1<1<1<1<1<1<1<1<1<1<1<1<1<1<1<1<1<1<1<1<1<1<1<1<1<1<1<1<1<1<1<1<1<1<1<1<1<",
-        Some(Code::Pdo),
-        129,
-        "",
-    ),
-];
-
-/// Limits are reached in passing: a block that is passed over has the same limit, and a jump finds nothing past it.
-static PAST_LIMITS: [Ends<'static>; 3] = [
-    (
-        "0<<<<<<<<<<<<<<<<<<<<<<<<<<<<<<<<<<<<<<<<<<<<<<<<<<<<<<<<<<<<<<<<",
-        Some(Code::Utc),
-        2,
-        "",
-    ),
-    (
-        "0<<<<<<<<<<<<<<<<<<<<<<<<<<<<<<<<<<<<<<<<<<<<<<<<<<<<<<<<<<<<<<<<<",
-        Some(Code::Pdo),
-        2,
-        "",
-    ),
-    (
-        "1<1<1<1<1<1<1<1<1<1<1<1<1<1<1<1<1<1<1<1<1<1<1<1<1<1<1<1<1<1<1<1<1<1<1<1<1<1<1<1<1<1<1<1<1<1<1<1<1<1<1<1<1<1<1<1<1<1<1<1<1<1<1<1<Ox\x1b<>!x!",
-        Some(Code::Tag),
-        129,
-        "",
-    ),
-];
+const ROWS: &str = "
+    // Texts that end too early are UTC.
+    Iab => => UTC => 0
+    \tab => => UTC => 0
+    ^Uaab => => UTC => 0
+    ^Ax => => UTC => 0
+    Sa => => UTC => 0
+    Na => => UTC => 0
+    _a => => UTC => 0
+    FSa => => UTC => 0
+    FSa\x1bb => => UTC => 0
+    Oa => => UTC => 0
+    !a => => UTC => 0
+    @I => => UTC => 0
+    @I/a => => UTC => 0
+    @^Ua => => UTC => 0
+    @^Ua/b => => UTC => 0
+    @^A/b => => UTC => 0
+    @S/a => => UTC => 0
+    @FS/a => => UTC => 0
+    @FS/a/b => => UTC => 0
+    @O => => UTC => 0
+    // Commands that end too early are UTC, after their first byte too.
+    :Q => => UTC => 0
+    :G => => UTC => 0
+    ^U => => UTC => 0
+    ^^ => => UTC => 0
+    ^A => => UTC => 0
+    \x15a => => UTC => 0
+    1< => => UTC => 2
+    1\"E => => UTC => 2
+    0\"N1| => => UTC => 2
+    @^Ua/I/Ma => => UTC => 2
+    @^Ua/1</Ma> => => UTC => 4
+    // Names of no register are refused.
+    Q? => => IQN => 0
+    :Q? => => IQN => 0
+    %? => => IQN => 0
+    U? => => IQN => 0
+    X? => => IQN => 0
+    G? => => IQN => 0
+    :G? => => IQN => 0
+    [? => => IQN => 0
+    ]? => => IQN => 0
+    M? => => IQN => 0
+    ^U?a\x1b => => IQN => 0
+    @^U?/a/ => => IQN => 0
+    Q a => => IQN => 0
+    Q\x1b => => IQN => 0
+    Q@ => => IQN => 0
+    ::Q? => => ILL => 0
+    @Q? => => ILL => 0
+    :U? => => ILL => 0
+    1\"Z => => IQC => 1
+    1\" E => => IQC => 1
+    \"? => => IQC => 0
+    0<Q?> => => IQN => 2
+    0<\"?> => => IQC => 2
+    5UzQZ=q0= => 5\r\n0\r\n => => 6
+    // Names of no command are ILL; of single bytes session/single_bytes has all.
+    ^B => => ILL => 0
+    ^I => => ILL => 0
+    ^? => => ILL => 0
+    ^  => => ILL => 0
+    ^( => => ILL => 0
+    EQ => => ILL => 0
+    E  => => ILL => 0
+    ER => => ILL => 0
+    FR => => ILL => 0
+    F  => => ILL => 0
+    === => => ILL => 0
+    \u{e9} => => ILL => 0
+    // Faults in blocks are told where they are.
+    1=== => => ILL => 1
+    1=~ => 1\r\n => ILL => 2
+    1\"G||' => => ILL => 2
+    1\"G1||' => => ILL => 3
+    1<|> => => ILL => 2
+    1<'> => => ILL => 2
+    0<'> => => ILL => 2
+    1\"G>' => => BNI => 2
+    0\"G>' => => BNI => 2
+    0<~> => => ILL => 2
+    0<<?>> => => ILL => 2
+    0<<J> => => UTC => 2
+    0\"G~' => => ILL => 2
+    0<I~\x1b> => => => 2
+    // Errors of searches come in their order.
+    0S\x1b => => ISA => 2
+    S\x1b => => ISS => 1
+    S\x12\x1b => => ICE => 1
+    0S\x12\x1b => => ISA => 2
+    1,0S\x12\x1b => => ARG => 4
+    (0S\x12\x1b => => MRP => 3
+    1+S\x1b => => ARG => 3
+    ::S\x12\x1b => => ICE => 1
+    ::S\x1b => => ISS => 1
+    1::S\x12\x1b => => ARG => 2
+    0FS\x1ba\x1b => => ISA => 2
+    FS\x12\x1ba\x1b => => ICE => 1
+    @FS//a/ => => ISS => 1
+    // Errors of commands come in their order.
+    1+= => => ARG => 3
+    1,= => => ARG => 3
+    (1+= => => MRP => 4
+    \"E' => => NAQ => 1
+    1,\"E' => => ARG => 3
+    (256I\x1b => => MRP => 3
+    1,\tx\x1b => => ARG => 3
+    1; => => SNI => 2
+    1,2; => => ARG => 4
+    (; => => MRP => 2
+    1Ox\x1b => => ARG => 2
+    Ox\x1b => => TAG => 1
+    1,0P => => ARG => 4
+    1 99999999999 => => OVF => 2
+    1 2 => => ARG => 2
+    2147483647Ua%aQa= => => OVF => 3
+    // Limits are reached.
+    64<[A>[A => => PDO => 131
+    64<[A>64<]A>]A => => CPQ => 261
+    ((((((((((((((((1))))))))))))))))= => 1\r\n => => 34
+    ((((((((((((((((( => => PDO => 17
+    @^UA/%B-32\"LMA'/MAQB= => 32\r\n => => 163
+    @^UA/%B-33\"LMA'/MA => => PDO => 162
+    @^UA/MB/@^UB/MA/MA => => PDO => 35
+    1<1<1<1<1<1<1<1<1<1<1<1<1<1<1<1<1<1<1<1<1<1<1<1<1<1<1<1<1<1<1<1<1<1<1<1<1<1<1<1<1<1<1<1<1<1<1<1<1<1<1<1<1<1<1<1<1<1<1<1<1<1<1<1<>>>>>>>>>>>>>>>>>>>>>>>>>>>>>>>>>>>>>>>>>>>>>>>>>>>>>>>>>>>>>>>> => => => 192
+    1<1<1<1<1<1<1<1<1<1<1<1<1<1<1<1<1<1<1<1<1<1<1<1<1<1<1<1<1<1<1<1<1<1<1<1<1<1<1<1<1<1<1<1<1<1<1<1<1<1<1<1<1<1<1<1<1<1<1<1<1<1<1<1<1< => => PDO => 129
+    // Limits are reached in passing: a block that is passed over has the same limit, and a jump finds nothing past it.
+    0<<<<<<<<<<<<<<<<<<<<<<<<<<<<<<<<<<<<<<<<<<<<<<<<<<<<<<<<<<<<<<<< => => UTC => 2
+    0<<<<<<<<<<<<<<<<<<<<<<<<<<<<<<<<<<<<<<<<<<<<<<<<<<<<<<<<<<<<<<<<< => => PDO => 2
+    1<1<1<1<1<1<1<1<1<1<1<1<1<1<1<1<1<1<1<1<1<1<1<1<1<1<1<1<1<1<1<1<1<1<1<1<1<1<1<1<1<1<1<1<1<1<1<1<1<1<1<1<1<1<1<1<1<1<1<1<1<1<1<1<Ox\x1b<>!x! => => TAG => 129
+    ";
 
 #[test]
 fn faults_are_told_in_their_order(rt: HostRuntime) {
-    all_end(&rt, rt.alloc(), &CUT_TEXTS);
-    all_end(&rt, rt.alloc(), &CUT_COMMANDS);
-    all_end(&rt, rt.alloc(), &NO_REGISTERS);
-    all_end(&rt, rt.alloc(), &NO_COMMANDS);
-    all_end(&rt, rt.alloc(), &IN_BLOCKS);
-    all_end(&rt, rt.alloc(), &OF_SEARCHES);
-    all_end(&rt, rt.alloc(), &OF_COMMANDS);
-    all_end(&rt, rt.alloc(), &AT_LIMITS);
-    all_end(&rt, rt.alloc(), &PAST_LIMITS);
+    all_hold(&rt, rt.alloc(), &ALONE, ROWS);
 }

@@ -2,7 +2,8 @@
 use crate::tests::assert_of;
 use crate::tests::bytes::joined;
 use crate::tests::commands::{COMMANDS, MODIFIERS};
-use crate::tests::exec::strings::{Ends, all_end};
+use crate::tests::exec::strings::ALONE;
+use crate::tests::rows::all_hold;
 use std::alloc::Global;
 use std::process::Abort;
 use std::test::*;
@@ -27,38 +28,33 @@ fn admits(rt: &impl Abort, alloc: Global, admitted: &[&str], command: &str) {
     }
 }
 
-static ROWS: &[Ends] = &[
-    ("Iaa\x1bJ:@S/a/=@:S/a/=", None, 6, "-1\r\n-1\r\n"),
-    (
-        "Iaa\x1bJ@::S/a/=:@:S/a/=::@S/a/=",
-        None,
-        8,
-        "-1\r\n-1\r\n0\r\n",
-    ),
-    ("Iaa\x1bJ:@FS/a/b/=HT", None, 6, "-1\r\nba"),
-    ("@^Ua/x/@I/y/:Ga@^A/z/", None, 4, "xz"),
-    ("@^Ua/b\x1b/:Qa=@O/x/1=!x!2=", None, 6, "2\r\n2\r\n"),
-    ("@@I/a/", Some(Code::Ill), 0, ""),
-    (":::S\x1b", Some(Code::Ill), 0, ""),
-    ("@:@S/a/", Some(Code::Ill), 0, ""),
-    (": S\x1b", Some(Code::Ill), 0, ""),
-    ("@ I/a/", Some(Code::Ill), 0, ""),
-    (":", Some(Code::Utc), 0, ""),
-    ("@", Some(Code::Utc), 0, ""),
-    ("@:", Some(Code::Utc), 0, ""),
-    ("::", Some(Code::Utc), 0, ""),
-    (":::", Some(Code::Ill), 0, ""),
-    ("@@", Some(Code::Ill), 0, ""),
-    (":\x1b", Some(Code::Ill), 0, ""),
-    ("@::FS/a/b/", Some(Code::Ill), 0, ""),
-    ("@::==", Some(Code::Ill), 0, ""),
-];
+/// They come in any order.
+const ROWS: &str = "
+    Iaa\x1bJ:@S/a/=@:S/a/= => -1\r\n-1\r\n => => 6
+    Iaa\x1bJ@::S/a/=:@:S/a/=::@S/a/= => -1\r\n-1\r\n0\r\n => => 8
+    Iaa\x1bJ:@FS/a/b/=HT => -1\r\nba => => 6
+    @^Ua/x/@I/y/:Ga@^A/z/ => xz => => 4
+    @^Ua/b\x1b/:Qa=@O/x/1=!x!2= => 2\r\n2\r\n => => 6
+    @@I/a/ => => ILL => 0
+    :::S\x1b => => ILL => 0
+    @:@S/a/ => => ILL => 0
+    : S\x1b => => ILL => 0
+    @ I/a/ => => ILL => 0
+    : => => UTC => 0
+    @ => => UTC => 0
+    @: => => UTC => 0
+    :: => => UTC => 0
+    ::: => => ILL => 0
+    @@ => => ILL => 0
+    :\x1b => => ILL => 0
+    @::FS/a/b/ => => ILL => 0
+    @::== => => ILL => 0
+    ";
 
 #[test]
 fn commands_admit_their_modifiers_alone(rt: HostRuntime) {
     for (command, admitted, _) in COMMANDS {
         admits(&rt, rt.alloc(), admitted, command);
     }
-    // They come in any order.
-    all_end(&rt, rt.alloc(), ROWS);
+    all_hold(&rt, rt.alloc(), &ALONE, ROWS);
 }

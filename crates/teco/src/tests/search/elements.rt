@@ -1,6 +1,6 @@
 //! The elements of search texts, and what they match. Each is compared at the beginning of the text, and then the pointer is typed.
+use crate::tests::exec::strings::ALONE;
 use crate::tests::rows::all_hold;
-use crate::tests::step::Types;
 use std::test::*;
 
 const ROWS: &str = "
@@ -91,5 +91,5 @@ const ROWS: &str = "
 
 #[test]
 fn elements_match_what_they_mean(rt: HostRuntime) {
-    all_hold(&rt, rt.alloc(), &Types, ROWS);
+    all_hold(&rt, rt.alloc(), &ALONE, ROWS);
 }

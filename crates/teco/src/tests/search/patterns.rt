@@ -1,5 +1,6 @@
 //! What no command shows of search texts: how they are shown.
 use crate::tests::assert_of;
+use crate::tests::bytes::is;
 use std::alloc::Global;
 use teco_core::CaseMode;
 use teco_search::Pattern;
@@ -13,7 +14,7 @@ fn shows(alloc: Global, text: &[u8], wanted: &str) -> bool {
         return false;
     };
     match format!(in alloc; "{pattern}") {
-        Ok(shown) => shown.as_str() == wanted,
+        Ok(shown) => is(&shown, wanted),
         Err(_) => false,
     }
 }

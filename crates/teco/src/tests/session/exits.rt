@@ -1,20 +1,21 @@
 //! An exit, and what is answered after it.
-use super::requests::{Asks, answers_over};
+use super::requests::{Over, Script, holds_in};
 use std::test::*;
-use teco_core::Code;
 
-static ROWS: [Asks<'static>; 5] = [
-    ("YEX\x1b", None, None, "a"),
-    ("1=\x1b", Some(Code::End), None, "a"),
-    ("{", None, None, ""),
-    ("1=\x1b", None, None, ""),
-    ("}", Some(Code::Ntr), None, ""),
-];
+/// A session that has exited, and has written its input, runs nothing until the exit is undone.
+const EXIT: Script = Script {
+    rows: "
+    YEX\x1b => => a
+    1=\x1b => END => a
+    { =>
+    1=\x1b =>
+    } => NTR
+    ",
+    typed: "1\r\n",
+    noted: None,
+};
 
-// A session that has exited, and has written its input, runs nothing until the exit is undone; where memory was refused, the second time.
 #[test]
 fn exits_and_comes_back(rt: HostRuntime) {
-    let held = answers_over(rt.alloc(), b"a", &ROWS, "1\r\n")
-        || answers_over(rt.alloc(), b"a", &ROWS, "1\r\n");
-    assert!(rt; held);
+    assert!(rt; holds_in(rt.alloc(), &Over::new(b"a"), &EXIT));
 }

@@ -1,12 +1,12 @@
 //! Each byte alone as a command string.
-use super::requests::session_over;
+use super::requests::{Over, Trial, holds_in};
 use crate::tests::commands::COMMANDS;
-use crate::tests::store::states::seen;
+use crate::tests::store::states::{is_seen, seen};
 use std::alloc::Global;
 use std::test::*;
 use teco_core::Code;
 use teco_exec::Outcome;
-use teco_session::Answer;
+use teco_session::{Answer, Session};
 use teco_terminal::MemoryTerminal;
 
 /// Whether a command's name begins with a byte: a letter in either case, or for a caret and a letter the control byte.
@@ -55,24 +55,26 @@ fn outcome_of(kind: u8) -> Outcome {
     Outcome { code, steps }
 }
 
-/// Whether a byte ends as it means in a new session, types nothing, and is undone to the first state.
-fn ends_alone(alloc: Global, byte: u8, first: &[u8]) -> bool {
-    let mut session = session_over(alloc, b"");
-    let mut terminal = MemoryTerminal::new(alloc);
-    let answer = session.run(&[byte], 1000, &mut terminal);
-    let is_undone = answer == Answer::Ended(outcome_of(kind_of(byte)))
-        && terminal.bytes().is_empty()
-        && session.undo().is_ok();
-    is_undone && seen(alloc, session.editor()).as_slice() == first
+/// A byte ends as it means in a new session, types nothing, and is undone to the first state.
+#[derive(Clone, Copy)]
+struct Alone(u8);
+
+impl Trial for Alone {
+    fn holds(&self, alloc: Global, session: &mut Session, term: &mut MemoryTerminal) -> bool {
+        let first = seen(alloc, session.editor());
+        session.run(&[self.0], 1000, term) == Answer::Ended(outcome_of(kind_of(self.0)))
+            && term.bytes().is_empty()
+            && session.undo().is_ok()
+            && is_seen(alloc, session.editor(), &first)
+    }
 }
 
-/// Where memory was refused, a byte is run a second time.
 #[test]
 fn single_bytes_end_as_they_mean(rt: HostRuntime) {
-    let alloc = rt.alloc();
-    let first = seen(alloc, session_over(alloc, b"").editor());
     for byte in 0..=u8::MAX {
-        let held = ends_alone(alloc, byte, &first) || ends_alone(alloc, byte, &first);
-        assert!(rt; held, "byte {byte}");
+        assert!(rt;
+            holds_in(rt.alloc(), &Over::new(b""), &Alone(byte)),
+            "byte {byte}"
+        );
     }
 }

@@ -1,117 +1,88 @@
 //! Strings at the limits of the texts, and a byte past them.
-use crate::tests::assert_of;
-use crate::tests::bytes::joined;
-use crate::tests::exec::strings::{Row, holds};
+use crate::tests::bytes::put;
+use crate::tests::exec::strings::{ALONE, Ending, Over, ends};
+use crate::tests::rows::{Rule, all_hold, cells_of};
 use std::alloc::Global;
 use std::test::*;
-use teco_core::Code;
 use teco_store::{Desk, Editor, Refused};
 
 /// The limit of a text, in bytes.
 const FULL: usize = 16_777_216;
 
-/// Bytes, so many `x`, and bytes.
-type Long<'a> = (&'a str, usize, &'a str);
-
-/// Its bytes. Where memory is refused some are left out.
-fn bytes_of(alloc: Global, long: Long) -> Vec<u8> {
-    let (before, count, after) = long;
-    let mut bytes = joined(alloc, &[before.as_bytes()]);
-    let length = bytes.len().saturating_add(count);
-    let _ = bytes.resize(length, b'x').is_ok() && bytes.extend_from_slice(after.as_bytes()).is_ok();
+/// The bytes of a cell, where a tilde stands for two bytes less than the limit. Where memory is refused some are left out.
+fn bytes_of(alloc: Global, cell: &str) -> Vec<u8> {
+    let (before, after) = cell.split_once('~').unwrap_or((cell, ""));
+    let mut bytes = Vec::new(alloc);
+    put(&mut bytes, before.as_bytes());
+    if before.len() < cell.len() {
+        let length = bytes.len().saturating_add(FULL - 2);
+        let _ = bytes.resize(length, b'x').is_ok();
+    }
+    put(&mut bytes, after.as_bytes());
     bytes
 }
 
 /// An input, a string over it, what that types, and the code by which it ends.
-type Ends<'a> = (Long<'a>, Long<'a>, &'a str, Option<Code>);
+const ROWS: &str = "
+    // A text that is put in fits or is BIG.
+     => I~xx\x1bZ= => 16777216\r\n
+     => I~xxx\x1b => => BIG
+    // A register's text fits or is BIG.
+     => ^UA~xx\x1b:QA= => 16777216\r\n
+     => ^UA~xxx\x1b => => BIG
+    // A replacement fits or is BIG.
+     => Ia\x1bJFSa\x1b~xx\x1bZ= => 16777216\r\n
+     => Ia\x1bJFSa\x1b~xxx\x1b => => BIG
+    // A page past the limit is BIG.
+    x\x0c~xxx => YZ=P => 1\r\n => BIG
+    x\x0c~xxx => YZ=A => 1\r\n => BIG
+    ~xxx => Y => => BIG
+    // A page fills the text. The first input is a full page, an empty one and one of a byte.
+    ~xx\x0c\x0cx => AAZ=A => 16777216\r\n => BIG
+    xx\x0c~ => AAZ= => 16777216\r\n
+    xx\x0c~x => AA => => BIG
+    ";
 
-fn ends_over<'a>(
-    alloc: Global,
-    input: &'a [u8],
-    text: &'a [u8],
-    typed: &'a str,
-    code: Option<Code>,
-) -> bool {
-    let row = Row {
-        input,
-        ..Row::new(text, typed, code)
+fn fits_or_is_big(alloc: Global, row: &str) -> bool {
+    let [Some(input), Some(text), Some(typed), code, None, ..] = cells_of(row) else {
+        return false;
     };
-    holds(alloc, &row)
-}
-
-fn ends(alloc: Global, row: &Ends) -> bool {
-    let (input, text, typed, code) = *row;
     let input = bytes_of(alloc, input);
     let text = bytes_of(alloc, text);
-    ends_over(alloc, input.as_slice(), text.as_slice(), typed, code)
+    let over = Over {
+        input: &input,
+        ..ALONE
+    };
+    let ending = Ending {
+        typed,
+        code: code.unwrap_or(""),
+        steps: None,
+        output: None,
+    };
+    ends(alloc, &over, &text, &ending)
 }
 
-const NOTHING: Long = ("", 0, "");
+#[derive(Clone, Copy)]
+struct Limits;
 
-static ROWS: [Ends<'static>; 12] = [
-    // A text that is put in fits or is BIG.
-    (NOTHING, ("I", FULL, "\x1bZ="), "16777216\r\n", None),
-    (NOTHING, ("I", FULL + 1, "\x1b"), "", Some(Code::Big)),
-    // A register's text fits or is BIG.
-    (NOTHING, ("^UA", FULL, "\x1b:QA="), "16777216\r\n", None),
-    (NOTHING, ("^UA", FULL + 1, "\x1b"), "", Some(Code::Big)),
-    // A replacement fits or is BIG.
-    (
-        NOTHING,
-        ("Ia\x1bJFSa\x1b", FULL, "\x1bZ="),
-        "16777216\r\n",
-        None,
-    ),
-    (
-        NOTHING,
-        ("Ia\x1bJFSa\x1b", FULL + 1, "\x1b"),
-        "",
-        Some(Code::Big),
-    ),
-    // A page past the limit is BIG.
-    (
-        ("x\x0c", FULL + 1, ""),
-        ("YZ=P", 0, ""),
-        "1\r\n",
-        Some(Code::Big),
-    ),
-    (
-        ("x\x0c", FULL + 1, ""),
-        ("YZ=A", 0, ""),
-        "1\r\n",
-        Some(Code::Big),
-    ),
-    (("", FULL + 1, ""), ("Y", 0, ""), "", Some(Code::Big)),
-    // A page fills the text. The first input is a full page, an empty one and one of a byte.
-    (
-        ("", FULL, "\x0c\x0cx"),
-        ("AAZ=A", 0, ""),
-        "16777216\r\n",
-        Some(Code::Big),
-    ),
-    (
-        ("xx\x0c", FULL - 2, ""),
-        ("AAZ=", 0, ""),
-        "16777216\r\n",
-        None,
-    ),
-    (("xx\x0c", FULL - 1, ""), ("AA", 0, ""), "", Some(Code::Big)),
-];
+impl Rule for Limits {
+    /// Where memory was refused for the bytes, at the second time.
+    fn holds(&self, alloc: Global, row: &str) -> bool {
+        fits_or_is_big(alloc, row) || fits_or_is_big(alloc, row)
+    }
+}
 
-/// Whether a search text of so many bytes is too long to be noted.
-fn is_big(alloc: Global, length: usize) -> bool {
-    let text = bytes_of(alloc, ("", length, ""));
+/// Whether a search text is too long to be noted.
+fn is_big(alloc: Global, cell: &str) -> bool {
+    let text = bytes_of(alloc, cell);
     let mut editor = Editor::new(Vec::new(alloc));
     editor.note_search(Some(text.as_slice()), true, 0) == Err(Refused::Big)
 }
 
-/// Where memory was refused for the bytes, a row holds the second time.
 #[test]
 fn texts_and_pages_fit_or_are_big(rt: HostRuntime) {
     let alloc = rt.alloc();
-    for row in &ROWS {
-        assert_of(&rt, row.1.0, ends(alloc, row) || ends(alloc, row));
-    }
-    assert!(rt; is_big(alloc, FULL + 1) || is_big(alloc, FULL + 1));
-    assert!(rt; !is_big(alloc, FULL));
+    all_hold(&rt, alloc, &Limits, ROWS);
+    assert!(rt; is_big(alloc, "~xxx") || is_big(alloc, "~xxx"));
+    assert!(rt; !is_big(alloc, "~xx"));
 }

@@ -1,5 +1,5 @@
 //! States as bytes, to be compared.
-use crate::tests::bytes::put;
+use crate::tests::bytes::{are, put};
 use std::alloc::Global;
 use teco_core::{CaseMode, Reg};
 use teco_store::{Desk, Editor};
@@ -55,4 +55,9 @@ pub(crate) fn seen(alloc: Global, editor: &Editor) -> Vec<u8> {
     put(&mut bytes, &editor.place().to_le_bytes());
     put_text(&mut bytes, editor.output());
     bytes
+}
+
+/// Whether that is seen of an editor.
+pub(crate) fn is_seen(alloc: Global, editor: &Editor, wanted: &[u8]) -> bool {
+    are(&seen(alloc, editor), wanted)
 }

@@ -1,11 +1,12 @@
 //! Terminals whose puts are refused or fail.
 use crate::tests::assert_of;
+use crate::tests::bytes::{are, is_typed};
 use std::io::{self, Write};
 use teco_terminal::{MemorySink, MemoryTerminal, Terminal, WriterTerminal};
 
 /// Whether a put is done; one that is refused adds nothing, and the same put can be tried again.
 fn puts_again(terminal: &mut MemoryTerminal, bytes: &[u8], before: &[u8]) -> bool {
-    terminal.put(bytes).is_ok() || terminal.bytes() == before && terminal.put(bytes).is_ok()
+    terminal.put(bytes).is_ok() || are(terminal.bytes(), before) && terminal.put(bytes).is_ok()
 }
 
 /// Whether what was shown is handed over, and the terminal then begins anew.
@@ -13,19 +14,19 @@ fn keeps(terminal: &mut MemoryTerminal) -> bool {
     let kept = puts_again(terminal, b"1", b"")
         && puts_again(terminal, b"", b"1")
         && puts_again(terminal, b"=23456789012345\r\n", b"1")
-        && terminal.bytes() == b"1=23456789012345\r\n".as_slice();
+        && is_typed(terminal, "1=23456789012345\r\n");
     let taken = terminal.take();
-    kept && taken.as_slice() == b"1=23456789012345\r\n".as_slice()
+    kept && are(&taken, b"1=23456789012345\r\n")
         && puts_again(terminal, b"2", b"")
-        && terminal.bytes() == b"2".as_slice()
+        && is_typed(terminal, "2")
 }
 
 /// Whether `hi` and then `!` are put, where a growth that is refused the first time isn't the second, and each is flushed.
 fn flushes_each(terminal: &mut WriterTerminal<MemorySink>) -> bool {
     (terminal.put(b"hi").is_ok() || terminal.put(b"hi").is_ok())
-        && terminal.sink().flushed() == b"hi".as_slice()
+        && are(terminal.sink().flushed(), b"hi")
         && (terminal.put(b"!").is_ok() || terminal.put(b"!").is_ok())
-        && terminal.sink().flushed() == b"hi!".as_slice()
+        && are(terminal.sink().flushed(), b"hi!")
 }
 
 #[test]
@@ -109,8 +110,8 @@ fn takes(row: &Row) -> bool {
         let mut terminal = WriterTerminal::new(&mut writer);
         terminal.put(b"hello").is_ok() == hello && terminal.put(b"!").is_ok() == mark
     };
-    put && &writer.taken[..writer.len.min(8)] == taken.as_bytes()
-        && &writer.taken[..writer.shown.min(8)] == shown.as_bytes()
+    put && are(&writer.taken[..writer.len.min(8)], taken.as_bytes())
+        && are(&writer.taken[..writer.shown.min(8)], shown.as_bytes())
 }
 
 #[test]

@@ -27,7 +27,7 @@ struct Examples<'a>(How<'a>);
 
 impl Rule for Examples<'_> {
     fn holds(&self, alloc: Global, row: &str) -> bool {
-        let Some((input, strings, typed, output)) = cells_of(row) else {
+        let [Some(input), Some(strings), typed, output, None, ..] = cells_of(row) else {
             return false;
         };
         let served = match output {
@@ -39,7 +39,7 @@ impl Rule for Examples<'_> {
             served,
             ..self.0
         };
-        holds(alloc, &how, &(strings, typed, output))
+        holds(alloc, &how, &(strings, typed.unwrap_or(""), output))
     }
 }
 

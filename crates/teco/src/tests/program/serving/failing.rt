@@ -2,9 +2,9 @@
 use super::super::Ticking;
 use super::{bytes_of, source_of};
 use crate::tests::assert_of;
-use crate::tests::bytes::{failing_after, put};
-use crate::tests::session::requests::session_over;
-use crate::tests::store::states::seen;
+use crate::tests::bytes::{are, failing_after, put};
+use crate::tests::session::requests::{Over, Trial, holds_in, holds_once};
+use crate::tests::store::states::{is_seen, seen};
 use std::alloc::Global;
 use std::test::*;
 use teco_core::NoMemory;
@@ -35,33 +35,33 @@ static ROWS: [Row; 7] = [
     ("3{$$2}$$1=$$~$$}$$", "?NTU\r\n?NTR\r\n1\r\n?NTR\r\n"),
 ];
 
-fn is_alike(alloc: Global, session: &Session, other: &Session) -> bool {
-    seen(alloc, session.editor()).as_slice() == seen(alloc, other.editor()).as_slice()
-}
-
 fn undo_strings(session: &mut Session, count: usize) {
     for _ in 0..count {
         let _ = session.undo();
     }
 }
 
-/// Whether the strings of a session, each run under the limit of the steps that it took, give its state in another once those that
-/// are undone are undone there.
-fn has_whole_steps(alloc: Global, session: &Session) -> bool {
-    let mut other = session_over(alloc, INPUT);
-    let mut term = MemoryTerminal::new(alloc);
-    for at in 0..session.strings() {
-        let _ = other.run(session.string(at), session.steps(at), &mut term);
+/// The strings of a session, each run under the limit of the steps that it took, give its state in another once those that are undone are
+/// undone there.
+#[derive(Clone, Copy)]
+struct WholeSteps<'a>(&'a Session);
+
+impl Trial for WholeSteps<'_> {
+    fn holds(&self, alloc: Global, other: &mut Session, term: &mut MemoryTerminal) -> bool {
+        let session = self.0;
+        for at in 0..session.strings() {
+            let _ = other.run(session.string(at), session.steps(at), term);
+        }
+        undo_strings(other, session.strings() - session.cursor());
+        is_seen(alloc, other.editor(), &seen(alloc, session.editor()))
     }
-    undo_strings(&mut other, session.strings() - session.cursor());
-    is_alike(alloc, session, &other)
 }
 
 /// Whether a session has the state of its whole steps, and the first one once all is undone.
-fn is_left(alloc: Global, session: &mut Session) -> bool {
-    let has_whole_steps = has_whole_steps(alloc, session);
+fn is_left(alloc: Global, session: &mut Session, first: &[u8]) -> bool {
+    let has_whole_steps = holds_once(alloc, &Over::new(INPUT), &WholeSteps(session));
     undo_strings(session, session.cursor());
-    has_whole_steps && is_alike(alloc, session, &session_over(alloc, INPUT))
+    has_whole_steps && is_seen(alloc, session.editor(), first)
 }
 
 /// Whether a serving on a terminal that takes so many bytes shows those of what is to be typed, and ends so.
@@ -88,35 +88,43 @@ fn is_shown(
         &mut WriterTerminal::new(&mut writer),
         &mut Silent,
     );
-    served == wanted && writer.before() == &typed[..room.min(typed.len())]
+    served == wanted && are(writer.before(), &typed[..room.min(typed.len())])
 }
 
-fn shows(alloc: Global, row: &Row, room: usize) -> bool {
-    let Ok(mut source) = source_of(alloc, row.0.as_bytes(), false, false) else {
-        return false;
-    };
-    let mut session = session_over(alloc, INPUT);
-    is_shown(alloc, &mut source, &mut session, row.1.as_bytes(), room)
-        && is_left(alloc, &mut session)
+/// A row, on a terminal that takes so many bytes.
+#[derive(Clone, Copy)]
+struct Shown<'a>(Row<'a>, usize);
+
+impl Trial for Shown<'_> {
+    fn holds(&self, alloc: Global, session: &mut Session, _term: &mut MemoryTerminal) -> bool {
+        let Shown((stream, typed), room) = *self;
+        let first = seen(alloc, session.editor());
+        match source_of(alloc, stream.as_bytes(), false, false) {
+            Ok(mut source) => {
+                is_shown(alloc, &mut source, session, typed.as_bytes(), room)
+                    && is_left(alloc, session, &first)
+            }
+            Err(NoMemory) => false,
+        }
+    }
 }
 
-/// Whether the row is shown up to the place where the terminal fails, wherever that is; where memory was refused, the second time.
+/// Whether the row is shown up to the place where the terminal fails, wherever that is.
 fn each_put_fails(alloc: Global, row: &Row) -> bool {
     let mut held = true;
     for room in 0..=row.1.len() {
-        held = (shows(alloc, row, room) || shows(alloc, row, room)) && held;
+        held = holds_in(alloc, &Over::new(INPUT), &Shown(*row, room)) && held;
     }
     held
 }
 
 /// How serving a source ends, and the state that is left, with what is typed behind it.
-fn left_by<S: Source>(alloc: Global, source: &mut S) -> (Served, Vec<u8>) {
-    let mut session = session_over(alloc, INPUT);
+fn left_by<S: Source>(alloc: Global, source: &mut S, session: &mut Session) -> (Served, Vec<u8>) {
     let mut term = MemoryTerminal::new(alloc);
     let served = serve(
         alloc,
         source,
-        &mut session,
+        session,
         BOUNDS,
         false,
         &mut ClockAlarm::new(&Ticking::new()),
@@ -128,56 +136,81 @@ fn left_by<S: Source>(alloc: Global, source: &mut S) -> (Served, Vec<u8>) {
     (served, left)
 }
 
-/// Whether a reader that fails after its bytes is served as a source that ends after them.
-fn are_served_alike(alloc: Global, front: &[u8]) -> Result<bool, NoMemory> {
-    let reader = FailAfter::new(bytes_of(alloc, front)?);
-    let mut source = source_of(alloc, front, true, false)?;
-    let (failed, left) = left_by(alloc, &mut ReaderSource::new(reader));
-    let (ended, other) = left_by(alloc, &mut source);
-    Ok(
-        failed == Served::ReadFault
-            && ended == Served::EndOfCommands
-            && left.as_slice() == other.as_slice(),
-    )
+/// A source that ends after these bytes leaves this.
+#[derive(Clone, Copy)]
+struct Ended<'a>(&'a [u8], &'a [u8]);
+
+impl Trial for Ended<'_> {
+    fn holds(&self, alloc: Global, session: &mut Session, _term: &mut MemoryTerminal) -> bool {
+        match source_of(alloc, self.0, true, false) {
+            Ok(mut source) => {
+                let (served, left) = left_by(alloc, &mut source, session);
+                served == Served::EndOfCommands && are(&left, self.1)
+            }
+            Err(NoMemory) => false,
+        }
+    }
 }
 
-/// Whether what comes before the failed read is served, wherever that is; where memory was refused, the second time.
+/// A reader that fails after these bytes is served as a source that ends after them.
+#[derive(Clone, Copy)]
+struct Failed<'a>(&'a [u8]);
+
+impl Trial for Failed<'_> {
+    fn holds(&self, alloc: Global, session: &mut Session, _term: &mut MemoryTerminal) -> bool {
+        match bytes_of(alloc, self.0) {
+            Ok(bytes) => {
+                let mut source = ReaderSource::new(FailAfter::new(bytes));
+                let (served, left) = left_by(alloc, &mut source, session);
+                served == Served::ReadFault
+                    && holds_once(alloc, &Over::new(INPUT), &Ended(self.0, &left))
+            }
+            Err(NoMemory) => false,
+        }
+    }
+}
+
+/// Whether what comes before the failed read is served, wherever that is.
 fn each_read_fails(alloc: Global, stream: &[u8]) -> bool {
     let mut held = true;
     for read in 0..=stream.len() {
-        let front = &stream[..read];
-        held = (are_served_alike(alloc, front) == Ok(true)
-            || are_served_alike(alloc, front) == Ok(true))
-            && held;
+        held = holds_in(alloc, &Over::new(INPUT), &Failed(&stream[..read])) && held;
     }
     held
 }
 
 /// Whether a serving on a terminal that takes nothing fails at what the first string types.
-fn cannot_show(alloc: Global, source: &mut MemorySource) -> bool {
-    let mut session = session_over(alloc, b"");
-    let mut room: [u8; 0] = [];
-    let mut term = WriterTerminal::new(room.as_mut_slice());
+fn cannot_show(alloc: Global, source: &mut MemorySource, session: &mut Session) -> bool {
+    let mut writer = failing_after(alloc, 0);
     let served = serve(
         alloc,
         source,
-        &mut session,
+        session,
         BOUNDS,
         false,
         &mut ClockAlarm::new(&Ticking::new()),
-        &mut term,
+        &mut WriterTerminal::new(&mut writer),
         &mut Silent,
     );
     served == Served::ShowFault && session.strings() == 1
 }
 
 /// Each request is done before the next read: where the first cannot be shown, the byte after it is still to come.
-fn stops_before_the_next_read(alloc: Global) -> bool {
-    let Ok(mut source) = source_of(alloc, b"1=$$2=$$", true, false) else {
-        return false;
-    };
-    let mut next = [0];
-    cannot_show(alloc, &mut source) && matches!(source.read(&mut next), Ok(1)) && next[0] == b'2'
+#[derive(Clone, Copy)]
+struct Unread;
+
+impl Trial for Unread {
+    fn holds(&self, alloc: Global, session: &mut Session, _term: &mut MemoryTerminal) -> bool {
+        let mut next = [0];
+        match source_of(alloc, b"1=$$2=$$", true, false) {
+            Ok(mut source) => {
+                cannot_show(alloc, &mut source, session)
+                    && matches!(source.read(&mut next), Ok(1))
+                    && next[0] == b'2'
+            }
+            Err(NoMemory) => false,
+        }
+    }
 }
 
 /// A beginning is shown where a put fails, what came before a failed read is served, and nothing is read further than is shown.
@@ -188,5 +221,5 @@ fn serves_up_to_a_failure(rt: HostRuntime) {
         let held = each_put_fails(alloc, row) && each_read_fails(alloc, row.0.as_bytes());
         assert_of(&rt, row.0, held);
     }
-    assert!(rt; stops_before_the_next_read(alloc) || stops_before_the_next_read(alloc));
+    assert!(rt; holds_in(alloc, &Over::new(b""), &Unread));
 }
