@@ -23,6 +23,7 @@ use crate::serving::serve;
 use std::alloc::Global;
 use std::io;
 use std::io::ErrorKind;
+use std::mem::ManuallyDrop;
 use teco_core::{FILE_LIMIT, NoMemory};
 use teco_files::{Disk, Source, read_input};
 use teco_line::{Commands, Line, is_standard_input, is_standard_output};
@@ -266,7 +267,7 @@ fn edit_over<S: Source, A: Alarm, T: Terminal, L: Listens, D: Disk>(
     else {
         return Fate::NoMemory;
     };
-    finish(
+    let fate = finish(
         alloc,
         line.in_place,
         to.as_str(),
@@ -275,7 +276,12 @@ fn edit_over<S: Source, A: Alarm, T: Terminal, L: Listens, D: Disk>(
         session.editor().output(),
         term,
         disk,
-    )
+    );
+    if line.more.is_empty() {
+        // The process ends next, and the system takes back at once what the session would free change by change.
+        let _kept = ManuallyDrop::new(session);
+    }
+    fate
 }
 
 /// Reads an input that is a file, and edits it by these commands.

@@ -27,4 +27,4 @@ returns g c =
       serves = c.in-Ok-serve_over.ensures.serves;
       output_is = c.output.ensures.joined ∙ ap (λ s. s.output) c.editor.ensures.present;
     } in
-    over_served _ _ _ _ _ _ _ _ _ _ (c.as_str.ensures.value ∙ c.in-Ok.ensures) serves c.finish.ensures
+    over_served _ _ _ _ _ _ _ _ _ _ (c.as_str.ensures.value ∙ c.in-Ok.ensures) serves c.finish-fate.ensures
