@@ -16,4 +16,5 @@ pub mod Tokens
 pub mod View
 pub mod Runs
 pub mod Running
+pub mod TextStep
 pub mod Semicolon

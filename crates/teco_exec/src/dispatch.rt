@@ -1,15 +1,9 @@
 //! One step of a text. The commonest first bytes have a copy of the code each, which the compiler makes for just their command.
-ghost use Rattle.std.specs.Prelude.{◌≡◌, ◌<◌, ◌⊎◌, Some, drop, length, IfSome};
-ghost use Rattle.teco_core.specs.declared.code.Code.TheVariants.{Lim};
+ghost use Rattle.std.specs.Prelude.{◌≡◌, IfSome, drop};
 ghost use Rattle.teco_scan.specs.Led.{Begins};
 ghost use Rattle.teco_scan.specs.Scan.{scan};
 ghost use Rattle.teco_scan.specs.Seen.{IsFoundAt, found_in};
-ghost use Rattle.teco_exec.specs.Running.{GoesOn, GoesQuietly, HasStood, OnCall, OnLast, RunLeads, at_cursor, reached_by_flow};
-ghost use Rattle.teco_exec.specs.Tokens.{CountsSteps};
-ghost use Rattle.teco_exec.specs.Places.{IsReadAt, call_token};
-ghost use Rattle.teco_exec.specs.Quiet.{IsQuiet};
-ghost use Rattle.teco_exec.specs.View.{cursor as cursor_of};
-ghost use Rattle.teco_exec.specs.declared.flow.Flow.TheVariants as flow;
+ghost use Rattle.teco_exec.specs.TextStep.{StepsText};
 
 use crate::cursor::Cursor;
 use crate::flow::{Flow, Steps};
@@ -38,21 +32,8 @@ pub(crate) fn step<D: Desk, S: Stop, T: Terminal, W: Watch>(
     stop: &mut S,
     term: &mut T,
 ) -> Flow
-    ensures text { cursor.new.text ≡ cursor.old.text }
-    ensures counts { CountsSteps (S.answered stop.old) (S.answered stop.new) (result ≡ flow.Stop Lim)
-        steps.old steps.new }
-    ensures advances { GoesOn result
-        → (steps.old.done < steps.new.done)
-        ⊎ (length (cursor_of cursor.new).left < length (cursor_of cursor.old).left) }
-    ensures leads { RunLeads D.Desk T.Terminal (desk.old, term.old, steps.old) (desk.new, term.new, steps.new)
-        (at_cursor cursor.old) (λ callers. reached_by_flow cursor.new callers result) }
-    ensures quiet { IsQuiet (cursor_of cursor.old) → GoesQuietly cursor.new result }
-    ensures around { OnLast result steps.new.done (λ k.
-        (cursor_of cursor.new).blocks ≡ (cursor_of cursor.old).blocks) }
-    ensures stood { OnLast result steps.new.done
-        (HasStood D.Desk T.Terminal (desk.old, term.old, steps.old) cursor.old) }
-    ensures calls { OnCall result (λ q. IsReadAt cursor.old.text.now cursor.old.at (Some (call_token q))
-        (cursor_of cursor.new).left) }
+    ensures { StepsText D.Desk T.Terminal (S.answered stop.old) (S.answered stop.new)
+        (desk.old, term.old, steps.old) (desk.new, term.new, steps.new) cursor.old cursor.new result }
 {
     let (text, at) = (cursor.text, cursor.at);
     let from = filler_end(text, at);
@@ -99,26 +80,31 @@ fn step_known<D: Desk, S: Stop, T: Terminal>(
     requires read { IfSome known (λ found.
         found_in cursor.old.text.now found ≡ scan (drop cursor.old.at cursor.old.text.now)) }
     requires place { IfSome known (λ found. IsFoundAt cursor.old.text.now cursor.old.at found) }
-    ensures text { cursor.new.text ≡ cursor.old.text }
-    ensures counts { CountsSteps (S.answered stop.old) (S.answered stop.new) (result ≡ flow.Stop Lim)
-        steps.old steps.new }
-    ensures advances { GoesOn result
-        → (steps.old.done < steps.new.done)
-        ⊎ (length (cursor_of cursor.new).left < length (cursor_of cursor.old).left) }
-    ensures leads { RunLeads D.Desk T.Terminal (desk.old, term.old, steps.old) (desk.new, term.new, steps.new)
-        (at_cursor cursor.old) (λ callers. reached_by_flow cursor.new callers result) }
-    ensures quiet { IsQuiet (cursor_of cursor.old) → GoesQuietly cursor.new result }
-    ensures around { OnLast result steps.new.done (λ k.
-        (cursor_of cursor.new).blocks ≡ (cursor_of cursor.old).blocks) }
-    ensures stood { OnLast result steps.new.done
-        (HasStood D.Desk T.Terminal (desk.old, term.old, steps.old) cursor.old) }
-    ensures calls { OnCall result (λ q. IsReadAt cursor.old.text.now cursor.old.at (Some (call_token q))
-        (cursor_of cursor.new).left) }
+    ensures { StepsText D.Desk T.Terminal (S.answered stop.old) (S.answered stop.new)
+        (desk.old, term.old, steps.old) (desk.new, term.new, steps.new) cursor.old cursor.new result }
 {
     match known {
-        Some(found) => step_found(desk, cursor, &found, steps, stop, term),
+        Some(found) => step_at(desk, cursor, &found, steps, stop, term),
         None => step_any(desk, cursor, steps, stop, term),
     }
+}
+
+/// Does the step of what was found.
+#[inline(always)]
+fn step_at<D: Desk, S: Stop, T: Terminal>(
+    desk: &mut D,
+    cursor: &mut Cursor,
+    found: &Found,
+    steps: &mut Steps,
+    stop: &mut S,
+    term: &mut T,
+) -> Flow
+    requires read { found_in cursor.old.text.now found.now ≡ scan (drop cursor.old.at cursor.old.text.now) }
+    requires place { IsFoundAt cursor.old.text.now cursor.old.at found.now }
+    ensures { StepsText D.Desk T.Terminal (S.answered stop.old) (S.answered stop.new)
+        (desk.old, term.old, steps.old) (desk.new, term.new, steps.new) cursor.old cursor.new result }
+{
+    step_found(desk, cursor, found, steps, stop, term)
 }
 
 /// Does the step of a token that begins at a place, of which this is the first byte: the code is made for just its command.
@@ -131,21 +117,8 @@ fn step_led<D: Desk, S: Stop, T: Terminal, W: Watch, const BYTE: u8>(
     term: &mut T,
 ) -> Flow
     requires { Begins cursor.old.text.now cursor.old.at from }
-    ensures text { cursor.new.text ≡ cursor.old.text }
-    ensures counts { CountsSteps (S.answered stop.old) (S.answered stop.new) (result ≡ flow.Stop Lim)
-        steps.old steps.new }
-    ensures advances { GoesOn result
-        → (steps.old.done < steps.new.done)
-        ⊎ (length (cursor_of cursor.new).left < length (cursor_of cursor.old).left) }
-    ensures leads { RunLeads D.Desk T.Terminal (desk.old, term.old, steps.old) (desk.new, term.new, steps.new)
-        (at_cursor cursor.old) (λ callers. reached_by_flow cursor.new callers result) }
-    ensures quiet { IsQuiet (cursor_of cursor.old) → GoesQuietly cursor.new result }
-    ensures around { OnLast result steps.new.done (λ k.
-        (cursor_of cursor.new).blocks ≡ (cursor_of cursor.old).blocks) }
-    ensures stood { OnLast result steps.new.done
-        (HasStood D.Desk T.Terminal (desk.old, term.old, steps.old) cursor.old) }
-    ensures calls { OnCall result (λ q. IsReadAt cursor.old.text.now cursor.old.at (Some (call_token q))
-        (cursor_of cursor.new).left) }
+    ensures { StepsText D.Desk T.Terminal (S.answered stop.old) (S.answered stop.new)
+        (desk.old, term.old, steps.old) (desk.new, term.new, steps.new) cursor.old cursor.new result }
 {
     let (text, at) = (cursor.text, cursor.at);
     if text[from] == BYTE {
@@ -165,26 +138,13 @@ fn step_digits<D: Desk, S: Stop, T: Terminal, W: Watch>(
     term: &mut T,
 ) -> Flow
     requires { Begins cursor.old.text.now cursor.old.at from }
-    ensures text { cursor.new.text ≡ cursor.old.text }
-    ensures counts { CountsSteps (S.answered stop.old) (S.answered stop.new) (result ≡ flow.Stop Lim)
-        steps.old steps.new }
-    ensures advances { GoesOn result
-        → (steps.old.done < steps.new.done)
-        ⊎ (length (cursor_of cursor.new).left < length (cursor_of cursor.old).left) }
-    ensures leads { RunLeads D.Desk T.Terminal (desk.old, term.old, steps.old) (desk.new, term.new, steps.new)
-        (at_cursor cursor.old) (λ callers. reached_by_flow cursor.new callers result) }
-    ensures quiet { IsQuiet (cursor_of cursor.old) → GoesQuietly cursor.new result }
-    ensures around { OnLast result steps.new.done (λ k.
-        (cursor_of cursor.new).blocks ≡ (cursor_of cursor.old).blocks) }
-    ensures stood { OnLast result steps.new.done
-        (HasStood D.Desk T.Terminal (desk.old, term.old, steps.old) cursor.old) }
-    ensures calls { OnCall result (λ q. IsReadAt cursor.old.text.now cursor.old.at (Some (call_token q))
-        (cursor_of cursor.new).left) }
+    ensures { StepsText D.Desk T.Terminal (S.answered stop.old) (S.answered stop.new)
+        (desk.old, term.old, steps.old) (desk.new, term.new, steps.new) cursor.old cursor.new result }
 {
     let (text, at) = (cursor.text, cursor.at);
     if text[from].is_ascii_digit() {
         let found = digits_token(text, at, from);
-        return step_found(desk, cursor, &found, steps, stop, term);
+        return step_at(desk, cursor, &found, steps, stop, term);
     }
     step_any(desk, cursor, steps, stop, term)
 }
@@ -200,31 +160,18 @@ fn step_other<D: Desk, S: Stop, T: Terminal>(
     term: &mut T,
 ) -> Flow
     requires { Begins cursor.old.text.now cursor.old.at from }
-    ensures text { cursor.new.text ≡ cursor.old.text }
-    ensures counts { CountsSteps (S.answered stop.old) (S.answered stop.new) (result ≡ flow.Stop Lim)
-        steps.old steps.new }
-    ensures advances { GoesOn result
-        → (steps.old.done < steps.new.done)
-        ⊎ (length (cursor_of cursor.new).left < length (cursor_of cursor.old).left) }
-    ensures leads { RunLeads D.Desk T.Terminal (desk.old, term.old, steps.old) (desk.new, term.new, steps.new)
-        (at_cursor cursor.old) (λ callers. reached_by_flow cursor.new callers result) }
-    ensures quiet { IsQuiet (cursor_of cursor.old) → GoesQuietly cursor.new result }
-    ensures around { OnLast result steps.new.done (λ k.
-        (cursor_of cursor.new).blocks ≡ (cursor_of cursor.old).blocks) }
-    ensures stood { OnLast result steps.new.done
-        (HasStood D.Desk T.Terminal (desk.old, term.old, steps.old) cursor.old) }
-    ensures calls { OnCall result (λ q. IsReadAt cursor.old.text.now cursor.old.at (Some (call_token q))
-        (cursor_of cursor.new).left) }
+    ensures { StepsText D.Desk T.Terminal (S.answered stop.old) (S.answered stop.new)
+        (desk.old, term.old, steps.old) (desk.new, term.new, steps.new) cursor.old cursor.new result }
 {
     let (text, at) = (cursor.text, cursor.at);
     match lead(text, at, from) {
         Some(Form::Bare(command)) => {
             let found = bare_token(text, at, from, command);
-            step_found(desk, cursor, &found, steps, stop, term)
+            step_at(desk, cursor, &found, steps, stop, term)
         }
         Some(Form::Mark(mark)) => {
             let found = mark_token(text, at, from, mark);
-            step_found(desk, cursor, &found, steps, stop, term)
+            step_at(desk, cursor, &found, steps, stop, term)
         }
         Some(Form::Register(command)) => {
             let known = register_token(text, at, from, command);
@@ -251,24 +198,11 @@ fn step_any<D: Desk, S: Stop, T: Terminal>(
     stop: &mut S,
     term: &mut T,
 ) -> Flow
-    ensures text { cursor.new.text ≡ cursor.old.text }
-    ensures counts { CountsSteps (S.answered stop.old) (S.answered stop.new) (result ≡ flow.Stop Lim)
-        steps.old steps.new }
-    ensures advances { GoesOn result
-        → (steps.old.done < steps.new.done)
-        ⊎ (length (cursor_of cursor.new).left < length (cursor_of cursor.old).left) }
-    ensures leads { RunLeads D.Desk T.Terminal (desk.old, term.old, steps.old) (desk.new, term.new, steps.new)
-        (at_cursor cursor.old) (λ callers. reached_by_flow cursor.new callers result) }
-    ensures quiet { IsQuiet (cursor_of cursor.old) → GoesQuietly cursor.new result }
-    ensures around { OnLast result steps.new.done (λ k.
-        (cursor_of cursor.new).blocks ≡ (cursor_of cursor.old).blocks) }
-    ensures stood { OnLast result steps.new.done
-        (HasStood D.Desk T.Terminal (desk.old, term.old, steps.old) cursor.old) }
-    ensures calls { OnCall result (λ q. IsReadAt cursor.old.text.now cursor.old.at (Some (call_token q))
-        (cursor_of cursor.new).left) }
+    ensures { StepsText D.Desk T.Terminal (S.answered stop.old) (S.answered stop.new)
+        (desk.old, term.old, steps.old) (desk.new, term.new, steps.new) cursor.old cursor.new result }
 {
     let found = token_at(cursor.text, cursor.at);
-    step_found(desk, cursor, &found, steps, stop, term)
+    step_at(desk, cursor, &found, steps, stop, term)
 }
 
 /// The token that begins at a place, if its first byte alone names its command and what belongs to it follows.
