@@ -12,7 +12,7 @@ use crate::stop::Stop;
 use crate::watch::Watch;
 use teco_core::ESC;
 use teco_scan::{
-    Form, Found, bare_token, digits_token, escape_token, filler_end, lead, mark_token,
+    Form, Found, bare_token, digits_token, end_found, escape_token, filler_end, lead, mark_token,
     register_token, tag_token, test_token, text_token, token_at,
 };
 use teco_store::Desk;
@@ -38,7 +38,8 @@ pub(crate) fn step<D: Desk, S: Stop, T: Terminal, W: Watch>(
     let (text, at) = (cursor.text, cursor.at);
     let from = filler_end(text, at);
     if from == text.len() {
-        return step_any(desk, cursor, steps, stop, term);
+        let found = end_found(text, at, from);
+        return step_at(desk, cursor, &found, steps, stop, term);
     }
     // What has no arm of its own takes longer, and is done as well.
     match text[from] {
