@@ -91,6 +91,7 @@ impl Block {
     }
 
     // Puts `ins` in place of the `del` bytes at `at`, and returns the gap after it, which was `gap..tail`.
+    #[inline(always)]
     #[tactic(auto, using(crate::proofs::Around::after_splice))]
     pub(crate) fn splice(
         &mut self,
