@@ -1,3 +1,3 @@
 //! Of teco_store: the limits of its texts.
-mod limits;
+pub(crate) mod limits;
 pub(crate) mod states;
