@@ -1,5 +1,6 @@
 //! Tables that are texts. A row is a line after four blanks, with an arrow between blanks from one cell to the next; last cells that are
-//! empty are left out. A line that begins with two slashes tells of the rows after it.
+//! empty are left out. A line that begins with two slashes tells of the rows after it. Where cells have lines of their own, each row is an
+//! item of a list.
 use super::assert_of;
 use super::bytes::is;
 use std::alloc::Global;
@@ -7,6 +8,9 @@ use std::process::Abort;
 
 /// What is before each line.
 pub(crate) const LINE: &str = "\n    ";
+
+/// What is before each item.
+const ITEM: &str = "\n    - ";
 
 /// Whether a line is a row.
 pub(crate) fn is_row(line: &str) -> bool {
@@ -21,7 +25,12 @@ pub(crate) trait Rule {
 
 /// Each row of a table holds.
 pub(crate) fn all_hold<R: Rule>(rt: &impl Abort, alloc: Global, rule: &R, table: &str) {
-    for line in table.split(LINE) {
+    let before = if table.starts_with(ITEM) {
+        ITEM
+    } else {
+        LINE
+    };
+    for line in table.split(before) {
         assert_of(rt, line, !is_row(line) || rule.holds(alloc, line));
     }
 }

@@ -4,12 +4,12 @@
 pub(super) const SCRIPTS: &str = "
     over abc
     Y => => => => => => 1 0 1:
-    2! => LIM => => => => 2 2 2:
+    2! => LIM => => => => => 2 2 2:
     { => => => => => => 2 0 2:
     } => => => => => => 2 2 2:
     ~1 => => => => => => 2 1 1:
     // It tells the place of the third move.
     over abc
     Y =>
-    2? => LIM => => => => 2 2 2:
+    2? => LIM => => => => => 2 2 2:
     ";

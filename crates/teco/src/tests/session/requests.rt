@@ -101,7 +101,7 @@ fn is_shown(alloc: Global, session: &mut Session, cells: &Cells) -> bool {
 fn is_answered(alloc: Global, session: &mut Session, row: &str, term: &mut MemoryTerminal) -> bool {
     let cells = cells_of(row);
     let mut held = cells[7].is_empty() || is_shown(alloc, session, &cells);
-    for _ in 0..number_or(cells[5], u64::from(cells[7].is_empty())) {
+    for _ in 0..number_or(cells[5], u64::from(cells[7].is_empty())).min(100) {
         held = is_code(code_of(session, cells[0], term), cells[1]) && held;
     }
     held && is_left(alloc, session, &cells)
