@@ -119,40 +119,31 @@ fn refused_of(call: &str) -> Refused {
     }
 }
 
-/// The files of a cell, by their names, and how many there are.
-fn files_of(cell: &str) -> ([(&str, &str); 5], usize) {
-    let mut files = [("", ""); 5];
-    let mut count = 0;
+/// A disk with the files of a cell, of which a call is refused. Where memory was refused, it is asked for a second time.
+fn disk_with(alloc: Global, cell: &str, call: &str) -> MemoryDisk {
+    let mut disk = MemoryDisk::new(alloc, refused_of(call));
     for file in cell.split(" ++ ") {
-        if let Some(pair) = file.split_once(" == ") {
-            if count < 5 {
-                files[count] = pair;
-                count += 1;
-            }
+        if let Some((name, bytes)) = file.split_once(" == ") {
+            let bytes = bytes.as_bytes();
+            let _ = disk.put(name, bytes).is_ok() || disk.put(name, bytes).is_ok();
         }
     }
-    (files, count)
+    disk
 }
 
-/// A disk with the files of a cell, of which a call is refused.
-fn disk_with(alloc: Global, cell: &str, call: &str) -> Result<MemoryDisk, NoMemory> {
-    let (files, count) = files_of(cell);
-    let mut disk = MemoryDisk::new(alloc, refused_of(call));
-    for (name, bytes) in &files[..count.min(5)] {
-        disk.put(name, bytes.as_bytes())?;
-    }
-    Ok(disk)
-}
-
-/// Whether a disk has the files of a cell alone.
+/// Whether a disk has the files of a cell alone, of which there are at most five.
 fn has_just(disk: &MemoryDisk, cell: &str) -> bool {
-    let (files, count) = files_of(cell);
-    let files = &files[..count.min(5)];
-    let mut held = disk.has_only(files);
-    for (name, bytes) in files {
-        held = held && are_there(disk.bytes(name), bytes.as_bytes());
+    let mut files = [("", ""); 5];
+    let mut count = 0;
+    let mut held = true;
+    for file in cell.split(" ++ ") {
+        if let Some((name, bytes)) = file.split_once(" == ") {
+            held = count < 5 && are_there(disk.bytes(name), bytes.as_bytes()) && held;
+            files[count % 5] = (name, bytes);
+            count = count.saturating_add(1);
+        }
     }
-    held
+    held && disk.has_only(&files[..count.min(5)])
 }
 
 fn goes_so(alloc: Global, cells: &Cells) -> bool {
@@ -161,10 +152,8 @@ fn goes_so(alloc: Global, cells: &Cells) -> bool {
     } else {
         cells[7]
     };
-    match disk_with(alloc, cells[6], cells[8]) {
-        Ok(mut disk) => runs_on(alloc, &mut disk, cells) && has_just(&disk, after),
-        Err(NoMemory) => false,
-    }
+    let mut disk = disk_with(alloc, cells[6], cells[8]);
+    runs_on(alloc, &mut disk, cells) && has_just(&disk, after)
 }
 
 /// A run: its words, with blanks between them; its commands, where none are said if no run may read them; what it types, tells on standard

@@ -1,3 +1,3 @@
 //! Of teco_store: the limits of its texts.
-pub(crate) mod limits;
+mod limits;
 pub(crate) mod states;

@@ -6,7 +6,6 @@ use crate::tests::rows::{Cells, Rule, all_hold, cells_of, number_or, text_of};
 use crate::tests::scan::{faults, modifiers};
 use crate::tests::search::elements;
 use crate::tests::step::{edits, failed_searches, operands, search_forms, searches, texts, values};
-use crate::tests::store::limits;
 use std::alloc::Global;
 use std::test::*;
 use teco_core::{Code, FILE_LIMIT};
@@ -83,7 +82,7 @@ fn try_once(alloc: Global, cells: &Cells) -> Option<bool> {
 /// A row is a text, what it types, the letters of the code by which it ends, if it ends by one, its steps, their limit, the output, the
 /// input, and the lines of a page. What is empty of the steps, the limit, the output and the lines is not said.
 #[derive(Clone, Copy)]
-struct Strings;
+pub(crate) struct Strings;
 
 impl Rule for Strings {
     /// Where memory was refused, at the second time.
@@ -113,8 +112,8 @@ const ROWS: &str = "
     Ia\nb\x1b0T-T\x1b => ba\nb => => 5
     ";
 
-/// The tables of all strings.
-static TABLES: [&str; 21] = [
+/// The tables of all strings but those at the limits of the texts.
+static TABLES: [&str; 20] = [
     ROWS,
     conditionals::ROWS,
     iterations::ROWS,
@@ -135,7 +134,6 @@ static TABLES: [&str; 21] = [
     faults::ROWS,
     modifiers::ROWS,
     elements::ROWS,
-    limits::ROWS,
 ];
 
 #[test]

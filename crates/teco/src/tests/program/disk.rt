@@ -59,15 +59,17 @@ fn keeps_its_owner(rt: &HostRuntime, disk: &mut Files, name: &str) -> bool {
         || puts(rt, disk, name, "theirs") && holds(rt, name, "theirs") && is_a(rt, name, "away")
 }
 
-/// What is written to the descriptor of this number of the process comes out of the reader.
-fn gives_through(
-    rt: &HostRuntime,
-    disk: &mut Files,
-    name: &str,
-    reader: &mut io::PipeReader,
-) -> bool {
+/// Whether an output is written to the name of a descriptor of the process, to which a link is made then.
+fn puts_there(rt: &HostRuntime, disk: &mut Files, number: i32, link: &str, bytes: &str) -> bool {
+    match format!(in rt.alloc(); "/proc/self/fd/{number}") {
+        Ok(name) => puts(rt, disk, name.as_str(), bytes) && symlink(rt, name.as_str(), link).is_ok(),
+        Err(_) => false,
+    }
+}
+
+fn gives(reader: &mut io::PipeReader, bytes: &[u8; 4]) -> bool {
     let mut read = [0; 4];
-    puts(rt, disk, name, "abcd") && reader.read_exact(&mut read).is_ok() && are(&read, b"abcd")
+    reader.read_exact(&mut read).is_ok() && are(&read, bytes)
 }
 
 /// A pipe is a stream, by its name among the descriptors and by a link to that.
@@ -75,26 +77,16 @@ fn leads_to_a_pipe(rt: &HostRuntime, disk: &mut Files, link: &str) -> bool {
     let Ok((mut reader, writer)) = io::pipe(rt) else {
         return false;
     };
-    let Ok(name) = format!(in rt.alloc(); "/proc/self/fd/{}", writer.as_raw_fd()) else {
-        return false;
-    };
-    gives_through(rt, disk, name.as_str(), &mut reader)
-        && symlink(rt, name.as_str(), link).is_ok()
-        && gives_through(rt, disk, link, &mut reader)
+    puts_there(rt, disk, writer.as_raw_fd(), link, "abcd")
+        && gives(&mut reader, b"abcd")
+        && puts(rt, disk, link, "efgh")
+        && gives(&mut reader, b"efgh")
 }
 
 /// A name among the descriptors that leads to a file is that file: it has the new text alone.
-fn is_replaced_by_its_descriptor(
-    rt: &HostRuntime,
-    disk: &mut Files,
-    name: &str,
-    bytes: &str,
-) -> bool {
-    let Ok(file) = fs::open(rt, name) else {
-        return false;
-    };
-    match format!(in rt.alloc(); "/proc/self/fd/{}", file.as_raw_fd()) {
-        Ok(descriptor) => puts(rt, disk, descriptor.as_str(), bytes) && holds(rt, name, bytes),
+fn is_replaced_by_its_descriptor(rt: &HostRuntime, disk: &mut Files, name: &str) -> bool {
+    match fs::open(rt, name) {
+        Ok(file) => puts_there(rt, disk, file.as_raw_fd(), "teco_test/descriptor", "new"),
         Err(_) => false,
     }
 }
@@ -123,7 +115,7 @@ fn does(rt: &HostRuntime, disk: &mut Files, call: (&str, &str, &str)) -> Option<
         [b'a', b'n', ..] => Some(puts(rt, disk, name, value)),
         [b'g', b'i', ..] => Some(keeps_its_owner(rt, disk, name)),
         [b'p', b'i', ..] => Some(leads_to_a_pipe(rt, disk, name)),
-        [b'd', b'e', ..] => Some(is_replaced_by_its_descriptor(rt, disk, name, value)),
+        [b'd', b'e', ..] => Some(is_replaced_by_its_descriptor(rt, disk, name)),
         [b's', b't', ..] => Some(is_standard_output(rt, disk, name)),
         _ => None,
     }
@@ -267,7 +259,8 @@ const LEADS: &str = "
     put teco_test/out old
     pipe teco_test/link
     remove teco_test/link
-    descriptor teco_test/out new
+    descriptor teco_test/out
+    has teco_test/out new
     // A link to a link to nothing makes the file at their end; a link to itself is an error.
     remove teco_test/out
     link teco_test/end out

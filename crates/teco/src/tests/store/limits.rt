@@ -1,10 +1,11 @@
 //! Strings at the limits of the texts, and a byte past them.
-use crate::tests::exec::strings::bytes_of;
+use crate::tests::exec::strings::{Strings, bytes_of};
+use crate::tests::rows::all_hold;
 use std::alloc::Global;
 use std::test::*;
 use teco_store::{Desk, Editor, Refused};
 
-pub(crate) const ROWS: &str = "
+const ROWS: &str = "
     // A text that is put in fits or is BIG.
     I[FULL]xx\x1bZ= => 16777216\r\n
     I[FULL]xxx\x1b => => BIG
@@ -32,7 +33,9 @@ fn is_big(alloc: Global, cell: &str) -> bool {
 }
 
 #[test]
-fn search_texts_fit_or_are_big(rt: HostRuntime) {
+fn texts_and_pages_fit_or_are_big(rt: HostRuntime) {
     let alloc = rt.alloc();
-    assert!(rt; is_big(alloc, "[FULL]xxx") && !is_big(alloc, "[FULL]xx"));
+    all_hold(&rt, alloc, &Strings, ROWS);
+    assert!(rt; is_big(alloc, "[FULL]xxx") || is_big(alloc, "[FULL]xxx"));
+    assert!(rt; !is_big(alloc, "[FULL]xx"));
 }
