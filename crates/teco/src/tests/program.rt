@@ -36,6 +36,11 @@ pub(crate) fn words_of(alloc: Global, text: &str) -> Result<Vec<String>, NoMemor
 /// Commands that no run may read, since its line gives others.
 const NOT_READ: &str = "Ino\x1b\x1bEX\x1b\x1b";
 
+/// The commands on standard input that a cell says.
+fn commands_of(cell: &str) -> &str {
+    if cell.is_empty() { NOT_READ } else { cell }
+}
+
 /// Whether commands that no run may read are still to be read, if they are such.
 fn is_unread(source: &mut MemorySource, commands: &str) -> bool {
     let mut piece = [0; 100];
@@ -76,11 +81,7 @@ fn runs_on(alloc: Global, disk: &mut MemoryDisk, cells: &Cells) -> bool {
         Ok(words) => Ok(words),
         Err(NoMemory) => Err(LineFault::NoMemory),
     };
-    let commands = match cells[1] {
-        "" => NOT_READ,
-        "none" => "",
-        commands => commands,
-    };
+    let commands = commands_of(cells[1]);
     let bytes = joined(alloc, &[commands.as_bytes()]);
     let mut source = MemorySource::new(bytes, Vec::new(alloc), false);
     let mut term = MemoryTerminal::new(alloc);

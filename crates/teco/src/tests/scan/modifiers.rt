@@ -11,8 +11,9 @@ use teco_scan::{Found, token_at};
 static MODIFIERS: [(&str, &str); 4] = [(":", "[:]"), ("::", "[::]"), ("@", "[@]"), (":@", "[:@]")];
 
 /// Whether a text begins with a token where that is wanted, and else is ILL.
-fn is_read(text: &[u8], wanted: bool) -> bool {
-    match token_at(text, 0) {
+fn is_read(alloc: Global, modifiers: &str, command: &str, wanted: bool) -> bool {
+    let text = joined(alloc, &[modifiers.as_bytes(), command.as_bytes()]);
+    match token_at(&text, 0) {
         Found::Token(_) => wanted,
         Found::Fault(Code::Ill) => !wanted,
         _ => false,
@@ -28,8 +29,7 @@ impl Rule for Admits {
         let [command, admitted, ..] = cells_of(row);
         let mut held = true;
         for (modifiers, cell) in &MODIFIERS {
-            let text = joined(alloc, &[modifiers.as_bytes(), command.as_bytes()]);
-            held = is_read(&text, admitted.contains(cell)) && held;
+            held = is_read(alloc, modifiers, command, admitted.contains(cell)) && held;
         }
         held
     }

@@ -36,16 +36,20 @@ fn begins_again_after_a_refusal(rt: HostRuntime) {
     assert!(rt; holds_once(rt.alloc(), &Over::new(b""), &Twelve));
 }
 
-/// The requests of a text, with blanks between them: an undo, a redo, or a string.
+/// An undo, a redo, or a string.
+fn request_of(alloc: Global, word: &str) -> Request {
+    match word.as_bytes() {
+        [b'{'] => Request::Undo,
+        [b'}'] => Request::Redo,
+        string => Request::Run(joined(alloc, &[string])),
+    }
+}
+
+/// The requests of a text, with blanks between them.
 fn requests_of(alloc: Global, text: &str) -> Vec<Request> {
     let mut requests = Vec::new(alloc);
     for word in text.split(' ') {
-        let request = match word.as_bytes() {
-            [b'{'] => Request::Undo,
-            [b'}'] => Request::Redo,
-            string => Request::Run(joined(alloc, &[string])),
-        };
-        let _ = requests.push(request).is_ok();
+        let _ = requests.push(request_of(alloc, word)).is_ok();
     }
     requests
 }
