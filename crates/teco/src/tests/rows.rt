@@ -25,11 +25,7 @@ pub(crate) trait Rule {
 
 /// Each row of a table holds.
 pub(crate) fn all_hold<R: Rule>(rt: &impl Abort, alloc: Global, rule: &R, table: &str) {
-    let before = if table.starts_with(ITEM) {
-        ITEM
-    } else {
-        LINE
-    };
+    let before = if table.starts_with(ITEM) { ITEM } else { LINE };
     for line in table.split(before) {
         assert_of(rt, line, !is_row(line) || rule.holds(alloc, line));
     }

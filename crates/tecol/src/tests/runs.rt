@@ -139,8 +139,13 @@ fn goes_so(alloc: Global, cells: &Cells) -> bool {
     };
     let mut disk = disk_with(alloc, cells[5], cells[7]);
     let mut term = MemoryTerminal::new(alloc);
-    ends_so(alloc, words_in(alloc, cells[0]), &mut term, &mut disk, cells)
-        && are(term.bytes(), cells[2])
+    ends_so(
+        alloc,
+        words_in(alloc, cells[0]),
+        &mut term,
+        &mut disk,
+        cells,
+    ) && are(term.bytes(), cells[2])
         && has_just(&disk, after)
 }
 

@@ -90,7 +90,10 @@ fn is_told(alloc: Global, stopped: &Stopped, told: &str) -> Option<bool> {
         Err(_) => return None,
     };
     let (turns, calls) = (&place.turns, &place.calls);
-    match format!(in alloc; "{} {} {turns:?} {calls:?} {:?}", place.steps, place.at, place.fault) {
+    match format!(in alloc;
+        "{} {} {turns:?} {calls:?} {:?}",
+        place.steps, place.at, place.fault
+    ) {
         Ok(text) => Some(is(&text, told)),
         Err(_) => None,
     }

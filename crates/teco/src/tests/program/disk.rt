@@ -62,7 +62,8 @@ fn keeps_its_owner(rt: &HostRuntime, disk: &mut Files, name: &str) -> bool {
 /// Whether an output is written to the name of a descriptor of the process, to which a link is made then.
 fn puts_there(rt: &HostRuntime, disk: &mut Files, number: i32, link: &str, bytes: &str) -> bool {
     match format!(in rt.alloc(); "/proc/self/fd/{number}") {
-        Ok(name) => puts(rt, disk, name.as_str(), bytes) && symlink(rt, name.as_str(), link).is_ok(),
+        Ok(name) => puts(rt, disk, name.as_str(), bytes)
+            && symlink(rt, name.as_str(), link).is_ok(),
         Err(_) => false,
     }
 }
@@ -159,12 +160,7 @@ fn line_holds(rt: &HostRuntime, disk: &mut Files, other: &mut Files, line: &str)
 }
 
 /// The first line of a script that does not hold on a disk, or on another; empty where all do.
-fn fails_at<'a>(
-    rt: &HostRuntime,
-    disk: &mut Files,
-    other: &mut Files,
-    script: &'a str,
-) -> &'a str {
+fn fails_at<'a>(rt: &HostRuntime, disk: &mut Files, other: &mut Files, script: &'a str) -> &'a str {
     for line in script.split(LINE) {
         if is_row(line) && !line_holds(rt, disk, other, line) {
             return line;

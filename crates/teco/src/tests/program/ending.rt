@@ -29,18 +29,44 @@ fn ends_so(alloc: Global, row: &Row) -> bool {
 }
 
 static ROWS: [Row<'static>; 19] = [
-    ("teco -b strings in", Fate::NoCommands, 1, "teco: cannot read strings\n"),
-    ("teco -b strings in", Fate::NoInput, 1, "teco: cannot read in\n"),
-    ("teco -b strings in", Fate::LargeInput, 1, "teco: in is too large\n"),
+    (
+        "teco -b strings in",
+        Fate::NoCommands,
+        1,
+        "teco: cannot read strings\n",
+    ),
+    (
+        "teco -b strings in",
+        Fate::NoInput,
+        1,
+        "teco: cannot read in\n",
+    ),
+    (
+        "teco -b strings in",
+        Fate::LargeInput,
+        1,
+        "teco: in is too large\n",
+    ),
     ("teco -b strings in", Fate::NoMemory, 1, "teco: no memory\n"),
-    ("teco -b strings in", Fate::NoOutput, 1, "teco: cannot write in.out\n"),
-    ("teco -b strings -o out in",
+    (
+        "teco -b strings in",
+        Fate::NoOutput,
+        1,
+        "teco: cannot write in.out\n",
+    ),
+    (
+        "teco -b strings -o out in",
         Fate::NoOutput,
         1,
         "teco: cannot write out\n",
     ),
     ("teco -b strings in", Fate::Ended(Served::Exit), 0, ""),
-    ("teco -b strings in", Fate::Ended(Served::EndOfCommands), 2, ""),
+    (
+        "teco -b strings in",
+        Fate::Ended(Served::EndOfCommands),
+        2,
+        "",
+    ),
     (
         "teco -b strings in",
         Fate::Ended(Served::ReadFault),
@@ -53,14 +79,44 @@ static ROWS: [Row<'static>; 19] = [
         1,
         "teco: cannot show\n",
     ),
-    ("teco -b strings in", Fate::Ended(Served::NoMemory), 1, "teco: no memory\n"),
-    ("teco -b strings -i in", Fate::NoOutput, 1, "teco: cannot write in\n"),
-    ("teco -b strings -i in", Fate::Changed, 1, "teco: in has changed\n"),
+    (
+        "teco -b strings in",
+        Fate::Ended(Served::NoMemory),
+        1,
+        "teco: no memory\n",
+    ),
+    (
+        "teco -b strings -i in",
+        Fate::NoOutput,
+        1,
+        "teco: cannot write in\n",
+    ),
+    (
+        "teco -b strings -i in",
+        Fate::Changed,
+        1,
+        "teco: in has changed\n",
+    ),
     ("teco -b strings -i in", Fate::Unchanged, 0, ""),
     // Of several inputs each line names one.
-    ("teco -b strings in two", Fate::NoInput, 1, "teco: cannot read in\n"),
-    ("teco -b strings in two", Fate::NoOutput, 1, "teco: cannot write in.out\n"),
-    ("teco -b strings in two", Fate::NoMemory, 1, "teco: in: no memory\n"),
+    (
+        "teco -b strings in two",
+        Fate::NoInput,
+        1,
+        "teco: cannot read in\n",
+    ),
+    (
+        "teco -b strings in two",
+        Fate::NoOutput,
+        1,
+        "teco: cannot write in.out\n",
+    ),
+    (
+        "teco -b strings in two",
+        Fate::NoMemory,
+        1,
+        "teco: in: no memory\n",
+    ),
     (
         "teco -b strings in two",
         Fate::Ended(Served::ShowFault),

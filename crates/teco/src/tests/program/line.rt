@@ -28,8 +28,10 @@ fn commands_told(alloc: Global, commands: &Commands) -> Result<String, NoMemory>
 fn rest_told(alloc: Global, line: &Line) -> Result<String, NoMemory> {
     let (input, more, output) = (&line.input, &line.more, &line.output);
     let (seconds, undo, lines) = (line.seconds, line.undo, line.page_lines);
-    format!(in alloc; "{input} {more:?} {output:?} {} {} {} {} {} {seconds:?} {undo:?} {lines:?}",
-        line.in_place, line.prompt, line.check, line.explain, line.limit)
+    format!(in alloc;
+        "{input} {more:?} {output:?} {} {} {} {} {} {seconds:?} {undo:?} {lines:?}",
+        line.in_place, line.prompt, line.check, line.explain, line.limit
+    )
 }
 
 /// Whether it is told so, where that is said.

@@ -50,7 +50,16 @@ fn served_by<T: Terminal>(
     };
     let clock = Ticking::new();
     let alarm = &mut ClockAlarm::new(&clock);
-    serve(alloc, source, session, bounds, prompt, alarm, term, &mut Silent)
+    serve(
+        alloc,
+        source,
+        session,
+        bounds,
+        prompt,
+        alarm,
+        term,
+        &mut Silent,
+    )
 }
 
 /// Whether the bytes are this text, but for those that it doesn't tell.
@@ -120,7 +129,11 @@ fn holds_so(alloc: Global, cells: &Cells, untold: &[u8], single: bool, depth: u6
     let over = Over {
         input: cells[3].as_bytes(),
         page_lines: 0,
-        depth: if depth == 0 { None } else { Some(depth as usize) },
+        depth: if depth == 0 {
+            None
+        } else {
+            Some(depth as usize)
+        },
     };
     let serving = Serving {
         cells,

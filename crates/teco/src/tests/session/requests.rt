@@ -200,7 +200,12 @@ fn plays(alloc: Global, script: &str) -> bool {
 /// Tries each script of a table, which begins with `over`.
 #[test]
 fn requests_are_answered(rt: HostRuntime) {
-    for table in [records::SCRIPTS, breaks::SCRIPTS, exits::SCRIPTS, failing_terminals::SCRIPTS] {
+    for table in [
+        records::SCRIPTS,
+        breaks::SCRIPTS,
+        exits::SCRIPTS,
+        failing_terminals::SCRIPTS,
+    ] {
         for script in table.split("\n    over") {
             assert_of(&rt, script, script.is_empty() || plays(rt.alloc(), script));
         }
