@@ -1,7 +1,7 @@
 //! Of teco_program: its parts, and runs of the whole program over files in memory.
 use super::bytes::{are_there, is, is_typed, joined};
 use super::line_commands::{checked, explained, shown, sources};
-use super::rows::{Cells, Rule, all_hold, cells_of, number_or};
+use super::rows::{Cells, Rule, all_hold, cells_of};
 use std::alloc::Global;
 use std::cell::Cell;
 use std::io;
@@ -99,7 +99,8 @@ fn runs_on(alloc: Global, disk: &mut MemoryDisk, cells: &Cells) -> bool {
         &mut notes,
         disk,
     );
-    status == ExitCode::from(number_or(cells[5], 0) as u8)
+    let wanted = u8::from_str_radix(cells[5], 10).unwrap_or(0);
+    status == ExitCode::from(wanted)
         && is_typed(&term, cells[2])
         && is_typed(&errors, cells[3])
         && is_typed(&notes, cells[4])
