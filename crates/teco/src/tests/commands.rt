@@ -1,98 +1,84 @@
 //! Each command, with what the tests that must see all of them read.
 
-/// A command with its operand, the modifiers that it admits, and how the first byte of its name ends as a command string, by a letter
-/// of single_bytes.
-type Command<'a> = (&'a str, &'a [&'a str], u8);
-
-/// The modifiers that are tried before each.
-pub(crate) const MODIFIERS: &[&str] = &[":", "::", "@", ":@"];
-
-const NONE: &[&str] = &[];
-
-const COLON: &[&str] = &[":"];
-
-const AT: &[&str] = &["@"];
-
-const AT_AND_COLON: &[&str] = &[":", "@", ":@"];
-
-/// A shorter name comes before a longer one that begins with it.
-pub(crate) static COMMANDS: &[Command] = &[
+/// A command with its operand, the modifiers that it admits, and how the first byte of its name ends as a command string: the letters
+/// of a code, if it ends by one, and its steps. A shorter name comes before a longer one that begins with it.
+pub(crate) const COMMANDS: &str = "
     // Numbers, and what builds arguments.
-    ("5", NONE, b'n'),
-    ("B", NONE, b'n'),
-    ("Z", NONE, b'n'),
-    (".", NONE, b'n'),
-    ("H", NONE, b'n'),
-    ("+", NONE, b'n'),
-    ("-", NONE, b'n'),
-    ("*", NONE, b'a'),
-    ("/", NONE, b'a'),
-    ("&", NONE, b'a'),
-    ("#", NONE, b'a'),
-    ("(", NONE, b'n'),
-    (")", NONE, b'a'),
-    (",", NONE, b'a'),
-    ("^E", NONE, b'n'),
-    ("^N", NONE, b'n'),
-    ("^^a", NONE, b'u'),
-    ("A", NONE, b'n'),
-    ("\\", NONE, b'n'),
+    5 => => => 1
+    B => => => 1
+    Z => => => 1
+    . => => => 1
+    H => => => 1
+    + => => => 1
+    - => => => 1
+    * => => ARG => 1
+    / => => ARG => 1
+    & => => ARG => 1
+    # => => ARG => 1
+    ( => => => 1
+    ) => => ARG => 1
+    , => => ARG => 1
+    ^E => => => 1
+    ^N => => => 1
+    ^^a => => UTC => 0
+    A => => => 1
+    \\ => => => 1
     // Commands after which nothing follows; three equals signs are refused.
-    ("J", NONE, b'n'),
-    ("C", NONE, b'p'),
-    ("R", NONE, b'p'),
-    ("L", NONE, b'n'),
-    ("D", NONE, b'd'),
-    ("K", NONE, b'n'),
-    ("T", NONE, b'n'),
-    ("V", NONE, b'n'),
-    ("^T", NONE, b'a'),
-    ("=", COLON, b'e'),
-    ("==", COLON, b'e'),
-    ("===", NONE, b'e'),
-    ("Y", NONE, b'n'),
-    ("P", NONE, b'n'),
-    ("PW", NONE, b'n'),
-    ("EX", NONE, b'u'),
-    (";", NONE, b's'),
-    ("^X", NONE, b'a'),
+    J => => => 1
+    C => => POP => 1
+    R => => POP => 1
+    L => => => 1
+    D => => DTB => 1
+    K => => => 1
+    T => => => 1
+    V => => => 1
+    ^T => => ARG => 1
+    = => [:] => NAE => 1
+    == => [:] => NAE => 1
+    === => => NAE => 1
+    Y => => => 1
+    P => => => 1
+    PW => => => 1
+    EX => => UTC => 0
+    ; => => SNI => 1
+    ^X => => ARG => 1
     // Commands on a register.
-    ("Qa", COLON, b'u'),
-    ("%a", NONE, b'u'),
-    ("Ua", NONE, b'u'),
-    ("Xa", NONE, b'u'),
-    ("Ga", COLON, b'u'),
-    ("Ma", NONE, b'u'),
-    ("[a", NONE, b'u'),
-    ("]a", NONE, b'u'),
+    Qa => [:] => UTC => 0
+    %a => => UTC => 0
+    Ua => => UTC => 0
+    Xa => => UTC => 0
+    Ga => [:] => UTC => 0
+    Ma => => UTC => 0
+    [a => => UTC => 0
+    ]a => => UTC => 0
     // Commands with a text.
-    ("I/a\x1b/", AT, b'u'),
-    ("\ta\x1b", NONE, b'u'),
-    ("^A/b\x01/", AT, b'u'),
-    ("S/a\x1b/", MODIFIERS, b'u'),
-    ("N/a\x1b/", AT_AND_COLON, b'u'),
-    ("_/a\x1b/", AT_AND_COLON, b'u'),
-    ("O/a\x1b/", AT, b'u'),
-    ("FS/a\x1b/b\x1b/", AT_AND_COLON, b'u'),
-    ("^Ua/b\x1b/", AT, b'u'),
+    I/a\x1b/ => [@] => UTC => 0
+    \ta\x1b => => UTC => 0
+    ^A/b\x01/ => [@] => UTC => 0
+    S/a\x1b/ => [:][::][@][:@] => UTC => 0
+    N/a\x1b/ => [:][@][:@] => UTC => 0
+    _/a\x1b/ => [:][@][:@] => UTC => 0
+    O/a\x1b/ => [@] => UTC => 0
+    FS/a\x1b/b\x1b/ => [:][@][:@] => UTC => 0
+    ^Ua/b\x1b/ => [@] => UTC => 0
     // Marks of blocks, tags and ESC.
-    ("<", NONE, b'o'),
-    (">", NONE, b'b'),
-    ("\"E", NONE, b'u'),
-    ("|", NONE, b'i'),
-    ("'", NONE, b'i'),
-    ("!a!", NONE, b'u'),
-    ("\x1b", NONE, b'.'),
+    < => => UTC => 1
+    > => => BNI => 0
+    \"E => => UTC => 0
+    | => => ILL => 0
+    ' => => ILL => 0
+    !a! => => UTC => 0
+    \x1b => => => 0
     // No commands, and a filler before one.
-    ("EQ", NONE, b'u'),
-    ("?", NONE, b'i'),
-    ("^B", NONE, b'i'),
-    (" J", NONE, b'.'),
-];
+    EQ => => UTC => 0
+    ? => => ILL => 0
+    ^B => => ILL => 0
+      J => => => 0
+    ";
 
 /// The forms of arguments before each command: none, one number, two, a lone sign, and an open parenthesis, an operator or a comma
 /// before it.
-pub(crate) static FORMS: &str = "
+pub(crate) const FORMS: &str = "
     // The pointer takes its forms.
     Iab\x1bJ.= => 0\r\n
     Iab\x1b1J.= => 1\r\n

@@ -1,14 +1,15 @@
-//! Of teco_program: its parts, and runs of the whole program over files in memory; what it says of files of the system that it cannot
-//! read or write.
-use super::assert_of;
-use super::bytes::{are_there, is_typed, joined};
+//! Of teco_program: its parts, and runs of the whole program over files in memory.
+use super::bytes::{are_there, is, is_typed, joined};
+use super::line_commands::{checked, explained, shown, sources};
+use super::rows::{Cells, Rule, all_hold, cells_of};
 use std::alloc::Global;
 use std::cell::Cell;
 use std::io;
-use std::process::{Abort, ExitCode};
+use std::process::ExitCode;
+use std::test::*;
 use std::time::{Clock, Duration};
 use teco_core::NoMemory;
-use teco_files::{Disk, FileDisk, MemoryDisk, MemorySource, Refused, Source};
+use teco_files::{MemoryDisk, MemorySource, Refused, Source};
 use teco_line::LineFault;
 use teco_program::{ClockAlarm, program};
 use teco_terminal::MemoryTerminal;
@@ -23,17 +24,6 @@ mod serving;
 mod splitter;
 mod word;
 
-/// The words of a run, with blanks between them, its commands, and what it types, tells on standard error, notes there besides and ends with.
-#[derive(Clone, Copy)]
-pub(super) struct Run<'a> {
-    pub(super) words: &'a str,
-    pub(super) commands: &'a str,
-    pub(super) typed: &'a str,
-    pub(super) told: &'a str,
-    pub(super) noted: &'a str,
-    pub(super) status: u8,
-}
-
 /// The words of a text with a blank between them, as the program is given them.
 pub(crate) fn words_of(alloc: Global, text: &str) -> Result<Vec<String>, NoMemory> {
     let mut words = Vec::new(alloc);
@@ -44,13 +34,18 @@ pub(crate) fn words_of(alloc: Global, text: &str) -> Result<Vec<String>, NoMemor
 }
 
 /// Commands that no run may read, since its line gives others.
-pub(crate) const NOT_READ: &str = "Ino\x1b\x1bEX\x1b\x1b";
+const NOT_READ: &str = "Ino\x1b\x1bEX\x1b\x1b";
+
+/// The commands on standard input that a cell says.
+fn commands_of(cell: &str) -> &str {
+    if cell.is_empty() { NOT_READ } else { cell }
+}
 
 /// Whether commands that no run may read are still to be read, if they are such.
-fn is_unread(commands: &mut MemorySource, run: &Run) -> bool {
+fn is_unread(source: &mut MemorySource, commands: &str) -> bool {
     let mut piece = [0; 100];
-    run.commands != NOT_READ
-        || matches!(commands.read(&mut piece), Ok(n) if n == NOT_READ.len())
+    !is(commands, NOT_READ)
+        || matches!(source.read(&mut piece), Ok(n) if n == NOT_READ.len())
             && piece.starts_with(NOT_READ.as_bytes())
 }
 
@@ -80,14 +75,15 @@ impl Clock for Ticking {
     }
 }
 
-/// Whether a run by its commands ends so and types, tells and notes this.
-fn runs_on<D: Disk>(alloc: Global, disk: &mut D, run: &Run) -> bool {
-    let words = match words_of(alloc, run.words) {
+/// Whether a run ends so, and types, tells and notes what its row says.
+fn runs_on(alloc: Global, disk: &mut MemoryDisk, cells: &Cells) -> bool {
+    let words = match words_of(alloc, cells[0]) {
         Ok(words) => Ok(words),
         Err(NoMemory) => Err(LineFault::NoMemory),
     };
-    let bytes = joined(alloc, &[run.commands.as_bytes()]);
-    let mut commands = MemorySource::new(bytes, Vec::new(alloc), false);
+    let commands = commands_of(cells[1]);
+    let bytes = joined(alloc, &[commands.as_bytes()]);
+    let mut source = MemorySource::new(bytes, Vec::new(alloc), false);
     let mut term = MemoryTerminal::new(alloc);
     let mut errors = MemoryTerminal::new(alloc);
     let mut notes = MemoryTerminal::new(alloc);
@@ -96,300 +92,126 @@ fn runs_on<D: Disk>(alloc: Global, disk: &mut D, run: &Run) -> bool {
         alloc,
         words,
         7,
-        &mut commands,
+        &mut source,
         &mut ClockAlarm::new(&clock),
         &mut term,
         &mut errors,
         &mut notes,
         disk,
     );
-    status == ExitCode::from(run.status)
-        && is_typed(&term, run.typed)
-        && is_typed(&errors, run.told)
-        && is_typed(&notes, run.noted)
-        && is_unread(&mut commands, run)
+    let wanted = u8::from_str_radix(cells[5], 10).unwrap_or(0);
+    status == ExitCode::from(wanted)
+        && is_typed(&term, cells[2])
+        && is_typed(&errors, cells[3])
+        && is_typed(&notes, cells[4])
+        && is_unread(&mut source, commands)
 }
 
-/// Files by their names.
-pub(super) type Files<'a> = &'a [(&'a str, &'a str)];
-
-/// A run, the files before it, which call is refused, and the files after it.
-pub(super) type Row<'a> = (Run<'a>, Files<'a>, Refused, Files<'a>);
-
-fn disk_with(alloc: Global, files: Files, refused: Refused) -> Result<MemoryDisk, NoMemory> {
-    let mut disk = MemoryDisk::new(alloc, refused);
-    for (name, bytes) in files {
-        disk.put(name, bytes.as_bytes())?;
-    }
-    Ok(disk)
-}
-
-fn has_just(disk: &MemoryDisk, files: Files) -> bool {
-    let mut held = disk.has_only(files);
-    for (name, bytes) in files {
-        held = held && are_there(disk.bytes(name), bytes.as_bytes());
-    }
-    held
-}
-
-pub(super) fn runs(alloc: Global, row: &Row) -> bool {
-    match disk_with(alloc, row.1, row.2) {
-        Ok(mut disk) => runs_on(alloc, &mut disk, &row.0) && has_just(&disk, row.3),
-        Err(NoMemory) => false,
+/// The call that is refused, by the beginning of its name.
+fn refused_of(call: &str) -> Refused {
+    match call.as_bytes() {
+        [b'r', b'e', b'a', ..] => Refused::Read,
+        [b'r', b'e', b'n', ..] => Refused::Rename,
+        [b'r', b'e', b'm', ..] => Refused::RenameAndRemove,
+        [b'm', ..] => Refused::Make,
+        [b'w', ..] => Refused::Write,
+        [b's', ..] => Refused::Sync,
+        [b'c', ..] => Refused::Changed,
+        _ => Refused::Nothing,
     }
 }
 
-/// Reads a page, types its length and exits.
-const PAGE: &str = "Y\x1b\x1bZ=\x1b\x1bEX\x1b\x1b";
+/// A disk with the files of a cell, of which a call is refused. Where memory was refused, it is asked for a second time.
+fn disk_with(alloc: Global, cell: &str, call: &str) -> MemoryDisk {
+    let mut disk = MemoryDisk::new(alloc, refused_of(call));
+    for file in cell.split(" ++ ") {
+        if let Some((name, bytes)) = file.split_once(" == ") {
+            let bytes = bytes.as_bytes();
+            let _ = disk.put(name, bytes).is_ok() || disk.put(name, bytes).is_ok();
+        }
+    }
+    disk
+}
 
-const EXITS: Run = Run {
-    words: "teco in",
-    commands: PAGE,
-    typed: "3\r\n",
-    told: "",
-    noted: "",
-    status: 0,
-};
+/// Whether a disk has the files of a cell alone, of which there are at most five.
+fn has_just(disk: &MemoryDisk, cell: &str) -> bool {
+    let mut files = [("", ""); 5];
+    let mut count = 0;
+    let mut held = true;
+    for file in cell.split(" ++ ") {
+        if let Some((name, bytes)) = file.split_once(" == ") {
+            held = count < 5 && are_there(disk.bytes(name), bytes.as_bytes()) && held;
+            files[count % 5] = (name, bytes);
+            count = count.saturating_add(1);
+        }
+    }
+    held && disk.has_only(&files[..count.min(5)])
+}
 
-/// To the end of the commands.
-const ENDS: Run = Run {
-    words: "teco in",
-    commands: "",
-    typed: "",
-    told: "",
-    noted: "",
-    status: 2,
-};
+fn goes_so(alloc: Global, cells: &Cells) -> bool {
+    let after = if cells[7].is_empty() {
+        cells[6]
+    } else {
+        cells[7]
+    };
+    let mut disk = disk_with(alloc, cells[6], cells[8]);
+    runs_on(alloc, &mut disk, cells) && has_just(&disk, after)
+}
 
-const UNWRITTEN: Run = Run {
-    told: "teco: cannot write in.out\n",
-    status: 1,
-    ..EXITS
-};
+/// A run: its words, with blanks between them; its commands, where none are said if no run may read them; what it types, tells on standard
+/// error and notes there besides; its status, if not 0; the files before it, and those after it, if they are others; and which call of
+/// the disk is refused.
+#[derive(Clone, Copy)]
+struct Runs;
 
-const IN: (&str, &str) = ("in", "hi\n");
-
-/// An exit writes the output, in the place of what was there, and by another draft where one is taken.
-static WRITTEN: [Row<'static>; 4] = [
-    (EXITS, &[IN], Refused::Nothing, &[IN, ("in.out", "hi\n")]),
-    (
-        EXITS,
-        &[IN, ("in.out", "old")],
-        Refused::Nothing,
-        &[IN, ("in.out", "hi\n")],
-    ),
-    (
-        EXITS,
-        &[IN, (".teco-7", "theirs")],
-        Refused::Nothing,
-        &[IN, (".teco-7", "theirs"), ("in.out", "hi\n")],
-    ),
-    (
-        Run {
-            words: "teco --output out in",
-            ..EXITS
-        },
-        &[IN],
-        Refused::Nothing,
-        &[IN, ("out", "hi\n")],
-    ),
-];
-
-/// Without an exit there is no output.
-static UNFINISHED: [Row<'static>; 2] = [
-    (
-        Run {
-            words: "teco --prompt in",
-            commands: "1=\x1b\x1b",
-            typed: "*1\r\n*",
-            ..ENDS
-        },
-        &[IN],
-        Refused::Nothing,
-        &[IN],
-    ),
-    (
-        Run {
-            commands: "Ia\x1b",
-            ..ENDS
-        },
-        &[IN, ("in.out", "old")],
-        Refused::Nothing,
-        &[IN, ("in.out", "old")],
-    ),
-];
-
-/// The limit, the seconds and the depth are those of the line. What a string that was broken off leaves is what a limit of its steps
-/// leaves, and an undo takes it back. The time of each string begins anew.
-static LIMITED: [Row<'static>; 6] = [
-    (
-        Run {
-            words: "teco --seconds 3 in",
-            commands: "<%A>\x1b\x1bQA=\x1b\x1b2{\x1b\x1bQA=\x1b\x1b",
-            typed: "?LIM\r\n256\r\n0\r\n",
-            ..ENDS
-        },
-        &[IN],
-        Refused::Nothing,
-        &[IN],
-    ),
-    (
-        Run {
-            words: "teco --limit 512 in",
-            commands: "<%A>\x1b\x1bQA=\x1b\x1b2{\x1b\x1bQA=\x1b\x1b",
-            typed: "?LIM\r\n256\r\n0\r\n",
-            ..ENDS
-        },
-        &[IN],
-        Refused::Nothing,
-        &[IN],
-    ),
-    (
-        Run {
-            words: "teco --seconds 3 in",
-            commands: "1=\x1b\x1b2=\x1b\x1b3=\x1b\x1b4=\x1b\x1b5=\x1b\x1b",
-            typed: "1\r\n2\r\n3\r\n4\r\n5\r\n",
-            ..ENDS
-        },
-        &[IN],
-        Refused::Nothing,
-        &[IN],
-    ),
-    (
-        Run {
-            words: "teco --limit 0 in",
-            commands: "1=\x1b\x1b",
-            typed: "?LIM\r\n",
-            ..ENDS
-        },
-        &[IN],
-        Refused::Nothing,
-        &[IN],
-    ),
-    (
-        Run {
-            words: "teco --limit 5 in",
-            commands: "YNc\x1b\x1bHT\x1b\x1b",
-            typed: "?LIM\r\nc",
-            ..ENDS
-        },
-        &[("in", "a\x0cb\x0cc")],
-        Refused::Nothing,
-        &[("in", "a\x0cb\x0cc")],
-    ),
-    (
-        Run {
-            words: "teco --undo 2 in",
-            commands: "Ia\x1b\x1bIb\x1b\x1bIc\x1b\x1b3{\x1b\x1bHT\x1b\x1b",
-            typed: "?NTU\r\na",
-            ..ENDS
-        },
-        &[IN],
-        Refused::Nothing,
-        &[IN],
-    ),
-];
-
-/// An input that is not there.
-static UNREAD: [Row<'static>; 2] = [
-    (
-        Run {
-            words: "teco none",
-            typed: "",
-            told: "teco: cannot read none\n",
-            status: 1,
-            ..EXITS
-        },
-        &[IN],
-        Refused::Nothing,
-        &[IN],
-    ),
-    // A read that fails.
-    (
-        Run {
-            typed: "",
-            told: "teco: cannot read in\n",
-            status: 1,
-            ..EXITS
-        },
-        &[IN],
-        Refused::Read,
-        &[IN],
-    ),
-];
-
-/// An output that cannot be written: what was there stays, and no draft is left but one that can't be removed.
-static REFUSED_OUTPUTS: [Row<'static>; 5] = [
-    (UNWRITTEN, &[IN], Refused::Make, &[IN]),
-    (UNWRITTEN, &[IN], Refused::Write, &[IN]),
-    (UNWRITTEN, &[IN], Refused::Sync, &[IN]),
-    (
-        UNWRITTEN,
-        &[IN, ("in.out", "old")],
-        Refused::Rename,
-        &[IN, ("in.out", "old")],
-    ),
-    (
-        UNWRITTEN,
-        &[IN, ("in.out", "old")],
-        Refused::RenameAndRemove,
-        &[IN, ("in.out", "old"), (".teco-7", "hi\n")],
-    ),
-];
-
-/// A faulty line.
-static VERSION: [Row<'static>; 1] = [(
-    Run {
-        words: "teco --version",
-        typed: "teco 0.2.0\n",
-        ..EXITS
-    },
-    &[IN],
-    Refused::Nothing,
-    &[IN],
-)];
-
-/// Where memory was refused, a row holds the second time.
-fn all_run(rt: &impl Abort, alloc: Global, rows: &[Row]) {
-    for row in rows {
-        assert_of(rt, row.0.words, runs(alloc, row) || runs(alloc, row));
+impl Rule for Runs {
+    /// Where memory was refused, a row holds the second time.
+    fn holds(&self, alloc: Global, row: &str) -> bool {
+        let cells = cells_of(row);
+        goes_so(alloc, &cells) || goes_so(alloc, &cells)
     }
 }
+
+const ROWS: &str = "
+    - // An exit writes the output, in the place of what was there, and by another draft where one is taken.
+    - teco in => Y\x1b\x1bZ=\x1b\x1bEX\x1b\x1b => 3\r\n => => => => in == hi\n => in == hi\n ++ in.out == hi\n
+    - teco in => Y\x1b\x1bZ=\x1b\x1bEX\x1b\x1b => 3\r\n => => => => in == hi\n ++ in.out == old => in == hi\n ++ in.out == hi\n
+    - teco in => Y\x1b\x1bZ=\x1b\x1bEX\x1b\x1b => 3\r\n => => => => in == hi\n ++ .teco-7 == theirs => in == hi\n ++ .teco-7 == theirs ++ in.out == hi\n
+    - teco --output out in => Y\x1b\x1bZ=\x1b\x1bEX\x1b\x1b => 3\r\n => => => => in == hi\n => in == hi\n ++ out == hi\n
+    - // Without an exit there is no output.
+    - teco --prompt in => 1=\x1b\x1b => *1\r\n* => => => 2 => in == hi\n
+    - teco in => Ia\x1b => => => => 2 => in == hi\n ++ in.out == old
+    - // The limit, the seconds and the depth are those of the line. What a string that was broken off leaves is what a limit of its steps leaves, and an undo takes it back. The time of each string begins anew.
+    - teco --seconds 3 in => <%A>\x1b\x1bQA=\x1b\x1b2{\x1b\x1bQA=\x1b\x1b => ?LIM\r\n256\r\n0\r\n => => => 2 => in == hi\n
+    - teco --limit 512 in => <%A>\x1b\x1bQA=\x1b\x1b2{\x1b\x1bQA=\x1b\x1b => ?LIM\r\n256\r\n0\r\n => => => 2 => in == hi\n
+    - teco --seconds 3 in => 1=\x1b\x1b2=\x1b\x1b3=\x1b\x1b4=\x1b\x1b5=\x1b\x1b => 1\r\n2\r\n3\r\n4\r\n5\r\n => => => 2 => in == hi\n
+    - teco --limit 0 in => 1=\x1b\x1b => ?LIM\r\n => => => 2 => in == hi\n
+    - teco --limit 5 in => YNc\x1b\x1bHT\x1b\x1b => ?LIM\r\nc => => => 2 => in == a\x0cb\x0cc
+    - teco --undo 2 in => Ia\x1b\x1bIb\x1b\x1bIc\x1b\x1b3{\x1b\x1bHT\x1b\x1b => ?NTU\r\na => => => 2 => in == hi\n
+    - // An input that is not there.
+    - teco none => Y\x1b\x1bZ=\x1b\x1bEX\x1b\x1b => => teco: cannot read none\n => => 1 => in == hi\n
+    - // A read that fails.
+    - teco in => Y\x1b\x1bZ=\x1b\x1bEX\x1b\x1b => => teco: cannot read in\n => => 1 => in == hi\n => => read
+    - // An output that cannot be written: what was there stays, and no draft is left but one that can't be removed.
+    - teco in => Y\x1b\x1bZ=\x1b\x1bEX\x1b\x1b => 3\r\n => teco: cannot write in.out\n => => 1 => in == hi\n => => make
+    - teco in => Y\x1b\x1bZ=\x1b\x1bEX\x1b\x1b => 3\r\n => teco: cannot write in.out\n => => 1 => in == hi\n => => write
+    - teco in => Y\x1b\x1bZ=\x1b\x1bEX\x1b\x1b => 3\r\n => teco: cannot write in.out\n => => 1 => in == hi\n => => sync
+    - teco in => Y\x1b\x1bZ=\x1b\x1bEX\x1b\x1b => 3\r\n => teco: cannot write in.out\n => => 1 => in == hi\n ++ in.out == old => => rename
+    - teco in => Y\x1b\x1bZ=\x1b\x1bEX\x1b\x1b => 3\r\n => teco: cannot write in.out\n => => 1 => in == hi\n ++ in.out == old => in == hi\n ++ in.out == old ++ .teco-7 == hi\n => remove too
+    - // A faulty line.
+    - teco --version => Y\x1b\x1bZ=\x1b\x1bEX\x1b\x1b => teco 0.2.0\n => => => => in == hi\n";
 
 #[test]
 fn runs_over_files(rt: HostRuntime) {
-    all_run(&rt, rt.alloc(), &WRITTEN);
-    all_run(&rt, rt.alloc(), &UNFINISHED);
-    all_run(&rt, rt.alloc(), &LIMITED);
-    all_run(&rt, rt.alloc(), &UNREAD);
-    all_run(&rt, rt.alloc(), &REFUSED_OUTPUTS);
-    all_run(&rt, rt.alloc(), &VERSION);
-}
-
-static OF_THE_SYSTEM: [Run; 2] = [
-    Run {
-        words: "teco none",
-        typed: "",
-        told: "teco: cannot read none\n",
-        status: 1,
-        ..EXITS
-    },
-    Run {
-        words: "teco --output no/x /dev/null",
-        commands: "EX\x1b\x1b",
-        typed: "",
-        told: "teco: cannot write no/x\n",
-        noted: "",
-        status: 1,
-    },
-];
-
-/// Where memory was refused, a second time.
-#[test]
-fn says_which_file_it_cannot_have(rt: HostRuntime) {
-    for run in &OF_THE_SYSTEM {
-        let held = runs_on(rt.alloc(), &mut FileDisk::new(&rt), run)
-            || runs_on(rt.alloc(), &mut FileDisk::new(&rt), run);
-        assert_of(&rt, run.words, held);
+    let tables = [
+        ROWS,
+        inputs::ROWS,
+        sources::ROWS,
+        checked::ROWS,
+        explained::ROWS,
+        shown::ROWS,
+    ];
+    for table in tables {
+        all_hold(&rt, rt.alloc(), &Runs, table);
     }
 }

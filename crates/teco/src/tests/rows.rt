@@ -1,11 +1,16 @@
-//! Tables that are texts. A row is a line after four blanks, with an arrow between blanks from one cell to the next; a last cell that is
-//! empty is left out. A line that begins with two slashes tells of the rows after it.
+//! Tables that are texts. A row is a line after four blanks, with an arrow between blanks from one cell to the next; last cells that are
+//! empty are left out. A line that begins with two slashes tells of the rows after it. Where cells have lines of their own, each row is an
+//! item of a list.
 use super::assert_of;
+use super::bytes::is;
 use std::alloc::Global;
 use std::process::Abort;
 
 /// What is before each line.
 pub(crate) const LINE: &str = "\n    ";
+
+/// What is before each item.
+const ITEM: &str = "\n    - ";
 
 /// Whether a line is a row.
 pub(crate) fn is_row(line: &str) -> bool {
@@ -20,33 +25,37 @@ pub(crate) trait Rule {
 
 /// Each row of a table holds.
 pub(crate) fn all_hold<R: Rule>(rt: &impl Abort, alloc: Global, rule: &R, table: &str) {
-    for line in table.split(LINE) {
+    let before = if table.starts_with(ITEM) { ITEM } else { LINE };
+    for line in table.split(before) {
         assert_of(rt, line, !is_row(line) || rule.holds(alloc, line));
     }
 }
 
-/// A cell without the blank that is before it.
-fn inner(cell: &str) -> &str {
-    cell.strip_prefix(' ').unwrap_or(cell)
-}
+/// Up to nine cells.
+pub(crate) type Cells<'a> = [&'a str; 9];
 
-/// Up to seven cells.
-pub(crate) type Cells<'a> = [Option<&'a str>; 7];
-
-/// The cells of a row, and none where it has no more; of more than seven the last ones are left out.
+/// The cells of a row, each without the blank that is before it, and empty ones after them.
 pub(crate) fn cells_of(row: &str) -> Cells<'_> {
-    let mut cells = [None; 7];
+    let mut cells = [""; 9];
     let mut at = 0;
     for part in row.split(" =>") {
-        if at < 7 {
-            cells[at] = Some(inner(part));
+        if at < 9 {
+            cells[at] = part.strip_prefix(' ').unwrap_or(part);
             at += 1;
         }
     }
     cells
 }
 
-/// The number that a cell says.
-pub(crate) fn number_of(cell: &str) -> Option<u64> {
-    u64::from_str_radix(cell, 10).ok()
+/// The number that a cell says; another where it is empty.
+pub(crate) fn number_or(cell: &str, other: u64) -> u64 {
+    if cell.is_empty() {
+        return other;
+    }
+    u64::from_str_radix(cell, 10).unwrap_or(u64::MAX)
+}
+
+/// The text of a cell, in which a hyphen is an empty one.
+pub(crate) fn text_of(cell: &str) -> &str {
+    if is(cell, "-") { "" } else { cell }
 }

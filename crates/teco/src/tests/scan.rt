@@ -1,3 +1,3 @@
 //! Of teco_scan: spelling and its faults.
-mod faults;
-mod modifiers;
+pub(crate) mod faults;
+pub(crate) mod modifiers;

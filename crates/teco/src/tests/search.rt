@@ -1,3 +1,3 @@
 //! Of teco_search: search texts.
-mod elements;
+pub(crate) mod elements;
 mod patterns;

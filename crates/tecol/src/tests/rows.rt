@@ -11,6 +11,16 @@ const ITEM: &str = "\n    - ";
 /// What is between the cells.
 const ARROW: &str = " => ";
 
+/// Whether bytes are this text.
+pub(crate) fn are(bytes: &[u8], text: &str) -> bool {
+    bytes == text.as_bytes()
+}
+
+/// Whether an item is a row.
+pub(crate) fn is_row(item: &str) -> bool {
+    !item.is_empty() && !item.starts_with("//")
+}
+
 /// What a row of a table holds of.
 #[derive(Clone, Copy)]
 pub(crate) enum Wanted {
@@ -35,8 +45,8 @@ fn made_of(alloc: Global, mode: Mode, words: bool, input: &str) -> Result<Made, 
 
 fn is_wanted(made: &Made, wanted: Wanted, cell: &str) -> bool {
     match (made, wanted) {
-        (Made::Fine(bytes), Wanted::Fine) => bytes.as_slice() == cell.as_bytes(),
-        (Made::Faulty(lines), Wanted::Faulty) => lines.as_slice() == cell.as_bytes(),
+        (Made::Fine(bytes), Wanted::Fine) => are(bytes, cell),
+        (Made::Faulty(lines), Wanted::Faulty) => are(lines, cell),
         (Made::Unreadable(at), Wanted::Unreadable) => {
             matches!(cell.parse::<usize>(), Ok(place) if place == *at)
         }
@@ -65,8 +75,7 @@ pub(crate) fn all_make(
     table: &str,
 ) {
     for row in table.split(ITEM) {
-        let held = row.is_empty()
-            || row.starts_with("//")
+        let held = !is_row(row)
             || holds(alloc, mode, words, wanted, row)
             || holds(alloc, mode, words, wanted, row);
         super::assert_of(rt, row, held);

@@ -1,6 +1,7 @@
 //! Runs of the program over files in memory: what it writes and tells, and what it leaves where it fails.
+use super::rows::{are, is_row};
 use std::alloc::Global;
-use std::process::{Abort, ExitCode};
+use std::process::ExitCode;
 use std::test::*;
 use teco_core::NoMemory;
 use teco_files::{MemoryDisk, MemorySource, Refused};
@@ -8,226 +9,54 @@ use teco_keep::program;
 use teco_line::LineFault;
 use teco_terminal::{FailAfter, MemoryTerminal, Terminal, WriterTerminal};
 
-/// The words of a run, with blanks between them, what comes on standard input, what it types and tells, and its status.
-#[derive(Clone, Copy)]
-struct Run<'a> {
-    words: &'a str,
-    input: &'a str,
-    typed: &'a str,
-    told: &'a str,
-    status: u8,
+/// The words of a run, with blanks between them; what comes on standard input, what it types and tells, and its status, if not 0; the files
+/// before it, and those after it, if they are others; and which call is refused.
+const ROWS: &str = "
+    - // From a file and from standard input, to standard output and to a file.
+    - tecol in => => Y<FSa\x1bb\x1b;>EX\x1b\x1b => => => in == Y<\n\tFSa$b$;>EX$$\n
+    - tecol => Y<\n\tFSa$b$;>EX$$\n => Y<FSa\x1bb\x1b;>EX\x1b\x1b
+    - tecol --output=- - => Y<\n\tFSa$b$;>EX$$\n => Y<FSa\x1bb\x1b;>EX\x1b\x1b
+    - tecol -o out in => => => => => in == Y<\n\tFSa$b$;>EX$$\n ++ out == old => in == Y<\n\tFSa$b$;>EX$$\n ++ out == Y<FSa\x1bb\x1b;>EX\x1b\x1b
+    - // Over its own input.
+    - tecol -o in in => => => => => in == Y<\n\tFSa$b$;>EX$$\n => in == Y<FSa\x1bb\x1b;>EX\x1b\x1b
+    - // Back, with the name of the input in no line.
+    - tecol --reverse in => => YHT$$\n => => => in == YHT\x1b\x1b
+    - tecol --version => => tecol 0.2.0\n
+    - // What is told of commands goes to the output; where a caret can't be read it goes to standard error, and nothing is written.
+    - tecol --check in => => => => => in == Y<\n\tFSa$b$;>EX$$\n
+    - tecol -c in => => in:2:1: BNI: > has no <\n => => 2 => in == Y$$\n>EX$$
+    - tecol -cr -o out => Y\n>EX\x1b\x1b => => => 2 => out == old => out == -:2:1: BNI: > has no <\n
+    - tecol -o out in => => => in:2:1: a caret before what it cannot stand before\n => 2 => in == EX$$\n^7\n ++ out == old
+    - tecol -c => EX^ => => -:1:3: a caret before what it cannot stand before\n => 2
+    - // A listing of bytes has no such place.
+    - tecol -r in => => EX^$^$^J\n^~7^J\n => => => in == EX$$\n^7\n
+    - // A faulty line, of which nothing is done.
+    - tecol -c -w -o out in => => => error: the argument '--check' cannot be used with '--words'\n\nUsage: tecol [OPTIONS] [FILE]\n\nFor more information, try '--help'.\n => 3 => in == Y<\n\tFSa$b$;>EX$$\n ++ out == old
+    - tecol in out => => => error: unexpected argument 'out' found\n\nUsage: tecol [OPTIONS] [FILE]\n\nFor more information, try '--help'.\n => 3 => in == Y<\n\tFSa$b$;>EX$$\n ++ out == old
+    - // An input that can't be read, and an output that can't be written: what was there stays.
+    - tecol in => => => tecol: cannot read in\n => 1
+    - tecol in => => => tecol: cannot read in\n => 1 => in == Y<\n\tFSa$b$;>EX$$\n => => read
+    - tecol -o out in => => => tecol: cannot write out\n => 1 => in == Y<\n\tFSa$b$;>EX$$\n ++ out == old => => make
+    - tecol -o out in => => => tecol: cannot write out\n => 1 => in == Y<\n\tFSa$b$;>EX$$\n ++ out == old => => write
+    - tecol -o out in => => => tecol: cannot write out\n => 1 => in == Y<\n\tFSa$b$;>EX$$\n ++ out == old => => sync
+    - tecol -o out in => => => tecol: cannot write out\n => 1 => in == Y<\n\tFSa$b$;>EX$$\n ++ out == old => => rename
+    ";
+
+/// Eight cells.
+type Cells<'a> = [&'a str; 8];
+
+/// The cells of a row, and empty ones after them.
+fn cells_of(row: &str) -> Cells<'_> {
+    let mut cells = [""; 8];
+    let mut at = 0;
+    for part in row.split(" =>") {
+        if at < 8 {
+            cells[at] = part.strip_prefix(' ').unwrap_or(part);
+            at += 1;
+        }
+    }
+    cells
 }
-
-/// Files by their names.
-type Files<'a> = &'a [(&'a str, &'a str)];
-
-/// A run, the files before it, which call is refused, and the files after it.
-type Row<'a> = (Run<'a>, Files<'a>, Refused, Files<'a>);
-
-/// A source that is read.
-const SOURCE: &str = "Y<\n\tFSa$b$;>EX$$\n";
-
-const IN: (&str, &str) = ("in", SOURCE);
-
-/// Its bytes.
-const BYTES: &str = "Y<FSa\x1bb\x1b;>EX\x1b\x1b";
-
-/// A source of which the second line can't be read.
-const WRONG: (&str, &str) = ("in", "EX$$\n^7\n");
-
-const OLD: (&str, &str) = ("out", "old");
-
-/// The bytes of a source are typed.
-const TYPES: Run = Run {
-    words: "tecol in",
-    input: "",
-    typed: BYTES,
-    told: "",
-    status: 0,
-};
-
-/// They are to be written to a file.
-const WRITES: Run = Run {
-    words: "tecol -o out in",
-    typed: "",
-    ..TYPES
-};
-
-const UNWRITTEN: Run = Run {
-    told: "tecol: cannot write out\n",
-    status: 1,
-    ..WRITES
-};
-
-const UNREAD: Run = Run {
-    typed: "",
-    told: "tecol: cannot read in\n",
-    status: 1,
-    ..TYPES
-};
-
-/// From a file and from standard input, to standard output and to a file.
-static DONE: [Row<'static>; 7] = [
-    (TYPES, &[IN], Refused::Nothing, &[IN]),
-    (
-        Run {
-            words: "tecol",
-            input: SOURCE,
-            ..TYPES
-        },
-        &[],
-        Refused::Nothing,
-        &[],
-    ),
-    (
-        Run {
-            words: "tecol --output=- -",
-            input: SOURCE,
-            ..TYPES
-        },
-        &[],
-        Refused::Nothing,
-        &[],
-    ),
-    (WRITES, &[IN, OLD], Refused::Nothing, &[IN, ("out", BYTES)]),
-    // Over its own input.
-    (
-        Run {
-            words: "tecol -o in in",
-            ..WRITES
-        },
-        &[IN],
-        Refused::Nothing,
-        &[("in", BYTES)],
-    ),
-    // Back, with the name of the input in no line.
-    (
-        Run {
-            words: "tecol --reverse in",
-            typed: "YHT$$\n",
-            ..TYPES
-        },
-        &[("in", "YHT\x1b\x1b")],
-        Refused::Nothing,
-        &[("in", "YHT\x1b\x1b")],
-    ),
-    (
-        Run {
-            words: "tecol --version",
-            typed: "tecol 0.2.0\n",
-            ..TYPES
-        },
-        &[],
-        Refused::Nothing,
-        &[],
-    ),
-];
-
-/// What is told of commands goes to the output; where a caret can't be read it goes to standard error, and nothing is written.
-static CHECKED: [Row<'static>; 6] = [
-    (
-        Run {
-            words: "tecol --check in",
-            typed: "",
-            ..TYPES
-        },
-        &[IN],
-        Refused::Nothing,
-        &[IN],
-    ),
-    (
-        Run {
-            words: "tecol -c in",
-            typed: "in:2:1: BNI: > has no <\n",
-            status: 2,
-            ..TYPES
-        },
-        &[("in", "Y$$\n>EX$$")],
-        Refused::Nothing,
-        &[("in", "Y$$\n>EX$$")],
-    ),
-    (
-        Run {
-            words: "tecol -cr -o out",
-            input: "Y\n>EX\x1b\x1b",
-            status: 2,
-            ..WRITES
-        },
-        &[OLD],
-        Refused::Nothing,
-        &[("out", "-:2:1: BNI: > has no <\n")],
-    ),
-    (
-        Run {
-            told: "in:2:1: a caret before what it cannot stand before\n",
-            status: 2,
-            ..WRITES
-        },
-        &[WRONG, OLD],
-        Refused::Nothing,
-        &[WRONG, OLD],
-    ),
-    (
-        Run {
-            words: "tecol -c",
-            input: "EX^",
-            typed: "",
-            told: "-:1:3: a caret before what it cannot stand before\n",
-            status: 2,
-        },
-        &[],
-        Refused::Nothing,
-        &[],
-    ),
-    // A listing of bytes has no such place.
-    (
-        Run {
-            words: "tecol -r in",
-            typed: "EX^$^$^J\n^~7^J\n",
-            ..TYPES
-        },
-        &[WRONG],
-        Refused::Nothing,
-        &[WRONG],
-    ),
-];
-
-/// A faulty line, of which nothing is done.
-static FAULTY: [Row<'static>; 2] = [
-    (
-        Run {
-            words: "tecol -c -w -o out in",
-            told: "error: the argument '--check' cannot be used with '--words'\n\nUsage: tecol [OPTIONS] [FILE]\n\nFor more information, try '--help'.\n",
-            status: 3,
-            ..WRITES
-        },
-        &[IN, OLD],
-        Refused::Nothing,
-        &[IN, OLD],
-    ),
-    (
-        Run {
-            words: "tecol in out",
-            typed: "",
-            told: "error: unexpected argument 'out' found\n\nUsage: tecol [OPTIONS] [FILE]\n\nFor more information, try '--help'.\n",
-            status: 3,
-            ..TYPES
-        },
-        &[IN, OLD],
-        Refused::Nothing,
-        &[IN, OLD],
-    ),
-];
-
-/// An input that can't be read, and an output that can't be written: what was there stays.
-static FAILED: [Row<'static>; 6] = [
-    (UNREAD, &[], Refused::Nothing, &[]),
-    (UNREAD, &[IN], Refused::Read, &[IN]),
-    (UNWRITTEN, &[IN, OLD], Refused::Make, &[IN, OLD]),
-    (UNWRITTEN, &[IN, OLD], Refused::Write, &[IN, OLD]),
-    (UNWRITTEN, &[IN, OLD], Refused::Sync, &[IN, OLD]),
-    (UNWRITTEN, &[IN, OLD], Refused::Rename, &[IN, OLD]),
-];
 
 fn words_of(alloc: Global, text: &str) -> Result<Vec<String>, NoMemory> {
     let mut words = Vec::new(alloc);
@@ -238,27 +67,50 @@ fn words_of(alloc: Global, text: &str) -> Result<Vec<String>, NoMemory> {
 }
 
 /// The words of a run, as the program is given them.
-fn words_in(alloc: Global, run: &Run) -> Result<Vec<String>, LineFault> {
-    match words_of(alloc, run.words) {
+fn words_in(alloc: Global, text: &str) -> Result<Vec<String>, LineFault> {
+    match words_of(alloc, text) {
         Ok(words) => Ok(words),
         Err(NoMemory) => Err(LineFault::NoMemory),
     }
 }
 
-fn disk_with(alloc: Global, files: Files, refused: Refused) -> Result<MemoryDisk, NoMemory> {
-    let mut disk = MemoryDisk::new(alloc, refused);
-    for (name, bytes) in files {
-        disk.put(name, bytes.as_bytes())?;
+/// The call that is refused, by the beginning of its name.
+fn refused_of(call: &str) -> Refused {
+    match call.as_bytes() {
+        [b'r', b'e', b'a', ..] => Refused::Read,
+        [b'r', b'e', b'n', ..] => Refused::Rename,
+        [b'm', ..] => Refused::Make,
+        [b'w', ..] => Refused::Write,
+        [b's', ..] => Refused::Sync,
+        _ => Refused::Nothing,
     }
-    Ok(disk)
 }
 
-fn has_just(disk: &MemoryDisk, files: Files) -> bool {
-    let mut held = disk.has_only(files);
-    for (name, bytes) in files {
-        held = held && disk.bytes(name) == Some(bytes.as_bytes());
+/// A disk with the files of a cell, of which a call is refused. Where memory was refused, it is asked for a second time.
+fn disk_with(alloc: Global, cell: &str, call: &str) -> MemoryDisk {
+    let mut disk = MemoryDisk::new(alloc, refused_of(call));
+    for file in cell.split(" ++ ") {
+        if let Some((name, bytes)) = file.split_once(" == ") {
+            let bytes = bytes.as_bytes();
+            let _ = disk.put(name, bytes).is_ok() || disk.put(name, bytes).is_ok();
+        }
     }
-    held
+    disk
+}
+
+/// Whether a disk has the files of a cell alone, of which there are at most three.
+fn has_just(disk: &MemoryDisk, cell: &str) -> bool {
+    let mut files = [("", ""); 3];
+    let mut count = 0;
+    let mut held = true;
+    for file in cell.split(" ++ ") {
+        if let Some((name, bytes)) = file.split_once(" == ") {
+            held = count < 3 && are(disk.bytes(name).unwrap_or(b"none"), bytes) && held;
+            files[count % 3] = (name, bytes);
+            count = count.saturating_add(1);
+        }
+    }
+    held && disk.has_only(&files[..count.min(3)])
 }
 
 /// Whether a run by these words ends so and tells this.
@@ -267,71 +119,66 @@ fn ends_so<T: Terminal>(
     words: Result<Vec<String>, LineFault>,
     term: &mut T,
     disk: &mut MemoryDisk,
-    run: &Run,
-) -> Result<bool, NoMemory> {
-    let input = Vec::from_slice(alloc, run.input.as_bytes())?;
+    cells: &Cells,
+) -> bool {
+    let mut input = Vec::new(alloc);
+    let bytes = cells[1].as_bytes();
+    let _ = input.extend_from_slice(bytes).is_ok() || input.extend_from_slice(bytes).is_ok();
     let mut stream = MemorySource::new(input, Vec::new(alloc), false);
     let mut errors = MemoryTerminal::new(alloc);
     let status = program(alloc, words, 7, &mut stream, term, &mut errors, disk);
-    Ok(status == ExitCode::from(run.status) && errors.bytes() == run.told.as_bytes())
+    let wanted = u8::from_str_radix(cells[4], 10).unwrap_or(0);
+    status == ExitCode::from(wanted) && are(errors.bytes(), cells[3])
 }
 
-fn runs(alloc: Global, row: &Row) -> bool {
-    let Ok(mut disk) = disk_with(alloc, row.1, row.2) else {
-        return false;
+fn goes_so(alloc: Global, cells: &Cells) -> bool {
+    let after = if cells[6].is_empty() {
+        cells[5]
+    } else {
+        cells[6]
     };
-    let words = words_in(alloc, &row.0);
+    let mut disk = disk_with(alloc, cells[5], cells[7]);
     let mut term = MemoryTerminal::new(alloc);
-    ends_so(alloc, words, &mut term, &mut disk, &row.0) == Ok(true)
-        && term.bytes() == row.0.typed.as_bytes()
-        && has_just(&disk, row.3)
-}
-
-fn all_run(rt: &impl Abort, alloc: Global, rows: &[Row]) {
-    for row in rows {
-        super::assert_of(rt, row.0.words, runs(alloc, row) || runs(alloc, row));
-    }
+    ends_so(
+        alloc,
+        words_in(alloc, cells[0]),
+        &mut term,
+        &mut disk,
+        cells,
+    ) && are(term.bytes(), cells[2])
+        && has_just(&disk, after)
 }
 
 #[test]
 fn a_run_does_what_its_words_say(rt: HostRuntime) {
-    all_run(&rt, rt.alloc(), &DONE);
-    all_run(&rt, rt.alloc(), &CHECKED);
-    all_run(&rt, rt.alloc(), &FAULTY);
-    all_run(&rt, rt.alloc(), &FAILED);
+    for row in ROWS.split("\n    - ") {
+        let cells = cells_of(row);
+        let held = !is_row(row) || goes_so(rt.alloc(), &cells) || goes_so(rt.alloc(), &cells);
+        super::assert_of(&rt, row, held);
+    }
+}
+
+/// Whether a run by these words ends so where nothing can be shown.
+fn fails_so(alloc: Global, words: Result<Vec<String>, LineFault>, told: &str) -> bool {
+    let mut term = WriterTerminal::new(FailAfter::new(Vec::new(alloc)));
+    let mut disk = MemoryDisk::new(alloc, Refused::Nothing);
+    let cells = ["", "EX$$", "", told, "1", "", "", ""];
+    ends_so(alloc, words, &mut term, &mut disk, &cells)
 }
 
 /// A run of which the output can't be shown.
-const UNSHOWN: Run = Run {
-    words: "tecol",
-    input: "EX$$",
-    typed: "",
-    told: "tecol: cannot write -\n",
-    status: 1,
-};
+fn is_not_shown(alloc: Global) -> bool {
+    fails_so(alloc, words_in(alloc, "tecol"), "tecol: cannot write -\n")
+}
 
 /// A run whose words were refused memory.
-const REFUSED: Run = Run {
-    told: "tecol: no memory\n",
-    ..UNSHOWN
-};
-
-/// Whether a run by these words ends so where nothing can be shown.
-fn fails_so(alloc: Global, words: Result<Vec<String>, LineFault>, run: &Run) -> bool {
-    let mut term = WriterTerminal::new(FailAfter::new(Vec::new(alloc)));
-    let mut disk = MemoryDisk::new(alloc, Refused::Nothing);
-    ends_so(alloc, words, &mut term, &mut disk, run) == Ok(true)
+fn has_no_words(alloc: Global) -> bool {
+    fails_so(alloc, Err(LineFault::NoMemory), "tecol: no memory\n")
 }
 
 #[test]
 fn what_fails_is_told(rt: HostRuntime) {
     let alloc = rt.alloc();
-    assert!(rt;
-        fails_so(alloc, words_in(alloc, &UNSHOWN), &UNSHOWN)
-            || fails_so(alloc, words_in(alloc, &UNSHOWN), &UNSHOWN)
-    );
-    assert!(rt;
-        fails_so(alloc, Err(LineFault::NoMemory), &REFUSED)
-            || fails_so(alloc, Err(LineFault::NoMemory), &REFUSED)
-    );
+    assert!(rt; is_not_shown(alloc) || is_not_shown(alloc));
+    assert!(rt; has_no_words(alloc) || has_no_words(alloc));
 }

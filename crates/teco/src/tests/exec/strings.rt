@@ -1,7 +1,11 @@
 //! Command strings, run on an editor: what a row asks, how it ends, and how it is tried.
-use super::{block_forms, conditionals, iterations, jumps};
-use crate::tests::bytes::{are, are_both, is_typed, joined};
-use crate::tests::rows::{Rule, all_hold, cells_of, number_of};
+use super::{block_forms, conditionals, iterations, jumps, page_lines, page_turns};
+use crate::tests::bytes::{are, are_both, is, is_typed, put};
+use crate::tests::commands::FORMS;
+use crate::tests::rows::{Cells, Rule, all_hold, cells_of, number_or, text_of};
+use crate::tests::scan::{faults, modifiers};
+use crate::tests::search::elements;
+use crate::tests::step::{edits, failed_searches, operands, search_forms, searches, texts, values};
 use std::alloc::Global;
 use std::test::*;
 use teco_core::{Code, FILE_LIMIT};
@@ -9,35 +13,21 @@ use teco_exec::{Outcome, run};
 use teco_store::{Desk, Editor};
 use teco_terminal::MemoryTerminal;
 
-/// What a command string is run over.
-#[derive(Clone, Copy)]
-pub(crate) struct Over<'a> {
-    pub(crate) input: &'a [u8],
-    /// The lines of a page; 0 for any number.
-    pub(crate) page_lines: usize,
-    pub(crate) limit: u64,
-    /// Whether the session is done then; it matters where the output does.
-    pub(crate) exits: bool,
-}
+/// The limit of a text, in bytes.
+const FULL: usize = 16_777_216;
 
-/// On a new editor.
-pub(crate) const ALONE: Over = Over {
-    input: b"",
-    page_lines: 0,
-    limit: 1000,
-    exits: false,
-};
-
-/// How a command string ends.
-#[derive(Clone, Copy)]
-pub(crate) struct Ending<'a> {
-    pub(crate) typed: &'a str,
-    /// The letters of its code, if it ends by one.
-    pub(crate) code: &'a str,
-    /// None where it does not matter how many there are.
-    pub(crate) steps: Option<u64>,
-    /// None where it does not matter.
-    pub(crate) output: Option<&'a str>,
+/// The bytes of a cell, in which [FULL] stands for two bytes less than the limit of a text. Where memory was refused, it is asked for a
+/// second time.
+pub(crate) fn bytes_of(alloc: Global, cell: &str) -> Vec<u8> {
+    let (before, after) = cell.split_once("[FULL]").unwrap_or((cell, ""));
+    let mut bytes = Vec::new(alloc);
+    put(&mut bytes, before.as_bytes());
+    if before.len() < cell.len() {
+        let length = bytes.len().saturating_add(FULL - 2);
+        let _ = bytes.resize(length, b'x').is_ok() || bytes.resize(length, b'x').is_ok();
+    }
+    put(&mut bytes, after.as_bytes());
+    bytes
 }
 
 /// Whether memory was refused for a step, or for what it types.
@@ -45,27 +35,19 @@ pub(crate) fn lacked_memory(outcome: Outcome) -> bool {
     matches!(outcome.code, Some(Code::Mem | Code::Tty))
 }
 
-/// Whether a code has these letters, or there is neither.
+/// Whether a code has these letters, or there is neither. `EX` is no code: the string is done then.
 pub(crate) fn is_code(code: Option<Code>, letters: &str) -> bool {
     match code {
         Some(code) => are(code.letters().as_slice(), letters.as_bytes()),
-        None => letters.is_empty(),
+        None => letters.is_empty() || is(letters, "EX"),
     }
 }
 
-/// Whether a string has the output that is said, if one is.
-fn is_written(editor: &Editor, over: &Over, ending: &Ending) -> bool {
-    match ending.output {
-        Some(output) => {
-            are_both(editor.output(), output.as_bytes()) && editor.done() == over.exits
-        }
-        None => true,
-    }
-}
-
-/// Whether an outcome has the code and the steps that are said.
-fn is_outcome(outcome: Outcome, ending: &Ending) -> bool {
-    is_code(outcome.code, ending.code) && outcome.steps == ending.steps.unwrap_or(outcome.steps)
+/// Whether an editor has the output that a cell says, where a hyphen is an empty one, and is done after an exit alone; an empty cell says
+/// nothing of it.
+fn is_written(editor: &Editor, output: &str, code: &str) -> bool {
+    output.is_empty()
+        || are_both(editor.output(), text_of(output).as_bytes()) && editor.done() == is(code, "EX")
 }
 
 /// Whether a run ended so; none where it lacked memory, and typed no more than is to be.
@@ -73,63 +55,43 @@ fn told(
     editor: &Editor,
     terminal: &MemoryTerminal,
     outcome: Outcome,
-    over: &Over,
-    ending: &Ending,
+    cells: &Cells,
 ) -> Option<bool> {
-    if lacked_memory(outcome) && ending.typed.as_bytes().starts_with(terminal.bytes()) {
+    if lacked_memory(outcome) && cells[1].as_bytes().starts_with(terminal.bytes()) {
         return None;
     }
     Some(
-        is_outcome(outcome, ending)
-            && is_typed(terminal, ending.typed)
-            && is_written(editor, over, ending),
+        is_code(outcome.code, cells[2])
+            && number_or(cells[3], outcome.steps) == outcome.steps
+            && is_typed(terminal, cells[1])
+            && is_written(editor, cells[5], cells[2]),
     )
 }
 
-fn try_once(alloc: Global, over: &Over, text: &[u8], ending: &Ending) -> Option<bool> {
-    let mut input = joined(alloc, &[over.input]);
+fn try_once(alloc: Global, cells: &Cells) -> Option<bool> {
+    let text = bytes_of(alloc, cells[0]);
+    let mut input = bytes_of(alloc, cells[6]);
     input.truncate(FILE_LIMIT);
-    let mut editor = Editor::with_page_lines(input, over.page_lines);
+    let mut editor = Editor::with_page_lines(input, number_or(cells[7], 0) as usize);
     let mut terminal = MemoryTerminal::new(alloc);
-    let outcome = run(&mut editor, text, over.limit, &mut terminal);
-    told(&editor, &terminal, outcome, over, ending)
+    let limit = number_or(cells[4], 1000);
+    let outcome = run(&mut editor, &text, limit, &mut terminal);
+    told(&editor, &terminal, outcome, cells)
 }
 
-/// Whether a text ends so; where memory was refused, at the second time.
-pub(crate) fn ends(alloc: Global, over: &Over, text: &[u8], ending: &Ending) -> bool {
-    match try_once(alloc, over, text, ending) {
-        Some(held) => held,
-        None => try_once(alloc, over, text, ending) == Some(true),
-    }
-}
+/// A row is a text, what it types, the letters of the code by which it ends, if it ends by one, its steps, their limit, the output, the
+/// input, and the lines of a page. What is empty of the steps, the limit, the output and the lines is not said.
+#[derive(Clone, Copy)]
+pub(crate) struct Strings;
 
-/// The steps of a cell, if it says them, and their limit, which may be said after them: `3 of 5`.
-fn steps_of(cell: Option<&str>, limit: u64) -> Option<(Option<u64>, u64)> {
-    match cell {
-        None | Some("") => Some((None, limit)),
-        Some(cell) => match cell.split_once(" of ") {
-            Some((steps, limit)) => Some((Some(number_of(steps)?), number_of(limit)?)),
-            None => Some((Some(number_of(cell)?), limit)),
-        },
-    }
-}
-
-/// A row is a text, what it types, the letters of the code by which it ends, if it ends by one, its steps, and the output.
-impl Rule for Over<'_> {
+impl Rule for Strings {
+    /// Where memory was refused, at the second time.
     fn holds(&self, alloc: Global, row: &str) -> bool {
-        let [Some(text), Some(typed), code, steps, output, None, _] = cells_of(row) else {
-            return false;
-        };
-        let Some((steps, limit)) = steps_of(steps, self.limit) else {
-            return false;
-        };
-        let ending = Ending {
-            typed,
-            code: code.unwrap_or(""),
-            steps,
-            output,
-        };
-        ends(alloc, &Over { limit, ..*self }, text.as_bytes(), &ending)
+        let cells = cells_of(row);
+        match try_once(alloc, &cells) {
+            Some(held) => held,
+            None => try_once(alloc, &cells) == Some(true),
+        }
     }
 }
 
@@ -150,11 +112,33 @@ const ROWS: &str = "
     Ia\nb\x1b0T-T\x1b => ba\nb => => 5
     ";
 
+/// The tables of all strings but those at the limits of the texts.
+static TABLES: [&str; 20] = [
+    ROWS,
+    conditionals::ROWS,
+    iterations::ROWS,
+    jumps::ROWS,
+    block_forms::ROWS,
+    page_turns::ROWS,
+    page_turns::EXITS,
+    page_lines::ROWS,
+    page_lines::EXITS,
+    values::ROWS,
+    edits::ROWS,
+    texts::ROWS,
+    searches::ROWS,
+    failed_searches::PARDONED,
+    FORMS,
+    operands::ROWS,
+    search_forms::ROWS,
+    faults::ROWS,
+    modifiers::ROWS,
+    elements::ROWS,
+];
+
 #[test]
 fn strings_end_as_they_mean(rt: HostRuntime) {
-    all_hold(&rt, rt.alloc(), &ALONE, ROWS);
-    all_hold(&rt, rt.alloc(), &ALONE, conditionals::ROWS);
-    all_hold(&rt, rt.alloc(), &ALONE, iterations::ROWS);
-    all_hold(&rt, rt.alloc(), &ALONE, jumps::ROWS);
-    all_hold(&rt, rt.alloc(), &ALONE, block_forms::ROWS);
+    for table in &TABLES {
+        all_hold(&rt, rt.alloc(), &Strings, table);
+    }
 }

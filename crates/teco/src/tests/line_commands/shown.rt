@@ -1,86 +1,39 @@
 //! The help, and why a line is faulty, as the parser shows them.
-use super::{IN, PAGE, Row};
-use crate::tests::program::Run;
 
-pub(super) static HELP: [Row<'static>; 1] = [(
-    Run {
-        words: "teco --help",
-        typed: "TECO, a text editor whose command strings are programs, each of which can be undone\n\n\
-                Usage: teco [OPTIONS] <INPUT>...\n\n\
-                Arguments:\n  \
-                <INPUT>     The file to edit, or - for standard input; only --in-place, or --output with its name, changes it\n  \
-                [INPUT]...  More files, each edited by itself, in their order\n\n\
-                Options:\n  \
-                -e, --execute <STRINGS>  The command strings: $ is ESC, ^J a line end, and !! begins a comment\n  \
-                -p, --pages <STRINGS>    The same on each page, and then an exit: -e 'Y<STRINGS$ $-1-^N;P>EX$$'\n  \
-                -f, --file <FILE>        A file of the same kind; the commands are those of each FILE in order, and then those of --execute\n  \
-                -b, --bytes <FILE>       The file that the commands are read from, as they are\n  \
-                -o, --output <FILE>      Where the output goes after an exit, - for standard output; without it INPUT.out, or - if INPUT is -\n  \
-                -i, --in-place           Writes the output over each INPUT\n      \
-                --check              Tells the faults of the commands, with their places; runs nothing, and reads no INPUT\n      \
-                --page-lines <N>     The most lines of a page, at most 1000000000; without it form feeds alone end pages\n      \
-                --limit <N>          The most steps that each command string may take, at most 1000000000000 [default: 1000000]\n      \
-                --seconds <N>        The most seconds that each command string may run, at most 1000000000000; any time without it\n      \
-                --undo <N>           The most command strings kept to be undone, at most 100000; all without it\n      \
-                --prompt             Types * where a command string is awaited\n      \
-                --explain            Explains each error, and with --prompt what was done, on standard error\n  \
-                -h, --help               Print help\n  \
-                -V, --version            Print version\n\n\
-                Commands are read from standard input where no option gives them, and what they type goes to standard\n\
-                output. In STRINGS, and in the files of --file, $ is ESC and ^J ends a line; line ends, margins and what\n\
-                follows !! are for readers alone. Two ESC end a command string, which is then run; EX writes the output\n\
-                and ends the run. Each INPUT is a run of its own; several want an option that gives the commands.\n",
-        ..PAGE
-    },
-    &[IN],
-    &[IN],
-)];
-
-/// A faulty line says why, and shows the usage; nothing is read, run or written.
-pub(super) static FAULTY_LINES: [(&str, &str); 9] = [
-    (
-        "teco -e EX$$ -b in in",
-        "error: only one of '--pages <STRINGS>', '--bytes <FILE>', and '--file <FILE>' or '--execute <STRINGS>' can be used\n\n\
-        Usage: teco [OPTIONS] <INPUT>...\n\nFor more information, try '--help'.\n",
-    ),
-    (
-        "teco -e EX$$ -p 0K in",
-        "error: only one of '--pages <STRINGS>', '--bytes <FILE>', and '--file <FILE>' or '--execute <STRINGS>' can be used\n\n\
-        Usage: teco [OPTIONS] <INPUT>...\n\nFor more information, try '--help'.\n",
-    ),
-    (
-        "teco -e EX$$ -i -o out in",
-        "error: the argument '--output <FILE>' cannot be used with '--in-place'\n\n\
-        Usage: teco [OPTIONS] <INPUT>...\n\nFor more information, try '--help'.\n",
-    ),
-    (
-        "teco -e EX$$ -o out in in",
-        "error: the argument '--output <FILE>' cannot be used with more than one INPUT\n\n\
-        Usage: teco [OPTIONS] <INPUT>...\n\nFor more information, try '--help'.\n",
-    ),
-    (
-        "teco in in",
-        "error: more than one INPUT wants commands from '--execute <STRINGS>', '--pages <STRINGS>', '--file <FILE>' or '--bytes <FILE>'\n\n\
-        Usage: teco [OPTIONS] <INPUT>...\n\nFor more information, try '--help'.\n",
-    ),
-    (
-        "teco -",
-        "error: standard input cannot be both the commands and an INPUT\n\n\
-        Usage: teco [OPTIONS] <INPUT>...\n\nFor more information, try '--help'.\n",
-    ),
-    (
-        "teco -e EX$$ -i in /dev/stdin",
-        "error: the argument '--in-place' cannot be used with an INPUT that is standard input\n\n\
-        Usage: teco [OPTIONS] <INPUT>...\n\nFor more information, try '--help'.\n",
-    ),
-    (
-        "teco --check in",
-        "error: the argument '--check' wants commands from '--execute <STRINGS>', '--pages <STRINGS>', '--file <FILE>' or '--bytes <FILE>'\n\n\
-        Usage: teco [OPTIONS] <INPUT>...\n\nFor more information, try '--help'.\n",
-    ),
-    (
-        "teco",
-        "error: the following required arguments were not provided:\n  <INPUT>\n\n\
-        Usage: teco [OPTIONS] <INPUT>...\n\nFor more information, try '--help'.\n",
-    ),
-];
+pub(crate) const ROWS: &str = "
+    - teco --help => => TECO, a text editor whose command strings are programs, each of which can be undone\n\n\
+        Usage: teco [OPTIONS] <INPUT>...\n\n\
+        Arguments:\n  \
+        <INPUT>     The file to edit, or - for standard input; only --in-place, or --output with its name, changes it\n  \
+        [INPUT]...  More files, each edited by itself, in their order\n\n\
+        Options:\n  \
+        -e, --execute <STRINGS>  The command strings: $ is ESC, ^J a line end, and !! begins a comment\n  \
+        -p, --pages <STRINGS>    The same on each page, and then an exit: -e 'Y<STRINGS$ $-1-^N;P>EX$$'\n  \
+        -f, --file <FILE>        A file of the same kind; the commands are those of each FILE in order, and then those of --execute\n  \
+        -b, --bytes <FILE>       The file that the commands are read from, as they are\n  \
+        -o, --output <FILE>      Where the output goes after an exit, - for standard output; without it INPUT.out, or - if INPUT is -\n  \
+        -i, --in-place           Writes the output over each INPUT\n      \
+        --check              Tells the faults of the commands, with their places; runs nothing, and reads no INPUT\n      \
+        --page-lines <N>     The most lines of a page, at most 1000000000; without it form feeds alone end pages\n      \
+        --limit <N>          The most steps that each command string may take, at most 1000000000000 [default: 1000000]\n      \
+        --seconds <N>        The most seconds that each command string may run, at most 1000000000000; any time without it\n      \
+        --undo <N>           The most command strings kept to be undone, at most 100000; all without it\n      \
+        --prompt             Types * where a command string is awaited\n      \
+        --explain            Explains each error, and with --prompt what was done, on standard error\n  \
+        -h, --help               Print help\n  \
+        -V, --version            Print version\n\n\
+        Commands are read from standard input where no option gives them, and what they type goes to standard\n\
+        output. In STRINGS, and in the files of --file, $ is ESC and ^J ends a line; line ends, margins and what\n\
+        follows !! are for readers alone. Two ESC end a command string, which is then run; EX writes the output\n\
+        and ends the run. Each INPUT is a run of its own; several want an option that gives the commands.\n \
+        => => => => in == hi\n
+    - // A faulty line says why, and shows the usage; nothing is read, run or written.
+    - teco -e EX$$ -b in in => => => error: only one of '--pages <STRINGS>', '--bytes <FILE>', and '--file <FILE>' or '--execute <STRINGS>' can be used\n\nUsage: teco [OPTIONS] <INPUT>...\n\nFor more information, try '--help'.\n => => 3 => in == hi\n
+    - teco -e EX$$ -p 0K in => => => error: only one of '--pages <STRINGS>', '--bytes <FILE>', and '--file <FILE>' or '--execute <STRINGS>' can be used\n\nUsage: teco [OPTIONS] <INPUT>...\n\nFor more information, try '--help'.\n => => 3 => in == hi\n
+    - teco -e EX$$ -i -o out in => => => error: the argument '--output <FILE>' cannot be used with '--in-place'\n\nUsage: teco [OPTIONS] <INPUT>...\n\nFor more information, try '--help'.\n => => 3 => in == hi\n
+    - teco -e EX$$ -o out in in => => => error: the argument '--output <FILE>' cannot be used with more than one INPUT\n\nUsage: teco [OPTIONS] <INPUT>...\n\nFor more information, try '--help'.\n => => 3 => in == hi\n
+    - teco in in => => => error: more than one INPUT wants commands from '--execute <STRINGS>', '--pages <STRINGS>', '--file <FILE>' or '--bytes <FILE>'\n\nUsage: teco [OPTIONS] <INPUT>...\n\nFor more information, try '--help'.\n => => 3 => in == hi\n
+    - teco - => => => error: standard input cannot be both the commands and an INPUT\n\nUsage: teco [OPTIONS] <INPUT>...\n\nFor more information, try '--help'.\n => => 3 => in == hi\n
+    - teco -e EX$$ -i in /dev/stdin => => => error: the argument '--in-place' cannot be used with an INPUT that is standard input\n\nUsage: teco [OPTIONS] <INPUT>...\n\nFor more information, try '--help'.\n => => 3 => in == hi\n
+    - teco --check in => => => error: the argument '--check' wants commands from '--execute <STRINGS>', '--pages <STRINGS>', '--file <FILE>' or '--bytes <FILE>'\n\nUsage: teco [OPTIONS] <INPUT>...\n\nFor more information, try '--help'.\n => => 3 => in == hi\n
+    - teco => => => error: the following required arguments were not provided:\n  <INPUT>\n\nUsage: teco [OPTIONS] <INPUT>...\n\nFor more information, try '--help'.\n => => 3 => in == hi\n";

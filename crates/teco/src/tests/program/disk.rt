@@ -19,9 +19,12 @@ fn writes<D: Disk>(alloc: Global, disk: &mut D, name: &str, bytes: &str) -> bool
     write_output(alloc, disk, name, 7, parts).is_ok()
 }
 
-/// The same by a disk of its own, as another program would.
-fn writes_anew(rt: &HostRuntime, name: &str, bytes: &str) -> bool {
-    writes(rt.alloc(), &mut FileDisk::new(rt), name, bytes)
+/// A disk of the system.
+type Files<'a> = FileDisk<'a, HostRuntime>;
+
+/// The same on a disk of the system.
+fn puts(rt: &HostRuntime, disk: &mut Files, name: &str, bytes: &str) -> bool {
+    writes(rt.alloc(), disk, name, bytes)
 }
 
 fn holds(rt: &HostRuntime, name: &str, bytes: &str) -> bool {
@@ -39,69 +42,58 @@ fn set_mode(rt: &HostRuntime, name: &str, mode: &str) -> bool {
     }
 }
 
-fn has_mode(rt: &HostRuntime, name: &str, mode: &str) -> bool {
-    match (fs::metadata(rt, name), u32::from_str_radix(mode, 8)) {
-        (Ok(file), Ok(mode)) => file.mode() & 0o7777 == mode,
-        _ => false,
-    }
-}
-
-/// Whether a name is a link, or a device.
+/// Whether a name is a link, a device or nothing, or a file that was given away, or one with these permissions.
 fn is_a(rt: &HostRuntime, name: &str, kind: &str) -> bool {
-    match fs::symlink_metadata(rt, name) {
-        Ok(file) => match kind {
-            "link" => file.is_symlink(),
-            "device" => !file.is_file() && !file.is_dir() && !file.is_symlink(),
-            _ => false,
-        },
-        Err(_) => false,
+    match (fs::symlink_metadata(rt, name), kind.as_bytes()) {
+        (Ok(file), [b'l', ..]) => file.is_symlink(),
+        (Ok(file), [b'd', ..]) => !file.is_file() && !file.is_dir() && !file.is_symlink(),
+        (Ok(file), [b'a', ..]) => file.uid() == 1234 && file.gid() == 4321,
+        (Ok(file), _) => u32::from_str_radix(kind, 8).ok() == Some(file.mode() & 0o7777),
+        (Err(_), _) => is(kind, "gone"),
     }
 }
 
 /// Only root may give a file away; for others nothing is tried.
-fn keeps_its_owner(rt: &HostRuntime, name: &str) -> bool {
-    if chown(rt, name, Some(1234), Some(4321)).is_err() {
-        return true;
-    }
-    let written = writes_anew(rt, name, "theirs") && holds(rt, name, "theirs");
-    match fs::metadata(rt, name) {
-        Ok(file) => written && file.uid() == 1234 && file.gid() == 4321,
+fn keeps_its_owner(rt: &HostRuntime, disk: &mut Files, name: &str) -> bool {
+    chown(rt, name, Some(1234), Some(4321)).is_err()
+        || puts(rt, disk, name, "theirs") && holds(rt, name, "theirs") && is_a(rt, name, "away")
+}
+
+/// Whether an output is written to the name of a descriptor of the process, to which a link is made then.
+fn puts_there(rt: &HostRuntime, disk: &mut Files, number: i32, link: &str, bytes: &str) -> bool {
+    match format!(in rt.alloc(); "/proc/self/fd/{number}") {
+        Ok(name) => puts(rt, disk, name.as_str(), bytes)
+            && symlink(rt, name.as_str(), link).is_ok(),
         Err(_) => false,
     }
 }
 
-/// What is written to the descriptor of this number of the process comes out of the reader.
-fn gives_through(rt: &HostRuntime, name: &str, reader: &mut io::PipeReader) -> bool {
+fn gives(reader: &mut io::PipeReader, bytes: &[u8; 4]) -> bool {
     let mut read = [0; 4];
-    writes_anew(rt, name, "abcd") && reader.read_exact(&mut read).is_ok() && are(&read, b"abcd")
+    reader.read_exact(&mut read).is_ok() && are(&read, bytes)
 }
 
 /// A pipe is a stream, by its name among the descriptors and by a link to that.
-fn leads_to_a_pipe(rt: &HostRuntime, link: &str) -> bool {
+fn leads_to_a_pipe(rt: &HostRuntime, disk: &mut Files, link: &str) -> bool {
     let Ok((mut reader, writer)) = io::pipe(rt) else {
         return false;
     };
-    let Ok(name) = format!(in rt.alloc(); "/proc/self/fd/{}", writer.as_raw_fd()) else {
-        return false;
-    };
-    gives_through(rt, name.as_str(), &mut reader)
-        && symlink(rt, name.as_str(), link).is_ok()
-        && gives_through(rt, link, &mut reader)
+    puts_there(rt, disk, writer.as_raw_fd(), link, "abcd")
+        && gives(&mut reader, b"abcd")
+        && puts(rt, disk, link, "efgh")
+        && gives(&mut reader, b"efgh")
 }
 
 /// A name among the descriptors that leads to a file is that file: it has the new text alone.
-fn is_replaced_by_its_descriptor(rt: &HostRuntime, name: &str, bytes: &str) -> bool {
-    let Ok(file) = fs::open(rt, name) else {
-        return false;
-    };
-    match format!(in rt.alloc(); "/proc/self/fd/{}", file.as_raw_fd()) {
-        Ok(descriptor) => { writes_anew(rt, descriptor.as_str(), bytes) && holds(rt, name, bytes) }
+fn is_replaced_by_its_descriptor(rt: &HostRuntime, disk: &mut Files, name: &str) -> bool {
+    match fs::open(rt, name) {
+        Ok(file) => puts_there(rt, disk, file.as_raw_fd(), "teco_test/descriptor", "new"),
         Err(_) => false,
     }
 }
 
 /// If standard output goes to a file, that is not replaced, by whichever name.
-fn is_standard_output(rt: &HostRuntime, disk: &mut FileDisk<HostRuntime>, name: &str) -> bool {
+fn is_standard_output(rt: &HostRuntime, disk: &mut Files, name: &str) -> bool {
     match fs::metadata(rt, name) {
         Ok(file) if file.is_file() => {
             disk.target_of(name).is_err() && disk.why() == Some(ErrorKind::ResourceBusy)
@@ -110,88 +102,80 @@ fn is_standard_output(rt: &HostRuntime, disk: &mut FileDisk<HostRuntime>, name: 
     }
 }
 
-/// What a line of a script does with a file, or sees of it; none where it is for a disk.
-fn does(rt: &HostRuntime, verb: &str, name: &str, value: &str) -> Option<bool> {
-    match verb {
-        "put" => Some(fs::write(rt, name, value.as_bytes()).is_ok()),
-        "has" => Some(holds(rt, name, value)),
-        "remove" => Some(fs::remove_file(rt, name).is_ok()),
-        "gone" => Some(matches!(fs::exists(rt, name), Ok(false))),
-        "link" => Some(symlink(rt, value, name).is_ok()),
-        "chmod" => Some(set_mode(rt, name, value)),
-        "mode" => Some(has_mode(rt, name, value)),
-        "is_a" => Some(is_a(rt, name, value)),
-        "anew" => Some(writes_anew(rt, name, value)),
-        "owner" => Some(keeps_its_owner(rt, name)),
-        "pipe" => Some(leads_to_a_pipe(rt, name)),
-        "descriptor" => Some(is_replaced_by_its_descriptor(rt, name, value)),
+/// What a line of a script does with a file, or sees of it, by the beginning of its verb; none where it is for the disk that opens files.
+/// This disk opens none, as one of another program.
+fn does(rt: &HostRuntime, disk: &mut Files, call: (&str, &str, &str)) -> Option<bool> {
+    let (verb, name, value) = call;
+    match verb.as_bytes() {
+        [b'p', b'u', ..] => Some(fs::write(rt, name, value.as_bytes()).is_ok()),
+        [b'h', b'a', ..] => Some(holds(rt, name, value)),
+        [b'r', b'e', ..] => Some(fs::remove_file(rt, name).is_ok()),
+        [b'l', b'i', ..] => Some(symlink(rt, value, name).is_ok()),
+        [b'c', b'h', ..] => Some(set_mode(rt, name, value)),
+        [b'i', b's', ..] => Some(is_a(rt, name, value)),
+        [b'a', b'n', ..] => Some(puts(rt, disk, name, value)),
+        [b'g', b'i', ..] => Some(keeps_its_owner(rt, disk, name)),
+        [b'p', b'i', ..] => Some(leads_to_a_pipe(rt, disk, name)),
+        [b'd', b'e', ..] => Some(is_replaced_by_its_descriptor(rt, disk, name)),
+        [b's', b't', ..] => Some(is_standard_output(rt, disk, name)),
         _ => None,
     }
 }
 
 /// Whether the last call of a disk that failed did so by this.
 fn failed_by(why: Option<ErrorKind>, kind: &str) -> bool {
-    let name = match why {
-        None => "nothing",
-        Some(ErrorKind::NotFound) => "NotFound",
-        Some(ErrorKind::IsADirectory) => "IsADirectory",
-        Some(ErrorKind::NotADirectory) => "NotADirectory",
-        Some(_) => "another",
-    };
-    is(kind, name)
+    match kind.as_bytes() {
+        [b'n', ..] => why.is_none(),
+        [b'N', b'o', b't', b'F', ..] => why == Some(ErrorKind::NotFound),
+        [b'N', b'o', b't', b'A', ..] => why == Some(ErrorKind::NotADirectory),
+        _ => why == Some(ErrorKind::IsADirectory),
+    }
 }
 
-/// What a line asks of a disk, and whether it is so; none where there is no such question.
-fn asks(
-    rt: &HostRuntime,
-    disk: &mut FileDisk<HostRuntime>,
-    verb: &str,
-    name: &str,
-    value: &str,
-) -> Option<bool> {
-    match verb {
-        "open" => Some(disk.open(name).is_ok()),
-        "target" => Some(disk.target_of(name).is_ok()),
-        "write" => Some(writes(rt.alloc(), disk, name, value)),
-        "as_read" => Some(matches!(disk.is_as_read(name), Ok(true))),
-        "changed" => Some(matches!(disk.is_as_read(name), Ok(false))),
-        "stdout" => Some(is_standard_output(rt, disk, name)),
-        "why" => Some(failed_by(disk.why(), name)),
+/// What a line asks of a disk, by the beginning of its verb, and whether it is so; none where there is no such question.
+fn asks(rt: &HostRuntime, disk: &mut Files, call: (&str, &str, &str)) -> Option<bool> {
+    let (verb, name, value) = call;
+    match verb.as_bytes() {
+        [b'o', b'p', ..] => Some(disk.open(name).is_ok()),
+        [b't', b'a', ..] => Some(disk.target_of(name).is_ok()),
+        [b'w', b'r', ..] => Some(puts(rt, disk, name, value)),
+        [b'a', b's', ..] => disk.is_as_read(name).ok(),
+        [b'w', b'h', ..] => Some(failed_by(disk.why(), name)),
         _ => None,
     }
 }
 
 /// Whether a line of a script holds: a verb, a name and a value, or the same with a `not` before them.
-fn line_holds(rt: &HostRuntime, disk: &mut FileDisk<HostRuntime>, line: &str) -> bool {
+fn line_holds(rt: &HostRuntime, disk: &mut Files, other: &mut Files, line: &str) -> bool {
     let (call, wanted) = match line.strip_prefix("not ") {
         Some(call) => (call, false),
         None => (line, true),
     };
     let (verb, rest) = call.split_once(' ').unwrap_or((call, ""));
     let (name, value) = rest.split_once(' ').unwrap_or((rest, ""));
-    match does(rt, verb, name, value) {
+    match does(rt, other, (verb, name, value)) {
         Some(done) => done == wanted,
-        None => asks(rt, disk, verb, name, value) == Some(wanted),
+        None => asks(rt, disk, (verb, name, value)) == Some(wanted),
     }
 }
 
-/// The first line of a script that does not hold on a disk; empty where all do.
-fn fails_at<'a>(rt: &HostRuntime, disk: &mut FileDisk<HostRuntime>, script: &'a str) -> &'a str {
+/// The first line of a script that does not hold on a disk, or on another; empty where all do.
+fn fails_at<'a>(rt: &HostRuntime, disk: &mut Files, other: &mut Files, script: &'a str) -> &'a str {
     for line in script.split(LINE) {
-        if is_row(line) && !line_holds(rt, disk, line) {
+        if is_row(line) && !line_holds(rt, disk, other, line) {
             return line;
         }
     }
     ""
 }
 
-/// The same on a disk of its own, in a folder that is new.
+/// The same on disks of its own, in a folder that is new.
 fn fails_in_a_folder<'a>(rt: &HostRuntime, script: &'a str) -> &'a str {
     let _ = fs::remove_dir_all(rt, FOLDER);
     if fs::create_dir(rt, FOLDER).is_err() {
         return "the folder";
     }
-    let failed = fails_at(rt, &mut FileDisk::new(rt), script);
+    let failed = fails_at(rt, &mut FileDisk::new(rt), &mut FileDisk::new(rt), script);
     let is_gone = fs::remove_dir_all(rt, FOLDER).is_ok();
     if failed.is_empty() && !is_gone {
         return "the folder's end";
@@ -207,12 +191,12 @@ const WRITTEN: &str = "
     chmod teco_test/file 640
     write teco_test/file again
     has teco_test/file again
-    mode teco_test/file 640
+    is teco_test/file 640
     // A file behind a link.
     link teco_test/link file
     write teco_test/link behind
     has teco_test/file behind
-    is_a teco_test/link link
+    is teco_test/link link
     // A file that the link leads to and that is not there.
     remove teco_test/file
     write teco_test/link led to
@@ -221,7 +205,7 @@ const WRITTEN: &str = "
     not write teco_test/no/file a
     not write teco_test a
     not write teco_test/none/ a
-    gone teco_test/.teco-7
+    is teco_test/.teco-7 gone
     // A draft of someone else's stays as it is, and another name is taken.
     put teco_test/.teco-7 theirs
     write teco_test/file ours
@@ -229,7 +213,7 @@ const WRITTEN: &str = "
     has teco_test/file ours
     // A device is given the output, and stays one.
     write /dev/null a
-    is_a /dev/null device
+    is /dev/null device
     ";
 
 /// Whose it is.
@@ -240,14 +224,14 @@ const WHOSE: &str = "
     open teco_test/in
     write teco_test/out too
     has teco_test/out too
-    mode teco_test/out 600
+    is teco_test/out 600
     remove teco_test/out
     put teco_test/in private
     chmod teco_test/in 664
     open teco_test/in
     write teco_test/out too
     has teco_test/out too
-    mode teco_test/out 664
+    is teco_test/out 664
     // A file that is replaced keeps its own permissions, whatever those of the input are.
     put teco_test/in public
     chmod teco_test/in 644
@@ -255,8 +239,8 @@ const WHOSE: &str = "
     open teco_test/in
     write teco_test/out again
     has teco_test/out again
-    mode teco_test/out 600
-    owner teco_test/out
+    is teco_test/out 600
+    given teco_test/out
     // Where the draft would be, a link is put beforehand: it isn't followed.
     put teco_test/in victim
     link teco_test/.teco-7 in
@@ -271,14 +255,15 @@ const LEADS: &str = "
     put teco_test/out old
     pipe teco_test/link
     remove teco_test/link
-    descriptor teco_test/out new
+    descriptor teco_test/out
+    has teco_test/out new
     // A link to a link to nothing makes the file at their end; a link to itself is an error.
     remove teco_test/out
     link teco_test/end out
     link teco_test/link end
     anew teco_test/link at the end
     has teco_test/out at the end
-    is_a teco_test/link link
+    is teco_test/link link
     link teco_test/self self
     not anew teco_test/self nowhere
     remove teco_test/link
@@ -292,14 +277,14 @@ const CHANGES: &str = "
     open teco_test/in
     as_read teco_test/in
     put teco_test/in not as read
-    changed teco_test/in
+    not as_read teco_test/in
     open teco_test/in
     as_read teco_test/in
     anew teco_test/in not as read
-    changed teco_test/in
+    not as_read teco_test/in
     open teco_test/in
     remove teco_test/in
-    changed teco_test/in
+    not as_read teco_test/in
     ";
 
 /// A call that fails, and the kind of its error, which stays until the next.
@@ -322,12 +307,10 @@ const WHY: &str = "
 #[test]
 fn writes_whole_files_and_tells_what_a_file_is(rt: HostRuntime) {
     for script in [WRITTEN, WHOSE, LEADS, CHANGES, WHY] {
-        let held = fails_in_a_folder(&rt, script).is_empty();
-        let failed = if held {
-            ""
-        } else {
-            fails_in_a_folder(&rt, script)
-        };
+        let mut failed = fails_in_a_folder(&rt, script);
+        if !failed.is_empty() {
+            failed = fails_in_a_folder(&rt, script);
+        }
         assert_of(&rt, failed, failed.is_empty());
     }
 }

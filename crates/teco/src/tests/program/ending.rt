@@ -4,68 +4,20 @@ use crate::tests::assert_of;
 use crate::tests::bytes::is;
 use std::alloc::Global;
 use teco_core::NoMemory;
-use teco_line::{Commands, Line};
+use teco_line::line_of;
 use teco_program::{Fate, Served, ending, ending_of};
 
-/// What is given to a line: its output, the inputs after the first, and whether they are edited in place.
-#[derive(Clone, Copy)]
-struct Given<'a> {
-    output: Option<&'a str>,
-    more: &'a str,
-    in_place: bool,
-}
-
-fn line(alloc: Global, given: Given) -> Result<Line, NoMemory> {
-    let output = match given.output {
-        Some(name) => Some(String::from_str(alloc, name)?),
-        None => None,
-    };
-    let more = match given.more {
-        "" => Vec::new(alloc),
-        names => words_of(alloc, names)?,
-    };
-    Ok(Line {
-        input: String::from_str(alloc, "in")?,
-        more,
-        output,
-        in_place: given.in_place,
-        page_lines: None,
-        commands: Commands::Bytes(String::from_str(alloc, "strings")?),
-        limit: 0,
-        seconds: None,
-        prompt: false,
-        check: false,
-        explain: false,
-        undo: None,
-    })
-}
-
-/// What is given to the line, how the program ends, and its status and text.
-type Row<'a> = (Given<'a>, Fate, u8, &'a str);
-
-/// Nothing but the input.
-const ALONE: Given = Given {
-    output: None,
-    more: "",
-    in_place: false,
-};
-
-/// Two inputs, of which the first is spoken of.
-const TWO: Given = Given {
-    more: "two",
-    ..ALONE
-};
-
-const IN_PLACE: Given = Given {
-    in_place: true,
-    ..ALONE
-};
+/// The words of a line, how the program ends, and its status and text. Of several inputs the first is spoken of.
+type Row<'a> = (&'a str, Fate, u8, &'a str);
 
 fn ends_so(alloc: Global, row: &Row) -> bool {
-    let Ok(line) = line(alloc, row.0) else {
+    let Ok(words) = words_of(alloc, row.0) else {
         return false;
     };
-    let ended = if row.0.more.is_empty() {
+    let Ok(line) = line_of(alloc, words.as_slice()) else {
+        return false;
+    };
+    let ended = if line.more.is_empty() {
         ending(alloc, &line, row.1)
     } else {
         ending_of(alloc, &line, "in", row.1)
@@ -77,50 +29,102 @@ fn ends_so(alloc: Global, row: &Row) -> bool {
 }
 
 static ROWS: [Row<'static>; 19] = [
-    (ALONE, Fate::NoCommands, 1, "teco: cannot read strings\n"),
-    (ALONE, Fate::NoInput, 1, "teco: cannot read in\n"),
-    (ALONE, Fate::LargeInput, 1, "teco: in is too large\n"),
-    (ALONE, Fate::NoMemory, 1, "teco: no memory\n"),
-    (ALONE, Fate::NoOutput, 1, "teco: cannot write in.out\n"),
     (
-        Given {
-            output: Some("out"),
-            ..ALONE
-        },
+        "teco -b strings in",
+        Fate::NoCommands,
+        1,
+        "teco: cannot read strings\n",
+    ),
+    (
+        "teco -b strings in",
+        Fate::NoInput,
+        1,
+        "teco: cannot read in\n",
+    ),
+    (
+        "teco -b strings in",
+        Fate::LargeInput,
+        1,
+        "teco: in is too large\n",
+    ),
+    ("teco -b strings in", Fate::NoMemory, 1, "teco: no memory\n"),
+    (
+        "teco -b strings in",
+        Fate::NoOutput,
+        1,
+        "teco: cannot write in.out\n",
+    ),
+    (
+        "teco -b strings -o out in",
         Fate::NoOutput,
         1,
         "teco: cannot write out\n",
     ),
-    (ALONE, Fate::Ended(Served::Exit), 0, ""),
-    (ALONE, Fate::Ended(Served::EndOfCommands), 2, ""),
+    ("teco -b strings in", Fate::Ended(Served::Exit), 0, ""),
     (
-        ALONE,
+        "teco -b strings in",
+        Fate::Ended(Served::EndOfCommands),
+        2,
+        "",
+    ),
+    (
+        "teco -b strings in",
         Fate::Ended(Served::ReadFault),
         1,
         "teco: cannot read commands\n",
     ),
     (
-        ALONE,
+        "teco -b strings in",
         Fate::Ended(Served::ShowFault),
         1,
         "teco: cannot show\n",
     ),
-    (ALONE, Fate::Ended(Served::NoMemory), 1, "teco: no memory\n"),
-    (IN_PLACE, Fate::NoOutput, 1, "teco: cannot write in\n"),
-    (IN_PLACE, Fate::Changed, 1, "teco: in has changed\n"),
-    (IN_PLACE, Fate::Unchanged, 0, ""),
-    // Of several inputs each line names one.
-    (TWO, Fate::NoInput, 1, "teco: cannot read in\n"),
-    (TWO, Fate::NoOutput, 1, "teco: cannot write in.out\n"),
-    (TWO, Fate::NoMemory, 1, "teco: in: no memory\n"),
     (
-        TWO,
+        "teco -b strings in",
+        Fate::Ended(Served::NoMemory),
+        1,
+        "teco: no memory\n",
+    ),
+    (
+        "teco -b strings -i in",
+        Fate::NoOutput,
+        1,
+        "teco: cannot write in\n",
+    ),
+    (
+        "teco -b strings -i in",
+        Fate::Changed,
+        1,
+        "teco: in has changed\n",
+    ),
+    ("teco -b strings -i in", Fate::Unchanged, 0, ""),
+    // Of several inputs each line names one.
+    (
+        "teco -b strings in two",
+        Fate::NoInput,
+        1,
+        "teco: cannot read in\n",
+    ),
+    (
+        "teco -b strings in two",
+        Fate::NoOutput,
+        1,
+        "teco: cannot write in.out\n",
+    ),
+    (
+        "teco -b strings in two",
+        Fate::NoMemory,
+        1,
+        "teco: in: no memory\n",
+    ),
+    (
+        "teco -b strings in two",
         Fate::Ended(Served::ShowFault),
         1,
         "teco: in: cannot show\n",
     ),
     (
-        TWO,
+        "teco -b strings in two",
         Fate::Ended(Served::NoMemory),
         1,
         "teco: in: no memory\n",

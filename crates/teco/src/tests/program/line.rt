@@ -2,307 +2,163 @@
 use super::words_of;
 use crate::tests::assert_of;
 use crate::tests::bytes::is;
+use crate::tests::rows::{Cells, Rule, all_hold, cells_of, number_or};
 use std::alloc::Global;
 use std::io;
-use std::process::Abort;
+use std::test::*;
 use teco_core::NoMemory;
 use teco_line::{
     Commands, Line, LineFault, fault_of_words, is_standard_input, is_standard_output, line_of,
     not_text, refused_status,
 };
 
-/// What a line says but for its commands.
-#[derive(Clone, Copy)]
-struct Given<'a> {
-    input: &'a str,
-    more: &'a [&'a str],
-    output: Option<&'a str>,
-    in_place: bool,
-    prompt: bool,
-    check: bool,
-    explain: bool,
-    limit: u64,
-    seconds: Option<u64>,
-    undo: Option<u64>,
-    page_lines: Option<u64>,
-}
-
-/// What is said by words.
-#[derive(Clone, Copy)]
-enum Said<'a> {
-    /// The commands come from standard input,
-    StandardInput,
-    /// from the sources of files, and of a word,
-    Sources(&'a [&'a str], Option<&'a str>),
-    /// from a word that is run on every page,
-    Pages(&'a str),
-    /// or from the bytes of a file.
-    Bytes(&'a str),
-    /// All but the commands.
-    Given(Given<'a>),
-    /// The line is refused with this status.
-    Refused(u8),
-}
-
-/// Words with blanks between them, and what they say.
-type Row<'a> = (&'a str, Said<'a>);
-
-fn are_names(names: &[String], given: &[&str]) -> bool {
-    let mut held = names.len() == given.len();
-    for (name, given) in names.iter().zip(given) {
-        held = held && is(name, given);
-    }
-    held
-}
-
-fn is_name(name: &Option<String>, given: Option<&str>) -> bool {
-    match (name, given) {
-        (Some(name), Some(given)) => is(name, given),
-        (None, None) => true,
-        _ => false,
+/// Where the commands come from: standard input, the sources of files and of a word, a word that is run on every page, or the bytes of a
+/// file.
+fn commands_told(alloc: Global, commands: &Commands) -> Result<String, NoMemory> {
+    match commands {
+        Commands::StandardInput => format!(in alloc; "standard input"),
+        Commands::Sources(names, word) => format!(in alloc; "{names:?} {word:?}"),
+        Commands::Pages(text) => format!(in alloc; "pages {text}"),
+        Commands::Bytes(name) => format!(in alloc; "bytes {name}"),
     }
 }
 
-fn is_given(line: &Line, given: &Given) -> bool {
-    is(&line.input, given.input)
-        && are_names(line.more.as_slice(), given.more)
-        && is_name(&line.output, given.output)
-        && line.in_place == given.in_place
-        && line.prompt == given.prompt
-        && line.check == given.check
-        && line.explain == given.explain
-        && line.limit == given.limit
-        && line.seconds == given.seconds
-        && line.undo == given.undo
-        && line.page_lines == given.page_lines
+/// What a line says but for its commands: the input, more of them, the output, whether it is in place, prompts, checks and explains, the
+/// limit, the seconds, the depth, and the lines of a page.
+fn rest_told(alloc: Global, line: &Line) -> Result<String, NoMemory> {
+    let (input, more, output) = (&line.input, &line.more, &line.output);
+    let (seconds, undo, lines) = (line.seconds, line.undo, line.page_lines);
+    format!(in alloc;
+        "{input} {more:?} {output:?} {} {} {} {} {} {seconds:?} {undo:?} {lines:?}",
+        line.in_place, line.prompt, line.check, line.explain, line.limit
+    )
 }
 
-fn is_line(line: &Line, said: &Said) -> bool {
-    match (&line.commands, said) {
-        (_, Said::Given(given)) => is_given(line, given),
-        (Commands::StandardInput, Said::StandardInput) => true,
-        (Commands::Sources(names, word), Said::Sources(files, text)) => {
-            are_names(names.as_slice(), files) && is_name(word, *text)
-        }
-        (Commands::Pages(text), Said::Pages(word)) => is(text, word),
-        (Commands::Bytes(name), Said::Bytes(file)) => is(name, file),
-        _ => false,
-    }
-}
-
-fn is_said(line: Result<Line, LineFault>, said: &Said) -> bool {
-    match (line, said) {
-        (Ok(line), said) => is_line(&line, said),
-        (Err(LineFault::Refused(error)), Said::Refused(status)) => refused_status(&error)
-            == *status,
-        _ => false,
-    }
-}
-
-fn says(alloc: Global, row: &Row) -> bool {
-    match words_of(alloc, row.0) {
-        Ok(words) => is_said(line_of(alloc, words.as_slice()), &row.1),
+/// Whether it is told so, where that is said.
+fn is_told(told: Result<String, NoMemory>, cell: &str) -> bool {
+    match told {
+        Ok(told) => cell.is_empty() || is(&told, cell),
         Err(NoMemory) => false,
     }
 }
 
-/// Where memory was refused, a row holds the second time.
-fn all_say(rt: &impl Abort, alloc: Global, rows: &[Row]) {
-    for row in rows {
-        assert_of(rt, row.0, says(alloc, row) || says(alloc, row));
+fn says(alloc: Global, cells: &Cells) -> bool {
+    let Ok(words) = words_of(alloc, cells[0]) else {
+        return false;
+    };
+    match line_of(alloc, words.as_slice()) {
+        Ok(line) => {
+            cells[3].is_empty()
+                && is_told(commands_told(alloc, &line.commands), cells[1])
+                && is_told(rest_told(alloc, &line), cells[2])
+        }
+        Err(LineFault::Refused(error)) => {
+            number_or(cells[3], 256) == u64::from(refused_status(&error))
+        }
+        Err(LineFault::NoMemory) => false,
     }
 }
 
-/// Where the commands come from.
-static SOURCES: [Row<'static>; 20] = [
-    ("teco in", Said::StandardInput),
-    ("teco -e Y$$EX$$ in", Said::Sources(&[], Some("Y$$EX$$"))),
-    ("teco in --execute ^EX$$", Said::Sources(&[], Some("^EX$$"))),
-    ("teco --execute=-C$$ in", Said::Sources(&[], Some("-C$$"))),
+/// Words, with blanks between them; where the commands come from, and what else they say, if that is said; or the status with which they
+/// are refused.
+#[derive(Clone, Copy)]
+struct Lines;
+
+impl Rule for Lines {
+    /// Where memory was refused, a row holds the second time.
+    fn holds(&self, alloc: Global, row: &str) -> bool {
+        let cells = cells_of(row);
+        says(alloc, &cells) || says(alloc, &cells)
+    }
+}
+
+const ROWS: &str = "
+    // Where the commands come from.
+    teco in => standard input
+    teco -e Y$$EX$$ in => [] Some(\"Y$$EX$$\")
+    teco in --execute ^EX$$ => [] Some(\"^EX$$\")
+    teco --execute=-C$$ in => [] Some(\"-C$$\")
     // A value may begin with a hyphen, as any other.
-    ("teco -e -C$$ in", Said::Sources(&[], Some("-C$$"))),
-    ("teco --execute -C$$ in", Said::Sources(&[], Some("-C$$"))),
-    ("teco -e -- in", Said::Sources(&[], Some("--"))),
-    ("teco -e -f in", Said::Sources(&[], Some("-f"))),
-    ("teco -p 0K in", Said::Pages("0K")),
-    ("teco in --pages=0K", Said::Pages("0K")),
-    ("teco in more -p -C", Said::Pages("-C")),
-    ("teco -f a in", Said::Sources(&["a"], None)),
-    ("teco in -fa", Said::Sources(&["a"], None)),
-    ("teco in --file=a", Said::Sources(&["a"], None)),
-    ("teco -f - in", Said::Sources(&["-"], None)),
+    teco -e -C$$ in => [] Some(\"-C$$\")
+    teco --execute -C$$ in => [] Some(\"-C$$\")
+    teco -e -- in => [] Some(\"--\")
+    teco -e -f in => [] Some(\"-f\")
+    teco -p 0K in => pages 0K
+    teco in --pages=0K => pages 0K
+    teco in more -p -C => pages -C
+    teco -f a in => [\"a\"] None
+    teco in -fa => [\"a\"] None
+    teco in --file=a => [\"a\"] None
+    teco -f - in => [\"-\"] None
     // The files in their order, and then the word, wherever it stands.
-    ("teco -f a -f b in", Said::Sources(&["a", "b"], None)),
-    (
-        "teco -f b -e EX$$ --file=a in",
-        Said::Sources(&["b", "a"], Some("EX$$")),
-    ),
-    ("teco -e EX$$ -f a in", Said::Sources(&["a"], Some("EX$$"))),
-    ("teco -b a in", Said::Bytes("a")),
-    ("teco in --bytes=-", Said::Bytes("-")),
-];
-
-/// Lines that are refused, or ask for the help or the version.
-static REFUSED: [Row<'static>; 26] = [
-    ("teco -e EX$$ -b a in", Said::Refused(3)),
-    ("teco -f a -b a in", Said::Refused(3)),
-    ("teco -p 0K -b a in", Said::Refused(3)),
-    ("teco -b a -b a in", Said::Refused(3)),
-    ("teco -e EX$$ -p 0K in", Said::Refused(3)),
-    ("teco -p 0K -f a in", Said::Refused(3)),
-    ("teco -e EX$$ -e EX$$ in", Said::Refused(3)),
-    ("teco -e EX$$ -o b -i in", Said::Refused(3)),
-    ("teco -e EX$$ --output - --in-place in", Said::Refused(3)),
-    ("teco -e EX$$ -o b in more", Said::Refused(3)),
-    ("teco in more", Said::Refused(3)),
-    ("teco -i in more", Said::Refused(3)),
-    ("teco -", Said::Refused(3)),
-    ("teco /dev/stdin", Said::Refused(3)),
-    ("teco -f - -", Said::Refused(3)),
-    ("teco -f a -f /dev/stdin in /dev/fd/0", Said::Refused(3)),
-    ("teco -b - -", Said::Refused(3)),
-    ("teco -i -e EX$$ -", Said::Refused(3)),
-    ("teco -i -e EX$$ in /proc/self/fd/0", Said::Refused(3)),
-    ("teco --limit -1 in", Said::Refused(3)),
-    ("teco -o", Said::Refused(3)),
-    ("teco -- -e EX$$ in", Said::Refused(3)),
-    ("teco --what in", Said::Refused(3)),
-    ("teco -i -i in", Said::Refused(3)),
-    ("teco --help", Said::Refused(0)),
-    ("teco -V", Said::Refused(0)),
-];
-
-/// The line of an input alone.
-const IN: Given = Given {
-    input: "in",
-    more: &[],
-    output: None,
-    in_place: false,
-    prompt: false,
-    check: false,
-    explain: false,
-    limit: 1_000_000,
-    seconds: None,
-    undo: None,
-    page_lines: None,
-};
-
-/// What the other options say.
-static ROWS: [Row<'static>; 30] = [
-    ("teco in", Said::Given(IN)),
-    (
-        "teco --limit 5 --output o --prompt in",
-        Said::Given(Given {
-            limit: 5,
-            output: Some("o"),
-            prompt: true,
-            ..IN
-        }),
-    ),
-    (
-        "teco in --limit=1000000000000 --explain -o -",
-        Said::Given(Given {
-            limit: 1_000_000_000_000,
-            explain: true,
-            output: Some("-"),
-            ..IN
-        }),
-    ),
-    (
-        "teco --seconds 1 in",
-        Said::Given(Given {
-            seconds: Some(1),
-            ..IN
-        }),
-    ),
-    (
-        "teco in --seconds=1000000000000",
-        Said::Given(Given {
-            seconds: Some(1_000_000_000_000),
-            ..IN
-        }),
-    ),
-    (
-        "teco --undo 1 in",
-        Said::Given(Given {
-            undo: Some(1),
-            ..IN
-        }),
-    ),
-    (
-        "teco in --undo=100000",
-        Said::Given(Given {
-            undo: Some(100_000),
-            ..IN
-        }),
-    ),
-    (
-        "teco in -i",
-        Said::Given(Given {
-            in_place: true,
-            ..IN
-        }),
-    ),
-    (
-        "teco -b EX --check in",
-        Said::Given(Given { check: true, ..IN }),
-    ),
-    ("teco --check --prompt in", Said::Refused(3)),
-    (
-        "teco -p 0K in --in-place a b -- -c",
-        Said::Given(Given {
-            more: &["a", "b", "-c"],
-            in_place: true,
-            ..IN
-        }),
-    ),
-    (
-        "teco -e EX$$ in -",
-        Said::Given(Given { more: &["-"], ..IN }),
-    ),
-    ("teco -e EX$$ -", Said::Given(Given { input: "-", ..IN })),
-    (
-        "teco -o -b in",
-        Said::Given(Given {
-            output: Some("-b"),
-            ..IN
-        }),
-    ),
-    (
-        "teco --page-lines 1 in",
-        Said::Given(Given {
-            page_lines: Some(1),
-            ..IN
-        }),
-    ),
-    (
-        "teco in --page-lines=1000000000",
-        Said::Given(Given {
-            page_lines: Some(1_000_000_000),
-            ..IN
-        }),
-    ),
-    ("teco --page-lines 0 in", Said::Refused(3)),
-    ("teco --page-lines 1000000001 in", Said::Refused(3)),
-    ("teco --page-lines -1 in", Said::Refused(3)),
-    ("teco --limit 1000000000001 in", Said::Refused(3)),
-    ("teco --limit -1 in", Said::Refused(3)),
-    ("teco --seconds 0 in", Said::Refused(3)),
-    ("teco --seconds x in", Said::Refused(3)),
-    ("teco --seconds 1000000000001 in", Said::Refused(3)),
-    ("teco --seconds 1 --seconds 1 in", Said::Refused(3)),
-    ("teco --seconds in", Said::Refused(3)),
-    ("teco --undo 0 in", Said::Refused(3)),
-    ("teco --undo 100001 in", Said::Refused(3)),
-    ("teco --undo x in", Said::Refused(3)),
-    ("teco -i=true in", Said::Refused(3)),
-];
+    teco -f a -f b in => [\"a\", \"b\"] None
+    teco -f b -e EX$$ --file=a in => [\"b\", \"a\"] Some(\"EX$$\")
+    teco -e EX$$ -f a in => [\"a\"] Some(\"EX$$\")
+    teco -b a in => bytes a
+    teco in --bytes=- => bytes -
+    // Lines that are refused, or ask for the help or the version.
+    teco -e EX$$ -b a in => => => 3
+    teco -f a -b a in => => => 3
+    teco -p 0K -b a in => => => 3
+    teco -b a -b a in => => => 3
+    teco -e EX$$ -p 0K in => => => 3
+    teco -p 0K -f a in => => => 3
+    teco -e EX$$ -e EX$$ in => => => 3
+    teco -e EX$$ -o b -i in => => => 3
+    teco -e EX$$ --output - --in-place in => => => 3
+    teco -e EX$$ -o b in more => => => 3
+    teco in more => => => 3
+    teco -i in more => => => 3
+    teco - => => => 3
+    teco /dev/stdin => => => 3
+    teco -f - - => => => 3
+    teco -f a -f /dev/stdin in /dev/fd/0 => => => 3
+    teco -b - - => => => 3
+    teco -i -e EX$$ - => => => 3
+    teco -i -e EX$$ in /proc/self/fd/0 => => => 3
+    teco --limit -1 in => => => 3
+    teco -o => => => 3
+    teco -- -e EX$$ in => => => 3
+    teco --what in => => => 3
+    teco -i -i in => => => 3
+    teco --help => => => 0
+    teco -V => => => 0
+    // What the other options say.
+    teco in => => in [] None false false false false 1000000 None None None
+    teco --limit 5 --output o --prompt in => => in [] Some(\"o\") false true false false 5 None None None
+    teco in --limit=1000000000000 --explain -o - => => in [] Some(\"-\") false false false true 1000000000000 None None None
+    teco --seconds 1 in => => in [] None false false false false 1000000 Some(1) None None
+    teco in --seconds=1000000000000 => => in [] None false false false false 1000000 Some(1000000000000) None None
+    teco --undo 1 in => => in [] None false false false false 1000000 None Some(1) None
+    teco in --undo=100000 => => in [] None false false false false 1000000 None Some(100000) None
+    teco in -i => => in [] None true false false false 1000000 None None None
+    teco -b EX --check in => => in [] None false false true false 1000000 None None None
+    teco --check --prompt in => => => 3
+    teco -p 0K in --in-place a b -- -c => => in [\"a\", \"b\", \"-c\"] None true false false false 1000000 None None None
+    teco -e EX$$ in - => => in [\"-\"] None false false false false 1000000 None None None
+    teco -e EX$$ - => => - [] None false false false false 1000000 None None None
+    teco -o -b in => => in [] Some(\"-b\") false false false false 1000000 None None None
+    teco --page-lines 1 in => => in [] None false false false false 1000000 None None Some(1)
+    teco in --page-lines=1000000000 => => in [] None false false false false 1000000 None None Some(1000000000)
+    teco --page-lines 0 in => => => 3
+    teco --page-lines 1000000001 in => => => 3
+    teco --page-lines -1 in => => => 3
+    teco --limit 1000000000001 in => => => 3
+    teco --limit -1 in => => => 3
+    teco --seconds 0 in => => => 3
+    teco --seconds x in => => => 3
+    teco --seconds 1000000000001 in => => => 3
+    teco --seconds 1 --seconds 1 in => => => 3
+    teco --seconds in => => => 3
+    teco --undo 0 in => => => 3
+    teco --undo 100001 in => => => 3
+    teco --undo x in => => => 3
+    teco -i=true in => => => 3
+    ";
 
 #[test]
 fn gives_what_the_words_say(rt: HostRuntime) {
-    all_say(&rt, rt.alloc(), &SOURCES);
-    all_say(&rt, rt.alloc(), &REFUSED);
-    all_say(&rt, rt.alloc(), &ROWS);
+    all_hold(&rt, rt.alloc(), &Lines, ROWS);
 }
 
 /// The status that an argument which is not UTF-8 leads to; none where memory was refused.

@@ -1,66 +1,20 @@
 //! What is typed and written at streams of commands, and how serving them ends.
 use super::Ticking;
-use crate::tests::bytes::are_both;
-use crate::tests::rows::{self, Rule, cells_of};
-use crate::tests::session::requests::{self, Over, Trial};
+use crate::tests::bytes::{are_both, is, joined};
+use crate::tests::rows::{Cells, Rule, all_hold, cells_of, number_or};
+use crate::tests::session::requests::{Over, Trial, holds_once};
+use crate::tests::step::failed_searches;
 use std::alloc::Global;
-use std::process::Abort;
-use teco_core::NoMemory;
+use std::test::*;
 use teco_files::MemorySource;
 use teco_program::{Bounds, ClockAlarm, Served, Silent, serve};
 use teco_session::Session;
 use teco_store::Desk;
-use teco_terminal::MemoryTerminal;
+use teco_terminal::{MemoryTerminal, Terminal};
 
-/// How a stream is served, and how that ends.
-#[derive(Clone, Copy)]
-struct How<'a> {
-    input: &'a str,
-    // how many strings the history keeps, if that is said
-    depth: Option<usize>,
-    limit: u64,
-    prompt: bool,
-    // whether the source fails in place of its end
-    fails: bool,
-    served: Served,
-    // how many strings are noted, if that is said
-    strings: Option<usize>,
-    // what is served after it in the same session, each to the end of its stream
-    then: &'a [Row<'a>],
-    // the bytes that a page doesn't tell of what is typed
-    untold: &'a [u8],
-}
-
-/// Over an empty input, under a limit of 1000 steps, without a prompt, to the end of the stream.
-const PLAIN: How = How {
-    input: "",
-    depth: None,
-    limit: 1000,
-    prompt: false,
-    fails: false,
-    served: Served::EndOfCommands,
-    strings: None,
-    then: &[],
-    untold: &[],
-};
-
-/// As plain, but the source fails in place of its end.
-const FAILED: How = How {
-    fails: true,
-    served: Served::ReadFault,
-    ..PLAIN
-};
-
-/// A stream, where `$` is ESC and a backquote the byte 5, and what serving it gives: what is typed, and what is written to the output, if
-/// that is said.
-type Row<'a> = (&'a str, &'a str, Option<&'a str>);
-
-/// A table of rows that are served in the same way, each in a session of its own.
-type Group<'a> = (How<'a>, &'a str);
-
-/// The bytes of a stream.
-fn bytes_of(alloc: Global, stream: &[u8]) -> Result<Vec<u8>, NoMemory> {
-    let mut bytes = Vec::from_slice(alloc, stream)?;
+/// The bytes of a stream, where `$` is ESC and a backquote the byte 5.
+fn bytes_of(alloc: Global, stream: &[u8]) -> Vec<u8> {
+    let mut bytes = joined(alloc, &[stream]);
     for byte in bytes.iter_mut() {
         match *byte {
             b'$' => *byte = 27,
@@ -68,30 +22,44 @@ fn bytes_of(alloc: Global, stream: &[u8]) -> Result<Vec<u8>, NoMemory> {
             _ => {}
         }
     }
-    Ok(bytes)
+    bytes
 }
 
-/// The places at which so many bytes are cut into single ones, or none.
-fn cuts_of(alloc: Global, len: usize, single: bool) -> Result<Vec<usize>, NoMemory> {
+/// A stream as one piece, or in single bytes. Where memory was refused, it is asked for a second time.
+fn source_of(alloc: Global, stream: &[u8], single: bool, fails: bool) -> MemorySource {
     let mut cuts = Vec::new(alloc);
-    if single {
-        for cut in 1..len {
-            cuts.push(cut)?;
-        }
+    let end = if single { stream.len() } else { 0 };
+    for cut in 1..end {
+        let _ = cuts.push(cut).is_ok() || cuts.push(cut).is_ok();
     }
-    Ok(cuts)
+    MemorySource::new(bytes_of(alloc, stream), cuts, fails)
 }
 
-/// A stream as one piece, or in single bytes.
-fn source_of(
+/// Serves a source, with so many steps for each string.
+fn served_by<T: Terminal>(
     alloc: Global,
-    stream: &[u8],
-    single: bool,
-    fails: bool,
-) -> Result<MemorySource, NoMemory> {
-    let cuts = cuts_of(alloc, stream.len(), single)?;
-    let bytes = bytes_of(alloc, stream)?;
-    Ok(MemorySource::new(bytes, cuts, fails))
+    source: &mut MemorySource,
+    session: &mut Session,
+    steps: u64,
+    prompt: bool,
+    term: &mut T,
+) -> Served {
+    let bounds = Bounds {
+        steps,
+        seconds: None,
+    };
+    let clock = Ticking::new();
+    let alarm = &mut ClockAlarm::new(&clock);
+    serve(
+        alloc,
+        source,
+        session,
+        bounds,
+        prompt,
+        alarm,
+        term,
+        &mut Silent,
+    )
 }
 
 /// Whether the bytes are this text, but for those that it doesn't tell.
@@ -110,106 +78,95 @@ fn are_told(bytes: &[u8], text: &str, untold: &[u8]) -> bool {
 }
 
 /// Whether a session has the row's output and notes so many strings, if that is said.
-fn is_left(session: &Session, how: &How, row: &Row) -> bool {
-    let is_written = match row.2 {
-        Some(output) => are_both(session.editor().output(), output.as_bytes()),
-        None => true,
-    };
-    is_written && (how.strings.is_none() || how.strings == Some(session.strings()))
+fn is_left(session: &Session, cells: &Cells) -> bool {
+    let strings = session.strings() as u64;
+    (is(cells[2], "?") || are_both(session.editor().output(), cells[2].as_bytes()))
+        && number_or(cells[7], strings) == strings
 }
 
-/// Whether serving the row's stream in a session, as one piece or in single bytes, gives what the row says.
-fn serves(alloc: Global, session: &mut Session, how: &How, row: &Row, single: bool) -> bool {
-    let Ok(mut source) = source_of(alloc, row.0.as_bytes(), single, how.fails) else {
-        return false;
-    };
-    let mut term = MemoryTerminal::new(alloc);
-    let served = serve(
-        alloc,
-        &mut source,
-        session,
-        Bounds {
-            steps: how.limit,
-            seconds: None,
-        },
-        how.prompt,
-        &mut ClockAlarm::new(&Ticking::new()),
-        &mut term,
-        &mut Silent,
-    );
-    served == how.served && are_told(term.bytes(), row.1, how.untold) && is_left(session, how, row)
+/// How serving a row's stream ends, by what is said of its end.
+fn end_of(said: &str) -> Served {
+    if said.contains("exit") {
+        Served::Exit
+    } else if said.contains("fails") {
+        Served::ReadFault
+    } else {
+        Served::EndOfCommands
+    }
 }
 
-/// A row that is served as one piece or in single bytes, and then what is served after it.
+/// A row that is served as one piece or in single bytes.
+///
+/// It is a stream, what it types, the output, where a question mark says nothing of it, and the input; words that say whether there is a
+/// prompt, whether it ends by an exit, and whether the source fails in place of its end; the most steps of a string, if not a million; how
+/// many strings the history keeps, if that is said, and how many are noted. What comes after `[THEN]` is served in the same session, to
+/// the end of its stream.
 #[derive(Clone, Copy)]
 struct Serving<'a> {
-    how: How<'a>,
-    row: Row<'a>,
+    cells: &'a Cells<'a>,
+    untold: &'a [u8],
     single: bool,
 }
 
 impl Trial for Serving<'_> {
-    fn holds(&self, alloc: Global, session: &mut Session, _term: &mut MemoryTerminal) -> bool {
-        let after = How {
-            served: Served::EndOfCommands,
-            ..self.how
-        };
-        let mut held = serves(alloc, session, &self.how, &self.row, self.single);
-        for row in self.how.then {
-            held = serves(alloc, session, &after, row, self.single) && held;
+    fn holds(&self, alloc: Global, session: &mut Session, term: &mut MemoryTerminal) -> bool {
+        let (cells, said) = (self.cells, self.cells[4]);
+        let (fails, prompt) = (said.contains("fails"), said.contains("prompt"));
+        let limit = number_or(cells[5], 1_000_000);
+        let mut wanted = end_of(said);
+        let mut held = true;
+        for stream in cells[0].split("[THEN]") {
+            let mut source = source_of(alloc, stream.as_bytes(), self.single, fails);
+            held = served_by(alloc, &mut source, session, limit, prompt, term) == wanted && held;
+            wanted = Served::EndOfCommands;
         }
-        held
+        held && are_told(term.bytes(), cells[1], self.untold) && is_left(session, cells)
     }
 }
 
-/// Whether the row holds in a session whose history has this depth, if one is given.
-fn holds_once(alloc: Global, how: &How, row: &Row, single: bool, depth: Option<usize>) -> bool {
+/// Whether a row holds in a session whose history has this depth, if one is given.
+fn holds_so(alloc: Global, cells: &Cells, untold: &[u8], single: bool, depth: u64) -> bool {
     let over = Over {
-        input: how.input.as_bytes(),
+        input: cells[3].as_bytes(),
         page_lines: 0,
-        depth,
+        depth: if depth == 0 {
+            None
+        } else {
+            Some(depth as usize)
+        },
     };
     let serving = Serving {
-        how: *how,
-        row: *row,
+        cells,
+        untold,
         single,
     };
-    requests::holds_once(alloc, &over, &serving)
+    holds_once(alloc, &over, &serving)
 }
 
-/// Whether the row holds with its stream as one piece and in single bytes, and with a history that is deep enough for its strings.
-fn holds_in_each_way(alloc: Global, how: &How, row: &Row) -> bool {
-    holds_once(alloc, how, row, false, how.depth)
-        && holds_once(alloc, how, row, true, how.depth)
-        && holds_once(alloc, how, row, false, how.depth.or(Some(100)))
+/// Whether a row holds with its stream as one piece and in single bytes, and with a history that is deep enough for its strings.
+fn holds_in_each_way(alloc: Global, cells: &Cells, untold: &[u8]) -> bool {
+    holds_so(alloc, cells, untold, false, number_or(cells[6], 0))
+        && holds_so(alloc, cells, untold, true, number_or(cells[6], 0))
+        && holds_so(alloc, cells, untold, false, number_or(cells[6], 100))
 }
 
-/// The row holds in each way; where memory was refused, a second time.
-fn holds(alloc: Global, how: &How, row: &Row) -> bool {
-    holds_in_each_way(alloc, how, row) || holds_in_each_way(alloc, how, row)
+/// A row holds in each way; where memory was refused, a second time.
+fn holds(alloc: Global, cells: &Cells, untold: &[u8]) -> bool {
+    holds_in_each_way(alloc, cells, untold) || holds_in_each_way(alloc, cells, untold)
 }
 
-impl Rule for How<'_> {
+/// Streams that type what their rows say, but for these bytes.
+#[derive(Clone, Copy)]
+struct Streams<'a>(&'a [u8]);
+
+impl Rule for Streams<'_> {
     fn holds(&self, alloc: Global, row: &str) -> bool {
-        match cells_of(row) {
-            [Some(stream), Some(typed), output, None, ..] => holds(
-                alloc,
-                self,
-                &(stream, typed, Some(output.unwrap_or(""))),
-            ),
-            _ => false,
-        }
+        holds(alloc, &cells_of(row), self.0)
     }
 }
 
-fn all_hold(rt: &impl Abort, alloc: Global, groups: &[Group]) {
-    for (how, table) in groups {
-        rows::all_hold(rt, alloc, how, table);
-    }
-}
-
-/// Requests.
 const REQUESTS: &str = "
+    // Requests.
      =>
     Ia$ =>
     {$$ => ?NTU\r\n
@@ -219,160 +176,101 @@ const REQUESTS: &str = "
     Ia$$Ib$$2{$$}$$HT$$ => a
     Ia$$Ib$$2{$$Ic$${$$2}$$HT$$ => ?NTR\r\nc
     1=$$$2=$$2{$${$$ => 1\r\n2\r\n?NTU\r\n
-    ";
-
-/// At a prompt.
-const AT_A_PROMPT: &str = "
-     => *
-    {$$0}$$}$ => *?NTU\r\n**
-    1=$$ => *1\r\n*
-    ";
-
-static GROUPS: [Group<'static>; 16] = [
-    (PLAIN, REQUESTS),
-    (
-        How {
-            prompt: true,
-            ..PLAIN
-        },
-        AT_A_PROMPT,
-    ),
+    // At a prompt.
+     => * => => => prompt
+    {$$0}$$}$ => *?NTU\r\n** => => => prompt
+    1=$$ => *1\r\n* => => => prompt
     // To the limit.
-    (How { limit: 0, ..PLAIN }, "1=$${$${$$ => ?LIM\r\n?NTU\r\n"),
-    (How { limit: 5, ..PLAIN }, "!x!Ox$$ => ?LIM\r\n"),
-    (How { limit: 33, ..PLAIN }, "@^UA/MA/MA$$ => ?LIM\r\n"),
-    (How { limit: 34, ..PLAIN }, "@^UA/MA/MA$$ => ?PDO\r\n"),
+    1=$${$${$$ => ?LIM\r\n?NTU\r\n => => => => 0
+    !x!Ox$$ => ?LIM\r\n => => => => 5
+    @^UA/MA/MA$$ => ?LIM\r\n => => => => 33
+    @^UA/MA/MA$$ => ?PDO\r\n => => => => 34
     // To a failed read; an exit comes before it.
-    (FAILED, "1=$$ => 1\r\n"),
-    (
-        How {
-            prompt: true,
-            ..FAILED
-        },
-        "}$$Ia$ => *?NTR\r\n*",
-    ),
-    (
-        How {
-            served: Served::Exit,
-            ..FAILED
-        },
-        "EX$$1=$$ =>",
-    ),
-    // What a source gives before it fails is served as if it had ended there.
-    (
-        How {
-            strings: Some(0),
-            ..PLAIN
-        },
-        FRONTS_WITHOUT_STRINGS,
-    ),
-    (
-        How {
-            strings: Some(0),
-            ..FAILED
-        },
-        FRONTS_WITHOUT_STRINGS,
-    ),
-    (
-        How {
-            strings: Some(1),
-            ..PLAIN
-        },
-        FRONTS_WITH_ONE_STRING,
-    ),
-    (
-        How {
-            strings: Some(1),
-            ..FAILED
-        },
-        FRONTS_WITH_ONE_STRING,
-    ),
-    (
-        How {
-            strings: Some(2),
-            ..PLAIN
-        },
-        FRONTS_WITH_TWO_STRINGS,
-    ),
-    (
-        How {
-            strings: Some(2),
-            ..FAILED
-        },
-        FRONTS_WITH_TWO_STRINGS,
-    ),
+    1=$$ => 1\r\n => => => fails
+    }$$Ia$ => *?NTR\r\n* => => => prompt fails
+    EX$$1=$$ => => => => exit fails
     // An exit, and what is served after it in the same session, where two steps are enough for each string.
-    (
-        How {
-            input: "a",
-            limit: 2,
-            served: Served::Exit,
-            then: &[
-                ("1=$$", "?END\r\n", Some("a")),
-                ("{$$1=$$}$$", "1\r\n?NTR\r\n", Some("")),
-            ],
-            ..PLAIN
-        },
-        "YEX$$ => => a",
-    ),
-];
-
-/// The beginnings of a stream that note no string.
-const FRONTS_WITHOUT_STRINGS: &str = "
-     =>
-    1 =>
-    1= =>
-    1=$ =>
+    YEX$$ => => a => a => exit => 2
+    YEX$$[THEN]1=$$ => ?END\r\n => a => a => exit => 2
+    YEX$$[THEN]1=$$[THEN]{$$1=$$}$$ => ?END\r\n1\r\n?NTR\r\n => => a => exit => 2
     ";
 
-/// Its beginnings that note one string.
-const FRONTS_WITH_ONE_STRING: &str = "
-    1=$$ => 1\r\n
-    1=$${ => 1\r\n
-    1=$${$ => 1\r\n
-    1=$${$$ => 1\r\n
-    1=$${$$3 => 1\r\n
-    1=$${$$3< => 1\r\n
-    1=$${$$3<I => 1\r\n
-    1=$${$$3<Ix => 1\r\n
-    1=$${$$3<Ix$ => 1\r\n
-    1=$${$$3<Ix$> => 1\r\n
-    1=$${$$3<Ix$>$ => 1\r\n
-    1=$${$$3<Ix$>$$ => 1\r\n
-    1=$${$$3<Ix$>$$} => 1\r\n
-    1=$${$$3<Ix$>$$}$ => 1\r\n
-    1=$${$$3<Ix$>$$}$$ => 1\r\n?NTR\r\n
-    1=$${$$3<Ix$>$$}$$. => 1\r\n?NTR\r\n
-    1=$${$$3<Ix$>$$}$$.= => 1\r\n?NTR\r\n
-    1=$${$$3<Ix$>$$}$$.=$ => 1\r\n?NTR\r\n
-    ";
-
-/// Its beginnings that note two strings.
-const FRONTS_WITH_TWO_STRINGS: &str = "
-    1=$${$$3<Ix$>$$}$$.=$$ => 1\r\n?NTR\r\n3\r\n
-    1=$${$$3<Ix$>$$}$$.=$$2 => 1\r\n?NTR\r\n3\r\n
-    1=$${$$3<Ix$>$$}$$.=$$2{ => 1\r\n?NTR\r\n3\r\n
-    1=$${$$3<Ix$>$$}$$.=$$2{$ => 1\r\n?NTR\r\n3\r\n
-    1=$${$$3<Ix$>$$}$$.=$$2{$$ => 1\r\n?NTR\r\n3\r\n
+const FRONTS: &str = "
+    // Beginnings of a stream that note no string. What a source gives before it fails is served as if it had ended there.
+     => => => => => => => 0
+    1 => => => => => => => 0
+    1= => => => => => => => 0
+    1=$ => => => => => => => 0
+     => => => => fails => => => 0
+    1 => => => => fails => => => 0
+    1= => => => => fails => => => 0
+    1=$ => => => => fails => => => 0
+    // Its beginnings that note one string.
+    1=$$ => 1\r\n => => => => => => 1
+    1=$${ => 1\r\n => => => => => => 1
+    1=$${$ => 1\r\n => => => => => => 1
+    1=$${$$ => 1\r\n => => => => => => 1
+    1=$${$$3 => 1\r\n => => => => => => 1
+    1=$${$$3< => 1\r\n => => => => => => 1
+    1=$${$$3<I => 1\r\n => => => => => => 1
+    1=$${$$3<Ix => 1\r\n => => => => => => 1
+    1=$${$$3<Ix$ => 1\r\n => => => => => => 1
+    1=$${$$3<Ix$> => 1\r\n => => => => => => 1
+    1=$${$$3<Ix$>$ => 1\r\n => => => => => => 1
+    1=$${$$3<Ix$>$$ => 1\r\n => => => => => => 1
+    1=$${$$3<Ix$>$$} => 1\r\n => => => => => => 1
+    1=$${$$3<Ix$>$$}$ => 1\r\n => => => => => => 1
+    1=$${$$3<Ix$>$$}$$ => 1\r\n?NTR\r\n => => => => => => 1
+    1=$${$$3<Ix$>$$}$$. => 1\r\n?NTR\r\n => => => => => => 1
+    1=$${$$3<Ix$>$$}$$.= => 1\r\n?NTR\r\n => => => => => => 1
+    1=$${$$3<Ix$>$$}$$.=$ => 1\r\n?NTR\r\n => => => => => => 1
+    1=$$ => 1\r\n => => => fails => => => 1
+    1=$${ => 1\r\n => => => fails => => => 1
+    1=$${$ => 1\r\n => => => fails => => => 1
+    1=$${$$ => 1\r\n => => => fails => => => 1
+    1=$${$$3 => 1\r\n => => => fails => => => 1
+    1=$${$$3< => 1\r\n => => => fails => => => 1
+    1=$${$$3<I => 1\r\n => => => fails => => => 1
+    1=$${$$3<Ix => 1\r\n => => => fails => => => 1
+    1=$${$$3<Ix$ => 1\r\n => => => fails => => => 1
+    1=$${$$3<Ix$> => 1\r\n => => => fails => => => 1
+    1=$${$$3<Ix$>$ => 1\r\n => => => fails => => => 1
+    1=$${$$3<Ix$>$$ => 1\r\n => => => fails => => => 1
+    1=$${$$3<Ix$>$$} => 1\r\n => => => fails => => => 1
+    1=$${$$3<Ix$>$$}$ => 1\r\n => => => fails => => => 1
+    1=$${$$3<Ix$>$$}$$ => 1\r\n?NTR\r\n => => => fails => => => 1
+    1=$${$$3<Ix$>$$}$$. => 1\r\n?NTR\r\n => => => fails => => => 1
+    1=$${$$3<Ix$>$$}$$.= => 1\r\n?NTR\r\n => => => fails => => => 1
+    1=$${$$3<Ix$>$$}$$.=$ => 1\r\n?NTR\r\n => => => fails => => => 1
+    // Its beginnings that note two strings.
+    1=$${$$3<Ix$>$$}$$.=$$ => 1\r\n?NTR\r\n3\r\n => => => => => => 2
+    1=$${$$3<Ix$>$$}$$.=$$2 => 1\r\n?NTR\r\n3\r\n => => => => => => 2
+    1=$${$$3<Ix$>$$}$$.=$$2{ => 1\r\n?NTR\r\n3\r\n => => => => => => 2
+    1=$${$$3<Ix$>$$}$$.=$$2{$ => 1\r\n?NTR\r\n3\r\n => => => => => => 2
+    1=$${$$3<Ix$>$$}$$.=$$2{$$ => 1\r\n?NTR\r\n3\r\n => => => => => => 2
+    1=$${$$3<Ix$>$$}$$.=$$ => 1\r\n?NTR\r\n3\r\n => => => fails => => => 2
+    1=$${$$3<Ix$>$$}$$.=$$2 => 1\r\n?NTR\r\n3\r\n => => => fails => => => 2
+    1=$${$$3<Ix$>$$}$$.=$$2{ => 1\r\n?NTR\r\n3\r\n => => => fails => => => 2
+    1=$${$$3<Ix$>$$}$$.=$$2{$ => 1\r\n?NTR\r\n3\r\n => => => fails => => => 2
+    1=$${$$3<Ix$>$$}$$.=$$2{$$ => 1\r\n?NTR\r\n3\r\n => => => fails => => => 2
     ";
 
 #[test]
 fn serves_streams(rt: HostRuntime) {
-    all_hold(&rt, rt.alloc(), &GROUPS);
-    all_hold(&rt, rt.alloc(), &rewinds::GROUPS);
-    all_hold(&rt, rt.alloc(), &pages::GROUPS);
-}
-
-#[test]
-fn serves_commands(rt: HostRuntime) {
-    rows::all_hold(&rt, rt.alloc(), &PLAIN, commands::ROWS);
-    rows::all_hold(&rt, rt.alloc(), &PLAIN, searches::ROWS);
-    rows::all_hold(&rt, rt.alloc(), &depths::TWO, depths::ROWS);
-}
-
-#[test]
-fn leaves_what_the_rows_say(rt: HostRuntime) {
-    all_hold(&rt, rt.alloc(), &worked::GROUPS);
+    let tables = [
+        REQUESTS,
+        FRONTS,
+        rewinds::ROWS,
+        pages::ROWS,
+        commands::ROWS,
+        searches::ROWS,
+        failed_searches::ROWS,
+        depths::ROWS,
+        worked::ROWS,
+    ];
+    for table in tables {
+        all_hold(&rt, rt.alloc(), &Streams(b""), table);
+    }
 }
 
 mod commands;

@@ -1,9 +1,6 @@
 //! Faults of spelling, the order in which errors are told, and the limits of what may be open.
-use crate::tests::exec::strings::ALONE;
-use crate::tests::rows::all_hold;
-use std::test::*;
 
-const ROWS: &str = "
+pub(crate) const ROWS: &str = "
     // Texts that end too early are UTC.
     Iab => => UTC => 0
     \tab => => UTC => 0
@@ -136,8 +133,3 @@ const ROWS: &str = "
     0<<<<<<<<<<<<<<<<<<<<<<<<<<<<<<<<<<<<<<<<<<<<<<<<<<<<<<<<<<<<<<<<< => => PDO => 2
     1<1<1<1<1<1<1<1<1<1<1<1<1<1<1<1<1<1<1<1<1<1<1<1<1<1<1<1<1<1<1<1<1<1<1<1<1<1<1<1<1<1<1<1<1<1<1<1<1<1<1<1<1<1<1<1<1<1<1<1<1<1<1<1<Ox\x1b<>!x! => => TAG => 129
     ";
-
-#[test]
-fn faults_are_told_in_their_order(rt: HostRuntime) {
-    all_hold(&rt, rt.alloc(), &ALONE, ROWS);
-}

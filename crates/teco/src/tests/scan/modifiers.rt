@@ -1,35 +1,42 @@
 //! Modifiers before each command.
-use crate::tests::assert_of;
 use crate::tests::bytes::joined;
-use crate::tests::commands::{COMMANDS, MODIFIERS};
-use crate::tests::exec::strings::ALONE;
-use crate::tests::rows::all_hold;
+use crate::tests::commands::COMMANDS;
+use crate::tests::rows::{Rule, all_hold, cells_of};
 use std::alloc::Global;
-use std::process::Abort;
 use std::test::*;
 use teco_core::Code;
 use teco_scan::{Found, token_at};
 
+/// The modifiers that are tried before each command, and how a row has them.
+static MODIFIERS: [(&str, &str); 4] = [(":", "[:]"), ("::", "[::]"), ("@", "[@]"), (":@", "[:@]")];
+
 /// Whether a text begins with a token where that is wanted, and else is ILL.
 fn is_read(alloc: Global, modifiers: &str, command: &str, wanted: bool) -> bool {
     let text = joined(alloc, &[modifiers.as_bytes(), command.as_bytes()]);
-    match token_at(text.as_slice(), 0) {
+    match token_at(&text, 0) {
         Found::Token(_) => wanted,
         Found::Fault(Code::Ill) => !wanted,
         _ => false,
     }
 }
 
-/// A command admits these modifiers, and no others of the four.
-fn admits(rt: &impl Abort, alloc: Global, admitted: &[&str], command: &str) {
-    for modifiers in MODIFIERS {
-        let held = is_read(alloc, modifiers, command, admitted.contains(modifiers));
-        assert_of(rt, command, held);
+#[derive(Clone, Copy)]
+struct Admits;
+
+impl Rule for Admits {
+    /// A command admits these modifiers, and no others of the four.
+    fn holds(&self, alloc: Global, row: &str) -> bool {
+        let [command, admitted, ..] = cells_of(row);
+        let mut held = true;
+        for (modifiers, cell) in &MODIFIERS {
+            held = is_read(alloc, modifiers, command, admitted.contains(cell)) && held;
+        }
+        held
     }
 }
 
 /// They come in any order.
-const ROWS: &str = "
+pub(crate) const ROWS: &str = "
     Iaa\x1bJ:@S/a/=@:S/a/= => -1\r\n-1\r\n => => 6
     Iaa\x1bJ@::S/a/=:@:S/a/=::@S/a/= => -1\r\n-1\r\n0\r\n => => 8
     Iaa\x1bJ:@FS/a/b/=HT => -1\r\nba => => 6
@@ -53,8 +60,5 @@ const ROWS: &str = "
 
 #[test]
 fn commands_admit_their_modifiers_alone(rt: HostRuntime) {
-    for (command, admitted, _) in COMMANDS {
-        admits(&rt, rt.alloc(), admitted, command);
-    }
-    all_hold(&rt, rt.alloc(), &ALONE, ROWS);
+    all_hold(&rt, rt.alloc(), &Admits, COMMANDS);
 }

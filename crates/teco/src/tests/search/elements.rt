@@ -1,9 +1,6 @@
 //! The elements of search texts, and what they match. Each is compared at the beginning of the text, and then the pointer is typed.
-use crate::tests::exec::strings::ALONE;
-use crate::tests::rows::all_hold;
-use std::test::*;
 
-const ROWS: &str = "
+pub(crate) const ROWS: &str = "
     // Single elements match what they mean.
     I\0\x1bJ::S\x18\x1b=.= => -1\r\n1\r\n
     I\x1bJ::S\x18\x1b=.= => 0\r\n0\r\n
@@ -88,8 +85,3 @@ const ROWS: &str = "
     IaXbaXb\x1bJ2SaXb\x1b.= => 6\r\n
     IaXbaXb\x1b1J2SaXb\x1b => => SRH
     ";
-
-#[test]
-fn elements_match_what_they_mean(rt: HostRuntime) {
-    all_hold(&rt, rt.alloc(), &ALONE, ROWS);
-}

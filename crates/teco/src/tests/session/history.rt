@@ -1,12 +1,11 @@
 //! Sessions: strings that are undone and redone, and requests that are refused only where memory is.
 use super::requests::{Over, Trial, holds_in, holds_once};
-use crate::tests::bytes::{is_typed, joined};
-use crate::tests::rows::{Rule, all_hold};
+use crate::tests::bytes::{is, is_typed, joined};
+use crate::tests::rows::{Cells, Rule, all_hold, cells_of};
 use crate::tests::store::states::{is_seen, seen};
 use std::alloc::Global;
 use std::test::*;
 use teco_core::NoMemory;
-use teco_exec::Outcome;
 use teco_session::{Answer, Request, Session};
 use teco_terminal::MemoryTerminal;
 
@@ -37,75 +36,63 @@ fn begins_again_after_a_refusal(rt: HostRuntime) {
     assert!(rt; holds_once(rt.alloc(), &Over::new(b""), &Twelve));
 }
 
-/// What the requests of `plays_in_order` are answered.
-static ANSWERS: [Answer; 6] = [
-    Answer::NothingToRedo,
-    Answer::Ended(Outcome {
-        code: None,
-        steps: 2,
-    }),
-    Answer::Undone,
-    Answer::NothingToUndo,
-    Answer::Redone,
-    Answer::NothingToRedo,
-];
+/// An undo, a redo, or a string.
+fn request_of(alloc: Global, word: &str) -> Request {
+    match word.as_bytes() {
+        [b'{'] => Request::Undo,
+        [b'}'] => Request::Redo,
+        string => Request::Run(joined(alloc, &[string])),
+    }
+}
 
-/// Requests, what they are answered, and what they type in all.
+/// The requests of a text, with blanks between them.
+fn requests_of(alloc: Global, text: &str) -> Vec<Request> {
+    let mut requests = Vec::new(alloc);
+    for word in text.split(' ') {
+        let _ = requests.push(request_of(alloc, word)).is_ok();
+    }
+    requests
+}
+
+/// An input, requests over it, what they type in all, and their answers.
+const PLAYS: &str = "
+     => } 1=\x1b { { } } => 1\r\n => [NothingToRedo, Ended(Outcome { code: None, steps: 2 }), Undone, NothingToUndo, Redone, NothingToRedo]
+    // After an exit no string is begun, until the exit is undone; and a string that is begun then drops what was undone.
+    a => YEX 1= { 1= } => 1\r\n => [Ended(Outcome { code: None, steps: 2 }), AfterExit, Undone, Ended(Outcome { code: None, steps: 2 }), NothingToRedo]
+    ";
+
+/// A row of them.
 #[derive(Clone, Copy)]
-struct Play<'a>(&'a [Request], &'a [Answer], &'a str);
+struct Play<'a>(Cells<'a>);
 
-/// One answer a request.
 impl Trial for Play<'_> {
+    /// One answer a request.
     fn holds(&self, alloc: Global, session: &mut Session, term: &mut MemoryTerminal) -> bool {
-        let is_answered = match session.play(alloc, self.0, 100, term) {
-            Ok(answers) => answers.as_slice() == self.1,
-            Err(NoMemory) => false,
+        let [_, requests, typed, answers, ..] = self.0;
+        let told = match session.play(alloc, &requests_of(alloc, requests), 100, term) {
+            Ok(given) => format!(in alloc; "{given:?}"),
+            Err(NoMemory) => Err(NoMemory),
         };
-        is_answered && is_typed(term, self.2)
+        match told {
+            Ok(told) => is(&told, answers) && is_typed(term, typed),
+            Err(NoMemory) => false,
+        }
+    }
+}
+
+#[derive(Clone, Copy)]
+struct Plays;
+
+impl Rule for Plays {
+    fn holds(&self, alloc: Global, row: &str) -> bool {
+        let cells = cells_of(row);
+        holds_in(alloc, &Over::new(cells[0].as_bytes()), &Play(cells))
     }
 }
 
 #[test]
 fn plays_in_order(rt: HostRuntime) {
-    let requests = [
-        Request::Redo,
-        Request::Run(joined(rt.alloc(), &[b"1=\x1b"])),
-        Request::Undo,
-        Request::Undo,
-        Request::Redo,
-        Request::Redo,
-    ];
-    let play = Play(&requests, &ANSWERS, "1\r\n");
-    assert!(rt; holds_in(rt.alloc(), &Over::new(b""), &play));
-}
-
-/// What the requests of `plays_after_an_exit` are answered.
-static AFTER_AN_EXIT: [Answer; 5] = [
-    Answer::Ended(Outcome {
-        code: None,
-        steps: 2,
-    }),
-    Answer::AfterExit,
-    Answer::Undone,
-    Answer::Ended(Outcome {
-        code: None,
-        steps: 2,
-    }),
-    Answer::NothingToRedo,
-];
-
-// After an exit no string is begun, until the exit is undone; and a string that is begun then drops what was undone.
-#[test]
-fn plays_after_an_exit(rt: HostRuntime) {
-    let requests = [
-        Request::Run(joined(rt.alloc(), &[b"YEX"])),
-        Request::Run(joined(rt.alloc(), &[b"1="])),
-        Request::Undo,
-        Request::Run(joined(rt.alloc(), &[b"1="])),
-        Request::Redo,
-    ];
-    let play = Play(&requests, &AFTER_AN_EXIT, "1\r\n");
-    assert!(rt; holds_in(rt.alloc(), &Over::new(b"a"), &play));
+    all_hold(&rt, rt.alloc(), &Plays, PLAYS);
 }
 
 /// Whether a string is undone to the first state, redone to what it left, and undone again.

@@ -216,13 +216,9 @@ fn come_back(alloc: Global, depth: Option<usize>, most: usize) -> bool {
     holds_once(alloc, &over, &Thousand { most })
 }
 
+/// Also where the last three strings are kept.
 #[test]
 fn random_strings_come_back(rt: HostRuntime) {
     assert!(rt; come_back(rt.alloc(), None, usize::MAX));
-}
-
-/// The last three strings are kept.
-#[test]
-fn the_last_random_strings_come_back(rt: HostRuntime) {
     assert!(rt; come_back(rt.alloc(), Some(3), 4));
 }

@@ -1,54 +1,110 @@
 //! Requests of a session, one after another.
-use crate::tests::bytes::{are_both, is_typed, joined};
+use super::{breaks, exits, failing_terminals, records};
+use crate::tests::assert_of;
+use crate::tests::bytes::{are, are_both, failing_after, is, is_typed, joined};
+use crate::tests::exec::breaks::Asking;
 use crate::tests::exec::strings::is_code;
-use crate::tests::rows::{LINE, cells_of, is_row};
+use crate::tests::rows::{Cells, LINE, cells_of, is_row, number_or, text_of};
 use std::alloc::Global;
+use std::fmt::Write;
 use teco_core::{Code, DEPTH_LIMIT, FILE_LIMIT};
-use teco_session::Session;
-use teco_store::{Desk, Editor};
-use teco_terminal::MemoryTerminal;
+use teco_session::{Answered, Session};
+use teco_store::{ChangeKind, Desk, Editor};
+use teco_terminal::{MemoryTerminal, WriterTerminal};
 
-/// The code of the answer to a request: `{` undoes a string, `}` redoes one, `~` goes back to before the first step, and any other
-/// request is run.
-pub(crate) fn code_of(
-    session: &mut Session,
-    request: &str,
-    term: &mut MemoryTerminal,
-) -> Option<Code> {
-    match request {
-        "{" => match session.undo() {
-            Ok(()) => None,
-            Err(refused) => Some(Code::from(refused)),
-        },
-        "}" => match session.redo() {
-            Ok(()) => None,
-            Err(refused) => Some(Code::from(refused)),
-        },
-        "~" => match session.rewind(0) {
-            Ok(()) => None,
-            Err(refused) => Some(Code::from(refused)),
-        },
-        text => session.run(text.as_bytes(), 1000, term).code(),
+/// The code of a string that was broken off after two steps, if it tells that it stood after two bytes.
+fn code_there(answered: &Answered) -> Option<Code> {
+    match &answered.place {
+        Ok(Some(place)) if place.at == 2 && place.steps == 2 => answered.answer.code(),
+        _ => None,
     }
 }
 
-/// Whether an editor has this output, and this text if one is said.
-fn is_left(editor: &Editor, output: &str, text: Option<&str>) -> bool {
-    let is_text = match text {
-        Some(text) => are_both(editor.halves(), text.as_bytes()),
-        None => true,
-    };
-    is_text && are_both(editor.output(), output.as_bytes())
+/// The code of the answer to a request: `{` undoes a string, `}` redoes one, `~` goes back to before the first step and `~1` to after
+/// it, `2!` runs `CCC` and breaks it off after two steps, `2?` does so where the place is told, and any other request is run.
+fn code_of(session: &mut Session, request: &str, term: &mut MemoryTerminal) -> Option<Code> {
+    let two = &mut Asking::Steps(2);
+    match request.as_bytes() {
+        [b'{'] => match session.undo() {
+            Ok(()) => None,
+            Err(refused) => Some(Code::from(refused)),
+        },
+        [b'}'] => match session.redo() {
+            Ok(()) => None,
+            Err(refused) => Some(Code::from(refused)),
+        },
+        [b'~', step @ ..] => match session.rewind(step.len() as u64) {
+            Ok(()) => None,
+            Err(refused) => Some(Code::from(refused)),
+        },
+        [b'2', b'!'] => session.run_until(b"CCC", 1000, two, term).code(),
+        [b'2', b'?'] => code_there(&session.run_where_until(b"CCC", 1000, two, term)),
+        text => session.run(text, 1000, term).code(),
+    }
 }
 
-/// Whether a request is answered as its row says: by the letters of a code, if it is answered by one, and with this output after it, and
-/// this text if one is said.
-pub(crate) fn is_answered(session: &mut Session, row: &str, term: &mut MemoryTerminal) -> bool {
-    let [Some(request), Some(code), output, text, None, ..] = cells_of(row) else {
+/// Whether the last string has at most six changes for each of its steps, and they hold at most so many bytes.
+fn is_within(session: &Session, most: u64) -> bool {
+    let strings = session.strings();
+    if strings == 0 {
         return false;
-    };
-    is_code(code_of(session, request, term), code)
-        && is_left(session.editor(), output.unwrap_or(""), text)
+    }
+    let changes = session.entry(strings - 1);
+    let mut held: usize = 0;
+    for change in changes {
+        held = held.saturating_add(change.held());
+    }
+    changes.len() as u64 <= session.steps(strings - 1).saturating_mul(6) && held as u64 <= most
+}
+
+/// Whether what is told of a session begins so: how many strings it has, the pointer, the steps of the last string, and the kinds of its
+/// changes, where a splice tells its place, how many bytes go, and how many come.
+fn is_told(alloc: Global, session: &Session, told: &str) -> bool {
+    let strings = session.strings();
+    if strings == 0 {
+        return false;
+    }
+    let (steps, pointer) = (session.steps(strings - 1), session.editor().pointer());
+    let mut out = String::new(alloc);
+    let mut held = write!(out, "{strings} {pointer} {steps}:").is_ok();
+    for change in session.entry(strings - 1) {
+        held = match change.kind() {
+            ChangeKind::Splice { at, gone, came } => write!(out, " {at} {gone} {came},").is_ok(),
+            ChangeKind::Point => write!(out, " point,").is_ok(),
+            _ => write!(out, " another,").is_ok(),
+        } && held;
+    }
+    held && write!(out, ".").is_ok() && out.as_str().starts_with(told)
+}
+
+/// Whether a session is left as cells of a row say.
+fn is_left(alloc: Global, session: &Session, cells: &Cells) -> bool {
+    let editor = session.editor();
+    are_both(editor.output(), cells[2].as_bytes())
+        && (cells[3].is_empty() || are_both(editor.halves(), text_of(cells[3]).as_bytes()))
+        && (cells[4].is_empty() || is_within(session, number_or(cells[4], 0)))
+        && (cells[6].is_empty() || is_told(alloc, session, cells[6]))
+}
+
+/// Whether a string is answered as its row says on a terminal that takes so many bytes, and shows no more than these after their number.
+fn is_shown(alloc: Global, session: &mut Session, cells: &Cells) -> bool {
+    let (room, shown) = cells[7].split_once(' ').unwrap_or((cells[7], ""));
+    let mut writer = failing_after(alloc, number_or(room, 0) as usize);
+    let mut term = WriterTerminal::new(&mut writer);
+    let answer = session.run(cells[0].as_bytes(), 1000, &mut term);
+    is_code(answer.code(), cells[1]) && are(writer.before(), shown.as_bytes())
+}
+
+/// Whether a request is answered as its row says: by the letters of a code, if it is answered by one, with this output after it, and this
+/// text, where a hyphen is an empty one; how many bytes the changes of the last string hold at most, how often it is asked, if not once,
+/// what is told of the session then, and what its terminal takes, if it fails. What is empty after the output is not said.
+fn is_answered(alloc: Global, session: &mut Session, row: &str, term: &mut MemoryTerminal) -> bool {
+    let cells = cells_of(row);
+    let mut held = cells[7].is_empty() || is_shown(alloc, session, &cells);
+    for _ in 0..number_or(cells[5], u64::from(cells[7].is_empty())).min(100) {
+        held = is_code(code_of(session, cells[0], term), cells[1]) && held;
+    }
+    held && is_left(alloc, session, &cells)
 }
 
 /// What is tried in a session. It does not own it, since what owns a session has the drop of each of its parts.
@@ -56,23 +112,22 @@ pub(crate) trait Trial {
     fn holds(&self, alloc: Global, session: &mut Session, term: &mut MemoryTerminal) -> bool;
 }
 
-/// Requests, a row each, and what they type in all.
+/// Requests, a row each, what they type in all, and how many strings are noted then, if that is said.
 #[derive(Clone, Copy)]
-pub(crate) struct Script<'a> {
-    pub(crate) rows: &'a str,
-    pub(crate) typed: &'a str,
-    /// How many strings are noted then, if that is said.
-    pub(crate) noted: Option<usize>,
+struct Script<'a> {
+    rows: &'a str,
+    typed: &'a str,
+    noted: &'a str,
 }
 
 impl Trial for Script<'_> {
-    fn holds(&self, _alloc: Global, session: &mut Session, term: &mut MemoryTerminal) -> bool {
+    fn holds(&self, alloc: Global, session: &mut Session, term: &mut MemoryTerminal) -> bool {
         let mut held = true;
         for row in self.rows.split(LINE) {
-            held = held && (!is_row(row) || is_answered(session, row, term));
+            held = held && (!is_row(row) || is_answered(alloc, session, row, term));
         }
-        held && is_typed(term, self.typed)
-            && (self.noted.is_none() || self.noted == Some(session.strings()))
+        let strings = session.strings() as u64;
+        held && is_typed(term, self.typed) && number_or(self.noted, strings) == strings
     }
 }
 
@@ -124,4 +179,35 @@ pub(crate) fn holds_once<T: Trial>(alloc: Global, over: &Over, trial: &T) -> boo
 /// Whether a trial holds in a new session; where memory was refused, at the second time.
 pub(crate) fn holds_in<T: Trial>(alloc: Global, over: &Over, trial: &T) -> bool {
     holds_once(alloc, over, trial) || holds_once(alloc, over, trial)
+}
+
+/// Whether the requests of a script are answered. Its first line has the input, what is typed in all, how many strings are noted at the
+/// end, the lines of a page, and how many strings are kept; what is empty after the typed text is not said.
+fn plays(alloc: Global, script: &str) -> bool {
+    let (head, rows) = script.split_once(LINE).unwrap_or((script, ""));
+    let [input, typed, noted, lines, depth, ..] = cells_of(head);
+    let over = Over {
+        input: input.as_bytes(),
+        page_lines: number_or(lines, 0) as usize,
+        depth: match depth {
+            "" => None,
+            _ => Some(number_or(depth, 0) as usize),
+        },
+    };
+    holds_in(alloc, &over, &Script { rows, typed, noted })
+}
+
+/// Tries each script of a table, which begins with `over`.
+#[test]
+fn requests_are_answered(rt: HostRuntime) {
+    for table in [
+        records::SCRIPTS,
+        breaks::SCRIPTS,
+        exits::SCRIPTS,
+        failing_terminals::SCRIPTS,
+    ] {
+        for script in table.split("\n    over") {
+            assert_of(&rt, script, script.is_empty() || plays(rt.alloc(), script));
+        }
+    }
 }

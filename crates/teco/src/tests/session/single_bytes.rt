@@ -1,11 +1,11 @@
 //! Each byte alone as a command string.
 use super::requests::{Over, Trial, holds_in};
 use crate::tests::commands::COMMANDS;
+use crate::tests::exec::strings::is_code;
+use crate::tests::rows::{LINE, cells_of, is_row, number_or};
 use crate::tests::store::states::{is_seen, seen};
 use std::alloc::Global;
 use std::test::*;
-use teco_core::Code;
-use teco_exec::Outcome;
 use teco_session::{Answer, Session};
 use teco_terminal::MemoryTerminal;
 
@@ -18,41 +18,20 @@ fn begins(command: &[u8], byte: u8) -> bool {
     }
 }
 
-/// How a byte ends, by a letter.
-fn kind_of(byte: u8) -> u8 {
-    for (command, _, kind) in COMMANDS {
-        if begins(command.as_bytes(), byte) {
-            return *kind;
+/// How a byte ends: the letters of a code, if it ends by one, and its steps.
+fn ending_of(byte: u8) -> (&'static str, &'static str) {
+    for row in COMMANDS.split(LINE) {
+        let [command, _, code, steps, ..] = cells_of(row);
+        if is_row(row) && begins(command.as_bytes(), byte) {
+            return (code, steps);
         }
     }
     match byte {
-        0 | b'\n' | b'\r' => b'.',
-        b'0'..=b'9' => b'n',
-        b':' | b'@' | b'^' => b'u',
-        _ => b'i',
+        0 | b'\n' | b'\r' => ("", "0"),
+        b'0'..=b'9' => ("", "1"),
+        b':' | b'@' | b'^' => ("UTC", "0"),
+        _ => ("ILL", "0"),
     }
-}
-
-/// The code and the steps that a letter says.
-fn outcome_of(kind: u8) -> Outcome {
-    let (code, steps) = match kind {
-        // a filler, or ESC
-        b'.' => (None, 0),
-        // done
-        b'n' => (None, 1),
-        b'a' => (Some(Code::Arg), 1),
-        b'p' => (Some(Code::Pop), 1),
-        b'd' => (Some(Code::Dtb), 1),
-        b'e' => (Some(Code::Nae), 1),
-        b's' => (Some(Code::Sni), 1),
-        // an iteration that is open at the end
-        b'o' => (Some(Code::Utc), 1),
-        // a spelling that is cut
-        b'u' => (Some(Code::Utc), 0),
-        b'b' => (Some(Code::Bni), 0),
-        _ => (Some(Code::Ill), 0),
-    };
-    Outcome { code, steps }
 }
 
 /// A byte ends as it means in a new session, types nothing, and is undone to the first state.
@@ -62,7 +41,14 @@ struct Alone(u8);
 impl Trial for Alone {
     fn holds(&self, alloc: Global, session: &mut Session, term: &mut MemoryTerminal) -> bool {
         let first = seen(alloc, session.editor());
-        session.run(&[self.0], 1000, term) == Answer::Ended(outcome_of(kind_of(self.0)))
+        let (code, steps) = ending_of(self.0);
+        let ends_so = match session.run(&[self.0], 1000, term) {
+            Answer::Ended(outcome) => {
+                is_code(outcome.code, code) && number_or(steps, 0) == outcome.steps
+            }
+            _ => false,
+        };
+        ends_so
             && term.bytes().is_empty()
             && session.undo().is_ok()
             && is_seen(alloc, session.editor(), &first)

@@ -1,6 +1,6 @@
 //! Lines and ranges, the push-down list, and what is typed of bytes and numbers.
 
-pub(super) const ROWS: &str = "
+pub(crate) const ROWS: &str = "
     // Lines and ranges are killed.
     Ione\ntwo\nthree\x1bJKHT => two\nthree
     Ione\ntwo\n\x1b-LK.=HT => 4\r\none\n

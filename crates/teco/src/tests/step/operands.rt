@@ -1,6 +1,6 @@
 //! Values and operators in each place: after nothing, a number, a sign, an operator, a parenthesis or a comma.
 
-pub(super) const ROWS: &str = "
+pub(crate) const ROWS: &str = "
     // Registers are given in each form.
     5Ua1Qa => => ARG
     5Ua-Qa= => -5\r\n

@@ -1,7 +1,7 @@
 //! The forms of arguments before searches and the commands of pages: none, n, m,n, a lone sign, after an open parenthesis, an operator
 //! and a comma.
 
-pub(super) const ROWS: &str = "
+pub(crate) const ROWS: &str = "
     // Searches take their forms.
     Iaa\x1bJSa\x1b.= => 1\r\n
     Iaa\x1bJ2Sa\x1b.= => 2\r\n

@@ -1,6 +1,6 @@
 //! Searches, numbers in the buffer, and the case mode.
 
-pub(super) const ROWS: &str = "
+pub(crate) const ROWS: &str = "
     // Texts are searched for.
     Ixabxab\x1b-2Sab\x1b.= => 3\r\n
     Ia1  b\x1b0JS\x05D\x05Sb\x1b.= => 5\r\n

@@ -1,6 +1,6 @@
 //! The pointer, and texts that are put in, deleted and typed.
 
-pub(super) const ROWS: &str = "
+pub(crate) const ROWS: &str = "
     // The pointer is moved.
     Ihello\x1b0J3C.= => 3\r\n
     5J => => POP

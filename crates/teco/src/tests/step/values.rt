@@ -1,6 +1,6 @@
 //! Numbers, arguments and the codes of characters.
 
-pub(super) const ROWS: &str = "
+pub(crate) const ROWS: &str = "
     // Values are typed.
     2+3*4= => 20\r\n
     7-9/2= => -1\r\n

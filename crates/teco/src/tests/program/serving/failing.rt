@@ -1,26 +1,18 @@
-//! Streams on a terminal that fails after so many bytes, and from a reader that does.
-use super::super::Ticking;
-use super::{bytes_of, source_of};
+//! Streams on a terminal that fails after so many bytes, and from a source that does.
+use super::{served_by, source_of};
 use crate::tests::assert_of;
 use crate::tests::bytes::{are, failing_after, put};
 use crate::tests::session::requests::{Over, Trial, holds_in, holds_once};
 use crate::tests::store::states::{is_seen, seen};
 use std::alloc::Global;
 use std::test::*;
-use teco_core::NoMemory;
-use teco_files::{MemorySource, ReaderSource, Source};
-use teco_program::{Bounds, ClockAlarm, Served, Silent, serve};
+use teco_files::{MemorySource, Source};
+use teco_program::Served;
 use teco_session::Session;
-use teco_terminal::{FailAfter, MemoryTerminal, WriterTerminal};
+use teco_terminal::{MemoryTerminal, WriterTerminal};
 
 /// Three pages.
 const INPUT: &[u8] = b"a\x0cb\x0cc";
-
-/// As far as each string may run.
-const BOUNDS: Bounds = Bounds {
-    steps: 1000,
-    seconds: None,
-};
 
 /// A stream over the three pages, where `$` is ESC, and what it types.
 type Row<'a> = (&'a str, &'a str);
@@ -78,17 +70,9 @@ fn is_shown(
         Served::EndOfCommands
     };
     let mut writer = failing_after(alloc, room);
-    let served = serve(
-        alloc,
-        source,
-        session,
-        BOUNDS,
-        false,
-        &mut ClockAlarm::new(&Ticking::new()),
-        &mut WriterTerminal::new(&mut writer),
-        &mut Silent,
-    );
-    served == wanted && are(writer.before(), &typed[..room.min(typed.len())])
+    let mut term = WriterTerminal::new(&mut writer);
+    served_by(alloc, source, session, 1000, false, &mut term) == wanted
+        && are(writer.before(), &typed[..room.min(typed.len())])
 }
 
 /// A row, on a terminal that takes so many bytes.
@@ -99,13 +83,9 @@ impl Trial for Shown<'_> {
     fn holds(&self, alloc: Global, session: &mut Session, _term: &mut MemoryTerminal) -> bool {
         let Shown((stream, typed), room) = *self;
         let first = seen(alloc, session.editor());
-        match source_of(alloc, stream.as_bytes(), false, false) {
-            Ok(mut source) => {
-                is_shown(alloc, &mut source, session, typed.as_bytes(), room)
-                    && is_left(alloc, session, &first)
-            }
-            Err(NoMemory) => false,
-        }
+        let mut source = source_of(alloc, stream.as_bytes(), false, false);
+        is_shown(alloc, &mut source, session, typed.as_bytes(), room)
+            && is_left(alloc, session, &first)
     }
 }
 
@@ -118,22 +98,28 @@ fn each_put_fails(alloc: Global, row: &Row) -> bool {
     held
 }
 
-/// How serving a source ends, and the state that is left, with what is typed behind it.
-fn left_by<S: Source>(alloc: Global, source: &mut S, session: &mut Session) -> (Served, Vec<u8>) {
-    let mut term = MemoryTerminal::new(alloc);
-    let served = serve(
-        alloc,
-        source,
-        session,
-        BOUNDS,
-        false,
-        &mut ClockAlarm::new(&Ticking::new()),
-        &mut term,
-        &mut Silent,
-    );
+/// The state that is left by these bytes in single bytes, or as one piece before a failed read, and what is typed behind it. It is empty
+/// where serving them ends in another way.
+fn left_by(
+    alloc: Global,
+    session: &mut Session,
+    stream: &[u8],
+    single: bool,
+    term: &mut MemoryTerminal,
+) -> Vec<u8> {
+    let wanted = if single {
+        Served::EndOfCommands
+    } else {
+        Served::ReadFault
+    };
+    let mut source = source_of(alloc, stream, single, !single);
+    let served = served_by(alloc, &mut source, session, 1000, false, term);
     let mut left = seen(alloc, session.editor());
     put(&mut left, term.bytes());
-    (served, left)
+    if served != wanted {
+        left.truncate(0);
+    }
+    left
 }
 
 /// A source that ends after these bytes leaves this.
@@ -141,32 +127,19 @@ fn left_by<S: Source>(alloc: Global, source: &mut S, session: &mut Session) -> (
 struct Ended<'a>(&'a [u8], &'a [u8]);
 
 impl Trial for Ended<'_> {
-    fn holds(&self, alloc: Global, session: &mut Session, _term: &mut MemoryTerminal) -> bool {
-        match source_of(alloc, self.0, true, false) {
-            Ok(mut source) => {
-                let (served, left) = left_by(alloc, &mut source, session);
-                served == Served::EndOfCommands && are(&left, self.1)
-            }
-            Err(NoMemory) => false,
-        }
+    fn holds(&self, alloc: Global, session: &mut Session, term: &mut MemoryTerminal) -> bool {
+        are(&left_by(alloc, session, self.0, true, term), self.1)
     }
 }
 
-/// A reader that fails after these bytes is served as a source that ends after them.
+/// A source that fails after these bytes is served as one that ends after them.
 #[derive(Clone, Copy)]
 struct Failed<'a>(&'a [u8]);
 
 impl Trial for Failed<'_> {
-    fn holds(&self, alloc: Global, session: &mut Session, _term: &mut MemoryTerminal) -> bool {
-        match bytes_of(alloc, self.0) {
-            Ok(bytes) => {
-                let mut source = ReaderSource::new(FailAfter::new(bytes));
-                let (served, left) = left_by(alloc, &mut source, session);
-                served == Served::ReadFault
-                    && holds_once(alloc, &Over::new(INPUT), &Ended(self.0, &left))
-            }
-            Err(NoMemory) => false,
-        }
+    fn holds(&self, alloc: Global, session: &mut Session, term: &mut MemoryTerminal) -> bool {
+        let left = left_by(alloc, session, self.0, false, term);
+        !left.is_empty() && holds_once(alloc, &Over::new(INPUT), &Ended(self.0, &left))
     }
 }
 
@@ -179,22 +152,6 @@ fn each_read_fails(alloc: Global, stream: &[u8]) -> bool {
     held
 }
 
-/// Whether a serving on a terminal that takes nothing fails at what the first string types.
-fn cannot_show(alloc: Global, source: &mut MemorySource, session: &mut Session) -> bool {
-    let mut writer = failing_after(alloc, 0);
-    let served = serve(
-        alloc,
-        source,
-        session,
-        BOUNDS,
-        false,
-        &mut ClockAlarm::new(&Ticking::new()),
-        &mut WriterTerminal::new(&mut writer),
-        &mut Silent,
-    );
-    served == Served::ShowFault && session.strings() == 1
-}
-
 /// Each request is done before the next read: where the first cannot be shown, the byte after it is still to come.
 #[derive(Clone, Copy)]
 struct Unread;
@@ -202,14 +159,11 @@ struct Unread;
 impl Trial for Unread {
     fn holds(&self, alloc: Global, session: &mut Session, _term: &mut MemoryTerminal) -> bool {
         let mut next = [0];
-        match source_of(alloc, b"1=$$2=$$", true, false) {
-            Ok(mut source) => {
-                cannot_show(alloc, &mut source, session)
-                    && matches!(source.read(&mut next), Ok(1))
-                    && next[0] == b'2'
-            }
-            Err(NoMemory) => false,
-        }
+        let mut source = source_of(alloc, b"1=$$2=$$", true, false);
+        is_shown(alloc, &mut source, session, b"1", 0)
+            && session.strings() == 1
+            && matches!(source.read(&mut next), Ok(1))
+            && next[0] == b'2'
     }
 }
 

@@ -1,20 +1,6 @@
 //! Rewinds to a step, and what is left of the string, of its history and of what it wrote.
-use super::{Group, How, PLAIN};
-use teco_program::Served;
 
-/// Over three pages, `a`, `b` and `c`.
-const PAGES: How = How {
-    input: "a\x0cb\x0cc",
-    ..PLAIN
-};
-
-const EXIT: How = How {
-    served: Served::Exit,
-    ..PLAIN
-};
-
-/// Over an empty input.
-const STRINGS: &str = "
+pub(super) const ROWS: &str = "
     // The steps of a string with a loop are gone back one after another.
     Iaaaa$0J<Saa$;%A$>$$12~$$QA=.=$$ => 2\r\n4\r\n
     Iaaaa$0J<Saa$;%A$>$$12~$$4~$$13~$$HT.=QA=@S//$$ => aaaa0\r\n0\r\n?ISS\r\n
@@ -30,20 +16,11 @@ const STRINGS: &str = "
     Ia$Ib$Ic$$~$$Z=$$ => 0\r\n
     Ia$1234567890~$$HT$$ => ?ILL\r\na
     1=~$$ => 1\r\n?ILL\r\n
-    ";
-
-/// Over the three pages.
-const OVER_PAGES: &str = "
     // A search over pages is gone back page by page, and what it wrote is taken back.
-    YNc$$3~$$HT.=<;1=>$$ => b0\r\n => a\x0c
-    YNc$$3~$${$$}$$HT$$ => b => a\x0c
-    YNc$$1~$$HT$$ => a
-    YNc$$3~$$PHT$$ => c => a\x0cb\x0c
-    ";
-
-pub(super) static GROUPS: [Group<'static>; 3] = [
-    (PLAIN, STRINGS),
-    (PAGES, OVER_PAGES),
+    YNc$$3~$$HT.=<;1=>$$ => b0\r\n => a\x0c => a\x0cb\x0cc
+    YNc$$3~$${$$}$$HT$$ => b => a\x0c => a\x0cb\x0cc
+    YNc$$1~$$HT$$ => a => => a\x0cb\x0cc
+    YNc$$3~$$PHT$$ => c => a\x0cb\x0c => a\x0cb\x0cc
     // An exit is gone back before the serving sees it done; after it nothing is asked.
-    (EXIT, "Ia$EX$$~$$ => => a"),
-];
+    Ia$EX$$~$$ => => a => => exit
+    ";

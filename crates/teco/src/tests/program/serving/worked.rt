@@ -1,25 +1,6 @@
 //! Worked rows: what a stream types, and what its last strings then type of the state that it left.
-use super::{Group, How, PLAIN};
-use teco_program::Served;
 
-/// Three pages.
-const PAGES: How = How {
-    input: "a\x0cb\x0cc",
-    ..PLAIN
-};
-
-pub(super) const TWO_PAGES: How = How {
-    input: "a\x0cb",
-    ..PLAIN
-};
-
-const EXIT: How = How {
-    served: Served::Exit,
-    ..PLAIN
-};
-
-/// Over an empty input.
-const STRINGS: &str = "
+pub(super) const ROWS: &str = "
     // Strings.
     $${$${$$.=Z=$$ => ?NTU\r\n0\r\n0\r\n
     5J$$.=$$2{$${$$ => ?POP\r\n0\r\n?NTU\r\n
@@ -67,83 +48,24 @@ const STRINGS: &str = "
     Iab$0J:SB$=0^X:SB$=$${$$Z=Iab$J:SB$=$$ => 0\r\n-1\r\n0\r\n0\r\n
     1^X$$.=Iab$J:SB$=$$ => ?ARG\r\n0\r\n0\r\n
     0^XIab$0JS\x0eA$.=$$HT.=$$ => 2\r\nab2\r\n
-    ";
-
-/// Over three pages.
-const OVER_PAGES: &str = "
-    // Pages.
-    YNc$$HT.=$$ => c1\r\n => a\x0cb\x0c
-    YNc$${$$.=Z=YHT$$ => 0\r\n0\r\na
-    YNc$${$$}$$HT.=$$ => c1\r\n => a\x0cb\x0c
-    ";
-
-/// Over two pages, three steps each.
-const TO_THREE_STEPS: &str = "
-    2P$$HT$$.=$$ => b0\r\n => a\x0c
-    Y_b$$HT$$.=$$ZJIb$$J:S$=$$.=$$ => ?YCA\r\na0\r\n-1\r\n2\r\n
-    ";
-
-/// Over two pages, two steps each.
-const TO_TWO_STEPS: &str = "
-    2P$$HT$$ => ?LIM\r\na
-    Y_b$$ => ?LIM\r\n
-    ";
-
-pub(super) static GROUPS: [Group<'static>; 11] = [
-    (PLAIN, STRINGS),
     // A search that fails is a step: where it is the last that the limit allows, the pointer is at 0.
-    (
-        How { limit: 14, ..PLAIN },
-        "Iaaaa$0J<Saa$;%A$>$$HT.=QA=$$ => aaaa0\r\n2\r\n",
-    ),
-    (
-        How { limit: 13, ..PLAIN },
-        "Iaaaa$0J<Saa$;%A$>$$HT.=QA=$$ => ?LIM\r\naaaa0\r\n2\r\n",
-    ),
-    (
-        How { limit: 12, ..PLAIN },
-        "Iaaaa$0J<Saa$;%A$>$$HT.=QA=$$ => ?LIM\r\naaaa4\r\n2\r\n",
-    ),
-    (PAGES, OVER_PAGES),
-    (
-        How {
-            input: "a",
-            ..PLAIN
-        },
-        "Y$$Y$$HT^N=$$ => ?YCA\r\na-1\r\n",
-    ),
+    Iaaaa$0J<Saa$;%A$>$$HT.=QA=$$ => aaaa0\r\n2\r\n => => => => 14
+    Iaaaa$0J<Saa$;%A$>$$HT.=QA=$$ => ?LIM\r\naaaa0\r\n2\r\n => => => => 13
+    Iaaaa$0J<Saa$;%A$>$$HT.=QA=$$ => ?LIM\r\naaaa4\r\n2\r\n => => => => 12
+    // Pages.
+    YNc$$HT.=$$ => c1\r\n => a\x0cb\x0c => a\x0cb\x0cc
+    YNc$${$$.=Z=YHT$$ => 0\r\n0\r\na => => a\x0cb\x0cc
+    YNc$${$$}$$HT.=$$ => c1\r\n => a\x0cb\x0c => a\x0cb\x0cc
+    Y$$Y$$HT^N=$$ => ?YCA\r\na-1\r\n => => a
     // Pages to the limit. The last search's result is 0 where `;` leaves.
-    (
-        How { limit: 5, ..PAGES },
-        "YNc$$HT.=$$1<;1=>2=$$ => ?LIM\r\nc0\r\n2\r\n => a\x0cb\x0c",
-    ),
-    (
-        How {
-            limit: 3,
-            ..TWO_PAGES
-        },
-        TO_THREE_STEPS,
-    ),
-    (
-        How {
-            limit: 2,
-            ..TWO_PAGES
-        },
-        TO_TWO_STEPS,
-    ),
+    YNc$$HT.=$$1<;1=>2=$$ => ?LIM\r\nc0\r\n2\r\n => a\x0cb\x0c => a\x0cb\x0cc => => 5
+    // Three steps for each string.
+    2P$$HT$$.=$$ => b0\r\n => a\x0c => a\x0cb => => 3
+    Y_b$$HT$$.=$$ZJIb$$J:S$=$$.=$$ => ?YCA\r\na0\r\n-1\r\n2\r\n => => a\x0cb => => 3
+    // Two steps.
+    2P$$HT$$ => ?LIM\r\na => => a\x0cb => => 2
+    Y_b$$ => ?LIM\r\n => => a\x0cb => => 2
     // The output.
-    (
-        How {
-            input: "one\n\x0ctwo\n",
-            ..EXIT
-        },
-        "Y$$P$${$$EX$$ => => one\n\x0ctwo\n",
-    ),
-    (
-        How {
-            input: "hi\n",
-            ..EXIT
-        },
-        "Y$$Z=$$EX$$ => 3\r\n => hi\n",
-    ),
-];
+    Y$$P$${$$EX$$ => => one\n\x0ctwo\n => one\n\x0ctwo\n => exit
+    Y$$Z=$$EX$$ => 3\r\n => hi\n => hi\n => exit
+    ";

@@ -1,18 +1,14 @@
 //! Examples of the pages, made by `docs/rows --write`.
-use super::*;
 
-pub(super) static EXAMPLES: &[Group] = &[(
-    LINE,
-    "
+pub(super) const EXAMPLES: &str = "
     // A macro that is used more than once?
-    one\ntwo\n => @\x15U/0A\"V0A-32UXDQXI$|C'/Y<.-Z;MUL>EX$$ =>  => One\nTwo\n
+    @\x15U/0A\"V0A-32UXDQXI$|C'/Y<.-Z;MUL>EX$$ => => One\nTwo\n => one\ntwo\n => exit
     // All letters as capitals?
-    one Two\n => Y<.-Z;0A\"V0A-32UXDQXI$|C'>EX$$ =>  => ONE TWO\n
+    Y<.-Z;0A\"V0A-32UXDQXI$|C'>EX$$ => => ONE TWO\n => one Two\n => exit
     // A byte by its number?
-    x\n => Y65I$10I$EX$$ =>  => A\nx\n
+    Y65I$10I$EX$$ => => A\nx\n => x\n => exit
     // Text with an ESC or a dollar in it?
-     => @I/a$b/Z=J2A=$$ => 3\n98\n
+    @I/a$b/Z=J2A=$$ => 3\n98\n => ?
     // A text that is any of several bytes?
-    education\n => Y<FS`[a,e,i,o,u]$*$;>EX$$ =>  => *d*c*t**n\n
-    ",
-)];
+    Y<FS`[a,e,i,o,u]$*$;>EX$$ => => *d*c*t**n\n => education\n => exit
+    ";

@@ -1,20 +1,16 @@
 //! Examples of the pages, made by `docs/rows --write`.
-use super::*;
 
-pub(super) static EXAMPLES: &[Group] = &[(
-    LINE,
-    "
+pub(super) const EXAMPLES: &str = "
     // Each number one higher?
-    a1 b9 c99\n => Y<S`D$;R.UB\\UAQB,.KQA+1\\>EX$$ =>  => a2 b10 c100\n
+    Y<S`D$;R.UB\\UAQB,.KQA+1\\>EX$$ => => a2 b10 c100\n => a1 b9 c99\n => exit
     // The sum of all numbers?
-    3 apples, 4 pears\n => Y<S`D$;R\\+QAUA>QA=EX$$ => 7\n => 3 apples, 4 pears\n
+    Y<S`D$;R\\+QAUA>QA=EX$$ => 7\n => 3 apples, 4 pears\n => 3 apples, 4 pears\n => exit
     // Two registers as variables?
-     => 0UA1UB7<QA=QA+QBUCQBUAQCUB>$$ => 0\n1\n1\n2\n3\n5\n8\n
+    0UA1UB7<QA=QA+QBUCQBUAQCUB>$$ => 0\n1\n1\n2\n3\n5\n8\n => ?
     // If and else?
-    one\neleven\n => Y<.-Z;.UBL.-QB-5\"GQBJIlong $|QBJIshort $'L>EX$$ =>  => short one\nlong eleven\n
+    Y<.-Z;.UBL.-QB-5\"GQBJIlong $|QBJIshort $'L>EX$$ => => short one\nlong eleven\n => one\neleven\n => exit
     // The greater of two numbers?
-     => 3UA5UBQA-QB\"GQAUC|QBUC'QC=$$ => 5\n
+    3UA5UBQA-QB\"GQAUC|QBUC'QC=$$ => 5\n => ?
     // Without precedence: how is a sum of products written?
-     => 2*3+(4*5)=2*3+4*5=$$ => 26\n50\n
-    ",
-)];
+    2*3+(4*5)=2*3+4*5=$$ => 26\n50\n => ?
+    ";

@@ -1,18 +1,14 @@
 //! Examples of the pages, made by `docs/rows --write`.
-use super::*;
 
-pub(super) static EXAMPLES: &[Group] = &[(
-    LINE,
-    "
+pub(super) const EXAMPLES: &str = "
     // The lines of a paragraph as one line?
-    one\ntwo\n\nthree\nfour\n => Y<S\x0e\n\n\x0e\n$;R-DI $>EX$$ =>  => one two\n\nthree four\n
+    Y<S\x0e\n\n\x0e\n$;R-DI $>EX$$ => => one two\n\nthree four\n => one\ntwo\n\nthree\nfour\n => exit
     // All lines as one, with commas?
-    one\ntwo\nthree\n => Y<FS\n$, $;>ZJ-2DI\n$EX$$ =>  => one, two, three\n
+    Y<FS\n$, $;>ZJ-2DI\n$EX$$ => => one, two, three\n => one\ntwo\nthree\n => exit
     // One line into several?
-    one, two, three\n => Y<FS, $\n$;>EX$$ =>  => one\ntwo\nthree\n
+    Y<FS, $\n$;>EX$$ => => one\ntwo\nthree\n => one, two, three\n => exit
     // Without what is between two marks?
-    a (* b *)c(* d *)\n => Y<S(*$;-2C.UBS*)$;QB,.K>EX$$ =>  => a c\n
+    Y<S(*$;-2C.UBS*)$;QB,.K>EX$$ => => a c\n => a (* b *)c(* d *)\n => exit
     // Only what is between two lines?
-    x\nbegin\none\ntwo\nend\ny\n => YSbegin$L.UASend$0LQA,.PWHKYEX$$ =>  => one\ntwo\n
-    ",
-)];
+    YSbegin$L.UASend$0LQA,.PWHKYEX$$ => => one\ntwo\n => x\nbegin\none\ntwo\nend\ny\n => exit
+    ";

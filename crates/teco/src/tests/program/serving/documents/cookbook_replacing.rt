@@ -1,32 +1,28 @@
 //! Examples of the pages, made by `docs/rows --write`.
-use super::*;
 
-pub(super) static EXAMPLES: &[Group] = &[(
-    LINE,
-    "
+pub(super) const EXAMPLES: &str = "
     // How is a text replaced everywhere?
-    a colour, two colours\n => Y<FScolour$color$;>EX$$ =>  => a color, two colors\n
+    Y<FScolour$color$;>EX$$ => => a color, two colors\n => a colour, two colours\n => exit
     // On all pages?
-    one colour\n\x0ctwo colours\n => Y<J<FScolour$color$;>-1-\x0e;P>EX$$ =>  => one color\n\x0ctwo colors\n
+    Y<J<FScolour$color$;>-1-\x0e;P>EX$$ => => one color\n\x0ctwo colors\n => one colour\n\x0ctwo colours\n => exit
     // Only the first in each line?
-    banana\nxx\nananas\n => Y<FSa$4$;L>EX$$ =>  => b4nana\nxx\n4nanas\n
+    Y<FSa$4$;L>EX$$ => => b4nana\nxx\n4nanas\n => banana\nxx\nananas\n => exit
     // Only the second in the file?
-    one one one\n => Y2FSone$two$EX$$ =>  => one two one\n
+    Y2FSone$two$EX$$ => => one two one\n => one one one\n => exit
     // With nothing in its place?
-    stop, please, now\n => Y<@FS/, please//;>EX$$ =>  => stop, now\n
+    Y<@FS/, please//;>EX$$ => => stop, now\n => stop, please, now\n => exit
     // In either case?
-    Colour COLOUR\n => Y0\x18<FScolour$color$;>EX$$ =>  => color color\n
+    Y0\x18<FScolour$color$;>EX$$ => => color color\n => Colour COLOUR\n => exit
     // Whole words only?
-    a cat, a concat, a cat!\n => Y<S`Bcat`B$;R-3DIdog$>EX$$ =>  => a dog, a concat, a dog!\n
+    Y<S`Bcat`B$;R-3DIdog$>EX$$ => => a dog, a concat, a dog!\n => a cat, a concat, a cat!\n => exit
     // Whole words, also at both ends of the file?
-    cat and cat => YI $ZJI $J<S`Bcat`B$;R-3DIdog$>JDZJ-DEX$$ =>  => dog and dog
+    YI $ZJI $J<S`Bcat`B$;R-3DIdog$>JDZJ-DEX$$ => => dog and dog => cat and cat => exit
     // Until nothing is found any more?
-    a((())())b\n => Y<J@FS/()//;>EX$$ =>  => ab\n
+    Y<J@FS/()//;>EX$$ => => ab\n => a((())())b\n => exit
     // Runs of blanks by one blank?
-    a  b\t c\n => Y<FS`S$ $;>EX$$ =>  => a b c\n
+    Y<FS`S$ $;>EX$$ => => a b c\n => a  b\t c\n => exit
     // Tabs by blanks?
-    a\tb\n => Y<FS\t$    $;>EX$$ =>  => a    b\n
+    Y<FS\t$    $;>EX$$ => => a    b\n => a\tb\n => exit
     // CR LF by LF?
-    one\r\ntwo\r\n => Y<FS\r\n$\n$;>EX$$ =>  => one\ntwo\n
-    ",
-)];
+    Y<FS\r\n$\n$;>EX$$ => => one\ntwo\n => one\r\ntwo\r\n => exit
+    ";

@@ -1,54 +1,50 @@
 //! Examples of the pages, made by `docs/rows --write`.
-use super::*;
 
-pub(super) static EXAMPLES: &[Group] = &[(
-    LINE,
-    "
+pub(super) const EXAMPLES: &str = "
     // What runs on, and does something else
-     => Icat$J:SCAT$=0\x18J:SCAT$=$$ => 0-1
+    Icat$J:SCAT$=0\x18J:SCAT$=$$ => 0-1 => ?
     // What runs on, and does something else
-     => I1^Ea$J:S`D$=:S^E$=$$ => -1-1
+    I1^Ea$J:S`D$=:S^E$=$$ => -1-1 => ?
     // What runs on, and does something else
-     => Iab$<Sx$1=>2=$$ => ?SRH
+    Iab$<Sx$1=>2=$$ => ?SRH => ?
     // What runs on, and does something else
-     => Iab$<Sx$;1=>2=$$ => 2
+    Iab$<Sx$;1=>2=$$ => 2 => ?
     // What runs on, and does something else
-     => Ox$1<!x!1=>$$ => ?TAG
+    Ox$1<!x!1=>$$ => ?TAG => ?
     // What runs on, and does something else
-     => 1<1\"G1=>'$$ => 1?BNI
+    1<1\"G1=>'$$ => 1?BNI => ?
     // What runs on, and does something else
-     => 40000+40000=2147483647+1=$$ => 80000?OVF
+    40000+40000=2147483647+1=$$ => 80000?OVF => ?
     // What runs on, and does something else
-     => Iab\n$-DHTZ=$$ => ab2
+    Iab\n$-DHTZ=$$ => ab2 => ?
     // What runs on, and does something else
-     => @\x15A/1=$$ => ?UTC
+    @\x15A/1=$$ => ?UTC => ?
     // What runs on, and does something else
-     => @\x15A/1=Oend$2=!end!/MA$$ => 1
+    @\x15A/1=Oend$2=!end!/MA$$ => 1 => ?
     // What runs on, and does something else
-     => \x01hi\x01@\x01/ you/$$ => hiyou
+    \x01hi\x01@\x01/ you/$$ => hiyou => ?
     // What to write in its place
-     => Ione\ntwo\n$JXAL .U9 :QAU8 GA L Q9,.XA Q9,Q9+Q8K :GA$$ => onetwo
+    Ione\ntwo\n$JXAL .U9 :QAU8 GA L Q9,.XA Q9,Q9+Q8K :GA$$ => onetwo => ?
     // What to write in its place
-     => Ia cat$JScat$.-3=$$ => 2
+    Ia cat$JScat$.-3=$$ => 2 => ?
     // What to write in its place
-     => Ia cat$JScat$-3DIdog$HT$$ => adog
+    Ia cat$JScat$-3DIdog$HT$$ => adog => ?
     // What to write in its place
-     => 2UA QA-1\"EOone$' QA-2\"EOtwo$' !one!\x01one\x01 Oend$ !two!\x01two\x01 !end!$$ => two
+    2UA QA-1\"EOone$' QA-2\"EOtwo$' !one!\x01one\x01 Oend$ !two!\x01two\x01 !end!$$ => two => ?
     // What to write in its place
-     => Iaab$J<::Sb$\"S0;'C>.=$$ => 3
+    Iaab$J<::Sb$\"S0;'C>.=$$ => 3 => ?
     // What to write in its place
-     => Iabc$J2UE :Sb$\"S .-QE\"G \x1en\x14 | \x1ey\x14 '' $$ => y
+    Iabc$J2UE :Sb$\"S .-QE\"G \x1en\x14 | \x1ey\x14 '' $$ => y => ?
     // What to write in its place
-     => 3<%A-2\"EOnext$' QA= !next!>$$ => 13
+    3<%A-2\"EOnext$' QA= !next!>$$ => 13 => ?
     // What to write in its place
-     => \x15Acat$ .U9 GA Q9+1J0AUB Q9,Q9+:QAK QB=Z=$$ => 970
+    \x15Acat$ .U9 GA Q9+1J0AUB Q9,Q9+:QAK QB=Z=$$ => 970 => ?
     // What to write in its place
-     => Ia\nb\nc\n$J L 1-2T2T$$ => abc
+    Ia\nb\nc\n$J L 1-2T2T$$ => abc => ?
     // What to write in its place
-     => 0\"E1=' -1\"L2=' 1\"G3='$$ => 123
+    0\"E1=' -1\"L2=' 1\"G3='$$ => 123 => ?
     // What to write in its place
-     => I.$J 0A\"R1=|0A-\x1e.\"E2=''$$ => 2
+    I.$J 0A\"R1=|0A-\x1e.\"E2=''$$ => 2 => ?
     // What to write in its place
-     => 1UA @\x15B/[A 5UA ]A/ MB QA=$$ => 1
-    ",
-)];
+    1UA @\x15B/[A 5UA ]A/ MB QA=$$ => 1 => ?
+    ";
