@@ -2,7 +2,7 @@
 use Rattle.std.proofs.Common.{◌≡◌, ◌≢◌, inl, inr, ℕ, List, Option, Some, None, Bool, true, false, Result, Ok, Err, OnErr, refl, ap, sym, subst, ◌∙◌}
 use Rattle.std.specs.Prelude.{OnOk, bytes_eq}
 use Rattle.std.proofs.lemmas.Slice.Eq.{bytes_eq-Decides}
-use Rattle.teco_files.specs.Disk.{Appends, Changes, Creates, Files, IsWhole, LeavesFiles, Passes, Renames, Replaces}
+use Rattle.teco_files.specs.Disk.{Appends, Changes, Creates, Files, IsWhole, LeavesFiles, Passes, Renames, Replaces, Same}
 use Rattle.teco_program.specs.Draft.{draft_beside}
 use Rattle.teco_program.specs.Writing.{AddsDrafts, IsDraftOf, IsPut, IsWriting, Writes}
 
@@ -25,6 +25,12 @@ on_err_by (Err fault) p = p
 pub on_ok_by : {A E P : Type 0} (result : Result A E) → P → OnOk result P
 on_ok_by (Ok done) p = p
 on_ok_by (Err fault) p = tt
+
+-- files that are as they were have no file more
+pub leaves_same : {name : List ℕ} {old new : Option Files} → Changes old new Same → Changes old new (LeavesFiles name)
+leaves_same same before told =
+    let done = same before told in
+    (done.0, done.1, record { files = λ other there. done.2 other; others = λ other apart. done.2 other })
 
 -- bytes were put after those of a file, and then the files stayed as they were
 pub appends_still : {name bytes : List ℕ} {old mid new : Option Files} → new ≡ mid → Changes old mid (Appends name bytes) → Changes old new (Appends name bytes)
