@@ -1,5 +1,5 @@
 -- Lemmas on the cut of a stream.
-use Rattle.std.proofs.Common.{◌≡◌, ℕ, List, [], ◌∷◌, ◌++◌, true, false, ◌&&◌, ◌==◌, refl, sym, ap, ◌∙◌, append-nil, append_assoc, inl, inr, map, length, take, drop, get_or, take-append-drop, ◌+◌, ◌<◌, arith}
+use Rattle.std.proofs.Common.{◌≡◌, ℕ, List, [], ◌∷◌, ◌++◌, true, false, ◌&&◌, ◌==◌, refl, sym, ap, ◌∙◌, append-nil, append_assoc, inl, inr, map, length, take, drop, get_or, take-append-drop, ◌+◌, ◌<◌, arith, length-append}
 use Rattle.std.proofs.lemmas.Bool.{cases_Bool, false≢true}
 use Rattle.std.proofs.lemmas.List.{drop_more}
 use Rattle.teco_core.specs.declared.ascii.TheConstants.{ESC}
@@ -52,6 +52,10 @@ requests-cut bs at more l e t = ap (λ l. requests (l ++ more)) (cut_parts bs at
 pub text-some : (text : List ℕ) → IsText text → 0 < length text
 text-some [] t = absurd (false≢true t.ends)
 text-some (b ∷ bs) t = omega arith
+
+-- what stands after a text and an ESC is shorter than the whole
+pub shorter : {bytes : List ℕ} (text rest : List ℕ) → bytes ≡ text ++ ESC ∷ rest → length rest < length bytes
+shorter text rest e = let n = ap length e ∙ length-append text (ESC ∷ rest) in omega arith
 
 -- the rows of the stream: `1=$$$2=$$`, and `a$` at the end
 cut_row : texts_of (49 ∷ 61 ∷ ESC ∷ ESC ∷ ESC ∷ 50 ∷ 61 ∷ ESC ∷ ESC ∷ []) ≡ (49 ∷ 61 ∷ ESC ∷ []) ∷ (ESC ∷ 50 ∷ 61 ∷ ESC ∷ []) ∷ []
