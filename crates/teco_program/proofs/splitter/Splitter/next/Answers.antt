@@ -39,8 +39,7 @@ returns-clause-cut c =
     let found = subst (EndsAt at) same c.in-Some.ensures in
     let place : start + at + 1 ≡ start + (at + 1) = omega arith in
     let left : drop c.compacted-self-inside.result c.compacted-self-inside.new.bytes.items ≡ drop (at + 1) held =
-    c.compacted-self-inside.ensures.held ∙ ap (λ k. drop k bytes) place ∙ sym (drop-drop (at + 1) start bytes) in
-    (
+    c.compacted-self-inside.ensures.held ∙ ap (λ k. drop k bytes) place ∙ sym (drop-drop (at + 1) start bytes) in (
       take at held,
       found.2,
       sym c.self.view_is ∙ cut_parts held at found.0 found.1 ∙ ap (λ l. take at held ++ ESC ∷ l) (sym left),
