@@ -7,7 +7,7 @@ use Rattle.std.specs.String.{string_bytes}
 use Rattle.teco_files.specs.Disk.{Files}
 use Rattle.teco_line.specs.StreamNames.{is_standard_input}
 use Rattle.teco_program.specs.Seen.{SourceView}
-use Rattle.teco_program.specs.Sources.{AreCommandsIn, IsFaultOf, IsFaultyFile, IsWholeOf, LacksCommands, LacksFiles}
+use Rattle.teco_program.specs.Sources.{AreCommandsIn, IsFaultOf, IsFaultyFile, IsUnread, IsWholeOf, LacksCommands, LacksFiles}
 use Rattle.teco_line.specs.declared.line.Commands.TheVariants.{Sources}
 use Rattle.teco_program.specs.declared.sources.CommandsFault.{CommandsFault}
 use Rattle.teco_program.specs.declared.sources.CommandsFault.TheVariants as fault
@@ -108,6 +108,13 @@ faulty_file source files names name at old mid new front text before within name
       text_is = whole;
       wrong = h.1;
     })
+
+-- A file that can't be read.
+pub unread_file : {S : Type 0} (source : SourceView S) (files : Option Files) (names : List (String Global)) (at : ℕ) (old new : S) → at < length names
+    → (fault : CommandsFault) → IsUnread at fault → LacksFiles source names files old new fault
+unread_file source files names at old new within Memory h = tt
+unread_file source files names at old new within (Unread n) h = omega (arith, h)
+unread_file source files names at old new within (fault.Caret n spot) h = absurd h
 
 -- What the files of a line lack, the line lacks.
 pub files_lacked : {S : Type 0} (source : SourceView S) (names : Vec (String Global) Global) (word : Option (String Global)) (files : Option Files) (old new : S) (fault : CommandsFault)

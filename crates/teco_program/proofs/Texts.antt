@@ -1,6 +1,6 @@
 -- Lemmas on the cut of a stream.
-use Rattle.std.proofs.Common.{◌≡◌, ℕ, List, [], ◌∷◌, ◌++◌, true, false, ◌&&◌, ◌==◌, refl, sym, ap, ◌∙◌, append-nil, append_assoc, inl, inr, map, length, take, drop, get_or, take-append-drop, ◌+◌, ◌<◌}
-use Rattle.std.proofs.lemmas.Bool.{cases_Bool}
+use Rattle.std.proofs.Common.{◌≡◌, ℕ, List, [], ◌∷◌, ◌++◌, true, false, ◌&&◌, ◌==◌, refl, sym, ap, ◌∙◌, append-nil, append_assoc, inl, inr, map, length, take, drop, get_or, take-append-drop, ◌+◌, ◌<◌, arith, length-append}
+use Rattle.std.proofs.lemmas.Bool.{cases_Bool, false≢true}
 use Rattle.std.proofs.lemmas.List.{drop_more}
 use Rattle.teco_core.specs.declared.ascii.TheConstants.{ESC}
 use Rattle.teco_program.specs.Stream.{asks_of, ends_in_escape, requests, texts_from, texts_of, IsText}
@@ -38,13 +38,24 @@ texts_of-text text more t = texts_from-held [] text (ESC ∷ more) t.no_pair ∙
 pub requests-text : (text rest more : List ℕ) → IsText text → requests ((text ++ ESC ∷ rest) ++ more) ≡ asks_of text ∷ requests (rest ++ more)
 requests-text text rest more t = ap requests (append_assoc text (ESC ∷ rest) more) ∙ ap (map asks_of) (texts_of-text text (rest ++ more) t)
 
+-- what stands before and after the second ESC of the leftmost pair
+pub cut_parts : (bs : List ℕ) (at : ℕ) → at < length bs → get_or bs at 0 ≡ ESC → bs ≡ take at bs ++ ESC ∷ drop (at + 1) bs
+cut_parts bs at l e =
+    sym (take-append-drop at bs) ∙ ap (λ l. take at bs ++ l) (drop_more bs at 0 l ∙ ap (λ b. b ∷ drop (at + 1) bs) e)
+
 -- the same at the place of the second ESC of the leftmost pair
 pub requests-cut : (bs : List ℕ) (at : ℕ) (more : List ℕ) → at < length bs → get_or bs at 0 ≡ ESC → IsText (take at bs)
     → requests (bs ++ more) ≡ asks_of (take at bs) ∷ requests (drop (at + 1) bs ++ more)
-requests-cut bs at more l e t =
-    let parts : bs ≡ take at bs ++ ESC ∷ drop (at + 1) bs =
-    sym (take-append-drop at bs) ∙ ap (λ l. take at bs ++ l) (drop_more bs at 0 l ∙ ap (λ b. b ∷ drop (at + 1) bs) e) in
-    ap (λ l. requests (l ++ more)) parts ∙ requests-text (take at bs) (drop (at + 1) bs) more t
+requests-cut bs at more l e t = ap (λ l. requests (l ++ more)) (cut_parts bs at l e) ∙ requests-text (take at bs) (drop (at + 1) bs) more t
+
+-- a text has a byte, the first ESC of its pair
+pub text-some : (text : List ℕ) → IsText text → 0 < length text
+text-some [] t = absurd (false≢true t.ends)
+text-some (b ∷ bs) t = omega arith
+
+-- what stands after a text and an ESC is shorter than the whole
+pub shorter : {bytes : List ℕ} (text rest : List ℕ) → bytes ≡ text ++ ESC ∷ rest → length rest < length bytes
+shorter text rest e = let n = ap length e ∙ length-append text (ESC ∷ rest) in omega arith
 
 -- the rows of the stream: `1=$$$2=$$`, and `a$` at the end
 cut_row : texts_of (49 ∷ 61 ∷ ESC ∷ ESC ∷ ESC ∷ 50 ∷ 61 ∷ ESC ∷ ESC ∷ []) ≡ (49 ∷ 61 ∷ ESC ∷ []) ∷ (ESC ∷ 50 ∷ 61 ∷ ESC ∷ []) ∷ []

@@ -1,6 +1,8 @@
 -- Writing a file by one draft after another.
-use Rattle.std.proofs.Common.{◌≡◌, ◌≢◌, inl, inr, ℕ, List, Option, Some, None, Result, Ok, Err, OnErr, refl, sym, subst, ◌∙◌}
-use Rattle.teco_files.specs.Disk.{Appends, Changes, Files, IsWhole, LeavesFiles, Passes, Replaces}
+use Rattle.std.proofs.Common.{◌≡◌, ◌≢◌, inl, inr, ℕ, List, Option, Some, None, Bool, true, false, Result, Ok, Err, OnErr, refl, ap, sym, subst, ◌∙◌}
+use Rattle.std.specs.Prelude.{OnOk, bytes_eq}
+use Rattle.std.proofs.lemmas.Slice.Eq.{bytes_eq-Decides}
+use Rattle.teco_files.specs.Disk.{Appends, Changes, Creates, Files, IsWhole, LeavesFiles, Passes, Renames, Replaces, Same}
 use Rattle.teco_program.specs.Draft.{draft_beside}
 use Rattle.teco_program.specs.Writing.{AddsDrafts, IsDraftOf, IsPut, IsWriting, Writes}
 
@@ -19,6 +21,43 @@ adds_same file same before told = (before, same ∙ told, record { same = refl; 
 pub on_err_by : {A E P : Type 0} (result : Result A E) → P → OnErr result P
 on_err_by (Ok done) p = tt
 on_err_by (Err fault) p = p
+
+pub on_ok_by : {A E P : Type 0} (result : Result A E) → P → OnOk result P
+on_ok_by (Ok done) p = p
+on_ok_by (Err fault) p = tt
+
+-- files that are as they were have no file more
+pub leaves_same : {name : List ℕ} {old new : Option Files} → Changes old new Same → Changes old new (LeavesFiles name)
+leaves_same same before told =
+    let done = same before told in
+    (done.0, done.1, record { files = λ other there. done.2 other; others = λ other apart. done.2 other })
+
+-- bytes were put after those of a file, and then the files stayed as they were
+pub appends_still : {name bytes : List ℕ} {old mid new : Option Files} → new ≡ mid → Changes old mid (Appends name bytes) → Changes old new (Appends name bytes)
+appends_still same appends before told = let done = appends before told in (done.0, same ∙ done.1, done.2)
+
+-- A draft was made, and then it took the file's name.
+module _ {file draft bytes : List ℕ} where
+  others_renamed : (other : List ℕ) (is : Bool) {before made after : Files} → bytes_eq other draft ≡ is → other ≢ file → Creates draft bytes before made → Renames draft file made after
+      → after other ≡ before other
+  others_renamed other true {before} {after} e apart created renamed =
+      let named = (bytes_eq-Decides other draft).0 e in
+      ap after named ∙ renamed.gone ∙ sym (ap before named ∙ created.new)
+  others_renamed other false e apart created renamed =
+      let no_draft : other ≢ draft = λ named. let t = sym e ∙ (bytes_eq-Decides other draft).1 named in cc in
+      renamed.others other no_draft apart ∙ created.others other no_draft
+
+  pub replaces_by : {old made new : Option Files} → Changes old made (Creates draft bytes) → Changes made new (Renames draft file) → Changes old new (Replaces file bytes)
+  replaces_by creates renames before told =
+      let made_is = creates before told in
+      let new_is = renames made_is.0 made_is.1 in (
+        new_is.0,
+        new_is.1,
+        record {
+          whole = new_is.2.moved ∙ made_is.2.whole;
+          others = λ other apart. others_renamed other (bytes_eq other draft) refl apart made_is.2 new_is.2;
+        },
+      )
 
 -- The files are told.
 pub are_told : {old : Option Files} {before : Files} → old ≡ Some before → old ≢ None

@@ -1,4 +1,6 @@
+use Rattle.std.proofs.Common.{inl}
 use Rattle.teco_files.proofs.Disks.{but_then, creates_written, leaves_draft, others_created, passes_then, removed_or}
+use Rattle.teco_program.proofs.Writings.{leaves_same, on_err_by}
 use Rattle.teco_program.proofs.output.create.Goals as goal
 
 pub returns-in-Err-clause-moments : goal.returns-in-Err-clause-moments
@@ -18,3 +20,9 @@ returns-clause-ok g c = creates_written c.in_ok-draft.ensures.ok c.in_default.en
 
 pub returns-clause-moments : goal.returns-clause-moments
 returns-clause-moments g c = passes_then c.make.ensures.moments (others_created c.in_ok-draft.ensures.ok) c.fill.ensures.moments
+
+pub returns-in_err-draft-clause-err : goal.returns-in_err-draft-clause-err
+returns-in_err-draft-clause-err g c = on_err_by c.from_residual.result (leaves_same c.in_err-draft.ensures.err)
+
+pub returns-in_err-draft-clause-removed : goal.returns-in_err-draft-clause-removed
+returns-in_err-draft-clause-removed g c = on_err_by c.from_residual.result (inl c.in_err-draft.ensures.err)

@@ -1,5 +1,14 @@
+use Rattle.std.proofs.Common.{◌∙◌}
+use Rattle.teco_files.proofs.Disks.{others_appended}
+use Rattle.teco_program.proofs.Writings.{appends_still, on_err_by, on_ok_by}
 use Rattle.teco_program.proofs.output.fill.Goals as goal
 
 pub returns-clause-moments : goal.returns-clause-moments
 returns-clause-moments g c before told files left =
     c.write_both.ensures.moments before told files (c.make_like.ensures.moments files (c.sync.ensures.moments files left))
+
+pub returns-clause-ok : goal.returns-clause-ok
+returns-clause-ok g c = on_ok_by c.sync.result (appends_still (c.sync.ensures.files ∙ c.make_like.ensures.files) c.in_ok-write_both.ensures.ok)
+
+pub returns-clause-err : goal.returns-clause-err
+returns-clause-err g c = on_err_by c.sync.result (others_appended (appends_still (c.sync.ensures.files ∙ c.make_like.ensures.files) c.in_ok-write_both.ensures.ok))

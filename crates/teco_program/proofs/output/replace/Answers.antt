@@ -1,4 +1,5 @@
 use Rattle.teco_files.proofs.Disks.{passes_making, passes_renaming, leaves_draft, passes_removing, removed_or, same_but}
+use Rattle.teco_program.proofs.Writings.{replaces_by}
 use Rattle.teco_program.proofs.output.replace.Goals as goal
 
 pub returns-in_err-create-clause-moments : goal.returns-in_err-create-clause-moments
@@ -17,3 +18,6 @@ returns-clause-moments g c = passes_renaming c.requires c.create.ensures.moments
 
 pub returns-in-Err-clause-err : goal.returns-in-Err-clause-err
 returns-in-Err-clause-err g c = leaves_draft c.in_ok-create.ensures.ok (same_but c.in-Err.ensures.err) c.remove.ensures.others
+
+pub returns-clause-ok : goal.returns-clause-ok
+returns-clause-ok g c = replaces_by c.in_ok-create.ensures.ok c.in_default.ensures.ok

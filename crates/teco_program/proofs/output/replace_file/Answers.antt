@@ -1,9 +1,9 @@
 use Rattle.std.proofs.Common.{◌≡◌, ◌≢◌, ◌∙◌, sym}
-use Rattle.std.proofs.lemmas.Result.{on_err_weaker}
-use Rattle.teco_files.specs.Disk.{Changes, LeavesFiles}
-use Rattle.teco_program.specs.Writing.{AddsDrafts}
+use Rattle.std.proofs.lemmas.Result.{on_err_weaker, on_ok_weaker}
+use Rattle.teco_files.specs.Disk.{Changes, LeavesFiles, Replaces}
+use Rattle.teco_program.specs.Writing.{AddsDrafts, Writes, both}
 use Rattle.teco_program.specs.Draft.{draft_beside}
-use Rattle.teco_program.proofs.Writings.{adds_more, on_err_by, passes_more}
+use Rattle.teco_program.proofs.Writings.{adds_more, on_err_by, passes_more, writes_after}
 use Rattle.teco_program.proofs.output.replace_file.Goals as goal
 use Rattle.teco_program.proofs.output.replace_file.Goals.{in_default-via-in-Err+else-eq, in_default-via-in-Ok-1}
 
@@ -54,3 +54,14 @@ drafts-preserved g c =
       streams = c.replace.ensures.streams ∙ c.drafts.invariant.streams;
       moments = passes_more c.drafts.draft_number named differ c.drafts.invariant.adds c.drafts.invariant.moments c.replace.ensures.moments;
     }
+
+pub returns-in_default-clause-ok : goal.returns-in_default-clause-ok
+returns-in_default-clause-ok g c =
+    let named : c.as_str.result.now ≡ draft_beside c.args.file.now c.drafts.draft_number = c.as_str.ensures.value ∙ c.in_ok-draft.ensures.named in
+    let differ : c.as_str.result.now ≢ c.args.file.now = λ e. c.in_ok-draft.ensures.another (sym c.as_str.ensures.value ∙ e) in
+    elim c.in_default-1.branch [
+      | in_default-via-in-Err+else-eq w ↦ rw w.done-is tt
+      | in_default-via-in-Ok-1 w ↦ rw w.done-is (on_ok_weaker {P = Changes (g.D.Disk.files c.drafts.disk) (g.D.Disk.files c.replace.new.disk) (Replaces c.args.file.now (both c.args.bytes))}
+          {Q = Changes (g.D.Disk.files c.args.disk.now) (g.D.Disk.files c.replace.new.disk) (Writes c.args.file.now (both c.args.bytes))}
+          c.replace.result (writes_after c.drafts.draft_number named differ c.drafts.invariant.adds) c.replace.ensures.ok)
+    ]

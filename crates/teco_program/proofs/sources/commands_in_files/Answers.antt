@@ -1,10 +1,11 @@
 use Rattle.std.proofs.Common.{◌≡◌, ◌∙◌, ◌++◌, ◌+◌, ℕ, List, [], ◌∷◌, Ok, ap, sym, subst, take, add-one, take-suc}
+use Rattle.std.proofs.lemmas.List.{take_all}
 use Rattle.std.specs.String.{string_bytes}
 use Rattle.teco_line.specs.StreamNames.{is_standard_input}
 use Rattle.teco_program.specs.Seen.{source_view}
 use Rattle.teco_program.specs.Sources.{AreCommandsIn, IsFaultOf, IsWholeOf, LacksFiles}
 use Rattle.teco_source.specs.Source.{commands_of}
-use Rattle.teco_program.proofs.CommandSources.{faulty_file, one_source_more, passed_up, same_files}
+use Rattle.teco_program.proofs.CommandSources.{faulty_file, one_source_more, passed_up, same_files, unread_file}
 use Rattle.teco_program.proofs.Doings.{keeps_after}
 use Rattle.teco_program.proofs.sources.commands_in_files.Goals as goal
 
@@ -60,3 +61,23 @@ loop-at-preserved g c =
       subst (λ ns. AreCommandsIn source files ns old new c.extend_from_slice.new.self.items) (sym front) (subst (λ (m : List ℕ). AreCommandsIn source files (take at names ++ item ∷ []) old new m) (sym items) one),
       keeps_after h.1 c.bytes_of.ensures.keeps,
     )
+
+pub returns-in_err-source-clause-fault : goal.returns-in_err-source-clause-fault
+returns-in_err-source-clause-fault g c =
+    let source = source_view g.S.Source.coming g.S.Source.bound g.S.Source.failures g.S.Source.ended in
+    let files = g.D.Disk.files c.args.disk.now in
+    let old = c.args.stream.now in
+    let new = c.bytes_of.new.stream in
+    let fault = c.in_err-source.field-0.0 in
+    passed_up c.from_residual.result fault (LacksFiles source c.args.names.now files old new) c.from_residual.ensures.1
+    (unread_file source files c.args.names.now c.loop-at.at old new c.loop-at-test.true fault c.in_err-source.ensures.fault)
+
+pub returns-clause-keeps : goal.returns-clause-keeps
+returns-clause-keeps g c = c.loop-at.invariant.1
+
+pub returns-clause-read : goal.returns-clause-read
+returns-clause-read g c =
+    let source = source_view g.S.Source.coming g.S.Source.bound g.S.Source.failures g.S.Source.ended in
+    let files = g.D.Disk.files c.args.disk.now in
+    subst (λ ns. AreCommandsIn source files ns c.args.stream.now c.loop-at.stream c.loop-at.made.items)
+    (take_all c.loop-at.at c.args.names.now c.loop-at-test.false) c.loop-at.invariant.0

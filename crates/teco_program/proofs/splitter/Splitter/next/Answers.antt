@@ -1,11 +1,50 @@
-use Rattle.std.proofs.Common.{◌≡◌, ◌+◌, ◌<◌, ◌∷◌, ◌++◌, length, take, drop, get_or, arith, rules, ap, sym, ◌∙◌}
-use Rattle.std.proofs.lemmas.Grind.{common_steps}
-use Rattle.std.proofs.lemmas.List.{drop-drop}
+use Rattle.std.proofs.Common.{◌≡◌, ◌+◌, ◌-◌, ◌<◌, ℕ, List, ◌∷◌, ◌++◌, length, take, drop, get_or, arith, refl, ap, subst, sym, ◌∙◌}
+use Rattle.std.proofs.lemmas.List.{drop-drop, take_rest, length-drop}
 use Rattle.teco_core.specs.declared.ascii.TheConstants.{ESC}
 use Rattle.teco_program.specs.Cut.{value_of}
 use Rattle.teco_program.specs.Stream.{IsText, asks_of, requests}
-use Rattle.teco_program.proofs.Texts.{requests-cut}
+use Rattle.teco_program.proofs.Texts.{cut_parts, requests-cut, text-some}
 use Rattle.teco_program.proofs.splitter.Splitter.next.Goals as goal
+
+-- the slice from the start on is what is held
+held_in : (bytes slice : List ℕ) (start : ℕ) → slice ≡ bytes → take (length slice - start) (drop start slice) ≡ drop start bytes
+held_in bytes slice start e = take_rest slice start ∙ ap (drop start) e
+
+abbrev EndsAt : ℕ → List ℕ → Type 0
+EndsAt at held = (at < length held) × (get_or held at 0 ≡ ESC) × IsText (take at held)
+
+pub asked_in-requires : goal.asked_in-requires
+asked_in-requires c = text-some _ c.in-Some.ensures.2
+
+pub invariant_of-self-in_err-asked : goal.invariant_of-self-in_err-asked
+invariant_of-self-in_err-asked c =
+    let same = held_in c.self.inside.bytes.items c.as_slice.result.now c.self.inside.start c.as_slice.ensures.value in
+    let found = subst (EndsAt c.in-Some.at) same c.in-Some.ensures in
+    let room : c.in-Some.at < length c.self.inside.bytes.items - c.self.inside.start = simp length-drop at found.0 in
+    record { within = omega (arith, room); no_pair = found.2.no_pair }
+
+pub invariant_of-self-2 : goal.invariant_of-self-2
+invariant_of-self-2 c = record { within = omega (arith, c.compacted-self-inside.ensures.within); no_pair = refl }
+
+pub returns-in_default-clause-first : goal.returns-in_default-clause-first
+returns-in_default-clause-first c = λ more. ap (λ l. requests (l ++ more)) (sym c.self.view_is)
+
+pub returns-clause-cut : goal.returns-clause-cut
+returns-clause-cut c =
+    let bytes = c.self.inside.bytes.items in
+    let start = c.self.inside.start in
+    let at = c.in-Some.at in
+    let held = drop start bytes in
+    let same = held_in bytes c.as_slice.result.now start c.as_slice.ensures.value in
+    let found = subst (EndsAt at) same c.in-Some.ensures in
+    let place : start + at + 1 ≡ start + (at + 1) = omega arith in
+    let left : drop c.compacted-self-inside.result c.compacted-self-inside.new.bytes.items ≡ drop (at + 1) held =
+    c.compacted-self-inside.ensures.held ∙ ap (λ k. drop k bytes) place ∙ sym (drop-drop (at + 1) start bytes) in (
+      take at held,
+      found.2,
+      sym c.self.view_is ∙ cut_parts held at found.0 found.1 ∙ ap (λ l. take at held ++ ESC ∷ l) (sym left),
+      c.in_ok-asked.ensures ∙ ap (λ l. asks_of (take at l)) same,
+    )
 
 pub returns-clause-first : goal.returns-clause-first
 returns-clause-first c = λ more.
@@ -13,10 +52,11 @@ returns-clause-first c = λ more.
     let start = c.self.inside.start in
     let at = c.in-Some.at in
     let held = drop start bytes in
-    let found : (at < length held) × (get_or held at 0 ≡ ESC) × IsText (take at held) = search (rules, common_steps, c.in-Some.ensures) in
-    let asks : value_of c.in_ok-asked.asked ≡ asks_of (take at held) = search (rules, common_steps, c.in_ok-asked.ensures) in
-    let left : drop c.compacted-self-inside.result c.compacted-self-inside.new.bytes.items ≡ drop (at + 1) held =
+    let same = held_in bytes c.as_slice.result.now start c.as_slice.ensures.value in
+    let found = subst (EndsAt at) same c.in-Some.ensures in
+    let asks : value_of c.in_ok-asked.asked ≡ asks_of (take at held) = c.in_ok-asked.ensures ∙ ap (λ l. asks_of (take at l)) same in
     let place : start + at + 1 ≡ start + (at + 1) = omega arith in
+    let left : drop c.compacted-self-inside.result c.compacted-self-inside.new.bytes.items ≡ drop (at + 1) held =
     c.compacted-self-inside.ensures.held ∙ ap (λ k. drop k bytes) place ∙ sym (drop-drop (at + 1) start bytes) in
     ap (λ l. requests (l ++ more)) (sym c.self.view_is) ∙ requests-cut held at more found.0 found.1 found.2
     ∙ ap (λ a. a ∷ requests (drop (at + 1) held ++ more)) (sym asks)

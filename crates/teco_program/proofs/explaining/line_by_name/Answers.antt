@@ -1,0 +1,7 @@
+use Rattle.teco_program.proofs.explaining.line_by_name.Goals as goal
+
+pub returns-in-NoInput : goal.returns-in-NoInput
+returns-in-NoInput c = rw c.in-NoInput.is c.line_of_fault.ensures
+
+pub returns-in-NoOutput : goal.returns-in-NoOutput
+returns-in-NoOutput c = rw c.in-NoOutput.is c.line_of_fault-in-NoOutput.ensures
