@@ -1,4 +1,4 @@
-use Rattle.std.proofs.Common.{◌≡◌, ◌∙◌, ◌++◌, ◌+◌, ap, sym, refl, add_comm, drop, take, length, length-append, take-append-drop}
+use Rattle.std.proofs.Common.{◌∙◌, ◌++◌, ◌+◌, ap, sym, refl, add_comm, drop, take, length, length-append, take-append-drop}
 use Rattle.std.proofs.lemmas.List.{drop-drop}
 use Rattle.teco_files.proofs.word_source.WordSourceSource.read.Goals as goal
 
