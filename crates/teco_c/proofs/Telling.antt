@@ -1,0 +1,46 @@
+-- What a call has told of a handle, from what the handle holds.
+use Rattle.std.proofs.Common.{◌≡◌, ◌≤◌, ◌<◌, ℕ, List, Option, Some, None, length, option_map, slice_index_or, ap, sym, ◌∙◌, refl, subst}
+use Rattle.std.specs.List.{slice_get}
+use Rattle.std.proofs.lemmas.Option.{slice_get-get_or, slice_get_past}
+use Rattle.teco_session.specs.History.{NotedString, note_at}
+use Rattle.teco_session.specs.Kept.{history_of}
+use Rattle.teco_c.specs.Handle.{Kept}
+use Rattle.teco_c.specs.Looks.{TellsIf, IsTold, CopiesIf, IsCopied, string_of}
+use Rattle.teco_c.specs.Rooms.{filled}
+use Rattle.teco_c.specs.declared.answers.TheConstants.{CLOSED, OUTSIDE}
+
+-- The handle is closed.
+module _ (held : Option Kept) (closed : held ≡ None) where
+  pub TellsIf-closed : {A : Type 0} (nothing : A) (part : Kept → Option A) → TellsIf nothing held CLOSED nothing part
+  TellsIf-closed nothing part = subst (λ v. TellsIf nothing v CLOSED nothing part) (sym closed) (refl, refl)
+
+  pub CopiesIf-closed : (room : List ℕ) (part : Kept → Option (List ℕ)) → CopiesIf held room room part
+  CopiesIf-closed room part = subst (λ v. CopiesIf v room room part) (sym closed) refl
+
+module _ (held : Option Kept) (kept : Kept) (open_with : held ≡ Some kept) where
+  -- It is open, and what is asked about is not there.
+  pub TellsIf-outside : {A : Type 0} (nothing : A) (part : Kept → Option A) → part kept ≡ None → TellsIf nothing held OUTSIDE nothing part
+  TellsIf-outside nothing part none =
+      subst (λ v. TellsIf nothing v OUTSIDE nothing part) (sym open_with)
+      (subst (λ p. IsTold nothing p OUTSIDE nothing) (sym none) (refl, refl))
+
+  pub CopiesIf-outside : (room : List ℕ) (part : Kept → Option (List ℕ)) → part kept ≡ None → CopiesIf held room room part
+  CopiesIf-outside room part none =
+      subst (λ v. CopiesIf v room room part) (sym open_with) (subst (λ p. IsCopied p room room) (sym none) refl)
+
+  -- It is open, and has it.
+  pub TellsIf-there : {A : Type 0} (nothing : A) (part : Kept → Option A) (x : A) → part kept ≡ Some x → TellsIf nothing held 0 x part
+  TellsIf-there nothing part x some =
+      subst (λ v. TellsIf nothing v 0 x part) (sym open_with)
+      (subst (λ p. IsTold nothing p 0 x) (sym some) (refl, refl))
+
+  pub CopiesIf-there : (room after bytes : List ℕ) (part : Kept → Option (List ℕ)) → part kept ≡ Some bytes → after ≡ filled room bytes → CopiesIf held room after part
+  CopiesIf-there room after bytes part some copied =
+      subst (λ v. CopiesIf v room after part) (sym open_with) (subst (λ p. IsCopied p room after) (sym some) copied)
+
+-- A part of a string that the history has, and of one that it has not.
+pub string_there : {A : Type 0} (kept : Kept) (i count : ℕ) (part : NotedString → A) → count ≡ length (history_of kept).notes → i < count → option_map part (string_of i kept) ≡ Some (part (note_at (history_of kept) i))
+string_there kept i count part is there = ap (option_map part) (slice_get-get_or (history_of kept).notes i _ (subst (λ n. i < n) is there))
+
+pub string_past : {A : Type 0} (kept : Kept) (i count : ℕ) (part : NotedString → A) → count ≡ length (history_of kept).notes → count ≤ i → option_map part (string_of i kept) ≡ None
+string_past kept i count part is past = ap (option_map part) (slice_get_past (history_of kept).notes i (subst (λ n. n ≤ i) is past))
