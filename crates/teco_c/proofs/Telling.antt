@@ -3,8 +3,9 @@ use Rattle.std.proofs.Common.{◌≡◌, ◌≤◌, ◌<◌, ℕ, List, Option, 
 use Rattle.std.specs.List.{slice_get}
 use Rattle.std.proofs.lemmas.Option.{slice_get-get_or, slice_get_past}
 use Rattle.teco_session.specs.History.{NotedString, note_at}
-use Rattle.teco_session.specs.Kept.{history_of}
+use Rattle.teco_session.specs.Kept.{history_of, string_at}
 use Rattle.teco_c.specs.Handle.{Kept}
+use Rattle.teco_c.specs.Changes.{changes_of}
 use Rattle.teco_c.specs.Looks.{TellsIf, IsTold, CopiesIf, IsCopied, string_of}
 use Rattle.teco_c.specs.Rooms.{filled}
 use Rattle.teco_c.specs.declared.answers.TheConstants.{CLOSED, OUTSIDE}
@@ -44,3 +45,10 @@ string_there kept i count part is there = ap (option_map part) (slice_get-get_or
 
 pub string_past : {A : Type 0} (kept : Kept) (i count : ℕ) (part : NotedString → A) → count ≡ length (history_of kept).notes → count ≤ i → option_map part (string_of i kept) ≡ None
 string_past kept i count part is past = ap (option_map part) (slice_get_past (history_of kept).notes i (subst (λ n. n ≤ i) is past))
+
+-- The changes of a string that is kept, and of one that is not.
+pub changes_there : (kept : Kept) (i count : ℕ) → count ≡ length kept.strings → i < count → changes_of i kept ≡ Some (string_at kept i).changes
+changes_there kept i count is there = ap (option_map (λ string. string.changes)) (slice_get-get_or kept.strings i _ (subst (λ n. i < n) is there))
+
+pub changes_past : (kept : Kept) (i count : ℕ) → count ≡ length kept.strings → count ≤ i → changes_of i kept ≡ None
+changes_past kept i count is past = ap (option_map (λ string. string.changes)) (slice_get_past kept.strings i (subst (λ n. n ≤ i) is past))
