@@ -1,10 +1,10 @@
 -- What a call has told of a handle, from what the handle holds.
-use Rattle.std.proofs.Common.{◌≡◌, ◌≤◌, ◌<◌, ℕ, List, Option, Some, None, length, option_map, slice_index_or, ap, sym, ◌∙◌, refl, subst}
-use Rattle.std.specs.List.{slice_get}
+use Rattle.std.proofs.Common.{◌≡◌, ◌≤◌, ◌<◌, ℕ, List, Option, Some, None, length, option_map, ap, sym, refl, subst}
 use Rattle.std.proofs.lemmas.Option.{slice_get-get_or, slice_get_past}
 use Rattle.teco_session.specs.History.{NotedString, note_at}
 use Rattle.teco_session.specs.Kept.{history_of, string_at}
-use Rattle.teco_c.specs.Handle.{Kept}
+use Rattle.teco_c.specs.Calls.{StaysClosed}
+use Rattle.teco_c.specs.Handle.{Kept, SessionGoes}
 use Rattle.teco_c.specs.Changes.{changes_of}
 use Rattle.teco_c.specs.Looks.{TellsIf, IsTold, CopiesIf, IsCopied, string_of}
 use Rattle.teco_c.specs.Rooms.{filled}
@@ -52,3 +52,13 @@ changes_there kept i count is there = ap (option_map (λ string. string.changes)
 
 pub changes_past : (kept : Kept) (i count : ℕ) → count ≡ length kept.strings → count ≤ i → changes_of i kept ≡ None
 changes_past kept i count is past = ap (option_map (λ string. string.changes)) (slice_get_past kept.strings i (subst (λ n. n ≤ i) is past))
+
+-- What a call that runs a session did, where the handle is closed, and where it is open.
+pub SessionGoes-closed : (way : Kept → Kept → Type 0) (held new : Option Kept) → held ≡ None → SessionGoes held new way
+SessionGoes-closed way held new closed = subst (λ v. SessionGoes v new way) (sym closed) tt
+
+pub StaysClosed-closed : (held : Option Kept) → held ≡ None → StaysClosed held CLOSED held
+StaysClosed-closed held closed = subst (λ v. StaysClosed v CLOSED v) (sym closed) (refl, refl)
+
+pub StaysClosed-open : (held new : Option Kept) (old : Kept) (code : ℕ) → held ≡ Some old → StaysClosed held code new
+StaysClosed-open held new old code open_with = subst (λ v. StaysClosed v code new) (sym open_with) tt
