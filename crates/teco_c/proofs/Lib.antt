@@ -5,3 +5,4 @@ mod OpensFlag
 mod Filling
 mod Dropping
 mod OpenCalls
+mod Telling

@@ -37,13 +37,15 @@ pub extern "C" fn teco_changes(t: &mut Teco, i: usize, count: &mut usize) -> u8
         (λ kept. option_map length (changes_of i kept)) }
     ensures same { t.new ≡ t.old }
 {
+    *count = 0;
     let Some(session) = t.look() else {
-        *count = 0;
         return CLOSED;
     };
-    let there = i < session.strings();
-    *count = if there { session.entry(i).len() } else { 0 };
-    if there { 0 } else { OUTSIDE }
+    if session.strings() <= i {
+        return OUTSIDE;
+    }
+    *count = session.entry(i).len();
+    0
 }
 
 /// Writes what change `k` of string `i` is for: the number of its kind, the name of the register or 0, and how many steps of the string

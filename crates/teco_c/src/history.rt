@@ -41,13 +41,15 @@ pub extern "C" fn teco_steps(t: &mut Teco, i: usize, steps: &mut u64) -> u8
         (λ kept. option_map (λ note. note.steps) (string_of i kept)) }
     ensures same { t.new ≡ t.old }
 {
+    *steps = 0;
     let Some(session) = t.look() else {
-        *steps = 0;
         return CLOSED;
     };
-    let there = i < session.strings();
-    *steps = if there { session.steps(i) } else { 0 };
-    if there { 0 } else { OUTSIDE }
+    if session.strings() <= i {
+        return OUTSIDE;
+    }
+    *steps = session.steps(i);
+    0
 }
 
 /// Copies the text of string `i` into the room, as much as there is room for, and writes how long it is. Takes no memory.
@@ -59,16 +61,15 @@ pub extern "C" fn teco_string(t: &mut Teco, i: usize, room: &mut [u8], len: &mut
         (λ kept. option_map (λ note. note.text) (string_of i kept)) }
     ensures same { t.new ≡ t.old }
 {
+    *len = 0;
     let Some(session) = t.look() else {
-        *len = 0;
         return CLOSED;
     };
-    let there = i < session.strings();
-    *len = 0;
-    if there {
-        let text = session.string(i);
-        *len = text.len();
-        copy_front(room, text);
+    if session.strings() <= i {
+        return OUTSIDE;
     }
-    if there { 0 } else { OUTSIDE }
+    let text = session.string(i);
+    *len = text.len();
+    copy_front(room, text);
+    0
 }

@@ -1,5 +1,5 @@
 -- A source over memory gives its pieces.
-use Rattle.std.proofs.Common.{◌≡◌, ◌≤◌, ◌<◌, ◌++◌, ℕ, ◌+◌, ◌-◌, Bool, true, false, List, [], ◌∷◌, length, take, drop, min, nat_le, slice_index, Some, Result, Ok, Err, IfOk, IsErr, OnErr, is_err, length-append, add_comm, refl, ap, sym, subst, ◌∙◌, arith}
+use Rattle.std.proofs.Common.{◌≡◌, ◌≤◌, ◌<◌, ◌++◌, ℕ, ◌+◌, ◌-◌, Bool, true, false, List, [], ◌∷◌, length, take, drop, min, nat_le, slice_index, Some, Result, Ok, Err, IfOk, IsErr, OnErr, is_err, length-append, length-drop, add_comm, refl, ap, sym, subst, ◌∙◌, arith}
 use Rattle.std.specs.List.{concat}
 use Rattle.std.proofs.lemmas.Bool.{le-leb, lt-leb, leb-true, leb-false}
 use Rattle.std.proofs.Math.ListN.{drop_of_length-le}
@@ -154,6 +154,9 @@ no_pieces at (cut ∷ cuts) = no_pieces_cut at cut cuts (λ at. no_pieces at cut
 pub none_left : (at : ℕ) (bytes cuts : List ℕ) → length bytes ≤ at → pieces_at at (drop at bytes) cuts ≡ []
 none_left at bytes cuts past = ap (λ bs. pieces_at at bs cuts) (drop_of_length-le bytes past) ∙ no_pieces at cuts
 
+pub all_given : (at held : ℕ) (bytes cuts : List ℕ) → held ≡ length bytes → held - at ≡ 0 → pieces_at at (drop at bytes) cuts ≡ []
+all_given at held bytes cuts whole none = none_left at bytes cuts (omega (arith, whole, none))
+
 pub some_left : (at : ℕ) (bs cuts : List ℕ) → 0 < length bs → pieces_at at bs cuts ≡ [] → ⊥
 some_left at bs cuts some none = let all = ap length (sym (concat_pieces at bs cuts) ∙ ap concat none) in omega (arith, some, all)
 
@@ -184,6 +187,17 @@ module _ (room at : ℕ) (bs cuts : List ℕ) (k end n : ℕ) (some : 0 < length
 
   pub reads_at : Reads room at bs (drop k cuts) n
   reads_at = reads_on (nat_le (length cuts) k) refl
+
+-- The same of all bytes, where the code counts them once as `held` and once as `len`, and reads the cuts once as `seen` and once as `again`.
+module _ (room at : ℕ) (bytes cuts seen again : List ℕ) (k end n held len : ℕ) (first : seen ≡ cuts) (second : again ≡ cuts) (whole : held ≡ length bytes) (size : len ≡ length bytes) (some : held - at ≡ 0 → ⊥) (past : k < length seen → at < slice_index seen k) (last : length again ≤ k → end ≡ len) (cut : k < length again → end ≡ min (slice_index again k) len) (is : n ≡ min room (end - at)) where
+  pub reads_of : Reads room at (drop at bytes) (drop k cuts) n
+  reads_of =
+      let bs = drop at bytes in
+      let all : len ≡ at + length bs = omega (arith, whole, size, some, length-drop at bytes) in
+      reads_at room at bs cuts k end n (omega (arith, whole, size, some, all))
+      (subst (λ x. length x ≤ k → end ≡ at + length bs) second (λ beyond. last beyond ∙ all))
+      (subst (λ x. k < length x → at < slice_index x k) first past)
+      (subst (λ x. k < length x → end ≡ min (slice_index x k) (at + length bs)) second (λ within. cut within ∙ ap (min (slice_index again k)) all)) is
 
 -- What a read gives, and what is left, are what was to come.
 pub given_off : (room : ℕ) (old new : List (List ℕ)) (bytes : List ℕ) → bytes ≡ given_by room old → new ≡ left_by room old → concat old ≡ bytes ++ concat new

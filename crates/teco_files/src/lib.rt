@@ -2,6 +2,7 @@
 #![tactic(auto)]
 
 mod comparing;
+mod copying;
 mod disk;
 mod draft;
 mod file_disk;

@@ -4,6 +4,7 @@ ghost use Rattle.std.specs.List.{concat};
 ghost use Rattle.teco_terminal.specs.Terminal.{count_after};
 ghost use Rattle.teco_files.specs.Pieces.{given_by, left_by, pieces_at};
 
+use crate::copying::copy_to_front;
 use crate::source::{Source, SourceFault};
 use std::marker::Model;
 
@@ -119,7 +120,7 @@ impl MemorySource {
             self.bytes.len(),
         );
         let n = room.len().min(end - self.at);
-        room[..n].copy_from_slice(&self.bytes[self.at..self.at + n]);
+        copy_to_front(room, &self.bytes, self.at, n);
         self.at += n;
         Ok(n)
     }

@@ -63,9 +63,7 @@ impl<R: Read + Drop> Source for ReaderSource<R> {
         match self.reader.read(&mut piece[..most]) {
             Ok(n) => {
                 self.left -= n as u64;
-                if n == 0 {
-                    self.ended = true;
-                }
+                self.ended |= n == 0;
                 Ok(n)
             }
             Err(_) => {

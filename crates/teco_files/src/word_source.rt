@@ -1,6 +1,7 @@
 //! A source over the commands of a word.
 ghost use Rattle.std.specs.Prelude.{◌≡◌, ◌≤◌, Some, drop, false, length, vec_len};
 
+use crate::copying::copy_to_front;
 use crate::source::{Source, SourceFault};
 
 /// A source that gives the bytes of a word of the command line, as many in a read as there is room for. No read of it fails.
@@ -46,7 +47,7 @@ impl Source for WordSource {
             self.ended = true;
             return Ok(0);
         }
-        piece[..n].copy_from_slice(&self.bytes[self.at..self.at + n]);
+        copy_to_front(piece, &self.bytes, self.at, n);
         self.at += n;
         Ok(n)
     }

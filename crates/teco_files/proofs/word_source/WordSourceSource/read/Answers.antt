@@ -1,6 +1,5 @@
-use Rattle.std.proofs.Common.{◌≡◌, ◌∙◌, ◌++◌, ◌+◌, ap, sym, refl, arith, drop, take, length, length-append, take-append-drop}
-use Rattle.std.proofs.lemmas.Grind.{common_steps}
-use Rattle.std.proofs.lemmas.List.{drop-drop, take_at}
+use Rattle.std.proofs.Common.{◌∙◌, ◌++◌, ◌+◌, ap, sym, refl, add_comm, drop, take, length, length-append, take-append-drop}
+use Rattle.std.proofs.lemmas.List.{drop-drop}
 use Rattle.teco_files.proofs.word_source.WordSourceSource.read.Goals as goal
 
 pub returns-clause-ok : goal.returns-clause-ok
@@ -9,7 +8,6 @@ returns-clause-ok c =
     let n = c.min-n.result in
     let bs = drop s.at s.bytes.items in
     let rest = drop n bs in
-    let copied : c.copy_from_slice.new.self ≡ take n bs = grind (arith, common_steps) in
-    let given = take_at c.copy_from_slice.new.self (drop n c.args.piece.now) n (grind (arith, common_steps)) ∙ copied in
-    let off = sym (take-append-drop n bs) ∙ ap (λ l. l ++ rest) (sym given) ∙ ap (λ l. take n (c.copy_from_slice.new.self ++ drop n c.args.piece.now) ++ l) (drop-drop n s.at s.bytes.items) in
-    record { given = off; less = omega (arith, ap length off, length-append (take n (c.copy_from_slice.new.self ++ drop n c.args.piece.now)) (drop (s.at + n) s.bytes.items)); count = refl }
+    let given = c.copy_to_front.ensures.front ∙ ap (λ x. take n (drop s.at x)) c.deref.ensures.value in
+    let off = sym (take-append-drop n bs) ∙ ap (λ l. l ++ rest) (sym given) ∙ ap (λ l. take n c.copy_to_front.new.room ++ l) (drop-drop n s.at s.bytes.items) in
+    record { given = off; less = sym (ap length off ∙ length-append (take n c.copy_to_front.new.room) (drop (s.at + n) s.bytes.items) ∙ add_comm (length (take n c.copy_to_front.new.room)) (length (drop (s.at + n) s.bytes.items))); count = refl }
