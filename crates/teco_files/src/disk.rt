@@ -3,7 +3,7 @@ ghost use Rattle.std.specs.IoError.{error_kind};
 ghost use Rattle.std.specs.Prelude.{◌≡◌, ◌≢◌, ◌⊎◌, ◌++◌, ℕ, List, Option, IfErr, OnErr, OnOk};
 ghost use Rattle.std.specs.declared.io.Error.{Error};
 ghost use Rattle.std.specs.declared.io.ErrorKind.{ErrorKind};
-ghost use Rattle.std.specs.Prelude.{[], None, Some, IfOk, true, false};
+ghost use Rattle.std.specs.Prelude.{[], None, Some, IfOk, IsSome, true, false};
 ghost use Rattle.teco_files.specs.Disk.{Appends, Changes, Counts, Creates, Files, IsTargetOf, Opens, Passes, Removes, Renames, Same, SameBut};
 
 use crate::source::Source;
@@ -148,5 +148,6 @@ pub trait Disk {
 
     /// What the last call failed by, of those whose failures are counted. None has failed if there is nothing.
     fn why(&self) -> Option<ErrorKind>
-        ensures { (kind : ErrorKind) → result ≡ Some kind → (error : Error) × gave self.now error × (error_kind error ≡ kind) };
+        ensures given { (kind : ErrorKind) → result ≡ Some kind → (error : Error) × gave self.now error × (error_kind error ≡ kind) }
+        ensures told { (error : Error) → gave self.now error → IsSome result };
 }
