@@ -44,3 +44,12 @@ returns-in-File-clause-ok g c =
 
 pub returns-in-File-clause-streams : goal.returns-in-File-clause-streams
 returns-in-File-clause-streams g c other apart = ap (λ (streams : Files). streams other) (c.replace_file.ensures.streams ∙ c.target_of.ensures.streams)
+
+pub returns-in_err-target_of-clause-err : goal.returns-in_err-target_of-clause-err
+returns-in_err-target_of-clause-err g c = on_err_by c.from_residual.result (adds_same c.args.name.now c.target_of.ensures.files)
+
+pub returns-in_err-target_of-clause-moments : goal.returns-in_err-target_of-clause-moments
+returns-in_err-target_of-clause-moments g c before told files left = inl (c.target_of.ensures.moments files left)
+
+pub returns-in_err-target_of-clause-streams : goal.returns-in_err-target_of-clause-streams
+returns-in_err-target_of-clause-streams g c other apart = ap (λ (streams : Files). streams other) c.target_of.ensures.streams
