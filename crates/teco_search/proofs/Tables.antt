@@ -1,10 +1,10 @@
 -- Tables of bytes, and the sets that are made of them.
-use Rattle.std.proofs.Common.{replicate, ◌≡◌, ℕ, ◌+◌, ◌<◌, ◌≤◌, Bool, true, false, eqb, List, length, get_or, Fits, w8, ◌++◌, ◌-◌, Some, None, Option, refl, sym, ap, subst, ◌∙◌, arith, ⊎_elim}
-use Rattle.memchr.specs.Find.{Nowhere}
+use Rattle.std.proofs.Common.{replicate, ◌≡◌, ℕ, ◌+◌, ◌<◌, ◌≤◌, Bool, true, false, eqb, List, length, take, drop, length-drop, get_or, Fits, w8, ◌++◌, ◌-◌, Some, None, Option, refl, sym, ap, subst, ◌∙◌, arith, ⊎_elim}
+use Rattle.memchr.specs.Find.{Nowhere, Passes}
 use Rattle.std.specs.Option.{option_map_or, unwrap_or}
 use Rattle.std.specs.Prelude.{slice_get, ◌||◌}
 use Rattle.std.proofs.lemmas.Bool.{cases_eq, cases_lt, eq-eqb, ne_eqb}
-use Rattle.std.proofs.lemmas.List.{get_or-replicate, get_or_append_left, get_or-append_right}
+use Rattle.std.proofs.lemmas.List.{get_or-drop, get_or-replicate, get_or-take, get_or_append_left, get_or-append_right, length-take-le}
 use Rattle.std.proofs.lemmas.Option.{slice_get-get_or, get_or_from_slice_get, unwrap_or-slice_get}
 use Rattle.std.proofs.Math.Bool.{or-false}
 use Rattle.teco_search.specs.declared.byte_set.ByteSet.{ByteSet}
@@ -47,14 +47,6 @@ tells (Some x) = refl
 in_table-get_or : (table : List Bool) (b : ℕ) → in_table table b ≡ get_or table b false
 in_table-get_or table b = tells (slice_get table b) ∙ unwrap_or-slice_get table b false
 
--- Whether a table has the byte at a place of a slice, by what was read there.
-pub in_table-read : (table : List Bool) (bytes : List ℕ) (at byte : ℕ) (is : Bool) → byte ≡ get_or bytes at 0 → get_or table byte false ≡ is → in_table table (get_or bytes at 0) ≡ is
-in_table-read table bytes at byte is same entry = subst (λ b. in_table table b ≡ is) same (in_table-get_or table byte ∙ entry)
-
--- No byte of a slice passes from a place on, where none does after it and its own does not.
-pub nowhere_from : (P : ℕ → Type 0) (at next to : ℕ) → next ≡ at + 1 → (P at → ⊥) → Nowhere P next to → Nowhere P at to
-nowhere_from P at next to behind not_here later k low high is = ⊎_elim (λ same. not_here (subst P same is)) (λ other. later k (omega arith) high is) (cases_eq k at)
-
 -- A table that has no byte.
 pub in_table-none : (b : ℕ) → b < 256 → in_table (replicate 256 false) b ≡ false
 in_table-none b below = in_table-get_or (replicate 256 false) b ∙ get_or-replicate 256 b false false below
@@ -75,3 +67,10 @@ AreBytes-append xs ys first second = record {
       (λ late. omega (arith, second (k - length xs), get_or-append_right xs ys (length xs) k 0 refl late, byte))
       (cases_lt k (length xs));
 }
+
+-- If no byte of a part passes, none does between the part's places in the whole.
+pub nowhere_in_part : (test : ℕ → Bool) (bytes : List ℕ) (from to : ℕ) → from ≤ to → to ≤ length bytes → Nowhere (Passes test (take (to - from) (drop from bytes))) 0 (length (take (to - from) (drop from bytes))) → Nowhere (Passes test bytes) from to
+nowhere_in_part test bytes from to ordered within none k low high is =
+    let fits : to - from ≤ length (drop from bytes) = omega (arith, length-drop from bytes) in
+    let read : get_or (take (to - from) (drop from bytes)) (k - from) 0 ≡ get_or bytes k 0 = get_or-take (to - from) (drop from bytes) (k - from) 0 (omega arith) ∙ get_or-drop from bytes (k - from) 0 ∙ ap (λ i. get_or bytes i 0) (omega arith) in
+    none (k - from) (omega arith) (omega (arith, length-take-le (to - from) (drop from bytes) fits)) (subst (λ b. test b ≡ true) (sym read) is)

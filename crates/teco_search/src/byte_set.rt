@@ -2,9 +2,9 @@
 ghost use Rattle.std.specs.Prelude.{◌≡◌, ◌<◌, ◌||◌, ◌==◌, ℕ, Some, IfSome, slice_get};
 ghost use Rattle.memchr.specs.Find.{IsFirstByte, IsLastByte};
 ghost use Rattle.teco_search.specs.ByteSet.{contains, in_table};
-ghost use Rattle.teco_search.specs.Element.{is_in};
 
 use crate::element::Class;
+use crate::passing::{first_passing, last_passing};
 use memchr::{memchr, memchr2, memchr3, memrchr, memrchr2, memrchr3};
 
 /// A set of bytes, kept as a scan for it is fastest.
@@ -18,58 +18,6 @@ pub(crate) enum ByteSet {
     Kind(Class),
     /// Whether each byte is in the set.
     Table([bool; 256]),
-}
-
-/// The first place of a slice whose byte a table has.
-fn first_in_table(table: &[bool; 256], bytes: &[u8]) -> Option<usize>
-    ensures { IsFirstByte (in_table table.now) bytes.now result }
-{
-    'places: for (place, byte) in bytes.iter().enumerate() {
-        if table[usize::from(*byte)] {
-            return Some(place);
-        }
-    }
-    None
-}
-
-/// The last place of a slice whose byte a table has.
-fn last_in_table(table: &[bool; 256], bytes: &[u8]) -> Option<usize>
-    ensures { IsLastByte (in_table table.now) bytes.now result }
-{
-    let mut place = bytes.len();
-    'places: while place > 0 {
-        place -= 1;
-        if table[usize::from(bytes[place])] {
-            return Some(place);
-        }
-    }
-    None
-}
-
-/// The first place of a slice whose byte is of a kind.
-fn first_of_kind(class: Class, bytes: &[u8]) -> Option<usize>
-    ensures { IsFirstByte (is_in class) bytes.now result }
-{
-    'places: for (place, byte) in bytes.iter().enumerate() {
-        if class.contains(*byte) {
-            return Some(place);
-        }
-    }
-    None
-}
-
-/// The last place of a slice whose byte is of a kind.
-fn last_of_kind(class: Class, bytes: &[u8]) -> Option<usize>
-    ensures { IsLastByte (is_in class) bytes.now result }
-{
-    let mut place = bytes.len();
-    'places: while place > 0 {
-        place -= 1;
-        if class.contains(bytes[place]) {
-            return Some(place);
-        }
-    }
-    None
 }
 
 impl ByteSet {
@@ -125,8 +73,8 @@ impl ByteSet {
             ByteSet::One(a) => memchr(*a, bytes),
             ByteSet::Two(a, b) => memchr2(*a, *b, bytes),
             ByteSet::Three(a, b, c) => memchr3(*a, *b, *c, bytes),
-            ByteSet::Kind(class) => first_of_kind(*class, bytes),
-            ByteSet::Table(table) => first_in_table(table, bytes),
+            ByteSet::Kind(class) => first_passing(class, bytes),
+            ByteSet::Table(table) => first_passing(table, bytes),
         }
     }
 
@@ -139,8 +87,8 @@ impl ByteSet {
             ByteSet::One(a) => memrchr(*a, bytes),
             ByteSet::Two(a, b) => memrchr2(*a, *b, bytes),
             ByteSet::Three(a, b, c) => memrchr3(*a, *b, *c, bytes),
-            ByteSet::Kind(class) => last_of_kind(*class, bytes),
-            ByteSet::Table(table) => last_in_table(table, bytes),
+            ByteSet::Kind(class) => last_passing(class, bytes),
+            ByteSet::Table(table) => last_passing(table, bytes),
         }
     }
 

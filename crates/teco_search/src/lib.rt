@@ -10,6 +10,7 @@ mod joined;
 mod law;
 mod literal;
 mod matching;
+mod passing;
 mod pattern;
 mod places;
 mod reading;

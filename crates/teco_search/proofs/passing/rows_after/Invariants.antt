@@ -1,0 +1,12 @@
+use Rattle.std.proofs.Common.{◌≤◌, length}
+use Rattle.memchr.specs.Find.{Nowhere, Passes}
+use Rattle.teco_search.proofs.passing.rows_after.Given as goal
+
+abbrev pub invariant-rows : goal.invariant-rows
+invariant-rows g l = record {
+  within : l.to ≤ length l.bytes;
+  none : Nowhere (Passes (g.T.Test.admits l.test) l.bytes) l.to (length l.bytes);
+}
+
+abbrev pub decreases-rows : goal.decreases-rows
+decreases-rows g l = l.to
