@@ -1,3 +1,4 @@
+pub mod Nearest
 pub mod Places
 pub mod IsSpelled
 pub mod SpelledReads

@@ -1,5 +1,6 @@
 //! Reading what follows a command's name.
-ghost use Rattle.std.specs.Prelude.{◌≡◌, ◌+◌, ◌<◌, ◌≤◌, ℕ, length, drop, IfOk};
+ghost use Rattle.std.specs.Prelude.{◌≡◌, ◌+◌, ◌-◌, ◌<◌, ◌≤◌, ℕ, length, take, drop, IfOk};
+ghost use Rattle.memchr.specs.Find.{IsFirstByte, is_byte};
 ghost use Rattle.teco_scan.specs.Scan.{test_of, byte_at, register_at, test_at, delimiter_at, text_at, operand_at};
 ghost use Rattle.teco_scan.specs.Seen.{Gives, IsSpanIn, IsKindIn, IsKindPlaced, bytes_in, instruction_in};
 
@@ -86,6 +87,54 @@ fn delimiter_at(
     }
 }
 
+/// How many bytes are looked at one by one: most names of tags end within these.
+const NEAR: usize = 8;
+
+/// The first place of a byte. The nearest are looked at before a scan is set up.
+#[inline]
+fn first_place(byte: u8, bytes: &[u8]) -> Option<usize>
+    ensures { IsFirstByte (is_byte byte) bytes.now result }
+{
+    let near = bytes.len().min(NEAR);
+    'near: for place in 0..near {
+        if bytes[place] == byte {
+            return Some(place);
+        }
+    }
+    match memchr(byte, &bytes[near..]) {
+        None => None,
+        Some(n) => Some(near + n),
+    }
+}
+
+/// The bytes before the delimiter that is here, and the place after it.
+#[inline]
+fn text_to(
+    delimiter: u8,
+    text: &[u8],
+    at: usize,
+    place: Option<usize>,
+) -> Result<(Span, usize), Code>
+    requires within { at ≤ length text.now }
+    requires first { IsFirstByte (is_byte delimiter) (take (length text.now - at) (drop at text.now)) place }
+    ensures read { Gives (λ x. (bytes_in text.now x.0, drop x.1 text.now)) result
+        (text_at delimiter (drop at text.now)) }
+    ensures within { IfOk result (λ x. (at ≤ x.1) × (x.1 ≤ length text.now)) }
+    ensures spans { IfOk result (λ x. IsSpanIn (length text.now) x.0) }
+    ensures placed { IfOk result (λ x. (x.0.from ≡ at) × (x.0.to + 1 ≡ x.1)) }
+{
+    match place {
+        None => Err(Code::Utc),
+        Some(n) => Ok((
+            Span {
+                from: at,
+                to: at + n,
+            },
+            at + n + 1,
+        )),
+    }
+}
+
 /// The bytes before the next delimiter, and the place after it.
 #[inline]
 pub(crate) fn text_at(delimiter: u8, text: &[u8], at: usize) -> Result<(Span, usize), Code>
@@ -96,16 +145,20 @@ pub(crate) fn text_at(delimiter: u8, text: &[u8], at: usize) -> Result<(Span, us
     ensures spans { IfOk result (λ x. IsSpanIn (length text.now) x.0) }
     ensures placed { IfOk result (λ x. (x.0.from ≡ at) × (x.0.to + 1 ≡ x.1)) }
 {
-    match memchr(delimiter, &text[at..]) {
-        None => Err(Code::Utc),
-        Some(n) => Ok((
-            Span {
-                from: at,
-                to: at + n,
-            },
-            at + n + 1,
-        )),
-    }
+    text_to(delimiter, text, at, memchr(delimiter, &text[at..]))
+}
+
+/// The name of a tag, which is short, and the place after it.
+#[inline]
+pub(crate) fn tag_name_at(text: &[u8], at: usize) -> Result<(Span, usize), Code>
+    requires { at ≤ length text.now }
+    ensures read { Gives (λ x. (bytes_in text.now x.0, drop x.1 text.now)) result
+        (text_at 33 (drop at text.now)) }
+    ensures within { IfOk result (λ x. (at ≤ x.1) × (x.1 ≤ length text.now)) }
+    ensures spans { IfOk result (λ x. IsSpanIn (length text.now) x.0) }
+    ensures placed { IfOk result (λ x. (x.0.from ≡ at) × (x.0.to + 1 ≡ x.1)) }
+{
+    text_to(b'!', text, at, first_place(b'!', &text[at..]))
 }
 
 /// The text of a command.
@@ -194,7 +247,7 @@ pub(crate) fn operand_at(
         }
         Form::Text(command, usual) => one_text_at(command, usual, modifiers, text, at),
         Form::Tag => {
-            let (name, at) = text_at(b'!', text, at)?;
+            let (name, at) = tag_name_at(text, at)?;
             Ok((TokenKind::Tag(name), at))
         }
         Form::SetText => set_text_at(modifiers, text, at),
