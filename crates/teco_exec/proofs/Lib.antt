@@ -10,6 +10,7 @@ pub mod StringLaws
 pub mod Rows
 pub mod Going
 pub mod Stepped
+pub mod PassedTags
 pub mod Continuations
 pub mod NoMemory
 pub mod Standings

@@ -1,11 +1,12 @@
 -- One step of a text: what is seen of it before and after.
-use Rattle.std.specs.Prelude.{◌≡◌, ◌<◌, ◌⊎◌, Some, length}
+use Rattle.std.specs.Prelude.{◌≡◌, ◌<◌, ◌≤◌, ◌⊎◌, List, Some, length}
 use Rattle.teco_core.specs.declared.code.Code.TheVariants.{Lim}
 use Rattle.teco_store.specs.declared.desk.Desk.{Ghosts as DeskView}
 use Rattle.teco_terminal.specs.declared.terminal.Terminal.{Ghosts as TerminalView}
+use Rattle.teco_exec.specs.Machine.{Caller, Now}
 use Rattle.teco_exec.specs.Places.{IsReadAt, call_token}
 use Rattle.teco_exec.specs.Quiet.{IsQuiet}
-use Rattle.teco_exec.specs.Running.{GoesOn, GoesQuietly, HasStood, OnCall, OnLast, RunLeads, at_cursor, reached_by_flow}
+use Rattle.teco_exec.specs.Running.{Alike, GoesOn, GoesQuietly, HasStood, OnCall, OnLast, RunLeads, at_cursor, reached_by_flow}
 use Rattle.teco_exec.specs.Runs.{Answers}
 use Rattle.teco_exec.specs.Tokens.{CountsSteps}
 use Rattle.teco_exec.specs.View.{cursor}
@@ -28,3 +29,10 @@ pub record StepsText {D T : Type 0} (desk : DeskView D) (terminal : TerminalView
   pub around : OnLast f new.2.done (λ k. (cursor to).blocks ≡ (cursor from).blocks)
   pub stood : OnLast f new.2.done (HasStood desk terminal old from)
   pub calls : OnCall f (λ q. IsReadAt from.text.now from.at (Some (call_token q)) (cursor to).left)
+
+-- What uses no step was passed from one cursor to another, or nothing was: the text goes on there as it did here.
+pub record GoesOnAlike (from to : Cursor) : Type 0 where
+  pub text : to.text ≡ from.text
+  pub left : length (cursor to).left ≤ length (cursor from).left
+  pub alike : (callers : List Caller) (now : Now) → Alike (at_cursor from callers now) (at_cursor to callers now)
+  pub quiet : IsQuiet (cursor from) → IsQuiet (cursor to)

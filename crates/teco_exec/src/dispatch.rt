@@ -18,7 +18,8 @@ use teco_scan::{
 use teco_store::Desk;
 use teco_terminal::Terminal;
 
-/// Passes what comes at the cursor, where it uses no step, or else does its steps. What uses no step is passed one token at a time.
+/// Passes what comes at the cursor, where it uses no step, or else does its steps. What uses no step is passed one token at a time, but
+/// tags that come one after the other at once.
 ///
 /// Where the limit of steps is reached, the run is over. A step that ends for want of memory, or because the terminal fails, isn't
 /// counted.
@@ -51,7 +52,7 @@ pub(crate) fn step<D: Desk, S: Stop, T: Terminal, W: Watch>(
         b'I' => step_led::<D, S, T, W, b'I'>(desk, cursor, from, steps, stop, term),
         b'>' => step_led::<D, S, T, W, b'>'>(desk, cursor, from, steps, stop, term),
         b'"' => step_led::<D, S, T, W, b'"'>(desk, cursor, from, steps, stop, term),
-        b'!' => step_led::<D, S, T, W, b'!'>(desk, cursor, from, steps, stop, term),
+        b'!' => step_tags::<D, S, T, W>(desk, cursor, from, steps, stop, term),
         b'L' => step_led::<D, S, T, W, b'L'>(desk, cursor, from, steps, stop, term),
         b'R' => step_led::<D, S, T, W, b'R'>(desk, cursor, from, steps, stop, term),
         b'C' => step_led::<D, S, T, W, b'C'>(desk, cursor, from, steps, stop, term),
@@ -127,6 +128,28 @@ fn step_led<D: Desk, S: Stop, T: Terminal, W: Watch, const BYTE: u8>(
         return step_known(desk, cursor, known, steps, stop, term);
     }
     step_any(desk, cursor, steps, stop, term)
+}
+
+/// Passes a tag that begins at a place, and the tags that come after it.
+fn step_tags<D: Desk, S: Stop, T: Terminal, W: Watch>(
+    desk: &mut D,
+    cursor: &mut Cursor,
+    from: usize,
+    steps: &mut Steps,
+    stop: &mut S,
+    term: &mut T,
+) -> Flow
+    requires { Begins cursor.old.text.now cursor.old.at from }
+    ensures { StepsText D.Desk T.Terminal (S.answered stop.old) (S.answered stop.new)
+        (desk.old, term.old, steps.old) (desk.new, term.new, steps.new) cursor.old cursor.new result }
+{
+    match step_led::<D, S, T, W, b'!'>(desk, cursor, from, steps, stop, term) {
+        Flow::On => {
+            cursor.pass_tags();
+            Flow::On
+        }
+        flow => flow,
+    }
 }
 
 /// Does the step of a run of digits that begins at a place.

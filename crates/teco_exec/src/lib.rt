@@ -16,6 +16,7 @@ mod remembered;
 mod running;
 mod stepping;
 mod stop;
+mod tags;
 mod texts;
 mod watch;
 
