@@ -1,5 +1,5 @@
 //! Where a listing breaks its lines.
-ghost use Rattle.std.specs.Prelude.{◌≡◌, ◌<◌, ◌≤◌, length, IfSome};
+ghost use Rattle.std.specs.Prelude.{◌≡◌, ◌<◌, ◌≤◌, length, IfSome, IsTrue};
 
 use teco_core::ESC;
 use teco_scan::{
@@ -46,10 +46,16 @@ pub fn part_of(kind: TokenKind, has_number: bool) -> Part {
     }
 }
 
+fn is_at(text: &[u8], at: usize, byte: u8) -> bool
+    ensures { IsTrue result → at < length text.now }
+{
+    text.get(at) == Some(&byte)
+}
+
 /// Whether a line may be broken at a place: not beside a blank, which would need a mark of its own, nor before an ESC.
 fn may_break(text: &[u8], at: usize) -> bool {
-    let before = at > 0 && text.get(at - 1) == Some(&b' ');
-    !before && !matches!(text.get(at), Some(&(b' ' | ESC)))
+    let before = at > 0 && is_at(text, at - 1, b' ');
+    !before && !is_at(text, at, b' ') && !is_at(text, at, ESC)
 }
 
 /// Where a line may end from a place on: after a line end that is there, or at the place.
@@ -57,7 +63,7 @@ fn break_at(text: &[u8], at: usize) -> Option<usize>
     requires { at ≤ length text.now }
     ensures { IfSome result (λ to. (at ≤ to) × (to ≤ length text.now)) }
 {
-    if text.get(at) == Some(&b'\n') {
+    if is_at(text, at, b'\n') {
         return Some(at + 1);
     }
     if may_break(text, at) { Some(at) } else { None }
@@ -154,7 +160,7 @@ impl Layout {
             Part::Opens(kind) => {
                 let limit = text.len().min(at.saturating_add(self.width));
                 if let Some(end) = short_block(text, to, kind, limit) {
-                    return (end, text.get(end) == Some(&b'\n'));
+                    return (end, is_at(text, end, b'\n'));
                 }
                 self.depth = self.depth.saturating_add(1);
                 (to, true)
@@ -164,7 +170,7 @@ impl Layout {
                 self.depth = self.depth.saturating_sub(1);
                 (to, true)
             }
-            Part::Command => (to, to - at > self.width || text.get(to) == Some(&b'\n')),
+            Part::Command => (to, to - at > self.width || is_at(text, to, b'\n')),
             Part::Value => (to, false),
         }
     }

@@ -14,5 +14,5 @@ pub use laws::source_laws;
 pub use lines::listing;
 pub use placing::beginnings;
 pub use reader::{SourceFault, commands};
-pub use words::{Words, words_of};
+pub use words::words_of;
 pub use writer::{Note, push_line};

@@ -8,13 +8,11 @@ use teco_scan::{Found, Token, TokenKind, token_at};
 
 /// Puts the words of a token at the end of a note.
 fn push_token(out: &mut Vec<u8>, token: &Token, has_number: bool) -> Result<(), NoMemory> {
-    let words = words_of(token.kind, token.modifiers.colons, has_number);
     if !out.is_empty() {
         out.extend_from_slice(b". ")?;
     }
-    out.extend_from_slice(words.written.as_bytes())?;
-    out.extend_from_slice(b"  ")?;
-    out.extend_from_slice(words.does.as_bytes())
+    let words = words_of(token.kind, token.modifiers.colons, has_number);
+    out.extend_from_slice(words.as_bytes())
 }
 
 /// What the commands do that begin from one place up to another. What gives a number to a command is not

@@ -27,9 +27,7 @@ fn is_guarded(mode: Mode, byte: u8) -> bool
 fn push_marked(out: &mut Vec<u8>, second: u8) -> Result<(), NoMemory>
     ensures { OnOk result (out.new.items ≡ out.old.items ++ 94 ∷ second ∷ []) }
 {
-    out.push(b'^')?;
-    out.push(second)?;
-    Ok(())
+    out.extend_from_slice(&[b'^', second])
 }
 
 /// Writes a byte, where a reader is in this mode.
@@ -37,10 +35,7 @@ fn spell_byte(out: &mut Vec<u8>, mode: Mode, byte: u8) -> Result<(), NoMemory>
     ensures { OnOk result (out.new.items ≡ out.old.items ++ spelling mode byte) }
 {
     match byte {
-        27 => {
-            out.push(b'$')?;
-            return Ok(());
-        }
+        27 => return out.extend_from_slice(b"$"),
         0..32 => return push_marked(out, byte + 64),
         b'$' => return push_marked(out, b'$'),
         b'^' => return push_marked(out, b'~'),
@@ -138,8 +133,7 @@ fn write_line(
     push_margin(out, mode, margin)?;
     spell(out, mode, bytes)?;
     push_note(out, note)?;
-    out.push(b'\n')?;
-    Ok(())
+    out.extend_from_slice(b"\n")
 }
 
 /// Writes a line that says some bytes more of a text.

@@ -1,4 +1,5 @@
 use Rattle.std.proofs.Common.{rules, FitsSigned, w32, arith}
+use Rattle.std.proofs.lemmas.Grind.{common_steps}
 use Rattle.std.proofs.lemmas.Int.{to_z-of_z}
 use Rattle.teco_core.specs.Register.{numbered}
 use Rattle.teco_core.proofs.Contents.{map-changed}
@@ -10,3 +11,6 @@ returns-clause-put c =
     let fits : FitsSigned w32 c.args.number = search rules in
     rw (← c.self.view_is, ← c.index.ensures.value)
     (map-changed held c.index.result c.index-self-index.result _ (numbered c.args.number) (omega arith) (rw (to_z-of_z w32 c.args.number fits)))
+
+pub invariant_of-self : goal.invariant_of-self
+invariant_of-self c = grind (arith, common_steps)

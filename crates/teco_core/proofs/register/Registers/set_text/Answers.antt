@@ -1,4 +1,5 @@
 use Rattle.std.proofs.Common.{arith, refl}
+use Rattle.std.proofs.lemmas.Grind.{common_steps}
 use Rattle.teco_core.specs.Register.{texted}
 use Rattle.teco_core.proofs.Contents.{map-changed}
 use Rattle.teco_core.proofs.register.Registers.set_text.Goals as goal
@@ -8,3 +9,6 @@ returns-clause-put c =
     let held = c.self.inside.values in
     rw (← c.self.view_is, ← c.index.ensures.value)
     (map-changed held c.index.result c.index-self-index.result _ (texted c.args.text.items) (omega arith) refl)
+
+pub invariant_of-self : goal.invariant_of-self
+invariant_of-self c = grind (arith, common_steps)
