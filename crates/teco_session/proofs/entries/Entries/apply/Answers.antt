@@ -7,6 +7,10 @@ use Rattle.teco_session.specs.Entries.{strings_of}
 use Rattle.teco_session.proofs.Places.{string_read, string_set}
 use Rattle.teco_session.proofs.entries.Entries.apply.Goals as goal
 
+pub returns-in-All-clause-editor : goal.returns-in-All-clause-editor
+returns-in-All-clause-editor c =
+    c.apply.ensures.editor ∙ ap (λ (x : KeptString). with_body c.args.editor.now (body_forth x.changes c.args.editor.now.body)) (sym (string_read _ c.in-All.all.items _ c.args.i (ap strings_of c.in-All.is) c.requires.within c.index_mut.ensures.value))
+
 pub returns-in-All-clause-strings : goal.returns-in-All-clause-strings
 returns-in-All-clause-strings c =
     string_set (λ x. string_forth x c.args.editor.now.body) _ c.in-All.all.items _ _ c.args.i (ap strings_of c.in-All.is) c.requires.within c.index_mut.ensures.value c.apply.ensures.entry

@@ -157,6 +157,12 @@ returns-then-keeps_none-clause-step g c =
       so = (ran.0, (new, going, run, (went_now g c).history ∙ ap (λ (s : KeptSession). noted (history_of s) note) c.self.view_is), ran.2);
     }
 
+pub returns-then-keeps_none-clause-exit : goal.returns-then-keeps_none-clause-exit
+returns-then-keeps_none-clause-exit g c = λ going over.
+    let done = λ (s : State). s.is_done in
+    let last = present_is (session_with c.run_unnoted-outcome.new.editor (strings_of c.self.inside.entries) c.self.inside.cursor (depth_of c.self.inside.entries)) (went_now g c).holds.within in
+    c.run_unnoted-outcome.ensures.exit (ap done (lent_now g c) ∙ going) (sym (ap done last) ∙ over)
+
 pub returns-then-keeps_none-clause-tells : goal.returns-then-keeps_none-clause-tells
 returns-then-keeps_none-clause-tells g c =
     subst (λ (s : State). g.R.Runner.tells c.run_unnoted-outcome.new.runner s c.args.text.now c.run_unnoted-outcome.result) (lent_now g c) c.run_unnoted-outcome.ensures.tells
