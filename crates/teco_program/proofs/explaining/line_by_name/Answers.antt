@@ -5,3 +5,9 @@ returns-in-NoInput c = rw c.in-NoInput.is c.line_of_fault.ensures
 
 pub returns-in-NoOutput : goal.returns-in-NoOutput
 returns-in-NoOutput c = rw c.in-NoOutput.is c.line_of_fault-in-NoOutput.ensures
+
+pub returns-in-Unchanged : goal.returns-in-Unchanged
+returns-in-Unchanged c = rw c.in-Unchanged.is c.line_about.ensures
+
+pub returns-in-NoCommands : goal.returns-in-NoCommands
+returns-in-NoCommands c = rw c.in-NoCommands.is c.new.ensures.bytes
