@@ -1,6 +1,7 @@
 -- The rules that the parser has for the rows of the table of options.
 use Rattle.std.specs.Prelude.{ℕ, List, [], ◌∷◌, codes, Option, Some, None}
 use Rattle.clap.specs.Words.{App, Rule, new_rule, with_rule}
+use Rattle.clap.specs.declared.builder.action.ArgAction.{ArgAction}
 use Rattle.clap.specs.declared.builder.action.ArgAction.TheVariants.{Append, Set, SetTrue}
 use Rattle.clap.specs.declared.builder.value_parser.ValueParser.TheVariants as parser
 use Rattle.teco_core.specs.declared.limits.TheConstants.{DEPTH_LIMIT}
@@ -30,6 +31,14 @@ with_number name short least most defaults = record (with_text name short) {
   parser = Some (parser.Unsigned least most);
   defaults = defaults;
 }
+
+-- what the parser does where an option is given that takes this: it sets a flag, keeps each text, or keeps the last one
+abbrev pub action_of : Takes → ArgAction
+action_of Nothing = SetTrue
+action_of Text = Set
+action_of Texts = Append
+action_of (Number least most) = Set
+action_of (NumberOr least most default) = Set
 
 -- the rule of a row
 abbrev pub rule_taking : Takes → List ℕ → Option ℕ → Rule

@@ -6,8 +6,10 @@ use Rattle.std.specs.List.{slice_index_or}
 use Rattle.std.specs.String.{string_bytes}
 use Rattle.teco_files.specs.Disk.{Files}
 use Rattle.teco_line.specs.StreamNames.{is_standard_input}
-use Rattle.teco_program.specs.Seen.{SourceView}
-use Rattle.teco_program.specs.Sources.{AreCommandsIn, IsFaultOf, IsFaultyFile, IsUnread, IsWholeOf, LacksCommands, LacksFiles}
+use Rattle.teco_program.proofs.Doings.{lacks_after}
+use Rattle.teco_program.specs.Run.{KeepsDisk}
+use Rattle.teco_program.specs.Seen.{DiskSeen, SourceView}
+use Rattle.teco_program.specs.Sources.{AreCommandsIn, FailsToGive, IsFaultOf, IsFaultyFile, IsUnread, IsUnreadFile, IsWholeOf, LacksCommands, LacksFiles}
 use Rattle.teco_line.specs.declared.line.Commands.TheVariants.{Sources}
 use Rattle.teco_program.specs.declared.sources.CommandsFault.{CommandsFault}
 use Rattle.teco_program.specs.declared.sources.CommandsFault.TheVariants as fault
@@ -89,18 +91,18 @@ pub same_files : {S : Type 0} (source : SourceView S) {files given : Option File
     → IsWholeOf b source given name old new bytes → IsWholeOf b source files name old new bytes
 same_files source b name old new bytes same h = subst (λ f. IsWholeOf b source f name old new bytes) same h
 
--- A file of sources that can't be read.
-pub faulty_file : {S : Type 0} (source : SourceView S) (files : Option Files) (names : List (String Global)) (name : String Global) (at : ℕ) (old mid new : S) (front text : List ℕ)
-    → AreCommandsIn source files (take at names) old mid front → at < length names → name ≡ slice_index_or names at name
-    → IsWholeOf (is_standard_input (string_bytes name)) source files (string_bytes name) mid new text
-    → (fault : CommandsFault) → IsFaultOf text at fault → LacksFiles source names files old new fault
-faulty_file source files names name at old mid new front text before within name_is whole Memory h = tt
-faulty_file source files names name at old mid new front text before within name_is whole (Unread n) h = absurd h
-faulty_file source files names name at old mid new front text before within name_is whole (fault.Caret n spot) h =
-    subst (λ (k : ℕ). IsFaultyFile source files names k spot old new) (sym h.0) (record {
+-- A file of sources that has a wrong caret.
+pub faulty_file : {S I : Type 0} (source : SourceView S) (before after : DiskSeen I) (names : List (String Global)) (name : String Global) (at : ℕ) (old mid new : S) (front text : List ℕ)
+    → AreCommandsIn source before.files (take at names) old mid front → at < length names → name ≡ slice_index_or names at name
+    → IsWholeOf (is_standard_input (string_bytes name)) source before.files (string_bytes name) mid new text
+    → (fault : CommandsFault) → IsFaultOf text at fault → LacksFiles source names before after old new fault
+faulty_file source before after names name at old mid new front text read within name_is whole Memory h = tt
+faulty_file source before after names name at old mid new front text read within name_is whole (Unread n) h = absurd h
+faulty_file source before after names name at old mid new front text read within name_is whole (fault.Caret n spot) h =
+    subst (λ (k : ℕ). IsFaultyFile source before.files names k spot old new) (sym h.0) (record {
       mid = mid;
       front = front;
-      before = before;
+      before = read;
       within = within;
       name = name;
       name_is = name_is;
@@ -109,25 +111,41 @@ faulty_file source files names name at old mid new front text before within name
       wrong = h.1;
     })
 
--- A file that can't be read.
-pub unread_file : {S : Type 0} (source : SourceView S) (files : Option Files) (names : List (String Global)) (at : ℕ) (old new : S) → at < length names
-    → (fault : CommandsFault) → IsUnread at fault → LacksFiles source names files old new fault
-unread_file source files names at old new within Memory h = tt
-unread_file source files names at old new within (Unread n) h = omega (arith, h)
-unread_file source files names at old new within (fault.Caret n spot) h = absurd h
+-- What can't be read where the files are as they were before.
+unread_after : {S I : Type 0} (source : SourceView S) (before mid after : DiskSeen I) → KeepsDisk before mid
+    → (b : Bool) (name : List ℕ) (old new : S) → FailsToGive b source mid after name old new → FailsToGive b source before after name old new
+unread_after source before mid after kept true name old new h = h
+unread_after source before mid after kept false name old new h = (h.0, h.1, lacks_after kept after name h.0 h.2, h.3)
+
+-- A file that can't be read, after those that were.
+pub unread_file : {S I : Type 0} (source : SourceView S) (before mid after : DiskSeen I) (names : List (String Global)) (name : String Global) (at : ℕ) (old between new : S) (front : List ℕ)
+    → KeepsDisk before mid → AreCommandsIn source before.files (take at names) old between front → at < length names → name ≡ slice_index_or names at name
+    → (fault : CommandsFault) → IsUnread source mid after (string_bytes name) between new at fault → LacksFiles source names before after old new fault
+unread_file source before mid after names name at old between new front kept read within name_is Memory h = tt
+unread_file source before mid after names name at old between new front kept read within name_is (Unread n) h =
+    subst (λ (k : ℕ). IsUnreadFile source before after names k old new) (sym h.0) (record {
+      mid = between;
+      front = front;
+      read = read;
+      within = within;
+      name = name;
+      name_is = name_is;
+      fails = unread_after source before mid after kept (is_standard_input (string_bytes name)) (string_bytes name) between new h.1;
+    })
+unread_file source before mid after names name at old between new front kept read within name_is (fault.Caret n spot) h = absurd h
 
 -- What the files of a line lack, the line lacks.
-pub files_lacked : {S : Type 0} (source : SourceView S) (names : Vec (String Global) Global) (word : Option (String Global)) (files : Option Files) (old new : S) (fault : CommandsFault)
-    → LacksFiles source names.items files old new fault → LacksCommands source (Sources names word) files old new fault
-files_lacked source names word files old new Memory h = tt
-files_lacked source names word files old new (Unread at) h = h
-files_lacked source names word files old new (fault.Caret at spot) h = inl h
+pub files_lacked : {S I : Type 0} (source : SourceView S) (names : Vec (String Global) Global) (word : Option (String Global)) (before after : DiskSeen I) (old new : S) (fault : CommandsFault)
+    → LacksFiles source names.items before after old new fault → LacksCommands source (Sources names word) before after old new fault
+files_lacked source names word before after old new Memory h = tt
+files_lacked source names word before after old new (Unread at) h = h
+files_lacked source names word before after old new (fault.Caret at spot) h = inl h
 
 -- And so with its word.
-pub word_lacked : {S : Type 0} (source : SourceView S) (names : Vec (String Global) Global) (word : String Global) (files : Option Files) (old new : S) (front : List ℕ) (fault : CommandsFault)
-    → AreCommandsIn source files names.items old new front → IsFaultOf (string_bytes word) (length names.items) fault
-    → LacksCommands source (Sources names (Some word)) files old new fault
-word_lacked source names word files old new front Memory before h = tt
-word_lacked source names word files old new front (Unread at) before h = absurd h
-word_lacked source names word files old new front (fault.Caret at spot) before h =
-    inr (record { front = front; before = before; at_is = h.0; text = string_bytes word; text_is = refl; wrong = h.1 })
+pub word_lacked : {S I : Type 0} (source : SourceView S) (names : Vec (String Global) Global) (word : String Global) (before after : DiskSeen I) (old new : S) (front : List ℕ) (fault : CommandsFault)
+    → AreCommandsIn source before.files names.items old new front → IsFaultOf (string_bytes word) (length names.items) fault
+    → LacksCommands source (Sources names (Some word)) before after old new fault
+word_lacked source names word before after old new front Memory read h = tt
+word_lacked source names word before after old new front (Unread at) read h = absurd h
+word_lacked source names word before after old new front (fault.Caret at spot) read h =
+    inr (record { front = front; before = read; at_is = h.0; text = string_bytes word; text_is = refl; wrong = h.1 })

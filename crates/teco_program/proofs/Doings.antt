@@ -90,6 +90,17 @@ module _ {I : Type 0} {old mid : DiskSeen I} (kept : KeepsDisk old mid) where
   pub keeps_after : {new : DiskSeen I} → KeepsDisk mid new → KeepsDisk old new
   keeps_after k = record { files = k.files ∙ kept.files; streams = k.streams ∙ kept.streams; moments = λ files left. kept.moments files (k.moments files left) }
 
+  pub lacks_after : (new : DiskSeen I) (name : List ℕ) (fate : Fate) → LacksInput mid new name fate → LacksInput old new name fate
+  lacks_after new name fate (inl opens) = inl opens
+  lacks_after new name fate (inr reads) = inr (record {
+    first = reads.first;
+    last = reads.last;
+    fault = reads.fault;
+    opened = λ before told. reads.opened before (kept.files ∙ told);
+    fault_is = reads.fault_is;
+    fate_is = reads.fate_is;
+  })
+
   pub writes_after : {new : DiskSeen I} {name output : List ℕ} → WritesOutput mid new name output → WritesOutput old new name output
   writes_after {new} {name} {output} w = record {
     files = λ before told. subst (λ (streams : Files). Changes mid.files new.files (IsPut name output (streams name) (new.streams name))) kept.streams w.files before (kept.files ∙ told);
@@ -332,15 +343,7 @@ finishes_on_terminal output name in_place disk screen old new fate here e =
 module _ {I : Type 0} (old mid new : DiskSeen I) (kept : KeepsDisk old mid) (stream : InputSeen) (name : List ℕ) where
   lacks_from : (b : Bool) (fate : Fate) → (input_from b stream (named_input mid new name)).lacks fate → (input_from b stream (named_input old new name)).lacks fate
   lacks_from true fate l = l
-  lacks_from false fate (inl opens) = inl opens
-  lacks_from false fate (inr reads) = inr (record {
-    first = reads.first;
-    last = reads.last;
-    fault = reads.fault;
-    opened = λ before told. reads.opened before (kept.files ∙ told);
-    fault_is = reads.fault_is;
-    fate_is = reads.fate_is;
-  })
+  lacks_from false fate l = lacks_after kept new name fate l
 
   is_input_from : (b : Bool) (bytes : List ℕ) → (input_from b stream (named_input mid new name)).is_input bytes → (input_from b stream (named_input old new name)).is_input bytes
   is_input_from true bytes i = i

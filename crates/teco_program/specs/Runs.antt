@@ -160,7 +160,7 @@ pub record RunsOverAll {D I S T W E : Type 0} (view : HostView D I S T W) (error
   pub mid : Host D S T
   pub idle : IsIdle view old mid
   pub runs : ((fault : CommandsFault) × (new ≡ mid)
-      × LacksCommands view.stream line.commands (view.disk old.disk).files old.stream mid.stream fault
+      × LacksCommands view.stream line.commands (view.disk old.disk) (view.disk mid.disk) old.stream mid.stream fault
       × Declines line.commands fault (errors told) (errors telling) status)
       ⊎ ((bytes : List ℕ) × IsGivenBy view.stream line.commands (view.disk old.disk).files old.stream mid.stream bytes
       × RunsInOrder view errors line bytes (inputs_of line) (mid, told) (new, telling) status)
@@ -172,7 +172,7 @@ pub record ChecksLine {D I S T E : Type 0} (disk : D → DiskSeen I) (stream : S
   pub asked : line.check ≡ true
   pub kept : KeepsDisk (disk old.disk) (disk new.disk)
   pub tells : ((fault : CommandsFault) × (new.term ≡ old.term)
-      × LacksCommands stream line.commands (disk old.disk).files old.stream new.stream fault
+      × LacksCommands stream line.commands (disk old.disk) (disk new.disk) old.stream new.stream fault
       × Declines line.commands fault (errors told) (errors telling) status)
       ⊎ ((bytes : List ℕ) × IsGivenBy stream line.commands (disk old.disk).files old.stream new.stream bytes
       × TellsVerdict screen errors bytes old.term new.term told telling status)

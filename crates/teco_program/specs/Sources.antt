@@ -1,5 +1,5 @@
 -- The commands of a line that are had at once, before any input is read: those of its sources, or the bytes of a file.
-use Rattle.std.specs.Prelude.{◌≡◌, ◌⊎◌, ◌<◌, ℕ, List, [], ◌∷◌, ◌++◌, length, take, map, codes, Option, Some, None, option_map, Bool, true, false, Ok, Err, ⊤}
+use Rattle.std.specs.Prelude.{◌≡◌, ◌≢◌, ◌⊎◌, ◌<◌, ℕ, List, [], ◌∷◌, ◌++◌, length, take, map, codes, Option, Some, None, option_map, Bool, true, false, Ok, Err, ⊤}
 use Rattle.std.specs.List.{slice_index_or}
 use Rattle.std.specs.String.{string_bytes}
 use Rattle.std.specs.declared.string.String.{String}
@@ -11,8 +11,10 @@ use Rattle.teco_line.specs.declared.line.Commands.{Commands}
 use Rattle.teco_line.specs.declared.line.Commands.TheVariants.{StandardInput, Sources, Pages, Bytes}
 use Rattle.teco_program.specs.Ending.{said}
 use Rattle.teco_program.specs.Refusing.{Tells}
-use Rattle.teco_program.specs.Run.{IsInput, IsStreamed}
-use Rattle.teco_program.specs.Seen.{SourceView}
+use Rattle.teco_program.specs.Run.{FailsToStream, IsInput, IsStreamed, LacksInput}
+use Rattle.teco_program.specs.Seen.{DiskSeen, SourceView}
+use Rattle.teco_program.specs.declared.fate.Fate.{Fate}
+use Rattle.teco_program.specs.declared.fate.Fate.TheVariants.{NoMemory}
 use Rattle.teco_program.specs.declared.sources.CommandsFault.{CommandsFault}
 use Rattle.teco_program.specs.declared.sources.CommandsFault.TheVariants.{Memory, Unread, Caret}
 use Rattle.teco_source.specs.Source.{commands_of}
@@ -83,24 +85,42 @@ IsFaultyIn source (Sources names word) files at spot old new =
 IsFaultyIn source (Pages word) files at spot old new = HasWrongCaret (string_bytes word) spot × (new ≡ old)
 IsFaultyIn source (Bytes name) files at spot old new = ⊥
 
--- how many files of commands the line names
-abbrev pub files_named : Commands → ℕ
-files_named StandardInput = 0
-files_named (Sources names word) = length names.items
-files_named (Pages word) = 0
-files_named (Bytes name) = 1
+-- A read of standard input failed; or the disk refused to open the file of this name, or a read of it failed, and standard
+-- input stays as it is. That was not for want of memory.
+abbrev pub FailsToGive : {S I : Type 0} → Bool → SourceView S → DiskSeen I → DiskSeen I → List ℕ → S → S → Type 0
+FailsToGive true source before after name old new = (fate : Fate) × (fate ≢ NoMemory) × FailsToStream source old new fate
+FailsToGive false source before after name old new =
+    (fate : Fate) × (fate ≢ NoMemory) × LacksInput before after name fate × (new ≡ old)
+
+-- The sources in the files before this one are read, and this one can't be.
+pub record IsUnreadFile {S I : Type 0} (source : SourceView S) (before after : DiskSeen I) (names : List (String Global)) (at : ℕ) (old new : S) : Type 0 where
+  pub mid : S
+  pub front : List ℕ
+  pub read : AreCommandsIn source before.files (take at names) old mid front
+  pub within : at < length names
+  pub name : String Global
+  pub name_is : name ≡ slice_index_or names at name
+  pub fails : FailsToGive (is_standard_input (string_bytes name)) source before after (string_bytes name) mid new
+
+-- The file of this number can't be read.
+abbrev pub IsUnreadIn : {S I : Type 0} → SourceView S → Commands → DiskSeen I → DiskSeen I → ℕ → S → S → Type 0
+IsUnreadIn source StandardInput before after at old new = ⊥
+IsUnreadIn source (Sources names word) before after at old new = IsUnreadFile source before after names.items at old new
+IsUnreadIn source (Pages word) before after at old new = ⊥
+IsUnreadIn source (Bytes name) before after at old new =
+    (at ≡ 0) × FailsToGive (is_standard_input (string_bytes name)) source before after (string_bytes name) old new
 
 -- Why the commands of a line are not had.
-abbrev pub LacksCommands : {S : Type 0} → SourceView S → Commands → Option Files → S → S → CommandsFault → Type 0
-LacksCommands source commands files old new Memory = ⊤
-LacksCommands source commands files old new (Unread at) = at < files_named commands
-LacksCommands source commands files old new (Caret at spot) = IsFaultyIn source commands files at spot old new
+abbrev pub LacksCommands : {S I : Type 0} → SourceView S → Commands → DiskSeen I → DiskSeen I → S → S → CommandsFault → Type 0
+LacksCommands source commands before after old new Memory = ⊤
+LacksCommands source commands before after old new (Unread at) = IsUnreadIn source commands before after at old new
+LacksCommands source commands before after old new (Caret at spot) = IsFaultyIn source commands before.files at spot old new
 
 -- the same of its files alone
-abbrev pub LacksFiles : {S : Type 0} → SourceView S → List (String Global) → Option Files → S → S → CommandsFault → Type 0
-LacksFiles source names files old new Memory = ⊤
-LacksFiles source names files old new (Unread at) = at < length names
-LacksFiles source names files old new (Caret at spot) = IsFaultyFile source files names at spot old new
+abbrev pub LacksFiles : {S I : Type 0} → SourceView S → List (String Global) → DiskSeen I → DiskSeen I → S → S → CommandsFault → Type 0
+LacksFiles source names before after old new Memory = ⊤
+LacksFiles source names before after old new (Unread at) = IsUnreadFile source before after names at old new
+LacksFiles source names before after old new (Caret at spot) = IsFaultyFile source before.files names at spot old new
 
 -- and of one source, of this number
 abbrev pub IsFaultOf : List ℕ → ℕ → CommandsFault → Type 0
@@ -108,11 +128,12 @@ IsFaultOf text at Memory = ⊤
 IsFaultOf text at (Unread n) = ⊥
 IsFaultOf text at (Caret n spot) = (n ≡ at) × HasWrongCaret text spot
 
--- and of one file, of this number
-abbrev pub IsUnread : ℕ → CommandsFault → Type 0
-IsUnread at Memory = ⊤
-IsUnread at (Unread n) = n ≡ at
-IsUnread at (Caret n spot) = ⊥
+-- and of one file, of this number and name
+abbrev pub IsUnread : {S I : Type 0} → SourceView S → DiskSeen I → DiskSeen I → List ℕ → S → S → ℕ → CommandsFault → Type 0
+IsUnread source before after name old new at Memory = ⊤
+IsUnread source before after name old new at (Unread n) =
+    (n ≡ at) × FailsToGive (is_standard_input name) source before after name old new
+IsUnread source before after name old new at (Caret n spot) = ⊥
 
 -- what a source of a line is called: by its file's name, or by the option that gives it
 abbrev pub source_name : Commands → ℕ → List ℕ

@@ -1,12 +1,10 @@
 //! The commands of a line that are had at once: those of its sources, or the bytes of a file.
-ghost use Rattle.std.specs.Prelude.{◌≡◌, ◌⊎◌, ◌++◌, ℕ, List, IfErr, IfOk, Ok, codes, false};
+ghost use Rattle.std.specs.Prelude.{◌≡◌, ◌++◌, ℕ, List, IfErr, IfOk, Ok, codes, false};
 ghost use Rattle.std.specs.String.{string_bytes};
 ghost use Rattle.teco_line.specs.CommandLine.{on_pages};
 ghost use Rattle.teco_line.specs.Conflict.{are_awaited};
 ghost use Rattle.teco_line.specs.StreamNames.{is_standard_input};
-ghost use Rattle.teco_program.specs.Run.{FailsToStream, KeepsDisk, LacksInput};
-ghost use Rattle.teco_program.specs.declared.fate.Fate.{Fate};
-ghost use Rattle.teco_program.specs.declared.sources.CommandsFault.TheVariants.{Unread};
+ghost use Rattle.teco_program.specs.Run.{KeepsDisk};
 ghost use Rattle.teco_program.specs.Seen.{disk_seen, source_view};
 ghost use Rattle.teco_program.specs.Sources.{AreCommandsIn, Declines, IsFaultOf, IsGivenBy, IsUnread, IsWholeOf, LacksCommands, LacksFiles, source_name, status_without, text_without};
 ghost use Rattle.teco_source.specs.Source.{commands_of};
@@ -127,12 +125,10 @@ fn bytes_of<S: Source, D: Disk>(
     ensures whole { IfOk result (λ bytes. IsWholeOf (is_standard_input name.now)
         (source_view S.coming S.bound S.failures S.ended) (D.files disk.old) name.now
         stream.old stream.new bytes.items) }
-    ensures fault { IfErr result (IsUnread at) }
     ensures unread { let seen = disk_seen D.files D.streams D.left D.gave D.changed
         (source_view D.Input.coming D.Input.bound D.Input.failures D.Input.ended) in
-        IfErr result (λ fault. fault ≡ Unread at → (fate : Fate)
-        × (LacksInput (seen disk.old) (seen disk.new) name.now fate
-        ⊎ FailsToStream (source_view S.coming S.bound S.failures S.ended) stream.old stream.new fate)) }
+        IfErr result (IsUnread (source_view S.coming S.bound S.failures S.ended) (seen disk.old) (seen disk.new)
+        name.now stream.old stream.new at) }
     ensures keeps { let seen = disk_seen D.files D.streams D.left D.gave D.changed
         (source_view D.Input.coming D.Input.bound D.Input.failures D.Input.ended) in
         KeepsDisk (seen disk.old) (seen disk.new) }
@@ -159,8 +155,10 @@ fn commands_in_files<S: Source, D: Disk>(
 ) -> Result<Vec<u8>, CommandsFault>
     ensures read { IfOk result (λ made. AreCommandsIn (source_view S.coming S.bound S.failures S.ended)
         (D.files disk.old) names.now stream.old stream.new made.items) }
-    ensures fault { IfErr result (LacksFiles (source_view S.coming S.bound S.failures S.ended)
-        names.now (D.files disk.old) stream.old stream.new) }
+    ensures fault { let seen = disk_seen D.files D.streams D.left D.gave D.changed
+        (source_view D.Input.coming D.Input.bound D.Input.failures D.Input.ended) in
+        IfErr result (LacksFiles (source_view S.coming S.bound S.failures S.ended)
+        names.now (seen disk.old) (seen disk.new) stream.old stream.new) }
     ensures keeps { let seen = disk_seen D.files D.streams D.left D.gave D.changed
         (source_view D.Input.coming D.Input.bound D.Input.failures D.Input.ended) in
         KeepsDisk (seen disk.old) (seen disk.new) }
@@ -212,8 +210,10 @@ pub fn commands_given<S: Source, D: Disk>(
     requires { are_awaited commands.now ≡ false }
     ensures given { IfOk result (λ bytes. IsGivenBy (source_view S.coming S.bound S.failures S.ended)
         commands.now (D.files disk.old) stream.old stream.new bytes.items) }
-    ensures lacks { IfErr result (LacksCommands (source_view S.coming S.bound S.failures S.ended)
-        commands.now (D.files disk.old) stream.old stream.new) }
+    ensures lacks { let seen = disk_seen D.files D.streams D.left D.gave D.changed
+        (source_view D.Input.coming D.Input.bound D.Input.failures D.Input.ended) in
+        IfErr result (LacksCommands (source_view S.coming S.bound S.failures S.ended)
+        commands.now (seen disk.old) (seen disk.new) stream.old stream.new) }
     ensures keeps { let seen = disk_seen D.files D.streams D.left D.gave D.changed
         (source_view D.Input.coming D.Input.bound D.Input.failures D.Input.ended) in
         KeepsDisk (seen disk.old) (seen disk.new) }

@@ -1,7 +1,7 @@
 //! The table of options.
 ghost use Rattle.clap.specs.Words.{app_of, rule_of, with_rule};
 ghost use Rattle.std.specs.Prelude.{◌≡◌, IfOk, false, map};
-ghost use Rattle.teco_line.specs.OptionTable.{option, option_rules, rule_by, with_rules};
+ghost use Rattle.teco_line.specs.OptionTable.{action_of, option, option_rules, rule_by, with_rules};
 
 use super::{MOST_PAGE_LINES, MOST_SECONDS, MOST_STEPS};
 use clap::builder::ValueParser;
@@ -153,22 +153,30 @@ fn named<'a>(alloc: Global, row: &OptionRow) -> Arg<'a>
     }
 }
 
+/// What the parser does where an option is given that takes this.
+fn action_of(takes: Takes) -> ArgAction
+    ensures { result ≡ action_of takes }
+{
+    match takes {
+        Takes::Nothing => ArgAction::SetTrue,
+        Takes::Texts => ArgAction::Append,
+        Takes::Text | Takes::Number(..) | Takes::NumberOr(..) => ArgAction::Set,
+    }
+}
+
 /// The argument of a row.
 fn arg_by<'a>(alloc: Global, row: &OptionRow) -> Arg<'a>
     ensures rule { rule_of result ≡ rule_by row.now }
     ensures local { result.global ≡ false }
 {
-    let arg = named(alloc, row);
+    let arg = named(alloc, row).action(action_of(row.takes));
     match row.takes {
-        Takes::Nothing => arg.action(ArgAction::SetTrue),
-        Takes::Text => arg.action(ArgAction::Set).value_name(row.value),
-        Takes::Texts => arg.action(ArgAction::Append).value_name(row.value),
+        Takes::Nothing => arg,
+        Takes::Text | Takes::Texts => arg.value_name(row.value),
         Takes::Number(least, most) => arg
-            .action(ArgAction::Set)
             .value_name(row.value)
             .value_parser(ValueParser::Unsigned(least, most)),
         Takes::NumberOr(least, most, default) => arg
-            .action(ArgAction::Set)
             .value_name(row.value)
             .value_parser(ValueParser::Unsigned(least, most))
             .default_value(default),

@@ -6,12 +6,12 @@ ghost use Rattle.teco_line.specs.StreamNames.{is_standard_input as names_standar
 pub fn is_standard_input(name: &str) -> bool
     ensures { result ≡ names_standard_input name.now }
 {
-    name == "-" || name == "/dev/stdin" || name == "/dev/fd/0" || name == "/proc/self/fd/0"
+    matches!(name, "-" | "/dev/stdin" | "/dev/fd/0" | "/proc/self/fd/0")
 }
 
 /// Whether the file of this name is the program's own standard output.
 pub fn is_standard_output(name: &str) -> bool
     ensures { result ≡ names_standard_output name.now }
 {
-    name == "-" || name == "/dev/stdout" || name == "/dev/fd/1" || name == "/proc/self/fd/1"
+    matches!(name, "-" | "/dev/stdout" | "/dev/fd/1" | "/proc/self/fd/1")
 }

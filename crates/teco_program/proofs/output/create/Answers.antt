@@ -1,4 +1,4 @@
-use Rattle.std.proofs.Common.{inl}
+use Rattle.std.proofs.Common.{◌∙◌, inl}
 use Rattle.teco_files.proofs.Disks.{but_then, creates_written, leaves_draft, others_created, passes_then, removed_or}
 use Rattle.teco_program.proofs.Writings.{leaves_same, on_err_by}
 use Rattle.teco_program.proofs.output.create.Goals as goal
@@ -26,3 +26,33 @@ returns-in_err-draft-clause-err g c = on_err_by c.from_residual.result (leaves_s
 
 pub returns-in_err-draft-clause-removed : goal.returns-in_err-draft-clause-removed
 returns-in_err-draft-clause-removed g c = on_err_by c.from_residual.result (inl c.in_err-draft.ensures.err)
+
+pub returns-in_err-draft-clause-streams : goal.returns-in_err-draft-clause-streams
+returns-in_err-draft-clause-streams g c = c.make.ensures.streams
+
+pub returns-in_err-draft-clause-moments : goal.returns-in_err-draft-clause-moments
+returns-in_err-draft-clause-moments g c = c.make.ensures.moments
+
+pub returns-in-Err-clause-ok : goal.returns-in-Err-clause-ok
+returns-in-Err-clause-ok g c = tt
+
+pub returns-in-Err-clause-kept : goal.returns-in-Err-clause-kept
+returns-in-Err-clause-kept g c = tt
+
+pub returns-in-Err-clause-streams : goal.returns-in-Err-clause-streams
+returns-in-Err-clause-streams g c = c.remove.ensures.streams ∙ (c.fill.ensures.streams ∙ c.make.ensures.streams)
+
+pub returns-clause-kept : goal.returns-clause-kept
+returns-clause-kept g c = c.in_default.ensures.kept
+
+pub returns-clause-err : goal.returns-clause-err
+returns-clause-err g c = tt
+
+pub returns-clause-removed : goal.returns-clause-removed
+returns-clause-removed g c = tt
+
+pub returns-clause-streams : goal.returns-clause-streams
+returns-clause-streams g c = c.fill.ensures.streams ∙ c.make.ensures.streams
+
+pub returns-clause-error : goal.returns-clause-error
+returns-clause-error g c = tt

@@ -12,3 +12,18 @@ returns-clause-ok g c = on_ok_by c.sync.result (appends_still (c.sync.ensures.fi
 
 pub returns-clause-err : goal.returns-clause-err
 returns-clause-err g c = on_err_by c.sync.result (others_appended (appends_still (c.sync.ensures.files ∙ c.make_like.ensures.files) c.in_ok-write_both.ensures.ok))
+
+pub returns-in_err-write_both-clause-streams : goal.returns-in_err-write_both-clause-streams
+returns-in_err-write_both-clause-streams g c = c.write_both.ensures.streams
+
+pub returns-in_err-write_both-clause-moments : goal.returns-in_err-write_both-clause-moments
+returns-in_err-write_both-clause-moments g c = c.write_both.ensures.moments
+
+pub returns-clause-kept : goal.returns-clause-kept
+returns-clause-kept g c = c.sync.ensures.kept
+
+pub returns-clause-streams : goal.returns-clause-streams
+returns-clause-streams g c = c.sync.ensures.streams ∙ (c.make_like.ensures.streams ∙ c.write_both.ensures.streams)
+
+pub returns-clause-error : goal.returns-clause-error
+returns-clause-error g c = c.sync.ensures.error

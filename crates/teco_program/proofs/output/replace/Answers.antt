@@ -1,3 +1,4 @@
+use Rattle.std.proofs.Common.{◌∙◌}
 use Rattle.teco_files.proofs.Disks.{passes_making, passes_renaming, leaves_draft, passes_removing, removed_or, same_but}
 use Rattle.teco_program.proofs.Writings.{replaces_by}
 use Rattle.teco_program.proofs.output.replace.Goals as goal
@@ -21,3 +22,24 @@ returns-in-Err-clause-err g c = leaves_draft c.in_ok-create.ensures.ok (same_but
 
 pub returns-clause-ok : goal.returns-clause-ok
 returns-clause-ok g c = replaces_by c.in_ok-create.ensures.ok c.in_default.ensures.ok
+
+pub returns-in_err-create-clause-streams : goal.returns-in_err-create-clause-streams
+returns-in_err-create-clause-streams g c = c.create.ensures.streams
+
+pub returns-in-Err-clause-ok : goal.returns-in-Err-clause-ok
+returns-in-Err-clause-ok g c = tt
+
+pub returns-in-Err-clause-streams : goal.returns-in-Err-clause-streams
+returns-in-Err-clause-streams g c = c.remove.ensures.streams ∙ (c.rename.ensures.streams ∙ c.create.ensures.streams)
+
+pub returns-clause-err : goal.returns-clause-err
+returns-clause-err g c = tt
+
+pub returns-clause-removed : goal.returns-clause-removed
+returns-clause-removed g c = tt
+
+pub returns-clause-streams : goal.returns-clause-streams
+returns-clause-streams g c = c.rename.ensures.streams ∙ c.create.ensures.streams
+
+pub returns-clause-error : goal.returns-clause-error
+returns-clause-error g c = tt

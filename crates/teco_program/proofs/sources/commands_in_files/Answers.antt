@@ -2,8 +2,8 @@ use Rattle.std.proofs.Common.{◌≡◌, ◌∙◌, ◌++◌, ◌+◌, ℕ, List
 use Rattle.std.proofs.lemmas.List.{take_all}
 use Rattle.std.specs.String.{string_bytes}
 use Rattle.teco_line.specs.StreamNames.{is_standard_input}
-use Rattle.teco_program.specs.Seen.{source_view}
-use Rattle.teco_program.specs.Sources.{AreCommandsIn, IsFaultOf, IsWholeOf, LacksFiles}
+use Rattle.teco_program.specs.Seen.{disk_seen, source_view}
+use Rattle.teco_program.specs.Sources.{AreCommandsIn, IsFaultOf, IsUnread, IsWholeOf, LacksFiles}
 use Rattle.teco_source.specs.Source.{commands_of}
 use Rattle.teco_program.proofs.CommandSources.{faulty_file, one_source_more, passed_up, same_files, unread_file}
 use Rattle.teco_program.proofs.Doings.{keeps_after}
@@ -33,8 +33,10 @@ returns-in_err-strings-clause-fault g c =
     subst (λ (n : List ℕ). IsWholeOf (is_standard_input n) source files n c.loop-at.stream c.bytes_of.new.stream text) c.as_str.ensures.value
     (same_files source (is_standard_input c.as_str.result.now) c.as_str.result.now c.loop-at.stream c.bytes_of.new.stream text h.1.files c.in_ok-source.ensures.whole) in
     let wrong : IsFaultOf text c.loop-at.at fault = subst (λ (t : List ℕ). IsFaultOf t c.loop-at.at fault) c.as_slice.ensures.value c.in_err-strings.ensures.fault in
-    passed_up c.from_residual-in_err-strings.result fault (LacksFiles source c.args.names.now files c.args.stream.now c.bytes_of.new.stream) c.from_residual-in_err-strings.ensures.1
-    (faulty_file source files c.args.names.now item c.loop-at.at c.args.stream.now c.loop-at.stream c.bytes_of.new.stream c.loop-at.made.items text h.0 c.loop-at-test.true c.index-names-at.is
+    let seen = disk_seen g.D.Disk.files g.D.Disk.streams g.D.Disk.left g.D.Disk.gave g.D.Disk.changed
+    (source_view g.D.Input.Source.coming g.D.Input.Source.bound g.D.Input.Source.failures g.D.Input.Source.ended) in
+    passed_up c.from_residual-in_err-strings.result fault (LacksFiles source c.args.names.now (seen c.args.disk.now) (seen c.bytes_of.new.disk) c.args.stream.now c.bytes_of.new.stream) c.from_residual-in_err-strings.ensures.1
+    (faulty_file source (seen c.args.disk.now) (seen c.bytes_of.new.disk) c.args.names.now item c.loop-at.at c.args.stream.now c.loop-at.stream c.bytes_of.new.stream c.loop-at.made.items text h.0 c.loop-at-test.true c.index-names-at.is
     whole fault wrong)
 
 pub loop-at-preserved : goal.loop-at-preserved
@@ -65,12 +67,18 @@ loop-at-preserved g c =
 pub returns-in_err-source-clause-fault : goal.returns-in_err-source-clause-fault
 returns-in_err-source-clause-fault g c =
     let source = source_view g.S.Source.coming g.S.Source.bound g.S.Source.failures g.S.Source.ended in
-    let files = g.D.Disk.files c.args.disk.now in
+    let seen = disk_seen g.D.Disk.files g.D.Disk.streams g.D.Disk.left g.D.Disk.gave g.D.Disk.changed
+    (source_view g.D.Input.Source.coming g.D.Input.Source.bound g.D.Input.Source.failures g.D.Input.Source.ended) in
+    let after = seen c.bytes_of.new.disk in
+    let h = c.loop-at.invariant in
+    let item = c.index-names-at.result in
     let old = c.args.stream.now in
     let new = c.bytes_of.new.stream in
     let fault = c.in_err-source.field-0.0 in
-    passed_up c.from_residual.result fault (LacksFiles source c.args.names.now files old new) c.from_residual.ensures.1
-    (unread_file source files c.args.names.now c.loop-at.at old new c.loop-at-test.true fault c.in_err-source.ensures.fault)
+    let unread : IsUnread source (seen c.loop-at.disk) after (string_bytes item) c.loop-at.stream new c.loop-at.at fault =
+    subst (λ (n : List ℕ). IsUnread source (seen c.loop-at.disk) after n c.loop-at.stream new c.loop-at.at fault) c.as_str.ensures.value c.in_err-source.ensures.unread in
+    passed_up c.from_residual.result fault (LacksFiles source c.args.names.now (seen c.args.disk.now) after old new) c.from_residual.ensures.1
+    (unread_file source (seen c.args.disk.now) (seen c.loop-at.disk) after c.args.names.now item c.loop-at.at old c.loop-at.stream new c.loop-at.made.items h.1 h.0 c.loop-at-test.true c.index-names-at.is fault unread)
 
 pub returns-clause-keeps : goal.returns-clause-keeps
 returns-clause-keeps g c = c.loop-at.invariant.1

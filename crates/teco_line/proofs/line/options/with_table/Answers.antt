@@ -1,0 +1,14 @@
+use Rattle.std.proofs.Common.{◌≡◌, ◌∙◌, ◌+◌, ◌<◌, ℕ, List, length, refl, ap, drop, map, get_or, add-one, drop-cons}
+use Rattle.clap.specs.Words.{App, app_of, with_rule}
+use Rattle.teco_line.specs.OptionTable.{rule_by, with_rules}
+use Rattle.teco_line.specs.declared.line.options.OptionRow.{OptionRow}
+use Rattle.teco_line.proofs.line.options.with_table.Goals as goal
+
+one_row_more : (app : App) (rows : List OptionRow) (i : ℕ) (d : OptionRow) → i < length rows
+    → with_rules (with_rule app (rule_by (get_or rows i d))) (map rule_by (drop (i + 1) rows)) ≡ with_rules app (map rule_by (drop i rows))
+one_row_more app rows i d within = rw (add-one, drop-cons rows i d) refl
+
+pub loop-row-preserved : goal.loop-row-preserved
+loop-row-preserved c =
+    ap (λ app. with_rules app (map rule_by (drop (c.loop-row.row-index + 1) c.args.rows.now))) c.in_ok-command.ensures
+    ∙ (one_row_more (app_of c.loop-row.command) c.args.rows.now c.loop-row.row-index _ c.loop-row-test.true ∙ c.loop-row.invariant)
