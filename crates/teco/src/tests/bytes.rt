@@ -1,6 +1,6 @@
 //! Bytes in memory of their own. Where memory was refused, it is asked for a second time.
 use std::alloc::Global;
-use teco_terminal::{FailAfter, MemoryTerminal};
+use teco_terminal::{FailAfter, WriterTerminal};
 
 /// Puts a part at the end.
 pub(crate) fn put(bytes: &mut Vec<u8>, part: &[u8]) {
@@ -34,20 +34,33 @@ pub(crate) fn is(text: &str, wanted: &str) -> bool {
     text == wanted
 }
 
-/// Whether a terminal shows this text alone.
-pub(crate) fn is_typed(terminal: &MemoryTerminal, typed: &str) -> bool {
-    are(terminal.bytes(), typed.as_bytes())
+/// A terminal that shows what it is given, as far as it has room. All tests that run strings have this one.
+pub(crate) type Screen = WriterTerminal<FailAfter>;
+
+/// A screen that takes so many bytes, and then fails.
+pub(crate) fn screen_of(alloc: Global, room: usize) -> Screen {
+    let mut bytes = Vec::new(alloc);
+    let _ = bytes.resize(room, 0).is_ok() || bytes.resize(room, 0).is_ok();
+    WriterTerminal::new(FailAfter::new(bytes))
+}
+
+/// A screen with room for all that a test types.
+pub(crate) fn wide_screen(alloc: Global) -> Screen {
+    screen_of(alloc, 10_000)
+}
+
+/// What a screen shows.
+pub(crate) fn shown_on(screen: &Screen) -> &[u8] {
+    screen.sink().before()
+}
+
+/// Whether a screen shows this text alone.
+pub(crate) fn is_typed(screen: &Screen, typed: &str) -> bool {
+    are(shown_on(screen), typed.as_bytes())
 }
 
 /// Whether two parts are these bytes, one after the other.
 pub(crate) fn are_both(parts: (&[u8], &[u8]), bytes: &[u8]) -> bool {
     let (front, rest) = bytes.split_at(parts.0.len().min(bytes.len()));
     are(parts.0, front) && are(parts.1, rest)
-}
-
-/// A writer that takes so many bytes, and then fails.
-pub(crate) fn failing_after(alloc: Global, count: usize) -> FailAfter {
-    let mut room = Vec::new(alloc);
-    let _ = room.resize(count, 0).is_ok() || room.resize(count, 0).is_ok();
-    FailAfter::new(room)
 }

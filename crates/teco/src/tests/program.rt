@@ -1,5 +1,5 @@
 //! Of teco_program: its parts, and runs of the whole program over files in memory.
-use super::bytes::{are_there, is, is_typed, joined};
+use super::bytes::{are_there, is, is_typed, joined, wide_screen};
 use super::line_commands::{checked, explained, shown, sources};
 use super::rows::{Cells, Rule, all_hold, cells_of};
 use std::alloc::Global;
@@ -12,7 +12,6 @@ use teco_core::NoMemory;
 use teco_files::{MemoryDisk, MemorySource, Refused, Source};
 use teco_line::LineFault;
 use teco_program::{ClockAlarm, program};
-use teco_terminal::MemoryTerminal;
 
 mod disk;
 mod ending;
@@ -84,9 +83,9 @@ fn runs_on(alloc: Global, disk: &mut MemoryDisk, cells: &Cells) -> bool {
     let commands = commands_of(cells[1]);
     let bytes = joined(alloc, &[commands.as_bytes()]);
     let mut source = MemorySource::new(bytes, Vec::new(alloc), false);
-    let mut term = MemoryTerminal::new(alloc);
-    let mut errors = MemoryTerminal::new(alloc);
-    let mut notes = MemoryTerminal::new(alloc);
+    let mut term = wide_screen(alloc);
+    let mut errors = wide_screen(alloc);
+    let mut notes = wide_screen(alloc);
     let clock = Ticking::new();
     let status = program(
         alloc,

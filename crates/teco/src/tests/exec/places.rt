@@ -1,14 +1,14 @@
 //! Where a run last stood: before the step that comes, at a fault, or before the step that failed.
 use super::breaks::Asking;
-use super::strings::{is_code, lacked_memory};
+use super::strings::is_code;
 use super::{breaks, faults};
-use crate::tests::bytes::{is, is_typed};
+use crate::tests::bytes::{Screen, is, is_typed};
 use crate::tests::rows::{Cells, Rule, all_hold, cells_of, number_or};
+use crate::tests::session::requests::{Over, Trial, holds_in};
 use std::alloc::Global;
 use std::test::*;
-use teco_exec::{Never, Stop, Stopped, run_until, run_where, run_where_until};
-use teco_store::Editor;
-use teco_terminal::MemoryTerminal;
+use teco_exec::{Never, Stop};
+use teco_session::{Answer, Answered, Session};
 
 /// How a run is tried: as it is, with its place; or broken off after its steps, by its answers, or after its steps with its place.
 #[derive(Clone, Copy)]
@@ -82,51 +82,37 @@ const ROWS: &str = "
     @^UB/1J/@^UA/2<MB>/MA => 99 => POP => 8 => 7 1 [] [Call { register: Reg { index: 1 }, at: 2, turns: [Some(1)] }, Call { register: Reg { index: 0 }, at: 19, turns: [] }] None
     ";
 
-/// Whether a place is told so, where it is; none where that lacked memory.
-fn is_told(alloc: Global, stopped: &Stopped, told: &str) -> Option<bool> {
-    let place = match &stopped.place {
+/// Whether a place is told so, where it is.
+fn is_told(alloc: Global, answered: &Answered, told: &str) -> bool {
+    let place = match &answered.place {
         Ok(Some(place)) => place,
-        Ok(None) => return Some(told.is_empty()),
-        Err(_) => return None,
+        Ok(None) => return told.is_empty(),
+        Err(_) => return false,
     };
     let (turns, calls) = (&place.turns, &place.calls);
     match format!(in alloc;
         "{} {} {turns:?} {calls:?} {:?}",
         place.steps, place.at, place.fault
     ) {
-        Ok(text) => Some(is(&text, told)),
-        Err(_) => None,
+        Ok(text) => is(&text, told),
+        Err(_) => false,
     }
 }
 
-/// Whether a run ended as the row says, and stood where that is told; none where it lacked memory.
-fn is_ended(
-    alloc: Global,
-    stopped: &Stopped,
-    terminal: &MemoryTerminal,
-    cells: &Cells,
-    told: &str,
-) -> Option<bool> {
-    let outcome = stopped.outcome;
-    if lacked_memory(outcome) {
-        return None;
+/// Whether a run ended as the row says.
+fn is_ended(answer: Answer, terminal: &Screen, cells: &Cells) -> bool {
+    match answer {
+        Answer::Ended(outcome) => {
+            is_code(outcome.code, cells[2])
+                && number_or(cells[3], u64::MAX) == outcome.steps
+                && (cells[5].is_empty() || is_typed(terminal, cells[6]))
+        }
+        _ => false,
     }
-    Some(
-        is_told(alloc, stopped, told)?
-            && is_code(outcome.code, cells[2])
-            && number_or(cells[3], u64::MAX) == outcome.steps
-            && (cells[5].is_empty() || is_typed(terminal, cells[6])),
-    )
 }
 
 /// Runs a row's text.
-fn run_so(
-    alloc: Global,
-    editor: &mut Editor,
-    terminal: &mut MemoryTerminal,
-    cells: &Cells,
-    way: Way,
-) -> Stopped {
+fn run_so(session: &mut Session, term: &mut Screen, cells: &Cells, way: Way) -> Answered {
     let text = cells[0].as_bytes();
     let limit = number_or(cells[1], 1000);
     let after = number_or(cells[5], 0);
@@ -135,32 +121,39 @@ fn run_so(
         _ => Asking::Steps(after),
     };
     match way {
-        Way::Where => run_where(editor, text, limit, terminal, alloc),
-        Way::Until => run_where_until(editor, text, limit, &mut asking, terminal, alloc),
-        Way::Steps | Way::Answers => Stopped {
-            outcome: run_until(editor, text, limit, &mut asking, terminal),
+        Way::Where => session.run_where(text, limit, term),
+        Way::Until => session.run_where_until(text, limit, &mut asking, term),
+        Way::Steps | Way::Answers => Answered {
+            answer: session.run_until(text, limit, &mut asking, term),
             place: Ok(None),
         },
     }
 }
 
-fn try_by(alloc: Global, cells: &Cells, way: Way) -> Option<bool> {
-    let told = match way {
-        Way::Steps | Way::Answers => "",
-        Way::Where | Way::Until => cells[4],
-    };
-    let mut editor = Editor::new(Vec::new(alloc));
-    let mut terminal = MemoryTerminal::new(alloc);
-    let stopped = run_so(alloc, &mut editor, &mut terminal, cells, way);
-    is_ended(alloc, &stopped, &terminal, cells, told)
+/// A row, whose text is run in a way.
+#[derive(Clone, Copy)]
+struct By<'a>(Cells<'a>, Way);
+
+impl Trial for By<'_> {
+    fn holds(&self, alloc: Global, session: &mut Session, term: &mut Screen) -> bool {
+        let By(cells, way) = self;
+        let told = match way {
+            Way::Steps | Way::Answers => "",
+            Way::Where | Way::Until => cells[4],
+        };
+        let answered = run_so(session, term, cells, *way);
+        is_ended(answered.answer, term, cells) && is_told(alloc, &answered, told)
+    }
 }
 
-/// Whether a run ends as its row says; where memory was refused, at the second time.
+/// In a session that keeps no string, so the text is run on its editor.
 fn ends_by(alloc: Global, cells: &Cells, way: Way) -> bool {
-    match try_by(alloc, cells, way) {
-        Some(held) => held,
-        None => try_by(alloc, cells, way) == Some(true),
-    }
+    let over = Over {
+        input: b"",
+        page_lines: 0,
+        depth: Some(0),
+    };
+    holds_in(alloc, &over, &By(*cells, way))
 }
 
 /// A row is a text and its limit of steps, if it isn't 1000; the code by which it ends, if it ends by one, and its steps; and where its run

@@ -1,17 +1,18 @@
-//! Command strings, run on an editor: what a row asks, how it ends, and how it is tried.
+//! Command strings, run on the editor of a session: what a row asks, how it ends, and how it is tried.
 use super::{block_forms, conditionals, iterations, jumps, page_lines, page_turns};
-use crate::tests::bytes::{are, are_both, is, is_typed, put};
+use crate::tests::bytes::{Screen, are, are_both, is, is_typed, put};
 use crate::tests::commands::FORMS;
 use crate::tests::rows::{Cells, Rule, all_hold, cells_of, number_or, text_of};
 use crate::tests::scan::{faults, modifiers};
 use crate::tests::search::elements;
+use crate::tests::session::requests::{Over, Trial, holds_in, ran};
 use crate::tests::step::{edits, failed_searches, operands, search_forms, searches, texts, values};
 use std::alloc::Global;
 use std::test::*;
-use teco_core::{Code, FILE_LIMIT};
-use teco_exec::{Outcome, run};
+use teco_core::Code;
+use teco_exec::Outcome;
+use teco_session::{Answer, Session};
 use teco_store::{Desk, Editor};
-use teco_terminal::MemoryTerminal;
 
 /// The limit of a text, in bytes.
 const FULL: usize = 16_777_216;
@@ -30,11 +31,6 @@ pub(crate) fn bytes_of(alloc: Global, cell: &str) -> Vec<u8> {
     bytes
 }
 
-/// Whether memory was refused for a step, or for what it types.
-pub(crate) fn lacked_memory(outcome: Outcome) -> bool {
-    matches!(outcome.code, Some(Code::Mem | Code::Tty))
-}
-
 /// Whether a code has these letters, or there is neither. `EX` is no code: the string is done then.
 pub(crate) fn is_code(code: Option<Code>, letters: &str) -> bool {
     match code {
@@ -50,33 +46,27 @@ fn is_written(editor: &Editor, output: &str, code: &str) -> bool {
         || are_both(editor.output(), text_of(output).as_bytes()) && editor.done() == is(code, "EX")
 }
 
-/// Whether a run ended so; none where it lacked memory, and typed no more than is to be.
-fn told(
-    editor: &Editor,
-    terminal: &MemoryTerminal,
-    outcome: Outcome,
-    cells: &Cells,
-) -> Option<bool> {
-    if lacked_memory(outcome) && cells[1].as_bytes().starts_with(terminal.bytes()) {
-        return None;
-    }
-    Some(
-        is_code(outcome.code, cells[2])
-            && number_or(cells[3], outcome.steps) == outcome.steps
-            && is_typed(terminal, cells[1])
-            && is_written(editor, cells[5], cells[2]),
-    )
+/// Whether a run ended so.
+fn told(editor: &Editor, terminal: &Screen, outcome: Outcome, cells: &Cells) -> bool {
+    is_code(outcome.code, cells[2])
+        && number_or(cells[3], outcome.steps) == outcome.steps
+        && is_typed(terminal, cells[1])
+        && is_written(editor, cells[5], cells[2])
 }
 
-fn try_once(alloc: Global, cells: &Cells) -> Option<bool> {
-    let text = bytes_of(alloc, cells[0]);
-    let mut input = bytes_of(alloc, cells[6]);
-    input.truncate(FILE_LIMIT);
-    let mut editor = Editor::with_page_lines(input, number_or(cells[7], 0) as usize);
-    let mut terminal = MemoryTerminal::new(alloc);
-    let limit = number_or(cells[4], 1000);
-    let outcome = run(&mut editor, &text, limit, &mut terminal);
-    told(&editor, &terminal, outcome, cells)
+/// A row, whose text is run.
+#[derive(Clone, Copy)]
+struct Run<'a>(Cells<'a>);
+
+impl Trial for Run<'_> {
+    fn holds(&self, alloc: Global, session: &mut Session, term: &mut Screen) -> bool {
+        let cells = &self.0;
+        let text = bytes_of(alloc, cells[0]);
+        match ran(session, &text, number_or(cells[4], 1000), term) {
+            Answer::Ended(outcome) => told(session.editor(), term, outcome, cells),
+            _ => false,
+        }
+    }
 }
 
 /// A row is a text, what it types, the letters of the code by which it ends, if it ends by one, its steps, their limit, the output, the
@@ -85,13 +75,16 @@ fn try_once(alloc: Global, cells: &Cells) -> Option<bool> {
 pub(crate) struct Strings;
 
 impl Rule for Strings {
-    /// Where memory was refused, at the second time.
+    /// In a session that keeps no string, so the text is run on its editor.
     fn holds(&self, alloc: Global, row: &str) -> bool {
         let cells = cells_of(row);
-        match try_once(alloc, &cells) {
-            Some(held) => held,
-            None => try_once(alloc, &cells) == Some(true),
-        }
+        let input = bytes_of(alloc, cells[6]);
+        let over = Over {
+            input: &input,
+            page_lines: number_or(cells[7], 0) as usize,
+            depth: Some(0),
+        };
+        holds_in(alloc, &over, &Run(cells))
     }
 }
 
@@ -110,6 +103,8 @@ const ROWS: &str = "
     7=Iab => 7\r\n => UTC => 2
     1\x1b= => => NAE => 2
     Ia\nb\x1b0T-T\x1b => ba\nb => => 5
+    Iab\x1b.=HT => 2\r\nab => => 5
+    3<%A>QA=\x1b => 3\r\n => => 10
     ";
 
 /// The tables of all strings but those at the limits of the texts.

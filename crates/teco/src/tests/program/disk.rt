@@ -11,8 +11,6 @@ use std::{fs, io};
 use teco_files::{Disk, FileDisk, MemoryDisk, Refused};
 use teco_program::write_output;
 
-const FOLDER: &str = "teco_test";
-
 /// Whether an output of these bytes is written, in two parts.
 fn writes<D: Disk>(alloc: Global, disk: &mut D, name: &str, bytes: &str) -> bool {
     let parts = bytes.as_bytes().split_at(bytes.len() / 2);
@@ -102,26 +100,6 @@ fn is_standard_output(rt: &HostRuntime, disk: &mut Files, name: &str) -> bool {
     }
 }
 
-/// What a line of a script does with a file, or sees of it, by the beginning of its verb; none where it is for the disk that opens files.
-/// This disk opens none, as one of another program.
-fn does(rt: &HostRuntime, disk: &mut Files, call: (&str, &str, &str)) -> Option<bool> {
-    let (verb, name, value) = call;
-    match verb.as_bytes() {
-        [b'p', b'u', ..] => Some(fs::write(rt, name, value.as_bytes()).is_ok()),
-        [b'h', b'a', ..] => Some(holds(rt, name, value)),
-        [b'r', b'e', ..] => Some(fs::remove_file(rt, name).is_ok()),
-        [b'l', b'i', ..] => Some(symlink(rt, value, name).is_ok()),
-        [b'c', b'h', ..] => Some(set_mode(rt, name, value)),
-        [b'i', b's', ..] => Some(is_a(rt, name, value)),
-        [b'a', b'n', ..] => Some(puts(rt, disk, name, value)),
-        [b'g', b'i', ..] => Some(keeps_its_owner(rt, disk, name)),
-        [b'p', b'i', ..] => Some(leads_to_a_pipe(rt, disk, name)),
-        [b'd', b'e', ..] => Some(is_replaced_by_its_descriptor(rt, disk, name)),
-        [b's', b't', ..] => Some(is_standard_output(rt, disk, name)),
-        _ => None,
-    }
-}
-
 /// Whether the last call of a disk that failed did so by this.
 fn failed_by(why: Option<ErrorKind>, kind: &str) -> bool {
     match kind.as_bytes() {
@@ -132,20 +110,14 @@ fn failed_by(why: Option<ErrorKind>, kind: &str) -> bool {
     }
 }
 
-/// What a line asks of a disk, by the beginning of its verb, and whether it is so; none where there is no such question.
-fn asks(rt: &HostRuntime, disk: &mut Files, call: (&str, &str, &str)) -> Option<bool> {
-    let (verb, name, value) = call;
-    match verb.as_bytes() {
-        [b'o', b'p', ..] => Some(disk.open(name).is_ok()),
-        [b't', b'a', ..] => Some(disk.target_of(name).is_ok()),
-        [b'w', b'r', ..] => Some(puts(rt, disk, name, value)),
-        [b'a', b's', ..] => disk.is_as_read(name).ok(),
-        [b'w', b'h', ..] => Some(failed_by(disk.why(), name)),
-        _ => None,
-    }
+/// Whether a folder is new, in the place of what was there.
+fn is_made_anew(rt: &HostRuntime, name: &str) -> bool {
+    let _ = fs::remove_dir_all(rt, name);
+    fs::create_dir(rt, name).is_ok()
 }
 
-/// Whether a line of a script holds: a verb, a name and a value, or the same with a `not` before them.
+/// Whether a line of the script holds: a verb, which its first letter tells, a name and a value, or the same with a `not` before them.
+/// The disk opens files; the other opens none, as one of another program.
 fn line_holds(rt: &HostRuntime, disk: &mut Files, other: &mut Files, line: &str) -> bool {
     let (call, wanted) = match line.strip_prefix("not ") {
         Some(call) => (call, false),
@@ -153,15 +125,33 @@ fn line_holds(rt: &HostRuntime, disk: &mut Files, other: &mut Files, line: &str)
     };
     let (verb, rest) = call.split_once(' ').unwrap_or((call, ""));
     let (name, value) = rest.split_once(' ').unwrap_or((rest, ""));
-    match does(rt, other, (verb, name, value)) {
-        Some(done) => done == wanted,
-        None => asks(rt, disk, (verb, name, value)) == Some(wanted),
-    }
+    let held = match verb.as_bytes() {
+        [b'n', ..] => is_made_anew(rt, name),
+        [b'u', ..] => fs::remove_dir_all(rt, name).is_ok(),
+        [b'm', ..] => fs::write(rt, name, value.as_bytes()).is_ok(),
+        [b'h', ..] => holds(rt, name, value),
+        [b'r', ..] => fs::remove_file(rt, name).is_ok(),
+        [b'l', ..] => symlink(rt, value, name).is_ok(),
+        [b'c', ..] => set_mode(rt, name, value),
+        [b'i', ..] => is_a(rt, name, value),
+        [b'a', ..] => puts(rt, other, name, value),
+        [b'g', ..] => keeps_its_owner(rt, other, name),
+        [b'p', ..] => leads_to_a_pipe(rt, other, name),
+        [b'd', ..] => is_replaced_by_its_descriptor(rt, other, name),
+        [b'b', ..] => is_standard_output(rt, other, name),
+        [b'o', ..] => disk.open(name).is_ok(),
+        [b't', ..] => disk.target_of(name).is_ok(),
+        [b'w', ..] => puts(rt, disk, name, value),
+        [b's', ..] => disk.is_as_read(name).ok() == Some(value.is_empty()),
+        [b'e', ..] => failed_by(disk.why(), name),
+        _ => !wanted,
+    };
+    held == wanted
 }
 
-/// The first line of a script that does not hold on a disk, or on another; empty where all do.
-fn fails_at<'a>(rt: &HostRuntime, disk: &mut Files, other: &mut Files, script: &'a str) -> &'a str {
-    for line in script.split(LINE) {
+/// The first line of the script that does not hold on a disk and another; empty where all do.
+fn fails_at(rt: &HostRuntime, disk: &mut Files, other: &mut Files) -> &'static str {
+    for line in SCRIPT.split(LINE) {
         if is_row(line) && !line_holds(rt, disk, other, line) {
             return line;
         }
@@ -169,22 +159,30 @@ fn fails_at<'a>(rt: &HostRuntime, disk: &mut Files, other: &mut Files, script: &
     ""
 }
 
-/// The same on disks of its own, in a folder that is new.
-fn fails_in_a_folder<'a>(rt: &HostRuntime, script: &'a str) -> &'a str {
-    let _ = fs::remove_dir_all(rt, FOLDER);
-    if fs::create_dir(rt, FOLDER).is_err() {
-        return "the folder";
-    }
-    let failed = fails_at(rt, &mut FileDisk::new(rt), &mut FileDisk::new(rt), script);
-    let is_gone = fs::remove_dir_all(rt, FOLDER).is_ok();
-    if failed.is_empty() && !is_gone {
-        return "the folder's end";
-    }
-    failed
+/// The same on disks of its own.
+fn first_failure(rt: &HostRuntime) -> &'static str {
+    fails_at(rt, &mut FileDisk::new(rt), &mut FileDisk::new(rt))
 }
 
-/// How an output is written.
-const WRITTEN: &str = "
+/// What is done with files, a line each, and what is seen then.
+const SCRIPT: &str = "
+    new teco_test
+    // A call that fails, and the kind of its error, which stays until the next.
+    make teco_test/out a
+    error nothing
+    not open teco_test/none
+    error NotFound
+    not open teco_test
+    error IsADirectory
+    target teco_test/out
+    error IsADirectory
+    not target teco_test/out/file
+    error NotADirectory
+    not target teco_test
+    error IsADirectory
+    unmake teco_test
+    new teco_test
+    // How an output is written.
     // A file that is new, and one with permissions of its own.
     write teco_test/file new
     has teco_test/file new
@@ -207,33 +205,32 @@ const WRITTEN: &str = "
     not write teco_test/none/ a
     is teco_test/.teco-7 gone
     // A draft of someone else's stays as it is, and another name is taken.
-    put teco_test/.teco-7 theirs
+    make teco_test/.teco-7 theirs
     write teco_test/file ours
     has teco_test/.teco-7 theirs
     has teco_test/file ours
     // A device is given the output, and stays one.
     write /dev/null a
     is /dev/null device
-    ";
-
-/// Whose it is.
-const WHOSE: &str = "
+    unmake teco_test
+    new teco_test
+    // Whose it is.
     // A new file has the permissions of the file that was opened last, whatever others may be usual.
-    put teco_test/in private
+    make teco_test/in private
     chmod teco_test/in 600
     open teco_test/in
     write teco_test/out too
     has teco_test/out too
     is teco_test/out 600
     remove teco_test/out
-    put teco_test/in private
+    make teco_test/in private
     chmod teco_test/in 664
     open teco_test/in
     write teco_test/out too
     has teco_test/out too
     is teco_test/out 664
     // A file that is replaced keeps its own permissions, whatever those of the input are.
-    put teco_test/in public
+    make teco_test/in public
     chmod teco_test/in 644
     chmod teco_test/out 600
     open teco_test/in
@@ -242,17 +239,16 @@ const WHOSE: &str = "
     is teco_test/out 600
     given teco_test/out
     // Where the draft would be, a link is put beforehand: it isn't followed.
-    put teco_test/in victim
+    make teco_test/in victim
     link teco_test/.teco-7 in
     anew teco_test/out ours
     has teco_test/out ours
     has teco_test/in victim
     remove teco_test/.teco-7
-    ";
-
-/// Where it goes.
-const LEADS: &str = "
-    put teco_test/out old
+    unmake teco_test
+    new teco_test
+    // Where it goes.
+    make teco_test/out old
     pipe teco_test/link
     remove teco_test/link
     descriptor teco_test/out
@@ -268,89 +264,64 @@ const LEADS: &str = "
     not anew teco_test/self nowhere
     remove teco_test/link
     link teco_test/link /proc/self/fd/1
-    stdout teco_test/link
-    ";
-
-/// What is told of a file that was opened: whether it is as it was read. The second change is another file with the same bytes.
-const CHANGES: &str = "
-    put teco_test/in as read
+    busy teco_test/link
+    unmake teco_test
+    new teco_test
+    // What is told of a file that was opened: whether it is as it was read. The second change is another file with the same bytes.
+    make teco_test/in as read
     open teco_test/in
-    as_read teco_test/in
-    put teco_test/in not as read
-    not as_read teco_test/in
+    same teco_test/in
+    make teco_test/in not as read
+    same teco_test/in no
     open teco_test/in
-    as_read teco_test/in
+    same teco_test/in
     anew teco_test/in not as read
-    not as_read teco_test/in
+    same teco_test/in no
     open teco_test/in
     remove teco_test/in
-    not as_read teco_test/in
+    same teco_test/in no
+    unmake teco_test
     ";
 
-/// A call that fails, and the kind of its error, which stays until the next.
-const WHY: &str = "
-    put teco_test/out a
-    why nothing
-    not open teco_test/none
-    why NotFound
-    not open teco_test
-    why IsADirectory
-    target teco_test/out
-    why IsADirectory
-    not target teco_test/out/file
-    why NotADirectory
-    not target teco_test
-    why IsADirectory
-    ";
-
-/// Where memory was refused, a script holds the second time.
+/// Where memory was refused, the script holds the second time.
 #[test]
 fn writes_whole_files_and_tells_what_a_file_is(rt: HostRuntime) {
-    for script in [WRITTEN, WHOSE, LEADS, CHANGES, WHY] {
-        let mut failed = fails_in_a_folder(&rt, script);
-        if !failed.is_empty() {
-            failed = fails_in_a_folder(&rt, script);
-        }
-        assert_of(&rt, failed, failed.is_empty());
+    let mut failed = first_failure(&rt);
+    if !failed.is_empty() {
+        failed = first_failure(&rt);
     }
+    assert_of(&rt, failed, failed.is_empty());
 }
 
 fn has_been_given(disk: &MemoryDisk, bytes: &[u8]) -> bool {
     are_there(disk.given("dev"), bytes) && disk.has_only(&[])
 }
 
-/// A device is given one output after another, and no file is made.
-fn gives_a_device(alloc: Global) -> bool {
-    let mut disk = MemoryDisk::new(alloc, Refused::Nothing);
-    disk.put_device("dev").is_ok()
-        && writes(alloc, &mut disk, "dev", "abcd")
-        && writes(alloc, &mut disk, "dev", "efgh")
-        && has_been_given(&disk, b"abcdefgh")
-}
+/// What a disk in memory refuses, and what a device of it was given of two outputs: of each that is refused half the first part. No file
+/// is made. A file is as it was read, unless the disk is to tell of a change.
+static DEVICES: [(Refused, &str); 3] = [
+    (Refused::Nothing, "abcdefgh"),
+    (Refused::Write, "ae"),
+    (Refused::Changed, "abcdefgh"),
+];
 
-/// Of an output that is refused half the first part comes.
-fn gives_a_full_device(alloc: Global) -> bool {
-    let mut full = MemoryDisk::new(alloc, Refused::Write);
-    full.put_device("dev").is_ok()
-        && !writes(alloc, &mut full, "dev", "abcd")
-        && full.why() == Some(ErrorKind::StorageFull)
-        && has_been_given(&full, b"a")
-}
-
-/// What a disk in memory says of a file that it opened: a change if it is to tell of one.
-fn is_as_read(alloc: Global, refused: Refused) -> bool {
+fn gives_a_device(alloc: Global, refused: Refused, given: &str) -> bool {
     let mut disk = MemoryDisk::new(alloc, refused);
-    match disk.is_as_read("in") {
-        Ok(same) => same == !matches!(refused, Refused::Changed),
-        Err(_) => false,
-    }
+    let is_full = matches!(refused, Refused::Write);
+    disk.put_device("dev").is_ok()
+        && writes(alloc, &mut disk, "dev", "abcd") != is_full
+        && writes(alloc, &mut disk, "dev", "efgh") != is_full
+        && (disk.why() == Some(ErrorKind::StorageFull)) == is_full
+        && has_been_given(&disk, given.as_bytes())
+        && disk.is_as_read("in").ok() == Some(!matches!(refused, Refused::Changed))
 }
 
 /// Where memory was refused, a second time.
 #[test]
 fn tells_what_a_device_was_given(rt: HostRuntime) {
-    let alloc = rt.alloc();
-    assert!(rt; gives_a_device(alloc) || gives_a_device(alloc));
-    assert!(rt; gives_a_full_device(alloc) || gives_a_full_device(alloc));
-    assert!(rt; is_as_read(alloc, Refused::Changed) && is_as_read(alloc, Refused::Nothing));
+    for (refused, given) in &DEVICES {
+        let held = gives_a_device(rt.alloc(), *refused, given)
+            || gives_a_device(rt.alloc(), *refused, given);
+        assert_of(&rt, given, held);
+    }
 }

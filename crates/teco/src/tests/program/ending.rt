@@ -1,141 +1,85 @@
 //! What is said of how the program ends.
 use super::words_of;
-use crate::tests::assert_of;
 use crate::tests::bytes::is;
+use crate::tests::rows::{Cells, Rule, all_hold, cells_of, number_or};
 use std::alloc::Global;
+use std::test::*;
 use teco_core::NoMemory;
 use teco_line::line_of;
 use teco_program::{Fate, Served, ending, ending_of};
 
-/// The words of a line, how the program ends, and its status and text. Of several inputs the first is spoken of.
-type Row<'a> = (&'a str, Fate, u8, &'a str);
+/// How the program ends, by the first letter of what a row says.
+fn fate_of(said: &str) -> Fate {
+    match said.as_bytes() {
+        [b'c', ..] => Fate::NoCommands,
+        [b'i', ..] => Fate::NoInput,
+        [b'l', ..] => Fate::LargeInput,
+        [b'm', ..] => Fate::NoMemory,
+        [b'o', ..] => Fate::NoOutput,
+        [b'd', ..] => Fate::Changed,
+        [b'u', ..] => Fate::Unchanged,
+        [b'e', ..] => Fate::Ended(Served::Exit),
+        [b's', ..] => Fate::Ended(Served::EndOfCommands),
+        [b'r', ..] => Fate::Ended(Served::ReadFault),
+        [b't', ..] => Fate::Ended(Served::ShowFault),
+        _ => Fate::Ended(Served::NoMemory),
+    }
+}
 
-fn ends_so(alloc: Global, row: &Row) -> bool {
-    let Ok(words) = words_of(alloc, row.0) else {
+fn ends_so(alloc: Global, cells: &Cells) -> bool {
+    let [words, said, wanted, told, ..] = *cells;
+    let Ok(words) = words_of(alloc, words) else {
         return false;
     };
     let Ok(line) = line_of(alloc, words.as_slice()) else {
         return false;
     };
     let ended = if line.more.is_empty() {
-        ending(alloc, &line, row.1)
+        ending(alloc, &line, fate_of(said))
     } else {
-        ending_of(alloc, &line, "in", row.1)
+        ending_of(alloc, &line, "in", fate_of(said))
     };
     match ended {
-        Ok((status, text)) => status == row.2 && is(&text, row.3),
+        Ok((status, text)) => u64::from(status) == number_or(wanted, 0) && is(&text, told),
         Err(NoMemory) => false,
     }
 }
 
-static ROWS: [Row<'static>; 19] = [
-    (
-        "teco -b strings in",
-        Fate::NoCommands,
-        1,
-        "teco: cannot read strings\n",
-    ),
-    (
-        "teco -b strings in",
-        Fate::NoInput,
-        1,
-        "teco: cannot read in\n",
-    ),
-    (
-        "teco -b strings in",
-        Fate::LargeInput,
-        1,
-        "teco: in is too large\n",
-    ),
-    ("teco -b strings in", Fate::NoMemory, 1, "teco: no memory\n"),
-    (
-        "teco -b strings in",
-        Fate::NoOutput,
-        1,
-        "teco: cannot write in.out\n",
-    ),
-    (
-        "teco -b strings -o out in",
-        Fate::NoOutput,
-        1,
-        "teco: cannot write out\n",
-    ),
-    ("teco -b strings in", Fate::Ended(Served::Exit), 0, ""),
-    (
-        "teco -b strings in",
-        Fate::Ended(Served::EndOfCommands),
-        2,
-        "",
-    ),
-    (
-        "teco -b strings in",
-        Fate::Ended(Served::ReadFault),
-        1,
-        "teco: cannot read commands\n",
-    ),
-    (
-        "teco -b strings in",
-        Fate::Ended(Served::ShowFault),
-        1,
-        "teco: cannot show\n",
-    ),
-    (
-        "teco -b strings in",
-        Fate::Ended(Served::NoMemory),
-        1,
-        "teco: no memory\n",
-    ),
-    (
-        "teco -b strings -i in",
-        Fate::NoOutput,
-        1,
-        "teco: cannot write in\n",
-    ),
-    (
-        "teco -b strings -i in",
-        Fate::Changed,
-        1,
-        "teco: in has changed\n",
-    ),
-    ("teco -b strings -i in", Fate::Unchanged, 0, ""),
-    // Of several inputs each line names one.
-    (
-        "teco -b strings in two",
-        Fate::NoInput,
-        1,
-        "teco: cannot read in\n",
-    ),
-    (
-        "teco -b strings in two",
-        Fate::NoOutput,
-        1,
-        "teco: cannot write in.out\n",
-    ),
-    (
-        "teco -b strings in two",
-        Fate::NoMemory,
-        1,
-        "teco: in: no memory\n",
-    ),
-    (
-        "teco -b strings in two",
-        Fate::Ended(Served::ShowFault),
-        1,
-        "teco: in: cannot show\n",
-    ),
-    (
-        "teco -b strings in two",
-        Fate::Ended(Served::NoMemory),
-        1,
-        "teco: in: no memory\n",
-    ),
-];
+/// The words of a line, how the program ends, and its status and text. Of several inputs the first is spoken of.
+#[derive(Clone, Copy)]
+struct Endings;
 
-// Where memory was refused, a row holds the second time.
+impl Rule for Endings {
+    /// Where memory was refused, a row holds the second time.
+    fn holds(&self, alloc: Global, row: &str) -> bool {
+        let cells = cells_of(row);
+        ends_so(alloc, &cells) || ends_so(alloc, &cells)
+    }
+}
+
+const ROWS: &str = "
+    - teco -b strings in => commands => 1 => teco: cannot read strings\n
+    - teco -b strings in => input => 1 => teco: cannot read in\n
+    - teco -b strings in => large => 1 => teco: in is too large\n
+    - teco -b strings in => memory => 1 => teco: no memory\n
+    - teco -b strings in => output => 1 => teco: cannot write in.out\n
+    - teco -b strings -o out in => output => 1 => teco: cannot write out\n
+    - teco -b strings in => exit => 0
+    - teco -b strings in => stream ended => 2
+    - teco -b strings in => read failed => 1 => teco: cannot read commands\n
+    - teco -b strings in => terminal failed => 1 => teco: cannot show\n
+    - teco -b strings in => no memory in a run => 1 => teco: no memory\n
+    - teco -b strings -i in => output => 1 => teco: cannot write in\n
+    - teco -b strings -i in => differs => 1 => teco: in has changed\n
+    - teco -b strings -i in => unchanged => 0
+    - // Of several inputs each line names one.
+    - teco -b strings in two => input => 1 => teco: cannot read in\n
+    - teco -b strings in two => output => 1 => teco: cannot write in.out\n
+    - teco -b strings in two => memory => 1 => teco: in: no memory\n
+    - teco -b strings in two => terminal failed => 1 => teco: in: cannot show\n
+    - teco -b strings in two => no memory in a run => 1 => teco: in: no memory\n";
+
 #[test]
 fn says_how_it_ends(rt: HostRuntime) {
-    for row in &ROWS {
-        let held = ends_so(rt.alloc(), row) || ends_so(rt.alloc(), row);
-        assert_of(&rt, row.3, held);
-    }
+    all_hold(&rt, rt.alloc(), &Endings, ROWS);
 }

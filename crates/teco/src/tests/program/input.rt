@@ -1,71 +1,78 @@
 //! What is read of sources that end, fail, or give too much.
-use crate::tests::bytes::{are, joined};
+use crate::tests::bytes::{are, is, joined};
+use crate::tests::rows::{Cells, Rule, all_hold, cells_of, number_or};
 use std::alloc::Global;
+use std::test::*;
 use teco_files::{InputFault, MemorySource, ReaderSource, Source, read_input};
 use teco_terminal::FailAfter;
 
-/// Whether the source fails, the most bytes that may be, and the fault of reading it; none where it gives all eight.
-type Row = (bool, usize, Option<InputFault>);
-
-fn reads<S: Source>(alloc: Global, source: &mut S, row: &Row) -> bool {
-    match (read_input(alloc, source, row.1), row.2) {
-        (Ok(input), None) => are(&input, b"12345678"),
-        (Err(InputFault::Read), Some(InputFault::Read)) => true,
-        (Err(InputFault::TooLarge), Some(InputFault::TooLarge)) => true,
-        _ => false,
+/// Whether reading a source ends so: with all eight bytes, or by a fault.
+fn reads<S: Source>(alloc: Global, source: &mut S, most: usize, wanted: &str) -> bool {
+    match read_input(alloc, source, most) {
+        Ok(input) => is(wanted, "all") && are(&input, b"12345678"),
+        Err(InputFault::Read) => is(wanted, "failed"),
+        Err(InputFault::TooLarge) => is(wanted, "large"),
+        Err(InputFault::Memory) => false,
     }
 }
 
-/// Whether a source that gives `12345678` in three pieces, and then ends or fails, is read so.
-fn reads_anew(alloc: Global, row: &Row) -> bool {
-    let Ok(cuts) = Vec::from_slice(alloc, &[3, 5]) else {
-        return false;
-    };
-    let bytes = joined(alloc, &[b"12345678"]);
-    reads(alloc, &mut MemorySource::new(bytes, cuts, row.0), row)
+/// Whether a row holds of a reader that fails after its bytes, or of a source in memory that gives them in three pieces, and then ends or
+/// fails.
+fn reads_so(alloc: Global, cells: &Cells) -> bool {
+    let [bytes, most, wanted, end, ..] = *cells;
+    let bytes = joined(alloc, &[bytes.as_bytes()]);
+    let most = number_or(most, 0) as usize;
+    if is(end, "reader") {
+        let reader = FailAfter::new(bytes);
+        return reads(alloc, &mut ReaderSource::new(reader), most, wanted);
+    }
+    let mut cuts = Vec::new(alloc);
+    let _ = cuts.push(3).is_ok() && cuts.push(5).is_ok();
+    let mut source = MemorySource::new(bytes, cuts, is(end, "fails"));
+    reads(alloc, &mut source, most, wanted)
 }
 
-// With room for all bytes, and more, and with too little.
-static ROWS: [Row; 14] = [
-    (false, 8, None),
-    (false, 9, None),
-    (false, 1 << 30, None),
-    (true, 8, Some(InputFault::Read)),
-    (true, 9, Some(InputFault::Read)),
-    (true, 1 << 30, Some(InputFault::Read)),
-    (false, 0, Some(InputFault::TooLarge)),
-    (false, 2, Some(InputFault::TooLarge)),
-    (false, 3, Some(InputFault::TooLarge)),
-    (false, 7, Some(InputFault::TooLarge)),
-    (true, 0, Some(InputFault::TooLarge)),
-    (true, 2, Some(InputFault::TooLarge)),
-    (true, 3, Some(InputFault::TooLarge)),
-    (true, 7, Some(InputFault::TooLarge)),
-];
+/// The bytes of a source, the most that may be, what reading it gives, and how it ends.
+#[derive(Clone, Copy)]
+struct Inputs;
 
-/// Where memory was refused, a row holds the second time.
+impl Rule for Inputs {
+    /// Where memory was refused, a row holds the second time.
+    fn holds(&self, alloc: Global, row: &str) -> bool {
+        let cells = cells_of(row);
+        reads_so(alloc, &cells) || reads_so(alloc, &cells)
+    }
+}
+
+const ROWS: &str = "
+    // With room for all bytes, and more, and with too little.
+    12345678 => 8 => all
+    12345678 => 9 => all
+    12345678 => 1073741824 => all
+    12345678 => 8 => failed => fails
+    12345678 => 9 => failed => fails
+    12345678 => 1073741824 => failed => fails
+    12345678 => 0 => large
+    12345678 => 2 => large
+    12345678 => 3 => large
+    12345678 => 7 => large
+    12345678 => 0 => large => fails
+    12345678 => 2 => large => fails
+    12345678 => 3 => large => fails
+    12345678 => 7 => large => fails
+    // However many bytes came before the read that fails, no part of them is read.
+     => 8 => failed => reader
+    1 => 8 => failed => reader
+    12 => 8 => failed => reader
+    123 => 8 => failed => reader
+    1234 => 8 => failed => reader
+    12345 => 8 => failed => reader
+    123456 => 8 => failed => reader
+    1234567 => 8 => failed => reader
+    12345678 => 8 => failed => reader
+    ";
+
 #[test]
 fn reads_all_or_a_fault(rt: HostRuntime) {
-    for row in &ROWS {
-        let held = reads_anew(rt.alloc(), row) || reads_anew(rt.alloc(), row);
-        assert!(rt; held, "{row:?}");
-    }
-}
-
-const FAILS: Row = (true, 8, Some(InputFault::Read));
-
-fn is_failed_read(alloc: Global, front: &[u8]) -> bool {
-    let reader = FailAfter::new(joined(alloc, &[front]));
-    reads(alloc, &mut ReaderSource::new(reader), &FAILS)
-}
-
-/// However many bytes came before the read that fails; where memory was refused, it reads a second time.
-#[test]
-fn reads_no_part_of_what_fails(rt: HostRuntime) {
-    let bytes = b"12345678".as_slice();
-    for read in 0..=bytes.len() {
-        let front = &bytes[..read];
-        let held = is_failed_read(rt.alloc(), front) || is_failed_read(rt.alloc(), front);
-        assert!(rt; held, "after {read} bytes");
-    }
+    all_hold(&rt, rt.alloc(), &Inputs, ROWS);
 }

@@ -1,6 +1,5 @@
 //! What the words of a line say.
 use super::words_of;
-use crate::tests::assert_of;
 use crate::tests::bytes::is;
 use crate::tests::rows::{Cells, Rule, all_hold, cells_of, number_or};
 use std::alloc::Global;
@@ -27,10 +26,12 @@ fn commands_told(alloc: Global, commands: &Commands) -> Result<String, NoMemory>
 /// limit, the seconds, the depth, and the lines of a page.
 fn rest_told(alloc: Global, line: &Line) -> Result<String, NoMemory> {
     let (input, more, output) = (&line.input, &line.more, &line.output);
-    let (seconds, undo, lines) = (line.seconds, line.undo, line.page_lines);
+    let seconds = line.seconds;
     format!(in alloc;
-        "{input} {more:?} {output:?} {} {} {} {} {} {seconds:?} {undo:?} {lines:?}",
-        line.in_place, line.prompt, line.check, line.explain, line.limit
+        "{input} {more:?} {output:?} {:?} {} {seconds:?} {:?}",
+        [line.in_place, line.prompt, line.check, line.explain],
+        line.limit,
+        [line.undo, line.page_lines]
     )
 }
 
@@ -124,22 +125,23 @@ const ROWS: &str = "
     teco --help => => => 0
     teco -V => => => 0
     // What the other options say.
-    teco in => => in [] None false false false false 1000000 None None None
-    teco --limit 5 --output o --prompt in => => in [] Some(\"o\") false true false false 5 None None None
-    teco in --limit=1000000000000 --explain -o - => => in [] Some(\"-\") false false false true 1000000000000 None None None
-    teco --seconds 1 in => => in [] None false false false false 1000000 Some(1) None None
-    teco in --seconds=1000000000000 => => in [] None false false false false 1000000 Some(1000000000000) None None
-    teco --undo 1 in => => in [] None false false false false 1000000 None Some(1) None
-    teco in --undo=100000 => => in [] None false false false false 1000000 None Some(100000) None
-    teco in -i => => in [] None true false false false 1000000 None None None
-    teco -b EX --check in => => in [] None false false true false 1000000 None None None
+    teco in => => in [] None [false, false, false, false] 1000000 None [None, None]
+    teco --limit 5 --output o --prompt in => => in [] Some(\"o\") [false, true, false, false] 5 None [None, None]
+    teco in --limit=1000000000000 --explain -o - => => in [] Some(\"-\") [false, false, false, true] 1000000000000 None [None, None]
+    teco --seconds 1 in => => in [] None [false, false, false, false] 1000000 Some(1) [None, None]
+    teco in --seconds=1000000000000 => => in [] None [false, false, false, false] 1000000 Some(1000000000000) [None, None]
+    teco --undo 1 in => => in [] None [false, false, false, false] 1000000 None [Some(1), None]
+    teco in --undo=100000 => => in [] None [false, false, false, false] 1000000 None [Some(100000), None]
+    teco in -i => => in [] None [true, false, false, false] 1000000 None [None, None]
+    teco -i in => => in [] None [true, false, false, false] 1000000 None [None, None]
+    teco -b EX --check in => => in [] None [false, false, true, false] 1000000 None [None, None]
     teco --check --prompt in => => => 3
-    teco -p 0K in --in-place a b -- -c => => in [\"a\", \"b\", \"-c\"] None true false false false 1000000 None None None
-    teco -e EX$$ in - => => in [\"-\"] None false false false false 1000000 None None None
-    teco -e EX$$ - => => - [] None false false false false 1000000 None None None
-    teco -o -b in => => in [] Some(\"-b\") false false false false 1000000 None None None
-    teco --page-lines 1 in => => in [] None false false false false 1000000 None None Some(1)
-    teco in --page-lines=1000000000 => => in [] None false false false false 1000000 None None Some(1000000000)
+    teco -p 0K in --in-place a b -- -c => => in [\"a\", \"b\", \"-c\"] None [true, false, false, false] 1000000 None [None, None]
+    teco -e EX$$ in - => => in [\"-\"] None [false, false, false, false] 1000000 None [None, None]
+    teco -e EX$$ - => => - [] None [false, false, false, false] 1000000 None [None, None]
+    teco -o -b in => => in [] Some(\"-b\") [false, false, false, false] 1000000 None [None, None]
+    teco --page-lines 1 in => => in [] None [false, false, false, false] 1000000 None [None, Some(1)]
+    teco in --page-lines=1000000000 => => in [] None [false, false, false, false] 1000000 None [None, Some(1000000000)]
     teco --page-lines 0 in => => => 3
     teco --page-lines 1000000001 in => => => 3
     teco --page-lines -1 in => => => 3
@@ -169,26 +171,34 @@ fn status_without_text(alloc: Global) -> Option<u8> {
     }
 }
 
-/// Names, and whether each is standard input's and standard output's.
-static NAMES: [(&str, bool, bool); 10] = [
-    ("-", true, true),
-    ("/dev/stdin", true, false),
-    ("/dev/fd/0", true, false),
-    ("/proc/self/fd/0", true, false),
-    ("/dev/stdout", false, true),
-    ("/dev/fd/1", false, true),
-    ("/proc/self/fd/1", false, true),
-    ("./-", false, false),
-    ("/dev/stderr", false, false),
-    ("", false, false),
-];
+/// Names, and whose each is: standard input's, standard output's, or both.
+#[derive(Clone, Copy)]
+struct Names;
+
+impl Rule for Names {
+    fn holds(&self, _alloc: Global, row: &str) -> bool {
+        let [name, streams, ..] = cells_of(row);
+        is_standard_input(name) == streams.contains("input")
+            && is_standard_output(name) == streams.contains("output")
+    }
+}
+
+const NAMES: &str = "
+    /dev/stdin => input
+    /dev/fd/0 => input
+    /proc/self/fd/0 => input
+    - => input output
+    /dev/stdout => output
+    /dev/fd/1 => output
+    /proc/self/fd/1 => output
+    ./- => neither
+    /dev/stderr => neither
+     => neither
+    ";
 
 #[test]
 fn knows_the_names_of_the_streams_and_what_is_no_text(rt: HostRuntime) {
-    for (name, input, output) in &NAMES {
-        let held = is_standard_input(name) == *input && is_standard_output(name) == *output;
-        assert_of(&rt, name, held);
-    }
+    all_hold(&rt, rt.alloc(), &Names, NAMES);
     let status = match status_without_text(rt.alloc()) {
         Some(status) => Some(status),
         None => status_without_text(rt.alloc()),

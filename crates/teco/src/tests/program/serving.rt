@@ -1,6 +1,6 @@
 //! What is typed and written at streams of commands, and how serving them ends.
 use super::Ticking;
-use crate::tests::bytes::{are_both, is, joined};
+use crate::tests::bytes::{Screen, are_both, is, joined, shown_on};
 use crate::tests::rows::{Cells, Rule, all_hold, cells_of, number_or};
 use crate::tests::session::requests::{Over, Trial, holds_once};
 use crate::tests::step::failed_searches;
@@ -10,7 +10,6 @@ use teco_files::MemorySource;
 use teco_program::{Bounds, ClockAlarm, Served, Silent, serve};
 use teco_session::Session;
 use teco_store::Desk;
-use teco_terminal::{MemoryTerminal, Terminal};
 
 /// The bytes of a stream, where `$` is ESC and a backquote the byte 5.
 fn bytes_of(alloc: Global, stream: &[u8]) -> Vec<u8> {
@@ -36,13 +35,13 @@ fn source_of(alloc: Global, stream: &[u8], single: bool, fails: bool) -> MemoryS
 }
 
 /// Serves a source, with so many steps for each string.
-fn served_by<T: Terminal>(
+fn served_by(
     alloc: Global,
     source: &mut MemorySource,
     session: &mut Session,
     steps: u64,
     prompt: bool,
-    term: &mut T,
+    term: &mut Screen,
 ) -> Served {
     let bounds = Bounds {
         steps,
@@ -109,7 +108,7 @@ struct Serving<'a> {
 }
 
 impl Trial for Serving<'_> {
-    fn holds(&self, alloc: Global, session: &mut Session, term: &mut MemoryTerminal) -> bool {
+    fn holds(&self, alloc: Global, session: &mut Session, term: &mut Screen) -> bool {
         let (cells, said) = (self.cells, self.cells[4]);
         let (fails, prompt) = (said.contains("fails"), said.contains("prompt"));
         let limit = number_or(cells[5], 1_000_000);
@@ -120,7 +119,7 @@ impl Trial for Serving<'_> {
             held = served_by(alloc, &mut source, session, limit, prompt, term) == wanted && held;
             wanted = Served::EndOfCommands;
         }
-        held && are_told(term.bytes(), cells[1], self.untold) && is_left(session, cells)
+        held && are_told(shown_on(term), cells[1], self.untold) && is_left(session, cells)
     }
 }
 

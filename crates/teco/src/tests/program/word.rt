@@ -1,31 +1,39 @@
 //! The commands that run strings on every page.
-use crate::tests::assert_of;
 use crate::tests::bytes::are;
+use crate::tests::rows::{Rule, all_hold, cells_of};
 use std::alloc::Global;
+use std::test::*;
 use teco_core::NoMemory;
 use teco_line::commands_on_pages;
 
-fn gives_on_pages(alloc: Global, strings: &str, bytes: &[u8]) -> bool {
+fn gives_on_pages(alloc: Global, strings: &str, bytes: &str) -> bool {
     match commands_on_pages(alloc, strings.as_bytes()) {
-        Ok(commands) => are(&commands, bytes),
+        Ok(commands) => are(&commands, bytes.as_bytes()),
         Err(NoMemory) => false,
     }
 }
 
-/// The ESCs at the end of the strings are one: two would end the command string inside the loop.
-static ON_PAGES: [(&str, &[u8]); 4] = [
-    ("0K", b"Y<0K\x1b \x1b-1-^N;P>EX\x1b\x1b"),
-    ("FSa\x1bb\x1b", b"Y<FSa\x1bb\x1b \x1b-1-^N;P>EX\x1b\x1b"),
-    ("FSa\x1bb\x1b\x1b", b"Y<FSa\x1bb\x1b \x1b-1-^N;P>EX\x1b\x1b"),
-    ("", b"Y<\x1b \x1b-1-^N;P>EX\x1b\x1b"),
-];
+/// Strings, and the commands that run them on every page.
+#[derive(Clone, Copy)]
+struct OnPages;
 
-/// Where memory was refused, a row holds the second time.
+impl Rule for OnPages {
+    /// Where memory was refused, a row holds the second time.
+    fn holds(&self, alloc: Global, row: &str) -> bool {
+        let [strings, bytes, ..] = cells_of(row);
+        gives_on_pages(alloc, strings, bytes) || gives_on_pages(alloc, strings, bytes)
+    }
+}
+
+/// The ESCs at the end of the strings are one: two would end the command string inside the loop.
+const ROWS: &str = "
+    0K => Y<0K\x1b \x1b-1-^N;P>EX\x1b\x1b
+    FSa\x1bb\x1b => Y<FSa\x1bb\x1b \x1b-1-^N;P>EX\x1b\x1b
+    FSa\x1bb\x1b\x1b => Y<FSa\x1bb\x1b \x1b-1-^N;P>EX\x1b\x1b
+     => Y<\x1b \x1b-1-^N;P>EX\x1b\x1b
+    ";
+
 #[test]
 fn runs_strings_on_every_page(rt: HostRuntime) {
-    for (strings, bytes) in &ON_PAGES {
-        let held = gives_on_pages(rt.alloc(), strings, bytes)
-            || gives_on_pages(rt.alloc(), strings, bytes);
-        assert_of(&rt, strings, held);
-    }
+    all_hold(&rt, rt.alloc(), &OnPages, ROWS);
 }

@@ -1,7 +1,8 @@
 //! What no command shows of search texts: how they are shown.
-use crate::tests::assert_of;
 use crate::tests::bytes::is;
+use crate::tests::rows::{Rule, all_hold, cells_of};
 use std::alloc::Global;
+use std::test::*;
 use teco_core::CaseMode;
 use teco_search::Pattern;
 
@@ -19,19 +20,26 @@ fn shows(alloc: Global, text: &[u8], wanted: &str) -> bool {
     }
 }
 
-static ROWS: [(&[u8], &str); 4] = [
-    (b"ab\x11\x0e", "ab<14>"),
-    (b"\x0e\x05[a,\x05d,\x18]\x05S", "^N^E[a,^ED,^EX]^ES"),
-    (b"\x13\x05L\x05V", "^EB^EL^EV"),
-    (b"x\x05R\x05A\x05W", "x^ER^EA^EW"),
-];
+/// A search text, and how it is shown.
+#[derive(Clone, Copy)]
+struct Shown;
 
-// Where memory was refused, a row holds the second time.
+impl Rule for Shown {
+    /// Where memory was refused, a row holds the second time.
+    fn holds(&self, alloc: Global, row: &str) -> bool {
+        let [text, wanted, ..] = cells_of(row);
+        shows(alloc, text.as_bytes(), wanted) || shows(alloc, text.as_bytes(), wanted)
+    }
+}
+
+const ROWS: &str = "
+    ab\x11\x0e => ab<14>
+    \x0e\x05[a,\x05d,\x18]\x05S => ^N^E[a,^ED,^EX]^ES
+    \x13\x05L\x05V => ^EB^EL^EV
+    x\x05R\x05A\x05W => x^ER^EA^EW
+    ";
+
 #[test]
 fn patterns_are_shown(rt: HostRuntime) {
-    let alloc = rt.alloc();
-    for (text, wanted) in &ROWS {
-        let held = shows(alloc, text, wanted) || shows(alloc, text, wanted);
-        assert_of(&rt, wanted, held);
-    }
+    all_hold(&rt, rt.alloc(), &Shown, ROWS);
 }

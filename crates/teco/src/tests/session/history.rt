@@ -1,18 +1,17 @@
 //! Sessions: strings that are undone and redone, and requests that are refused only where memory is.
-use super::requests::{Over, Trial, holds_in, holds_once};
-use crate::tests::bytes::{is, is_typed, joined};
+use super::requests::{Over, Trial, holds_in, holds_once, ran, turned};
+use crate::tests::bytes::{Screen, is, is_typed, joined};
 use crate::tests::rows::{Cells, Rule, all_hold, cells_of};
 use crate::tests::store::states::{is_seen, seen};
 use std::alloc::Global;
 use std::test::*;
 use teco_core::NoMemory;
 use teco_session::{Answer, Request, Session};
-use teco_terminal::MemoryTerminal;
 
 /// Whether a string is begun, at once or after a refusal, and undone strings are dropped then.
-fn begins(session: &mut Session, term: &mut MemoryTerminal) -> bool {
-    let begun = session.run(b"1=\x1b", 100, term) != Answer::NotBegun
-        || session.run(b"1=\x1b", 100, term) != Answer::NotBegun;
+fn begins(session: &mut Session, term: &mut Screen) -> bool {
+    let begun = ran(session, b"1=\x1b", 100, term) != Answer::NotBegun
+        || ran(session, b"1=\x1b", 100, term) != Answer::NotBegun;
     begun && session.strings() == session.cursor()
 }
 
@@ -21,11 +20,11 @@ fn begins(session: &mut Session, term: &mut MemoryTerminal) -> bool {
 struct Twelve;
 
 impl Trial for Twelve {
-    fn holds(&self, _alloc: Global, session: &mut Session, term: &mut MemoryTerminal) -> bool {
+    fn holds(&self, _alloc: Global, session: &mut Session, term: &mut Screen) -> bool {
         let mut held = true;
         for at in 0..12 {
             held = begins(session, term) && held;
-            held = (at % 3 == 0 || session.undo().is_ok()) && held;
+            held = (at % 3 == 0 || turned(session, false).is_none()) && held;
         }
         held && session.strings() == 5 && session.cursor() == 4
     }
@@ -67,7 +66,7 @@ struct Play<'a>(Cells<'a>);
 
 impl Trial for Play<'_> {
     /// One answer a request.
-    fn holds(&self, alloc: Global, session: &mut Session, term: &mut MemoryTerminal) -> bool {
+    fn holds(&self, alloc: Global, session: &mut Session, term: &mut Screen) -> bool {
         let [_, requests, typed, answers, ..] = self.0;
         let told = match session.play(alloc, &requests_of(alloc, requests), 100, term) {
             Ok(given) => format!(in alloc; "{given:?}"),
@@ -101,16 +100,16 @@ fn comes_back(
     session: &mut Session,
     first: &[u8],
     text: &[u8],
-    term: &mut MemoryTerminal,
+    term: &mut Screen,
 ) -> bool {
-    let begun = session.run(text, 1000, term) != Answer::NotBegun;
+    let begun = ran(session, text, 1000, term) != Answer::NotBegun;
     let left = seen(alloc, session.editor());
     begun
-        && session.undo().is_ok()
+        && turned(session, false).is_none()
         && is_seen(alloc, session.editor(), first)
-        && session.redo().is_ok()
+        && turned(session, true).is_none()
         && is_seen(alloc, session.editor(), &left)
-        && session.undo().is_ok()
+        && turned(session, false).is_none()
 }
 
 /// A string that is cut at each of its bytes.
@@ -119,7 +118,7 @@ struct Cut<'a>(&'a [u8]);
 
 impl Trial for Cut<'_> {
     /// However it ends it can be undone and redone; where memory was refused, a second time.
-    fn holds(&self, alloc: Global, session: &mut Session, term: &mut MemoryTerminal) -> bool {
+    fn holds(&self, alloc: Global, session: &mut Session, term: &mut Screen) -> bool {
         let first = seen(alloc, session.editor());
         let mut held = true;
         for bytes in 0..=self.0.len() {

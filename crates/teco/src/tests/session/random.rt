@@ -1,13 +1,12 @@
 //! Strings made at random, with undo and redo between them: each state that comes back is the one that was seen there before. So it is
 //! where the last strings alone are kept, and then no state before them comes back.
-use super::requests::{Over, Trial, holds_once};
-use crate::tests::bytes::{joined, put};
+use super::requests::{Over, Trial, holds_once, ran, turned};
+use crate::tests::bytes::{Screen, joined, put, wide_screen};
 use crate::tests::rows::LINE;
 use crate::tests::store::states::{is_seen, seen};
 use std::alloc::Global;
 use std::test::*;
 use teco_session::{Answer, Session};
-use teco_terminal::MemoryTerminal;
 
 /// What strings are made of: edits, searches, pages and registers, a row each.
 const PARTS: &str = "
@@ -131,9 +130,9 @@ fn is_as_before(alloc: Global, session: &Session, course: &Course) -> bool {
 /// Runs a string that is made, at once or after a refusal.
 fn answer_to_made(alloc: Global, session: &mut Session, seed: &mut u32) -> Answer {
     let text = made(alloc, seed);
-    let mut term = MemoryTerminal::new(alloc);
-    match session.run(&text, 200, &mut term) {
-        Answer::NotBegun => session.run(&text, 200, &mut term),
+    let mut term = wide_screen(alloc);
+    match ran(session, &text, 200, &mut term) {
+        Answer::NotBegun => ran(session, &text, 200, &mut term),
         answer => answer,
     }
 }
@@ -148,12 +147,7 @@ fn runs(alloc: Global, session: &mut Session, course: &mut Course) -> bool {
 
 /// A redo or an undo, which is done or refused as is wanted, and leaves a state that was seen before.
 fn turns(alloc: Global, session: &mut Session, course: &Course, forth: bool, wanted: bool) -> bool {
-    let turned = if forth {
-        session.redo().is_ok()
-    } else {
-        session.undo().is_ok()
-    };
-    turned == wanted && is_as_before(alloc, session, course)
+    turned(session, forth).is_none() == wanted && is_as_before(alloc, session, course)
 }
 
 /// Up to three of them.
@@ -178,7 +172,7 @@ fn turns_all(alloc: Global, session: &mut Session, course: &Course) -> bool {
     for _ in 0..session.strings() {
         held = turns(alloc, session, course, true, true) && held;
     }
-    held && session.redo().is_err()
+    held && turned(session, true).is_some()
 }
 
 /// Each state comes back, where a thousand strings are run and at most so many states are kept.
@@ -188,7 +182,7 @@ struct Thousand {
 }
 
 impl Trial for Thousand {
-    fn holds(&self, alloc: Global, session: &mut Session, _term: &mut MemoryTerminal) -> bool {
+    fn holds(&self, alloc: Global, session: &mut Session, _term: &mut Screen) -> bool {
         let mut course = Course {
             states: Vec::new(alloc),
             most: self.most,

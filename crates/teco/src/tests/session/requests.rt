@@ -1,16 +1,35 @@
 //! Requests of a session, one after another.
 use super::{breaks, exits, failing_terminals, records};
 use crate::tests::assert_of;
-use crate::tests::bytes::{are, are_both, failing_after, is, is_typed, joined};
+use crate::tests::bytes::{Screen, are_both, is, is_typed, joined, screen_of, wide_screen};
 use crate::tests::exec::breaks::Asking;
 use crate::tests::exec::strings::is_code;
 use crate::tests::rows::{Cells, LINE, cells_of, is_row, number_or, text_of};
 use std::alloc::Global;
 use std::fmt::Write;
 use teco_core::{Code, DEPTH_LIMIT, FILE_LIMIT};
-use teco_session::{Answered, Session};
+use teco_session::{Answer, Answered, Session};
 use teco_store::{ChangeKind, Desk, Editor};
-use teco_terminal::{MemoryTerminal, WriterTerminal};
+
+/// Runs a string under a limit of steps. The tests run one here alone, since each call of the interpreter costs the proof seconds.
+pub(crate) fn ran(session: &mut Session, text: &[u8], limit: u64, term: &mut Screen) -> Answer {
+    session.run(text, limit, term)
+}
+
+/// The code by which a redo or an undo is refused, if it is.
+pub(crate) fn turned(session: &mut Session, forth: bool) -> Option<Code> {
+    if forth {
+        match session.redo() {
+            Ok(()) => None,
+            Err(refused) => Some(Code::from(refused)),
+        }
+    } else {
+        match session.undo() {
+            Ok(()) => None,
+            Err(refused) => Some(Code::from(refused)),
+        }
+    }
+}
 
 /// The code of a string that was broken off after two steps, if it tells that it stood after two bytes.
 fn code_there(answered: &Answered) -> Option<Code> {
@@ -22,24 +41,18 @@ fn code_there(answered: &Answered) -> Option<Code> {
 
 /// The code of the answer to a request: `{` undoes a string, `}` redoes one, `~` goes back to before the first step and `~1` to after
 /// it, `2!` runs `CCC` and breaks it off after two steps, `2?` does so where the place is told, and any other request is run.
-fn code_of(session: &mut Session, request: &str, term: &mut MemoryTerminal) -> Option<Code> {
+fn code_of(session: &mut Session, request: &str, term: &mut Screen) -> Option<Code> {
     let two = &mut Asking::Steps(2);
     match request.as_bytes() {
-        [b'{'] => match session.undo() {
-            Ok(()) => None,
-            Err(refused) => Some(Code::from(refused)),
-        },
-        [b'}'] => match session.redo() {
-            Ok(()) => None,
-            Err(refused) => Some(Code::from(refused)),
-        },
+        [b'{'] => turned(session, false),
+        [b'}'] => turned(session, true),
         [b'~', step @ ..] => match session.rewind(step.len() as u64) {
             Ok(()) => None,
             Err(refused) => Some(Code::from(refused)),
         },
         [b'2', b'!'] => session.run_until(b"CCC", 1000, two, term).code(),
         [b'2', b'?'] => code_there(&session.run_where_until(b"CCC", 1000, two, term)),
-        text => session.run(text, 1000, term).code(),
+        text => ran(session, text, 1000, term).code(),
     }
 }
 
@@ -89,16 +102,15 @@ fn is_left(alloc: Global, session: &Session, cells: &Cells) -> bool {
 /// Whether a string is answered as its row says on a terminal that takes so many bytes, and shows no more than these after their number.
 fn is_shown(alloc: Global, session: &mut Session, cells: &Cells) -> bool {
     let (room, shown) = cells[7].split_once(' ').unwrap_or((cells[7], ""));
-    let mut writer = failing_after(alloc, number_or(room, 0) as usize);
-    let mut term = WriterTerminal::new(&mut writer);
-    let answer = session.run(cells[0].as_bytes(), 1000, &mut term);
-    is_code(answer.code(), cells[1]) && are(writer.before(), shown.as_bytes())
+    let mut term = screen_of(alloc, number_or(room, 0) as usize);
+    let answer = ran(session, cells[0].as_bytes(), 1000, &mut term);
+    is_code(answer.code(), cells[1]) && is_typed(&term, shown)
 }
 
 /// Whether a request is answered as its row says: by the letters of a code, if it is answered by one, with this output after it, and this
 /// text, where a hyphen is an empty one; how many bytes the changes of the last string hold at most, how often it is asked, if not once,
 /// what is told of the session then, and what its terminal takes, if it fails. What is empty after the output is not said.
-fn is_answered(alloc: Global, session: &mut Session, row: &str, term: &mut MemoryTerminal) -> bool {
+fn is_answered(alloc: Global, session: &mut Session, row: &str, term: &mut Screen) -> bool {
     let cells = cells_of(row);
     let mut held = cells[7].is_empty() || is_shown(alloc, session, &cells);
     for _ in 0..number_or(cells[5], u64::from(cells[7].is_empty())).min(100) {
@@ -109,7 +121,7 @@ fn is_answered(alloc: Global, session: &mut Session, row: &str, term: &mut Memor
 
 /// What is tried in a session. It does not own it, since what owns a session has the drop of each of its parts.
 pub(crate) trait Trial {
-    fn holds(&self, alloc: Global, session: &mut Session, term: &mut MemoryTerminal) -> bool;
+    fn holds(&self, alloc: Global, session: &mut Session, term: &mut Screen) -> bool;
 }
 
 /// Requests, a row each, what they type in all, and how many strings are noted then, if that is said.
@@ -121,7 +133,7 @@ struct Script<'a> {
 }
 
 impl Trial for Script<'_> {
-    fn holds(&self, alloc: Global, session: &mut Session, term: &mut MemoryTerminal) -> bool {
+    fn holds(&self, alloc: Global, session: &mut Session, term: &mut Screen) -> bool {
         let mut held = true;
         for row in self.rows.split(LINE) {
             held = held && (!is_row(row) || is_answered(alloc, session, row, term));
@@ -169,7 +181,7 @@ fn session_of(alloc: Global, over: &Over) -> Option<Session> {
 
 /// Whether a trial holds in a new session.
 pub(crate) fn holds_once<T: Trial>(alloc: Global, over: &Over, trial: &T) -> bool {
-    let mut term = MemoryTerminal::new(alloc);
+    let mut term = wide_screen(alloc);
     match session_of(alloc, over) {
         Some(mut session) => trial.holds(alloc, &mut session, &mut term),
         None => false,

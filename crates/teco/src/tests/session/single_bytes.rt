@@ -1,5 +1,6 @@
 //! Each byte alone as a command string.
-use super::requests::{Over, Trial, holds_in};
+use super::requests::{Over, Trial, holds_in, ran, turned};
+use crate::tests::bytes::{Screen, is_typed};
 use crate::tests::commands::COMMANDS;
 use crate::tests::exec::strings::is_code;
 use crate::tests::rows::{LINE, cells_of, is_row, number_or};
@@ -7,7 +8,6 @@ use crate::tests::store::states::{is_seen, seen};
 use std::alloc::Global;
 use std::test::*;
 use teco_session::{Answer, Session};
-use teco_terminal::MemoryTerminal;
 
 /// Whether a command's name begins with a byte: a letter in either case, or for a caret and a letter the control byte.
 fn begins(command: &[u8], byte: u8) -> bool {
@@ -39,18 +39,18 @@ fn ending_of(byte: u8) -> (&'static str, &'static str) {
 struct Alone(u8);
 
 impl Trial for Alone {
-    fn holds(&self, alloc: Global, session: &mut Session, term: &mut MemoryTerminal) -> bool {
+    fn holds(&self, alloc: Global, session: &mut Session, term: &mut Screen) -> bool {
         let first = seen(alloc, session.editor());
         let (code, steps) = ending_of(self.0);
-        let ends_so = match session.run(&[self.0], 1000, term) {
+        let ends_so = match ran(session, &[self.0], 1000, term) {
             Answer::Ended(outcome) => {
                 is_code(outcome.code, code) && number_or(steps, 0) == outcome.steps
             }
             _ => false,
         };
         ends_so
-            && term.bytes().is_empty()
-            && session.undo().is_ok()
+            && is_typed(term, "")
+            && turned(session, false).is_none()
             && is_seen(alloc, session.editor(), &first)
     }
 }

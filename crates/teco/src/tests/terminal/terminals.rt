@@ -1,6 +1,6 @@
 //! Terminals whose puts are refused or fail.
 use crate::tests::assert_of;
-use crate::tests::bytes::{are, is_typed};
+use crate::tests::bytes::are;
 use std::io::{self, Write};
 use teco_terminal::{MemorySink, MemoryTerminal, Terminal, WriterTerminal};
 
@@ -14,11 +14,11 @@ fn keeps(terminal: &mut MemoryTerminal) -> bool {
     let kept = puts_again(terminal, b"1", b"")
         && puts_again(terminal, b"", b"1")
         && puts_again(terminal, b"=23456789012345\r\n", b"1")
-        && is_typed(terminal, "1=23456789012345\r\n");
+        && are(terminal.bytes(), b"1=23456789012345\r\n");
     let taken = terminal.take();
     kept && are(&taken, b"1=23456789012345\r\n")
         && puts_again(terminal, b"2", b"")
-        && is_typed(terminal, "2")
+        && are(terminal.bytes(), b"2")
 }
 
 /// Whether `hi` and then `!` are put, where a growth that is refused the first time isn't the second, and each is flushed.

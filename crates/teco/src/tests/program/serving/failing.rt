@@ -1,15 +1,14 @@
 //! Streams on a terminal that fails after so many bytes, and from a source that does.
 use super::{served_by, source_of};
 use crate::tests::assert_of;
-use crate::tests::bytes::{are, failing_after, put};
-use crate::tests::session::requests::{Over, Trial, holds_in, holds_once};
+use crate::tests::bytes::{Screen, are, put, screen_of, shown_on};
+use crate::tests::session::requests::{Over, Trial, holds_in, holds_once, ran, turned};
 use crate::tests::store::states::{is_seen, seen};
 use std::alloc::Global;
 use std::test::*;
 use teco_files::{MemorySource, Source};
 use teco_program::Served;
 use teco_session::Session;
-use teco_terminal::{MemoryTerminal, WriterTerminal};
 
 /// Three pages.
 const INPUT: &[u8] = b"a\x0cb\x0cc";
@@ -29,7 +28,7 @@ static ROWS: [Row; 7] = [
 
 fn undo_strings(session: &mut Session, count: usize) {
     for _ in 0..count {
-        let _ = session.undo();
+        let _ = turned(session, false);
     }
 }
 
@@ -39,10 +38,10 @@ fn undo_strings(session: &mut Session, count: usize) {
 struct WholeSteps<'a>(&'a Session);
 
 impl Trial for WholeSteps<'_> {
-    fn holds(&self, alloc: Global, other: &mut Session, term: &mut MemoryTerminal) -> bool {
+    fn holds(&self, alloc: Global, other: &mut Session, term: &mut Screen) -> bool {
         let session = self.0;
         for at in 0..session.strings() {
-            let _ = other.run(session.string(at), session.steps(at), term);
+            let _ = ran(other, session.string(at), session.steps(at), term);
         }
         undo_strings(other, session.strings() - session.cursor());
         is_seen(alloc, other.editor(), &seen(alloc, session.editor()))
@@ -69,10 +68,9 @@ fn is_shown(
     } else {
         Served::EndOfCommands
     };
-    let mut writer = failing_after(alloc, room);
-    let mut term = WriterTerminal::new(&mut writer);
+    let mut term = screen_of(alloc, room);
     served_by(alloc, source, session, 1000, false, &mut term) == wanted
-        && are(writer.before(), &typed[..room.min(typed.len())])
+        && are(shown_on(&term), &typed[..room.min(typed.len())])
 }
 
 /// A row, on a terminal that takes so many bytes.
@@ -80,7 +78,7 @@ fn is_shown(
 struct Shown<'a>(Row<'a>, usize);
 
 impl Trial for Shown<'_> {
-    fn holds(&self, alloc: Global, session: &mut Session, _term: &mut MemoryTerminal) -> bool {
+    fn holds(&self, alloc: Global, session: &mut Session, _term: &mut Screen) -> bool {
         let Shown((stream, typed), room) = *self;
         let first = seen(alloc, session.editor());
         let mut source = source_of(alloc, stream.as_bytes(), false, false);
@@ -105,7 +103,7 @@ fn left_by(
     session: &mut Session,
     stream: &[u8],
     single: bool,
-    term: &mut MemoryTerminal,
+    term: &mut Screen,
 ) -> Vec<u8> {
     let wanted = if single {
         Served::EndOfCommands
@@ -115,7 +113,7 @@ fn left_by(
     let mut source = source_of(alloc, stream, single, !single);
     let served = served_by(alloc, &mut source, session, 1000, false, term);
     let mut left = seen(alloc, session.editor());
-    put(&mut left, term.bytes());
+    put(&mut left, shown_on(term));
     if served != wanted {
         left.truncate(0);
     }
@@ -127,7 +125,7 @@ fn left_by(
 struct Ended<'a>(&'a [u8], &'a [u8]);
 
 impl Trial for Ended<'_> {
-    fn holds(&self, alloc: Global, session: &mut Session, term: &mut MemoryTerminal) -> bool {
+    fn holds(&self, alloc: Global, session: &mut Session, term: &mut Screen) -> bool {
         are(&left_by(alloc, session, self.0, true, term), self.1)
     }
 }
@@ -137,7 +135,7 @@ impl Trial for Ended<'_> {
 struct Failed<'a>(&'a [u8]);
 
 impl Trial for Failed<'_> {
-    fn holds(&self, alloc: Global, session: &mut Session, term: &mut MemoryTerminal) -> bool {
+    fn holds(&self, alloc: Global, session: &mut Session, term: &mut Screen) -> bool {
         let left = left_by(alloc, session, self.0, false, term);
         !left.is_empty() && holds_once(alloc, &Over::new(INPUT), &Ended(self.0, &left))
     }
@@ -157,7 +155,7 @@ fn each_read_fails(alloc: Global, stream: &[u8]) -> bool {
 struct Unread;
 
 impl Trial for Unread {
-    fn holds(&self, alloc: Global, session: &mut Session, _term: &mut MemoryTerminal) -> bool {
+    fn holds(&self, alloc: Global, session: &mut Session, _term: &mut Screen) -> bool {
         let mut next = [0];
         let mut source = source_of(alloc, b"1=$$2=$$", true, false);
         is_shown(alloc, &mut source, session, b"1", 0)
