@@ -1,12 +1,19 @@
-//! How the lower crates are called: the examples of their pages. A call that was refused memory is made a second time.
-use crate::tests::bytes::are_both;
+//! How each crate is called: the examples of the crates' pages. A call that was refused memory is made a second time.
+use crate::tests::bytes::{are_both, joined};
 use std::alloc::Global;
 use std::test::*;
-use teco_core::{Args, CaseMode, Op, Taken};
+use teco_core::{Args, CaseMode, Code, NoMemory, Op, Taken};
+use teco_exec::run;
+use teco_files::{MemorySource, read_input};
 use teco_gap::GapBuffer;
+use teco_line::line_of;
+use teco_program::{Asked, Splitter};
 use teco_scan::{Found, first_fault, token_at};
 use teco_search::{Pattern, find};
+use teco_session::Session;
 use teco_step::line_place;
+use teco_store::{Desk, Editor};
+use teco_terminal::{MemoryTerminal, Terminal};
 
 /// teco_core: a sum is given, and a command takes it.
 fn a_sum_is_taken() -> bool {
@@ -18,21 +25,18 @@ fn a_sum_is_taken() -> bool {
 }
 
 /// teco_gap: two bytes take the place of one.
-fn a_text_is_edited(alloc: Global) -> bool {
+fn a_text_is_edited(alloc: Global) -> Result<bool, NoMemory> {
     let mut text = GapBuffer::new();
-    if text.reserve(alloc, 8).is_ok() {
-        text.splice(0, 0, b"hello");
-        text.splice(2, 1, b"XY");
-    }
-    are_both(text.halves(), b"heXYlo")
+    text.reserve(alloc, 8)?;
+    text.splice(0, 0, b"hello");
+    text.splice(2, 1, b"XY");
+    Ok(are_both(text.halves(), b"heXYlo"))
 }
 
 /// teco_search: the second occurrence backward, across the place where the halves meet.
-fn an_occurrence_is_found(alloc: Global) -> bool {
-    match Pattern::read(alloc, b"aXb", CaseMode::Exact) {
-        Ok(pattern) => find(&pattern, (b"aX", b"baXb"), 6, -2) == Some((0, 3)),
-        Err(_) => false,
-    }
+fn an_occurrence_is_found(alloc: Global) -> Result<bool, Code> {
+    let pattern = Pattern::read(alloc, b"aXb", CaseMode::Exact)?;
+    Ok(find(&pattern, (b"aX", b"baXb"), 6, -2) == Some((0, 3)))
 }
 
 /// teco_scan: a token ends where its text ends, and a block without its end is a fault.
@@ -44,15 +48,86 @@ fn a_token_is_read() -> bool {
     read && first_fault(b"3<D").is_some()
 }
 
+/// teco_store: a text is put in, and the pointer goes after it.
+fn an_edit_is_made(alloc: Global) -> bool {
+    let mut editor = Editor::new(Vec::new(alloc));
+    editor.splice(0, 0, b"ab", None).is_ok()
+        && editor.pointer() == 2
+        && are_both(editor.halves(), b"ab")
+}
+
+/// teco_terminal: a terminal in memory shows what is put on it.
+fn a_put_is_shown(alloc: Global) -> bool {
+    let mut terminal = MemoryTerminal::new(alloc);
+    terminal.put(b"2\r\n").is_ok() && terminal.bytes() == b"2\r\n".as_slice()
+}
+
 /// teco_step: the next line begins after the line end that comes, across the place where the halves meet.
 fn a_line_is_placed() -> bool {
     line_place(b"one\ntw", b"o\nthree", 5, 1) == 8
 }
 
+/// teco_exec: a loop is run under a limit of steps.
+fn a_string_is_run(alloc: Global) -> bool {
+    let mut editor = Editor::new(Vec::new(alloc));
+    let mut terminal = MemoryTerminal::new(alloc);
+    let outcome = run(&mut editor, b"3<%A>QA=\x1b", 100, &mut terminal);
+    outcome.code.is_none() && outcome.steps == 10 && terminal.bytes() == b"3\r\n".as_slice()
+}
+
+/// teco_session: an undo gives back the state before the last string.
+fn a_string_is_undone(alloc: Global) -> bool {
+    let mut session = Session::new(Vec::new(alloc));
+    let mut terminal = MemoryTerminal::new(alloc);
+    let _answer = session.run(b"Ihello\x1b", 100, &mut terminal);
+    session.undo().is_ok() && session.editor().pointer() == 0 && session.redo().is_ok()
+}
+
+/// teco_line: the words of a line.
+fn a_line_is_read(alloc: Global) -> Result<bool, NoMemory> {
+    let mut words = Vec::new(alloc);
+    for word in &["teco", "-i", "in"] {
+        words.push(String::from_str(alloc, word)?)?;
+    }
+    match line_of(alloc, words.as_slice()) {
+        Ok(line) => Ok(line.in_place && line.input.as_str() == "in"),
+        Err(_) => Ok(false),
+    }
+}
+
+/// teco_files: a source is read whole.
+fn a_source_is_read(alloc: Global) -> bool {
+    let mut source = MemorySource::new(joined(alloc, &[b"one"]), Vec::new(alloc), false);
+    match read_input(alloc, &mut source, 3) {
+        Ok(input) => input.as_slice() == b"one".as_slice(),
+        Err(_) => false,
+    }
+}
+
+/// teco_program: a stream is cut at its pairs of ESC.
+fn a_stream_is_cut(alloc: Global) -> Result<bool, NoMemory> {
+    let mut splitter = Splitter::new(alloc);
+    splitter.feed(b"1=\x1b\x1b2{\x1b\x1b")?;
+    let first = splitter.next()?;
+    let second = splitter.next()?;
+    Ok(matches!(first, Some(Asked::Run(_))) && matches!(second, Some(Asked::Undo(2))))
+}
+
+/// Whether each example holds that asks for memory.
+fn all_hold(alloc: Global) -> bool {
+    a_text_is_edited(alloc) == Ok(true)
+        && an_occurrence_is_found(alloc) == Ok(true)
+        && an_edit_is_made(alloc)
+        && a_put_is_shown(alloc)
+        && a_string_is_run(alloc)
+        && a_string_is_undone(alloc)
+        && a_line_is_read(alloc) == Ok(true)
+        && a_source_is_read(alloc)
+        && a_stream_is_cut(alloc) == Ok(true)
+}
+
 #[test]
 fn crates_are_called_so(rt: HostRuntime) {
-    let alloc = rt.alloc();
     assert!(rt; a_sum_is_taken() && a_token_is_read() && a_line_is_placed());
-    assert!(rt; a_text_is_edited(alloc) || a_text_is_edited(alloc));
-    assert!(rt; an_occurrence_is_found(alloc) || an_occurrence_is_found(alloc));
+    assert!(rt; all_hold(rt.alloc()) || all_hold(rt.alloc()));
 }
