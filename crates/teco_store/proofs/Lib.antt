@@ -7,6 +7,7 @@ pub mod PageLines
 pub mod Halves
 pub mod Joining
 pub mod Leading
+pub mod Loans
 pub mod Naming
 pub mod Outputs
 pub mod Recordings

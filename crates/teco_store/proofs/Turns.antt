@@ -1,9 +1,10 @@
 -- A change is turned twice: body and change are as before.
 use Rattle.std.proofs.Common.{◌≡◌, ℕ, ◌+◌, ◌<◌, ◌≤◌, List, [], ◌∷◌, ◌++◌, length, take, drop, get_or, refl, sym, ◌∙◌, ap, subst, append_assoc, arith, length-append, length-drop, ℤ}
-use Rattle.std.proofs.lemmas.List.{take_at, drop_at, length-take-le, take-append-drop, drop-drop, length-set, get_or-set_same, set-set, set-get_or}
+use Rattle.std.proofs.lemmas.List.{append-nil, drop_all, take_at, drop_at, length-take-le, take-append-drop, drop-drop, length-set, get_or-set_same, set-set, set-get_or}
 use Rattle.teco_core.specs.Register.{Content, blank, content, with_content, with_number, with_text, numbered, texted}
 use Rattle.teco_store.specs.State.{Body, IsSound, replaced}
-use Rattle.teco_store.specs.Turn.{Turn, Splice, Point, Number, Text, Push, TakeOff, PopInto, PutBack, Pages, Search, Found, Done, Mode, top_of, body_after, turn_after, Stands, Fits}
+use Rattle.teco_store.proofs.Loans.{length-lent, lent_text}
+use Rattle.teco_store.specs.Turn.{Turn, Splice, Lend, Point, Number, Text, Push, TakeOff, PopInto, PutBack, Pages, Search, Found, Done, Mode, lent, top_of, body_after, turn_after, Stands, Fits}
 
 -- the three parts of a list
 parts : (xs : List ℕ) (at n : ℕ) → take at xs ++ (take n (drop at xs) ++ drop (at + n) xs) ≡ xs
@@ -30,6 +31,10 @@ replaced_back xs ins at del within =
     let rest : drop (at + length ins) (replaced xs at (at + del) ins) ≡ drop (at + del) xs =
     rw (← append_assoc (take at xs) ins (drop (at + del) xs)) (drop_at (take at xs ++ ins) (drop (at + del) xs) (at + length ins) both) in
     rw (start, rest) (parts xs at del)
+
+-- bytes that are put in place of all are all
+replaced_all : (xs ins : List ℕ) (n : ℕ) → length xs ≡ n → replaced xs 0 n ins ≡ ins
+replaced_all xs ins n all = ap (λ (l : List ℕ). ins ++ l) (drop_all n xs (omega arith)) ∙ append-nil ins
 
 -- what a register holds after it was put there
 pub content_put : (rs : List Content) (q : ℕ) (c : Content) → q < length rs → content (with_content rs q c) q ≡ c
@@ -60,6 +65,14 @@ both_back b rs rs' ps ps' e f = rw (e, f) refl
 pub body_again : (t : Turn) (b : Body) → Stands t b → body_after (turn_after t b) (body_after t b) ≡ b
 body_again (Splice at there pointer held) b f =
     ap (λ (xs : List ℕ). let x : Body = record b { text = xs } in x) (replaced_back b.text held at there f)
+body_again (Lend from count there_from there pointer) b f =
+    let put = lent b.input from count in
+    let came : length put ≡ count = length-lent b.input from count in
+    let went : lent b.input there_from there ≡ take there b.text = lent_text b.text b.input there_from there f.0.1 in
+    ap (λ (xs : List ℕ). let x : Body = record b { text = xs } in x)
+    (ap (λ (n : ℕ). replaced (replaced b.text 0 (0 + there) put) 0 (0 + n) (lent b.input there_from there)) (sym came)
+    ∙ ap (λ (l : List ℕ). replaced (replaced b.text 0 (0 + there) put) 0 (0 + length put) l) went
+    ∙ replaced_back b.text put 0 there (omega (arith, ap length f.0.1, length-lent b.input there_from there)))
 body_again (Point pointer) b f = refl
 body_again (Number q n) b f = ap (λ (rs : List Content). let x : Body = record b { registers = rs } in x) (number_back b.registers q n f)
 body_again (Text q held) b f = ap (λ (rs : List Content). let x : Body = record b { registers = rs } in x) (text_back b.registers q held f)
@@ -80,6 +93,7 @@ pub turn_again : (t : Turn) (b : Body) → Stands t b → turn_after (turn_after
 turn_again (Splice at there pointer held) b f =
     let taken : length (take there (drop at b.text)) ≡ there = length-take-le there (drop at b.text) (omega (arith, length-drop at b.text, f)) in
     rw (taken, in_place b.text held at there f) refl
+turn_again (Lend from count there_from there pointer) b f = refl
 turn_again (Point pointer) b f = refl
 turn_again (Number q n) b f = ap (λ (c : Content). Number q c.number) (content_put b.registers q (numbered n (content b.registers q)) f)
 turn_again (Text q held) b f = ap (λ (c : Content). Text q c.text) (content_put b.registers q (texted held (content b.registers q)) f)
@@ -98,6 +112,8 @@ pub stands_after : (t : Turn) (b : Body) → Stands t b → Stands (turn_after t
 stands_after (Splice at there pointer held) b f =
     let n : length (replaced b.text at (at + there) held) + there ≡ length b.text + length held = length-replaced b.text held at there f in
     omega arith
+stands_after (Lend from count there_from there pointer) b f =
+    ((f.1, replaced_all b.text (lent b.input from count) (0 + there) (omega (arith, ap length f.0.1, length-lent b.input there_from there))), f.0.0)
 stands_after (Point pointer) b f = tt
 stands_after (Number q n) b f = rw (length-set b.registers q (numbered n (content b.registers q))) f
 stands_after (Text q held) b f = rw (length-set b.registers q (texted held (content b.registers q))) f

@@ -1,16 +1,20 @@
 -- What contracts see of a change.
-use Rattle.std.specs.Prelude.{◌+◌, ◌≤◌, length, option_map}
+use Rattle.std.specs.Prelude.{◌≡◌, ℕ, ◌+◌, ◌≤◌, [], length, option_map}
 use Rattle.std.specs.Vec.{vec_capacity}
 use Rattle.teco_core.specs.Contents.{content_of}
+use Rattle.teco_store.specs.State.{Body}
 use Rattle.teco_store.specs.Turn as turn
-use Rattle.teco_store.specs.Turn.{Turn}
+use Rattle.teco_store.specs.Turn.{Turn, IsLent}
+use Rattle.teco_store.specs.declared.change.Held.{Held}
+use Rattle.teco_store.specs.declared.change.Held.TheVariants.{Input, Memory}
 use Rattle.teco_store.specs.declared.change.Kind.{Kind}
-use Rattle.teco_store.specs.declared.change.Kind.TheVariants.{Splice, Short, Point, Number, Text, Push, TakeOff, PopInto, PutBack, Pages, Search, Found, Done, Mode}
+use Rattle.teco_store.specs.declared.change.Kind.TheVariants.{Splice, Short, Lend, Point, Number, Text, Push, TakeOff, PopInto, PutBack, Pages, Search, Found, Done, Mode}
 use Rattle.teco_store.specs.declared.short_text.TheConstants.{SHORT_LIMIT}
 
 abbrev pub turn_of : Kind → Turn
 turn_of (Splice p held) = turn.Splice p.at p.there p.pointer held.items
 turn_of (Short p held) = turn.Splice p.at p.there p.pointer held
+turn_of (Lend l) = turn.Lend l.from l.count l.there_from l.there l.pointer
 turn_of (Point pointer) = turn.Point pointer
 turn_of (Number q number) = turn.Number q number
 turn_of (Text q held) = turn.Text q held.items
@@ -29,3 +33,8 @@ abbrev pub HasRoom : Kind → Type 0
 HasRoom (Splice p held) = p.there + length held.items ≤ vec_capacity held
 HasRoom (Short p held) = p.there + length held ≤ SHORT_LIMIT
 HasRoom k = Unit {0}
+
+-- What is to hold the bytes of a text at a place can hold them, and so many that come for them.
+abbrev pub CanHold : Body → ℕ → ℕ → ℕ → Held → Type 0
+CanHold b at there came (Input from) = (at ≡ 0) × IsLent b.text b.input from there
+CanHold b at there came (Memory v) = (v.items ≡ []) × (there + came ≤ vec_capacity v)

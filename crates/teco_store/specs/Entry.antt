@@ -3,7 +3,7 @@ use Rattle.std.specs.Prelude.{ℕ, ◌+◌, ◌≤◌, List, [], ◌∷◌, leng
 use Rattle.teco_core.specs.Register.{content}
 use Rattle.teco_store.specs.Search.{length_of}
 use Rattle.teco_store.specs.State.{Body}
-use Rattle.teco_store.specs.Turn.{Turn, Splice, Point, Number, Text, Push, TakeOff, PopInto, PutBack, Pages, Search, Found, Done, Mode, Note, Fits, top_of, body_after, note_after}
+use Rattle.teco_store.specs.Turn.{Turn, Splice, Lend, Point, Number, Text, Push, TakeOff, PopInto, PutBack, Pages, Search, Found, Done, Mode, Note, Fits, top_of, body_after, note_after}
 
 -- the body and the changes after each is turned once, the last first
 abbrev pub body_back : List Note → Body → Body
@@ -52,6 +52,7 @@ of_step i cs = before (i + 1) (since i cs)
 -- the bytes of both sides of a change
 abbrev pub weight : Turn → Body → ℕ
 weight (Splice at there pointer held) b = there + length held
+weight (Lend from count there_from there pointer) b = there + count
 weight (Point pointer) b = 0
 weight (Number q number) b = 0
 weight (Text q held) b = length (content b.registers q).text + length held
@@ -68,6 +69,7 @@ weight (Mode mode) b = 0
 -- the bytes that a change holds
 abbrev pub held_by : Turn → ℕ
 held_by (Splice at there pointer held) = length held
+held_by (Lend from count there_from there pointer) = 0
 held_by (Point pointer) = 0
 held_by (Number q number) = 0
 held_by (Text q held) = length held

@@ -10,6 +10,7 @@ use Rattle.teco_store.specs.declared.change_kind.ChangeKind.TheVariants.{Splice,
 -- of a splice, the place, how many bytes a turn takes out there, and how many it puts in
 abbrev pub kind_of : Turn → ChangeKind
 kind_of (turn.Splice at there pointer held) = Splice at there (length held)
+kind_of (turn.Lend from count there_from there pointer) = Splice 0 there count
 kind_of (turn.Point pointer) = Point
 kind_of (turn.Number q number) = Number q
 kind_of (turn.Text q held) = Text q

@@ -1,5 +1,5 @@
 -- Changes: a part of the state and the value that is to be put there. Turned, a change holds what stood there.
-use Rattle.std.specs.Prelude.{ℕ, ◌+◌, ◌<◌, ◌≤◌, Bool, List, ◌∷◌, length, take, drop, Option, Some, ℤ, slice_index_or}
+use Rattle.std.specs.Prelude.{◌≡◌, ℕ, ◌+◌, ◌<◌, ◌≤◌, Bool, List, ◌∷◌, ◌++◌, length, take, drop, replicate, Option, Some, ℤ, slice_index_or}
 use Rattle.teco_core.specs.declared.case_mode.CaseMode.{CaseMode}
 use Rattle.teco_core.specs.Register.{Content, blank, content, with_content}
 use Rattle.teco_store.specs.State.{Body, Full, IsSound, spliced, pointed, with_register_number, with_register_text, with_case}
@@ -7,6 +7,8 @@ use Rattle.teco_store.specs.State.{Body, Full, IsSound, spliced, pointed, with_r
 pub data Turn : Type 0 where
   -- for the `there` bytes at `at`, and for the pointer
   Splice : (at there pointer : ℕ) (held : List ℕ) → Turn
+  -- for the whole text, which is `there` bytes of the input, and for the pointer: other bytes of the input
+  Lend : (from count there_from there pointer : ℕ) → Turn
   Point : (pointer : ℕ) → Turn
   -- for the number, or the text, of the register q
   Number : (q : ℕ) (number : ℤ) → Turn
@@ -24,6 +26,14 @@ pub data Turn : Type 0 where
   Done : (done : Bool) → Turn
   Mode : (mode : CaseMode) → Turn
 
+-- so many bytes of the input from a place on; past its end they are 0
+abbrev pub lent : List ℕ → ℕ → ℕ → List ℕ
+lent input from count = take count (drop from input ++ replicate count 0)
+
+-- A text is so many bytes of the input from a place on.
+abbrev pub IsLent : List ℕ → List ℕ → ℕ → ℕ → Type 0
+IsLent text input from count = (from + count ≤ length input) × (text ≡ lent input from count)
+
 -- what was pushed last
 abbrev pub top_of : List Content → Content
 top_of contents = slice_index_or contents 0 blank
@@ -31,6 +41,7 @@ top_of contents = slice_index_or contents 0 blank
 -- the body with the value put in
 abbrev pub body_after : Turn → Body → Body
 body_after (Splice at there pointer held) b = spliced b at there held (Some pointer)
+body_after (Lend from count there_from there pointer) b = spliced b 0 there (lent b.input from count) (Some pointer)
 body_after (Point pointer) b = pointed b pointer
 body_after (Number q number) b = with_register_number b q number
 body_after (Text q held) b = with_register_text b q held
@@ -58,6 +69,7 @@ body_after (Mode mode) b = with_case b mode
 -- the same part, and what stood there
 abbrev pub turn_after : Turn → Body → Turn
 turn_after (Splice at there pointer held) b = Splice at (length held) b.pointer (take there (drop at b.text))
+turn_after (Lend from count there_from there pointer) b = Lend there_from there from count b.pointer
 turn_after (Point pointer) b = Point b.pointer
 turn_after (Number q number) b = Number q (content b.registers q).number
 turn_after (Text q held) b = Text q (content b.registers q).text
@@ -74,6 +86,8 @@ turn_after (Mode mode) b = Mode b.case_mode
 -- what is taken out stands there
 abbrev pub Stands : Turn → Body → Type 0
 Stands (Splice at there pointer held) b = at + there ≤ length b.text
+Stands (Lend from count there_from there pointer) b = IsLent b.text b.input there_from there
+    × (from + count ≤ length b.input)
 Stands (Point pointer) b = Unit {0}
 Stands (Number q number) b = q < length b.registers
 Stands (Text q held) b = q < length b.registers

@@ -34,11 +34,39 @@ impl Place {
     }
 }
 
+/// So many bytes of the input from a place on for the whole text, which is others of them, and a place for the pointer.
+#[derive(Clone, Copy)]
+pub(crate) struct Loan {
+    pub(crate) from: u32,
+    pub(crate) count: u32,
+    pub(crate) there_from: u32,
+    pub(crate) there: u32,
+    pub(crate) pointer: u32,
+}
+
+impl Loan {
+    // The kind of a change that lends them.
+    fn kind(&self) -> ChangeKind
+        ensures { result ≡ ChangeKind.Splice 0 self.now.there self.now.count }
+    {
+        let (gone, came) = (self.there as usize, self.count as usize);
+        ChangeKind::Splice { at: 0, gone, came }
+    }
+}
+
+/// What holds a text that goes: the input, where the text stands at a place, or memory that was found for it.
+#[derive(Drop)]
+pub(crate) enum Held {
+    Input(usize),
+    Memory(Vec<u8>),
+}
+
 /// The part of the state that a change is for, with the value.
 #[derive(Drop)]
 pub(crate) enum Kind {
     Splice(Place, Vec<u8>),
     Short(Place, ShortText),
+    Lend(Loan),
     Point(u32),
     Number(Reg, i32),
     Text(Reg, Vec<u8>),
@@ -55,7 +83,8 @@ pub(crate) enum Kind {
 
 /// A part of the state and the value that is to be put there, with the steps that were done before it was noted.
 ///
-/// It holds the text that it takes the place of, and no other. Turned, it holds what stood there.
+/// It holds the text that it takes the place of, and no other. Turned, it holds what stood there. A page that stands in the input as it
+/// was read is not held: the change names its place.
 pub struct Change {
     step: u64,
     kind: Kind,
@@ -110,7 +139,8 @@ impl Change {
             Kind::Splice(_, held) | Kind::Text(_, held) | Kind::Search(Some(held)) => held.len(),
             Kind::Short(_, held) => held.len(),
             Kind::Push(value) | Kind::PutBack(_, value) => value.text.len(),
-            Kind::Point(_)
+            Kind::Lend(_)
+            | Kind::Point(_)
             | Kind::Number(_, _)
             | Kind::TakeOff
             | Kind::PopInto(_)
@@ -135,6 +165,7 @@ impl Change {
         match &self.kind {
             Kind::Splice(place, held) => place.kind(held.len()),
             Kind::Short(place, held) => place.kind(held.len()),
+            Kind::Lend(loan) => loan.kind(),
             Kind::Point(_) => ChangeKind::Point,
             Kind::Number(q, _) => ChangeKind::Number(*q),
             Kind::Text(q, _) => ChangeKind::Text(*q),

@@ -19,7 +19,7 @@ pub(crate) struct Output {
 }
 
 // Where the page stands at the end of what was read, if it stands there.
-fn place_read(read: &[u8], before: &[u8], after: &[u8], form_feed: bool) -> Option<usize>
+pub(crate) fn place_read(read: &[u8], before: &[u8], after: &[u8], form_feed: bool) -> Option<usize>
     ensures { IfSome result (λ at. (at ≤ length read.now)
         × (drop at read.now ≡ (before.now ++ after.now) ++ form_feed_if form_feed)) }
 {

@@ -3,11 +3,11 @@ ghost use Rattle.std.specs.Prelude.{◌≡◌, ◌+◌, ◌≤◌, [], length};
 ghost use Rattle.std.specs.Vec.{vec_capacity};
 ghost use Rattle.teco_store.specs.Page.{page};
 ghost use Rattle.teco_store.specs.ChangeView.{turn_of, HasRoom};
-ghost use Rattle.teco_store.specs.declared.change.Kind.TheVariants.{Splice, PopInto, PutBack};
+ghost use Rattle.teco_store.specs.declared.change.Kind.TheVariants.{Splice, Lend, PopInto, PutBack};
 ghost use Rattle.teco_store.specs.Turn as turn;
 ghost use Rattle.teco_store.specs.Turn.{turn_after, full_after, FitsFull};
 
-use crate::change::{Kind, Place};
+use crate::change::{Kind, Loan, Place};
 use crate::editor::Editor;
 use crate::exchange::{exchange, exchange_short, swap_bytes};
 use crate::pages::next_page;
@@ -35,6 +35,7 @@ impl Editor {
                 held.as_slice(),
                 place.pointer as usize,
             ),
+            Kind::Lend(loan) => self.put_lent(loan),
             Kind::Point(pointer) => {
                 Kind::Point(mem::replace(&mut self.pointer, pointer as usize) as u32)
             }
@@ -85,6 +86,26 @@ impl Editor {
         let pointer = mem::replace(&mut self.pointer, place.pointer as usize) as u32;
         let at = place.at;
         Kind::Splice(Place { at, there, pointer }, held)
+    }
+
+    // Puts bytes of the input for the whole text, and gives where in the input that stands.
+    fn put_lent(&mut self, loan: Loan) -> Kind
+        requires { FitsFull (turn_of (Lend loan)) self.old }
+        ensures editor { self.new ≡ full_after (turn_of (Lend loan)) self.old }
+        ensures kind { turn_of result ≡ turn_after (turn_of (Lend loan)) self.old.body }
+        ensures room { HasRoom result }
+    {
+        let from = loan.from as usize;
+        let part = &self.input[from..from + loan.count as usize];
+        self.text.splice(0, loan.there as usize, part);
+        let pointer = mem::replace(&mut self.pointer, loan.pointer as usize) as u32;
+        Kind::Lend(Loan {
+            from: loan.there_from,
+            count: loan.there,
+            there_from: loan.from,
+            there: loan.count,
+            pointer,
+        })
     }
 
     // Puts `ins` for the `there` bytes at `at`, and gives those that stood there in `held`, which is empty.

@@ -1,9 +1,11 @@
 //! How an editor gets room, and how its output is stored before it counts.
-ghost use Rattle.std.specs.Prelude.{◌≡◌, ◌+◌, ◌≤◌, ◌++◌, length, take, drop, slice_range, OnOk, OnErr};
+ghost use Rattle.std.specs.Prelude.{◌≡◌, ◌+◌, ◌≤◌, ◌++◌, length, take, drop, slice_range, IfSome, OnOk, OnErr};
 ghost use Rattle.teco_store.specs.Page.{finished, form_feed_if, is_ended, left_of, page, page_span, with_next_page, with_range_written, written};
 ghost use Rattle.teco_store.specs.State.{Extends, IsEnd, IsSound, state_of, with_stored};
+ghost use Rattle.teco_store.specs.Turn.{IsLent};
 
 use crate::editor::Editor;
+use crate::output::place_read;
 use crate::pages::{Page, end_after, make_room, next_page, part};
 use std::alloc::Global;
 use teco_core::NoMemory;
@@ -49,6 +51,15 @@ impl Editor {
         ensures sound { IsSound self.now.room (length self.now.stored) self.now.body }
     {
         next_page(&self.input[self.place..], self.page_lines)
+    }
+
+    // Where in the input the page in the buffer stands as it was read, if it stands there.
+    pub(crate) fn place_of_page(&self) -> Option<usize>
+        ensures { IfSome result (λ from. IsLent self.now.body.text
+            self.now.body.input from (length self.now.body.text)) }
+    {
+        let (before, after) = self.text.halves();
+        place_read(&self.input[..self.place], before, after, self.form_feed)
     }
 
     // Drops what is stored beyond the output's end.

@@ -1,12 +1,13 @@
 //! Pages come in and go out, and what stood there is noted.
 ghost use Rattle.std.specs.Prelude.{◌≡◌, ◌+◌, ◌<◌, ◌≤◌, ◌^◌, ◌++◌, [], length, take, drop, IfOk, OnOk, OnErr};
 ghost use Rattle.std.specs.Vec.{vec_capacity};
+ghost use Rattle.teco_store.specs.ChangeView.{CanHold};
 ghost use Rattle.teco_store.specs.Follows.{FollowsAfterChanges, StillFollows};
 ghost use Rattle.teco_store.specs.Page.{brought, form_feed_if, left_of, page, written};
 ghost use Rattle.teco_store.specs.State.{IsSound, state_of, with_stored};
-ghost use Rattle.teco_store.specs.Turn.{full_after, Splice};
+ghost use Rattle.teco_store.specs.Turn.{full_after, lent, IsLent, Splice};
 
-use crate::change::{Change, Kind};
+use crate::change::{Change, Held, Kind, Loan};
 use crate::desk::Desk;
 use crate::recorder::Recorder;
 use teco_core::{FILE_LIMIT, NoMemory, TEXT_LIMIT};
@@ -55,6 +56,26 @@ impl Recorder {
         self.editor.store_rest()
     }
 
+    // Finds what holds the page in the buffer, which `len` bytes are to replace: its place in the input, or memory.
+    pub(super) fn hold_page(&mut self, there: usize, len: usize) -> Result<Held, NoMemory>
+        requires there { there ≡ length self.old.full.body.text }
+        requires few { there + len < 2 ^ 64 }
+        ensures body { self.new.full.body ≡ self.old.full.body }
+        ensures stored { self.new.full.stored ≡ self.old.full.stored }
+        ensures held { IfOk result (CanHold self.new.full.body 0 there len) }
+        ensures spare { OnOk result (2 ≤ self.new.spare) }
+        ensures room { OnOk result (len ≤ self.new.full.room) }
+        ensures sound { IsSound self.new.full.room (length self.new.full.stored) self.new.full.body }
+        ensures keeps { StillFollows self.old self.new }
+    {
+        if let Some(from) = self.editor.place_of_page() {
+            self.find_room(2, len)?;
+            return Ok(Held::Input(from));
+        }
+        let held = self.find_memory(2, there + len, len)?;
+        Ok(Held::Memory(held))
+    }
+
     // Finds memory to write what is between two places of the text, and stores it.
     pub(super) fn prepare_part(
         &mut self,
@@ -77,35 +98,40 @@ impl Recorder {
     }
 
     // Finds memory to write the page and to bring in one of `len` bytes, and stores it.
-    pub(super) fn prepare_page(&mut self, there: usize, len: usize) -> Result<Vec<u8>, NoMemory>
-        requires { there + len < 2 ^ 64 }
+    pub(super) fn prepare_page(&mut self, there: usize, len: usize) -> Result<Held, NoMemory>
+        requires there { there ≡ length self.old.full.body.text }
+        requires few { there + len < 2 ^ 64 }
         ensures ok { OnOk result (self.new.full
             ≡ with_stored self.old.full (written (state_of self.old.full)) self.new.full.room) }
         ensures err { OnErr result (state_of self.new.full ≡ state_of self.old.full) }
-        ensures memory { IfOk result (λ v. (v.items ≡ []) × (vec_capacity v ≡ there + len)) }
+        ensures held { IfOk result (CanHold self.new.full.body 0 there len) }
         ensures spare { OnOk result (2 ≤ self.new.spare) }
         ensures room { OnOk result (len ≤ self.new.full.room) }
         ensures sound { IsSound self.new.full.room (length self.new.full.stored) self.new.full.body }
         ensures keeps { StillFollows self.old self.new }
     {
-        let held = self.find_memory(2, there + len, len)?;
+        let held = self.hold_page(there, len)?;
         self.store_page()?;
         Ok(held)
     }
 
     // Finds memory to write the page and the rest of the input, and stores them.
-    pub(super) fn prepare_rest(&mut self, there: usize) -> Result<Vec<u8>, NoMemory>
+    pub(super) fn prepare_rest(&mut self, there: usize) -> Result<Held, NoMemory>
+        requires { there ≡ length self.old.full.body.text }
         ensures ok { OnOk result (self.new.full
             ≡ with_stored self.old.full (written (state_of self.old.full)
             ++ left_of (state_of self.old.full)) self.old.full.room) }
         ensures err { OnErr result (self.new.full ≡ self.old.full) }
-        ensures memory { IfOk result (λ v. (v.items ≡ []) × (vec_capacity v ≡ there)) }
+        ensures held { IfOk result (CanHold self.new.full.body 0 there 0) }
         ensures spare { OnOk result (3 ≤ self.new.spare) }
         ensures sound { IsSound self.new.full.room (length self.new.full.stored) self.new.full.body }
         ensures keeps { StillFollows self.old self.new }
     {
         self.reserve(3)?;
-        let held = self.memory(there)?;
+        let held = match self.editor.place_of_page() {
+            Some(from) => Held::Input(from),
+            None => Held::Memory(self.memory(there)?),
+        };
         self.store_rest()?;
         Ok(held)
     }
@@ -132,6 +158,72 @@ impl Recorder {
         self.entry.push_reserved(Change::new(self.done, held));
     }
 
+    // Lends `count` bytes of the input from `from` on to the text, which stands there at a place of its own, and notes that place.
+    fn lend(&mut self, from: usize, count: usize, there_from: usize, there: usize, pointer: usize)
+        requires spare { 0 < self.old.spare }
+        requires there { IsLent self.old.full.body.text self.old.full.body.input there_from there }
+        requires within { from + count ≤ length self.old.full.body.input }
+        requires lands { pointer ≤ count }
+        requires small { count ≤ TEXT_LIMIT }
+        requires room { count ≤ self.old.full.room }
+        ensures full { self.new.full ≡ full_after (Splice 0 there pointer
+            (lent self.old.full.body.input from count)) self.old.full }
+        ensures sound { IsSound self.new.full.room (length self.new.full.stored) self.new.full.body }
+        ensures spare { self.new.spare + 1 ≡ self.old.spare }
+        ensures goes { FollowsAfterChanges (there + count) 1 self.old self.new }
+    {
+        let _shown = self.editor.shown();
+        self.note(Kind::Lend(Loan {
+            from: from as u32,
+            count: count as u32,
+            there_from: there_from as u32,
+            there: there as u32,
+            pointer: pointer as u32,
+        }));
+    }
+
+    // Puts the next page for the `there` bytes at `at`, and notes where those stand, or them in memory that was found.
+    fn put_page(&mut self, at: usize, there: usize, pointer: usize, held: Held)
+        requires spare { 0 < self.old.spare }
+        requires held { CanHold self.old.full.body at there (length (page self.old.full.body)) held }
+        requires there { at + there ≤ length self.old.full.body.text }
+        requires lands { pointer + there ≤ length self.old.full.body.text + length (page self.old.full.body) }
+        requires small { length self.old.full.body.text + length
+            (page self.old.full.body) ≤ TEXT_LIMIT + there }
+        requires room { length self.old.full.body.text + length
+            (page self.old.full.body) ≤ self.old.full.room + there }
+        ensures full { self.new.full ≡ full_after
+            (Splice at there pointer (page self.old.full.body)) self.old.full }
+        ensures sound { IsSound self.new.full.room (length self.new.full.stored) self.new.full.body }
+        ensures spare { self.new.spare + 1 ≡ self.old.spare }
+        ensures goes { FollowsAfterChanges (there + length (page self.old.full.body)) 1 self.old self.new }
+    {
+        match held {
+            Held::Memory(held) => self.exchange_page(at, there, pointer, held),
+            Held::Input(there_from) => {
+                let count = self.editor().page().bytes.len();
+                let from = self.editor().place();
+                self.lend(from, count, there_from, there, pointer);
+            }
+        }
+    }
+
+    // Takes out the page, and notes where it stands, or its bytes in memory that was found.
+    pub(super) fn empty(&mut self, there: usize, held: Held)
+        requires spare { 0 < self.old.spare }
+        requires held { CanHold self.old.full.body 0 there 0 held }
+        requires there { there ≡ length self.old.full.body.text }
+        ensures full { self.new.full ≡ full_after (Splice 0 there 0 []) self.old.full }
+        ensures sound { IsSound self.new.full.room (length self.new.full.stored) self.new.full.body }
+        ensures spare { self.new.spare + 1 ≡ self.old.spare }
+        ensures goes { FollowsAfterChanges there 1 self.old self.new }
+    {
+        match held {
+            Held::Memory(held) => self.exchange(0, there, &[], 0, held),
+            Held::Input(there_from) => self.lend(0, 0, there_from, there, 0),
+        }
+    }
+
     // Brings in the next page for the `there` bytes at `at`; the output then ends at `end`, within what is stored.
     pub(super) fn bring_page(
         &mut self,
@@ -139,11 +231,10 @@ impl Recorder {
         there: usize,
         pointer: usize,
         end: usize,
-        held: Vec<u8>,
+        held: Held,
     )
         requires spare { 2 ≤ self.old.spare }
-        requires empty { held.items ≡ [] }
-        requires memory { there + length (page self.old.full.body) ≤ vec_capacity held }
+        requires held { CanHold self.old.full.body at there (length (page self.old.full.body)) held }
         requires there { at + there ≤ length self.old.full.body.text }
         requires lands { pointer + there ≤ length self.old.full.body.text + length (page self.old.full.body) }
         requires small { length self.old.full.body.text + length
@@ -159,7 +250,7 @@ impl Recorder {
         let page = self.editor().page();
         let (len, form_feed) = (page.bytes.len(), page.form_feed);
         let place = self.editor().place() + len + usize::from(form_feed);
-        self.exchange_page(at, there, pointer, held);
+        self.put_page(at, there, pointer, held);
         self.note(Kind::Pages(place as u32, end as u32, form_feed));
     }
 }

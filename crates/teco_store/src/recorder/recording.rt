@@ -2,7 +2,7 @@
 ghost use Rattle.std.specs.Prelude.{◌≡◌, ◌+◌, ◌<◌, ◌≤◌, ◌^◌, length};
 ghost use Rattle.teco_store.specs.State.{pointer_after, state_of};
 
-use crate::change::Kind;
+use crate::change::{Held, Kind};
 use crate::desk::{Desk, Refused};
 use crate::noting::is_long;
 use crate::pages::is_past;
@@ -144,7 +144,7 @@ impl Desk for Recorder {
         }
         let there = self.editor().len();
         let end = self.editor().shown();
-        let held = self.find_memory(2, there + len, len)?;
+        let held = self.hold_page(there, len)?;
         self.bring_page(0, there, 0, end, held);
         Ok(())
     }
@@ -161,7 +161,7 @@ impl Desk for Recorder {
         let pointer = self.editor().pointer();
         let end = self.editor().shown();
         let held = self.find_memory(2, len, there + len)?;
-        self.bring_page(there, 0, pointer, end, held);
+        self.bring_page(there, 0, pointer, end, Held::Memory(held));
         Ok(())
     }
 
@@ -233,7 +233,7 @@ impl Desk for Recorder {
         let there = self.editor().len();
         let over = self.editor().input_len();
         let held = self.prepare_rest(there)?;
-        self.exchange(0, there, &[], 0, held);
+        self.empty(there, held);
         self.note(Kind::Pages(over as u32, end as u32, false));
         self.note(Kind::Done(true));
         Ok(())

@@ -7,4 +7,4 @@ pub returns-clause-goes : goal.returns-clause-goes
 returns-clause-goes c =
     let n = c.args.there + length (page c.args.self.now.full.body) in
     goes_more c.args.self.now c.note.new.self (n + 0) n 2 2 (omega arith) (omega arith)
-    (goes_then c.args.self.now c.exchange_page.new.self c.note.new.self n 0 1 1 c.exchange_page.ensures.goes c.note.ensures.goes)
+    (goes_then c.args.self.now c.put_page.new.self c.note.new.self n 0 1 1 c.put_page.ensures.goes c.note.ensures.goes)

@@ -1,0 +1,45 @@
+-- Parts of the input that a text is, and that are lent to it.
+use Rattle.std.proofs.Common.{◌≡◌, ◌∙◌, ℕ, ◌+◌, ◌≤◌, List, ◌++◌, length, take, drop, replicate, ap, refl, sym, arith, append_assoc, length-append, length-drop}
+use Rattle.std.proofs.lemmas.List.{length-take-le, length-replicate, take-append-le, take-append-drop, drop-append-le, take_all, take_at}
+use Rattle.teco_store.specs.Page.{page, is_ended, page_span, form_feed_if, left_of}
+use Rattle.teco_store.specs.State.{Body, Full}
+use Rattle.teco_store.specs.Turn.{Splice, lent, full_after, IsLent}
+use Rattle.teco_store.proofs.Joining.{joins}
+
+pub length-lent : (input : List ℕ) (from count : ℕ) → length (lent input from count) ≡ count
+length-lent input from count =
+    length-take-le count (drop from input ++ replicate count 0) (omega (arith, length-append (drop from input) (replicate count 0), length-replicate {A = ℕ} count 0))
+
+-- such a text is all of itself
+pub lent_text : (text input : List ℕ) (from count : ℕ) → text ≡ lent input from count → lent input from count ≡ take count text
+lent_text text input from count is = sym is ∙ sym (take_all count text (omega (arith, ap length is, length-lent input from count)))
+
+-- within the input no byte is made up
+lent_within : (input : List ℕ) (from count : ℕ) → from + count ≤ length input → lent input from count ≡ take count (drop from input)
+lent_within input from count within = take-append-le count (drop from input) (replicate count 0) (omega (arith, length-drop from input))
+
+-- a text that stands in what was read
+pub read_is_lent : (input read text flag : List ℕ) (place at : ℕ) → read ≡ take place input → (at ≤ length read) × (drop at read ≡ text ++ flag) → IsLent text input at (length text)
+read_is_lent input read text flag place at front h =
+    let rest : List ℕ = drop place input in
+    let whole : read ++ rest ≡ input = ap (λ (l : List ℕ). l ++ rest) front ∙ take-append-drop place input in
+    let after : drop at input ≡ text ++ (flag ++ rest) =
+    ap (drop at) (sym whole) ∙ drop-append-le at read rest h.0 ∙ ap (λ (l : List ℕ). l ++ rest) h.1 ∙ append_assoc text flag rest in
+    let within : at + length text ≤ length input =
+    omega (arith, ap length after, length-drop at input, length-append text (flag ++ rest), ap length whole, length-append read rest, h.0) in
+    (within, sym (lent_within input at (length text) within ∙ ap (take (length text)) after ∙ take_at text (flag ++ rest) (length text) refl))
+
+-- the next page, which stands in the input at the place
+page_is_lent : (b : Body) → b.place + length (page b) ≤ length b.input → lent b.input b.place (length (page b)) ≡ page b
+page_is_lent b within =
+    let left = left_of b in
+    lent_within b.input b.place (length (page b)) within ∙ ap (take (length (page b))) (sym (joins b.page_lines left))
+    ∙ take_at (page b) (form_feed_if (is_ended b.page_lines left) ++ drop (page_span b.page_lines left) left) (length (page b)) refl
+
+pub page_lends : (f : Full) (at there pointer from count : ℕ) → at ≡ 0 → from ≡ f.body.place → count ≡ length (page f.body) → f.body.place + length (page f.body) ≤ length f.body.input
+    → full_after (Splice 0 there pointer (lent f.body.input from count)) f ≡ full_after (Splice at there pointer (page f.body)) f
+page_lends f at there pointer from count e g h within =
+    ap (λ (k : ℕ). full_after (Splice 0 there pointer (lent f.body.input k count)) f) g
+    ∙ ap (λ (k : ℕ). full_after (Splice 0 there pointer (lent f.body.input f.body.place k)) f) h
+    ∙ ap (λ (l : List ℕ). full_after (Splice 0 there pointer l) f) (page_is_lent f.body within)
+    ∙ ap (λ (k : ℕ). full_after (Splice k there pointer (page f.body)) f) (sym e)
