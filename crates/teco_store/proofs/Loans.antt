@@ -1,7 +1,7 @@
 -- Parts of the input that a text is, and that are lent to it.
-use Rattle.std.proofs.Common.{◌≡◌, ◌∙◌, ℕ, ◌+◌, ◌≤◌, List, ◌++◌, length, take, drop, replicate, ap, refl, sym, arith, append_assoc, length-append, length-drop}
+use Rattle.std.proofs.Common.{◌≡◌, ◌∙◌, ℕ, ◌+◌, ◌-◌, ◌≤◌, slice_range, List, ◌++◌, length, take, drop, replicate, ap, refl, sym, subst, arith, append_assoc, length-append, length-drop}
 use Rattle.std.proofs.lemmas.List.{length-take-le, length-replicate, take-append-le, take-append-drop, drop-append-le, take_all, take_at}
-use Rattle.teco_store.specs.Page.{page, is_ended, page_span, form_feed_if, left_of}
+use Rattle.teco_store.specs.Page.{page, is_ended, page_span, form_feed_if, left_of, IsAsRead}
 use Rattle.teco_store.specs.State.{Body, Full}
 use Rattle.teco_store.specs.Turn.{Splice, lent, full_after, IsLent}
 use Rattle.teco_store.proofs.Joining.{joins}
@@ -30,7 +30,7 @@ read_is_lent input read text flag place at front h =
     (within, sym (lent_within input at (length text) within ∙ ap (take (length text)) after ∙ take_at text (flag ++ rest) (length text) refl))
 
 -- the next page, which stands in the input at the place
-page_is_lent : (b : Body) → b.place + length (page b) ≤ length b.input → lent b.input b.place (length (page b)) ≡ page b
+pub page_is_lent : (b : Body) → b.place + length (page b) ≤ length b.input → lent b.input b.place (length (page b)) ≡ page b
 page_is_lent b within =
     let left = left_of b in
     lent_within b.input b.place (length (page b)) within ∙ ap (take (length (page b))) (sym (joins b.page_lines left))
@@ -43,3 +43,23 @@ page_lends f at there pointer from count e g h within =
     ∙ ap (λ (k : ℕ). full_after (Splice 0 there pointer (lent f.body.input f.body.place k)) f) h
     ∙ ap (λ (l : List ℕ). full_after (Splice 0 there pointer l) f) (page_is_lent f.body within)
     ∙ ap (λ (k : ℕ). full_after (Splice k there pointer (page f.body)) f) (sym e)
+
+-- the page in the buffer, where it stands as it was read
+pub as_read_is_lent : (b : Body) (from : ℕ) → IsAsRead b from → IsLent b.text b.input from (length b.text)
+as_read_is_lent b from h = read_is_lent b.input (take b.place b.input) b.text (form_feed_if b.form_feed) b.place from refl h
+
+-- The next page is within the input, at the place.
+pub page_within : (b : Body) → b.place ≤ length b.input → b.place + length (page b) ≤ length b.input
+page_within b here =
+    let left = left_of b in
+    let rest : List ℕ = form_feed_if (is_ended b.page_lines left) ++ drop (page_span b.page_lines left) left in
+    omega (arith, ap length (joins b.page_lines left), length-append (page b) rest, length-drop b.place b.input)
+
+pub page_at : (b : Body) (len : ℕ) → len ≡ length (page b) → b.place ≤ length b.input → slice_range b.input b.place (b.place + len) ≡ page b
+page_at b len is here =
+    let n : b.place + len - b.place ≡ length (page b) = omega (arith, is) in
+    ap (λ (k : ℕ). take k (drop b.place b.input)) n ∙ sym (lent_within b.input b.place (length (page b)) (page_within b here)) ∙ page_is_lent b (page_within b here)
+
+-- The input holds a whole page.
+pub held_is_lent : (b : Body) (from there : ℕ) → there ≡ length b.text → IsAsRead b from → IsLent b.text b.input from there
+held_is_lent b from there is h = subst (λ (n : ℕ). IsLent b.text b.input from n) (sym is) (as_read_is_lent b from h)

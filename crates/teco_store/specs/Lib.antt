@@ -1,4 +1,5 @@
 pub mod ChangeView
+pub mod Coming
 pub mod Entry
 pub mod Follows
 pub mod Kinds

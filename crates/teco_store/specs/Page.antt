@@ -1,5 +1,5 @@
 -- Pages: the input is read, and the output written, page by page.
-use Rattle.std.specs.Prelude.{ℕ, ◌+◌, ◌-◌, Bool, true, false, List, [], ◌∷◌, ◌++◌, length, take, drop, ◌==◌, ◌&&◌, if◌then◌else◌}
+use Rattle.std.specs.Prelude.{◌≡◌, ℕ, ◌≤◌, ◌+◌, ◌-◌, Bool, true, false, List, [], ◌∷◌, ◌++◌, length, take, drop, ◌==◌, ◌&&◌, if◌then◌else◌}
 use Rattle.teco_core.specs.Ascii.{is_line_end}
 use Rattle.teco_store.specs.State.{Body, State, StateOver, replaced}
 
@@ -34,6 +34,10 @@ page_span lines left = length (page_of lines left) + (if is_ended lines left the
 abbrev pub left_of : {O : Type 0} → StateOver O → List ℕ
 left_of s = drop s.place s.input
 
+-- what of it was read
+abbrev pub read_of : {O : Type 0} → StateOver O → List ℕ
+read_of s = take s.place s.input
+
 abbrev pub is_input_over : {O : Type 0} → StateOver O → Bool
 is_input_over s = s.place == length s.input
 
@@ -64,6 +68,10 @@ form_feed_if false = []
 -- the page that is in the buffer as it goes to the output: with a form feed where one ended it
 abbrev pub written : State → List ℕ
 written s = s.text ++ form_feed_if s.form_feed
+
+-- The page in the buffer stands in the input as it was read, from a place on: it and its form feed end what was read.
+abbrev pub IsAsRead : {O : Type 0} → StateOver O → ℕ → Type 0
+IsAsRead s from = (from ≤ length (read_of s)) × (drop from (read_of s) ≡ s.text ++ form_feed_if s.form_feed)
 
 abbrev pub with_output : State → List ℕ → State
 with_output s bytes = record s { output = s.output ++ bytes }

@@ -1,6 +1,6 @@
 //! Changes: a part of the state, and the value that is to be put there.
 ghost use Rattle.std.specs.Prelude.{◌≡◌, ◌≤◌};
-ghost use Rattle.teco_store.specs.ChangeView.{turn_of, HasRoom};
+ghost use Rattle.teco_store.specs.ChangeView.{turn_of, place_of, HasRoom};
 ghost use Rattle.teco_store.specs.Entry.{held_by};
 ghost use Rattle.teco_store.specs.Kinds.{kind_of, way_back, ChangesOnly};
 ghost use Rattle.teco_store.specs.State.{Body};
@@ -30,6 +30,18 @@ impl Place {
             at: self.at as usize,
             gone: self.there as usize,
             came,
+        }
+    }
+}
+
+impl Held {
+    // The place in the input, if that holds it.
+    pub(crate) fn place(&self) -> Option<usize>
+        ensures { result ≡ place_of self.now }
+    {
+        match self {
+            Held::Input(from) => Some(*from),
+            Held::Memory(_) => None,
         }
     }
 }

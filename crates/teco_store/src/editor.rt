@@ -195,14 +195,14 @@ impl Desk for Editor {
     }
 
     fn read_page(&mut self) -> Result<(), Refused> {
-        let len = self.page().bytes.len();
-        if len > TEXT_LIMIT {
+        let coming = self.coming();
+        if coming.len > TEXT_LIMIT {
             return Err(Refused::Big);
         }
         let there = self.len();
         let end = self.shown();
-        self.reserve(len)?;
-        self.bring_page(0, there, 0, end);
+        self.reserve(coming.len)?;
+        self.bring_page(coming, 0, there, 0, end);
         Ok(())
     }
 
@@ -211,29 +211,29 @@ impl Desk for Editor {
         if self.is_input_over() {
             return Ok(());
         }
-        let len = self.page().bytes.len();
-        if is_past(TEXT_LIMIT, there, len) {
+        let coming = self.coming();
+        if is_past(TEXT_LIMIT, there, coming.len) {
             return Err(Refused::Big);
         }
         let pointer = self.pointer();
         let end = self.shown();
-        self.reserve(there + len)?;
-        self.bring_page(there, 0, pointer, end);
+        self.reserve(there + coming.len)?;
+        self.bring_page(coming, there, 0, pointer, end);
         Ok(())
     }
 
     fn turn_page(&mut self) -> Result<(), Refused> {
-        let len = self.page().bytes.len();
-        if len > TEXT_LIMIT {
+        let coming = self.coming();
+        if coming.len > TEXT_LIMIT {
             return Err(Refused::Big);
         }
         let Some(end) = self.end_after_page() else {
             return Err(Refused::Big);
         };
         let there = self.len();
-        self.reserve(len)?;
-        self.store_page()?;
-        self.bring_page(0, there, 0, end);
+        self.reserve(coming.len)?;
+        self.store_page(self.place_of_page())?;
+        self.bring_page(coming, 0, there, 0, end);
         Ok(())
     }
 
@@ -283,7 +283,7 @@ impl Desk for Editor {
         let Some(end) = self.end_after_rest() else {
             return Err(Refused::Big);
         };
-        self.store_rest()?;
+        self.store_rest(self.place_of_page())?;
         replace_text(&mut self.text, &[]);
         self.pointer = 0;
         self.place = self.input.len();

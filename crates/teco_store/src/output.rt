@@ -1,5 +1,5 @@
 //! The output of an editor. What is written as it stands in the input is not copied.
-ghost use Rattle.std.specs.Prelude.{◌≡◌, ℕ, List, ◌+◌, ◌-◌, ◌<◌, ◌≤◌, ◌^◌, ◌++◌, [], length, take, drop, slice_range, IfSome, IsTrue, OnOk, OnErr};
+ghost use Rattle.std.specs.Prelude.{◌≡◌, ℕ, List, ◌+◌, ◌-◌, ◌<◌, ◌≤◌, ◌^◌, ◌++◌, [], length, take, drop, slice_range, Some, IfSome, IsTrue, OnOk, OnErr};
 ghost use Rattle.std.specs.Vec.{vec_capacity};
 ghost use Rattle.teco_store.specs.Output.{bytes_of, EndsAt, IsIn};
 ghost use Rattle.teco_store.specs.Page.{form_feed_if};
@@ -73,20 +73,12 @@ impl Output {
         shown <= own || (self.from <= at && shown - own == at - self.from)
     }
 
-    // Where the page stands at the end of what was read, if it stands there and the part can be lengthened by it.
-    fn place_after(
-        &self,
-        shown: usize,
-        read: &[u8],
-        before: &[u8],
-        after: &[u8],
-        form_feed: bool,
-    ) -> Option<usize>
-        ensures there { IfSome result (λ at. (at ≤ length read.now)
-            × (drop at read.now ≡ (before.now ++ after.now) ++ form_feed_if form_feed)) }
+    // The place of a page in the input, if the part can be lengthened by the page.
+    fn place_after(&self, shown: usize, from: Option<usize>) -> Option<usize>
+        ensures same { IfSome result (λ at. from ≡ Some at) }
         ensures ends { IfSome result (λ at. EndsAt self.now shown at) }
     {
-        let at = place_read(read, before, after, form_feed)?;
+        let at = from?;
         if self.ends_at(shown, at) {
             Some(at)
         } else {
@@ -175,33 +167,35 @@ impl Output {
         Ok(())
     }
 
-    // Stores a page, which is the two parts of a text with its form feed, and the input from `place` up to another place, after the
-    // first `shown` bytes. A page that stands in the input before `place` is not copied.
+    // Stores a page, which is the two parts of a text with its form feed, and the rest of the input from one place up to another, after
+    // the first `shown` bytes. A page that stands in the input from a place on is not copied.
     pub(crate) fn store(
         &mut self,
         input: &[u8],
         shown: usize,
-        place: usize,
-        upto: usize,
+        from: Option<usize>,
         halves: (&[u8], &[u8]),
         form_feed: bool,
+        rest: (usize, usize),
     ) -> Result<(), NoMemory>
         requires part { IsIn self.old input.now }
         requires there { shown ≤ length (bytes_of self.old input.now) }
         requires few { shown + (length halves.0.now + length halves.1.now + 1) < 2 ^ 64 }
-        requires order { place ≤ upto }
-        requires within { upto ≤ length input.now }
+        requires from { IfSome from (λ at. (at ≤ length (take rest.0 input.now))
+            × (drop at (take rest.0 input.now) ≡ (halves.0.now ++ halves.1.now) ++ form_feed_if form_feed)) }
+        requires order { rest.0 ≤ rest.1 }
+        requires within { rest.1 ≤ length input.now }
         ensures ok { OnOk result (bytes_of self.new input.now ≡ take shown (bytes_of self.old input.now)
             ++ (((halves.entry.0.now ++ halves.entry.1.now) ++ form_feed_if form_feed)
-            ++ slice_range input.now place upto)) }
+            ++ slice_range input.now rest.0 rest.1)) }
         ensures err { OnErr result (bytes_of self.new input.now ≡ bytes_of self.old input.now) }
         ensures part { IsIn self.new input.now }
     {
-        match self.place_after(shown, &input[..place], halves.0, halves.1, form_feed) {
-            Some(at) => self.lengthen(shown, at, upto),
+        match self.place_after(shown, from) {
+            Some(at) => self.lengthen(shown, at, rest.1),
             None => {
                 self.copy(input, shown, halves, form_feed)?;
-                self.follow(place, upto);
+                self.follow(rest.0, rest.1);
             }
         }
         Ok(())

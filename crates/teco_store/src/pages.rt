@@ -23,6 +23,13 @@ pub(crate) struct Page<'a> {
     pub(crate) form_feed: bool,
 }
 
+/// How many bytes the next page has, and whether a form feed ends it.
+#[derive(Clone, Copy)]
+pub(crate) struct Coming {
+    pub(crate) len: usize,
+    pub(crate) form_feed: bool,
+}
+
 // The next page of what is left of the input. No more than the page is looked at, and the byte after it.
 pub(crate) fn next_page(left: &[u8], lines: usize) -> Page<'_>
     ensures bytes { result.bytes.now ≡ page_of lines left.now }

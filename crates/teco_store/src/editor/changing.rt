@@ -1,18 +1,27 @@
 //! Parts of an editor are changed, and nothing of what stood there is kept.
 ghost use Rattle.std.specs.Prelude.{◌≡◌, ◌+◌, ◌≤◌, length, None, Some, IsOk, OnOk, OnErr};
 ghost use Rattle.std.specs.Option.{option_copied};
+ghost use Rattle.teco_store.specs.Coming.{IsComing};
 ghost use Rattle.teco_store.specs.Page.{brought, page};
 ghost use Rattle.teco_store.specs.Search.{fresh, length_of, text_after};
 ghost use Rattle.teco_store.specs.State.{spliced, with_body};
 
 use crate::editor::Editor;
 use crate::noting::note_text;
-use crate::pages::next_page;
+use crate::pages::Coming;
 use teco_core::{FILE_LIMIT, NoMemory, TEXT_LIMIT};
 
 impl Editor {
     // Brings in the next page for the `there` bytes at `at`; the output then ends at `end`, within what is stored.
-    pub(super) fn bring_page(&mut self, at: usize, there: usize, pointer: usize, end: usize)
+    pub(super) fn bring_page(
+        &mut self,
+        coming: Coming,
+        at: usize,
+        there: usize,
+        pointer: usize,
+        end: usize,
+    )
+        requires coming { IsComing coming self.old.body }
         requires there { at + there ≤ length self.old.body.text }
         requires lands { pointer + there ≤ length self.old.body.text + length (page self.old.body) }
         requires small { length self.old.body.text + length (page self.old.body) ≤ TEXT_LIMIT + there }
@@ -20,12 +29,12 @@ impl Editor {
         requires ends { (end ≤ length self.old.stored) × (end ≤ FILE_LIMIT) }
         ensures { self.new ≡ with_body self.old (brought self.old.body at there pointer end) }
     {
-        let page = next_page(&self.input[self.place..], self.page_lines);
-        self.text.splice(at, there, page.bytes);
+        let Coming { len, form_feed } = coming;
+        self.text.splice(at, there, &self.input[self.place..self.place + len]);
         self.pointer = pointer;
-        self.place += page.bytes.len() + usize::from(page.form_feed);
+        self.place += len + usize::from(form_feed);
         self.shown = end;
-        self.form_feed = page.form_feed;
+        self.form_feed = form_feed;
     }
 
     // Puts `ins` for the `del` bytes at `at`, and the pointer at a place.

@@ -1,12 +1,12 @@
 //! How an editor gets room, and how its output is stored before it counts.
 ghost use Rattle.std.specs.Prelude.{◌≡◌, ◌+◌, ◌≤◌, ◌++◌, length, take, drop, slice_range, IfSome, OnOk, OnErr};
-ghost use Rattle.teco_store.specs.Page.{finished, form_feed_if, is_ended, left_of, page, page_span, with_next_page, with_range_written, written};
+ghost use Rattle.teco_store.specs.Coming.{IsComing};
+ghost use Rattle.teco_store.specs.Page.{finished, form_feed_if, left_of, with_next_page, with_range_written, written, IsAsRead};
 ghost use Rattle.teco_store.specs.State.{Extends, IsEnd, IsSound, state_of, with_stored};
-ghost use Rattle.teco_store.specs.Turn.{IsLent};
 
 use crate::editor::Editor;
 use crate::output::place_read;
-use crate::pages::{Page, end_after, make_room, next_page, part};
+use crate::pages::{Coming, end_after, make_room, next_page, part};
 use std::alloc::Global;
 use teco_core::NoMemory;
 
@@ -42,21 +42,21 @@ impl Editor {
         self.input.len()
     }
 
-    // The next page of the input.
-    pub(crate) fn page(&self) -> Page<'_>
-        ensures bytes { result.bytes.now ≡ page self.now.body }
-        ensures form_feed { result.form_feed ≡ is_ended self.now.body.page_lines (left_of self.now.body) }
-        ensures within { self.now.body.place + page_span self.now.body.page_lines
-            (left_of self.now.body) ≤ length self.now.body.input }
+    // How many bytes the next page of the input has, and whether a form feed ends it.
+    pub(crate) fn coming(&self) -> Coming
+        ensures coming { IsComing result self.now.body }
         ensures sound { IsSound self.now.room (length self.now.stored) self.now.body }
     {
-        next_page(&self.input[self.place..], self.page_lines)
+        let page = next_page(&self.input[self.place..], self.page_lines);
+        Coming {
+            len: page.bytes.len(),
+            form_feed: page.form_feed,
+        }
     }
 
     // Where in the input the page in the buffer stands as it was read, if it stands there.
     pub(crate) fn place_of_page(&self) -> Option<usize>
-        ensures { IfSome result (λ from. IsLent self.now.body.text
-            self.now.body.input from (length self.now.body.text)) }
+        ensures { IfSome result (IsAsRead self.now.body) }
     {
         let (before, after) = self.text.halves();
         place_read(&self.input[..self.place], before, after, self.form_feed)
@@ -133,8 +133,9 @@ impl Editor {
         self.output.copy(&self.input, self.shown, halves, form_feed)
     }
 
-    // Stores the page after the output, and the input from its place up to another.
-    fn store_upto(&mut self, upto: usize) -> Result<(), NoMemory>
+    // Stores the page after the output, and the input from its place up to another. A page that stands in the input isn't copied.
+    fn store_upto(&mut self, from: Option<usize>, upto: usize) -> Result<(), NoMemory>
+        requires from { IfSome from (IsAsRead self.old.body) }
         requires order { self.old.body.place ≤ upto }
         requires within { upto ≤ length self.old.body.input }
         ensures ok { OnOk result (self.new
@@ -144,28 +145,31 @@ impl Editor {
         ensures extends { Extends self.old self.new }
     {
         let halves = self.text.halves();
+        let rest = (self.place, upto);
         self.output.store(
             &self.input,
             self.shown,
-            self.place,
-            upto,
+            from,
             halves,
             self.form_feed,
+            rest,
         )
     }
 
     // Stores the page after the output.
-    pub(crate) fn store_page(&mut self) -> Result<(), NoMemory>
+    pub(crate) fn store_page(&mut self, from: Option<usize>) -> Result<(), NoMemory>
+        requires { IfSome from (IsAsRead self.old.body) }
         ensures ok { OnOk result (self.new
             ≡ with_stored self.old (written (state_of self.old)) self.old.room) }
         ensures err { OnErr result (self.new ≡ self.old) }
         ensures extends { Extends self.old self.new }
     {
-        self.store_upto(self.place)
+        self.store_upto(from, self.place)
     }
 
     // Stores the page and the rest of the input after the output.
-    pub(crate) fn store_rest(&mut self) -> Result<(), NoMemory>
+    pub(crate) fn store_rest(&mut self, from: Option<usize>) -> Result<(), NoMemory>
+        requires { IfSome from (IsAsRead self.old.body) }
         ensures ok { OnOk result (self.new
             ≡ with_stored self.old (written (state_of self.old)
             ++ left_of (state_of self.old)) self.old.room) }
@@ -173,6 +177,6 @@ impl Editor {
         ensures extends { Extends self.old self.new }
     {
         let end = self.input.len();
-        self.store_upto(end)
+        self.store_upto(from, end)
     }
 }

@@ -1,14 +1,16 @@
 //! Pages come in and go out, and what stood there is noted.
-ghost use Rattle.std.specs.Prelude.{◌≡◌, ◌+◌, ◌<◌, ◌≤◌, ◌^◌, ◌++◌, [], length, take, drop, IfOk, OnOk, OnErr};
+ghost use Rattle.std.specs.Prelude.{◌≡◌, ◌+◌, ◌<◌, ◌≤◌, ◌^◌, ◌++◌, [], length, take, drop, IfOk, IfSome, OnOk, OnErr};
 ghost use Rattle.std.specs.Vec.{vec_capacity};
 ghost use Rattle.teco_store.specs.ChangeView.{CanHold};
+ghost use Rattle.teco_store.specs.Coming.{IsComing};
 ghost use Rattle.teco_store.specs.Follows.{FollowsAfterChanges, StillFollows};
-ghost use Rattle.teco_store.specs.Page.{brought, form_feed_if, left_of, page, written};
+ghost use Rattle.teco_store.specs.Page.{brought, form_feed_if, left_of, page, written, IsAsRead};
 ghost use Rattle.teco_store.specs.State.{IsSound, state_of, with_stored};
 ghost use Rattle.teco_store.specs.Turn.{full_after, lent, IsLent, Splice};
 
 use crate::change::{Change, Held, Kind, Loan};
 use crate::desk::Desk;
+use crate::pages::Coming;
 use crate::recorder::Recorder;
 use teco_core::{FILE_LIMIT, NoMemory, TEXT_LIMIT};
 
@@ -30,7 +32,8 @@ impl Recorder {
     }
 
     // Stores the page after the output.
-    fn store_page(&mut self) -> Result<(), NoMemory>
+    fn store_page(&mut self, from: Option<usize>) -> Result<(), NoMemory>
+        requires { IfSome from (IsAsRead self.old.full.body) }
         ensures ok { OnOk result (self.new.full
             ≡ with_stored self.old.full (written (state_of self.old.full)) self.old.full.room) }
         ensures err { OnErr result (self.new.full ≡ self.old.full) }
@@ -39,11 +42,12 @@ impl Recorder {
         ensures keeps { StillFollows self.old self.new }
     {
         let _shown = self.editor.shown();
-        self.editor.store_page()
+        self.editor.store_page(from)
     }
 
     // Stores the page and the rest of the input after the output.
-    fn store_rest(&mut self) -> Result<(), NoMemory>
+    fn store_rest(&mut self, from: Option<usize>) -> Result<(), NoMemory>
+        requires { IfSome from (IsAsRead self.old.full.body) }
         ensures ok { OnOk result (self.new.full
             ≡ with_stored self.old.full (written (state_of self.old.full)
             ++ left_of (state_of self.old.full)) self.old.full.room) }
@@ -53,7 +57,7 @@ impl Recorder {
         ensures keeps { StillFollows self.old self.new }
     {
         let _shown = self.editor.shown();
-        self.editor.store_rest()
+        self.editor.store_rest(from)
     }
 
     // Finds what holds the page in the buffer, which `len` bytes are to replace: its place in the input, or memory.
@@ -111,7 +115,7 @@ impl Recorder {
         ensures keeps { StillFollows self.old self.new }
     {
         let held = self.hold_page(there, len)?;
-        self.store_page()?;
+        self.store_page(held.place())?;
         Ok(held)
     }
 
@@ -132,12 +136,20 @@ impl Recorder {
             Some(from) => Held::Input(from),
             None => Held::Memory(self.memory(there)?),
         };
-        self.store_rest()?;
+        self.store_rest(held.place())?;
         Ok(held)
     }
 
     // Puts the next page for the `there` bytes at `at`, and notes those that stood there in `held`, which is empty.
-    fn exchange_page(&mut self, at: usize, there: usize, pointer: usize, held: Vec<u8>)
+    fn exchange_page(
+        &mut self,
+        coming: Coming,
+        at: usize,
+        there: usize,
+        pointer: usize,
+        held: Vec<u8>,
+    )
+        requires coming { IsComing coming self.old.full.body }
         requires spare { 0 < self.old.spare }
         requires empty { held.items ≡ [] }
         requires memory { there + length (page self.old.full.body) ≤ vec_capacity held }
@@ -154,7 +166,7 @@ impl Recorder {
         ensures goes { FollowsAfterChanges (there + length (page self.old.full.body)) 1 self.old self.new }
     {
         let _shown = self.editor.shown();
-        let held = self.editor.exchange_page(at, there, pointer, held);
+        let held = self.editor.exchange_page(coming, at, there, pointer, held);
         self.entry.push_reserved(Change::new(self.done, held));
     }
 
@@ -183,7 +195,8 @@ impl Recorder {
     }
 
     // Puts the next page for the `there` bytes at `at`, and notes where those stand, or them in memory that was found.
-    fn put_page(&mut self, at: usize, there: usize, pointer: usize, held: Held)
+    fn put_page(&mut self, coming: Coming, at: usize, there: usize, pointer: usize, held: Held)
+        requires coming { IsComing coming self.old.full.body }
         requires spare { 0 < self.old.spare }
         requires held { CanHold self.old.full.body at there (length (page self.old.full.body)) held }
         requires there { at + there ≤ length self.old.full.body.text }
@@ -199,11 +212,10 @@ impl Recorder {
         ensures goes { FollowsAfterChanges (there + length (page self.old.full.body)) 1 self.old self.new }
     {
         match held {
-            Held::Memory(held) => self.exchange_page(at, there, pointer, held),
+            Held::Memory(held) => self.exchange_page(coming, at, there, pointer, held),
             Held::Input(there_from) => {
-                let count = self.editor().page().bytes.len();
                 let from = self.editor().place();
-                self.lend(from, count, there_from, there, pointer);
+                self.lend(from, coming.len, there_from, there, pointer);
             }
         }
     }
@@ -227,6 +239,7 @@ impl Recorder {
     // Brings in the next page for the `there` bytes at `at`; the output then ends at `end`, within what is stored.
     pub(super) fn bring_page(
         &mut self,
+        coming: Coming,
         at: usize,
         there: usize,
         pointer: usize,
@@ -234,6 +247,7 @@ impl Recorder {
         held: Held,
     )
         requires spare { 2 ≤ self.old.spare }
+        requires coming { IsComing coming self.old.full.body }
         requires held { CanHold self.old.full.body at there (length (page self.old.full.body)) held }
         requires there { at + there ≤ length self.old.full.body.text }
         requires lands { pointer + there ≤ length self.old.full.body.text + length (page self.old.full.body) }
@@ -247,10 +261,9 @@ impl Recorder {
             ≡ record self.old.full { body = brought self.old.full.body at there pointer end } }
         ensures goes { FollowsAfterChanges (there + length (page self.old.full.body)) 2 self.old self.new }
     {
-        let page = self.editor().page();
-        let (len, form_feed) = (page.bytes.len(), page.form_feed);
-        let place = self.editor().place() + len + usize::from(form_feed);
-        self.put_page(at, there, pointer, held);
+        let form_feed = coming.form_feed;
+        let place = self.editor().place() + coming.len + usize::from(form_feed);
+        self.put_page(coming, at, there, pointer, held);
         self.note(Kind::Pages(place as u32, end as u32, form_feed));
     }
 }

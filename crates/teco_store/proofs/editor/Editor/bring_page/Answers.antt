@@ -1,12 +1,7 @@
 use Rattle.std.proofs.Common.{arith}
 use Rattle.std.proofs.lemmas.Grind.{common_steps}
+use Rattle.teco_store.proofs.Loans.{page_at}
 use Rattle.teco_store.proofs.editor.Editor.bring_page.Goals as goal
-
-pub slice_bounds-next_page-count : goal.slice_bounds-next_page-count
-slice_bounds-next_page-count c = grind (arith, common_steps)
-
-pub slice_bounds-next_page-end : goal.slice_bounds-next_page-end
-slice_bounds-next_page-end c = grind (arith, common_steps)
 
 pub splice-requires-clause-fits : goal.splice-requires-clause-fits
 splice-requires-clause-fits c = grind (arith, common_steps)
@@ -18,7 +13,7 @@ pub overflow_add-self-2 : goal.overflow_add-self-2
 overflow_add-self-2 c = grind (arith, common_steps)
 
 pub invariant_of-self : goal.invariant_of-self
-invariant_of-self c = grind (arith, common_steps)
+invariant_of-self c = grind (arith, common_steps, page_at)
 
 pub returns : goal.returns
-returns c = grind (arith, common_steps)
+returns c = grind (arith, common_steps, page_at)

@@ -1,4 +1,5 @@
-use Rattle.std.proofs.Common.{◌∙◌, ◌++◌, ap, List, ℕ, take}
+use Rattle.std.proofs.Common.{◌∙◌, ◌≡◌, ◌≤◌, ◌++◌, ap, List, ℕ, drop, length, subst, take}
+use Rattle.std.specs.Option.{IfSome}
 use Rattle.teco_store.specs.Output.{bytes_of}
 use Rattle.teco_store.specs.Page.{form_feed_if}
 use Rattle.teco_store.proofs.Outputs.{page_then}
@@ -7,7 +8,9 @@ use Rattle.teco_store.proofs.output.Output.store.Goals as goal
 pub returns-in-Some-clause-ok : goal.returns-in-Some-clause-ok
 returns-in-Some-clause-ok c =
     let input = c.args.input.now in
+    let read = take c.args.rest.0 input in
     let page : List ℕ = (c.args.halves.0.now ++ c.args.halves.1.now) ++ form_feed_if c.args.form_feed in
+    let stands = subst (λ o. IfSome o (λ at. (at ≤ length read) × (drop at read ≡ page))) c.in-Some.ensures.same c.requires.from in
     c.lengthen.ensures.bytes input c.requires.part c.requires.within
     ∙ ap (λ (l : List ℕ). take c.args.shown (bytes_of c.args.self.now input) ++ l)
-    (page_then input page c.in-Some.at c.args.place c.args.upto c.requires.order c.in-Some.ensures.there.0 c.in-Some.ensures.there.1)
+    (page_then input page c.in-Some.at c.args.rest.0 c.args.rest.1 c.requires.order stands.0 stands.1)

@@ -2,11 +2,17 @@ use Rattle.std.proofs.Common.{◌∙◌, length, rules}
 use Rattle.teco_store.specs.ChangeView.{CanHold}
 use Rattle.teco_store.specs.Page.{page}
 use Rattle.teco_store.specs.declared.change.Held.TheVariants.{Input}
-use Rattle.teco_store.proofs.Loans.{page_lends}
+use Rattle.teco_store.proofs.Loans.{held_is_lent, page_lends}
 use Rattle.teco_store.proofs.recorder.Recorder.put_page.Goals as goal
 
 pub returns-in-Input-clause-full : goal.returns-in-Input-clause-full
 returns-in-Input-clause-full c =
     let f = c.args.self.now.full in
     let held : CanHold f.body c.args.at c.args.there (length (page f.body)) (Input c.in-Input.there_from) = search rules in
-    c.lend.ensures.full ∙ page_lends f c.args.at c.args.there c.args.pointer _ _ held.0 (search rules) (search rules) (search rules)
+    c.lend.ensures.full ∙ page_lends f c.args.at c.args.there c.args.pointer _ _ held.0.0 (search rules) (search rules) (search rules)
+
+pub lend-requires-clause-there : goal.lend-requires-clause-there
+lend-requires-clause-there c =
+    let b = c.args.self.now.full.body in
+    let held : CanHold b c.args.at c.args.there (length (page b)) (Input c.in-Input.there_from) = search rules in
+    held_is_lent b c.in-Input.there_from c.args.there held.0.1 held.1
