@@ -1,5 +1,4 @@
 pub mod ChangeView
-pub mod Coming
 pub mod Entry
 pub mod Follows
 pub mod Kinds
@@ -7,6 +6,7 @@ pub mod Lending
 pub mod Output
 pub mod Page
 pub mod PageLaws
+pub mod PageSpan
 pub mod RecordLaws
 pub mod Refused
 pub mod Search

@@ -195,14 +195,14 @@ impl Desk for Editor {
     }
 
     fn read_page(&mut self) -> Result<(), Refused> {
-        let coming = self.coming();
-        if coming.len > TEXT_LIMIT {
+        let span = self.span();
+        if span.len > TEXT_LIMIT {
             return Err(Refused::Big);
         }
         let there = self.len();
         let end = self.shown();
-        self.reserve(coming.len)?;
-        self.bring_page(coming, 0, there, 0, end);
+        self.reserve(span.len)?;
+        self.bring_page(span, 0, there, 0, end);
         Ok(())
     }
 
@@ -211,29 +211,29 @@ impl Desk for Editor {
         if self.is_input_over() {
             return Ok(());
         }
-        let coming = self.coming();
-        if is_past(TEXT_LIMIT, there, coming.len) {
+        let span = self.span();
+        if is_past(TEXT_LIMIT, there, span.len) {
             return Err(Refused::Big);
         }
         let pointer = self.pointer();
         let end = self.shown();
-        self.reserve(there + coming.len)?;
-        self.bring_page(coming, there, 0, pointer, end);
+        self.reserve(there + span.len)?;
+        self.bring_page(span, there, 0, pointer, end);
         Ok(())
     }
 
     fn turn_page(&mut self) -> Result<(), Refused> {
-        let coming = self.coming();
-        if coming.len > TEXT_LIMIT {
+        let span = self.span();
+        if span.len > TEXT_LIMIT {
             return Err(Refused::Big);
         }
         let Some(end) = self.end_after_page() else {
             return Err(Refused::Big);
         };
         let there = self.len();
-        self.reserve(coming.len)?;
+        self.reserve(span.len)?;
         self.store_page(self.place_of_page())?;
-        self.bring_page(coming, 0, there, 0, end);
+        self.bring_page(span, 0, there, 0, end);
         Ok(())
     }
 

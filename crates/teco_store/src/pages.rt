@@ -25,7 +25,7 @@ pub(crate) struct Page<'a> {
 
 /// How many bytes the next page has, and whether a form feed ends it.
 #[derive(Clone, Copy)]
-pub(crate) struct Coming {
+pub(crate) struct PageSpan {
     pub(crate) len: usize,
     pub(crate) form_feed: bool,
 }

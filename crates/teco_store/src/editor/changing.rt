@@ -1,27 +1,27 @@
 //! Parts of an editor are changed, and nothing of what stood there is kept.
 ghost use Rattle.std.specs.Prelude.{◌≡◌, ◌+◌, ◌≤◌, length, None, Some, IsOk, OnOk, OnErr};
 ghost use Rattle.std.specs.Option.{option_copied};
-ghost use Rattle.teco_store.specs.Coming.{IsComing};
+ghost use Rattle.teco_store.specs.PageSpan.{IsPageSpan};
 ghost use Rattle.teco_store.specs.Page.{brought, page};
 ghost use Rattle.teco_store.specs.Search.{fresh, length_of, text_after};
 ghost use Rattle.teco_store.specs.State.{spliced, with_body};
 
 use crate::editor::Editor;
 use crate::noting::note_text;
-use crate::pages::Coming;
+use crate::pages::PageSpan;
 use teco_core::{FILE_LIMIT, NoMemory, TEXT_LIMIT};
 
 impl Editor {
     // Brings in the next page for the `there` bytes at `at`; the output then ends at `end`, within what is stored.
     pub(super) fn bring_page(
         &mut self,
-        coming: Coming,
+        span: PageSpan,
         at: usize,
         there: usize,
         pointer: usize,
         end: usize,
     )
-        requires coming { IsComing coming self.old.body }
+        requires span { IsPageSpan span self.old.body }
         requires there { at + there ≤ length self.old.body.text }
         requires lands { pointer + there ≤ length self.old.body.text + length (page self.old.body) }
         requires small { length self.old.body.text + length (page self.old.body) ≤ TEXT_LIMIT + there }
@@ -29,8 +29,9 @@ impl Editor {
         requires ends { (end ≤ length self.old.stored) × (end ≤ FILE_LIMIT) }
         ensures { self.new ≡ with_body self.old (brought self.old.body at there pointer end) }
     {
-        let Coming { len, form_feed } = coming;
-        self.text.splice(at, there, &self.input[self.place..self.place + len]);
+        let PageSpan { len, form_feed } = span;
+        self.text
+            .splice(at, there, &self.input[self.place..self.place + len]);
         self.pointer = pointer;
         self.place += len + usize::from(form_feed);
         self.shown = end;

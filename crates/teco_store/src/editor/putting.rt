@@ -1,7 +1,7 @@
 //! Values are put in their places, and what stood there is given back.
 ghost use Rattle.std.specs.Prelude.{◌≡◌, ◌+◌, ◌≤◌, [], length};
 ghost use Rattle.std.specs.Vec.{vec_capacity};
-ghost use Rattle.teco_store.specs.Coming.{IsComing};
+ghost use Rattle.teco_store.specs.PageSpan.{IsPageSpan};
 ghost use Rattle.teco_store.specs.Page.{page};
 ghost use Rattle.teco_store.specs.ChangeView.{turn_of, HasRoom};
 ghost use Rattle.teco_store.specs.declared.change.Kind.TheVariants.{Splice, Lend, PopInto, PutBack};
@@ -11,7 +11,7 @@ ghost use Rattle.teco_store.specs.Turn.{turn_after, full_after, FitsFull};
 use crate::change::{Kind, Loan, Place};
 use crate::editor::Editor;
 use crate::exchange::{exchange, exchange_short, swap_bytes};
-use crate::pages::Coming;
+use crate::pages::PageSpan;
 use crate::short_text::SHORT_LIMIT;
 use std::mem;
 use teco_core::{Reg, Value};
@@ -162,13 +162,13 @@ impl Editor {
     // Puts the next page for the `there` bytes at `at`, and gives those that stood there in `held`, which is empty.
     pub(crate) fn exchange_page(
         &mut self,
-        coming: Coming,
+        span: PageSpan,
         at: usize,
         there: usize,
         pointer: usize,
         held: Vec<u8>,
     ) -> Kind
-        requires coming { IsComing coming self.old.body }
+        requires span { IsPageSpan span self.old.body }
         requires empty { held.items ≡ [] }
         requires room { there + length (page self.old.body) ≤ vec_capacity held }
         requires fits { FitsFull (turn.Splice at there pointer (page self.old.body)) self.old }
@@ -179,10 +179,10 @@ impl Editor {
     {
         let place = Place {
             at: at as u32,
-            there: coming.len as u32,
+            there: span.len as u32,
             pointer: self.pointer as u32,
         };
-        let page = &self.input[self.place..self.place + coming.len];
+        let page = &self.input[self.place..self.place + span.len];
         let held = exchange(&mut self.text, at, there, page, held);
         self.pointer = pointer;
         Kind::Splice(place, held)

@@ -1,12 +1,12 @@
 //! How an editor gets room, and how its output is stored before it counts.
 ghost use Rattle.std.specs.Prelude.{◌≡◌, ◌+◌, ◌≤◌, ◌++◌, length, take, drop, slice_range, IfSome, OnOk, OnErr};
-ghost use Rattle.teco_store.specs.Coming.{IsComing};
+ghost use Rattle.teco_store.specs.PageSpan.{IsPageSpan};
 ghost use Rattle.teco_store.specs.Page.{finished, form_feed_if, left_of, with_next_page, with_range_written, written, IsAsRead};
 ghost use Rattle.teco_store.specs.State.{Extends, IsEnd, IsSound, state_of, with_stored};
 
 use crate::editor::Editor;
 use crate::output::place_read;
-use crate::pages::{Coming, end_after, make_room, next_page, part};
+use crate::pages::{PageSpan, end_after, make_room, next_page, part};
 use std::alloc::Global;
 use teco_core::NoMemory;
 
@@ -43,12 +43,12 @@ impl Editor {
     }
 
     // How many bytes the next page of the input has, and whether a form feed ends it.
-    pub(crate) fn coming(&self) -> Coming
-        ensures coming { IsComing result self.now.body }
+    pub(crate) fn span(&self) -> PageSpan
+        ensures span { IsPageSpan result self.now.body }
         ensures sound { IsSound self.now.room (length self.now.stored) self.now.body }
     {
         let page = next_page(&self.input[self.place..], self.page_lines);
-        Coming {
+        PageSpan {
             len: page.bytes.len(),
             form_feed: page.form_feed,
         }
@@ -146,14 +146,7 @@ impl Editor {
     {
         let halves = self.text.halves();
         let rest = (self.place, upto);
-        self.output.store(
-            &self.input,
-            self.shown,
-            from,
-            halves,
-            self.form_feed,
-            rest,
-        )
+        self.output.store(&self.input, self.shown, from, halves, self.form_feed, rest)
     }
 
     // Stores the page after the output.

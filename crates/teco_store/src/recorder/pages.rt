@@ -2,7 +2,7 @@
 ghost use Rattle.std.specs.Prelude.{◌≡◌, ◌+◌, ◌<◌, ◌≤◌, ◌^◌, ◌++◌, [], length, take, drop, IfOk, IfSome, OnOk, OnErr};
 ghost use Rattle.std.specs.Vec.{vec_capacity};
 ghost use Rattle.teco_store.specs.ChangeView.{CanHold};
-ghost use Rattle.teco_store.specs.Coming.{IsComing};
+ghost use Rattle.teco_store.specs.PageSpan.{IsPageSpan};
 ghost use Rattle.teco_store.specs.Follows.{FollowsAfterChanges, StillFollows};
 ghost use Rattle.teco_store.specs.Page.{brought, form_feed_if, left_of, page, written, IsAsRead};
 ghost use Rattle.teco_store.specs.State.{IsSound, state_of, with_stored};
@@ -10,7 +10,7 @@ ghost use Rattle.teco_store.specs.Turn.{full_after, lent, IsLent, Splice};
 
 use crate::change::{Change, Held, Kind, Loan};
 use crate::desk::Desk;
-use crate::pages::Coming;
+use crate::pages::PageSpan;
 use crate::recorder::Recorder;
 use teco_core::{FILE_LIMIT, NoMemory, TEXT_LIMIT};
 
@@ -143,13 +143,13 @@ impl Recorder {
     // Puts the next page for the `there` bytes at `at`, and notes those that stood there in `held`, which is empty.
     fn exchange_page(
         &mut self,
-        coming: Coming,
+        span: PageSpan,
         at: usize,
         there: usize,
         pointer: usize,
         held: Vec<u8>,
     )
-        requires coming { IsComing coming self.old.full.body }
+        requires span { IsPageSpan span self.old.full.body }
         requires spare { 0 < self.old.spare }
         requires empty { held.items ≡ [] }
         requires memory { there + length (page self.old.full.body) ≤ vec_capacity held }
@@ -166,7 +166,7 @@ impl Recorder {
         ensures goes { FollowsAfterChanges (there + length (page self.old.full.body)) 1 self.old self.new }
     {
         let _shown = self.editor.shown();
-        let held = self.editor.exchange_page(coming, at, there, pointer, held);
+        let held = self.editor.exchange_page(span, at, there, pointer, held);
         self.entry.push_reserved(Change::new(self.done, held));
     }
 
@@ -195,8 +195,8 @@ impl Recorder {
     }
 
     // Puts the next page for the `there` bytes at `at`, and notes where those stand, or them in memory that was found.
-    fn put_page(&mut self, coming: Coming, at: usize, there: usize, pointer: usize, held: Held)
-        requires coming { IsComing coming self.old.full.body }
+    fn put_page(&mut self, span: PageSpan, at: usize, there: usize, pointer: usize, held: Held)
+        requires span { IsPageSpan span self.old.full.body }
         requires spare { 0 < self.old.spare }
         requires held { CanHold self.old.full.body at there (length (page self.old.full.body)) held }
         requires there { at + there ≤ length self.old.full.body.text }
@@ -212,10 +212,10 @@ impl Recorder {
         ensures goes { FollowsAfterChanges (there + length (page self.old.full.body)) 1 self.old self.new }
     {
         match held {
-            Held::Memory(held) => self.exchange_page(coming, at, there, pointer, held),
+            Held::Memory(held) => self.exchange_page(span, at, there, pointer, held),
             Held::Input(there_from) => {
                 let from = self.editor().place();
-                self.lend(from, coming.len, there_from, there, pointer);
+                self.lend(from, span.len, there_from, there, pointer);
             }
         }
     }
@@ -239,7 +239,7 @@ impl Recorder {
     // Brings in the next page for the `there` bytes at `at`; the output then ends at `end`, within what is stored.
     pub(super) fn bring_page(
         &mut self,
-        coming: Coming,
+        span: PageSpan,
         at: usize,
         there: usize,
         pointer: usize,
@@ -247,7 +247,7 @@ impl Recorder {
         held: Held,
     )
         requires spare { 2 ≤ self.old.spare }
-        requires coming { IsComing coming self.old.full.body }
+        requires span { IsPageSpan span self.old.full.body }
         requires held { CanHold self.old.full.body at there (length (page self.old.full.body)) held }
         requires there { at + there ≤ length self.old.full.body.text }
         requires lands { pointer + there ≤ length self.old.full.body.text + length (page self.old.full.body) }
@@ -261,9 +261,9 @@ impl Recorder {
             ≡ record self.old.full { body = brought self.old.full.body at there pointer end } }
         ensures goes { FollowsAfterChanges (there + length (page self.old.full.body)) 2 self.old self.new }
     {
-        let form_feed = coming.form_feed;
-        let place = self.editor().place() + coming.len + usize::from(form_feed);
-        self.put_page(coming, at, there, pointer, held);
+        let form_feed = span.form_feed;
+        let place = self.editor().place() + span.len + usize::from(form_feed);
+        self.put_page(span, at, there, pointer, held);
         self.note(Kind::Pages(place as u32, end as u32, form_feed));
     }
 }

@@ -138,14 +138,14 @@ impl Desk for Recorder {
     }
 
     fn read_page(&mut self) -> Result<(), Refused> {
-        let coming = self.editor().coming();
-        if coming.len > TEXT_LIMIT {
+        let span = self.editor().span();
+        if span.len > TEXT_LIMIT {
             return Err(Refused::Big);
         }
         let there = self.editor().len();
         let end = self.editor().shown();
-        let held = self.hold_page(there, coming.len)?;
-        self.bring_page(coming, 0, there, 0, end, held);
+        let held = self.hold_page(there, span.len)?;
+        self.bring_page(span, 0, there, 0, end, held);
         Ok(())
     }
 
@@ -154,28 +154,28 @@ impl Desk for Recorder {
         if self.editor().is_input_over() {
             return Ok(());
         }
-        let coming = self.editor().coming();
-        if is_past(TEXT_LIMIT, there, coming.len) {
+        let span = self.editor().span();
+        if is_past(TEXT_LIMIT, there, span.len) {
             return Err(Refused::Big);
         }
         let pointer = self.editor().pointer();
         let end = self.editor().shown();
-        let held = self.find_memory(2, coming.len, there + coming.len)?;
-        self.bring_page(coming, there, 0, pointer, end, Held::Memory(held));
+        let held = self.find_memory(2, span.len, there + span.len)?;
+        self.bring_page(span, there, 0, pointer, end, Held::Memory(held));
         Ok(())
     }
 
     fn turn_page(&mut self) -> Result<(), Refused> {
-        let coming = self.editor().coming();
-        if coming.len > TEXT_LIMIT {
+        let span = self.editor().span();
+        if span.len > TEXT_LIMIT {
             return Err(Refused::Big);
         }
         let Some(end) = self.editor().end_after_page() else {
             return Err(Refused::Big);
         };
         let there = self.editor().len();
-        let held = self.prepare_page(there, coming.len)?;
-        self.bring_page(coming, 0, there, 0, end, held);
+        let held = self.prepare_page(there, span.len)?;
+        self.bring_page(span, 0, there, 0, end, held);
         Ok(())
     }
 

@@ -2,10 +2,10 @@
 use Rattle.std.specs.Prelude.{◌≡◌, ◌+◌, ◌≤◌, length}
 use Rattle.teco_store.specs.Page.{is_ended, left_of, page, page_span}
 use Rattle.teco_store.specs.State.{Body}
-use Rattle.teco_store.specs.declared.pages.Coming.{Coming}
+use Rattle.teco_store.specs.declared.pages.PageSpan.{PageSpan}
 
 -- It has so many bytes, a form feed ends it or none does, and with that it is within the input.
-pub record IsComing (c : Coming) (b : Body) : Type 0 where
-  pub len : c.len ≡ length (page b)
-  pub form_feed : c.form_feed ≡ is_ended b.page_lines (left_of b)
+pub record IsPageSpan (span : PageSpan) (b : Body) : Type 0 where
+  pub len : span.len ≡ length (page b)
+  pub form_feed : span.form_feed ≡ is_ended b.page_lines (left_of b)
   pub within : b.place + page_span b.page_lines (left_of b) ≤ length b.input
