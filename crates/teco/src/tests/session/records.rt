@@ -48,6 +48,17 @@ pub(super) const SCRIPTS: &str = "
     \x1b => => => => 0
     { => => => => 0
     } => => => => 0
+    // A page that leaves the buffer as it was read is not held: only a changed one is.
+    over ab\x0ccd\x0cef
+    Y\x1b => => => ab => 0
+    P\x1b => => ab\x0c => cd => 0
+    { => => => ab => 0
+    } => => ab\x0c => cd => 0
+    Ix\x1bP\x1b => => ab\x0cxcd\x0c => ef => 3
+    { => => ab\x0c => cd => 3
+    } => => ab\x0cxcd\x0c => ef => 3
+    EX\x1b => => ab\x0cxcd\x0cef => - => 0
+    { => => ab\x0cxcd\x0c => ef => 0
     // A string shows the kinds of its changes, and the way back once it is undone.
     over
     Iabc\x1b-DIxy\x1bJ\x1b => => => => => => 1 0 5: 0 3 0, 2 0 1, 2 2 0, point,.
