@@ -2,3 +2,4 @@ pub mod Digits
 pub mod Findings
 pub mod Staying
 pub mod Changes
+pub mod Returning

@@ -1,4 +1,5 @@
-use Rattle.std.proofs.Common.{sym, ◌∙◌, ap}
+use Rattle.std.proofs.Common.{sym, ◌∙◌, ap, arith}
+use Rattle.std.proofs.lemmas.Grind.{common_steps}
 use Rattle.std.proofs.lemmas.Option.{get_or_from_slice_get}
 use Rattle.teco_store.specs.State.{with_body}
 use Rattle.teco_store.specs.Entry.{body_forth}
@@ -26,3 +27,15 @@ returns-in-Some-clause-strings c =
     let entry = c.in-Some.entry.now in
     let read = get_or_from_slice_get c.in-Last.ring.items c.args.i entry entry (sym c.in-Some.ensures.value) in
     string_set (λ x. string_forth x c.args.editor.now.body) _ c.in-Last.ring.items entry _ c.args.i (ap strings_of c.in-Last.is) c.requires.within (sym read) c.apply-in-Some.ensures.entry
+
+pub returns-in-All-clause-depth : goal.returns-in-All-clause-depth
+returns-in-All-clause-depth c = grind (arith, common_steps)
+
+pub returns-in-Some-clause-depth : goal.returns-in-Some-clause-depth
+returns-in-Some-clause-depth c = grind (arith, common_steps)
+
+pub index_mut-requires : goal.index_mut-requires
+index_mut-requires c = grind (arith, common_steps)
+
+pub unreachable-unreachable : goal.unreachable-unreachable
+unreachable-unreachable c = grind (arith, common_steps)

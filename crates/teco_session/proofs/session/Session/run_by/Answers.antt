@@ -33,6 +33,34 @@ pub returns-then-is_err-clause-same : goal.returns-then-is_err-clause-same
 returns-then-is_err-clause-same g c unbegun =
     same_session c.self.inside.recorder.full _ _ c.self.inside.cursor _ _ c.args.self.now c.reserve.ensures.strings c.reserve.ensures.depth c.self.view_is
 
+-- What is not begun leaves the session and the runner as they were, and what ends was begun.
+pub returns-then-done-clause-same : goal.returns-then-done-clause-same
+returns-then-done-clause-same g c unbegun = refl
+
+pub returns-in_default-clause-same : goal.returns-in_default-clause-same
+returns-in_default-clause-same g c unbegun = refl
+
+pub returns-then-keeps_none-clause-same : goal.returns-then-keeps_none-clause-same
+returns-then-keeps_none-clause-same g c begun = absurd (false≢true begun)
+
+pub returns-clause-same : goal.returns-clause-same
+returns-clause-same g c begun = absurd (false≢true begun)
+
+pub returns-then-done-clause-unbegun : goal.returns-then-done-clause-unbegun
+returns-then-done-clause-unbegun g c unbegun = refl
+
+pub returns-in_default-clause-unbegun : goal.returns-in_default-clause-unbegun
+returns-in_default-clause-unbegun g c unbegun = refl
+
+pub returns-then-is_err-clause-unbegun : goal.returns-then-is_err-clause-unbegun
+returns-then-is_err-clause-unbegun g c unbegun = refl
+
+pub returns-then-keeps_none-clause-unbegun : goal.returns-then-keeps_none-clause-unbegun
+returns-then-keeps_none-clause-unbegun g c begun = absurd (false≢true begun)
+
+pub returns-clause-unbegun : goal.returns-clause-unbegun
+returns-clause-unbegun g c begun = absurd (false≢true begun)
+
 -- A string that is not begun changes nothing.
 pub returns-then-done-clause-step : goal.returns-then-done-clause-step
 returns-then-done-clause-step g c = whole _ refl ([], (ap (λ (s : State). s.is_done) (sym c.editor.ensures.present) ∙ sym c.done.ensures ∙ c.if-done.true, refl, refl), Shows-nil _)
