@@ -1,0 +1,6 @@
+use Rattle.std.proofs.Common.{arith}
+use Rattle.std.proofs.lemmas.Grind.{common_steps}
+use Rattle.teco_files.proofs.file_disk.FileDiskDisk.target_of.Goals as goal
+
+pub returns-in-Ok-clause-target : goal.returns-in-Ok-clause-target
+returns-in-Ok-clause-target g c = grind (arith, common_steps)
