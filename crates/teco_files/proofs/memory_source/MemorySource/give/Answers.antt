@@ -121,3 +121,12 @@ returns-clause-ends c = grind (arith, common_steps)
 
 pub returns-clause-fits : goal.returns-clause-fits
 returns-clause-fits c = grind (arith, common_steps)
+
+pub returns-then-self-clause-count : goal.returns-then-self-clause-count
+returns-then-self-clause-count c = grind (arith, common_steps)
+
+pub returns-then-left-eq0-clause-count : goal.returns-then-left-eq0-clause-count
+returns-then-left-eq0-clause-count c = grind (arith, common_steps)
+
+pub piece_end-end-requires-clause-more : goal.piece_end-end-requires-clause-more
+piece_end-end-requires-clause-more c = grind (arith, common_steps)
