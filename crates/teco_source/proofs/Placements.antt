@@ -1,5 +1,5 @@
 -- The places at which bytes begin, byte by byte of the source.
-use Rattle.std.proofs.Common.{◌≡◌, ℕ, suc, ◌+◌, ◌<◌, ◌≤◌, List, length, drop, get_or, refl, arith, add-one, drop-cons}
+use Rattle.std.proofs.Common.{◌≡◌, ℕ, ◌+◌, ◌<◌, ◌≤◌, List, length, drop, get_or, refl, add-one, drop-cons}
 use Rattle.std.proofs.lemmas.List.{drop_all}
 use Rattle.teco_source.specs.Source.{State, step}
 use Rattle.teco_source.specs.Places.{bytes_begun, fitted, places_from}

@@ -1,4 +1,4 @@
-use Rattle.std.proofs.Common.{◌≡◌, ◌+◌, ◌-◌, List, ℕ, length, take, drop, sym, ap, ◌∙◌, arith}
+use Rattle.std.proofs.Common.{◌+◌, ◌-◌, length, take, drop, sym, ap, ◌∙◌, arith}
 use Rattle.teco_advice.specs.Strings.{is_faulty_string, strings_of}
 use Rattle.teco_advice.proofs.Cuts.{one_more, last_one, whole_held}
 use Rattle.teco_advice.proofs.checking.check.Goals as goal

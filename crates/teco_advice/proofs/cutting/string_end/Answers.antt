@@ -1,4 +1,4 @@
-use Rattle.std.proofs.Common.{◌≡◌, ℕ, ◌+◌, ◌-◌, List, [], ◌∷◌, take, drop, get_or, sym, ap, ◌∙◌, arith}
+use Rattle.std.proofs.Common.{◌≡◌, ℕ, ◌+◌, ◌-◌, List, [], ◌∷◌, take, drop, sym, ap, ◌∙◌, arith}
 use Rattle.teco_advice.specs.Strings.{strings_from}
 use Rattle.teco_advice.proofs.Cuts.{one_cut, one_held, all_held, more_held, whole_held}
 use Rattle.teco_advice.proofs.cutting.string_end.Goals as goal

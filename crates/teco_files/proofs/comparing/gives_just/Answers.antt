@@ -1,4 +1,5 @@
 use Rattle.std.proofs.Common.{◌≡◌, ◌==◌, ◌∷◌, ℕ, List, [], Option, false, true, length, refl, subst, append-nil, ◌∙◌, ◌++◌, ap, sym, take, arith, length-take-le, append_assoc}
+use Rattle.std.proofs.lemmas.Grind.{common_steps}
 use Rattle.std.proofs.lemmas.Bool.{eqb-true}
 use Rattle.teco_files.proofs.Sources.{Gives-more, Gives-nil, Gives-on}
 use Rattle.teco_files.specs.Source.{Gives}
@@ -40,3 +41,21 @@ returns-then-is_empty-clause-given g c = λ yes.
 
 pub returns-then-is_empty-clause-ended : goal.returns-then-is_empty-clause-ended
 returns-then-is_empty-clause-ended g c = λ yes. c.in-Ok.ensures.ends c.if-n-eq0.true (omega arith)
+
+pub returns-else-is_empty-clause-given : goal.returns-else-is_empty-clause-given
+returns-else-is_empty-clause-given g c = grind (arith, common_steps)
+
+pub returns-else-is_empty-clause-ended : goal.returns-else-is_empty-clause-ended
+returns-else-is_empty-clause-ended g c = grind (arith, common_steps)
+
+pub returns-in-None-clause-given : goal.returns-in-None-clause-given
+returns-in-None-clause-given g c = grind (arith, common_steps)
+
+pub returns-in-None-clause-ended : goal.returns-in-None-clause-ended
+returns-in-None-clause-ended g c = grind (arith, common_steps)
+
+pub returns-in-Err-clause-given : goal.returns-in-Err-clause-given
+returns-in-Err-clause-given g c = grind (arith, common_steps)
+
+pub returns-in-Err-clause-ended : goal.returns-in-Err-clause-ended
+returns-in-Err-clause-ended g c = grind (arith, common_steps)

@@ -1,4 +1,5 @@
 use Rattle.std.proofs.Common.{◌≡◌, ◌++◌, Err, IfErr, IsErrAnd, Ok, Result, ℕ, arith, false, length-take-le, subst, sym, take}
+use Rattle.std.proofs.lemmas.Grind.{common_steps}
 use Rattle.teco_files.proofs.Sources.{Gives-more, Gives-on, length-more}
 use Rattle.teco_files.specs.Source.{Gives}
 use Rattle.teco_files.specs.declared.input.InputFault.TheVariants.{Memory}
@@ -39,3 +40,6 @@ pieces-preserved g c =
       given = subst (λ l. Gives g.S.Source.coming g.S.Source.bound g.S.Source.failures c.args.source.now c.read.new.self l false) (sym items) (Gives-more c.pieces.invariant.given c.in_ok-n.ensures.ok);
       most = rw items (omega (arith, long));
     }
+
+pub slice_bounds-extend_from_slice-end : goal.slice_bounds-extend_from_slice-end
+slice_bounds-extend_from_slice-end g c = grind (arith, common_steps)

@@ -1,4 +1,5 @@
-use Rattle.std.proofs.Common.{◌≡◌, map, rules, subst}
+use Rattle.std.proofs.Common.{◌≡◌, map, rules, subst, arith}
+use Rattle.std.proofs.lemmas.Grind.{common_steps}
 use Rattle.std.specs.Prelude.{IfErr}
 use Rattle.std.specs.String.{string_bytes}
 use Rattle.std.proofs.lemmas.Result.{IfErr-weaker}
@@ -12,3 +13,9 @@ returns-clause-refused c =
     let words = map (λ x. string_bytes x) c.args.words.now in
     let same : map (λ x. string_bytes x) c.as_slice.result.now ≡ joined words = search rules in
     IfErr-weaker c.line_by.result _ _ (fault_at_all words) (subst (λ ws. IfErr c.line_by.result (IsFaultOnceMade ws)) same c.line_by.ensures.refused)
+
+pub line_by-requires : goal.line_by-requires
+line_by-requires c = grind (arith, common_steps)
+
+pub returns-clause-line : goal.returns-clause-line
+returns-clause-line c = grind (arith, common_steps)

@@ -1,6 +1,6 @@
-use Rattle.std.proofs.Common.{◌≡◌, ℕ, ◌+◌, List, length, drop, get_or, sym, ap, ◌∙◌, arith}
-use Rattle.teco_source.specs.Source.{State, step}
-use Rattle.teco_source.specs.Places.{bytes_begun, fitted, places_of, places_from}
+use Rattle.std.proofs.Common.{ℕ, ◌+◌, List, drop, sym, ap, ◌∙◌, arith}
+use Rattle.teco_source.specs.Source.{State}
+use Rattle.teco_source.specs.Places.{bytes_begun, fitted, places_from}
 use Rattle.teco_source.specs.Seen.{state_of}
 use Rattle.teco_source.proofs.Placements.{one_placed, all_placed}
 use Rattle.teco_source.proofs.placing.beginnings.Goals as goal

@@ -4,3 +4,6 @@ use Rattle.teco_source.proofs.writer.push_comment.Goals as goal
 
 pub loop-byte-preserved : goal.loop-byte-preserved
 loop-byte-preserved c = grind (arith, common_steps)
+
+pub returns : goal.returns
+returns c = grind (arith, common_steps)

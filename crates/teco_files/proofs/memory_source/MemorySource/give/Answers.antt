@@ -93,7 +93,40 @@ pub returns-clause-fails : goal.returns-clause-fails
 returns-clause-fails c =
     let s = c.self.inside in
     let here = ap (λ s. s.pieces) c.self.view_is in
-    (λ e. absurd cc, λ f. absurd (some_left s.at (drop s.at s.bytes.items) (drop s.next_cut s.cuts.items) (grind (arith, common_steps)) (here ∙ f.1)))
+    (λ e. absurd (grind (arith, common_steps)), λ f. absurd (some_left s.at (drop s.at s.bytes.items) (drop s.next_cut s.cuts.items) (grind (arith, common_steps)) (here ∙ f.1)))
 
 pub same-self : goal.same-self
 same-self c = ap (λ w. record c.self.inside { within = w }) (le_prop c.self-1.given.0 c.self.inside.within)
+
+pub piece_end-end-requires-clause-past : goal.piece_end-end-requires-clause-past
+piece_end-end-requires-clause-past c = grind (arith, common_steps)
+
+pub invariant_of-self-inside-2 : goal.invariant_of-self-inside-2
+invariant_of-self-inside-2 c = grind (arith, common_steps)
+
+pub copy_to_front-requires-clause-bytes : goal.copy_to_front-requires-clause-bytes
+copy_to_front-requires-clause-bytes c = grind (arith, common_steps)
+
+pub copy_to_front-requires-clause-room : goal.copy_to_front-requires-clause-room
+copy_to_front-requires-clause-room c = grind (arith, common_steps)
+
+pub overflow_sub-end : goal.overflow_sub-end
+overflow_sub-end c = grind (arith, common_steps)
+
+pub overflow_add-self : goal.overflow_add-self
+overflow_add-self c = grind (arith, common_steps)
+
+pub returns-clause-ends : goal.returns-clause-ends
+returns-clause-ends c = grind (arith, common_steps)
+
+pub returns-clause-fits : goal.returns-clause-fits
+returns-clause-fits c = grind (arith, common_steps)
+
+pub returns-then-self-clause-count : goal.returns-then-self-clause-count
+returns-then-self-clause-count c = grind (arith, common_steps)
+
+pub returns-then-left-eq0-clause-count : goal.returns-then-left-eq0-clause-count
+returns-then-left-eq0-clause-count c = grind (arith, common_steps)
+
+pub piece_end-end-requires-clause-more : goal.piece_end-end-requires-clause-more
+piece_end-end-requires-clause-more c = grind (arith, common_steps)

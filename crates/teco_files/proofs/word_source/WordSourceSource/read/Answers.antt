@@ -1,4 +1,5 @@
-use Rattle.std.proofs.Common.{◌∙◌, ◌++◌, ◌+◌, ap, sym, refl, add_comm, drop, take, length, length-append, take-append-drop}
+use Rattle.std.proofs.Common.{◌∙◌, ◌++◌, ◌+◌, ap, sym, refl, add_comm, drop, take, length, length-append, take-append-drop, arith}
+use Rattle.std.proofs.lemmas.Grind.{common_steps}
 use Rattle.std.proofs.lemmas.List.{drop-drop}
 use Rattle.teco_files.proofs.word_source.WordSourceSource.read.Goals as goal
 
@@ -11,3 +12,6 @@ returns-clause-ok c =
     let given = c.copy_to_front.ensures.front ∙ ap (λ x. take n (drop s.at x)) c.deref.ensures.value in
     let off = sym (take-append-drop n bs) ∙ ap (λ l. l ++ rest) (sym given) ∙ ap (λ l. take n c.copy_to_front.new.room ++ l) (drop-drop n s.at s.bytes.items) in
     record { given = off; less = sym (ap length off ∙ length-append (take n c.copy_to_front.new.room) (drop (s.at + n) s.bytes.items) ∙ add_comm (length (take n c.copy_to_front.new.room)) (length (drop (s.at + n) s.bytes.items))); count = refl }
+
+pub returns-then-n-eq0-clause-ends : goal.returns-then-n-eq0-clause-ends
+returns-then-n-eq0-clause-ends c = grind (arith, common_steps)

@@ -1,4 +1,5 @@
-use Rattle.std.proofs.Common.{◌≡◌, ◌∙◌, ◌+◌, ◌<◌, ℕ, List, length, refl, ap, drop, map, get_or, add-one, drop-cons}
+use Rattle.std.proofs.Common.{◌≡◌, ◌∙◌, ◌+◌, ◌<◌, ℕ, List, length, refl, ap, drop, map, get_or, add-one, drop-cons, arith}
+use Rattle.std.proofs.lemmas.Grind.{common_steps}
 use Rattle.clap.specs.Words.{App, app_of, with_rule}
 use Rattle.teco_line.specs.OptionTable.{rule_by, with_rules}
 use Rattle.teco_line.specs.declared.line.options.OptionRow.{OptionRow}
@@ -12,3 +13,6 @@ pub loop-row-preserved : goal.loop-row-preserved
 loop-row-preserved c =
     ap (λ app. with_rules app (map rule_by (drop (c.loop-row.row-index + 1) c.args.rows.now))) c.in_ok-command.ensures
     ∙ (one_row_more (app_of c.loop-row.command) c.args.rows.now c.loop-row.row-index _ c.loop-row-test.true ∙ c.loop-row.invariant)
+
+pub returns : goal.returns
+returns c = grind (arith, common_steps)

@@ -1,4 +1,5 @@
-use Rattle.std.proofs.Common.{sym}
+use Rattle.std.proofs.Common.{sym, arith}
+use Rattle.std.proofs.lemmas.Grind.{common_steps}
 use Rattle.teco_files.proofs.FileLogs.{creates, others_noted}
 use Rattle.teco_files.proofs.memory_disk.log.Log.made.Goals as goal
 
@@ -7,3 +8,6 @@ returns-clause-ok c = creates (sym c.in-None.ensures) (rw c.new.ensures.items at
 
 pub returns-clause-others : goal.returns-clause-others
 returns-clause-others c = others_noted c.in_ok-note.ensures.ok
+
+pub returns-clause-grows : goal.returns-clause-grows
+returns-clause-grows c = grind (arith, common_steps)

@@ -1,3 +1,5 @@
+use Rattle.std.proofs.Common.{arith}
+use Rattle.std.proofs.lemmas.Grind.{common_steps}
 use Rattle.teco_files.proofs.FileLogs.{appends, others_noted}
 use Rattle.teco_files.proofs.memory_disk.log.Log.written.Goals as goal
 
@@ -9,3 +11,9 @@ returns-clause-ok c = appends c.in_ok-all.ensures (rw c.in_ok-extend_from_slice-
 
 pub returns-clause-others : goal.returns-clause-others
 returns-clause-others c = others_noted c.in_ok-note-2.ensures.ok
+
+pub returns-then-matches-clause-grows : goal.returns-then-matches-clause-grows
+returns-then-matches-clause-grows c = grind (arith, common_steps)
+
+pub returns-clause-grows : goal.returns-clause-grows
+returns-clause-grows c = grind (arith, common_steps)
