@@ -238,6 +238,14 @@ fn finish<T: Terminal, D: Disk>(
     }
 }
 
+/// Gives up a session that is over.
+fn leave(line: &Line, session: Session) {
+    if line.more.is_empty() {
+        // The process ends next, and the system takes back at once what the session would free change by change.
+        let _kept = ManuallyDrop::new(session);
+    }
+}
+
 /// Serves the commands over an input that was read, and after an exit writes the output. The number is for the name of a draft.
 fn edit_over<S: Source, A: Alarm, T: Terminal, L: Listens, D: Disk>(
     alloc: Global,
@@ -277,10 +285,7 @@ fn edit_over<S: Source, A: Alarm, T: Terminal, L: Listens, D: Disk>(
         term,
         disk,
     );
-    if line.more.is_empty() {
-        // The process ends next, and the system takes back at once what the session would free change by change.
-        let _kept = ManuallyDrop::new(session);
-    }
+    leave(line, session);
     fate
 }
 

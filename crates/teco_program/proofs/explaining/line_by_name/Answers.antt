@@ -1,3 +1,5 @@
+use Rattle.std.proofs.Common.{arith}
+use Rattle.std.proofs.lemmas.Grind.{common_steps}
 use Rattle.teco_program.proofs.explaining.line_by_name.Goals as goal
 
 pub returns-in-NoInput : goal.returns-in-NoInput
@@ -21,3 +23,6 @@ pub returns-in-Ended-EndOfCommands : goal.returns-in-Ended-EndOfCommands
 returns-in-Ended-EndOfCommands c =
     let end = rw c.in-Ended-EndOfCommands.is at c.in-Ended-EndOfCommands.field-0-is in
     rw (c.in-Ended-EndOfCommands.is, end) c.line_about-in-Ended-EndOfCommands.ensures
+
+pub returns-in-LargeInput : goal.returns-in-LargeInput
+returns-in-LargeInput c = grind (arith, common_steps)

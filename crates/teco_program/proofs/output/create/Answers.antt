@@ -1,4 +1,5 @@
-use Rattle.std.proofs.Common.{◌∙◌, inl}
+use Rattle.std.proofs.lemmas.Grind.{common_steps}
+use Rattle.std.proofs.Common.{◌∙◌, inl, arith}
 use Rattle.teco_files.proofs.Disks.{but_then, creates_written, leaves_draft, others_created, passes_then, removed_or}
 use Rattle.teco_program.proofs.Writings.{leaves_same, on_err_by}
 use Rattle.teco_program.proofs.output.create.Goals as goal
@@ -56,3 +57,24 @@ returns-clause-streams g c = c.fill.ensures.streams ∙ c.make.ensures.streams
 
 pub returns-clause-error : goal.returns-clause-error
 returns-clause-error g c = tt
+
+pub returns-in_err-draft-clause-ok : goal.returns-in_err-draft-clause-ok
+returns-in_err-draft-clause-ok g c = grind (arith, common_steps)
+
+pub returns-in_err-draft-clause-kept : goal.returns-in_err-draft-clause-kept
+returns-in_err-draft-clause-kept g c = grind (arith, common_steps)
+
+pub returns-in_err-draft-clause-count : goal.returns-in_err-draft-clause-count
+returns-in_err-draft-clause-count g c = grind (arith, common_steps)
+
+pub returns-in_err-draft-clause-error : goal.returns-in_err-draft-clause-error
+returns-in_err-draft-clause-error g c = grind (arith, common_steps)
+
+pub returns-in-Err-clause-count : goal.returns-in-Err-clause-count
+returns-in-Err-clause-count g c = grind (arith, common_steps)
+
+pub returns-in-Err-clause-error : goal.returns-in-Err-clause-error
+returns-in-Err-clause-error g c = grind (arith, common_steps)
+
+pub returns-clause-count : goal.returns-clause-count
+returns-clause-count g c = grind (arith, common_steps)

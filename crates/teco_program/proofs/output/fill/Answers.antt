@@ -1,4 +1,5 @@
-use Rattle.std.proofs.Common.{◌∙◌}
+use Rattle.std.proofs.lemmas.Grind.{common_steps}
+use Rattle.std.proofs.Common.{◌∙◌, arith}
 use Rattle.teco_files.proofs.Disks.{others_appended}
 use Rattle.teco_program.proofs.Writings.{appends_still, on_err_by, on_ok_by}
 use Rattle.teco_program.proofs.output.fill.Goals as goal
@@ -27,3 +28,21 @@ returns-clause-streams g c = c.sync.ensures.streams ∙ (c.make_like.ensures.str
 
 pub returns-clause-error : goal.returns-clause-error
 returns-clause-error g c = c.sync.ensures.error
+
+pub returns-in_err-write_both-clause-ok : goal.returns-in_err-write_both-clause-ok
+returns-in_err-write_both-clause-ok g c = grind (arith, common_steps)
+
+pub returns-in_err-write_both-clause-kept : goal.returns-in_err-write_both-clause-kept
+returns-in_err-write_both-clause-kept g c = grind (arith, common_steps)
+
+pub returns-in_err-write_both-clause-err : goal.returns-in_err-write_both-clause-err
+returns-in_err-write_both-clause-err g c = grind (arith, common_steps)
+
+pub returns-in_err-write_both-clause-count : goal.returns-in_err-write_both-clause-count
+returns-in_err-write_both-clause-count g c = grind (arith, common_steps)
+
+pub returns-in_err-write_both-clause-error : goal.returns-in_err-write_both-clause-error
+returns-in_err-write_both-clause-error g c = grind (arith, common_steps)
+
+pub returns-clause-count : goal.returns-clause-count
+returns-clause-count g c = grind (arith, common_steps)

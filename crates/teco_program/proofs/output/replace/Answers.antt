@@ -1,4 +1,5 @@
-use Rattle.std.proofs.Common.{◌∙◌}
+use Rattle.std.proofs.lemmas.Grind.{common_steps}
+use Rattle.std.proofs.Common.{◌∙◌, arith}
 use Rattle.teco_files.proofs.Disks.{passes_making, passes_renaming, leaves_draft, passes_removing, removed_or, same_but}
 use Rattle.teco_program.proofs.Writings.{replaces_by}
 use Rattle.teco_program.proofs.output.replace.Goals as goal
@@ -43,3 +44,27 @@ returns-clause-streams g c = c.rename.ensures.streams ∙ c.create.ensures.strea
 
 pub returns-clause-error : goal.returns-clause-error
 returns-clause-error g c = tt
+
+pub returns-in_err-create-clause-ok : goal.returns-in_err-create-clause-ok
+returns-in_err-create-clause-ok g c = grind (arith, common_steps)
+
+pub returns-in_err-create-clause-err : goal.returns-in_err-create-clause-err
+returns-in_err-create-clause-err g c = grind (arith, common_steps)
+
+pub returns-in_err-create-clause-removed : goal.returns-in_err-create-clause-removed
+returns-in_err-create-clause-removed g c = grind (arith, common_steps)
+
+pub returns-in_err-create-clause-count : goal.returns-in_err-create-clause-count
+returns-in_err-create-clause-count g c = grind (arith, common_steps)
+
+pub returns-in_err-create-clause-error : goal.returns-in_err-create-clause-error
+returns-in_err-create-clause-error g c = grind (arith, common_steps)
+
+pub returns-in-Err-clause-count : goal.returns-in-Err-clause-count
+returns-in-Err-clause-count g c = grind (arith, common_steps)
+
+pub returns-in-Err-clause-error : goal.returns-in-Err-clause-error
+returns-in-Err-clause-error g c = grind (arith, common_steps)
+
+pub returns-clause-count : goal.returns-clause-count
+returns-clause-count g c = grind (arith, common_steps)

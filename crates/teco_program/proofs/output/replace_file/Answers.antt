@@ -1,4 +1,5 @@
-use Rattle.std.proofs.Common.{◌≡◌, ◌≢◌, ◌∙◌, sym}
+use Rattle.std.proofs.lemmas.Grind.{common_steps}
+use Rattle.std.proofs.Common.{◌≡◌, ◌≢◌, ◌∙◌, sym, arith}
 use Rattle.std.proofs.lemmas.Result.{on_err_weaker, on_ok_weaker}
 use Rattle.teco_files.specs.Disk.{Changes, LeavesFiles, Replaces}
 use Rattle.teco_program.specs.Writing.{AddsDrafts, Writes, both}
@@ -65,3 +66,21 @@ returns-in_default-clause-ok g c =
           {Q = Changes (g.D.Disk.files c.args.disk.now) (g.D.Disk.files c.replace.new.disk) (Writes c.args.file.now (both c.args.bytes))}
           c.replace.result (writes_after c.drafts.draft_number named differ c.drafts.invariant.adds) c.replace.ensures.ok)
     ]
+
+pub drafts-init : goal.drafts-init
+drafts-init g c = grind (arith, common_steps)
+
+pub returns-in_err-draft-clause-ok : goal.returns-in_err-draft-clause-ok
+returns-in_err-draft-clause-ok g c = grind (arith, common_steps)
+
+pub returns-in_err-draft-clause-error : goal.returns-in_err-draft-clause-error
+returns-in_err-draft-clause-error g c = grind (arith, common_steps)
+
+pub returns-in_default-clause-error : goal.returns-in_default-clause-error
+returns-in_default-clause-error g c = grind (arith, common_steps)
+
+pub returns-clause-ok : goal.returns-clause-ok
+returns-clause-ok g c = grind (arith, common_steps)
+
+pub returns-clause-error : goal.returns-clause-error
+returns-clause-error g c = grind (arith, common_steps)

@@ -1,3 +1,4 @@
+use Rattle.std.proofs.lemmas.Grind.{common_steps}
 use Rattle.std.proofs.Common.{◌≡◌, ◌+◌, ◌-◌, ◌<◌, ℕ, List, ◌∷◌, ◌++◌, length, take, drop, get_or, arith, refl, ap, subst, sym, ◌∙◌}
 use Rattle.std.proofs.lemmas.List.{drop-drop, take_rest, length-drop}
 use Rattle.teco_core.specs.declared.ascii.TheConstants.{ESC}
@@ -61,3 +62,51 @@ returns-clause-first c = λ more.
     ap (λ l. requests (l ++ more)) (sym c.self.view_is) ∙ requests-cut held at more found.0 found.1 found.2
     ∙ ap (λ a. a ∷ requests (drop (at + 1) held ++ more)) (sym asks)
     ∙ ap (λ l. value_of c.in_ok-asked.asked ∷ requests (l ++ more)) (sym left)
+
+pub slice_bounds-held-count : goal.slice_bounds-held-count
+slice_bounds-held-count c = grind (arith, common_steps)
+
+pub slice_bounds-held-start : goal.slice_bounds-held-start
+slice_bounds-held-start c = grind (arith, common_steps)
+
+pub slice_bounds-held-end : goal.slice_bounds-held-end
+slice_bounds-held-end c = grind (arith, common_steps)
+
+pub pair_end-requires-clause-within : goal.pair_end-requires-clause-within
+pair_end-requires-clause-within c = grind (arith, common_steps)
+
+pub pair_end-requires-clause-none : goal.pair_end-requires-clause-none
+pair_end-requires-clause-none c = grind (arith, common_steps)
+
+pub invariant_of-self : goal.invariant_of-self
+invariant_of-self c = grind (arith, common_steps)
+
+pub returns-in_default-clause-cut : goal.returns-in_default-clause-cut
+returns-in_default-clause-cut c = grind (arith, common_steps)
+
+pub returns-in_default-clause-err : goal.returns-in_default-clause-err
+returns-in_default-clause-err c = grind (arith, common_steps)
+
+pub slice_bounds-asked_in-end : goal.slice_bounds-asked_in-end
+slice_bounds-asked_in-end c = grind (arith, common_steps)
+
+pub returns-in_err-asked-clause-cut : goal.returns-in_err-asked-clause-cut
+returns-in_err-asked-clause-cut c = grind (arith, common_steps)
+
+pub returns-in_err-asked-clause-first : goal.returns-in_err-asked-clause-first
+returns-in_err-asked-clause-first c = grind (arith, common_steps)
+
+pub returns-in_err-asked-clause-err : goal.returns-in_err-asked-clause-err
+returns-in_err-asked-clause-err c = grind (arith, common_steps)
+
+pub overflow_add-self-inside : goal.overflow_add-self-inside
+overflow_add-self-inside c = grind (arith, common_steps)
+
+pub overflow_add-self-inside-2 : goal.overflow_add-self-inside-2
+overflow_add-self-inside-2 c = grind (arith, common_steps)
+
+pub compacted-self-inside-requires : goal.compacted-self-inside-requires
+compacted-self-inside-requires c = grind (arith, common_steps)
+
+pub returns-clause-err : goal.returns-clause-err
+returns-clause-err c = grind (arith, common_steps)
