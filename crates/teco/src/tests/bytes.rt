@@ -34,6 +34,11 @@ pub(crate) fn is(text: &str, wanted: &str) -> bool {
     text == wanted
 }
 
+/// Whether a text has this in it.
+pub(crate) fn has(text: &str, part: &str) -> bool {
+    text.contains(part)
+}
+
 /// A terminal that shows what it is given, as far as it has room. All tests that run strings have this one.
 pub(crate) type Screen = WriterTerminal<FailAfter>;
 

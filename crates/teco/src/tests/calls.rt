@@ -115,15 +115,15 @@ fn a_stream_is_cut(alloc: Global) -> Result<bool, NoMemory> {
 
 /// Whether each example holds that asks for memory.
 fn all_hold(alloc: Global) -> bool {
-    a_text_is_edited(alloc) == Ok(true)
-        && an_occurrence_is_found(alloc) == Ok(true)
+    matches!(a_text_is_edited(alloc), Ok(true))
+        && matches!(an_occurrence_is_found(alloc), Ok(true))
         && an_edit_is_made(alloc)
         && a_put_is_shown(alloc)
         && a_string_is_run(alloc)
         && a_string_is_undone(alloc)
-        && a_line_is_read(alloc) == Ok(true)
+        && matches!(a_line_is_read(alloc), Ok(true))
         && a_source_is_read(alloc)
-        && a_stream_is_cut(alloc) == Ok(true)
+        && matches!(a_stream_is_cut(alloc), Ok(true))
 }
 
 #[test]

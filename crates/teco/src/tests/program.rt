@@ -1,16 +1,15 @@
 //! Of teco_program: its parts, and runs of the whole program over files in memory.
 use super::bytes::{are_there, is, is_typed, joined, wide_screen};
 use super::line_commands::{checked, explained, shown, sources};
-use super::rows::{Cells, Rule, all_hold, cells_of};
+use super::rows::{Cells, Rule, all_hold, cells_of, halves_at};
 use std::alloc::Global;
 use std::cell::Cell;
 use std::io;
 use std::process::ExitCode;
 use std::test::*;
 use std::time::{Clock, Duration};
-use teco_core::NoMemory;
 use teco_files::{MemoryDisk, MemorySource, Refused, Source};
-use teco_line::LineFault;
+use teco_line::{Line, LineFault, line_of};
 use teco_program::{ClockAlarm, program};
 
 mod disk;
@@ -23,13 +22,21 @@ mod serving;
 mod splitter;
 mod word;
 
-/// The words of a text with a blank between them, as the program is given them.
-pub(crate) fn words_of(alloc: Global, text: &str) -> Result<Vec<String>, NoMemory> {
+/// The words of a text with a blank between them, as the program is given them. Where memory was refused, some are not there.
+pub(crate) fn words_of(alloc: Global, text: &str) -> Vec<String> {
     let mut words = Vec::new(alloc);
     for word in text.split(' ') {
-        words.push(String::from_str(alloc, word)?)?;
+        if let Ok(word) = String::from_str(alloc, word) {
+            let _ = words.push(word).is_ok();
+        }
     }
-    Ok(words)
+    words
+}
+
+/// What the words of a text say.
+pub(crate) fn line_from(alloc: Global, text: &str) -> Result<Line, LineFault> {
+    let words = words_of(alloc, text);
+    line_of(alloc, words.as_slice())
 }
 
 /// Commands that no run may read, since its line gives others.
@@ -76,10 +83,6 @@ impl Clock for Ticking {
 
 /// Whether a run ends so, and types, tells and notes what its row says.
 fn runs_on(alloc: Global, disk: &mut MemoryDisk, cells: &Cells) -> bool {
-    let words = match words_of(alloc, cells[0]) {
-        Ok(words) => Ok(words),
-        Err(NoMemory) => Err(LineFault::NoMemory),
-    };
     let commands = commands_of(cells[1]);
     let bytes = joined(alloc, &[commands.as_bytes()]);
     let mut source = MemorySource::new(bytes, Vec::new(alloc), false);
@@ -89,7 +92,7 @@ fn runs_on(alloc: Global, disk: &mut MemoryDisk, cells: &Cells) -> bool {
     let clock = Ticking::new();
     let status = program(
         alloc,
-        words,
+        Ok(words_of(alloc, cells[0])),
         7,
         &mut source,
         &mut ClockAlarm::new(&clock),
@@ -120,11 +123,24 @@ fn refused_of(call: &str) -> Refused {
     }
 }
 
+/// The files of a cell, each with its bytes, and empty ones after them.
+fn files_of(cell: &str) -> [(&str, &str); 6] {
+    let mut files = [("", ""); 6];
+    let mut at = 0;
+    for file in cell.split(" ++ ") {
+        if at < 6 {
+            files[at] = halves_at(file, " == ");
+            at += 1;
+        }
+    }
+    files
+}
+
 /// A disk with the files of a cell, of which a call is refused. Where memory was refused, it is asked for a second time.
 fn disk_with(alloc: Global, cell: &str, call: &str) -> MemoryDisk {
     let mut disk = MemoryDisk::new(alloc, refused_of(call));
-    for file in cell.split(" ++ ") {
-        if let Some((name, bytes)) = file.split_once(" == ") {
+    for (name, bytes) in &files_of(cell) {
+        if !name.is_empty() {
             let bytes = bytes.as_bytes();
             let _ = disk.put(name, bytes).is_ok() || disk.put(name, bytes).is_ok();
         }
@@ -134,27 +150,16 @@ fn disk_with(alloc: Global, cell: &str, call: &str) -> MemoryDisk {
 
 /// Whether a disk has the files of a cell alone, of which there are at most five.
 fn has_just(disk: &MemoryDisk, cell: &str) -> bool {
-    let mut files = [("", ""); 5];
-    let mut count = 0;
+    let files = files_of(cell);
+    let mut count: usize = 0;
     let mut held = true;
-    for file in cell.split(" ++ ") {
-        if let Some((name, bytes)) = file.split_once(" == ") {
-            held = count < 5 && are_there(disk.bytes(name), bytes.as_bytes()) && held;
-            files[count % 5] = (name, bytes);
+    for (name, bytes) in &files {
+        if !name.is_empty() {
+            held = are_there(disk.bytes(name), bytes.as_bytes()) && held;
             count = count.saturating_add(1);
         }
     }
-    held && disk.has_only(&files[..count.min(5)])
-}
-
-fn goes_so(alloc: Global, cells: &Cells) -> bool {
-    let after = if cells[7].is_empty() {
-        cells[6]
-    } else {
-        cells[7]
-    };
-    let mut disk = disk_with(alloc, cells[6], cells[8]);
-    runs_on(alloc, &mut disk, cells) && has_just(&disk, after)
+    held && count < 6 && disk.has_only(&files[..count.min(6)])
 }
 
 /// A run: its words, with blanks between them; its commands, where none are said if no run may read them; what it types, tells on standard
@@ -164,10 +169,15 @@ fn goes_so(alloc: Global, cells: &Cells) -> bool {
 struct Runs;
 
 impl Rule for Runs {
-    /// Where memory was refused, a row holds the second time.
     fn holds(&self, alloc: Global, row: &str) -> bool {
         let cells = cells_of(row);
-        goes_so(alloc, &cells) || goes_so(alloc, &cells)
+        let after = if cells[7].is_empty() {
+            cells[6]
+        } else {
+            cells[7]
+        };
+        let mut disk = disk_with(alloc, cells[6], cells[8]);
+        runs_on(alloc, &mut disk, &cells) && has_just(&disk, after)
     }
 }
 

@@ -4,7 +4,7 @@ use super::strings::is_code;
 use super::{breaks, faults};
 use crate::tests::bytes::{Screen, is, is_typed};
 use crate::tests::rows::{Cells, Rule, all_hold, cells_of, number_or};
-use crate::tests::session::requests::{Over, Trial, holds_in};
+use crate::tests::session::requests::{Over, Trial, holds_once};
 use std::alloc::Global;
 use std::test::*;
 use teco_exec::{Never, Stop};
@@ -146,15 +146,12 @@ impl Trial for By<'_> {
     }
 }
 
-/// In a session that keeps no string, so the text is run on its editor.
-fn ends_by(alloc: Global, cells: &Cells, way: Way) -> bool {
-    let over = Over {
-        input: b"",
-        page_lines: 0,
-        depth: Some(0),
-    };
-    holds_in(alloc, &over, &By(*cells, way))
-}
+/// A session that keeps no string, so the text is run on its editor.
+const NO_STRING: Over = Over {
+    input: b"",
+    page_lines: 0,
+    depth: Some(0),
+};
 
 /// A row is a text and its limit of steps, if it isn't 1000; the code by which it ends, if it ends by one, and its steps; and where its run
 /// last stood, if it is told: the steps by then, the place, the turns left of open iterations, the innermost first, its callers, the
@@ -165,12 +162,16 @@ struct Stands;
 impl Rule for Stands {
     fn holds(&self, alloc: Global, row: &str) -> bool {
         let cells = cells_of(row);
-        if cells[5].is_empty() {
-            return ends_by(alloc, &cells, Way::Where);
+        let ways = if cells[5].is_empty() {
+            [Way::Where; 3]
+        } else {
+            [Way::Steps, Way::Answers, Way::Until]
+        };
+        let mut held = true;
+        for way in ways {
+            held = holds_once(alloc, &NO_STRING, &By(cells, way)) && held;
         }
-        ends_by(alloc, &cells, Way::Steps)
-            && ends_by(alloc, &cells, Way::Answers)
-            && ends_by(alloc, &cells, Way::Until)
+        held
     }
 }
 

@@ -2,10 +2,10 @@
 use super::{block_forms, conditionals, iterations, jumps, page_lines, page_turns};
 use crate::tests::bytes::{Screen, are, are_both, is, is_typed, put};
 use crate::tests::commands::FORMS;
-use crate::tests::rows::{Cells, Rule, all_hold, cells_of, number_or, text_of};
+use crate::tests::rows::{Cells, Rule, all_hold, cells_of, halves_at, number_or, text_of};
 use crate::tests::scan::{faults, modifiers};
 use crate::tests::search::elements;
-use crate::tests::session::requests::{Over, Trial, holds_in, ran};
+use crate::tests::session::requests::{Over, Trial, holds_once, ran};
 use crate::tests::step::{edits, failed_searches, operands, search_forms, searches, texts, values};
 use std::alloc::Global;
 use std::test::*;
@@ -20,7 +20,7 @@ const FULL: usize = 16_777_216;
 /// The bytes of a cell, in which [FULL] stands for two bytes less than the limit of a text. Where memory was refused, it is asked for a
 /// second time.
 pub(crate) fn bytes_of(alloc: Global, cell: &str) -> Vec<u8> {
-    let (before, after) = cell.split_once("[FULL]").unwrap_or((cell, ""));
+    let (before, after) = halves_at(cell, "[FULL]");
     let mut bytes = Vec::new(alloc);
     put(&mut bytes, before.as_bytes());
     if before.len() < cell.len() {
@@ -84,7 +84,7 @@ impl Rule for Strings {
             page_lines: number_or(cells[7], 0) as usize,
             depth: Some(0),
         };
-        holds_in(alloc, &over, &Run(cells))
+        holds_once(alloc, &over, &Run(cells))
     }
 }
 
@@ -107,33 +107,32 @@ const ROWS: &str = "
     3<%A>QA=\x1b => 3\r\n => => 10
     ";
 
-/// The tables of all strings but those at the limits of the texts.
-static TABLES: [&str; 20] = [
-    ROWS,
-    conditionals::ROWS,
-    iterations::ROWS,
-    jumps::ROWS,
-    block_forms::ROWS,
-    page_turns::ROWS,
-    page_turns::EXITS,
-    page_lines::ROWS,
-    page_lines::EXITS,
-    values::ROWS,
-    edits::ROWS,
-    texts::ROWS,
-    searches::ROWS,
-    failed_searches::PARDONED,
-    FORMS,
-    operands::ROWS,
-    search_forms::ROWS,
-    faults::ROWS,
-    modifiers::ROWS,
-    elements::ROWS,
-];
-
+/// All strings but those at the limits of the texts.
 #[test]
 fn strings_end_as_they_mean(rt: HostRuntime) {
-    for table in &TABLES {
+    let tables = [
+        ROWS,
+        conditionals::ROWS,
+        iterations::ROWS,
+        jumps::ROWS,
+        block_forms::ROWS,
+        page_turns::ROWS,
+        page_turns::EXITS,
+        page_lines::ROWS,
+        page_lines::EXITS,
+        values::ROWS,
+        edits::ROWS,
+        texts::ROWS,
+        searches::ROWS,
+        failed_searches::PARDONED,
+        FORMS,
+        operands::ROWS,
+        search_forms::ROWS,
+        faults::ROWS,
+        modifiers::ROWS,
+        elements::ROWS,
+    ];
+    for table in tables {
         all_hold(&rt, rt.alloc(), &Strings, table);
     }
 }

@@ -2,7 +2,7 @@
 //! it is then. And what a disk in memory gave to a device.
 use crate::tests::assert_of;
 use crate::tests::bytes::{are, are_there, is};
-use crate::tests::rows::{LINE, is_row};
+use crate::tests::rows::{LINE, halves_at, is_row};
 use std::alloc::Global;
 use std::io::{ErrorKind, Read};
 use std::os::fd::AsRawFd;
@@ -123,8 +123,8 @@ fn line_holds(rt: &HostRuntime, disk: &mut Files, other: &mut Files, line: &str)
         Some(call) => (call, false),
         None => (line, true),
     };
-    let (verb, rest) = call.split_once(' ').unwrap_or((call, ""));
-    let (name, value) = rest.split_once(' ').unwrap_or((rest, ""));
+    let (verb, rest) = halves_at(call, " ");
+    let (name, value) = halves_at(rest, " ");
     let held = match verb.as_bytes() {
         [b'n', ..] => is_made_anew(rt, name),
         [b'u', ..] => fs::remove_dir_all(rt, name).is_ok(),
@@ -311,7 +311,7 @@ fn gives_a_device(alloc: Global, refused: Refused, given: &str) -> bool {
     disk.put_device("dev").is_ok()
         && writes(alloc, &mut disk, "dev", "abcd") != is_full
         && writes(alloc, &mut disk, "dev", "efgh") != is_full
-        && (disk.why() == Some(ErrorKind::StorageFull)) == is_full
+        && matches!(disk.why(), Some(ErrorKind::StorageFull)) == is_full
         && has_been_given(&disk, given.as_bytes())
         && disk.is_as_read("in").ok() == Some(!matches!(refused, Refused::Changed))
 }

@@ -1,11 +1,11 @@
 //! What is said of how the program ends.
-use super::words_of;
+use super::line::Lines;
 use crate::tests::bytes::is;
-use crate::tests::rows::{Cells, Rule, all_hold, cells_of, number_or};
+use crate::tests::rows::{Cells, all_hold, number_or};
 use std::alloc::Global;
 use std::test::*;
 use teco_core::NoMemory;
-use teco_line::line_of;
+use teco_line::Line;
 use teco_program::{Fate, Served, ending, ending_of};
 
 /// How the program ends, by the first letter of what a row says.
@@ -26,37 +26,21 @@ fn fate_of(said: &str) -> Fate {
     }
 }
 
-fn ends_so(alloc: Global, cells: &Cells) -> bool {
-    let [words, said, wanted, told, ..] = *cells;
-    let Ok(words) = words_of(alloc, words) else {
-        return false;
-    };
-    let Ok(line) = line_of(alloc, words.as_slice()) else {
-        return false;
-    };
+/// Whether a run that a line asks for ends as its row says.
+pub(super) fn ends_so(alloc: Global, line: &Line, cells: &Cells) -> bool {
+    let fate = fate_of(cells[1]);
     let ended = if line.more.is_empty() {
-        ending(alloc, &line, fate_of(said))
+        ending(alloc, line, fate)
     } else {
-        ending_of(alloc, &line, "in", fate_of(said))
+        ending_of(alloc, line, "in", fate)
     };
     match ended {
-        Ok((status, text)) => u64::from(status) == number_or(wanted, 0) && is(&text, told),
+        Ok((status, text)) => u64::from(status) == number_or(cells[2], 0) && is(&text, cells[3]),
         Err(NoMemory) => false,
     }
 }
 
 /// The words of a line, how the program ends, and its status and text. Of several inputs the first is spoken of.
-#[derive(Clone, Copy)]
-struct Endings;
-
-impl Rule for Endings {
-    /// Where memory was refused, a row holds the second time.
-    fn holds(&self, alloc: Global, row: &str) -> bool {
-        let cells = cells_of(row);
-        ends_so(alloc, &cells) || ends_so(alloc, &cells)
-    }
-}
-
 const ROWS: &str = "
     - teco -b strings in => commands => 1 => teco: cannot read strings\n
     - teco -b strings in => input => 1 => teco: cannot read in\n
@@ -81,5 +65,5 @@ const ROWS: &str = "
 
 #[test]
 fn says_how_it_ends(rt: HostRuntime) {
-    all_hold(&rt, rt.alloc(), &Endings, ROWS);
+    all_hold(&rt, rt.alloc(), &Lines::End, ROWS);
 }

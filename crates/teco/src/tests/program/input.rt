@@ -37,10 +37,8 @@ fn reads_so(alloc: Global, cells: &Cells) -> bool {
 struct Inputs;
 
 impl Rule for Inputs {
-    /// Where memory was refused, a row holds the second time.
     fn holds(&self, alloc: Global, row: &str) -> bool {
-        let cells = cells_of(row);
-        reads_so(alloc, &cells) || reads_so(alloc, &cells)
+        reads_so(alloc, &cells_of(row))
     }
 }
 

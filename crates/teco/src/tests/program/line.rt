@@ -1,14 +1,15 @@
 //! What the words of a line say.
-use super::words_of;
-use crate::tests::bytes::is;
+use super::ending::ends_so;
+use super::line_from;
+use crate::tests::bytes::{has, is};
 use crate::tests::rows::{Cells, Rule, all_hold, cells_of, number_or};
 use std::alloc::Global;
 use std::io;
 use std::test::*;
 use teco_core::NoMemory;
 use teco_line::{
-    Commands, Line, LineFault, fault_of_words, is_standard_input, is_standard_output, line_of,
-    not_text, refused_status,
+    Commands, Line, LineFault, fault_of_words, is_standard_input, is_standard_output, not_text,
+    refused_status,
 };
 
 /// Where the commands come from: standard input, the sources of files and of a word, a word that is run on every page, or the bytes of a
@@ -43,33 +44,34 @@ fn is_told(told: Result<String, NoMemory>, cell: &str) -> bool {
     }
 }
 
-fn says(alloc: Global, cells: &Cells) -> bool {
-    let Ok(words) = words_of(alloc, cells[0]) else {
-        return false;
-    };
-    match line_of(alloc, words.as_slice()) {
-        Ok(line) => {
-            cells[3].is_empty()
-                && is_told(commands_told(alloc, &line.commands), cells[1])
-                && is_told(rest_told(alloc, &line), cells[2])
-        }
-        Err(LineFault::Refused(error)) => {
-            number_or(cells[3], 256) == u64::from(refused_status(&error))
-        }
-        Err(LineFault::NoMemory) => false,
-    }
+fn says(alloc: Global, line: &Line, cells: &Cells) -> bool {
+    cells[3].is_empty()
+        && is_told(commands_told(alloc, &line.commands), cells[1])
+        && is_told(rest_told(alloc, line), cells[2])
 }
 
-/// Words, with blanks between them; where the commands come from, and what else they say, if that is said; or the status with which they
-/// are refused.
+/// What the rows of lines tell. Each begins with words, with blanks between them.
 #[derive(Clone, Copy)]
-struct Lines;
+pub(super) enum Lines {
+    /// Where the commands come from, and what else they say, if that is said; or the status with which they are refused;
+    Say,
+    /// or how a run that they ask for ends.
+    End,
+}
 
 impl Rule for Lines {
-    /// Where memory was refused, a row holds the second time.
     fn holds(&self, alloc: Global, row: &str) -> bool {
         let cells = cells_of(row);
-        says(alloc, &cells) || says(alloc, &cells)
+        match line_from(alloc, cells[0]) {
+            Ok(line) => match self {
+                Lines::Say => says(alloc, &line, &cells),
+                Lines::End => ends_so(alloc, &line, &cells),
+            },
+            Err(LineFault::Refused(error)) => {
+                number_or(cells[3], 256) == u64::from(refused_status(&error))
+            }
+            Err(LineFault::NoMemory) => false,
+        }
     }
 }
 
@@ -160,7 +162,7 @@ const ROWS: &str = "
 
 #[test]
 fn gives_what_the_words_say(rt: HostRuntime) {
-    all_hold(&rt, rt.alloc(), &Lines, ROWS);
+    all_hold(&rt, rt.alloc(), &Lines::Say, ROWS);
 }
 
 /// The status that an argument which is not UTF-8 leads to; none where memory was refused.
@@ -178,8 +180,8 @@ struct Names;
 impl Rule for Names {
     fn holds(&self, _alloc: Global, row: &str) -> bool {
         let [name, streams, ..] = cells_of(row);
-        is_standard_input(name) == streams.contains("input")
-            && is_standard_output(name) == streams.contains("output")
+        is_standard_input(name) == has(streams, "input")
+            && is_standard_output(name) == has(streams, "output")
     }
 }
 

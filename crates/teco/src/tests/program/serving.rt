@@ -1,6 +1,6 @@
 //! What is typed and written at streams of commands, and how serving them ends.
 use super::Ticking;
-use crate::tests::bytes::{Screen, are_both, is, joined, shown_on};
+use crate::tests::bytes::{Screen, are_both, has, is, joined, shown_on};
 use crate::tests::rows::{Cells, Rule, all_hold, cells_of, number_or};
 use crate::tests::session::requests::{Over, Trial, holds_once};
 use crate::tests::step::failed_searches;
@@ -85,9 +85,9 @@ fn is_left(session: &Session, cells: &Cells) -> bool {
 
 /// How serving a row's stream ends, by what is said of its end.
 fn end_of(said: &str) -> Served {
-    if said.contains("exit") {
+    if has(said, "exit") {
         Served::Exit
-    } else if said.contains("fails") {
+    } else if has(said, "fails") {
         Served::ReadFault
     } else {
         Served::EndOfCommands
@@ -110,7 +110,7 @@ struct Serving<'a> {
 impl Trial for Serving<'_> {
     fn holds(&self, alloc: Global, session: &mut Session, term: &mut Screen) -> bool {
         let (cells, said) = (self.cells, self.cells[4]);
-        let (fails, prompt) = (said.contains("fails"), said.contains("prompt"));
+        let (fails, prompt) = (has(said, "fails"), has(said, "prompt"));
         let limit = number_or(cells[5], 1_000_000);
         let mut wanted = end_of(said);
         let mut held = true;
@@ -143,15 +143,10 @@ fn holds_so(alloc: Global, cells: &Cells, untold: &[u8], single: bool, depth: u6
 }
 
 /// Whether a row holds with its stream as one piece and in single bytes, and with a history that is deep enough for its strings.
-fn holds_in_each_way(alloc: Global, cells: &Cells, untold: &[u8]) -> bool {
+fn holds(alloc: Global, cells: &Cells, untold: &[u8]) -> bool {
     holds_so(alloc, cells, untold, false, number_or(cells[6], 0))
         && holds_so(alloc, cells, untold, true, number_or(cells[6], 0))
         && holds_so(alloc, cells, untold, false, number_or(cells[6], 100))
-}
-
-/// A row holds in each way; where memory was refused, a second time.
-fn holds(alloc: Global, cells: &Cells, untold: &[u8]) -> bool {
-    holds_in_each_way(alloc, cells, untold) || holds_in_each_way(alloc, cells, untold)
 }
 
 /// Streams that type what their rows say, but for these bytes.

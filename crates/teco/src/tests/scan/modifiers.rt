@@ -1,5 +1,5 @@
 //! Modifiers before each command.
-use crate::tests::bytes::joined;
+use crate::tests::bytes::{has, joined};
 use crate::tests::commands::COMMANDS;
 use crate::tests::rows::{Rule, all_hold, cells_of};
 use std::alloc::Global;
@@ -29,7 +29,7 @@ impl Rule for Admits {
         let [command, admitted, ..] = cells_of(row);
         let mut held = true;
         for (modifiers, cell) in &MODIFIERS {
-            held = is_read(alloc, modifiers, command, admitted.contains(cell)) && held;
+            held = is_read(alloc, modifiers, command, has(admitted, cell)) && held;
         }
         held
     }

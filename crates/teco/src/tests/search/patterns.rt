@@ -25,10 +25,9 @@ fn shows(alloc: Global, text: &[u8], wanted: &str) -> bool {
 struct Shown;
 
 impl Rule for Shown {
-    /// Where memory was refused, a row holds the second time.
     fn holds(&self, alloc: Global, row: &str) -> bool {
         let [text, wanted, ..] = cells_of(row);
-        shows(alloc, text.as_bytes(), wanted) || shows(alloc, text.as_bytes(), wanted)
+        shows(alloc, text.as_bytes(), wanted)
     }
 }
 

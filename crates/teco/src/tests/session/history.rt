@@ -1,5 +1,5 @@
 //! Sessions: strings that are undone and redone, and requests that are refused only where memory is.
-use super::requests::{Over, Trial, holds_in, holds_once, ran, turned};
+use super::requests::{Over, Trial, holds_once, ran, turned};
 use crate::tests::bytes::{Screen, is, is_typed, joined};
 use crate::tests::rows::{Cells, Rule, all_hold, cells_of};
 use crate::tests::store::states::{is_seen, seen};
@@ -85,7 +85,7 @@ struct Plays;
 impl Rule for Plays {
     fn holds(&self, alloc: Global, row: &str) -> bool {
         let cells = cells_of(row);
-        holds_in(alloc, &Over::new(cells[0].as_bytes()), &Play(cells))
+        holds_once(alloc, &Over::new(cells[0].as_bytes()), &Play(cells))
     }
 }
 

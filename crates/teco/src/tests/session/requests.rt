@@ -4,7 +4,7 @@ use crate::tests::assert_of;
 use crate::tests::bytes::{Screen, are_both, is, is_typed, joined, screen_of, wide_screen};
 use crate::tests::exec::breaks::Asking;
 use crate::tests::exec::strings::is_code;
-use crate::tests::rows::{Cells, LINE, cells_of, is_row, number_or, text_of};
+use crate::tests::rows::{Cells, LINE, cells_of, halves_at, is_row, number_or, text_of};
 use std::alloc::Global;
 use std::fmt::Write;
 use teco_core::{Code, DEPTH_LIMIT, FILE_LIMIT};
@@ -70,8 +70,16 @@ fn is_within(session: &Session, most: u64) -> bool {
     changes.len() as u64 <= session.steps(strings - 1).saturating_mul(6) && held as u64 <= most
 }
 
-/// Whether what is told of a session begins so: how many strings it has, the pointer, the steps of the last string, and the kinds of its
-/// changes, where a splice tells its place, how many bytes go, and how many come.
+/// What is told of a change: of a splice its place, how many bytes go, and how many come.
+fn told_of(kind: ChangeKind) -> (&'static str, [usize; 3]) {
+    match kind {
+        ChangeKind::Splice { at, gone, came } => ("splice", [at, gone, came]),
+        ChangeKind::Point => ("point", [0; 3]),
+        _ => ("another", [0; 3]),
+    }
+}
+
+/// Whether what is told of a session begins so: how many strings it has, the pointer, the steps of the last string, and its changes.
 fn is_told(alloc: Global, session: &Session, told: &str) -> bool {
     let strings = session.strings();
     if strings == 0 {
@@ -81,11 +89,8 @@ fn is_told(alloc: Global, session: &Session, told: &str) -> bool {
     let mut out = String::new(alloc);
     let mut held = write!(out, "{strings} {pointer} {steps}:").is_ok();
     for change in session.entry(strings - 1) {
-        held = match change.kind() {
-            ChangeKind::Splice { at, gone, came } => write!(out, " {at} {gone} {came},").is_ok(),
-            ChangeKind::Point => write!(out, " point,").is_ok(),
-            _ => write!(out, " another,").is_ok(),
-        } && held;
+        let (kind, numbers) = told_of(change.kind());
+        held = write!(out, " {kind} {numbers:?},").is_ok() && held;
     }
     held && write!(out, ".").is_ok() && out.as_str().starts_with(told)
 }
@@ -101,7 +106,7 @@ fn is_left(alloc: Global, session: &Session, cells: &Cells) -> bool {
 
 /// Whether a string is answered as its row says on a terminal that takes so many bytes, and shows no more than these after their number.
 fn is_shown(alloc: Global, session: &mut Session, cells: &Cells) -> bool {
-    let (room, shown) = cells[7].split_once(' ').unwrap_or((cells[7], ""));
+    let (room, shown) = halves_at(cells[7], " ");
     let mut term = screen_of(alloc, number_or(room, 0) as usize);
     let answer = ran(session, cells[0].as_bytes(), 1000, &mut term);
     is_code(answer.code(), cells[1]) && is_typed(&term, shown)
@@ -196,14 +201,15 @@ pub(crate) fn holds_in<T: Trial>(alloc: Global, over: &Over, trial: &T) -> bool 
 /// Whether the requests of a script are answered. Its first line has the input, what is typed in all, how many strings are noted at the
 /// end, the lines of a page, and how many strings are kept; what is empty after the typed text is not said.
 fn plays(alloc: Global, script: &str) -> bool {
-    let (head, rows) = script.split_once(LINE).unwrap_or((script, ""));
+    let (head, rows) = halves_at(script, LINE);
     let [input, typed, noted, lines, depth, ..] = cells_of(head);
     let over = Over {
         input: input.as_bytes(),
         page_lines: number_or(lines, 0) as usize,
-        depth: match depth {
-            "" => None,
-            _ => Some(number_or(depth, 0) as usize),
+        depth: if depth.is_empty() {
+            None
+        } else {
+            Some(number_or(depth, 0) as usize)
         },
     };
     holds_in(alloc, &over, &Script { rows, typed, noted })
