@@ -61,8 +61,8 @@ pub(super) const SCRIPTS: &str = "
     { => => ab\x0cxcd\x0c => ef => 0
     // A string shows the kinds of its changes, and the way back once it is undone.
     over
-    Iabc\x1b-DIxy\x1bJ\x1b => => => => => => 1 0 5: splice [0, 3, 0], splice [2, 0, 1], splice [2, 2, 0], point [0, 0, 0],.
-    { => => => => => => 1 0 5: splice [0, 0, 3], splice [2, 1, 0], splice [2, 0, 2], point [0, 0, 0],.
+    Iabc\x1b-DIxy\x1bJ\x1b => => => => => => 1 0 5: 0 3 0, 2 0 1, 2 2 0, point,.
+    { => => => => => => 1 0 5: 0 0 3, 2 1 0, 2 0 2, point,.
     // A hundred strings are undone, each by itself, and redone, and one redo more is refused.
     over
     Ix\x1b => => => => => 100

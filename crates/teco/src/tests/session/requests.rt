@@ -70,16 +70,8 @@ fn is_within(session: &Session, most: u64) -> bool {
     changes.len() as u64 <= session.steps(strings - 1).saturating_mul(6) && held as u64 <= most
 }
 
-/// What is told of a change: of a splice its place, how many bytes go, and how many come.
-fn told_of(kind: ChangeKind) -> (&'static str, [usize; 3]) {
-    match kind {
-        ChangeKind::Splice { at, gone, came } => ("splice", [at, gone, came]),
-        ChangeKind::Point => ("point", [0; 3]),
-        _ => ("another", [0; 3]),
-    }
-}
-
-/// Whether what is told of a session begins so: how many strings it has, the pointer, the steps of the last string, and its changes.
+/// Whether what is told of a session begins so: how many strings it has, the pointer, the steps of the last string, and the kinds of its
+/// changes, where a splice tells its place, how many bytes go, and how many come.
 fn is_told(alloc: Global, session: &Session, told: &str) -> bool {
     let strings = session.strings();
     if strings == 0 {
@@ -89,8 +81,11 @@ fn is_told(alloc: Global, session: &Session, told: &str) -> bool {
     let mut out = String::new(alloc);
     let mut held = write!(out, "{strings} {pointer} {steps}:").is_ok();
     for change in session.entry(strings - 1) {
-        let (kind, numbers) = told_of(change.kind());
-        held = write!(out, " {kind} {numbers:?},").is_ok() && held;
+        held = match change.kind() {
+            ChangeKind::Splice { at, gone, came } => write!(out, " {at} {gone} {came},").is_ok(),
+            ChangeKind::Point => write!(out, " point,").is_ok(),
+            _ => write!(out, " another,").is_ok(),
+        } && held;
     }
     held && write!(out, ".").is_ok() && out.as_str().starts_with(told)
 }
