@@ -8,6 +8,7 @@ use std::io;
 use std::process::ExitCode;
 use std::test::*;
 use std::time::{Clock, Duration};
+use teco_core::NoMemory;
 use teco_files::{MemoryDisk, MemorySource, Refused, Source};
 use teco_line::{Line, LineFault, line_of};
 use teco_program::{ClockAlarm, program};
@@ -22,20 +23,18 @@ mod serving;
 mod splitter;
 mod word;
 
-/// The words of a text with a blank between them, as the program is given them. Where memory was refused, some are not there.
-pub(crate) fn words_of(alloc: Global, text: &str) -> Vec<String> {
+/// The words of a text with a blank between them, as the program is given them.
+pub(crate) fn words_of(alloc: Global, text: &str) -> Result<Vec<String>, NoMemory> {
     let mut words = Vec::new(alloc);
     for word in text.split(' ') {
-        if let Ok(word) = String::from_str(alloc, word) {
-            let _ = words.push(word).is_ok();
-        }
+        words.push(String::from_str(alloc, word)?)?;
     }
-    words
+    Ok(words)
 }
 
 /// What the words of a text say.
 pub(crate) fn line_from(alloc: Global, text: &str) -> Result<Line, LineFault> {
-    let words = words_of(alloc, text);
+    let words = words_of(alloc, text)?;
     line_of(alloc, words.as_slice())
 }
 
@@ -83,6 +82,10 @@ impl Clock for Ticking {
 
 /// Whether a run ends so, and types, tells and notes what its row says.
 fn runs_on(alloc: Global, disk: &mut MemoryDisk, cells: &Cells) -> bool {
+    let words = match words_of(alloc, cells[0]) {
+        Ok(words) => Ok(words),
+        Err(NoMemory) => Err(LineFault::NoMemory),
+    };
     let commands = commands_of(cells[1]);
     let bytes = joined(alloc, &[commands.as_bytes()]);
     let mut source = MemorySource::new(bytes, Vec::new(alloc), false);
@@ -92,7 +95,7 @@ fn runs_on(alloc: Global, disk: &mut MemoryDisk, cells: &Cells) -> bool {
     let clock = Ticking::new();
     let status = program(
         alloc,
-        Ok(words_of(alloc, cells[0])),
+        words,
         7,
         &mut source,
         &mut ClockAlarm::new(&clock),
