@@ -93,6 +93,36 @@ rounds() {
     rm -r "$work/line"
 }
 
+# Whether twice the work took the program more than 2.2 times as long, and callgrind is there to tell whether that is noise.
+grows_too_much() {
+    command -v valgrind > /dev/null || return 1
+    awk -v name="$1" '
+        $1 == name && $3 == "teco" && !($2 in least && least[$2] < $4 + $5) { least[$2] = $4 + $5 }
+        END { exit !(least["once"] >= 0.02 && least["twice"] > 2.2 * least["once"]) }' "$work/times"
+}
+
+# Notes how many instructions the program takes for a line.
+#   count NAME once|twice
+count() {
+    mkdir "$work/line"
+    cd "$work/line"
+    "$BENCH/lines/$1" make
+    printf '#!/bin/sh\nexec valgrind --tool=callgrind --callgrind-out-file=/dev/null %s "$@"\n' "$TECO" > counting
+    chmod +x counting
+    TECO=./counting "$BENCH/lines/$1" teco > typed 2> counted || { say "$1: it could not be counted"; cat counted >&2; exit 2; }
+    echo "$1 $2 $(sed -n 's/.* Collected : //p' counted | tail -n 1)" >> "$work/instructions"
+    cd /
+    rm -r "$work/line"
+}
+
+# Counts a line of both sizes. WORK is that of the second.
+count_both() {
+    say "$1, counted by callgrind"
+    count "$1" twice
+    export WORK=$((WORK / 2))
+    count "$1" once
+}
+
 # The kilobytes that the program takes over an empty file.
 peak_over_nothing() {
     printf 'EX\033\033' | /usr/bin/time -q -o "$work/peak" -f %M "$TECO" --output /dev/null /dev/null

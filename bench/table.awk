@@ -1,5 +1,5 @@
-# Makes the table of bench/run from its goals and its times, and with check=1 ends with status 1 where a goal is missed by more than a tenth.
-# A goal is NAME KIND .., as bench/line.sh says; a time is NAME SIZE PROGRAM USER SYSTEM KILOBYTES, one for each round.
+# Makes the table of bench/run from its goals, its counts and its times, and with check=1 ends with status 1 where a goal is missed by more than a tenth.
+# A goal is NAME KIND .., as bench/line.sh says; a count is NAME SIZE INSTRUCTIONS, of lines whose times grow too much; a time is NAME SIZE PROGRAM USER SYSTEM KILOBYTES, one for each round.
 
 # Sorts the n values of a row, and gives the one in the middle.
 function middle(values, n,    i, k, v) {
@@ -29,6 +29,7 @@ function judge(text, seen, wanted) {
 
 FILENAME == ARGV[1] && NF > 2 { goals[++ngoals] = $0; next }
 FILENAME == ARGV[1] { next }
+FILENAME == ARGV[2] { count[$1 " " $2] = $3; next }
 {
     row = $1 " " $2 " " $3
     if (!(row in rounds)) rows[++nrows] = row
@@ -56,7 +57,9 @@ END {
             sprintf("%.3f", s[row]), sprintf("%.3f", sm[row]),
             row == first ? "" : ratio(u[first], u[row]), row == first ? "" : ratio(b[first], b[row]),
             peak[row] ? sprintf("%.1f", peak[row] / 1000) : "", growth
-        if (row == first && part[2] == "twice" && b[before] >= 0.02) judge(part[1] ", twice the work", b[row] / b[before], 2.2)
+        if (row != first || part[2] != "twice" || b[before] < 0.02) continue
+        if (count[part[1] " once"] > 0) judge(part[1] ", twice the work, by instructions", count[part[1] " twice"] / count[part[1] " once"], 2.2)
+        else judge(part[1] ", twice the work", b[row] / b[before], 2.2)
     }
     for (g = 1; g <= ngoals; g++) {
         split(goals[g], part, " ")
