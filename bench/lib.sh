@@ -101,15 +101,22 @@ grows_too_much() {
         END { exit !(least["once"] >= 0.02 && least["twice"] > 2.2 * least["once"]) }' "$work/times"
 }
 
+# A script that runs a program under callgrind.
+counting() {
+    printf '#!/bin/sh\nexec valgrind --tool=callgrind --callgrind-out-file=/dev/null %s "$@"\n' "$1"
+}
+
 # Notes how many instructions the program takes for a line.
 #   count NAME once|twice
 count() {
     mkdir "$work/line"
     cd "$work/line"
     "$BENCH/lines/$1" make
-    printf '#!/bin/sh\nexec valgrind --tool=callgrind --callgrind-out-file=/dev/null %s "$@"\n' "$TECO" > counting
-    chmod +x counting
-    TECO=./counting "$BENCH/lines/$1" teco > typed 2> counted || { say "$1: it could not be counted"; cat counted >&2; exit 2; }
+    counting "$TECO" > teco.counted
+    counting "$TECOL" > tecol.counted
+    chmod +x teco.counted tecol.counted
+    TECO=./teco.counted TECOL=./tecol.counted "$BENCH/lines/$1" teco > typed 2> counted ||
+        { say "$1: it could not be counted"; cat counted >&2; exit 2; }
     echo "$1 $2 $(sed -n 's/.* Collected : //p' counted | tail -n 1)" >> "$work/instructions"
     cd /
     rm -r "$work/line"
