@@ -40,7 +40,7 @@ abbrev pub place_of : Held → Option ℕ
 place_of (Input from) = Some from
 place_of (Memory v) = None
 
--- What is to hold so many bytes of a text at a place can hold them, and those that come for them. The input holds a whole page.
+-- What is to hold so many bytes of a text at a place can hold them, and those that come for them, and no more. The input holds a whole page.
 abbrev pub CanHold : Body → ℕ → ℕ → ℕ → Held → Type 0
 CanHold b at there came (Input from) = ((at ≡ 0) × (there ≡ length b.text)) × IsAsRead b from
-CanHold b at there came (Memory v) = (v.items ≡ []) × (there + came ≤ vec_capacity v)
+CanHold b at there came (Memory v) = (v.items ≡ []) × (vec_capacity v ≡ there + came)

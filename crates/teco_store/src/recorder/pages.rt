@@ -73,7 +73,8 @@ impl Recorder {
         ensures keeps { StillFollows self.old self.new }
     {
         if let Some(from) = self.editor.place_of_page() {
-            self.find_room(2, len)?;
+            self.reserve(2)?;
+            self.reserve_text(len)?;
             return Ok(Held::Input(from));
         }
         let held = self.find_memory(2, there + len, len)?;
