@@ -1,4 +1,4 @@
-use Rattle.std.proofs.Common.{arith}
+use Rattle.std.proofs.Common.{arith, rules}
 use Rattle.std.proofs.lemmas.Grind.{common_steps}
 use Rattle.teco_store.proofs.editor.EditorDesk.note_replace.Goals as goal
 
@@ -13,6 +13,9 @@ overflow_add-kept c = grind (arith, common_steps)
 
 pub returns-in_err-reserve-clause-big : goal.returns-in_err-reserve-clause-big
 returns-in_err-reserve-clause-big c = grind (arith, common_steps)
+
+pub returns-in_err-reserve-clause-err : goal.returns-in_err-reserve-clause-err
+returns-in_err-reserve-clause-err c = search rules
 
 pub returns-in_err-note_text-clause-big : goal.returns-in_err-note_text-clause-big
 returns-in_err-note_text-clause-big c = grind (arith, common_steps)

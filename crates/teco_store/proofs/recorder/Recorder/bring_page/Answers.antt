@@ -1,7 +1,10 @@
-use Rattle.std.proofs.Common.{arith, length, ◌+◌}
+use Rattle.std.proofs.Common.{arith, length, rules, ◌+◌}
 use Rattle.teco_store.specs.Page.{page}
 use Rattle.teco_store.proofs.Recordings.{goes_then, goes_more}
 use Rattle.teco_store.proofs.recorder.Recorder.bring_page.Goals as goal
+
+pub returns-clause-full : goal.returns-clause-full
+returns-clause-full c = search rules
 
 pub returns-clause-goes : goal.returns-clause-goes
 returns-clause-goes c =
