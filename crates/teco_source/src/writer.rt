@@ -112,13 +112,13 @@ fn push_comment(out: &mut Vec<u8>, text: &[u8]) -> Result<(), NoMemory>
 fn push_note(out: &mut Vec<u8>, note: Option<Note>) -> Result<(), NoMemory>
     ensures { OnOk result (out.new.items ≡ out.old.items ++ note_of (note_in note.entry)) }
 {
-    if let Some(note) = note {
-        out.push(b' ')?;
-        push_spaces(out, note.spaces)?;
-        out.extend_from_slice(b"!!")?;
-        push_comment(out, note.text)?;
-    }
-    Ok(())
+    let Some(note) = note else {
+        return Ok(());
+    };
+    out.push(b' ')?;
+    push_spaces(out, note.spaces)?;
+    out.extend_from_slice(b"!!")?;
+    push_comment(out, note.text)
 }
 
 fn write_line(
