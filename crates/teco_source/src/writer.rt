@@ -44,10 +44,9 @@ fn spell_byte(out: &mut Vec<u8>, mode: Mode, byte: u8) -> Result<(), NoMemory>
         _ => {}
     }
     if is_guarded(mode, byte) {
-        push_marked(out, b'.')?;
+        return out.extend_from_slice(&[b'^', b'.', byte]);
     }
-    out.push(byte)?;
-    Ok(())
+    out.extend_from_slice(&[byte])
 }
 
 /// Where a reader is after a byte that was written so.
