@@ -16,7 +16,7 @@ use crate::token::{Found, Token, TokenKind};
 use teco_core::{BLOCK_LIMIT, Code, is_filler};
 
 /// The kinds of open blocks: an iteration's body, a conditional's first part and its second.
-#[derive(Clone, Copy, Debug, PartialEq, Eq)]
+#[derive(Clone, Copy, PartialEq, Eq)]
 pub enum Kind {
     Iter,
     Then,

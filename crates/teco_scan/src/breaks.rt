@@ -15,7 +15,7 @@ use crate::token::Found;
 use teco_core::{BLOCK_LIMIT, Code};
 
 /// A list of a text: the commands in a block, or the text's own.
-#[derive(Clone, Copy, Debug, PartialEq, Eq)]
+#[derive(Clone, Copy)]
 pub struct OpenList {
     /// The kind of the block; none: the list is the text's own.
     pub kind: Option<Kind>,
@@ -26,7 +26,7 @@ pub struct OpenList {
 }
 
 /// A fault of a text: what breaks one of its lists.
-#[derive(Clone, Copy, Debug, PartialEq, Eq)]
+#[derive(Clone, Copy, Debug)]
 pub struct Fault {
     /// Its place: that of the bytes that are no token, of the mark that ends no such block, of the block that is one too many, or
     /// the end of the text.

@@ -7,7 +7,7 @@ ghost use Rattle.teco_search.specs.Element.{is_blank, is_in, is_same, item_admit
 ghost use Rattle.teco_search.specs.Literal.{is_exact};
 ghost use Rattle.teco_search.specs.Shown.{shown_byte, shown_class, shown_element, shown_item, shown_items, shown_one, shown_other};
 
-use std::fmt;
+use std::fmt::{self, Display};
 use std::marker::Model;
 use teco_core::{CaseMode, is_line_end};
 
@@ -218,8 +218,8 @@ impl fmt::Display for Item {
 
     fn fmt<W: fmt::Write>(&self, f: &mut fmt::Formatter<W>) -> fmt::Result {
         match self {
-            Item::Byte(byte) => write!(f, "{}", Shown(*byte)),
-            Item::Class(class) => write!(f, "{class}"),
+            Item::Byte(byte) => Shown(*byte).fmt(f),
+            Item::Class(class) => class.fmt(f),
         }
     }
 }
@@ -241,7 +241,7 @@ impl fmt::Display for Items {
         match self.items.as_slice() {
             [] => Ok(()),
             [first, others @ ..] => {
-                write!(f, "{first}")?;
+                first.fmt(f)?;
                 show_others(others, f)
             }
         }
@@ -253,7 +253,7 @@ impl fmt::Display for OneByte {
 
     fn fmt<W: fmt::Write>(&self, f: &mut fmt::Formatter<W>) -> fmt::Result {
         match self {
-            OneByte::Single(item) => write!(f, "{item}"),
+            OneByte::Single(item) => item.fmt(f),
             OneByte::Listed(items) => write!(f, "^E[{items}]"),
         }
     }
@@ -264,7 +264,7 @@ impl fmt::Display for Element {
 
     fn fmt<W: fmt::Write>(&self, f: &mut fmt::Formatter<W>) -> fmt::Result {
         match self {
-            Element::Among(one) => write!(f, "{one}"),
+            Element::Among(one) => one.fmt(f),
             Element::Except(one) => write!(f, "^N{one}"),
             Element::Blanks => f.write_str("^ES"),
         }

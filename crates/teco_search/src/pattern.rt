@@ -17,7 +17,7 @@ use crate::reading::{literal, read};
 use crate::search::{Backward, Forward, count_forward, nth_backward, nth_forward};
 use memchr::memmem::{Finder, FinderRev};
 use std::alloc::Global;
-use std::fmt;
+use std::fmt::{self, Display};
 use std::marker::Model;
 use teco_core::{CaseMode, Code};
 
@@ -79,7 +79,7 @@ fn show_bytes<W: fmt::Write>(bytes: &[u8], f: &mut fmt::Formatter<W>) -> fmt::Re
     ensures { WritesOnOk W.write_str_gives f.old result (flat_map shown_byte bytes.now) f.new }
 {
     'bytes: for byte in bytes {
-        write!(f, "{}", Shown(*byte))?;
+        Shown(*byte).fmt(f)?;
     }
     Ok(())
 }
@@ -88,7 +88,7 @@ fn show_elements<W: fmt::Write>(elements: &[Element], f: &mut fmt::Formatter<W>)
     ensures { WritesOnOk W.write_str_gives f.old result (shown elements.now) f.new }
 {
     'elements: for element in elements {
-        write!(f, "{element}")?;
+        element.fmt(f)?;
     }
     Ok(())
 }

@@ -27,7 +27,7 @@ const CONTROL_X: u8 = 24;
 fn occurs_at(text: &[u8], at: usize, byte: u8) -> bool
     ensures { result ≡ occurs_at text.now at byte }
 {
-    text.get(at) == Some(&byte)
+    at < text.len() && text[at] == byte
 }
 
 #[tactic(auto, unfolding(crate::specs::Reading::byte_at))]

@@ -49,7 +49,7 @@ pub fn part_of(kind: TokenKind, has_number: bool) -> Part {
 fn is_at(text: &[u8], at: usize, byte: u8) -> bool
     ensures { IsTrue result → at < length text.now }
 {
-    text.get(at) == Some(&byte)
+    at < text.len() && text[at] == byte
 }
 
 /// Whether a line may be broken at a place: not beside a blank, which would need a mark of its own, nor before an ESC.
@@ -135,17 +135,12 @@ impl Layout {
     fn margin(&self, text: &[u8], at: usize) -> usize
         requires { at ≤ length text.now }
     {
-        let closes = match token_at(text, at) {
-            Found::Token(token) => matches!(
-                part_of(token.kind, false),
-                Part::Closes | Part::Divides
-            ),
-            _ => false,
-        };
-        let depth = if closes {
-            self.depth.saturating_sub(1)
-        } else {
-            self.depth
+        let depth = match token_at(text, at) {
+            Found::Token(token) => match part_of(token.kind, false) {
+                Part::Closes | Part::Divides => self.depth.saturating_sub(1),
+                _ => self.depth,
+            },
+            _ => self.depth,
         };
         depth.min(DEEPEST) * 2
     }

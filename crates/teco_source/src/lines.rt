@@ -47,8 +47,12 @@ fn push_part(
 fn columns(bytes: &[u8], margin: usize) -> usize {
     let mut columns = margin;
     for byte in bytes {
-        let marked = *byte < 32 && *byte != 27 || matches!(*byte, b'$' | b'^' | 127);
-        columns = columns.saturating_add(if marked { 2 } else { 1 });
+        let width = match *byte {
+            27 => 1,
+            0..32 | b'$' | b'^' | 127 => 2,
+            _ => 1,
+        };
+        columns = columns.saturating_add(width);
     }
     columns
 }
@@ -74,10 +78,9 @@ pub fn listing(alloc: Global, text: &[u8], with_words: bool) -> Result<Vec<u8>, 
         if with_words {
             push_words(&mut words, text, at, line.told)?;
         }
-        let margin = if matches!(line_mode(text, at), Mode::Margin) {
-            line.margin
-        } else {
-            0
+        let margin = match line_mode(text, at) {
+            Mode::Margin => line.margin,
+            _ => 0,
         };
         let spaces = NOTES.saturating_sub(columns(&text[at..line.to], margin));
         let note = if words.is_empty() {

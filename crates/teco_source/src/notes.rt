@@ -30,11 +30,14 @@ pub fn push_words(out: &mut Vec<u8>, text: &[u8], at: usize, to: usize) -> Resul
             return Ok(());
         }
         place = token.span.to;
-        let is_value = matches!(part_of(token.kind, has_number), Part::Value);
-        if !is_value && !matches!(token.kind, TokenKind::Tag(_)) {
-            push_token(out, &token, has_number)?;
+        match (part_of(token.kind, has_number), token.kind) {
+            (Part::Value, _) => has_number = true,
+            (_, TokenKind::Tag(_)) => has_number = false,
+            _ => {
+                push_token(out, &token, has_number)?;
+                has_number = false;
+            }
         }
-        has_number = is_value;
     }
     Ok(())
 }

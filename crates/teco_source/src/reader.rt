@@ -6,7 +6,6 @@ ghost use Rattle.teco_source.specs.Places.{waiting, bytes_begun};
 
 use std::alloc::Global;
 use teco_core::NoMemory;
-use thiserror::Error;
 
 /// Where in a line of a source a reader is.
 #[derive(Clone, Copy)]
@@ -32,13 +31,11 @@ pub enum Mode {
 }
 
 /// Why a source is not read.
-#[derive(Clone, Copy, Debug, Drop, Error)]
+#[derive(Clone, Copy)]
 pub enum SourceFault {
     /// The caret at this place stands before what it cannot stand before. The place counts the bytes before it.
-    #[error("a caret before what it cannot stand before")]
     Caret(usize),
     /// Memory was refused for the commands.
-    #[error("no memory")]
     Memory,
 }
 
@@ -172,14 +169,19 @@ impl Reader {
         ensures { OnOk result (state_of self.new ≡ plain (state_of self.old) byte) }
     {
         match byte {
-            b'\n' => self.next_line(),
-            b'^' => self.mode = Mode::Caret,
-            b'!' => self.mark()?,
-            b' ' | b'\t' | b'\r' => self.blank(byte)?,
-            b'$' => self.put(27)?,
-            _ => self.put(byte)?,
+            b'\n' => {
+                self.next_line();
+                Ok(())
+            }
+            b'^' => {
+                self.mode = Mode::Caret;
+                Ok(())
+            }
+            b'!' => self.mark(),
+            b' ' | b'\t' | b'\r' => self.blank(byte),
+            b'$' => self.put(27),
+            _ => self.put(byte),
         }
-        Ok(())
     }
 
     /// A byte after another one, with which it begins a comment if it is an exclamation mark.

@@ -44,10 +44,9 @@ fn spell_byte(out: &mut Vec<u8>, mode: Mode, byte: u8) -> Result<(), NoMemory>
         _ => {}
     }
     if is_guarded(mode, byte) {
-        push_marked(out, b'.')?;
+        return out.extend_from_slice(&[b'^', b'.', byte]);
     }
-    out.push(byte)?;
-    Ok(())
+    out.extend_from_slice(&[byte])
 }
 
 /// Where a reader is after a byte that was written so.
@@ -112,13 +111,13 @@ fn push_comment(out: &mut Vec<u8>, text: &[u8]) -> Result<(), NoMemory>
 fn push_note(out: &mut Vec<u8>, note: Option<Note>) -> Result<(), NoMemory>
     ensures { OnOk result (out.new.items ≡ out.old.items ++ note_of (note_in note.entry)) }
 {
-    if let Some(note) = note {
-        out.push(b' ')?;
-        push_spaces(out, note.spaces)?;
-        out.extend_from_slice(b"!!")?;
-        push_comment(out, note.text)?;
-    }
-    Ok(())
+    let Some(note) = note else {
+        return Ok(());
+    };
+    out.push(b' ')?;
+    push_spaces(out, note.spaces)?;
+    out.extend_from_slice(b"!!")?;
+    push_comment(out, note.text)
 }
 
 fn write_line(

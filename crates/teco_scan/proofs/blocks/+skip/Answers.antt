@@ -1,4 +1,5 @@
 use Rattle.std.proofs.Common.{◌≡◌, ℕ, ◌+◌, suc, List, Some, drop, sym, ap, ◌∙◌, arith}
+use Rattle.std.proofs.lemmas.Grind.{common_steps}
 use Rattle.std.proofs.lemmas.Result.{err_from_is_err_and}
 use Rattle.teco_scan.specs.Seen.{meaning_in, instruction_in}
 use Rattle.teco_scan.proofs.ScanFaults.{scan_fault}
@@ -75,3 +76,6 @@ skip_block-loop-code-preserved t c = record {
 
 pub skip_block-returns-in-Fault-clause-fault : goal.skip_block-returns-in-Fault-clause-fault
 skip_block-returns-in-Fault-clause-fault t c = scan_fault (drop c.passed_end-start.result c.args.text.now) c.in-Fault.code (sym c.in-Fault.ensures.read)
+
+pub skip_whole_block-returns-then-stop-clause-passes : goal.skip_whole_block-returns-then-stop-clause-passes
+skip_whole_block-returns-then-stop-clause-passes t c = grind (arith, common_steps)

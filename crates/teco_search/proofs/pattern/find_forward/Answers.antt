@@ -1,4 +1,5 @@
-use Rattle.std.proofs.Common.{◌≡◌, ◌++◌, ◌<◌, Option, Some, None, length, subst, w32}
+use Rattle.std.proofs.Common.{◌≡◌, ◌++◌, ◌<◌, Option, Some, None, length, subst, w32, arith}
+use Rattle.std.proofs.lemmas.Grind.{common_steps}
 use Rattle.std.proofs.lemmas.Int.{to_z-of_z}
 use Rattle.teco_search.specs.Occurrence.{Sought, Span, occurrence}
 use Rattle.teco_search.proofs.Begins.{ready_some}
@@ -33,3 +34,21 @@ returns-clause-next c =
     let text = c.args.halves.0.now ++ c.args.halves.1.now in
     let some : 0 < length c.args.pattern.now.elements = subst (λ (s : Sought). 0 < length s.elements) c.forward.ensures.sought (ready_some c.forward.result c.forward.ensures.ready) in
     occurrence_next c.args.pattern.now text c.args.from some c.args.n None (returns-clause-value c)
+
+pub nth_forward-requires-clause-ready : goal.nth_forward-requires-clause-ready
+nth_forward-requires-clause-ready c = grind (arith, common_steps)
+
+pub nth_forward-requires-clause-within : goal.nth_forward-requires-clause-within
+nth_forward-requires-clause-within c = grind (arith, common_steps)
+
+pub nth_forward-requires-clause-some : goal.nth_forward-requires-clause-some
+nth_forward-requires-clause-some c = grind (arith, common_steps)
+
+pub overflow_cast-result : goal.overflow_cast-result
+overflow_cast-result c = grind (arith, common_steps)
+
+pub returns-clause-within : goal.returns-clause-within
+returns-clause-within c = grind (arith, common_steps)
+
+pub returns-clause-fewer : goal.returns-clause-fewer
+returns-clause-fewer c = grind (arith, common_steps)

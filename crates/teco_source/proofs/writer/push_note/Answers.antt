@@ -2,5 +2,5 @@ use Rattle.std.proofs.Common.{arith}
 use Rattle.std.proofs.lemmas.Grind.{common_steps}
 use Rattle.teco_source.proofs.writer.push_note.Goals as goal
 
-pub returns-in_ok-push_comment : goal.returns-in_ok-push_comment
-returns-in_ok-push_comment c = grind (arith, common_steps)
+pub returns : goal.returns
+returns c = grind (arith, common_steps)

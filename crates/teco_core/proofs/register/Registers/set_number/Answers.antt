@@ -14,3 +14,9 @@ returns-clause-put c =
 
 pub invariant_of-self : goal.invariant_of-self
 invariant_of-self c = grind (arith, common_steps)
+
+pub bounds-self-inside-index : goal.bounds-self-inside-index
+bounds-self-inside-index c = grind (arith, common_steps)
+
+pub returns-clause-all : goal.returns-clause-all
+returns-clause-all c = grind (arith, common_steps)

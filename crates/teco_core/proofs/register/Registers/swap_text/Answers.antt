@@ -15,3 +15,9 @@ invariant_of-self c = grind (arith, common_steps)
 
 pub returns-clause-held : goal.returns-clause-held
 returns-clause-held c = grind (arith, common_steps)
+
+pub bounds-self-inside-index : goal.bounds-self-inside-index
+bounds-self-inside-index c = grind (arith, common_steps)
+
+pub returns-clause-all : goal.returns-clause-all
+returns-clause-all c = grind (arith, common_steps)

@@ -7,3 +7,6 @@ returns-clause-wider c = grind (arith, common_steps)
 
 pub returns-clause-same : goal.returns-clause-same
 returns-clause-same c = grind (arith, common_steps)
+
+pub with_zeros-block-requires : goal.with_zeros-block-requires
+with_zeros-block-requires c = grind (arith, common_steps)

@@ -1,6 +1,6 @@
 use Rattle.std.proofs.Common.{arith}
 use Rattle.std.proofs.lemmas.Grind.{common_steps}
-use Rattle.teco_source.proofs.layout.is_at.Goals as goal
+use Rattle.teco_core.proofs.number.with_digit.Goals as goal
 
 pub returns : goal.returns
 returns c = grind (arith, common_steps)
