@@ -17,5 +17,6 @@ pub mod Standings
 pub mod Turns
 pub mod Outermost
 pub mod Placings
+pub mod Calls
 pub mod Semicolons
 pub mod Remembering

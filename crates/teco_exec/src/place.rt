@@ -6,7 +6,7 @@ use teco_scan::Fault;
 ///
 /// Places count the bytes before them, each in its own text. What a caller needs besides, he reads there himself: where the token
 /// ends, by `token_at` of teco_scan; and the text of a register that is called, as long as nothing has changed it since the call.
-#[derive(Debug, Drop)]
+#[derive(Drop)]
 pub struct Place {
     /// The steps that were done when it stood there.
     pub steps: u64,

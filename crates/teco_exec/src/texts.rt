@@ -148,9 +148,7 @@ fn run_in<D: Desk, S: Stop, T: Terminal, W: Watch>(
                     watch,
                 ) {
                     Exit::Return => continue 'running,
-                    Exit::Over => return Exit::Over,
-                    Exit::Fail(code) => return Exit::Fail(code),
-                    Exit::Stop(code) => return Exit::Stop(code),
+                    exit => return exit,
                 }
             }
             Flow::Return => {
@@ -283,28 +281,20 @@ fn run_copy<D: Desk, S: Stop, T: Terminal, W: Watch>(
         watch.stood(steps.done - 1, at, cursor);
         return Exit::Fail(Code::Pdo);
     }
-    let args = &mut cursor.args;
-    match run_text(
+    let exit = run_text(
         desk,
         called,
         depth + 1,
-        args,
+        &mut cursor.args,
         rooms,
         steps,
         spare,
         stop,
         term,
         watch,
-    ) {
-        Exit::Return => Exit::Return,
-        Exit::Over => Exit::Over,
-        Exit::Fail(code) => {
-            watch.called(q, at, cursor);
-            Exit::Fail(code)
-        }
-        Exit::Stop(code) => {
-            watch.called(q, at, cursor);
-            Exit::Stop(code)
-        }
+    );
+    if exit.code().is_some() {
+        watch.called(q, at, cursor);
     }
+    exit
 }

@@ -1,13 +1,13 @@
-use Rattle.std.proofs.Common.{◌≡◌, ◌<◌, ◌≤◌, inl, ◌+◌, ◌-◌, ◌∷◌, length, drop, None, Some, refl, sym, subst, ap, ◌∙◌, arith, rules}
+use Rattle.std.proofs.Common.{◌≡◌, true, false, is_some, ◌<◌, ◌≤◌, inl, ◌+◌, ◌-◌, ◌∷◌, length, drop, None, Some, refl, sym, subst, ap, ◌∙◌, arith, rules}
 use Rattle.std.proofs.lemmas.List.{length-drop}
 use Rattle.teco_core.specs.ArgumentsView.{arguments}
 use Rattle.teco_exec.specs.View.{cursor}
-use Rattle.teco_exec.specs.Running.{at_cursor, at_return, goes, host, over, reached_after_call, stops}
-use Rattle.teco_exec.proofs.Continuations.{begins, caller, comes_home, enters, less_left, too_deep}
+use Rattle.teco_exec.specs.Running.{at_cursor, at_return, code_left, goes, host, over, reached_after_call, stops}
+use Rattle.teco_exec.proofs.Continuations.{begins, caller, comes_home, less_left, too_deep}
+use Rattle.teco_exec.proofs.Calls.{ends_around, enters_copy, tells_call, tells_nothing, tells_on}
 use Rattle.teco_exec.proofs.Going.{since}
 use Rattle.teco_exec.proofs.NoMemory.{begins_quietly}
 use Rattle.teco_exec.specs.Places.{IsReadAt, call_token, told_here, with_call}
-use Rattle.teco_exec.specs.declared.flow.Exit.TheVariants as ending
 use Rattle.teco_exec.proofs.Placings.{call_told_here, called_told, stood_told}
 use Rattle.teco_exec.proofs.Stepped.{call_fails, call_leads, call_unpaid, counts_none, counts_on, counts_one, counts_over, counts_so}
 use Rattle.teco_core.specs.declared.code.Code.TheVariants.{Pdo}
@@ -92,36 +92,6 @@ run_in-running-preserved g t c = record {
       record { going = back.going; follows = λ floor p. back.follows floor (here.follows floor (there.follows floor p)) };
 }
 
-pub run_in-returns-in-Over-run_called-clause-leads : goal.run_in-returns-in-Over-run_called-clause-leads
-run_in-returns-in-Over-run_called-clause-leads g t c o callers deep e =
-    let there = c.running.invariant.going o callers deep e in
-    let here = c.in-Call.ensures.leads o callers there.going in
-    let h = host g.D.Desk g.T.Terminal (c.step.new.desk, c.step.new.term, c.step.new.steps) in
-    let r = c.in-Over-run_called.ensures.leads o callers deep here.going in
-    since c.run_called.new.steps.limit o _ h _ (over None) (λ floor p. here.follows floor (there.follows floor p)) r
-
-pub run_in-returns-in-Fail-run_called-clause-leads : goal.run_in-returns-in-Fail-run_called-clause-leads
-run_in-returns-in-Fail-run_called-clause-leads g t c o callers deep e =
-    let there = c.running.invariant.going o callers deep e in
-    let here = c.in-Call.ensures.leads o callers there.going in
-    let h = host g.D.Desk g.T.Terminal (c.step.new.desk, c.step.new.term, c.step.new.steps) in
-    let r = c.in-Fail-run_called.ensures.leads o callers deep here.going in
-    since c.run_called.new.steps.limit o _ h _ (over (Some c.in-Fail-run_called.code)) (λ floor p. here.follows floor (there.follows floor p)) r
-
-pub run_in-returns-in-Fail-run_called-clause-no_memory : goal.run_in-returns-in-Fail-run_called-clause-no_memory
-run_in-returns-in-Fail-run_called-clause-no_memory g t c h e = c.in-Call.ensures.quiet (c.running.invariant.quiet h)
-
-pub run_in-returns-in-Stop-run_called-clause-leads : goal.run_in-returns-in-Stop-run_called-clause-leads
-run_in-returns-in-Stop-run_called-clause-leads g t c o callers deep e =
-    let there = c.running.invariant.going o callers deep e in
-    let here = c.in-Call.ensures.leads o callers there.going in
-    let h = host g.D.Desk g.T.Terminal (c.step.new.desk, c.step.new.term, c.step.new.steps) in
-    let r = c.in-Stop-run_called.ensures.leads o callers deep here.going in
-    since c.run_called.new.steps.limit o _ h _ (stops c.in-Stop-run_called.code) (λ floor p. here.follows floor (there.follows floor p)) r
-
-pub run_in-returns-in-Stop-run_called-clause-no_memory : goal.run_in-returns-in-Stop-run_called-clause-no_memory
-run_in-returns-in-Stop-run_called-clause-no_memory g t c h e = c.in-Call.ensures.quiet (c.running.invariant.quiet h)
-
 pub run_called-returns-then-are_over-clause-leads : goal.run_called-returns-then-are_over-clause-leads
 run_called-returns-then-are_over-clause-leads g t c o callers deep e =
     call_unpaid c.args.cursor.now c.args.q callers o _ e c.args.steps.now.done refl
@@ -135,33 +105,6 @@ run_in-returns-in-Return-clause-told g t c knows = c.running.invariant.watch kno
 
 pub run_in-returns-in-Over-clause-told : goal.run_in-returns-in-Over-clause-told
 run_in-returns-in-Over-clause-told g t c knows = c.running.invariant.watch knows
-
-pub run_in-returns-in-Over-run_called-clause-told : goal.run_in-returns-in-Over-run_called-clause-told
-run_in-returns-in-Over-run_called-clause-told g t c knows = c.in-Over-run_called.ensures.told (c.running.invariant.watch knows)
-
-pub run_in-returns-in-Fail-run_called-clause-told : goal.run_in-returns-in-Fail-run_called-clause-told
-run_in-returns-in-Fail-run_called-clause-told g t c knows =
-    let told = c.in-Fail-run_called.ensures.told (c.running.invariant.watch knows) in (
-      told.0,
-      told.1,
-      told.2,
-      λ o callers deep e.
-          let there = c.running.invariant.going o callers deep e in
-          let here = c.in-Call.ensures.leads o callers there.going in
-          told.3 o callers deep here.going,
-    )
-
-pub run_in-returns-in-Stop-run_called-clause-told : goal.run_in-returns-in-Stop-run_called-clause-told
-run_in-returns-in-Stop-run_called-clause-told g t c knows =
-    let told = c.in-Stop-run_called.ensures.told (c.running.invariant.watch knows) in (
-      told.0,
-      told.1,
-      told.2,
-      λ o callers deep e.
-          let there = c.running.invariant.going o callers deep e in
-          let here = c.in-Call.ensures.leads o callers there.going in
-          told.3 o callers deep here.going,
-    )
 
 pub run_in-returns-in-Fail-clause-told : goal.run_in-returns-in-Fail-clause-told
 run_in-returns-in-Fail-clause-told g t c knows =
@@ -229,110 +172,6 @@ run_copy-returns-then-depth-eq-CALL_LIMIT-clause-told g t c knows =
           call_told_here o _ c.args.cursor.now c.args.q c.args.at told.0 before callers same e c.requires.token told.1,
     )
 
-pub run_copy-returns-in-Return-clause-leads : goal.run_copy-returns-in-Return-clause-leads
-run_copy-returns-in-Return-clause-leads g t c o callers deep e =
-    let from = c.args.cursor.now in
-    let left = c.run_text.new.args in
-    let h = host g.D.Desk g.T.Terminal (c.step_done.new.self, c.args.term.now, c.count.new.self) in
-    let k = host g.D.Desk g.T.Terminal (c.run_text.new.desk, c.run_text.new.term, c.run_text.new.steps) in
-    let there = call_leads from c.args.q callers o _ e c.count.new.self.done c.count.ensures.done (g.D.Desk.state c.step_done.new.self) c.step_done.ensures.state (g.D.Desk.follows c.step_done.new.self)
-    (g.met.D.Desk.eases c.args.desk.now) c.step_done.ensures.follows c.args.called.now c.requires.copy in
-    let fewer : length callers < 32 = omega (arith, deep, c.requires.deep, c.if-depth-eq-CALL_LIMIT.false) in
-    let into = enters o h from c.args.called.now callers there.going fewer in
-    let deeper : length (caller from ∷ callers) ≡ c.args.depth + 1 = omega (arith, deep) in
-    since 0 o _ h k (reached_after_call (record from { args = left }) callers ending.Return) there.follows
-    (comes_home 0 o h k (arguments left) from (record from { args = left }) callers refl refl ending.Return
-    (c.in-Return.ensures.leads o (caller from ∷ callers) deeper into.going))
-
-pub run_copy-returns-in-Over-clause-leads : goal.run_copy-returns-in-Over-clause-leads
-run_copy-returns-in-Over-clause-leads g t c o callers deep e =
-    let from = c.args.cursor.now in
-    let left = c.run_text.new.args in
-    let h = host g.D.Desk g.T.Terminal (c.step_done.new.self, c.args.term.now, c.count.new.self) in
-    let k = host g.D.Desk g.T.Terminal (c.run_text.new.desk, c.run_text.new.term, c.run_text.new.steps) in
-    let there = call_leads from c.args.q callers o _ e c.count.new.self.done c.count.ensures.done (g.D.Desk.state c.step_done.new.self) c.step_done.ensures.state (g.D.Desk.follows c.step_done.new.self)
-    (g.met.D.Desk.eases c.args.desk.now) c.step_done.ensures.follows c.args.called.now c.requires.copy in
-    let fewer : length callers < 32 = omega (arith, deep, c.requires.deep, c.if-depth-eq-CALL_LIMIT.false) in
-    let into = enters o h from c.args.called.now callers there.going fewer in
-    let deeper : length (caller from ∷ callers) ≡ c.args.depth + 1 = omega (arith, deep) in
-    since c.run_text.new.steps.limit o _ h k (reached_after_call (record from { args = left }) callers ending.Over) there.follows
-    (comes_home c.run_text.new.steps.limit o h k (arguments left) from (record from { args = left }) callers refl refl ending.Over
-    (c.in-Over.ensures.leads o (caller from ∷ callers) deeper into.going))
-
-pub run_copy-returns-in-Fail-clause-leads : goal.run_copy-returns-in-Fail-clause-leads
-run_copy-returns-in-Fail-clause-leads g t c o callers deep e =
-    let from = c.args.cursor.now in
-    let left = c.run_text.new.args in
-    let h = host g.D.Desk g.T.Terminal (c.step_done.new.self, c.args.term.now, c.count.new.self) in
-    let k = host g.D.Desk g.T.Terminal (c.run_text.new.desk, c.run_text.new.term, c.run_text.new.steps) in
-    let there = call_leads from c.args.q callers o _ e c.count.new.self.done c.count.ensures.done (g.D.Desk.state c.step_done.new.self) c.step_done.ensures.state (g.D.Desk.follows c.step_done.new.self)
-    (g.met.D.Desk.eases c.args.desk.now) c.step_done.ensures.follows c.args.called.now c.requires.copy in
-    let fewer : length callers < 32 = omega (arith, deep, c.requires.deep, c.if-depth-eq-CALL_LIMIT.false) in
-    let into = enters o h from c.args.called.now callers there.going fewer in
-    let deeper : length (caller from ∷ callers) ≡ c.args.depth + 1 = omega (arith, deep) in
-    since c.run_text.new.steps.limit o _ h k (reached_after_call (record from { args = left }) callers (ending.Fail c.in-Fail.code)) there.follows
-    (comes_home c.run_text.new.steps.limit o h k (arguments left) from (record from { args = left }) callers refl refl (ending.Fail c.in-Fail.code)
-    (c.in-Fail.ensures.leads o (caller from ∷ callers) deeper into.going))
-
-pub run_copy-returns-in-Stop-clause-leads : goal.run_copy-returns-in-Stop-clause-leads
-run_copy-returns-in-Stop-clause-leads g t c o callers deep e =
-    let from = c.args.cursor.now in
-    let left = c.run_text.new.args in
-    let h = host g.D.Desk g.T.Terminal (c.step_done.new.self, c.args.term.now, c.count.new.self) in
-    let k = host g.D.Desk g.T.Terminal (c.run_text.new.desk, c.run_text.new.term, c.run_text.new.steps) in
-    let there = call_leads from c.args.q callers o _ e c.count.new.self.done c.count.ensures.done (g.D.Desk.state c.step_done.new.self) c.step_done.ensures.state (g.D.Desk.follows c.step_done.new.self)
-    (g.met.D.Desk.eases c.args.desk.now) c.step_done.ensures.follows c.args.called.now c.requires.copy in
-    let fewer : length callers < 32 = omega (arith, deep, c.requires.deep, c.if-depth-eq-CALL_LIMIT.false) in
-    let into = enters o h from c.args.called.now callers there.going fewer in
-    let deeper : length (caller from ∷ callers) ≡ c.args.depth + 1 = omega (arith, deep) in
-    since c.run_text.new.steps.limit o _ h k (reached_after_call (record from { args = left }) callers (ending.Stop c.in-Stop.code)) there.follows
-    (comes_home c.run_text.new.steps.limit o h k (arguments left) from (record from { args = left }) callers refl refl (ending.Stop c.in-Stop.code)
-    (c.in-Stop.ensures.leads o (caller from ∷ callers) deeper into.going))
-
-pub run_copy-returns-in-Return-clause-told : goal.run_copy-returns-in-Return-clause-told
-run_copy-returns-in-Return-clause-told g t c knows = c.in-Return.ensures.told knows
-
-pub run_copy-returns-in-Over-clause-told : goal.run_copy-returns-in-Over-clause-told
-run_copy-returns-in-Over-clause-told g t c knows = c.in-Over.ensures.told knows
-
-pub run_copy-returns-in-Fail-clause-told : goal.run_copy-returns-in-Fail-clause-told
-run_copy-returns-in-Fail-clause-told g t c knows =
-    let from = c.args.cursor.now in
-    let told = c.in-Fail.ensures.told knows in
-    let more = c.called.ensures told.0 told.1 in (
-      with_call told.0 c.args.q more.0 (cursor from).blocks,
-      more.2,
-      told.2,
-      λ o callers deep e.
-          let h = host g.D.Desk g.T.Terminal (c.step_done.new.self, c.args.term.now, c.count.new.self) in
-          let there = call_leads from c.args.q callers o _ e c.count.new.self.done c.count.ensures.done (g.D.Desk.state c.step_done.new.self) c.step_done.ensures.state (g.D.Desk.follows c.step_done.new.self)
-          (g.met.D.Desk.eases c.args.desk.now) c.step_done.ensures.follows c.args.called.now c.requires.copy in
-          let fewer : length callers < 32 = omega (arith, deep, c.requires.deep, c.if-depth-eq-CALL_LIMIT.false) in
-          let into = enters o h from c.args.called.now callers there.going fewer in
-          let deeper : length (caller from ∷ callers) ≡ c.args.depth + 1 = omega (arith, deep) in
-          called_told o from c.args.q c.args.at more.0 callers told.0
-          (told.3 o (caller from ∷ callers) deeper into.going) c.requires.token more.1,
-    )
-
-pub run_copy-returns-in-Stop-clause-told : goal.run_copy-returns-in-Stop-clause-told
-run_copy-returns-in-Stop-clause-told g t c knows =
-    let from = c.args.cursor.now in
-    let told = c.in-Stop.ensures.told knows in
-    let more = c.called-in-Stop.ensures told.0 told.1 in (
-      with_call told.0 c.args.q more.0 (cursor from).blocks,
-      more.2,
-      told.2,
-      λ o callers deep e.
-          let h = host g.D.Desk g.T.Terminal (c.step_done.new.self, c.args.term.now, c.count.new.self) in
-          let there = call_leads from c.args.q callers o _ e c.count.new.self.done c.count.ensures.done (g.D.Desk.state c.step_done.new.self) c.step_done.ensures.state (g.D.Desk.follows c.step_done.new.self)
-          (g.met.D.Desk.eases c.args.desk.now) c.step_done.ensures.follows c.args.called.now c.requires.copy in
-          let fewer : length callers < 32 = omega (arith, deep, c.requires.deep, c.if-depth-eq-CALL_LIMIT.false) in
-          let into = enters o h from c.args.called.now callers there.going fewer in
-          let deeper : length (caller from ∷ callers) ≡ c.args.depth + 1 = omega (arith, deep) in
-          called_told o from c.args.q c.args.at more.0 callers told.0
-          (told.3 o (caller from ∷ callers) deeper into.going) c.requires.token more.1,
-    )
-
 pub run_in-run_called-requires : goal.run_in-run_called-requires
 run_in-run_called-requires g t c =
     let to = c.step.new.cursor in
@@ -359,18 +198,6 @@ run_in-returns-in-Fail-clause-counts g t c = counts_on c.running.invariant.count
 pub run_in-returns-in-Stop-clause-counts : goal.run_in-returns-in-Stop-clause-counts
 run_in-returns-in-Stop-clause-counts g t c = counts_on c.running.invariant.counts (counts_so (λ e. cc) c.in-Stop.ensures.counts)
 
-pub run_in-returns-in-Over-run_called-clause-counts : goal.run_in-returns-in-Over-run_called-clause-counts
-run_in-returns-in-Over-run_called-clause-counts g t c =
-    counts_on c.running.invariant.counts (counts_on (counts_so (λ e. absurd cc) c.in-Call.ensures.counts) (counts_so (λ e. absurd cc) c.in-Over-run_called.ensures.counts))
-
-pub run_in-returns-in-Fail-run_called-clause-counts : goal.run_in-returns-in-Fail-run_called-clause-counts
-run_in-returns-in-Fail-run_called-clause-counts g t c =
-    counts_on c.running.invariant.counts (counts_on (counts_so (λ e. absurd cc) c.in-Call.ensures.counts) (counts_so (λ e. absurd cc) c.in-Fail-run_called.ensures.counts))
-
-pub run_in-returns-in-Stop-run_called-clause-counts : goal.run_in-returns-in-Stop-run_called-clause-counts
-run_in-returns-in-Stop-run_called-clause-counts g t c =
-    counts_on c.running.invariant.counts (counts_on (counts_so (λ e. absurd cc) c.in-Call.ensures.counts) (counts_so (λ e. cc) c.in-Stop-run_called.ensures.counts))
-
 pub run_called-returns-then-are_over-clause-counts : goal.run_called-returns-then-are_over-clause-counts
 run_called-returns-then-are_over-clause-counts g t c = counts_over c.are_over.ensures.still (c.are_over.ensures.over c.if-are_over.true) refl refl refl
 
@@ -380,14 +207,87 @@ run_called-returns-in-Err-clause-counts g t c = counts_none c.are_over.ensures.s
 pub run_copy-returns-then-depth-eq-CALL_LIMIT-clause-counts : goal.run_copy-returns-then-depth-eq-CALL_LIMIT-clause-counts
 run_copy-returns-then-depth-eq-CALL_LIMIT-clause-counts g t c = counts_one (λ k b h. h) c.requires.lets c.count.ensures.limit c.count.ensures.done
 
-pub run_copy-returns-in-Return-clause-counts : goal.run_copy-returns-in-Return-clause-counts
-run_copy-returns-in-Return-clause-counts g t c = counts_on (counts_one (λ k b h. h) c.requires.lets c.count.ensures.limit c.count.ensures.done) c.in-Return.ensures.counts
+pub run_in-returns-in_default-clause-leads : goal.run_in-returns-in_default-clause-leads
+run_in-returns-in_default-clause-leads g t c o callers deep e =
+    let there = c.running.invariant.going o callers deep e in
+    let here = c.in-Call.ensures.leads o callers there.going in
+    let h = host g.D.Desk g.T.Terminal (c.step.new.desk, c.step.new.term, c.step.new.steps) in
+    let k = host g.D.Desk g.T.Terminal (c.run_called.new.desk, c.run_called.new.term, c.run_called.new.steps) in
+    let limit = c.run_called.new.steps.limit in
+    let exit = c.run_called.result in
+    since limit o _ h k _ (λ floor p. here.follows floor (there.follows floor p))
+    (ends_around limit o h k _ c.run_called.new.cursor callers exit c.in_default.not-Return (c.run_called.ensures.leads o callers deep here.going))
 
-pub run_copy-returns-in-Over-clause-counts : goal.run_copy-returns-in-Over-clause-counts
-run_copy-returns-in-Over-clause-counts g t c = counts_on (counts_one (λ k b h. h) c.requires.lets c.count.ensures.limit c.count.ensures.done) c.in-Over.ensures.counts
+pub run_in-returns-in_default-clause-no_memory : goal.run_in-returns-in_default-clause-no_memory
+run_in-returns-in_default-clause-no_memory g t c h e = c.in-Call.ensures.quiet (c.running.invariant.quiet h)
 
-pub run_copy-returns-in-Fail-clause-counts : goal.run_copy-returns-in-Fail-clause-counts
-run_copy-returns-in-Fail-clause-counts g t c = counts_on (counts_one (λ k b h. h) c.requires.lets c.count.ensures.limit c.count.ensures.done) c.in-Fail.ensures.counts
+pub run_in-returns-in_default-clause-told : goal.run_in-returns-in_default-clause-told
+run_in-returns-in_default-clause-told g t c knows =
+    tells_on (g.W.Watch.knows c.run_called.new.watch) _ _ c.run_called.result c.run_called.new.steps.done (c.run_called.ensures.told (c.running.invariant.watch knows))
+    (λ p stands o callers deep e. stands o callers deep (c.in-Call.ensures.leads o callers (c.running.invariant.going o callers deep e).going).going)
 
-pub run_copy-returns-in-Stop-clause-counts : goal.run_copy-returns-in-Stop-clause-counts
-run_copy-returns-in-Stop-clause-counts g t c = counts_on (counts_one (λ k b h. h) c.requires.lets c.count.ensures.limit c.count.ensures.done) c.in-Stop.ensures.counts
+pub run_in-returns-in_default-clause-counts : goal.run_in-returns-in_default-clause-counts
+run_in-returns-in_default-clause-counts g t c =
+    counts_on c.running.invariant.counts (counts_on (counts_so (λ e. absurd cc) c.in-Call.ensures.counts) c.run_called.ensures.counts)
+
+pub run_copy-returns-then-is_some-clause-leads : goal.run_copy-returns-then-is_some-clause-leads
+run_copy-returns-then-is_some-clause-leads g t c o callers deep e =
+    let from = c.args.cursor.now in
+    let left = c.run_text-exit.new.args in
+    let h = host g.D.Desk g.T.Terminal (c.step_done.new.self, c.args.term.now, c.count.new.self) in
+    let k = host g.D.Desk g.T.Terminal (c.run_text-exit.new.desk, c.run_text-exit.new.term, c.run_text-exit.new.steps) in
+    let fewer : length callers < 32 = omega (arith, deep, c.requires.deep, c.if-depth-eq-CALL_LIMIT.false) in
+    let deeper : length (caller from ∷ callers) ≡ c.args.depth + 1 = omega (arith, deep) in
+    let limit = c.run_text-exit.new.steps.limit in
+    let exit = c.run_text-exit.result in
+    let into = enters_copy from c.args.q callers o _ e c.count.new.self.done c.count.ensures.done (g.D.Desk.state c.step_done.new.self) c.step_done.ensures.state (g.D.Desk.follows c.step_done.new.self)
+    (g.met.D.Desk.eases c.args.desk.now) c.step_done.ensures.follows c.args.called.now c.requires.copy fewer in
+    since limit o _ h k (reached_after_call (record from { args = left }) callers exit) into.follows
+    (comes_home limit o h k (arguments left) from (record from { args = left }) callers refl refl exit
+    (c.run_text-exit.ensures.leads o (caller from ∷ callers) deeper into.going))
+
+pub run_copy-returns-then-is_some-clause-counts : goal.run_copy-returns-then-is_some-clause-counts
+run_copy-returns-then-is_some-clause-counts g t c = counts_on (counts_one (λ k b h. h) c.requires.lets c.count.ensures.limit c.count.ensures.done) c.run_text-exit.ensures.counts
+
+pub run_copy-returns-else-is_some-clause-leads : goal.run_copy-returns-else-is_some-clause-leads
+run_copy-returns-else-is_some-clause-leads g t c o callers deep e =
+    let from = c.args.cursor.now in
+    let left = c.run_text-exit.new.args in
+    let h = host g.D.Desk g.T.Terminal (c.step_done.new.self, c.args.term.now, c.count.new.self) in
+    let k = host g.D.Desk g.T.Terminal (c.run_text-exit.new.desk, c.run_text-exit.new.term, c.run_text-exit.new.steps) in
+    let fewer : length callers < 32 = omega (arith, deep, c.requires.deep, c.if-depth-eq-CALL_LIMIT.false) in
+    let deeper : length (caller from ∷ callers) ≡ c.args.depth + 1 = omega (arith, deep) in
+    let limit = c.run_text-exit.new.steps.limit in
+    let exit = c.run_text-exit.result in
+    let into = enters_copy from c.args.q callers o _ e c.count.new.self.done c.count.ensures.done (g.D.Desk.state c.step_done.new.self) c.step_done.ensures.state (g.D.Desk.follows c.step_done.new.self)
+    (g.met.D.Desk.eases c.args.desk.now) c.step_done.ensures.follows c.args.called.now c.requires.copy fewer in
+    since limit o _ h k (reached_after_call (record from { args = left }) callers exit) into.follows
+    (comes_home limit o h k (arguments left) from (record from { args = left }) callers refl refl exit
+    (c.run_text-exit.ensures.leads o (caller from ∷ callers) deeper into.going))
+
+pub run_copy-returns-else-is_some-clause-counts : goal.run_copy-returns-else-is_some-clause-counts
+run_copy-returns-else-is_some-clause-counts g t c = counts_on (counts_one (λ k b h. h) c.requires.lets c.count.ensures.limit c.count.ensures.done) c.run_text-exit.ensures.counts
+
+pub run_copy-returns-else-is_some-clause-told : goal.run_copy-returns-else-is_some-clause-told
+run_copy-returns-else-is_some-clause-told g t c knows =
+    let exit = c.run_text-exit.result in
+    let none : is_some (code_left exit) ≡ false = grind arith in
+    tells_nothing (g.W.Watch.knows c.run_text-exit.new.watch) _ _ exit c.run_text-exit.new.steps.done none (c.run_text-exit.ensures.told knows)
+
+pub run_copy-returns-then-is_some-clause-told : goal.run_copy-returns-then-is_some-clause-told
+run_copy-returns-then-is_some-clause-told g t c knows =
+    let from = c.args.cursor.now in
+    let exit = c.run_text-exit.result in
+    let some : is_some (code_left exit) ≡ true = grind arith in
+    tells_call (g.W.Watch.knows c.run_text-exit.new.watch) (g.W.Watch.knows c.called.new.self) _ _ exit c.run_text-exit.new.steps.done some (c.run_text-exit.ensures.told knows) (λ p known stands.
+    let more = c.called.ensures p known in (
+      with_call p c.args.q more.0 (cursor from).blocks,
+      more.2,
+      refl,
+      λ o callers deep e.
+          let fewer : length callers < 32 = omega (arith, deep, c.requires.deep, c.if-depth-eq-CALL_LIMIT.false) in
+          let deeper : length (caller from ∷ callers) ≡ c.args.depth + 1 = omega (arith, deep) in
+          let into = enters_copy from c.args.q callers o _ e c.count.new.self.done c.count.ensures.done (g.D.Desk.state c.step_done.new.self) c.step_done.ensures.state (g.D.Desk.follows c.step_done.new.self)
+          (g.met.D.Desk.eases c.args.desk.now) c.step_done.ensures.follows c.args.called.now c.requires.copy fewer in
+          called_told o from c.args.q c.args.at more.0 callers p (stands o (caller from ∷ callers) deeper into.going) c.requires.token more.1,
+    ))

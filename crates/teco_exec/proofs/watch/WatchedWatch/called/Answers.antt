@@ -22,3 +22,8 @@ pub returns-in-Err : goal.returns-in-Err
 returns-in-Err c p known =
     let h = has_place c.args.cursor.now.text.now c.args.at c.requires in
     (h.0, h.1, (known.0, λ memory. absurd (let no : true ≡ false = memory in cc)))
+
+pub returns-then-is_err : goal.returns-then-is_err
+returns-then-is_err c p known =
+    let h = has_place c.args.cursor.now.text.now c.args.at c.requires in
+    (h.0, h.1, (known.0, λ memory. absurd (let no : true ≡ false = memory in cc)))
