@@ -1,5 +1,5 @@
 -- Sources one after another, and where the one that can't be read is.
-use Rattle.std.proofs.Common.{◌≡◌, ◌++◌, ◌+◌, ◌-◌, ◌≤◌, ◌<◌, ◌∙◌, ℕ, suc, take, Vec, List, [], ◌∷◌, Ok, Err, Bool, true, false, String, Global, Option, Some, inl, inr, length, refl, sym, ap, subst, arith, append_assoc}
+use Rattle.std.proofs.Common.{◌≡◌, ◌++◌, ◌+◌, ◌-◌, ◌≤◌, ◌<◌, ◌∙◌, ℕ, suc, take, List, [], ◌∷◌, Ok, Err, Bool, true, false, String, Global, Option, length, refl, sym, ap, subst, arith, append_assoc}
 use Rattle.std.specs.Prelude.{IfErr, IsErrAnd, Result}
 use Rattle.std.proofs.lemmas.List.{append-nil}
 use Rattle.std.specs.List.{slice_index_or}
@@ -9,8 +9,7 @@ use Rattle.teco_line.specs.StreamNames.{is_standard_input}
 use Rattle.teco_program.proofs.Doings.{lacks_after}
 use Rattle.teco_program.specs.Run.{KeepsDisk}
 use Rattle.teco_program.specs.Seen.{DiskSeen, SourceView}
-use Rattle.teco_program.specs.Sources.{AreCommandsIn, FailsToGive, IsFaultOf, IsFaultyFile, IsUnread, IsUnreadFile, IsWholeOf, LacksCommands, LacksFiles}
-use Rattle.teco_line.specs.declared.line.Commands.TheVariants.{Sources}
+use Rattle.teco_program.specs.Sources.{AreCommandsIn, FailsToGive, IsFaultOf, IsFaultyFile, IsUnread, IsUnreadFile, IsWholeOf, LacksFiles}
 use Rattle.teco_program.specs.declared.sources.CommandsFault.{CommandsFault}
 use Rattle.teco_program.specs.declared.sources.CommandsFault.TheVariants as fault
 use Rattle.teco_program.specs.declared.sources.CommandsFault.TheVariants.{Memory, Unread}
