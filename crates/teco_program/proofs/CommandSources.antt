@@ -1,5 +1,5 @@
 -- Sources one after another, and where the one that can't be read is.
-use Rattle.std.proofs.Common.{◌≡◌, ◌++◌, ◌+◌, ◌-◌, ◌≤◌, ◌<◌, ◌∙◌, ℕ, suc, take, Vec, List, [], ◌∷◌, Ok, Err, Bool, true, false, String, Global, Option, Some, inl, inr, length, refl, sym, ap, subst, arith, append_assoc}
+use Rattle.std.proofs.Common.{◌≡◌, ◌++◌, ◌+◌, ◌-◌, ◌≤◌, ◌<◌, ◌∙◌, ℕ, suc, take, List, [], ◌∷◌, Ok, Err, Bool, true, false, String, Global, Option, length, refl, sym, ap, subst, arith, append_assoc}
 use Rattle.std.specs.Prelude.{IfErr, IsErrAnd, Result}
 use Rattle.std.proofs.lemmas.List.{append-nil}
 use Rattle.std.specs.List.{slice_index_or}
@@ -9,8 +9,7 @@ use Rattle.teco_line.specs.StreamNames.{is_standard_input}
 use Rattle.teco_program.proofs.Doings.{lacks_after}
 use Rattle.teco_program.specs.Run.{KeepsDisk}
 use Rattle.teco_program.specs.Seen.{DiskSeen, SourceView}
-use Rattle.teco_program.specs.Sources.{AreCommandsIn, FailsToGive, IsFaultOf, IsFaultyFile, IsUnread, IsUnreadFile, IsWholeOf, LacksCommands, LacksFiles}
-use Rattle.teco_line.specs.declared.line.Commands.TheVariants.{Sources}
+use Rattle.teco_program.specs.Sources.{AreCommandsIn, FailsToGive, IsFaultOf, IsFaultyFile, IsUnread, IsUnreadFile, IsWholeOf, LacksFiles}
 use Rattle.teco_program.specs.declared.sources.CommandsFault.{CommandsFault}
 use Rattle.teco_program.specs.declared.sources.CommandsFault.TheVariants as fault
 use Rattle.teco_program.specs.declared.sources.CommandsFault.TheVariants.{Memory, Unread}
@@ -133,19 +132,3 @@ unread_file source before mid after names name at old between new front kept rea
       fails = unread_after source before mid after kept (is_standard_input (string_bytes name)) (string_bytes name) between new h.1;
     })
 unread_file source before mid after names name at old between new front kept read within name_is (fault.Caret n spot) h = absurd h
-
--- What the files of a line lack, the line lacks.
-pub files_lacked : {S I : Type 0} (source : SourceView S) (names : Vec (String Global) Global) (word : Option (String Global)) (before after : DiskSeen I) (old new : S) (fault : CommandsFault)
-    → LacksFiles source names.items before after old new fault → LacksCommands source (Sources names word) before after old new fault
-files_lacked source names word before after old new Memory h = tt
-files_lacked source names word before after old new (Unread at) h = h
-files_lacked source names word before after old new (fault.Caret at spot) h = inl h
-
--- And so with its word.
-pub word_lacked : {S I : Type 0} (source : SourceView S) (names : Vec (String Global) Global) (word : String Global) (before after : DiskSeen I) (old new : S) (front : List ℕ) (fault : CommandsFault)
-    → AreCommandsIn source before.files names.items old new front → IsFaultOf (string_bytes word) (length names.items) fault
-    → LacksCommands source (Sources names (Some word)) before after old new fault
-word_lacked source names word before after old new front Memory read h = tt
-word_lacked source names word before after old new front (Unread at) read h = absurd h
-word_lacked source names word before after old new front (fault.Caret at spot) read h =
-    inr (record { front = front; before = read; at_is = h.0; text = string_bytes word; text_is = refl; wrong = h.1 })

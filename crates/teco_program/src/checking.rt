@@ -28,8 +28,7 @@ struct Verdict {
 
 /// For each byte of the commands for every page, where in their source it begins: two come before those of the source.
 fn places_on_pages(alloc: Global, source: &[u8]) -> Result<Vec<usize>, NoMemory> {
-    let mut places = Vec::new(alloc);
-    places.resize(2, 0)?;
+    let mut places = vec![in alloc; 0; 2]?;
     places.extend_from_slice(beginnings(alloc, source)?.as_slice())?;
     Ok(places)
 }

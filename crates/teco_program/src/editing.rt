@@ -317,36 +317,6 @@ pub fn edit_file<S: Source, A: Alarm, T: Terminal, L: Listens, D: Disk>(
     }
 }
 
-/// Reads an input that is standard input, and edits it by these commands.
-fn edit_stream<C: Source, S: Source, A: Alarm, T: Terminal, L: Listens, D: Disk>(
-    alloc: Global,
-    line: &Line,
-    name: &str,
-    number: u32,
-    commands: &mut C,
-    stream: &mut S,
-    alarm: &mut A,
-    term: &mut T,
-    listener: &mut L,
-    disk: &mut D,
-) -> Fate
-    requires depth { IfSome line.now.undo IsDepth }
-    ensures { let seen = disk_seen D.files D.streams D.left D.gave D.changed
-        (source_view D.Input.coming D.Input.bound D.Input.failures D.Input.ended) in
-        Edits line.now name.now (run_seen
-        (standard_input (source_view S.coming S.bound S.failures S.ended) stream.old stream.new)
-        (commands_seen (source_view C.coming C.bound C.failures C.ended) commands.old commands.new
-        (HasRung A.answered))
-        (seen disk.old) (seen disk.new) T.screen term.old term.new) result }
-{
-    match input_of_stream(alloc, stream) {
-        Ok(input) => edit_over(
-            alloc, line, name, number, input, commands, alarm, term, listener, disk,
-        ),
-        Err(fate) => fate,
-    }
-}
-
 /// Reads an input, standard input or a file, and edits it by these commands.
 pub fn edit_input<C: Source, S: Source, A: Alarm, T: Terminal, L: Listens, D: Disk>(
     alloc: Global,
@@ -372,9 +342,12 @@ pub fn edit_input<C: Source, S: Source, A: Alarm, T: Terminal, L: Listens, D: Di
     ensures still { is_standard_input name.now ≡ false → stream.new ≡ stream.old }
 {
     if is_standard_input(name) {
-        return edit_stream(
-            alloc, line, name, number, commands, stream, alarm, term, listener, disk,
-        );
+        return match input_of_stream(alloc, stream) {
+            Ok(input) => edit_over(
+                alloc, line, name, number, input, commands, alarm, term, listener, disk,
+            ),
+            Err(fate) => fate,
+        };
     }
     edit_file(
         alloc, line, name, number, commands, alarm, term, listener, disk,

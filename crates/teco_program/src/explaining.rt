@@ -239,18 +239,15 @@ fn are_fillers(bytes: &[u8]) -> bool
 pub fn line_of_left(alloc: Global, bytes: &[u8], broken_off: bool) -> Result<String, NoMemory>
     ensures { IfOk result (λ line. string_bytes line ≡ left_line bytes.now broken_off) }
 {
-    let mut line = String::new(alloc);
     if are_fillers(bytes) {
-        return Ok(line);
+        return Ok(String::new(alloc));
     }
     let n = bytes.len();
     let after = after_what(broken_off);
     if n == 1 {
-        writeln!(line, "1 byte after {after} was not run")?;
-        return Ok(line);
+        return format!(in alloc; "1 byte after {after} was not run\n");
     }
-    writeln!(line, "{n} bytes after {after} were not run")?;
-    Ok(line)
+    format!(in alloc; "{n} bytes after {after} were not run\n")
 }
 
 /// Why a file cannot be read or written, in words.
@@ -275,23 +272,18 @@ fn reason(kind: ErrorKind) -> &'static str
 fn line_of_fault(alloc: Global, name: &str, why: Option<ErrorKind>) -> Result<String, NoMemory>
     ensures { IfOk result (λ line. string_bytes line ≡ fault_line name.now why) }
 {
-    let mut line = String::new(alloc);
-    if let Some(kind) = why {
-        let reason = reason(kind);
-        writeln!(line, "{name}: {reason}")?;
-    }
-    Ok(line)
+    let Some(kind) = why else {
+        return Ok(String::new(alloc));
+    };
+    let reason = reason(kind);
+    format!(in alloc; "{name}: {reason}\n")
 }
 
 /// A line about a file, whose name comes between two texts.
 fn line_about(alloc: Global, before: &str, name: &str, after: &str) -> Result<String, NoMemory>
     ensures { IfOk result (λ line. string_bytes line ≡ before.now ++ name.now ++ after.now ++ 10 ∷ []) }
 {
-    let mut line = String::from_str(alloc, before)?;
-    line.push_str(name)?;
-    line.push_str(after)?;
-    line.push_str("\n")?;
-    Ok(line)
+    format!(in alloc; "{before}{name}{after}\n")
 }
 
 /// What is told of how the run over an input ended, by the name of its output. `why` is the error that the disk gave last, if it gave

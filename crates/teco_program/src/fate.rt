@@ -58,12 +58,7 @@ fn status(fate: Fate) -> u8
 pub fn said_of(alloc: Global, before: &str, name: &str, after: &str) -> Result<String, NoMemory>
     ensures { IfOk result (λ text. string_bytes text ≡ said (before.now ++ name.now ++ after.now)) }
 {
-    let mut text = String::from_str(alloc, "teco: ")?;
-    text.push_str(before)?;
-    text.push_str(name)?;
-    text.push_str(after)?;
-    text.push_str("\n")?;
-    Ok(text)
+    format!(in alloc; "teco: {before}{name}{after}\n")
 }
 
 /// The name of the output where the line names none: standard output if the input is standard input, else the input's followed by `.out`.

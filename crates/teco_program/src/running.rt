@@ -9,7 +9,7 @@ ghost use Rattle.teco_program.specs.Ending.{said};
 ghost use Rattle.teco_program.specs.Exchange.{HasRung};
 ghost use Rattle.teco_program.specs.Refusing.{Tells};
 ghost use Rattle.teco_program.specs.Run.{Concludes, IsFaultIn, IsLineIn};
-ghost use Rattle.teco_program.specs.Runs.{EditsBy, EditsByFile, EditsByNamed, Runs, RunsOrChecks, host, host_view, is_streamed};
+ghost use Rattle.teco_program.specs.Runs.{EditsBy, EditsByFile, Runs, RunsOrChecks, host, host_view, is_streamed};
 ghost use Rattle.teco_program.specs.Seen.{disk_seen, source_view};
 
 use crate::alarm::Alarm;
@@ -60,39 +60,6 @@ fn edit_by_file<S: Source, A: Alarm, T: Terminal, L: Listens, D: Disk>(
     )
 }
 
-/// The same, and a name of standard input is that.
-fn edit_by_name<S: Source, A: Alarm, T: Terminal, L: Listens, D: Disk>(
-    alloc: Global,
-    line: &Line,
-    file: &str,
-    number: u32,
-    commands: &mut S,
-    alarm: &mut A,
-    term: &mut T,
-    listener: &mut L,
-    disk: &mut D,
-) -> Fate
-    requires depth { IfSome line.now.undo IsDepth }
-    requires apart { is_standard_input file.now ≡ true → is_standard_input (string_bytes line.now.input) ≡ false }
-    ensures { let view = host_view (disk_seen D.files D.streams D.left D.gave D.changed
-        (source_view D.Input.coming D.Input.bound D.Input.failures D.Input.ended))
-        (source_view S.coming S.bound S.failures S.ended) T.screen
-        (source_view ⟦<WordSource as Source>⟧.coming ⟦<WordSource as Source>⟧.bound
-        ⟦<WordSource as Source>⟧.failures ⟦<WordSource as Source>⟧.ended) (HasRung A.answered) in
-        EditsByNamed (is_standard_input file.now) view line.now (string_bytes line.now.input) file.now
-        (host disk.old commands.old term.old) (host disk.new commands.new term.new) result }
-{
-    if is_standard_input(file) {
-        let name = line.input.as_str();
-        return edit_file(
-            alloc, line, name, number, commands, alarm, term, listener, disk,
-        );
-    }
-    edit_by_file(
-        alloc, line, file, number, commands, alarm, term, listener, disk,
-    )
-}
-
 /// Edits the input of the line by commands as they come: those on standard input, or those of a file.
 fn edit_by_line<S: Source, A: Alarm, T: Terminal, L: Listens, D: Disk>(
     alloc: Global,
@@ -120,17 +87,17 @@ fn edit_by_line<S: Source, A: Alarm, T: Terminal, L: Listens, D: Disk>(
         Commands::StandardInput => edit_file(
             alloc, line, name, number, commands, alarm, term, listener, disk,
         ),
-        Commands::Bytes(file) => edit_by_name(
-            alloc,
-            line,
-            file.as_str(),
-            number,
-            commands,
-            alarm,
-            term,
-            listener,
-            disk,
-        ),
+        Commands::Bytes(file) => {
+            let file = file.as_str();
+            if is_standard_input(file) {
+                return edit_file(
+                    alloc, line, name, number, commands, alarm, term, listener, disk,
+                );
+            }
+            edit_by_file(
+                alloc, line, file, number, commands, alarm, term, listener, disk,
+            )
+        }
         Commands::Sources(..) | Commands::Pages(_) => unreachable!(),
     }
 }

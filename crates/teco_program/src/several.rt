@@ -31,13 +31,13 @@ fn worse(a: u8, b: u8) -> u8
     }
 }
 
-/// Edits this input of the line by these bytes as commands, if there is memory for them.
+/// Edits this input of the line by these bytes as commands, if there is memory for a copy of them.
 fn edit_by_bytes<S: Source, A: Alarm, T: Terminal, L: Listens, D: Disk>(
     alloc: Global,
     line: &Line,
     name: &str,
     number: u32,
-    bytes: Vec<u8>,
+    bytes: &[u8],
     commands: &mut S,
     alarm: &mut A,
     term: &mut T,
@@ -50,100 +50,20 @@ fn edit_by_bytes<S: Source, A: Alarm, T: Terminal, L: Listens, D: Disk>(
         (source_view S.coming S.bound S.failures S.ended) T.screen
         (source_view ⟦<WordSource as Source>⟧.coming ⟦<WordSource as Source>⟧.bound
         ⟦<WordSource as Source>⟧.failures ⟦<WordSource as Source>⟧.ended) (HasRung A.answered) in
-        EditsByBytes view line.now name.now bytes.items (host disk.old commands.old term.old)
+        EditsByBytes view line.now name.now bytes.now (host disk.old commands.old term.old)
         (host disk.new commands.new term.new) result }
 {
+    let Ok(bytes) = Vec::from_slice(alloc, bytes) else {
+        return Fate::NoMemory;
+    };
     let mut given = WordSource::new(bytes);
     edit_input(
         alloc, line, name, number, &mut given, commands, alarm, term, listener, disk,
     )
 }
 
-/// Edits this input of the line by a copy of these bytes as commands.
-fn edit_by_copy<S: Source, A: Alarm, T: Terminal, L: Listens, D: Disk>(
-    alloc: Global,
-    line: &Line,
-    name: &str,
-    number: u32,
-    bytes: &[u8],
-    commands: &mut S,
-    alarm: &mut A,
-    term: &mut T,
-    listener: &mut L,
-    disk: &mut D,
-) -> Fate
-    requires depth { IfSome line.now.undo IsDepth }
-    ensures { let view = host_view (disk_seen D.files D.streams D.left D.gave D.changed
-        (source_view D.Input.coming D.Input.bound D.Input.failures D.Input.ended))
-        (source_view S.coming S.bound S.failures S.ended) T.screen
-        (source_view ⟦<WordSource as Source>⟧.coming ⟦<WordSource as Source>⟧.bound
-        ⟦<WordSource as Source>⟧.failures ⟦<WordSource as Source>⟧.ended) (HasRung A.answered) in
-        EditsByBytes view line.now name.now bytes.now (host disk.old commands.old term.old)
-        (host disk.new commands.new term.new) result }
-{
-    match Vec::from_slice(alloc, bytes) {
-        Ok(bytes) => edit_by_bytes(
-            alloc, line, name, number, bytes, commands, alarm, term, listener, disk,
-        ),
-        Err(_) => Fate::NoMemory,
-    }
-}
-
-/// The same, and where the line asks for it what is done is explained in notes.
-fn edit_noted<S: Source, A: Alarm, T: Terminal, N: Terminal, D: Disk>(
-    alloc: Global,
-    line: &Line,
-    name: &str,
-    number: u32,
-    bytes: &[u8],
-    commands: &mut S,
-    alarm: &mut A,
-    term: &mut T,
-    notes: &mut N,
-    disk: &mut D,
-) -> Fate
-    requires depth { IfSome line.now.undo IsDepth }
-    ensures edits { let view = host_view (disk_seen D.files D.streams D.left D.gave D.changed
-        (source_view D.Input.coming D.Input.bound D.Input.failures D.Input.ended))
-        (source_view S.coming S.bound S.failures S.ended) T.screen
-        (source_view ⟦<WordSource as Source>⟧.coming ⟦<WordSource as Source>⟧.bound
-        ⟦<WordSource as Source>⟧.failures ⟦<WordSource as Source>⟧.ended) (HasRung A.answered) in
-        EditsByBytes view line.now name.now bytes.now (host disk.old commands.old term.old)
-        (host disk.new commands.new term.new) result }
-    ensures silent { line.now.explain ≡ false → notes.new ≡ notes.old }
-{
-    if !line.explain {
-        return edit_by_copy(
-            alloc,
-            line,
-            name,
-            number,
-            bytes,
-            commands,
-            alarm,
-            term,
-            &mut Silent,
-            disk,
-        );
-    }
-    let mut explainer = Explainer::new(alloc, line, notes);
-    let fate = edit_by_copy(
-        alloc,
-        line,
-        name,
-        number,
-        bytes,
-        commands,
-        alarm,
-        term,
-        &mut explainer,
-        disk,
-    );
-    explainer.ended(line, name, fate, disk.why());
-    fate
-}
-
-/// Runs over this input of the line, and tells how that ends. Gives the status.
+/// Runs over this input of the line, and tells how that ends. Where the line asks for it what is done is explained in notes. Gives the
+/// status.
 fn edit_told<S: Source, A: Alarm, T: Terminal, E: Terminal, N: Terminal, D: Disk>(
     alloc: Global,
     line: &Line,
@@ -167,9 +87,35 @@ fn edit_told<S: Source, A: Alarm, T: Terminal, E: Terminal, N: Terminal, D: Disk
         (host disk.new commands.new term.new, errors.new) result }
     ensures silent { line.now.explain ≡ false → notes.new ≡ notes.old }
 {
-    let fate = edit_noted(
-        alloc, line, name, number, bytes, commands, alarm, term, notes, disk,
+    if !line.explain {
+        let fate = edit_by_bytes(
+            alloc,
+            line,
+            name,
+            number,
+            bytes,
+            commands,
+            alarm,
+            term,
+            &mut Silent,
+            disk,
+        );
+        return conclude(alloc, line, name, fate, errors);
+    }
+    let mut explainer = Explainer::new(alloc, line, notes);
+    let fate = edit_by_bytes(
+        alloc,
+        line,
+        name,
+        number,
+        bytes,
+        commands,
+        alarm,
+        term,
+        &mut explainer,
+        disk,
     );
+    explainer.ended(line, name, fate, disk.why());
     conclude(alloc, line, name, fate, errors)
 }
 

@@ -173,12 +173,13 @@ fn commands_in_files<S: Source, D: Disk>(
     Ok(made)
 }
 
-/// Puts the commands of the source in a word, which has this number, after others.
+/// Puts the commands of the source in a word, which has this number, after others, and the source into `parts`.
 fn append_word(
     alloc: Global,
     made: &mut Vec<u8>,
     word: &str,
     at: usize,
+    parts: &mut Parts,
 ) -> Result<(), CommandsFault>
     ensures read { IfOk result (λ _. (strings : List ℕ) × (commands_of word.now ≡ Ok strings)
         × (made.new.items ≡ made.old.items ++ strings)) }
@@ -186,17 +187,24 @@ fn append_word(
 {
     let strings = commands_in(alloc, word.as_bytes(), at)?;
     made.extend_from_slice(strings.as_slice())?;
+    parts.keep_word(alloc, at, word, made.len())?;
     Ok(())
 }
 
-/// The commands that run the source in a word on every page.
-fn commands_for_pages(alloc: Global, word: &str) -> Result<Vec<u8>, CommandsFault>
+/// The commands that run the source in a word on every page. The source is put into `parts`.
+fn commands_for_pages(
+    alloc: Global,
+    word: &str,
+    parts: &mut Parts,
+) -> Result<Vec<u8>, CommandsFault>
     ensures read { IfOk result (λ made. (strings : List ℕ) × (commands_of word.now ≡ Ok strings)
         × (made.items ≡ on_pages strings)) }
     ensures fault { IfErr result (IsFaultOf word.now 0) }
 {
     let strings = commands_in(alloc, word.as_bytes(), 0)?;
-    Ok(commands_on_pages(alloc, strings.as_slice())?)
+    let made = commands_on_pages(alloc, strings.as_slice())?;
+    parts.keep_word(alloc, 0, word, made.len())?;
+    Ok(made)
 }
 
 /// The commands of the line, whole: those of its sources, or all the bytes of its file. The sources are put into `parts`.
@@ -223,16 +231,11 @@ pub fn commands_given<S: Source, D: Disk>(
         Commands::Sources(names, word) => {
             let mut made = commands_in_files(alloc, names, stream, disk, parts)?;
             if let Some(word) = word {
-                append_word(alloc, &mut made, word.as_str(), names.len())?;
-                parts.keep_word(alloc, names.len(), word.as_str(), made.len())?;
+                append_word(alloc, &mut made, word.as_str(), names.len(), parts)?;
             }
             Ok(made)
         }
-        Commands::Pages(word) => {
-            let made = commands_for_pages(alloc, word.as_str())?;
-            parts.keep_word(alloc, 0, word.as_str(), made.len())?;
-            Ok(made)
-        }
+        Commands::Pages(word) => commands_for_pages(alloc, word.as_str(), parts),
         Commands::Bytes(name) => bytes_of(alloc, name.as_str(), 0, stream, disk),
     }
 }
@@ -264,8 +267,8 @@ fn text_without(
         CommandsFault::Memory => said_of(alloc, "no memory", "", ""),
         CommandsFault::Unread(at) => said_of(alloc, "cannot read ", source_name(commands, at), ""),
         CommandsFault::Caret(at, spot) => {
-            let why = format!(in alloc; ":{spot}: a caret before what it cannot stand before")?;
-            said_of(alloc, "", source_name(commands, at), why.as_str())
+            let name = source_name(commands, at);
+            format!(in alloc; "teco: {name}:{spot}: a caret before what it cannot stand before\n")
         }
     }
 }

@@ -1,4 +1,4 @@
-use Rattle.std.proofs.Common.{refl}
+use Rattle.std.proofs.Common.{◌∙◌, refl}
 use Rattle.std.specs.Prelude.{⊤}
 use Rattle.teco_program.specs.Writing.{both}
 use Rattle.teco_program.specs.declared.served.Served.TheVariants.{Exit}
@@ -30,6 +30,21 @@ returns-in-Err g c =
     } in
     failed_write (doings_after Exit (both c.args.output) ⊤ (named_output (seen c.args.disk.now) (seen c.is_as_read.new.self) c.args.name.now)) (both c.args.output) c.fate_of.result c.fate_of.ensures (refl, refl)
     (failed_look looked c.args.name.now (both c.args.output) c.fate_of.result c.fate_of.ensures c.in-Err.ensures.error)
+
+pub returns-then-has_bytes : goal.returns-then-has_bytes
+returns-then-has_bytes g c =
+    let seen = disk_seen g.D.Disk.files g.D.Disk.streams g.D.Disk.left g.D.Disk.gave g.D.Disk.changed
+    (source_view g.D.Input.Source.coming g.D.Input.Source.bound g.D.Input.Source.failures g.D.Input.Source.ended) in
+    let looked : KeepsDisk (seen c.args.disk.now) (seen c.is_as_read.new.self) = record {
+      files = c.is_as_read.ensures.files;
+      streams = c.is_as_read.ensures.streams;
+      moments = c.is_as_read.ensures.moments;
+    } in (
+      both c.args.output,
+      (refl, refl),
+      (tt, λ before told. c.has_bytes.ensures.same c.if-has_bytes.true before (c.is_as_read.ensures.files ∙ told)),
+      keeps_after looked c.has_bytes.ensures.keeps,
+    )
 
 pub returns : goal.returns
 returns g c =

@@ -1,55 +1,46 @@
-use Rattle.std.proofs.Common.{◌≡◌, ◌≢◌, ◌∙◌, ap, subst, inl, inr, List, ℕ, None, Some}
+use Rattle.std.proofs.lemmas.Grind.{common_steps}
+use Rattle.std.proofs.Common.{arith, ◌≡◌, ◌≢◌, ◌∙◌, ap, subst, inl, inr, List, ℕ, None, Some}
 use Rattle.std.proofs.lemmas.Result.{on_err_weaker, on_ok_weaker}
 use Rattle.teco_files.specs.Disk.{Files, IsTargetOf}
 use Rattle.teco_program.specs.Writing.{IsWriting, both}
 use Rattle.teco_program.proofs.Writings.{adds_in, adds_same, are_told, on_err_by, puts_in, puts_on}
 use Rattle.teco_program.proofs.output.write_output.Goals as goal
 
-pub returns-in-Stream-clause-ok : goal.returns-in-Stream-clause-ok
-returns-in-Stream-clause-ok g c =
-    let is : g.D.Disk.files c.args.disk.now ≢ None → (given : List ℕ) × (g.D.Disk.streams c.args.disk.now c.args.name.now ≡ Some given) =
-    λ there. subst (IsTargetOf (g.D.Disk.streams c.args.disk.now) c.args.name.now) c.in-Stream.is (c.in_ok-target_of.ensures.target there) in
-    on_ok_weaker c.append.result (λ appends. puts_on is (c.append.ensures.files ∙ c.target_of.ensures.files) appends) (rw c.target_of.ensures.streams at c.append.ensures.ok)
+pub returns-in-Stream : goal.returns-in-Stream
+returns-in-Stream g c = record {
+  ok = let is : g.D.Disk.files c.args.disk.now ≢ None → (given : List ℕ) × (g.D.Disk.streams c.args.disk.now c.args.name.now ≡ Some given) =
+      λ there. subst (IsTargetOf (g.D.Disk.streams c.args.disk.now) c.args.name.now) c.in-Stream.is (c.in_ok-target_of.ensures.target there) in
+      on_ok_weaker c.append.result (λ appends. puts_on is (c.append.ensures.files ∙ c.target_of.ensures.files) appends) (rw c.target_of.ensures.streams at c.append.ensures.ok);
+  err = on_err_by c.append.result (adds_same c.args.name.now (c.append.ensures.files ∙ c.target_of.ensures.files));
+  streams = λ other apart. c.append.ensures.others other apart ∙ ap (λ (streams : Files). streams other) c.target_of.ensures.streams;
+  moments = λ before told files left. inl (c.target_of.ensures.moments files (c.append.ensures.moments files left));
+  error = grind (arith, common_steps);
+}
 
-pub returns-in-Stream-clause-err : goal.returns-in-Stream-clause-err
-returns-in-Stream-clause-err g c = on_err_by c.append.result (adds_same c.args.name.now (c.append.ensures.files ∙ c.target_of.ensures.files))
+pub returns-in-File : goal.returns-in-File
+returns-in-File g c = record {
+  ok = let is : g.D.Disk.files c.args.disk.now ≢ None → (c.as_str.result.now ≡ c.args.name.now) × (g.D.Disk.streams c.args.disk.now c.args.name.now ≡ None) = λ there.
+      let it = subst (IsTargetOf (g.D.Disk.streams c.args.disk.now) c.args.name.now) c.in-File.is (c.in_ok-target_of.ensures.target there) in
+      (c.as_str.ensures.value ∙ it.0, it.1) in
+      on_ok_weaker c.replace_file.result (puts_in (g.D.Disk.streams c.replace_file.new.disk c.args.name.now) is c.target_of.ensures.files) c.replace_file.ensures.ok;
+  err = let is : g.D.Disk.files c.args.disk.now ≢ None → c.as_str.result.now ≡ c.args.name.now = λ there.
+      c.as_str.ensures.value ∙ (subst (IsTargetOf (g.D.Disk.streams c.args.disk.now) c.args.name.now) c.in-File.is (c.in_ok-target_of.ensures.target there)).0 in
+      on_err_weaker c.replace_file.result (adds_in is c.target_of.ensures.files) c.replace_file.ensures.err;
+  streams = λ other apart. ap (λ (streams : Files). streams other) (c.replace_file.ensures.streams ∙ c.target_of.ensures.streams);
+  moments = λ before told files left. let is = subst (IsTargetOf (g.D.Disk.streams c.args.disk.now) c.args.name.now) c.in-File.is (c.in_ok-target_of.ensures.target (are_told told)) in
+      let here : c.as_str.result.now ≡ c.args.name.now = c.as_str.ensures.value ∙ is.0 in
+      elim (c.replace_file.ensures.moments before (c.target_of.ensures.files ∙ told) files left) [
+        | inl was ↦ inl (c.target_of.ensures.moments files was)
+        | inr now ↦ inr (subst (λ name. IsWriting name (both c.args.output) before files) here now)
+      ];
+  error = grind (arith, common_steps);
+}
 
-pub returns-in-Stream-clause-moments : goal.returns-in-Stream-clause-moments
-returns-in-Stream-clause-moments g c before told files left = inl (c.target_of.ensures.moments files (c.append.ensures.moments files left))
-
-pub returns-in-Stream-clause-streams : goal.returns-in-Stream-clause-streams
-returns-in-Stream-clause-streams g c other apart = c.append.ensures.others other apart ∙ ap (λ (streams : Files). streams other) c.target_of.ensures.streams
-
-pub returns-in-File-clause-moments : goal.returns-in-File-clause-moments
-returns-in-File-clause-moments g c before told files left =
-    let is = subst (IsTargetOf (g.D.Disk.streams c.args.disk.now) c.args.name.now) c.in-File.is (c.in_ok-target_of.ensures.target (are_told told)) in
-    let here : c.as_str.result.now ≡ c.args.name.now = c.as_str.ensures.value ∙ is.0 in
-    elim (c.replace_file.ensures.moments before (c.target_of.ensures.files ∙ told) files left) [
-      | inl was ↦ inl (c.target_of.ensures.moments files was)
-      | inr now ↦ inr (subst (λ name. IsWriting name (both c.args.output) before files) here now)
-    ]
-
-pub returns-in-File-clause-err : goal.returns-in-File-clause-err
-returns-in-File-clause-err g c =
-    let is : g.D.Disk.files c.args.disk.now ≢ None → c.as_str.result.now ≡ c.args.name.now = λ there.
-    c.as_str.ensures.value ∙ (subst (IsTargetOf (g.D.Disk.streams c.args.disk.now) c.args.name.now) c.in-File.is (c.in_ok-target_of.ensures.target there)).0 in
-    on_err_weaker c.replace_file.result (adds_in is c.target_of.ensures.files) c.replace_file.ensures.err
-
-pub returns-in-File-clause-ok : goal.returns-in-File-clause-ok
-returns-in-File-clause-ok g c =
-    let is : g.D.Disk.files c.args.disk.now ≢ None → (c.as_str.result.now ≡ c.args.name.now) × (g.D.Disk.streams c.args.disk.now c.args.name.now ≡ None) = λ there.
-    let it = subst (IsTargetOf (g.D.Disk.streams c.args.disk.now) c.args.name.now) c.in-File.is (c.in_ok-target_of.ensures.target there) in
-    (c.as_str.ensures.value ∙ it.0, it.1) in
-    on_ok_weaker c.replace_file.result (puts_in (g.D.Disk.streams c.replace_file.new.disk c.args.name.now) is c.target_of.ensures.files) c.replace_file.ensures.ok
-
-pub returns-in-File-clause-streams : goal.returns-in-File-clause-streams
-returns-in-File-clause-streams g c other apart = ap (λ (streams : Files). streams other) (c.replace_file.ensures.streams ∙ c.target_of.ensures.streams)
-
-pub returns-in_err-target_of-clause-err : goal.returns-in_err-target_of-clause-err
-returns-in_err-target_of-clause-err g c = on_err_by c.from_residual.result (adds_same c.args.name.now c.target_of.ensures.files)
-
-pub returns-in_err-target_of-clause-moments : goal.returns-in_err-target_of-clause-moments
-returns-in_err-target_of-clause-moments g c before told files left = inl (c.target_of.ensures.moments files left)
-
-pub returns-in_err-target_of-clause-streams : goal.returns-in_err-target_of-clause-streams
-returns-in_err-target_of-clause-streams g c other apart = ap (λ (streams : Files). streams other) c.target_of.ensures.streams
+pub returns-in_err-target_of : goal.returns-in_err-target_of
+returns-in_err-target_of g c = record {
+  ok = grind (arith, common_steps);
+  err = on_err_by c.from_residual.result (adds_same c.args.name.now c.target_of.ensures.files);
+  streams = λ other apart. ap (λ (streams : Files). streams other) c.target_of.ensures.streams;
+  moments = λ before told files left. inl (c.target_of.ensures.moments files left);
+  error = grind (arith, common_steps);
+}

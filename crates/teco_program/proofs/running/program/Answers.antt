@@ -6,21 +6,20 @@ use Rattle.teco_program.specs.Seen.{disk_seen, source_view}
 use Rattle.teco_program.proofs.Runs.{same_explain}
 use Rattle.teco_program.proofs.running.program.Goals as goal
 
-pub returns-in-Ok-clause-run : goal.returns-in-Ok-clause-run
-returns-in-Ok-clause-run g c =
-    let view = host_view (disk_seen g.D.Disk.files g.D.Disk.streams g.D.Disk.left g.D.Disk.gave g.D.Disk.changed
-    (source_view g.D.Input.Source.coming g.D.Input.Source.bound g.D.Input.Source.failures g.D.Input.Source.ended))
-    (source_view g.S.Source.coming g.S.Source.bound g.S.Source.failures g.S.Source.ended) g.T.Terminal.screen
-    (source_view (word.coming-value).it (word.bound-value).it (word.failures-value).it (word.ended-value).it) (HasRung g.A.Stop.answered) in
-    let old = host c.args.disk.now c.args.commands.now c.args.term.now in
-    let new = host c.run_over.new.disk c.run_over.new.commands c.run_over.new.term in
-    inr (record {
-      line = c.in-Ok.line;
-      line_is = c.in-Ok.ensures.line;
-      runs = subst (λ (status : ℕ). RunsOrChecks view g.E.Terminal.screen c.in-Ok.line old new c.args.errors.now c.run_over.new.errors status)
-          (sym c.from.ensures) c.run_over.ensures.runs;
-    })
-
-pub returns-in-Ok-clause-silent : goal.returns-in-Ok-clause-silent
-returns-in-Ok-clause-silent g c = λ line is off.
-    c.run_over.ensures.silent (same_explain c.args.words c.in-Ok.line line c.in-Ok.ensures.line is off)
+pub returns-in-Ok : goal.returns-in-Ok
+returns-in-Ok g c = record {
+  run = let view = host_view (disk_seen g.D.Disk.files g.D.Disk.streams g.D.Disk.left g.D.Disk.gave g.D.Disk.changed
+      (source_view g.D.Input.Source.coming g.D.Input.Source.bound g.D.Input.Source.failures g.D.Input.Source.ended))
+      (source_view g.S.Source.coming g.S.Source.bound g.S.Source.failures g.S.Source.ended) g.T.Terminal.screen
+      (source_view (word.coming-value).it (word.bound-value).it (word.failures-value).it (word.ended-value).it) (HasRung g.A.Stop.answered) in
+      let old = host c.args.disk.now c.args.commands.now c.args.term.now in
+      let new = host c.run_over.new.disk c.run_over.new.commands c.run_over.new.term in
+      inr (record {
+        line = c.in-Ok.line;
+        line_is = c.in-Ok.ensures.line;
+        runs = subst (λ (status : ℕ). RunsOrChecks view g.E.Terminal.screen c.in-Ok.line old new c.args.errors.now c.run_over.new.errors status)
+            (sym c.from.ensures) c.run_over.ensures.runs;
+      });
+  silent = λ line is off.
+      c.run_over.ensures.silent (same_explain c.args.words c.in-Ok.line line c.in-Ok.ensures.line is off);
+}

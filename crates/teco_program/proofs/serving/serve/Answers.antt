@@ -1,5 +1,6 @@
-use Rattle.std.proofs.Common.{◌≡◌, [], ◌++◌, take, false, refl, sym, ap, subst, append-nil, arith, rules, true≢false, inl}
-use Rattle.std.proofs.lemmas.Grind.{common_steps}
+use Rattle.std.specs.Prelude.{OnOk}
+use Rattle.std.specs.Result.{is_err}
+use Rattle.std.proofs.Common.{◌≡◌, Result, Ok, Err, [], ◌++◌, take, false, refl, sym, ap, subst, append-nil, ◌∙◌, rules, true≢false, inl}
 use Rattle.teco_session.specs.Kept.{history_of}
 use Rattle.teco_terminal.specs.Terminal.{Shows}
 use Rattle.teco_files.specs.Source.{Gives}
@@ -10,6 +11,11 @@ use Rattle.teco_program.proofs.Showing.{Shows-joins}
 use Rattle.teco_files.proofs.Sources.{Gives-nil, Gives-more, Gives-on}
 use Rattle.teco_program.proofs.Servings.{CutsOff-none, CutsOff-fed, CutsOff-append, CutsOff-first, CutsOff-all, Exchanges-append, GoOn-append, held_shows, ends_from}
 use Rattle.teco_program.proofs.serving.serve.Goals as goal
+
+-- what holds of a call that gave no error
+no_error : {T E P : Type 0} (result : Result T E) → is_err result ≡ false → OnOk result P → P
+no_error (Ok value) well holds = holds
+no_error (Err error) well holds = absurd (true≢false well)
 
 pub returns-in-Err : goal.returns-in-Err
 returns-in-Err g c =
@@ -96,7 +102,7 @@ returns-in-Some g c =
     let d = c.in-Some.ensures in
     let piece = take c.in-Ok.n c.read.new.piece in
     let bytes = inv.0 ++ piece in
-    let fed : c.feed.new.self ≡ c.pieces.splitter ++ piece = grind (arith, common_steps) in
+    let fed : c.feed.new.self ≡ c.pieces.splitter ++ piece = no_error {P = c.feed.new.self ≡ c.pieces.splitter ++ piece} c.feed.result (sym c.is_err.ensures.value ∙ c.if-is_err.false) c.feed.ensures.ok in
     let cut = CutsOff-append bytes c.feed.new.self c.serve_held-ended.new.splitter inv.1 d.0 (CutsOff-fed inv.0 c.pieces.splitter piece c.feed.new.self inv.1 inv.4 fed) d.2 in
     let joins = Shows-joins (g.T.Terminal.screen c.args.term.now) (g.T.Terminal.screen c.pieces.term) (g.T.Terminal.screen c.serve_held-ended.new.term) in
     let ends = ends_from _ _ _ joins c.args.prompt inv.1 inv.6 d.0 c.in-Some.served inv.7 d.4 in
@@ -118,7 +124,7 @@ pieces-preserved g c =
     let d = c.in_default-ended.ensures in
     let piece = take c.in-Ok.n c.read.new.piece in
     let bytes = inv.0 ++ piece in
-    let fed : c.feed.new.self ≡ c.pieces.splitter ++ piece = grind (arith, common_steps) in
+    let fed : c.feed.new.self ≡ c.pieces.splitter ++ piece = no_error {P = c.feed.new.self ≡ c.pieces.splitter ++ piece} c.feed.result (sym c.is_err.ensures.value ∙ c.if-is_err.false) c.feed.ensures.ok in
     let cut = CutsOff-append bytes c.feed.new.self c.serve_held-ended.new.splitter inv.1 d.0 (CutsOff-fed inv.0 c.pieces.splitter piece c.feed.new.self inv.1 inv.4 fed) d.2 in
     let joins = Shows-joins (g.T.Terminal.screen c.args.term.now) (g.T.Terminal.screen c.pieces.term) (g.T.Terminal.screen c.serve_held-ended.new.term) in (
       bytes,

@@ -1,4 +1,4 @@
-use Rattle.std.proofs.Common.{arith, inr}
+use Rattle.std.proofs.Common.{◌∙◌, ap, arith, inr, Some}
 use Rattle.teco_program.proofs.Doings.{reads_all}
 use Rattle.teco_program.proofs.several.edit_by_bytes.Goals as goal
 
@@ -8,7 +8,7 @@ returns g c = record {
   edits = inr (
     c.new-given.result,
     c.edit_input.new.commands,
-    c.new-given.ensures.coming,
+    c.new-given.ensures.coming ∙ ap Some c.in-Ok.ensures.items,
     c.edit_input.ensures.edits,
     reads_all (λ bytes gave. omega (arith, gave.count)) c.edit_input.ensures.edits,
   );

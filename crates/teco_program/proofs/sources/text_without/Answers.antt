@@ -1,16 +1,19 @@
-use Rattle.std.proofs.Common.{◌≡◌, ◌∙◌, ◌++◌, ℕ, List, ap, sym, codes}
+use Rattle.std.proofs.Common.{◌≡◌, ◌∙◌, ◌++◌, ◌∷◌, [], ℕ, List, append_assoc, codes}
 use Rattle.std.proofs.lemmas.Result.{IfOk-weaker}
-use Rattle.teco_program.specs.Ending.{said}
-use Rattle.teco_program.specs.Sources.{text_without}
+use Rattle.std.specs.String.{string_bytes}
 use Rattle.teco_telling.specs.Shown.{spot_shown}
 use Rattle.teco_program.proofs.sources.text_without.Goals as goal
 
-pub returns-in_ok-why-in-Caret : goal.returns-in_ok-why-in-Caret
-returns-in_ok-why-in-Caret c =
-    let why : c.as_str.result.now ≡ codes ":" ++ spot_shown c.in-Caret.spot ++ codes ": a caret before what it cannot stand before" =
-    c.as_str.ensures.value ∙ c.in_ok-why-in-Caret.ensures.ok in
-    IfOk-weaker c.said_of-in-Caret.result _ _
-    (λ text h. h ∙ (ap (λ (w : List ℕ). said (c.source_name-in-Caret.result.now ++ w)) why
-    ∙ (ap (λ (n : List ℕ). said (n ++ (codes ":" ++ spot_shown c.in-Caret.spot ++ codes ": a caret before what it cannot stand before"))) c.source_name-in-Caret.ensures
-    ∙ ap (text_without c.args.commands.now) (sym c.in-Caret.is))))
-    c.said_of-in-Caret.ensures
+-- the parts of the line, one after another
+parts_joined : (head name colon spot words end : List ℕ) → head ++ (name ++ (colon ++ (spot ++ (words ++ end)))) ≡ head ++ (name ++ (colon ++ spot ++ words)) ++ end
+parts_joined head name colon spot words end = simp append_assoc
+
+pub returns-in-Caret : goal.returns-in-Caret
+returns-in-Caret c = rw (c.in-Caret.is, ← c.source_name-name.ensures) (IfOk-weaker c.format.result _ _
+    (λ text h.
+    let name = c.source_name-name.result.now in
+    let spot = spot_shown c.in-Caret.spot in
+    let words = codes ": a caret before what it cannot stand before" in
+    let shown : string_bytes text ≡ codes "teco: " ++ (name ++ (codes ":" ++ (spot ++ (words ++ 10 ∷ [])))) = h in
+    shown ∙ parts_joined (codes "teco: ") name (codes ":") spot words (10 ∷ []))
+    c.format.ensures.ok)
