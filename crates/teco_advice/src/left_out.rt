@@ -29,8 +29,8 @@ macro_rules! rows {
     };
 }
 
-/// The table, in which a longer name comes before one that begins it.
-static ROWS: [LeftOut; 68] = rows! {
+/// The commands with `E`; here and in the other tables a longer name comes before one that begins it.
+static WITH_E: [LeftOut; 24] = rows! {
     Text "ER" "opens an input file" "give it as INPUT on the command line";
     Text "EW" "opens an output file" "give it by --output on the command line";
     Text "EB" "opens a file to edit it" "give it as INPUT with --in-place";
@@ -55,6 +55,10 @@ static ROWS: [LeftOut; 68] = rows! {
     Nothing "EU" "shows the case of letters" "leave it out";
     Nothing "EV" "shows the line of the pointer" "V where it is wanted";
     Nothing "EZ" "sets how the tape is read" "leave it out";
+};
+
+/// The commands with `F`.
+static WITH_F: [LeftOut; 12] = rows! {
     TwoTexts "::FS" "replaces the text at the pointer" "::Sone$ and then -nD Itwo$";
     TwoTexts "FN" "replaces on this page or a later one" "None$ and then -nD Itwo$";
     TwoTexts "F_" "replaces, and drops the pages" "_one$ and then -nD Itwo$";
@@ -67,6 +71,10 @@ static ROWS: [LeftOut; 68] = rows! {
     Nothing "F>" "goes to the end of the iteration" "a tag there, and Oname$";
     Nothing "F'" "goes to the end of the conditional" "a tag there, and Oname$";
     Nothing "F|" "goes to the second part" "a tag there, and Oname$";
+};
+
+/// The commands with a colon.
+static WITH_COLON: [LeftOut; 14] = rows! {
     Register ":X" "appends lines to a register" "Gq and Xq over both";
     RegisterAndText ":^U" "appends a text to a register" "Gq, the text by I, and Xq over both";
     Nothing ":;" "leaves where the last search was a hit" "\"E 0; ' after a search with a colon";
@@ -81,6 +89,10 @@ static ROWS: [LeftOut; 68] = rows! {
     Nothing ":Y" "reads a page, and gives whether it could" "^N before Y";
     Nothing ":P" "turns pages, and gives whether it could" "^N before P";
     Nothing ":^T" "reads a byte of the terminal" "nothing: commands can't ask";
+};
+
+/// The others.
+static OTHERS: [LeftOut; 18] = rows! {
     Nothing "\"=" "tests for 0" "\"E";
     Nothing "\"<" "tests for less than 0" "\"L";
     Nothing "\">" "tests for more than 0" "\"G";
@@ -131,14 +143,30 @@ fn written_len(bytes: &[u8], written: &[u8]) -> Option<usize>
     Some(to)
 }
 
-/// The row of the command that the bytes begin with, if it is left out, and the length of its name.
-pub fn row_of(bytes: &[u8]) -> Option<(&'static LeftOut, usize)>
+/// The row of the command that the bytes begin with, if the table has it, and the length of its name.
+fn row_in(rows: &'static [LeftOut], bytes: &[u8]) -> Option<(&'static LeftOut, usize)>
     ensures { IfSome result (λ found. found.1 ≤ length bytes.now) }
 {
-    for row in &ROWS {
+    for row in rows {
         if let Some(to) = written_len(bytes, row.written.as_bytes()) {
             return Some((row, to));
         }
     }
     None
+}
+
+/// The row of the command that the bytes begin with, if it is left out, and the length of its name.
+pub fn row_of(bytes: &[u8]) -> Option<(&'static LeftOut, usize)>
+    ensures { IfSome result (λ found. found.1 ≤ length bytes.now) }
+{
+    if let Some(found) = row_in(&WITH_E, bytes) {
+        return Some(found);
+    }
+    if let Some(found) = row_in(&WITH_F, bytes) {
+        return Some(found);
+    }
+    if let Some(found) = row_in(&WITH_COLON, bytes) {
+        return Some(found);
+    }
+    row_in(&OTHERS, bytes)
 }

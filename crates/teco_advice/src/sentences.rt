@@ -119,15 +119,16 @@ fn show_stray(
     opener: Option<&[u8]>,
     opening: Option<Spot>,
 ) -> Result<(), NoMemory> {
-    match (mark, opener) {
-        ([b'|', ..], Some([b'"', ..])) => out.push_str("a second | in the conditional")?,
-        ([b'>', ..], Some(block)) => show_around(out, "> closes ", block, "")?,
-        ([b'\'', ..], Some(block)) => show_around(out, "' closes ", block, "")?,
-        (_, Some(block)) => show_around(out, "| divides ", block, "")?,
-        ([b'>', ..], None) => out.push_str("> has no <")?,
-        ([b'\'', ..], None) => out.push_str("' has no \"")?,
-        (_, None) => out.push_str("| has no \"")?,
-    }
+    let (words, block): (&str, &[u8]) = match (mark, opener) {
+        ([b'|', ..], Some([b'"', ..])) => ("a second | in the conditional", &[]),
+        ([b'>', ..], Some(block)) => ("> closes ", block),
+        ([b'\'', ..], Some(block)) => ("' closes ", block),
+        (_, Some(block)) => ("| divides ", block),
+        ([b'>', ..], None) => ("> has no <", &[]),
+        ([b'\'', ..], None) => ("' has no \"", &[]),
+        (_, None) => ("| has no \"", &[]),
+    };
+    show_around(out, words, block, "")?;
     show_opening(out, opening)
 }
 
@@ -232,25 +233,24 @@ fn register_name(register: usize) -> &'static [u8] {
 
 /// Shows a hint.
 fn show_hint(out: &mut String, hint: Hint) -> Result<(), NoMemory> {
-    match hint {
-        Hint::AfterExit => out.push_str("EX ends the run before this"),
-        Hint::LeavesNothing => out.push_str("; is in no iteration of this text, which is SNI"),
-        Hint::Caret => out.push_str("a caret in a search text is a caret, and no control byte"),
-        Hint::NumberBeforeJump => out.push_str(
-            "nO of TECO-11 is left out: it chooses a tag by a number; here: a test before each jump",
-        ),
-        Hint::EmptyText => out.push_str("the text is empty: two ESC end the command string"),
-        Hint::NeverSet(register) => show_around(
-            out,
-            "",
-            register_name(register),
-            " is called, and nothing puts a text into it",
-        ),
-        Hint::NotRun => out.push_str("this is not run: two ESC end a command string"),
-        Hint::OneEscape => out.push_str("this is not run: it ends with one ESC, and wants two"),
-        Hint::NoExit => out.push_str("no EX: nothing is written"),
-        Hint::NoPage => out.push_str("no page is read: Y reads the first"),
-    }
+    let words = match hint {
+        Hint::NeverSet(register) => {
+            let name = register_name(register);
+            return show_around(out, "", name, " is called, and nothing puts a text into it");
+        }
+        Hint::AfterExit => "EX ends the run before this",
+        Hint::LeavesNothing => "; is in no iteration of this text, which is SNI",
+        Hint::Caret => "a caret in a search text is a caret, and no control byte",
+        Hint::NumberBeforeJump => {
+            "nO of TECO-11 is left out: it chooses a tag by a number; here: a test before each jump"
+        }
+        Hint::EmptyText => "the text is empty: two ESC end the command string",
+        Hint::NotRun => "this is not run: two ESC end a command string",
+        Hint::OneEscape => "this is not run: it ends with one ESC, and wants two",
+        Hint::NoExit => "no EX: nothing is written",
+        Hint::NoPage => "no page is read: Y reads the first",
+    };
+    out.push_str(words)
 }
 
 /// Shows a remark on commands; `opening` is where the block is opened that it belongs to.

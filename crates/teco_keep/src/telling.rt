@@ -6,7 +6,6 @@ ghost use Rattle.teco_keep.specs.Ending.{is_told, said, spot_in, text_of, unread
 use crate::fate::Fate;
 use crate::line::Line;
 use std::alloc::Global;
-use std::fmt::Write;
 use teco_core::NoMemory;
 use teco_telling::{Spot, spot_of};
 
@@ -21,24 +20,14 @@ pub fn spot_in(source: &[u8], at: usize) -> Spot
 fn said_of(alloc: Global, before: &str, name: &str, after: &str) -> Result<String, NoMemory>
     ensures { IfOk result (λ text. string_bytes text ≡ said (before.now ++ name.now ++ after.now)) }
 {
-    let mut text = String::from_str(alloc, "tecol: ")?;
-    text.push_str(before)?;
-    text.push_str(name)?;
-    text.push_str(after)?;
-    text.push_str("\n")?;
-    Ok(text)
+    format!(in alloc; "tecol: {before}{name}{after}\n")
 }
 
 /// The line of a caret that cannot be read.
 fn unreadable(alloc: Global, input: &str, spot: Spot) -> Result<String, NoMemory>
     ensures { IfOk result (λ text. string_bytes text ≡ unreadable input.now spot) }
 {
-    let mut text = String::from_str(alloc, input)?;
-    text.push_str(":")?;
-    write!(text, "{spot}")?;
-    text.push_str(": a caret before what it cannot stand before")?;
-    text.push_str("\n")?;
-    Ok(text)
+    format!(in alloc; "{input}:{spot}: a caret before what it cannot stand before\n")
 }
 
 /// What is told: a line, or nothing.

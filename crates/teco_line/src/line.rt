@@ -1,5 +1,5 @@
 //! The program's command line.
-ghost use Rattle.clap.specs.Words.{app_of, found_of, new_app, rows_of, rule_of, with_rule};
+ghost use Rattle.clap.specs.Words.{app_of, found_of, new_app, rows_of, rule_of};
 ghost use Rattle.std.specs.IoError.{error_kind};
 ghost use Rattle.std.specs.Prelude.{◌≡◌, ◌≢◌, ◌≤◌, IfErr, IfOk, IfSome, codes, false, map};
 ghost use Rattle.std.specs.String.{string_bytes};
@@ -141,18 +141,13 @@ fn described<'a>(alloc: Global) -> Command<'a>
         .version(VERSION)
 }
 
-/// The command with the arguments that are no options.
-fn with_inputs<'a>(alloc: Global, command: Command<'a>) -> Result<Command<'a>, NoMemory>
-    ensures { IfOk result (λ made. app_of made ≡ with_rule (with_rule (app_of command.entry) input_rule) more_rule) }
-{
-    command.arg(input_arg(alloc))?.arg(more_arg(alloc))
-}
-
 /// The command that the parser reads the words by.
 fn command<'a>(alloc: Global) -> Result<Command<'a>, NoMemory>
     ensures { IfOk result (λ command. app_of command ≡ teco_app) }
 {
-    with_inputs(alloc, with_table(alloc, described(alloc), options())?)
+    with_table(alloc, described(alloc), options())?
+        .arg(input_arg(alloc))?
+        .arg(more_arg(alloc))
 }
 
 /// The refusal of a line of the program that is faulty, and why.

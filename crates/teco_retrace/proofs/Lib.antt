@@ -5,3 +5,5 @@ pub mod FilesRead
 pub mod LineEnds
 pub mod Passes
 pub mod Served
+pub mod Sizes
+pub mod Texts

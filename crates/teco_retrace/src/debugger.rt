@@ -15,11 +15,10 @@ use crate::moving::{ahead, behind};
 use crate::showing::{show_step, show_where};
 use crate::stops::next_stop;
 use std::alloc::Global;
-use std::fmt::Write;
 use teco_core::NoMemory;
 use teco_store::Desk;
 use teco_telling::{Spot, spell};
-use teco_walk::{Command, Counted, Fault, Part, Plain, Walk};
+use teco_walk::{Command, Counted, Part, Plain, Walk};
 
 /// A walk, with what the commands need beside it.
 #[derive(Drop)]
@@ -37,13 +36,6 @@ fn show_words(out: &mut String, words: &str) -> Result<(), NoMemory>
 {
     out.push_str(words)?;
     out.push_str("\n")
-}
-
-/// Shows the line of a fault.
-fn show_fault(out: &mut String, fault: Fault) -> Result<(), NoMemory>
-    ensures { OnOk result (string_bytes out.new ≡ string_bytes out.old ++ answer_line (words_of fault)) }
-{
-    writeln!(out, "{fault}")
 }
 
 impl Debugger {
@@ -224,25 +216,13 @@ impl Debugger {
         }
     }
 
-    /// What is shown of a command.
-    fn answer_of(&mut self, alloc: Global, command: Command) -> Result<String, NoMemory>
-        ensures answers { IfOk result (λ text. AnswersCommand command self.old self.new (string_bytes text)) }
-        ensures same { SameRun self.old self.new }
-    {
-        let mut out = String::new(alloc);
-        self.answer(&mut out, command)?;
-        Ok(out)
-    }
-
     /// What is shown if memory was refused to a command.
     fn lack(&self, alloc: Global) -> Result<String, NoMemory>
         ensures { IfOk result (λ text. string_bytes text
             ≡ answer_line (codes "no memory; the walk stands at step " ++ decimal self.now.walk.steps)) }
     {
-        let mut out = String::new(alloc);
         let steps = self.walk.steps();
-        writeln!(out, "no memory; the walk stands at step {steps}")?;
-        Ok(out)
+        format!(in alloc; "no memory; the walk stands at step {steps}\n")
     }
 
     /// What is shown of a command; if memory is refused to it, that alone.
@@ -250,8 +230,9 @@ impl Debugger {
         ensures answers { IfOk result (λ text. IsAnswerTo (Ok command) self.old self.new (string_bytes text)) }
         ensures same { SameRun self.old self.new }
     {
-        match self.answer_of(alloc, command) {
-            Ok(text) => Ok(text),
+        let mut out = String::new(alloc);
+        match self.answer(&mut out, command) {
+            Ok(()) => Ok(out),
             Err(NoMemory) => self.lack(alloc),
         }
     }
@@ -263,11 +244,7 @@ impl Debugger {
     {
         match Command::of(line) {
             Ok(command) => self.answer_or_lack(alloc, command),
-            Err(fault) => {
-                let mut out = String::new(alloc);
-                show_fault(&mut out, fault)?;
-                Ok(out)
-            }
+            Err(fault) => format!(in alloc; "{fault}\n"),
         }
     }
 }

@@ -64,11 +64,7 @@ fn input_name(line: &Line) -> &str
 fn told(alloc: Global, name: &str, words: &str) -> Result<String, NoMemory>
     ensures { IfOk result (λ text. string_bytes text ≡ told_line (name.now ++ words.now)) }
 {
-    let mut text = String::from_str(alloc, "teco-debug: ")?;
-    text.push_str(name)?;
-    text.push_str(words)?;
-    text.push_str("\n")?;
-    Ok(text)
+    format!(in alloc; "teco-debug: {name}{words}\n")
 }
 
 /// What is told: a line, or nothing.

@@ -4,7 +4,7 @@ ghost use Rattle.std.specs.Prelude.{◌≡◌, ◌≤◌, ◌++◌, OnOk, drop, 
 ghost use Rattle.std.specs.String.{string_bytes};
 ghost use Rattle.teco_core.specs.Register.{content, register_of};
 ghost use Rattle.teco_core.specs.declared.limits.TheConstants.{FILE_LIMIT};
-ghost use Rattle.teco_retrace.specs.Listing.{case_shown, done_shown, flags_shown, found_shown, held_shown, if_held_shown, is_blank_content, is_line_ended, last_search_shown, last_shown, line_if, lines_shown, lines_there_shown, mode_shown, page_end_shown, pointer_shown, pushed_shown, read_shown, register_shown, registers_shown, rest_shown, shown_in_lines, sizes_shown, state_shown, text_shown, whole_register, with_line_end, written_shown};
+ghost use Rattle.teco_retrace.specs.Listing.{case_shown, flags_shown, found_shown, held_shown, if_held_shown, is_blank_content, is_line_ended, last_search_shown, last_shown, line_if, lines_shown, lines_there_shown, register_shown, registers_shown, rest_shown, shown_in_lines, sizes_shown, state_shown, text_shown, whole_register, with_line_end};
 ghost use Rattle.teco_store.specs.State.{state_of};
 
 use std::fmt::Write;
@@ -227,34 +227,6 @@ fn show_case(out: &mut String, mode: CaseMode) -> Result<(), NoMemory>
     }
 }
 
-#[tactic(auto, unfolding(crate::specs::Listing::pointer_shown))]
-fn show_pointer(out: &mut String, pointer: usize, len: usize) -> Result<(), NoMemory>
-    ensures { OnOk result (string_bytes out.new ≡ string_bytes out.old ++ pointer_shown pointer len) }
-{
-    writeln!(out, "pointer {pointer} of {len}")
-}
-
-#[tactic(auto, unfolding(crate::specs::Listing::read_shown))]
-fn show_read(out: &mut String, place: usize) -> Result<(), NoMemory>
-    ensures { OnOk result (string_bytes out.new ≡ string_bytes out.old ++ read_shown place) }
-{
-    write!(out, "input {place} bytes read")
-}
-
-#[tactic(auto, unfolding(crate::specs::Listing::written_shown))]
-fn show_written(out: &mut String, output: usize) -> Result<(), NoMemory>
-    ensures { OnOk result (string_bytes out.new ≡ string_bytes out.old ++ written_shown output) }
-{
-    writeln!(out, ", output {output} bytes written")
-}
-
-#[tactic(auto, unfolding(crate::specs::Listing::pushed_shown))]
-fn show_pushed(out: &mut String, count: usize) -> Result<(), NoMemory>
-    ensures { OnOk result (string_bytes out.new ≡ string_bytes out.old ++ pushed_shown count) }
-{
-    writeln!(out, "pushed {count}")
-}
-
 /// How many bytes two parts have together.
 fn length_of(parts: (&[u8], &[u8])) -> usize
     requires { length (parts.0.now ++ parts.1.now) ≤ FILE_LIMIT }
@@ -264,46 +236,29 @@ fn length_of(parts: (&[u8], &[u8])) -> usize
 }
 
 /// Shows how much there is of the text, the input, the output and the push-down list.
-#[tactic(auto, unfolding(crate::specs::Listing::sizes_shown))]
 fn show_sizes(out: &mut String, editor: &Editor) -> Result<(), NoMemory>
     ensures { OnOk result (string_bytes out.new ≡ string_bytes out.old ++ sizes_shown (state_of editor.now)) }
 {
-    show_pointer(out, editor.pointer(), length_of(editor.halves()))?;
-    show_read(out, editor.place())?;
-    show_written(out, length_of(editor.output()))?;
-    show_pushed(out, editor.pushed().len())
-}
-
-#[tactic(auto, unfolding(crate::specs::Listing::page_end_shown))]
-fn show_page_end(out: &mut String, editor: &Editor) -> Result<(), NoMemory>
-    ensures { OnOk result (string_bytes out.new
-        ≡ string_bytes out.old ++ page_end_shown (state_of editor.now)) }
-{
-    show_line_if(out, editor.flag(), "a form feed ended the page")
-}
-
-#[tactic(auto, unfolding(crate::specs::Listing::mode_shown))]
-fn show_mode(out: &mut String, editor: &Editor) -> Result<(), NoMemory>
-    ensures { OnOk result (string_bytes out.new ≡ string_bytes out.old ++ mode_shown (state_of editor.now)) }
-{
-    show_case(out, editor.case_mode())
-}
-
-#[tactic(auto, unfolding(crate::specs::Listing::done_shown))]
-fn show_done(out: &mut String, editor: &Editor) -> Result<(), NoMemory>
-    ensures { OnOk result (string_bytes out.new ≡ string_bytes out.old ++ done_shown (state_of editor.now)) }
-{
-    show_line_if(out, editor.done(), "the session is done")
+    let pointer = editor.pointer();
+    let len = length_of(editor.halves());
+    let place = editor.place();
+    let output = length_of(editor.output());
+    let pushed = editor.pushed().len();
+    writeln!(out, "pointer {pointer} of {len}")?;
+    writeln!(
+        out,
+        "input {place} bytes read, output {output} bytes written"
+    )?;
+    writeln!(out, "pushed {pushed}")
 }
 
 /// Shows how the page ended, how a search takes letters, and whether the session is done.
-#[tactic(auto, unfolding(crate::specs::Listing::flags_shown))]
 fn show_flags(out: &mut String, editor: &Editor) -> Result<(), NoMemory>
     ensures { OnOk result (string_bytes out.new ≡ string_bytes out.old ++ flags_shown (state_of editor.now)) }
 {
-    show_page_end(out, editor)?;
-    show_mode(out, editor)?;
-    show_done(out, editor)
+    show_line_if(out, editor.flag(), "a form feed ended the page")?;
+    show_case(out, editor.case_mode())?;
+    show_line_if(out, editor.done(), "the session is done")
 }
 
 /// Shows the rest of the state.

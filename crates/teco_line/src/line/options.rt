@@ -1,5 +1,5 @@
 //! The table of options.
-ghost use Rattle.clap.specs.Words.{app_of, rule_of, with_rule};
+ghost use Rattle.clap.specs.Words.{app_of, rule_of};
 ghost use Rattle.std.specs.Prelude.{◌≡◌, IfOk, false, map};
 ghost use Rattle.teco_line.specs.OptionTable.{action_of, option, option_rules, rule_by, with_rules};
 
@@ -183,17 +183,6 @@ fn arg_by<'a>(alloc: Global, row: &OptionRow) -> Arg<'a>
     }
 }
 
-/// The command with an option for this row.
-fn with_option<'a>(
-    alloc: Global,
-    command: Command<'a>,
-    row: &OptionRow,
-) -> Result<Command<'a>, NoMemory>
-    ensures { IfOk result (λ made. app_of made ≡ with_rule (app_of command.entry) (rule_by row.now)) }
-{
-    command.arg(arg_by(alloc, row))
-}
-
 /// The command with an option for each row.
 pub(crate) fn with_table<'a>(
     alloc: Global,
@@ -204,7 +193,7 @@ pub(crate) fn with_table<'a>(
 {
     let mut command = command;
     for row in rows {
-        command = with_option(alloc, command, row)?;
+        command = command.arg(arg_by(alloc, row))?;
     }
     Ok(command)
 }

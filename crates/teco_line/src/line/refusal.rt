@@ -5,7 +5,7 @@ ghost use Rattle.teco_line.specs.Refusals.{IsFaulty, IsShown, IsToldAs, status_o
 
 use clap::error::ErrorKind;
 use std::alloc::Global;
-use std::fmt::{Display, Write};
+use std::fmt::Display;
 use teco_core::NoMemory;
 
 /// What a line is that the parser does not take.
@@ -45,9 +45,7 @@ fn refused_as(kind: ErrorKind) -> RefusedAs
 fn text_of<E: Display>(alloc: Global, error: &E) -> Result<String, NoMemory>
     ensures { IfOk result (IsShown (E.output error.now)) }
 {
-    let mut text = String::new(alloc);
-    write!(text, "{error}")?;
-    Ok(text)
+    format!(in alloc; "{error}")
 }
 
 /// The refusal of a line that is this, with the parser's text.
@@ -72,11 +70,9 @@ pub(crate) fn refusal_of(alloc: Global, error: &clap::Error) -> Refusal
 pub fn faulty(alloc: Global, why: &str, usage: &str) -> Result<Refusal, NoMemory>
     ensures { IfOk result (IsFaulty why.now usage.now) }
 {
-    let mut text = String::from_str(alloc, "error: ")?;
-    text.push_str(why)?;
-    text.push_str("\n\nUsage: ")?;
-    text.push_str(usage)?;
-    text.push_str("\n\nFor more information, try '--help'.\n")?;
+    let text = format!(in alloc;
+        "error: {why}\n\nUsage: {usage}\n\nFor more information, try '--help'.\n"
+    )?;
     Ok(Refusal {
         refused_as: RefusedAs::Faulty,
         text: Some(text),

@@ -1,4 +1,4 @@
-use Rattle.std.proofs.Common.{List, ℕ, subst}
+use Rattle.std.proofs.Common.{List, ℕ, rules, subst}
 use Rattle.teco_program.specs.Seen.{disk_seen, source_view}
 use Rattle.teco_keep.specs.Keeping.{EndsWritten, output_of}
 use Rattle.teco_keep.specs.Made.{IsMade}
@@ -21,3 +21,6 @@ returns-in-Ok-Faulty g c =
     let output = output_of g.T.Terminal.screen c.args.line.now (seen c.args.disk.now) (seen c.put_and_end-in-Ok-Faulty.new.disk) c.args.term.now c.put_and_end-in-Ok-Faulty.new.term in
     puts_faulty (IsMade c.args.line.now.mode c.args.input.now) c.args.input.now output c.in-Ok-Faulty.bytes (subst (IsMade c.args.line.now.mode c.args.input.now) c.in-Ok-Faulty.field-0-is c.in-Ok-Faulty.ensures)
     (subst (λ (bytes : List ℕ). EndsWritten output bytes Faulty c.put_and_end-in-Ok-Faulty.result) c.deref-in-Ok-Faulty.ensures.value c.put_and_end-in-Ok-Faulty.ensures)
+
+pub returns-in-Ok-Unreadable : goal.returns-in-Ok-Unreadable
+returns-in-Ok-Unreadable g c = search rules

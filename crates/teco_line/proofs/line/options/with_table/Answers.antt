@@ -11,7 +11,8 @@ one_row_more app rows i d within = rw (add-one, drop-cons rows i d) refl
 
 pub loop-row-preserved : goal.loop-row-preserved
 loop-row-preserved c =
-    ap (λ app. with_rules app (map rule_by (drop (c.loop-row.row-index + 1) c.args.rows.now))) c.in_ok-command.ensures
+    let added = c.in_ok-command.ensures.shape c.arg_by.ensures.local ∙ ap (with_rule (app_of c.loop-row.command)) c.arg_by.ensures.rule in
+    ap (λ app. with_rules app (map rule_by (drop (c.loop-row.row-index + 1) c.args.rows.now))) added
     ∙ (one_row_more (app_of c.loop-row.command) c.args.rows.now c.loop-row.row-index _ c.loop-row-test.true ∙ c.loop-row.invariant)
 
 pub returns : goal.returns
