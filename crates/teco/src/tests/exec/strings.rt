@@ -10,7 +10,6 @@ use crate::tests::step::{edits, failed_searches, operands, search_forms, searche
 use std::alloc::Global;
 use std::test::*;
 use teco_core::Code;
-use teco_exec::Outcome;
 use teco_session::{Answer, Session};
 use teco_store::{Desk, Editor};
 
@@ -19,7 +18,7 @@ const FULL: usize = 16_777_216;
 
 /// The bytes of a cell, in which [FULL] stands for two bytes less than the limit of a text. Where memory was refused, it is asked for a
 /// second time.
-pub(crate) fn bytes_of(alloc: Global, cell: &str) -> Vec<u8> {
+fn bytes_of(alloc: Global, cell: &str) -> Vec<u8> {
     let (before, after) = halves_at(cell, "[FULL]");
     let mut bytes = Vec::new(alloc);
     put(&mut bytes, before.as_bytes());
@@ -46,24 +45,21 @@ fn is_written(editor: &Editor, output: &str, code: &str) -> bool {
         || are_both(editor.output(), text_of(output).as_bytes()) && editor.done() == is(code, "EX")
 }
 
-/// Whether a run ended so.
-fn told(editor: &Editor, terminal: &Screen, outcome: Outcome, cells: &Cells) -> bool {
-    is_code(outcome.code, cells[2])
-        && number_or(cells[3], outcome.steps) == outcome.steps
-        && is_typed(terminal, cells[1])
-        && is_written(editor, cells[5], cells[2])
-}
-
 /// A row, whose text is run.
 #[derive(Clone, Copy)]
 struct Run<'a>(Cells<'a>);
 
 impl Trial for Run<'_> {
     fn holds(&self, alloc: Global, session: &mut Session, term: &mut Screen) -> bool {
-        let cells = &self.0;
-        let text = bytes_of(alloc, cells[0]);
-        match ran(session, &text, number_or(cells[4], 1000), term) {
-            Answer::Ended(outcome) => told(session.editor(), term, outcome, cells),
+        let [text, typed, code, steps, limit, output, ..] = self.0;
+        let text = bytes_of(alloc, text);
+        match ran(session, &text, number_or(limit, 1000), term) {
+            Answer::Ended(outcome) => {
+                is_code(outcome.code, code)
+                    && number_or(steps, outcome.steps) == outcome.steps
+                    && is_typed(term, typed)
+                    && is_written(session.editor(), output, code)
+            }
             _ => false,
         }
     }
@@ -108,31 +104,30 @@ const ROWS: &str = "
     ";
 
 /// All strings but those at the limits of the texts.
+static TABLES: [&str; 18] = [
+    ROWS,
+    conditionals::ROWS,
+    iterations::ROWS,
+    jumps::ROWS,
+    block_forms::ROWS,
+    page_turns::ROWS,
+    page_lines::ROWS,
+    values::ROWS,
+    edits::ROWS,
+    texts::ROWS,
+    searches::ROWS,
+    failed_searches::PARDONED,
+    FORMS,
+    operands::ROWS,
+    search_forms::ROWS,
+    faults::ROWS,
+    modifiers::ROWS,
+    elements::ROWS,
+];
+
 #[test]
 fn strings_end_as_they_mean(rt: HostRuntime) {
-    let tables = [
-        ROWS,
-        conditionals::ROWS,
-        iterations::ROWS,
-        jumps::ROWS,
-        block_forms::ROWS,
-        page_turns::ROWS,
-        page_turns::EXITS,
-        page_lines::ROWS,
-        page_lines::EXITS,
-        values::ROWS,
-        edits::ROWS,
-        texts::ROWS,
-        searches::ROWS,
-        failed_searches::PARDONED,
-        FORMS,
-        operands::ROWS,
-        search_forms::ROWS,
-        faults::ROWS,
-        modifiers::ROWS,
-        elements::ROWS,
-    ];
-    for table in tables {
+    for table in &TABLES {
         all_hold(&rt, rt.alloc(), &Strings, table);
     }
 }

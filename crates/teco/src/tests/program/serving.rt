@@ -187,9 +187,6 @@ const REQUESTS: &str = "
     YEX$$ => => a => a => exit => 2
     YEX$$[THEN]1=$$ => ?END\r\n => a => a => exit => 2
     YEX$$[THEN]1=$$[THEN]{$$1=$$}$$ => ?END\r\n1\r\n?NTR\r\n => => a => exit => 2
-    ";
-
-const FRONTS: &str = "
     // Beginnings of a stream that note no string. What a source gives before it fails is served as if it had ended there.
      => => => => => => => 0
     1 => => => => => => => 0
@@ -249,20 +246,20 @@ const FRONTS: &str = "
     1=$${$$3<Ix$>$$}$$.=$$2{$$ => 1\r\n?NTR\r\n3\r\n => => => fails => => => 2
     ";
 
+static TABLES: [&str; 8] = [
+    REQUESTS,
+    rewinds::ROWS,
+    pages::ROWS,
+    commands::ROWS,
+    searches::ROWS,
+    failed_searches::ROWS,
+    depths::ROWS,
+    worked::ROWS,
+];
+
 #[test]
 fn serves_streams(rt: HostRuntime) {
-    let tables = [
-        REQUESTS,
-        FRONTS,
-        rewinds::ROWS,
-        pages::ROWS,
-        commands::ROWS,
-        searches::ROWS,
-        failed_searches::ROWS,
-        depths::ROWS,
-        worked::ROWS,
-    ];
-    for table in tables {
+    for table in &TABLES {
         all_hold(&rt, rt.alloc(), &Streams(b""), table);
     }
 }
