@@ -215,19 +215,23 @@ const ROWS: &str = "
     - // A faulty line.
     - teco --version => Y\x1b\x1bZ=\x1b\x1bEX\x1b\x1b => teco 0.2.0\n => => => => in == hi\n";
 
-static TABLES: [&str; 7] = [
-    ROWS,
-    inputs::ROWS,
-    sources::ROWS,
-    checked::ROWS,
-    explained::ROWS,
-    shown::ROWS,
-    runs::ROWS,
-];
+/// The tables of runs. Past the last there are no rows. An array of them would cost the proof more.
+fn table(at: usize) -> &'static str {
+    match at {
+        0 => ROWS,
+        1 => inputs::ROWS,
+        2 => sources::ROWS,
+        3 => checked::ROWS,
+        4 => explained::ROWS,
+        5 => shown::ROWS,
+        6 => runs::ROWS,
+        _ => "",
+    }
+}
 
 #[test]
 fn runs_over_files(rt: HostRuntime) {
-    for table in &TABLES {
-        all_hold(&rt, rt.alloc(), &Runs, table);
+    for at in 0..32 {
+        all_hold(&rt, rt.alloc(), &Runs, table(at));
     }
 }

@@ -18,7 +18,7 @@ const FULL: usize = 16_777_216;
 
 /// The bytes of a cell, in which [FULL] stands for two bytes less than the limit of a text. Where memory was refused, it is asked for a
 /// second time.
-fn bytes_of(alloc: Global, cell: &str) -> Vec<u8> {
+pub(crate) fn bytes_of(alloc: Global, cell: &str) -> Vec<u8> {
     let (before, after) = halves_at(cell, "[FULL]");
     let mut bytes = Vec::new(alloc);
     put(&mut bytes, before.as_bytes());
@@ -103,31 +103,34 @@ const ROWS: &str = "
     3<%A>QA=\x1b => 3\r\n => => 10
     ";
 
-/// All strings but those at the limits of the texts.
-static TABLES: [&str; 18] = [
-    ROWS,
-    conditionals::ROWS,
-    iterations::ROWS,
-    jumps::ROWS,
-    block_forms::ROWS,
-    page_turns::ROWS,
-    page_lines::ROWS,
-    values::ROWS,
-    edits::ROWS,
-    texts::ROWS,
-    searches::ROWS,
-    failed_searches::PARDONED,
-    FORMS,
-    operands::ROWS,
-    search_forms::ROWS,
-    faults::ROWS,
-    modifiers::ROWS,
-    elements::ROWS,
-];
+/// The tables of all strings but those at the limits of the texts. Past the last there are no rows. An array of them would cost the proof more.
+fn table(at: usize) -> &'static str {
+    match at {
+        0 => ROWS,
+        1 => conditionals::ROWS,
+        2 => iterations::ROWS,
+        3 => jumps::ROWS,
+        4 => block_forms::ROWS,
+        5 => page_turns::ROWS,
+        6 => page_lines::ROWS,
+        7 => values::ROWS,
+        8 => edits::ROWS,
+        9 => texts::ROWS,
+        10 => searches::ROWS,
+        11 => failed_searches::PARDONED,
+        12 => FORMS,
+        13 => operands::ROWS,
+        14 => search_forms::ROWS,
+        15 => faults::ROWS,
+        16 => modifiers::ROWS,
+        17 => elements::ROWS,
+        _ => "",
+    }
+}
 
 #[test]
 fn strings_end_as_they_mean(rt: HostRuntime) {
-    for table in &TABLES {
-        all_hold(&rt, rt.alloc(), &Strings, table);
+    for at in 0..32 {
+        all_hold(&rt, rt.alloc(), &Strings, table(at));
     }
 }

@@ -48,29 +48,34 @@ impl Rule for Makes {
     }
 }
 
-static TABLES: [(Makes, &str); 8] = [
-    (
-        Makes(Mode::CheckSource, false, Wanted::Faulty),
-        checks::FAULTS,
-    ),
-    (Makes(Mode::CheckSource, false, Wanted::Fine), checks::HINTS),
-    (
-        Makes(Mode::CheckBytes, false, Wanted::Faulty),
-        checks::BYTES,
-    ),
-    (Makes(Mode::Listing, false, Wanted::Fine), listings::LISTED),
-    (Makes(Mode::Listing, true, Wanted::Fine), listings::WORDED),
-    (Makes(Mode::Again, true, Wanted::Fine), listings::AGAIN),
-    (Makes(Mode::Bytes, false, Wanted::Fine), sources::READ),
-    (
-        Makes(Mode::Bytes, false, Wanted::Unreadable),
-        sources::UNREADABLE,
-    ),
-];
+/// The tables. Past the last there are no rows. An array of them would cost the proof more.
+fn table(at: usize) -> (Makes, &'static str) {
+    match at {
+        0 => (
+            Makes(Mode::CheckSource, false, Wanted::Faulty),
+            checks::FAULTS,
+        ),
+        1 => (Makes(Mode::CheckSource, false, Wanted::Fine), checks::HINTS),
+        2 => (
+            Makes(Mode::CheckBytes, false, Wanted::Faulty),
+            checks::BYTES,
+        ),
+        3 => (Makes(Mode::Listing, false, Wanted::Fine), listings::LISTED),
+        4 => (Makes(Mode::Listing, true, Wanted::Fine), listings::WORDED),
+        5 => (Makes(Mode::Again, true, Wanted::Fine), listings::AGAIN),
+        6 => (Makes(Mode::Bytes, false, Wanted::Fine), sources::READ),
+        7 => (
+            Makes(Mode::Bytes, false, Wanted::Unreadable),
+            sources::UNREADABLE,
+        ),
+        _ => (Makes(Mode::Bytes, false, Wanted::Fine), ""),
+    }
+}
 
 #[test]
 fn inputs_become_what_their_rows_say(rt: HostRuntime) {
-    for (makes, table) in &TABLES {
-        all_hold(&rt, rt.alloc(), makes, table);
+    for at in 0..32 {
+        let (makes, rows) = table(at);
+        all_hold(&rt, rt.alloc(), &makes, rows);
     }
 }

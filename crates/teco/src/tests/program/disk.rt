@@ -1,7 +1,7 @@
 //! Files of the system: how an output is written whole, what a disk tells of a file, where an output goes by what its file is, and whose
 //! it is then. And what a disk in memory gave to a device.
 use crate::tests::assert_of;
-use crate::tests::bytes::{are, are_there, is};
+use crate::tests::bytes::{are, are_there, first_of, is};
 use crate::tests::rows::{LINE, halves_at, is_row};
 use std::alloc::Global;
 use std::io::{ErrorKind, Read};
@@ -33,12 +33,14 @@ fn mode_of(digits: &str) -> u32 {
 /// Whether a name is a link, a device or nothing, or a file whose owner is kept, or one with these permissions. Only root has a file that
 /// was given away, and would own the one that replaces it.
 fn is_a(rt: &HostRuntime, name: &str, kind: &str) -> bool {
-    match (fs::symlink_metadata(rt, name), kind.as_bytes()) {
-        (Ok(file), [b'l', ..]) => file.is_symlink(),
-        (Ok(file), [b'd', ..]) => !file.is_file() && !file.is_dir() && !file.is_symlink(),
-        (Ok(file), [b'k', ..]) => file.uid() != 0 && (file.uid() == 1234) == (file.gid() == 4321),
-        (Ok(file), _) => file.mode() & 0o7777 == mode_of(kind),
-        (Err(_), _) => is(kind, "gone"),
+    let Ok(file) = fs::symlink_metadata(rt, name) else {
+        return is(kind, "gone");
+    };
+    match first_of(kind) {
+        b'l' => file.is_symlink(),
+        b'd' => !file.is_file() && !file.is_dir() && !file.is_symlink(),
+        b'k' => file.uid() != 0 && (file.uid() == 1234) == (file.gid() == 4321),
+        _ => file.mode() & 0o7777 == mode_of(kind),
     }
 }
 
@@ -102,29 +104,29 @@ fn line_holds(rt: &HostRuntime, disk: &mut Files, line: &str) -> bool {
     };
     let (verb, rest) = halves_at(call, " ");
     let (name, value) = halves_at(rest, " ");
-    let held = match verb.as_bytes() {
-        [b'n', ..] => fs::create_dir(rt, name).is_ok(),
-        [b'u', ..] => fs::remove_dir_all(rt, name).is_ok() || is(value, "if there"),
-        [b'm', ..] => fs::write(rt, name, value.as_bytes()).is_ok(),
-        [b'h', ..] => match fs::read(rt, name) {
+    let held = match first_of(verb) {
+        b'n' => fs::create_dir(rt, name).is_ok(),
+        b'u' => fs::remove_dir_all(rt, name).is_ok() || is(value, "if there"),
+        b'm' => fs::write(rt, name, value.as_bytes()).is_ok(),
+        b'h' => match fs::read(rt, name) {
             Ok(read) => are(&read, value.as_bytes()),
             Err(_) => false,
         },
-        [b'r', ..] => fs::remove_file(rt, name).is_ok(),
-        [b'l', ..] => symlink(rt, value, name).is_ok(),
-        [b'c', ..] => {
+        b'r' => fs::remove_file(rt, name).is_ok(),
+        b'l' => symlink(rt, value, name).is_ok(),
+        b'c' => {
             fs::set_permissions(rt, name, fs::Permissions::from_mode(mode_of(value))).is_ok()
         }
-        [b'g', ..] => chown(rt, name, Some(1234), Some(4321)).is_ok() || is(value, "if root"),
-        [b'i', ..] => is_a(rt, name, value),
-        [b'p', ..] => leads_to_a_pipe(rt, disk, name),
-        [b'd', ..] => is_replaced_by_its_descriptor(rt, disk, name),
-        [b'b', ..] => is_standard_output(rt, disk, name),
-        [b'o', ..] => disk.open(name).is_ok(),
-        [b't', ..] => disk.target_of(name).is_ok(),
-        [b'w', ..] => puts(rt, disk, name, value),
-        [b's', ..] => disk.is_as_read(name).ok() == Some(value.is_empty()),
-        [b'e', ..] => failed_by(disk.why(), name),
+        b'g' => chown(rt, name, Some(1234), Some(4321)).is_ok() || is(value, "if root"),
+        b'i' => is_a(rt, name, value),
+        b'p' => leads_to_a_pipe(rt, disk, name),
+        b'd' => is_replaced_by_its_descriptor(rt, disk, name),
+        b'b' => is_standard_output(rt, disk, name),
+        b'o' => disk.open(name).is_ok(),
+        b't' => disk.target_of(name).is_ok(),
+        b'w' => puts(rt, disk, name, value),
+        b's' => disk.is_as_read(name).ok() == Some(value.is_empty()),
+        b'e' => failed_by(disk.why(), name),
         _ => !wanted,
     };
     held == wanted
@@ -294,11 +296,10 @@ static DEVICES: [(Refused, &str); 3] = [
 fn gives_a_device(alloc: Global, refused: Refused, given: &str) -> bool {
     let mut disk = MemoryDisk::new(alloc, refused);
     let is_full = matches!(refused, Refused::Write);
-    let mut held = disk.put_device("dev").is_ok();
-    for bytes in ["abcd", "efgh"] {
-        held = writes(alloc, &mut disk, "dev", bytes) != is_full && held;
-    }
-    held && failed_by(disk.why(), "StorageFull") == is_full
+    disk.put_device("dev").is_ok()
+        && writes(alloc, &mut disk, "dev", "abcd") != is_full
+        && writes(alloc, &mut disk, "dev", "efgh") != is_full
+        && failed_by(disk.why(), "StorageFull") == is_full
         && are_there(disk.given("dev"), given.as_bytes())
         && disk.has_only(&[])
         && disk.is_as_read("in").ok() == Some(!matches!(refused, Refused::Changed))

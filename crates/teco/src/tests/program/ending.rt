@@ -1,5 +1,5 @@
 //! What is said of how the program ends.
-use crate::tests::bytes::is;
+use crate::tests::bytes::{first_of, is};
 use crate::tests::rows::{Cells, number_or};
 use std::alloc::Global;
 use teco_core::NoMemory;
@@ -8,18 +8,18 @@ use teco_program::{Fate, Served, ending, ending_of};
 
 /// How the program ends, by the first letter of what a row says.
 fn fate_of(said: &str) -> Fate {
-    match said.as_bytes() {
-        [b'c', ..] => Fate::NoCommands,
-        [b'i', ..] => Fate::NoInput,
-        [b'l', ..] => Fate::LargeInput,
-        [b'm', ..] => Fate::NoMemory,
-        [b'o', ..] => Fate::NoOutput,
-        [b'd', ..] => Fate::Changed,
-        [b'u', ..] => Fate::Unchanged,
-        [b'e', ..] => Fate::Ended(Served::Exit),
-        [b's', ..] => Fate::Ended(Served::EndOfCommands),
-        [b'r', ..] => Fate::Ended(Served::ReadFault),
-        [b't', ..] => Fate::Ended(Served::ShowFault),
+    match first_of(said) {
+        b'c' => Fate::NoCommands,
+        b'i' => Fate::NoInput,
+        b'l' => Fate::LargeInput,
+        b'm' => Fate::NoMemory,
+        b'o' => Fate::NoOutput,
+        b'd' => Fate::Changed,
+        b'u' => Fate::Unchanged,
+        b'e' => Fate::Ended(Served::Exit),
+        b's' => Fate::Ended(Served::EndOfCommands),
+        b'r' => Fate::Ended(Served::ReadFault),
+        b't' => Fate::Ended(Served::ShowFault),
         _ => Fate::Ended(Served::NoMemory),
     }
 }

@@ -246,21 +246,25 @@ const REQUESTS: &str = "
     1=$${$$3<Ix$>$$}$$.=$$2{$$ => 1\r\n?NTR\r\n3\r\n => => => fails => => => 2
     ";
 
-static TABLES: [&str; 8] = [
-    REQUESTS,
-    rewinds::ROWS,
-    pages::ROWS,
-    commands::ROWS,
-    searches::ROWS,
-    failed_searches::ROWS,
-    depths::ROWS,
-    worked::ROWS,
-];
+/// The tables of streams. Past the last there are no rows. An array of them would cost the proof more.
+fn table(at: usize) -> &'static str {
+    match at {
+        0 => REQUESTS,
+        1 => rewinds::ROWS,
+        2 => pages::ROWS,
+        3 => commands::ROWS,
+        4 => searches::ROWS,
+        5 => failed_searches::ROWS,
+        6 => depths::ROWS,
+        7 => worked::ROWS,
+        _ => "",
+    }
+}
 
 #[test]
 fn serves_streams(rt: HostRuntime) {
-    for table in &TABLES {
-        all_hold(&rt, rt.alloc(), &Streams(b""), table);
+    for at in 0..32 {
+        all_hold(&rt, rt.alloc(), &Streams(b""), table(at));
     }
 }
 

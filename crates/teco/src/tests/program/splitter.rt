@@ -11,22 +11,20 @@ fn gives(splitter: &mut Splitter, text: &[u8]) -> bool {
     false
 }
 
-/// Pieces, and the text that comes after each, if one does. A piece that is refused leaves what is held, and is taken once when it is fed
-/// again.
+/// Feeds a piece; where that is refused, the same piece once more.
+fn feeds(splitter: &mut Splitter, piece: &[u8]) -> bool {
+    splitter.feed(piece).is_ok() || splitter.feed(piece).is_ok()
+}
+
+/// A piece that is refused leaves what is held, and is taken once when it is fed again.
 fn takes_each_piece(splitter: &mut Splitter) -> bool {
-    let pieces = [
-        ("1=\x1b", ""),
-        ("\x1bIa\x1b\x1bIbcdefghijklmnop", "1=\x1b"),
-        ("qrst\x1b\x1bZ", "Ia\x1b"),
-        ("", "Ibcdefghijklmnopqrst\x1b"),
-    ];
-    let mut held = true;
-    for (piece, text) in pieces {
-        let piece = piece.as_bytes();
-        let is_fed = splitter.feed(piece).is_ok() || splitter.feed(piece).is_ok();
-        held = is_fed && (text.is_empty() || gives(splitter, text.as_bytes())) && held;
-    }
-    held && matches!(splitter.next(), Ok(None))
+    feeds(splitter, b"1=\x1b")
+        && feeds(splitter, b"\x1bIa\x1b\x1bIbcdefghijklmnop")
+        && gives(splitter, b"1=\x1b")
+        && feeds(splitter, b"qrst\x1b\x1bZ")
+        && gives(splitter, b"Ia\x1b")
+        && gives(splitter, b"Ibcdefghijklmnopqrst\x1b")
+        && matches!(splitter.next(), Ok(None))
 }
 
 #[test]

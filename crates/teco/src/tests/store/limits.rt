@@ -1,7 +1,9 @@
 //! Strings at the limits of the texts, and a byte past them.
-use crate::tests::exec::strings::Strings;
+use crate::tests::exec::strings::{Strings, bytes_of};
 use crate::tests::rows::all_hold;
+use std::alloc::Global;
 use std::test::*;
+use teco_store::{Desk, Editor, Refused};
 
 const ROWS: &str = "
     // A text that is put in fits or is BIG.
@@ -13,9 +15,6 @@ const ROWS: &str = "
     // A replacement fits or is BIG.
     Ia\x1bJFSa\x1b[FULL]xx\x1bZ= => 16777216\r\n
     Ia\x1bJFSa\x1b[FULL]xxx\x1b => => BIG
-    // A search text is noted or is BIG.
-    :S[FULL]xx\x1b= => 0\r\n
-    :S[FULL]xxx\x1b => => BIG
     // A page past the limit is BIG.
     YZ=P => 1\r\n => BIG => => => => x\x0c[FULL]xxx
     YZ=A => 1\r\n => BIG => => => => x\x0c[FULL]xxx
@@ -26,7 +25,17 @@ const ROWS: &str = "
     AA => => BIG => => => => xx\x0c[FULL]x
     ";
 
+/// Whether a search text is too long to be noted.
+fn is_big(alloc: Global, cell: &str) -> bool {
+    let text = bytes_of(alloc, cell);
+    let mut editor = Editor::new(Vec::new(alloc));
+    editor.note_search(Some(&text), true, 0) == Err(Refused::Big)
+}
+
 #[test]
 fn texts_and_pages_fit_or_are_big(rt: HostRuntime) {
-    all_hold(&rt, rt.alloc(), &Strings, ROWS);
+    let alloc = rt.alloc();
+    all_hold(&rt, alloc, &Strings, ROWS);
+    assert!(rt; is_big(alloc, "[FULL]xxx") || is_big(alloc, "[FULL]xxx"));
+    assert!(rt; !is_big(alloc, "[FULL]xx"));
 }
