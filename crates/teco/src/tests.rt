@@ -7,6 +7,7 @@ mod calls;
 pub(crate) mod commands;
 pub(crate) mod exec;
 mod gap;
+pub(crate) mod keep;
 mod laws;
 mod line_commands;
 mod program;

@@ -1,9 +1,6 @@
 //! The program: turns sources of command strings into bytes and back, and checks them.
 #![tactic(auto)]
 
-#[cfg(test)]
-mod tests;
-
 use std::process;
 use std::process::ExitCode;
 use teco_files::{FileDisk, ReaderSource};

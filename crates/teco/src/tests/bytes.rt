@@ -39,6 +39,14 @@ pub(crate) fn has(text: &str, part: &str) -> bool {
     text.contains(part)
 }
 
+/// The first byte of a text, or 0.
+pub(crate) fn first_of(text: &str) -> u8 {
+    match text.as_bytes() {
+        [first, ..] => *first,
+        [] => 0,
+    }
+}
+
 /// A terminal that shows what it is given, as far as it has room. All tests that run strings have this one.
 pub(crate) type Screen = WriterTerminal<FailAfter>;
 

@@ -115,15 +115,15 @@ fn a_stream_is_cut(alloc: Global) -> Result<bool, NoMemory> {
 
 /// Whether each example holds that asks for memory.
 fn all_hold(alloc: Global) -> bool {
-    matches!(a_text_is_edited(alloc), Ok(true))
-        && matches!(an_occurrence_is_found(alloc), Ok(true))
+    a_text_is_edited(alloc).unwrap_or(false)
+        && an_occurrence_is_found(alloc).unwrap_or(false)
         && an_edit_is_made(alloc)
         && a_put_is_shown(alloc)
         && a_string_is_run(alloc)
         && a_string_is_undone(alloc)
-        && matches!(a_line_is_read(alloc), Ok(true))
+        && a_line_is_read(alloc).unwrap_or(false)
         && a_source_is_read(alloc)
-        && matches!(a_stream_is_cut(alloc), Ok(true))
+        && a_stream_is_cut(alloc).unwrap_or(false)
 }
 
 #[test]

@@ -1,16 +1,16 @@
 //! Of teco_program: its parts, and runs of the whole program over files in memory.
-use super::bytes::{are_there, is, is_typed, joined, wide_screen};
+use super::bytes::{are_there, is, is_typed, joined, screen_of, wide_screen};
+use super::keep::runs;
 use super::line_commands::{checked, explained, shown, sources};
-use super::rows::{Cells, Rule, all_hold, cells_of, halves_at};
+use super::rows::{Cells, Rule, all_hold, cells_of, halves_at, number_or};
 use std::alloc::Global;
 use std::cell::Cell;
 use std::io;
 use std::process::ExitCode;
 use std::test::*;
 use std::time::{Clock, Duration};
-use teco_core::NoMemory;
 use teco_files::{MemoryDisk, MemorySource, Refused, Source};
-use teco_line::{Line, LineFault, line_of};
+use teco_line::LineFault;
 use teco_program::{ClockAlarm, program};
 
 mod disk;
@@ -23,19 +23,15 @@ mod serving;
 mod splitter;
 mod word;
 
-/// The words of a text with a blank between them, as the program is given them.
-pub(crate) fn words_of(alloc: Global, text: &str) -> Result<Vec<String>, NoMemory> {
+/// The words of a text with a blank between them, as the program is given them. A word that was refused memory is left out.
+pub(crate) fn words_of(alloc: Global, text: &str) -> Vec<String> {
     let mut words = Vec::new(alloc);
     for word in text.split(' ') {
-        words.push(String::from_str(alloc, word)?)?;
+        if let Ok(word) = String::from_str(alloc, word) {
+            let _ = words.push(word).is_ok();
+        }
     }
-    Ok(words)
-}
-
-/// What the words of a text say.
-pub(crate) fn line_from(alloc: Global, text: &str) -> Result<Line, LineFault> {
-    let words = words_of(alloc, text)?;
-    line_of(alloc, words.as_slice())
+    words
 }
 
 /// Commands that no run may read, since its line gives others.
@@ -80,32 +76,38 @@ impl Clock for Ticking {
     }
 }
 
-/// Whether a run ends so, and types, tells and notes what its row says.
+/// Whether a run of `teco` or `tecol` ends so, and types, tells and notes what its row says.
 fn runs_on(alloc: Global, disk: &mut MemoryDisk, cells: &Cells) -> bool {
-    let words = match words_of(alloc, cells[0]) {
-        Ok(words) => Ok(words),
-        Err(NoMemory) => Err(LineFault::NoMemory),
+    let words = if is(cells[8], "words") {
+        Err(LineFault::NoMemory)
+    } else {
+        Ok(words_of(alloc, cells[0]))
     };
     let commands = commands_of(cells[1]);
     let bytes = joined(alloc, &[commands.as_bytes()]);
     let mut source = MemorySource::new(bytes, Vec::new(alloc), false);
-    let mut term = wide_screen(alloc);
+    let mut term = screen_of(alloc, if is(cells[8], "shown") { 0 } else { 10_000 });
     let mut errors = wide_screen(alloc);
     let mut notes = wide_screen(alloc);
-    let clock = Ticking::new();
-    let status = program(
-        alloc,
-        words,
-        7,
-        &mut source,
-        &mut ClockAlarm::new(&clock),
-        &mut term,
-        &mut errors,
-        &mut notes,
-        disk,
-    );
-    let wanted = u8::from_str_radix(cells[5], 10).unwrap_or(0);
-    status == ExitCode::from(wanted)
+    let (from, to) = (&mut source, &mut term);
+    let status = if cells[0].starts_with("tecol") {
+        teco_keep::program(alloc, words, 7, from, to, &mut errors, disk)
+    } else {
+        let clock = Ticking::new();
+        let alarm = &mut ClockAlarm::new(&clock);
+        program(
+            alloc,
+            words,
+            7,
+            from,
+            alarm,
+            to,
+            &mut errors,
+            &mut notes,
+            disk,
+        )
+    };
+    status == ExitCode::from(number_or(cells[5], 0).min(255) as u8)
         && is_typed(&term, cells[2])
         && is_typed(&errors, cells[3])
         && is_typed(&notes, cells[4])
@@ -119,8 +121,8 @@ fn refused_of(call: &str) -> Refused {
         [b'r', b'e', b'n', ..] => Refused::Rename,
         [b'r', b'e', b'm', ..] => Refused::RenameAndRemove,
         [b'm', ..] => Refused::Make,
-        [b'w', ..] => Refused::Write,
-        [b's', ..] => Refused::Sync,
+        [b'w', b'r', ..] => Refused::Write,
+        [b's', b'y', ..] => Refused::Sync,
         [b'c', ..] => Refused::Changed,
         _ => Refused::Nothing,
     }
@@ -167,7 +169,7 @@ fn has_just(disk: &MemoryDisk, cell: &str) -> bool {
 
 /// A run: its words, with blanks between them; its commands, where none are said if no run may read them; what it types, tells on standard
 /// error and notes there besides; its status, if not 0; the files before it, and those after it, if they are others; and which call of
-/// the disk is refused.
+/// the disk is refused, or that memory for the words was, or all that is to be shown.
 #[derive(Clone, Copy)]
 struct Runs;
 
@@ -213,17 +215,23 @@ const ROWS: &str = "
     - // A faulty line.
     - teco --version => Y\x1b\x1bZ=\x1b\x1bEX\x1b\x1b => teco 0.2.0\n => => => => in == hi\n";
 
+/// The tables of runs. Past the last there are no rows. An array of them would cost the proof more.
+fn table(at: usize) -> &'static str {
+    match at {
+        0 => ROWS,
+        1 => inputs::ROWS,
+        2 => sources::ROWS,
+        3 => checked::ROWS,
+        4 => explained::ROWS,
+        5 => shown::ROWS,
+        6 => runs::ROWS,
+        _ => "",
+    }
+}
+
 #[test]
 fn runs_over_files(rt: HostRuntime) {
-    let tables = [
-        ROWS,
-        inputs::ROWS,
-        sources::ROWS,
-        checked::ROWS,
-        explained::ROWS,
-        shown::ROWS,
-    ];
-    for table in tables {
-        all_hold(&rt, rt.alloc(), &Runs, table);
+    for at in 0..32 {
+        all_hold(&rt, rt.alloc(), &Runs, table(at));
     }
 }

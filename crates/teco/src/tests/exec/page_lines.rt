@@ -24,10 +24,7 @@ pub(super) const ROWS: &str = "
     // N and _ go from page to page.
     YNd\x1b.= => 3\r\n => => => => a\nb\n => a\nb\nc\nd => 2
     YHK_d\x1b.= => 3\r\n => => => => - => a\nb\nc\nd => 2
-    ";
-
-/// The same where it exits.
-pub(super) const EXITS: &str = "
+    // An exit ends the run.
     YHK.,.PWEX => => EX => => => c => a\nb\nc => 2
     // An exit writes what is left as it is.
     YEX => => EX => => => a\nb\nc\nd\ne => a\nb\nc\nd\ne => 2

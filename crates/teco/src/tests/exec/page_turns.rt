@@ -58,10 +58,7 @@ pub(super) const ROWS: &str = "
     <> => => LIM => 1000 => => - => a\x0cb
     <Ox\x1b!x!> => => LIM => 1000 => => - => a\x0cb
     <> => => LIM => 1000000 => 1000000 => - => a\x0cb
-    ";
-
-/// An exit ends the run, and writes the pages that were not read too.
-pub(super) const EXITS: &str = "
+    // An exit ends the run, and writes the pages that were not read too.
     YEX1= => => EX => 2 => => a\x0cb => a\x0cb
     3<YEX> => => EX => 4 => => a\x0cb => a\x0cb
     @^UA/EX/YMA1= => => EX => 4 => => a\x0cb => a\x0cb

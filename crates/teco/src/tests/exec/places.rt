@@ -99,37 +99,6 @@ fn is_told(alloc: Global, answered: &Answered, told: &str) -> bool {
     }
 }
 
-/// Whether a run ended as the row says.
-fn is_ended(answer: Answer, terminal: &Screen, cells: &Cells) -> bool {
-    match answer {
-        Answer::Ended(outcome) => {
-            is_code(outcome.code, cells[2])
-                && number_or(cells[3], u64::MAX) == outcome.steps
-                && (cells[5].is_empty() || is_typed(terminal, cells[6]))
-        }
-        _ => false,
-    }
-}
-
-/// Runs a row's text.
-fn run_so(session: &mut Session, term: &mut Screen, cells: &Cells, way: Way) -> Answered {
-    let text = cells[0].as_bytes();
-    let limit = number_or(cells[1], 1000);
-    let after = number_or(cells[5], 0);
-    let mut asking = match way {
-        Way::Answers => Asking::Answers(after),
-        _ => Asking::Steps(after),
-    };
-    match way {
-        Way::Where => session.run_where(text, limit, term),
-        Way::Until => session.run_where_until(text, limit, &mut asking, term),
-        Way::Steps | Way::Answers => Answered {
-            answer: session.run_until(text, limit, &mut asking, term),
-            place: Ok(None),
-        },
-    }
-}
-
 /// A row, whose text is run in a way.
 #[derive(Clone, Copy)]
 struct By<'a>(Cells<'a>, Way);
@@ -137,12 +106,33 @@ struct By<'a>(Cells<'a>, Way);
 impl Trial for By<'_> {
     fn holds(&self, alloc: Global, session: &mut Session, term: &mut Screen) -> bool {
         let By(cells, way) = self;
-        let told = match way {
-            Way::Steps | Way::Answers => "",
-            Way::Where | Way::Until => cells[4],
+        let (text, limit) = (cells[0].as_bytes(), number_or(cells[1], 1000));
+        let after = number_or(cells[5], 0);
+        let mut asking = match way {
+            Way::Answers => Asking::Answers(after),
+            _ => Asking::Steps(after),
         };
-        let answered = run_so(session, term, cells, *way);
-        is_ended(answered.answer, term, cells) && is_told(alloc, &answered, told)
+        let (answered, told) = match way {
+            Way::Where => (session.run_where(text, limit, term), cells[4]),
+            Way::Until => (
+                session.run_where_until(text, limit, &mut asking, term),
+                cells[4],
+            ),
+            Way::Steps | Way::Answers => {
+                let answer = session.run_until(text, limit, &mut asking, term);
+                let place = Ok(None);
+                (Answered { answer, place }, "")
+            }
+        };
+        match answered.answer {
+            Answer::Ended(outcome) => {
+                is_code(outcome.code, cells[2])
+                    && number_or(cells[3], u64::MAX) == outcome.steps
+                    && (cells[5].is_empty() || is_typed(term, cells[6]))
+                    && is_told(alloc, &answered, told)
+            }
+            _ => false,
+        }
     }
 }
 
@@ -162,22 +152,20 @@ struct Stands;
 impl Rule for Stands {
     fn holds(&self, alloc: Global, row: &str) -> bool {
         let cells = cells_of(row);
-        let ways = if cells[5].is_empty() {
-            [Way::Where; 3]
-        } else {
-            [Way::Steps, Way::Answers, Way::Until]
-        };
-        let mut held = true;
-        for way in ways {
-            held = holds_once(alloc, &NO_STRING, &By(cells, way)) && held;
+        if cells[5].is_empty() {
+            return holds_once(alloc, &NO_STRING, &By(cells, Way::Where));
         }
-        held
+        holds_once(alloc, &NO_STRING, &By(cells, Way::Steps))
+            && holds_once(alloc, &NO_STRING, &By(cells, Way::Answers))
+            && holds_once(alloc, &NO_STRING, &By(cells, Way::Until))
     }
 }
 
+static TABLES: [&str; 3] = [ROWS, faults::ROWS, breaks::ROWS];
+
 #[test]
 fn runs_tell_where_they_last_stood(rt: HostRuntime) {
-    for table in [ROWS, faults::ROWS, breaks::ROWS] {
+    for table in &TABLES {
         all_hold(&rt, rt.alloc(), &Stands, table);
     }
     // Who never stops a run.

@@ -1,7 +1,7 @@
 //! Files of the system: how an output is written whole, what a disk tells of a file, where an output goes by what its file is, and whose
 //! it is then. And what a disk in memory gave to a device.
 use crate::tests::assert_of;
-use crate::tests::bytes::{are, are_there, is};
+use crate::tests::bytes::{are, are_there, first_of, is};
 use crate::tests::rows::{LINE, halves_at, is_row};
 use std::alloc::Global;
 use std::io::{ErrorKind, Read};
@@ -20,55 +20,36 @@ fn writes<D: Disk>(alloc: Global, disk: &mut D, name: &str, bytes: &str) -> bool
 /// A disk of the system.
 type Files<'a> = FileDisk<'a, HostRuntime>;
 
-/// The same on a disk of the system.
+/// The same on a disk of the system. Its calls are made here alone, since each costs the proof seconds.
 fn puts(rt: &HostRuntime, disk: &mut Files, name: &str, bytes: &str) -> bool {
     writes(rt.alloc(), disk, name, bytes)
 }
 
-fn holds(rt: &HostRuntime, name: &str, bytes: &str) -> bool {
-    match fs::read(rt, name) {
-        Ok(read) => are(&read, bytes.as_bytes()),
-        Err(_) => false,
-    }
+/// Octal digits as permissions.
+fn mode_of(digits: &str) -> u32 {
+    u32::from_str_radix(digits, 8).unwrap_or(0)
 }
 
-/// Whether a file can be given these permissions, which are octal digits.
-fn set_mode(rt: &HostRuntime, name: &str, mode: &str) -> bool {
-    match u32::from_str_radix(mode, 8) {
-        Ok(mode) => fs::set_permissions(rt, name, fs::Permissions::from_mode(mode)).is_ok(),
-        Err(_) => false,
-    }
-}
-
-/// Whether a name is a link, a device or nothing, or a file that was given away, or one with these permissions.
+/// Whether a name is a link, a device or nothing, or a file whose owner is kept, or one with these permissions. Only root has a file that
+/// was given away, and would own the one that replaces it.
 fn is_a(rt: &HostRuntime, name: &str, kind: &str) -> bool {
-    match (fs::symlink_metadata(rt, name), kind.as_bytes()) {
-        (Ok(file), [b'l', ..]) => file.is_symlink(),
-        (Ok(file), [b'd', ..]) => !file.is_file() && !file.is_dir() && !file.is_symlink(),
-        (Ok(file), [b'a', ..]) => file.uid() == 1234 && file.gid() == 4321,
-        (Ok(file), _) => u32::from_str_radix(kind, 8).ok() == Some(file.mode() & 0o7777),
-        (Err(_), _) => is(kind, "gone"),
+    let Ok(file) = fs::symlink_metadata(rt, name) else {
+        return is(kind, "gone");
+    };
+    match first_of(kind) {
+        b'l' => file.is_symlink(),
+        b'd' => !file.is_file() && !file.is_dir() && !file.is_symlink(),
+        b'k' => file.uid() != 0 && (file.uid() == 1234) == (file.gid() == 4321),
+        _ => file.mode() & 0o7777 == mode_of(kind),
     }
-}
-
-/// Only root may give a file away; for others nothing is tried.
-fn keeps_its_owner(rt: &HostRuntime, disk: &mut Files, name: &str) -> bool {
-    chown(rt, name, Some(1234), Some(4321)).is_err()
-        || puts(rt, disk, name, "theirs") && holds(rt, name, "theirs") && is_a(rt, name, "away")
 }
 
 /// Whether an output is written to the name of a descriptor of the process, to which a link is made then.
 fn puts_there(rt: &HostRuntime, disk: &mut Files, number: i32, link: &str, bytes: &str) -> bool {
     match format!(in rt.alloc(); "/proc/self/fd/{number}") {
-        Ok(name) => puts(rt, disk, name.as_str(), bytes)
-            && symlink(rt, name.as_str(), link).is_ok(),
+        Ok(name) => puts(rt, disk, &name, bytes) && symlink(rt, &name, link).is_ok(),
         Err(_) => false,
     }
-}
-
-fn gives(reader: &mut io::PipeReader, bytes: &[u8; 4]) -> bool {
-    let mut read = [0; 4];
-    reader.read_exact(&mut read).is_ok() && are(&read, bytes)
 }
 
 /// A pipe is a stream, by its name among the descriptors and by a link to that.
@@ -76,10 +57,11 @@ fn leads_to_a_pipe(rt: &HostRuntime, disk: &mut Files, link: &str) -> bool {
     let Ok((mut reader, writer)) = io::pipe(rt) else {
         return false;
     };
+    let mut read = [0; 8];
     puts_there(rt, disk, writer.as_raw_fd(), link, "abcd")
-        && gives(&mut reader, b"abcd")
         && puts(rt, disk, link, "efgh")
-        && gives(&mut reader, b"efgh")
+        && reader.read_exact(&mut read).is_ok()
+        && are(&read, b"abcdefgh")
 }
 
 /// A name among the descriptors that leads to a file is that file: it has the new text alone.
@@ -90,69 +72,75 @@ fn is_replaced_by_its_descriptor(rt: &HostRuntime, disk: &mut Files, name: &str)
     }
 }
 
-/// If standard output goes to a file, that is not replaced, by whichever name.
-fn is_standard_output(rt: &HostRuntime, disk: &mut Files, name: &str) -> bool {
-    match fs::metadata(rt, name) {
-        Ok(file) if file.is_file() => {
-            disk.target_of(name).is_err() && disk.why() == Some(ErrorKind::ResourceBusy)
-        }
-        _ => true,
-    }
-}
-
 /// Whether the last call of a disk that failed did so by this.
 fn failed_by(why: Option<ErrorKind>, kind: &str) -> bool {
-    match kind.as_bytes() {
-        [b'n', ..] => why.is_none(),
-        [b'N', b'o', b't', b'F', ..] => why == Some(ErrorKind::NotFound),
-        [b'N', b'o', b't', b'A', ..] => why == Some(ErrorKind::NotADirectory),
-        _ => why == Some(ErrorKind::IsADirectory),
-    }
+    let told = match why {
+        None => "nothing",
+        Some(ErrorKind::NotFound) => "NotFound",
+        Some(ErrorKind::NotADirectory) => "NotADirectory",
+        Some(ErrorKind::IsADirectory) => "IsADirectory",
+        Some(ErrorKind::ResourceBusy) => "ResourceBusy",
+        Some(ErrorKind::StorageFull) => "StorageFull",
+        Some(_) => "another",
+    };
+    is(told, kind)
 }
 
-/// Whether a folder is new, in the place of what was there.
-fn is_made_anew(rt: &HostRuntime, name: &str) -> bool {
-    let _ = fs::remove_dir_all(rt, name);
-    fs::create_dir(rt, name).is_ok()
+/// If standard output goes to a file, that is not replaced, by whichever name.
+fn is_standard_output(rt: &HostRuntime, disk: &mut Files, name: &str) -> bool {
+    let is_file = match fs::metadata(rt, name) {
+        Ok(file) => file.is_file(),
+        Err(_) => false,
+    };
+    !is_file || disk.target_of(name).is_err() && failed_by(disk.why(), "ResourceBusy")
 }
 
-/// Whether a line of the script holds: a verb, which its first letter tells, a name and a value, or the same with a `not` before them.
-/// The disk opens files; the other opens none, as one of another program.
-fn line_holds(rt: &HostRuntime, disk: &mut Files, other: &mut Files, line: &str) -> bool {
+/// Whether a line of the script holds on a disk: a verb, which its first letter tells, a name and a value, or the same with a `not` before
+/// them.
+fn line_holds(rt: &HostRuntime, disk: &mut Files, line: &str) -> bool {
     let (call, wanted) = match line.strip_prefix("not ") {
         Some(call) => (call, false),
         None => (line, true),
     };
     let (verb, rest) = halves_at(call, " ");
     let (name, value) = halves_at(rest, " ");
-    let held = match verb.as_bytes() {
-        [b'n', ..] => is_made_anew(rt, name),
-        [b'u', ..] => fs::remove_dir_all(rt, name).is_ok(),
-        [b'm', ..] => fs::write(rt, name, value.as_bytes()).is_ok(),
-        [b'h', ..] => holds(rt, name, value),
-        [b'r', ..] => fs::remove_file(rt, name).is_ok(),
-        [b'l', ..] => symlink(rt, value, name).is_ok(),
-        [b'c', ..] => set_mode(rt, name, value),
-        [b'i', ..] => is_a(rt, name, value),
-        [b'a', ..] => puts(rt, other, name, value),
-        [b'g', ..] => keeps_its_owner(rt, other, name),
-        [b'p', ..] => leads_to_a_pipe(rt, other, name),
-        [b'd', ..] => is_replaced_by_its_descriptor(rt, other, name),
-        [b'b', ..] => is_standard_output(rt, other, name),
-        [b'o', ..] => disk.open(name).is_ok(),
-        [b't', ..] => disk.target_of(name).is_ok(),
-        [b'w', ..] => puts(rt, disk, name, value),
-        [b's', ..] => disk.is_as_read(name).ok() == Some(value.is_empty()),
-        [b'e', ..] => failed_by(disk.why(), name),
+    let held = match first_of(verb) {
+        b'n' => fs::create_dir(rt, name).is_ok(),
+        b'u' => fs::remove_dir_all(rt, name).is_ok() || is(value, "if there"),
+        b'm' => fs::write(rt, name, value.as_bytes()).is_ok(),
+        b'h' => match fs::read(rt, name) {
+            Ok(read) => are(&read, value.as_bytes()),
+            Err(_) => false,
+        },
+        b'r' => fs::remove_file(rt, name).is_ok(),
+        b'l' => symlink(rt, value, name).is_ok(),
+        b'c' => {
+            fs::set_permissions(rt, name, fs::Permissions::from_mode(mode_of(value))).is_ok()
+        }
+        b'g' => chown(rt, name, Some(1234), Some(4321)).is_ok() || is(value, "if root"),
+        b'i' => is_a(rt, name, value),
+        b'p' => leads_to_a_pipe(rt, disk, name),
+        b'd' => is_replaced_by_its_descriptor(rt, disk, name),
+        b'b' => is_standard_output(rt, disk, name),
+        b'o' => disk.open(name).is_ok(),
+        b't' => disk.target_of(name).is_ok(),
+        b'w' => puts(rt, disk, name, value),
+        b's' => disk.is_as_read(name).ok() == Some(value.is_empty()),
+        b'e' => failed_by(disk.why(), name),
         _ => !wanted,
     };
     held == wanted
 }
 
-/// The first line of the script that does not hold on a disk and another; empty where all do.
+/// The first line of the script that does not hold on a disk, or where it says so on another, which opens no file, as one of another
+/// program; empty where all do.
 fn fails_at(rt: &HostRuntime, disk: &mut Files, other: &mut Files) -> &'static str {
     for line in SCRIPT.split(LINE) {
-        if is_row(line) && !line_holds(rt, disk, other, line) {
+        let held = match line.strip_prefix("other ") {
+            Some(line) => line_holds(rt, other, line),
+            None => !is_row(line) || line_holds(rt, disk, line),
+        };
+        if !held {
             return line;
         }
     }
@@ -166,6 +154,7 @@ fn first_failure(rt: &HostRuntime) -> &'static str {
 
 /// What is done with files, a line each, and what is seen then.
 const SCRIPT: &str = "
+    unmake teco_test if there
     new teco_test
     // A call that fails, and the kind of its error, which stays until the next.
     make teco_test/out a
@@ -237,11 +226,14 @@ const SCRIPT: &str = "
     write teco_test/out again
     has teco_test/out again
     is teco_test/out 600
-    given teco_test/out
+    give teco_test/out if root
+    other write teco_test/out theirs
+    has teco_test/out theirs
+    is teco_test/out kept
     // Where the draft would be, a link is put beforehand: it isn't followed.
     make teco_test/in victim
     link teco_test/.teco-7 in
-    anew teco_test/out ours
+    other write teco_test/out ours
     has teco_test/out ours
     has teco_test/in victim
     remove teco_test/.teco-7
@@ -249,22 +241,22 @@ const SCRIPT: &str = "
     new teco_test
     // Where it goes.
     make teco_test/out old
-    pipe teco_test/link
+    other pipe teco_test/link
     remove teco_test/link
-    descriptor teco_test/out
+    other descriptor teco_test/out
     has teco_test/out new
     // A link to a link to nothing makes the file at their end; a link to itself is an error.
     remove teco_test/out
     link teco_test/end out
     link teco_test/link end
-    anew teco_test/link at the end
+    other write teco_test/link at the end
     has teco_test/out at the end
     is teco_test/link link
     link teco_test/self self
-    not anew teco_test/self nowhere
+    other not write teco_test/self nowhere
     remove teco_test/link
     link teco_test/link /proc/self/fd/1
-    busy teco_test/link
+    other busy teco_test/link
     unmake teco_test
     new teco_test
     // What is told of a file that was opened: whether it is as it was read. The second change is another file with the same bytes.
@@ -275,7 +267,7 @@ const SCRIPT: &str = "
     same teco_test/in no
     open teco_test/in
     same teco_test/in
-    anew teco_test/in not as read
+    other write teco_test/in not as read
     same teco_test/in no
     open teco_test/in
     remove teco_test/in
@@ -293,10 +285,6 @@ fn writes_whole_files_and_tells_what_a_file_is(rt: HostRuntime) {
     assert_of(&rt, failed, failed.is_empty());
 }
 
-fn has_been_given(disk: &MemoryDisk, bytes: &[u8]) -> bool {
-    are_there(disk.given("dev"), bytes) && disk.has_only(&[])
-}
-
 /// What a disk in memory refuses, and what a device of it was given of two outputs: of each that is refused half the first part. No file
 /// is made. A file is as it was read, unless the disk is to tell of a change.
 static DEVICES: [(Refused, &str); 3] = [
@@ -311,8 +299,9 @@ fn gives_a_device(alloc: Global, refused: Refused, given: &str) -> bool {
     disk.put_device("dev").is_ok()
         && writes(alloc, &mut disk, "dev", "abcd") != is_full
         && writes(alloc, &mut disk, "dev", "efgh") != is_full
-        && matches!(disk.why(), Some(ErrorKind::StorageFull)) == is_full
-        && has_been_given(&disk, given.as_bytes())
+        && failed_by(disk.why(), "StorageFull") == is_full
+        && are_there(disk.given("dev"), given.as_bytes())
+        && disk.has_only(&[])
         && disk.is_as_read("in").ok() == Some(!matches!(refused, Refused::Changed))
 }
 

@@ -1,27 +1,25 @@
 //! What is said of how the program ends.
-use super::line::Lines;
-use crate::tests::bytes::is;
-use crate::tests::rows::{Cells, all_hold, number_or};
+use crate::tests::bytes::{first_of, is};
+use crate::tests::rows::{Cells, number_or};
 use std::alloc::Global;
-use std::test::*;
 use teco_core::NoMemory;
 use teco_line::Line;
 use teco_program::{Fate, Served, ending, ending_of};
 
 /// How the program ends, by the first letter of what a row says.
 fn fate_of(said: &str) -> Fate {
-    match said.as_bytes() {
-        [b'c', ..] => Fate::NoCommands,
-        [b'i', ..] => Fate::NoInput,
-        [b'l', ..] => Fate::LargeInput,
-        [b'm', ..] => Fate::NoMemory,
-        [b'o', ..] => Fate::NoOutput,
-        [b'd', ..] => Fate::Changed,
-        [b'u', ..] => Fate::Unchanged,
-        [b'e', ..] => Fate::Ended(Served::Exit),
-        [b's', ..] => Fate::Ended(Served::EndOfCommands),
-        [b'r', ..] => Fate::Ended(Served::ReadFault),
-        [b't', ..] => Fate::Ended(Served::ShowFault),
+    match first_of(said) {
+        b'c' => Fate::NoCommands,
+        b'i' => Fate::NoInput,
+        b'l' => Fate::LargeInput,
+        b'm' => Fate::NoMemory,
+        b'o' => Fate::NoOutput,
+        b'd' => Fate::Changed,
+        b'u' => Fate::Unchanged,
+        b'e' => Fate::Ended(Served::Exit),
+        b's' => Fate::Ended(Served::EndOfCommands),
+        b'r' => Fate::Ended(Served::ReadFault),
+        b't' => Fate::Ended(Served::ShowFault),
         _ => Fate::Ended(Served::NoMemory),
     }
 }
@@ -41,7 +39,7 @@ pub(super) fn ends_so(alloc: Global, line: &Line, cells: &Cells) -> bool {
 }
 
 /// The words of a line, how the program ends, and its status and text. Of several inputs the first is spoken of.
-const ROWS: &str = "
+pub(super) const ROWS: &str = "
     - teco -b strings in => commands => 1 => teco: cannot read strings\n
     - teco -b strings in => input => 1 => teco: cannot read in\n
     - teco -b strings in => large => 1 => teco: in is too large\n
@@ -62,8 +60,3 @@ const ROWS: &str = "
     - teco -b strings in two => memory => 1 => teco: in: no memory\n
     - teco -b strings in two => terminal failed => 1 => teco: in: cannot show\n
     - teco -b strings in two => no memory in a run => 1 => teco: in: no memory\n";
-
-#[test]
-fn says_how_it_ends(rt: HostRuntime) {
-    all_hold(&rt, rt.alloc(), &Lines::End, ROWS);
-}

@@ -1,6 +1,7 @@
 //! What the words of a line say.
 use super::ending::ends_so;
-use super::line_from;
+use super::word::OnPages;
+use super::{ending, word, words_of};
 use crate::tests::bytes::{has, is};
 use crate::tests::rows::{Cells, Rule, all_hold, cells_of, number_or};
 use std::alloc::Global;
@@ -8,8 +9,8 @@ use std::io;
 use std::test::*;
 use teco_core::NoMemory;
 use teco_line::{
-    Commands, Line, LineFault, fault_of_words, is_standard_input, is_standard_output, not_text,
-    refused_status,
+    Commands, Line, LineFault, fault_of_words, is_standard_input, is_standard_output, line_of,
+    not_text, refused_status,
 };
 
 /// Where the commands come from: standard input, the sources of files and of a word, a word that is run on every page, or the bytes of a
@@ -52,7 +53,7 @@ fn says(alloc: Global, line: &Line, cells: &Cells) -> bool {
 
 /// What the rows of lines tell. Each begins with words, with blanks between them.
 #[derive(Clone, Copy)]
-pub(super) enum Lines {
+enum Lines {
     /// Where the commands come from, and what else they say, if that is said; or the status with which they are refused;
     Say,
     /// or how a run that they ask for ends.
@@ -62,7 +63,7 @@ pub(super) enum Lines {
 impl Rule for Lines {
     fn holds(&self, alloc: Global, row: &str) -> bool {
         let cells = cells_of(row);
-        match line_from(alloc, cells[0]) {
+        match line_of(alloc, words_of(alloc, cells[0]).as_slice()) {
             Ok(line) => match self {
                 Lines::Say => says(alloc, &line, &cells),
                 Lines::End => ends_so(alloc, &line, &cells),
@@ -160,16 +161,11 @@ const ROWS: &str = "
     teco -i=true in => => => 3
     ";
 
-#[test]
-fn gives_what_the_words_say(rt: HostRuntime) {
-    all_hold(&rt, rt.alloc(), &Lines::Say, ROWS);
-}
-
-/// The status that an argument which is not UTF-8 leads to; none where memory was refused.
-fn status_without_text(alloc: Global) -> Option<u8> {
+/// Whether an argument that is not UTF-8 leads to the status of a refused line.
+fn is_refused_without_text(alloc: Global) -> bool {
     match fault_of_words(io::Error::from(io::ErrorKind::InvalidData), not_text(alloc)) {
-        LineFault::Refused(error) => Some(refused_status(&error)),
-        LineFault::NoMemory => None,
+        LineFault::Refused(error) => refused_status(&error) == 3,
+        LineFault::NoMemory => false,
     }
 }
 
@@ -199,11 +195,11 @@ const NAMES: &str = "
     ";
 
 #[test]
-fn knows_the_names_of_the_streams_and_what_is_no_text(rt: HostRuntime) {
-    all_hold(&rt, rt.alloc(), &Names, NAMES);
-    let status = match status_without_text(rt.alloc()) {
-        Some(status) => Some(status),
-        None => status_without_text(rt.alloc()),
-    };
-    assert!(rt; status == Some(3));
+fn gives_what_the_words_say_and_says_how_it_ends(rt: HostRuntime) {
+    let alloc = rt.alloc();
+    all_hold(&rt, alloc, &Lines::Say, ROWS);
+    all_hold(&rt, alloc, &Lines::End, ending::ROWS);
+    all_hold(&rt, alloc, &Names, NAMES);
+    all_hold(&rt, alloc, &OnPages, word::ROWS);
+    assert!(rt; is_refused_without_text(alloc) || is_refused_without_text(alloc));
 }

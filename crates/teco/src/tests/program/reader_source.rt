@@ -24,38 +24,26 @@ impl Read for Stumbling {
     }
 }
 
-/// A read into so much room: what it gives; none where it fails.
-type Row<'a> = (usize, Option<&'a [u8]>);
-
-fn reads_all<R: Read + Drop>(source: &mut ReaderSource<R>, rows: &[Row]) -> bool {
-    let mut held = true;
+/// Whether a source gives this, a read for each byte, into room for four: a letter alone, nothing where that is `-`, and an error where it
+/// is `!`. A read into no room, which is `0`, gives nothing.
+fn gives(mut source: ReaderSource<Stumbling>, script: &[u8]) -> bool {
     let mut room = [0; 4];
-    for (len, given) in rows {
-        let is_so = match source.read(&mut room[..(*len).min(4)]) {
-            Ok(n) => *given == Some(&room[..n.min(4)]),
-            Err(_) => given.is_none(),
+    let mut held = true;
+    for wanted in script {
+        let len = if *wanted == b'0' { 0 } else { 4 };
+        let is_so = match source.read(&mut room[..len]) {
+            Ok(0) => *wanted == b'-' || len == 0,
+            Ok(n) => n == 1 && room[0] == *wanted,
+            Err(_) => *wanted == b'!',
         };
         held = held && is_so;
     }
     held
 }
 
-static STUMBLING: [Row<'static>; 6] = [
-    (4, Some(b"a")),
-    (4, None),
-    (4, Some(b"c")),
-    (0, Some(b"")),
-    (4, Some(b"d")),
-    (4, Some(b"")),
-];
-
-/// The last byte that may come, and the failure after it.
-static LAST: [Row<'static>; 2] = [(4, Some(b"a")), (4, None)];
-
+/// The second is of at most one byte: the last that may come, and the failure after it.
 #[test]
 fn fails_where_the_reader_does_and_after_the_most_bytes(rt: HostRuntime) {
-    let mut source = ReaderSource::new(Stumbling { reads: 0 });
-    assert!(rt; reads_all(&mut source, &STUMBLING));
-    let mut source = ReaderSource::up_to(b"ab".as_slice(), 1);
-    assert!(rt; reads_all(&mut source, &LAST));
+    assert!(rt; gives(ReaderSource::new(Stumbling { reads: 0 }), b"a!c0d-"));
+    assert!(rt; gives(ReaderSource::up_to(Stumbling { reads: 2 }, 1), b"c!"));
 }

@@ -187,9 +187,6 @@ const REQUESTS: &str = "
     YEX$$ => => a => a => exit => 2
     YEX$$[THEN]1=$$ => ?END\r\n => a => a => exit => 2
     YEX$$[THEN]1=$$[THEN]{$$1=$$}$$ => ?END\r\n1\r\n?NTR\r\n => => a => exit => 2
-    ";
-
-const FRONTS: &str = "
     // Beginnings of a stream that note no string. What a source gives before it fails is served as if it had ended there.
      => => => => => => => 0
     1 => => => => => => => 0
@@ -249,21 +246,25 @@ const FRONTS: &str = "
     1=$${$$3<Ix$>$$}$$.=$$2{$$ => 1\r\n?NTR\r\n3\r\n => => => fails => => => 2
     ";
 
+/// The tables of streams. Past the last there are no rows. An array of them would cost the proof more.
+fn table(at: usize) -> &'static str {
+    match at {
+        0 => REQUESTS,
+        1 => rewinds::ROWS,
+        2 => pages::ROWS,
+        3 => commands::ROWS,
+        4 => searches::ROWS,
+        5 => failed_searches::ROWS,
+        6 => depths::ROWS,
+        7 => worked::ROWS,
+        _ => "",
+    }
+}
+
 #[test]
 fn serves_streams(rt: HostRuntime) {
-    let tables = [
-        REQUESTS,
-        FRONTS,
-        rewinds::ROWS,
-        pages::ROWS,
-        commands::ROWS,
-        searches::ROWS,
-        failed_searches::ROWS,
-        depths::ROWS,
-        worked::ROWS,
-    ];
-    for table in tables {
-        all_hold(&rt, rt.alloc(), &Streams(b""), table);
+    for at in 0..32 {
+        all_hold(&rt, rt.alloc(), &Streams(b""), table(at));
     }
 }
 

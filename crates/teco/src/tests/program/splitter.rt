@@ -16,16 +16,19 @@ fn feeds(splitter: &mut Splitter, piece: &[u8]) -> bool {
     splitter.feed(piece).is_ok() || splitter.feed(piece).is_ok()
 }
 
-// A piece that is refused leaves what is held, and is taken once when it is fed again.
+/// A piece that is refused leaves what is held, and is taken once when it is fed again.
+fn takes_each_piece(splitter: &mut Splitter) -> bool {
+    feeds(splitter, b"1=\x1b")
+        && feeds(splitter, b"\x1bIa\x1b\x1bIbcdefghijklmnop")
+        && gives(splitter, b"1=\x1b")
+        && feeds(splitter, b"qrst\x1b\x1bZ")
+        && gives(splitter, b"Ia\x1b")
+        && gives(splitter, b"Ibcdefghijklmnopqrst\x1b")
+        && matches!(splitter.next(), Ok(None))
+}
+
 #[test]
 fn takes_each_piece_once(rt: HostRuntime) {
     let mut splitter = Splitter::new(rt.alloc());
-    let held = feeds(&mut splitter, b"1=\x1b")
-        && feeds(&mut splitter, b"\x1bIa\x1b\x1bIbcdefghijklmnop")
-        && gives(&mut splitter, b"1=\x1b")
-        && feeds(&mut splitter, b"qrst\x1b\x1bZ")
-        && gives(&mut splitter, b"Ia\x1b")
-        && gives(&mut splitter, b"Ibcdefghijklmnopqrst\x1b")
-        && matches!(splitter.next(), Ok(None));
-    assert!(rt; held);
+    assert!(rt; takes_each_piece(&mut splitter));
 }

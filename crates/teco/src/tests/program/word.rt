@@ -1,14 +1,13 @@
 //! The commands that run strings on every page.
 use crate::tests::bytes::are;
-use crate::tests::rows::{Rule, all_hold, cells_of};
+use crate::tests::rows::{Rule, cells_of};
 use std::alloc::Global;
-use std::test::*;
 use teco_core::NoMemory;
 use teco_line::commands_on_pages;
 
 /// Strings, and the commands that run them on every page.
 #[derive(Clone, Copy)]
-struct OnPages;
+pub(super) struct OnPages;
 
 impl Rule for OnPages {
     fn holds(&self, alloc: Global, row: &str) -> bool {
@@ -21,14 +20,9 @@ impl Rule for OnPages {
 }
 
 /// The ESCs at the end of the strings are one: two would end the command string inside the loop.
-const ROWS: &str = "
+pub(super) const ROWS: &str = "
     0K => Y<0K\x1b \x1b-1-^N;P>EX\x1b\x1b
     FSa\x1bb\x1b => Y<FSa\x1bb\x1b \x1b-1-^N;P>EX\x1b\x1b
     FSa\x1bb\x1b\x1b => Y<FSa\x1bb\x1b \x1b-1-^N;P>EX\x1b\x1b
      => Y<\x1b \x1b-1-^N;P>EX\x1b\x1b
     ";
-
-#[test]
-fn runs_strings_on_every_page(rt: HostRuntime) {
-    all_hold(&rt, rt.alloc(), &OnPages, ROWS);
-}

@@ -1,5 +1,5 @@
 //! Sessions: strings that are undone and redone, and requests that are refused only where memory is.
-use super::requests::{Over, Trial, holds_once, ran, turned};
+use super::requests::{Over, Trial, holds_once, ran, ran_at_last, turned};
 use crate::tests::bytes::{Screen, is, is_typed, joined};
 use crate::tests::rows::{Cells, Rule, all_hold, cells_of};
 use crate::tests::store::states::{is_seen, seen};
@@ -8,47 +8,33 @@ use std::test::*;
 use teco_core::NoMemory;
 use teco_session::{Answer, Request, Session};
 
-/// Whether a string is begun, at once or after a refusal, and undone strings are dropped then.
-fn begins(session: &mut Session, term: &mut Screen) -> bool {
-    let begun = ran(session, b"1=\x1b", 100, term) != Answer::NotBegun
-        || ran(session, b"1=\x1b", 100, term) != Answer::NotBegun;
-    begun && session.strings() == session.cursor()
-}
-
 /// Twelve strings, of which each third is not undone.
 #[derive(Clone, Copy)]
 struct Twelve;
 
 impl Trial for Twelve {
+    /// Each is begun, at once or after a refusal, and undone strings are dropped then.
     fn holds(&self, _alloc: Global, session: &mut Session, term: &mut Screen) -> bool {
         let mut held = true;
         for at in 0..12 {
-            held = begins(session, term) && held;
+            let is_begun = !matches!(ran_at_last(session, b"1=\x1b", 100, term), Answer::NotBegun);
+            held = is_begun && session.strings() == session.cursor() && held;
             held = (at % 3 == 0 || turned(session, false).is_none()) && held;
         }
         held && session.strings() == 5 && session.cursor() == 4
     }
 }
 
-#[test]
-fn begins_again_after_a_refusal(rt: HostRuntime) {
-    assert!(rt; holds_once(rt.alloc(), &Over::new(b""), &Twelve));
-}
-
-/// An undo, a redo, or a string.
-fn request_of(alloc: Global, word: &str) -> Request {
-    match word.as_bytes() {
-        [b'{'] => Request::Undo,
-        [b'}'] => Request::Redo,
-        string => Request::Run(joined(alloc, &[string])),
-    }
-}
-
-/// The requests of a text, with blanks between them.
+/// The requests of a text, with blanks between them: an undo, a redo, or a string.
 fn requests_of(alloc: Global, text: &str) -> Vec<Request> {
     let mut requests = Vec::new(alloc);
     for word in text.split(' ') {
-        let _ = requests.push(request_of(alloc, word)).is_ok();
+        let request = match word.as_bytes() {
+            [b'{'] => Request::Undo,
+            [b'}'] => Request::Redo,
+            string => Request::Run(joined(alloc, &[string])),
+        };
+        let _ = requests.push(request).is_ok();
     }
     requests
 }
@@ -89,11 +75,6 @@ impl Rule for Plays {
     }
 }
 
-#[test]
-fn plays_in_order(rt: HostRuntime) {
-    all_hold(&rt, rt.alloc(), &Plays, PLAYS);
-}
-
 /// Whether a string is undone to the first state, redone to what it left, and undone again.
 fn comes_back(
     alloc: Global,
@@ -102,9 +83,9 @@ fn comes_back(
     text: &[u8],
     term: &mut Screen,
 ) -> bool {
-    let begun = ran(session, text, 1000, term) != Answer::NotBegun;
+    let answer = ran(session, text, 1000, term);
     let left = seen(alloc, session.editor());
-    begun
+    !matches!(answer, Answer::NotBegun)
         && turned(session, false).is_none()
         && is_seen(alloc, session.editor(), first)
         && turned(session, true).is_none()
@@ -198,7 +179,10 @@ const OVER_PAGES: &str = "
     ";
 
 #[test]
-fn each_beginning_comes_back(rt: HostRuntime) {
-    all_hold(&rt, rt.alloc(), &Over::new(b""), TEXTS);
-    all_hold(&rt, rt.alloc(), &Over::new(b"a\x0cb\x0cc"), OVER_PAGES);
+fn strings_are_begun_undone_and_redone(rt: HostRuntime) {
+    let alloc = rt.alloc();
+    assert!(rt; holds_once(alloc, &Over::new(b""), &Twelve));
+    all_hold(&rt, alloc, &Plays, PLAYS);
+    all_hold(&rt, alloc, &Over::new(b""), TEXTS);
+    all_hold(&rt, alloc, &Over::new(b"a\x0cb\x0cc"), OVER_PAGES);
 }

@@ -1,6 +1,6 @@
 //! Strings made at random, with undo and redo between them: each state that comes back is the one that was seen there before. So it is
 //! where the last strings alone are kept, and then no state before them comes back.
-use super::requests::{Over, Trial, holds_once, ran, turned};
+use super::requests::{Over, Trial, holds_once, ran_at_last, turned};
 use crate::tests::bytes::{Screen, joined, put, wide_screen};
 use crate::tests::rows::LINE;
 use crate::tests::store::states::{is_seen, seen};
@@ -91,19 +91,14 @@ fn roll(seed: &mut u32) -> usize {
     (*seed >> 16) as usize
 }
 
-/// The part in this row, from 0 to 63.
-fn part(row: usize) -> &'static [u8] {
-    match PARTS.split(LINE).nth(row.saturating_add(1)) {
-        Some(part) => part.as_bytes(),
-        None => b"",
-    }
-}
-
-/// A string of one to four parts.
+/// A string of one to four parts, each in a row from 0 to 63.
 fn made(alloc: Global, seed: &mut u32) -> Vec<u8> {
     let mut text = Vec::new(alloc);
     for _ in 0..=roll(seed) % 4 {
-        put(&mut text, part(roll(seed) % 64));
+        let row = roll(seed) % 64;
+        if let Some(part) = PARTS.split(LINE).nth(row + 1) {
+            put(&mut text, part.as_bytes());
+        }
     }
     text
 }
@@ -127,20 +122,12 @@ fn is_as_before(alloc: Global, session: &Session, course: &Course) -> bool {
     }
 }
 
-/// Runs a string that is made, at once or after a refusal.
-fn answer_to_made(alloc: Global, session: &mut Session, seed: &mut u32) -> Answer {
-    let text = made(alloc, seed);
-    let mut term = wide_screen(alloc);
-    match ran(session, &text, 200, &mut term) {
-        Answer::NotBegun => ran(session, &text, 200, &mut term),
-        answer => answer,
-    }
-}
-
-/// Runs a string. The state after it is kept; where it is not begun, the state stays.
+/// Runs a string that is made. The state after it is kept; where it is not begun, the state stays.
 fn runs(alloc: Global, session: &mut Session, course: &mut Course) -> bool {
     let stay = session.cursor().saturating_add(1);
-    let answer = answer_to_made(alloc, session, &mut course.seed);
+    let text = made(alloc, &mut course.seed);
+    let mut term = wide_screen(alloc);
+    let answer = ran_at_last(session, &text, 200, &mut term);
     let is_kept = !matches!(answer, Answer::Ended(_)) || keep(alloc, session, course, stay);
     is_kept && is_as_before(alloc, session, course)
 }

@@ -16,6 +16,19 @@ pub(crate) fn ran(session: &mut Session, text: &[u8], limit: u64, term: &mut Scr
     session.run(text, limit, term)
 }
 
+/// Runs a string, at once or after a refusal.
+pub(crate) fn ran_at_last(
+    session: &mut Session,
+    text: &[u8],
+    limit: u64,
+    term: &mut Screen,
+) -> Answer {
+    match ran(session, text, limit, term) {
+        Answer::NotBegun => ran(session, text, limit, term),
+        answer => answer,
+    }
+}
+
 /// The code by which a redo or an undo is refused, if it is.
 pub(crate) fn turned(session: &mut Session, forth: bool) -> Option<Code> {
     if forth {
@@ -181,9 +194,8 @@ fn session_of(alloc: Global, over: &Over) -> Option<Session> {
 
 /// Whether a trial holds in a new session.
 pub(crate) fn holds_once<T: Trial>(alloc: Global, over: &Over, trial: &T) -> bool {
-    let mut term = wide_screen(alloc);
     match session_of(alloc, over) {
-        Some(mut session) => trial.holds(alloc, &mut session, &mut term),
+        Some(mut session) => trial.holds(alloc, &mut session, &mut wide_screen(alloc)),
         None => false,
     }
 }
@@ -210,15 +222,17 @@ fn plays(alloc: Global, script: &str) -> bool {
     holds_in(alloc, &over, &Script { rows, typed, noted })
 }
 
+static TABLES: [&str; 4] = [
+    records::SCRIPTS,
+    breaks::SCRIPTS,
+    exits::SCRIPTS,
+    failing_terminals::SCRIPTS,
+];
+
 /// Tries each script of a table, which begins with `over`.
 #[test]
 fn requests_are_answered(rt: HostRuntime) {
-    for table in [
-        records::SCRIPTS,
-        breaks::SCRIPTS,
-        exits::SCRIPTS,
-        failing_terminals::SCRIPTS,
-    ] {
+    for table in &TABLES {
         for script in table.split("\n    over") {
             assert_of(&rt, script, script.is_empty() || plays(rt.alloc(), script));
         }

@@ -5,28 +5,32 @@ use std::io::{self, Write};
 use teco_terminal::{MemorySink, MemoryTerminal, Terminal, WriterTerminal};
 
 /// Whether a put is done; one that is refused adds nothing, and the same put can be tried again.
-fn puts_again(terminal: &mut MemoryTerminal, bytes: &[u8], before: &[u8]) -> bool {
-    terminal.put(bytes).is_ok() || are(terminal.bytes(), before) && terminal.put(bytes).is_ok()
+fn puts_again(terminal: &mut MemoryTerminal, bytes: &[u8]) -> bool {
+    let before = terminal.bytes().len();
+    terminal.put(bytes).is_ok() || terminal.bytes().len() == before && terminal.put(bytes).is_ok()
 }
 
 /// Whether what was shown is handed over, and the terminal then begins anew.
 fn keeps(terminal: &mut MemoryTerminal) -> bool {
-    let kept = puts_again(terminal, b"1", b"")
-        && puts_again(terminal, b"", b"1")
-        && puts_again(terminal, b"=23456789012345\r\n", b"1")
-        && are(terminal.bytes(), b"1=23456789012345\r\n");
+    let mut held = true;
+    for bytes in ["1", "", "=23456789012345\r\n"] {
+        held = puts_again(terminal, bytes.as_bytes()) && held;
+    }
     let taken = terminal.take();
-    kept && are(&taken, b"1=23456789012345\r\n")
-        && puts_again(terminal, b"2", b"")
+    held && are(&taken, b"1=23456789012345\r\n")
+        && puts_again(terminal, b"2")
         && are(terminal.bytes(), b"2")
 }
 
 /// Whether `hi` and then `!` are put, where a growth that is refused the first time isn't the second, and each is flushed.
 fn flushes_each(terminal: &mut WriterTerminal<MemorySink>) -> bool {
-    (terminal.put(b"hi").is_ok() || terminal.put(b"hi").is_ok())
-        && are(terminal.sink().flushed(), b"hi")
-        && (terminal.put(b"!").is_ok() || terminal.put(b"!").is_ok())
-        && are(terminal.sink().flushed(), b"hi!")
+    let mut held = true;
+    for (bytes, flushed) in [("hi", "hi"), ("!", "hi!")] {
+        let bytes = bytes.as_bytes();
+        let is_put = terminal.put(bytes).is_ok() || terminal.put(bytes).is_ok();
+        held = is_put && are(terminal.sink().flushed(), flushed.as_bytes()) && held;
+    }
+    held
 }
 
 #[test]
@@ -99,17 +103,15 @@ static ROWS: [Row<'static>; 5] = [
 /// Whether `hello` and then `!` are put as the row says on a terminal over its writer.
 fn takes(row: &Row) -> bool {
     let (left, fault, hello, mark, taken, shown) = *row;
-    let mut writer = Narrow {
+    let mut terminal = WriterTerminal::new(Narrow {
         taken: [0; 8],
         len: 0,
         shown: 0,
         left,
         fault,
-    };
-    let put = {
-        let mut terminal = WriterTerminal::new(&mut writer);
-        terminal.put(b"hello").is_ok() == hello && terminal.put(b"!").is_ok() == mark
-    };
+    });
+    let put = terminal.put(b"hello").is_ok() == hello && terminal.put(b"!").is_ok() == mark;
+    let writer = terminal.sink();
     put && are(&writer.taken[..writer.len.min(8)], taken.as_bytes())
         && are(&writer.taken[..writer.shown.min(8)], shown.as_bytes())
 }

@@ -3,30 +3,31 @@ use super::Streams;
 use crate::tests::rows::all_hold;
 use std::test::*;
 
-/// A page does not tell the byte 13 of a line end.
-static PAGES: [&str; 10] = [
-    tour::EXAMPLES,
-    man_page::EXAMPLES,
-    cookbook_replacing::EXAMPLES,
-    cookbook_lines::EXAMPLES,
-    cookbook_columns_and_fields::EXAMPLES,
-    cookbook_paragraphs::EXAMPLES,
-    cookbook_numbers::EXAMPLES,
-    cookbook_macros_and_bytes::EXAMPLES,
-    cookbook_pages::EXAMPLES,
-    cookbook_looking_and_taking_back::EXAMPLES,
-];
+/// The pages, and then tables of pages. Past the last there are no rows. An array of them would cost the proof more.
+fn page(at: usize) -> &'static str {
+    match at {
+        0 => tour::EXAMPLES,
+        1 => man_page::EXAMPLES,
+        2 => cookbook_replacing::EXAMPLES,
+        3 => cookbook_lines::EXAMPLES,
+        4 => cookbook_columns_and_fields::EXAMPLES,
+        5 => cookbook_paragraphs::EXAMPLES,
+        6 => cookbook_numbers::EXAMPLES,
+        7 => cookbook_macros_and_bytes::EXAMPLES,
+        8 => cookbook_pages::EXAMPLES,
+        9 => cookbook_looking_and_taking_back::EXAMPLES,
+        10 => reference::EXAMPLES,
+        11 => macros::EXAMPLES,
+        _ => "",
+    }
+}
 
-/// A table does not tell what is between the words that are typed.
-static TABLES: [&str; 2] = [reference::EXAMPLES, macros::EXAMPLES];
-
+/// A page does not tell the byte 13 of a line end, and a table not what is between the words that are typed.
 #[test]
 fn pages_tell_what_is_typed_and_written(rt: HostRuntime) {
-    for page in &PAGES {
-        all_hold(&rt, rt.alloc(), &Streams(b"\r"), page);
-    }
-    for table in &TABLES {
-        all_hold(&rt, rt.alloc(), &Streams(b"\r\n "), table);
+    for at in 0..32 {
+        let untold: &[u8] = if at < 10 { b"\r" } else { b"\r\n " };
+        all_hold(&rt, rt.alloc(), &Streams(untold), page(at));
     }
 }
 

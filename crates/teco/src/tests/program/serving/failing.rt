@@ -1,7 +1,7 @@
 //! Streams on a terminal that fails after so many bytes, and from a source that does.
 use super::{served_by, source_of};
-use crate::tests::assert_of;
 use crate::tests::bytes::{Screen, are, put, screen_of, shown_on};
+use crate::tests::rows::{Rule, all_hold, cells_of};
 use crate::tests::session::requests::{Over, Trial, holds_in, holds_once, ran, turned};
 use crate::tests::store::states::{is_seen, seen};
 use std::alloc::Global;
@@ -13,18 +13,16 @@ use teco_session::Session;
 /// Three pages.
 const INPUT: &[u8] = b"a\x0cb\x0cc";
 
-/// A stream over the three pages, where `$` is ESC, and what it types.
-type Row<'a> = (&'a str, &'a str);
-
-static ROWS: [Row; 7] = [
-    ("1=2=$$", "1\r\n2\r\n"),
-    ("Ihello$0J3C.=$${$$.=Z=$$", "3\r\n0\r\n0\r\n"),
-    ("Iab$3D$${$$}$$HT.=$$", "?DTB\r\nab2\r\n"),
-    ("Icat$0J@FS/a/oa/HT$$HT.=$$", "coatcoat3\r\n"),
-    ("YNc$$HT.=$${$$.=Z=$$", "c1\r\n1\r\n1\r\n"),
-    ("Iaaaa$0J<Saa$;%A$>$$12~$$QA=.=$$", "2\r\n4\r\n"),
-    ("3{$$2}$$1=$$~$$}$$", "?NTU\r\n?NTR\r\n1\r\n?NTR\r\n"),
-];
+/// Streams over the three pages, where `$` is ESC, and what they type.
+const ROWS: &str = "
+    1=2=$$ => 1\r\n2\r\n
+    Ihello$0J3C.=$${$$.=Z=$$ => 3\r\n0\r\n0\r\n
+    Iab$3D$${$$}$$HT.=$$ => ?DTB\r\nab2\r\n
+    Icat$0J@FS/a/oa/HT$$HT.=$$ => coatcoat3\r\n
+    YNc$$HT.=$${$$.=Z=$$ => c1\r\n1\r\n1\r\n
+    Iaaaa$0J<Saa$;%A$>$$12~$$QA=.=$$ => 2\r\n4\r\n
+    3{$$2}$$1=$$~$$}$$ => ?NTU\r\n?NTR\r\n1\r\n?NTR\r\n
+    ";
 
 fn undo_strings(session: &mut Session, count: usize) {
     for _ in 0..count {
@@ -48,13 +46,6 @@ impl Trial for WholeSteps<'_> {
     }
 }
 
-/// Whether a session has the state of its whole steps, and the first one once all is undone.
-fn is_left(alloc: Global, session: &mut Session, first: &[u8]) -> bool {
-    let has_whole_steps = holds_once(alloc, &Over::new(INPUT), &WholeSteps(session));
-    undo_strings(session, session.cursor());
-    has_whole_steps && is_seen(alloc, session.editor(), first)
-}
-
 /// Whether a serving on a terminal that takes so many bytes shows those of what is to be typed, and ends so.
 fn is_shown(
     alloc: Global,
@@ -73,27 +64,21 @@ fn is_shown(
         && are(shown_on(&term), &typed[..room.min(typed.len())])
 }
 
-/// A row, on a terminal that takes so many bytes.
+/// A stream and what it types, on a terminal that takes so many bytes.
 #[derive(Clone, Copy)]
-struct Shown<'a>(Row<'a>, usize);
+struct Shown<'a>(&'a [u8], &'a [u8], usize);
 
 impl Trial for Shown<'_> {
+    /// The session then has the state of its whole steps, and the first one once all is undone.
     fn holds(&self, alloc: Global, session: &mut Session, _term: &mut Screen) -> bool {
-        let Shown((stream, typed), room) = *self;
+        let Shown(stream, typed, room) = *self;
         let first = seen(alloc, session.editor());
-        let mut source = source_of(alloc, stream.as_bytes(), false, false);
-        is_shown(alloc, &mut source, session, typed.as_bytes(), room)
-            && is_left(alloc, session, &first)
+        let mut source = source_of(alloc, stream, false, false);
+        let is_so = is_shown(alloc, &mut source, session, typed, room)
+            && holds_once(alloc, &Over::new(INPUT), &WholeSteps(session));
+        undo_strings(session, session.cursor());
+        is_so && is_seen(alloc, session.editor(), &first)
     }
-}
-
-/// Whether the row is shown up to the place where the terminal fails, wherever that is.
-fn each_put_fails(alloc: Global, row: &Row) -> bool {
-    let mut held = true;
-    for room in 0..=row.1.len() {
-        held = holds_in(alloc, &Over::new(INPUT), &Shown(*row, room)) && held;
-    }
-    held
 }
 
 /// The state that is left by these bytes in single bytes, or as one piece before a failed read, and what is typed behind it. It is empty
@@ -141,13 +126,24 @@ impl Trial for Failed<'_> {
     }
 }
 
-/// Whether what comes before the failed read is served, wherever that is.
-fn each_read_fails(alloc: Global, stream: &[u8]) -> bool {
-    let mut held = true;
-    for read in 0..=stream.len() {
-        held = holds_in(alloc, &Over::new(INPUT), &Failed(&stream[..read])) && held;
+#[derive(Clone, Copy)]
+struct Failures;
+
+impl Rule for Failures {
+    /// A beginning is shown where a put fails, and what comes before a failed read is served, wherever that is.
+    fn holds(&self, alloc: Global, row: &str) -> bool {
+        let [stream, typed, ..] = cells_of(row);
+        let (stream, typed) = (stream.as_bytes(), typed.as_bytes());
+        let over = Over::new(INPUT);
+        let mut held = true;
+        for room in 0..=typed.len() {
+            held = holds_once(alloc, &over, &Shown(stream, typed, room)) && held;
+        }
+        for read in 0..=stream.len() {
+            held = holds_once(alloc, &over, &Failed(&stream[..read])) && held;
+        }
+        held
     }
-    held
 }
 
 /// Each request is done before the next read: where the first cannot be shown, the byte after it is still to come.
@@ -165,13 +161,9 @@ impl Trial for Unread {
     }
 }
 
-/// A beginning is shown where a put fails, what came before a failed read is served, and nothing is read further than is shown.
+/// And nothing is read further than is shown.
 #[test]
 fn serves_up_to_a_failure(rt: HostRuntime) {
-    let alloc = rt.alloc();
-    for row in &ROWS {
-        let held = each_put_fails(alloc, row) && each_read_fails(alloc, row.0.as_bytes());
-        assert_of(&rt, row.0, held);
-    }
-    assert!(rt; holds_in(alloc, &Over::new(b""), &Unread));
+    all_hold(&rt, rt.alloc(), &Failures, ROWS);
+    assert!(rt; holds_in(rt.alloc(), &Over::new(b""), &Unread));
 }

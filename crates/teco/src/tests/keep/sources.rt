@@ -1,10 +1,7 @@
 //! Sources, and the bytes that they stand for.
-use super::rows::{Wanted, all_make};
-use std::test::*;
-use teco_keep::Mode;
 
 /// A source and its bytes.
-const READ: &str = "
+pub(super) const READ: &str = "
     - // A TAB, a blank and CR are a margin, and nothing at the end of a line.
     - Y<\n\tFSa$b$;>EX$$\n => Y<FSa\x1bb\x1b;>EX\x1b\x1b
     - Y<\n  FSa$b$;> \t\n\r\t EX$$ => Y<FSa\x1bb\x1b;>EX\x1b\x1b
@@ -42,7 +39,7 @@ const READ: &str = "
     - EX$$ \t\r => EX\x1b\x1b";
 
 /// A source, and the place of the first caret that can't be read.
-const UNREADABLE: &str = "
+pub(super) const UNREADABLE: &str = "
     - a\n^7 => 2
     - ^ => 0
     - ab^ => 2
@@ -50,16 +47,3 @@ const UNREADABLE: &str = "
     - ^ a^b => 0
     - ^~^~^~^# => 6
     - !!^7\n ^7^8 => 6";
-
-#[test]
-fn a_source_is_read(rt: HostRuntime) {
-    all_make(&rt, rt.alloc(), Mode::Bytes, false, Wanted::Fine, READ);
-    all_make(
-        &rt,
-        rt.alloc(),
-        Mode::Bytes,
-        false,
-        Wanted::Unreadable,
-        UNREADABLE,
-    );
-}

@@ -1,10 +1,7 @@
 //! Listings of bytes, and of what a source stands for.
-use super::rows::{Wanted, all_make};
-use std::test::*;
-use teco_keep::Mode;
 
 /// Bytes and their listing.
-const LISTED: &str = "
+pub(super) const LISTED: &str = "
     - // What is short is on one line; of a block that is long the commands are further in. A text is not.
     - YHT\x1b\x1bEX\x1b\x1b => YHT$$EX$$\n
     - Y<J<FSone\x1btwo\x1b;>QA\"EIa much longer text\x1b|D'P>EX\x1b\x1b => Y<\n  J<FSone$two$;>QA\"E\n    Ia much longer text$\n  |\n    D\n  '\n  P\n>\nEX$$\n
@@ -23,16 +20,9 @@ const LISTED: &str = "
     - Ia\n  b\n\n\x1b => Ia^J\n  b^J\n^J\n$\n";
 
 /// The same with words: each command is on a line, with what it does from a column on.
-const WORDED: &str = "
+pub(super) const WORDED: &str = "
     - YHT\x1b\x1b => Y                                        !!Y  reads the next page into an empty buffer\nHT$$                                     !!nT  types to the nth line after, or with m,nT between two places\n";
 
 /// The same of a source, whose own comments are left out.
-const AGAIN: &str = "
+pub(super) const AGAIN: &str = "
     - Y\nHT$$ !!all of it\n => Y                                        !!Y  reads the next page into an empty buffer\nHT$$                                     !!nT  types to the nth line after, or with m,nT between two places\n";
-
-#[test]
-fn bytes_are_listed(rt: HostRuntime) {
-    all_make(&rt, rt.alloc(), Mode::Listing, false, Wanted::Fine, LISTED);
-    all_make(&rt, rt.alloc(), Mode::Listing, true, Wanted::Fine, WORDED);
-    all_make(&rt, rt.alloc(), Mode::Again, true, Wanted::Fine, AGAIN);
-}

@@ -1,4 +1,5 @@
 //! Sentences that a check tells of large commands alone.
+use crate::tests::assert_of;
 use std::alloc::Global;
 use std::test::*;
 use teco_advice::{FaultIn, Remark, What, check, report, show_remark};
@@ -59,7 +60,7 @@ fn a_sentence_is_told(rt: HostRuntime) {
     let alloc = rt.alloc();
     for row in &SENTENCES {
         let held = is_told(alloc, row) == Ok(true) || is_told(alloc, row) == Ok(true);
-        super::assert_of(&rt, row.0, held);
+        assert_of(&rt, row.0, held);
     }
     assert!(rt; ends_there(alloc) == Ok(true) || ends_there(alloc) == Ok(true));
 }

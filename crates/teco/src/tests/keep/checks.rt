@@ -1,10 +1,7 @@
 //! What a check tells of a source: each sentence of a fault and of a hint, and its place in the source.
-use super::rows::{Wanted, all_make};
-use std::test::*;
-use teco_keep::Mode;
 
 /// A source with a fault, and the lines that tell of it.
-const FAULTS: &str = "
+pub(super) const FAULTS: &str = "
     - // No command, and modifiers that a command doesn't take.
     - Y\n\t{J$$ => -:2:2: ILL: no command begins with {\n
     - E9$$ => -:1:1: ILL: no command begins with E9\n
@@ -70,7 +67,7 @@ const FAULTS: &str = "
     - ^~b {$$ => -:1:1: ILL: ^B of TECO-11 is left out: it gives the date; here: leave it out\n-:1:5: ILL: no command begins with {\n";
 
 /// A source without a fault, and the lines of its hints.
-const HINTS: &str = "
+pub(super) const HINTS: &str = "
     - // Nothing is told of a source that reads a page and writes it, nor of requests.
     - Y$$ 2{$$ }$$ 12~$$\nEX$$ =>\x20
     -  =>\x20
@@ -99,33 +96,5 @@ const HINTS: &str = "
     - 1= => -:1:3: hint: this is not run: two ESC end a command string\n-:1:3: hint: no page is read: Y reads the first\n-:1:3: hint: no EX: nothing is written\n";
 
 /// Bytes and what is told of them: the places are those of the bytes.
-const BYTES: &str = "
+pub(super) const BYTES: &str = "
     - Y\nEX>\x1b\x1b => -:2:3: BNI: > has no <\n";
-
-#[test]
-fn a_check_tells(rt: HostRuntime) {
-    all_make(
-        &rt,
-        rt.alloc(),
-        Mode::CheckSource,
-        false,
-        Wanted::Faulty,
-        FAULTS,
-    );
-    all_make(
-        &rt,
-        rt.alloc(),
-        Mode::CheckSource,
-        false,
-        Wanted::Fine,
-        HINTS,
-    );
-    all_make(
-        &rt,
-        rt.alloc(),
-        Mode::CheckBytes,
-        false,
-        Wanted::Faulty,
-        BYTES,
-    );
-}

@@ -1,0 +1,34 @@
+//! Runs of `tecol` over files in memory, as rows of the runs of a program.
+
+pub(crate) const ROWS: &str = "
+    - // From a file and from standard input, to standard output and to a file.
+    - tecol in => => Y<FSa\x1bb\x1b;>EX\x1b\x1b => => => => in == Y<\n\tFSa$b$;>EX$$\n
+    - tecol => Y<\n\tFSa$b$;>EX$$\n => Y<FSa\x1bb\x1b;>EX\x1b\x1b
+    - tecol --output=- - => Y<\n\tFSa$b$;>EX$$\n => Y<FSa\x1bb\x1b;>EX\x1b\x1b
+    - tecol -o out in => => => => => => in == Y<\n\tFSa$b$;>EX$$\n ++ out == old => in == Y<\n\tFSa$b$;>EX$$\n ++ out == Y<FSa\x1bb\x1b;>EX\x1b\x1b
+    - // Over its own input.
+    - tecol -o in in => => => => => => in == Y<\n\tFSa$b$;>EX$$\n => in == Y<FSa\x1bb\x1b;>EX\x1b\x1b
+    - // Back, with the name of the input in no line.
+    - tecol --reverse in => => YHT$$\n => => => => in == YHT\x1b\x1b
+    - tecol --version => => tecol 0.2.0\n
+    - // What is told of commands goes to the output; where a caret can't be read it goes to standard error, and nothing is written.
+    - tecol --check in => => => => => => in == Y<\n\tFSa$b$;>EX$$\n
+    - tecol -c in => => in:2:1: BNI: > has no <\n => => => 2 => in == Y$$\n>EX$$
+    - tecol -cr -o out => Y\n>EX\x1b\x1b => => => => 2 => out == old => out == -:2:1: BNI: > has no <\n
+    - tecol -o out in => => => in:2:1: a caret before what it cannot stand before\n => => 2 => in == EX$$\n^7\n ++ out == old
+    - tecol -c => EX^ => => -:1:3: a caret before what it cannot stand before\n => => 2
+    - // A listing of bytes has no such place.
+    - tecol -r in => => EX^$^$^J\n^~7^J\n => => => => in == EX$$\n^7\n
+    - // A faulty line, of which nothing is done.
+    - tecol -c -w -o out in => => => error: the argument '--check' cannot be used with '--words'\n\nUsage: tecol [OPTIONS] [FILE]\n\nFor more information, try '--help'.\n => => 3 => in == Y<\n\tFSa$b$;>EX$$\n ++ out == old
+    - tecol in out => => => error: unexpected argument 'out' found\n\nUsage: tecol [OPTIONS] [FILE]\n\nFor more information, try '--help'.\n => => 3 => in == Y<\n\tFSa$b$;>EX$$\n ++ out == old
+    - // An input that can't be read, and an output that can't be written: what was there stays.
+    - tecol in => => => tecol: cannot read in\n => => 1
+    - tecol in => => => tecol: cannot read in\n => => 1 => in == Y<\n\tFSa$b$;>EX$$\n => => read
+    - tecol -o out in => => => tecol: cannot write out\n => => 1 => in == Y<\n\tFSa$b$;>EX$$\n ++ out == old => => make
+    - tecol -o out in => => => tecol: cannot write out\n => => 1 => in == Y<\n\tFSa$b$;>EX$$\n ++ out == old => => write
+    - tecol -o out in => => => tecol: cannot write out\n => => 1 => in == Y<\n\tFSa$b$;>EX$$\n ++ out == old => => sync
+    - tecol -o out in => => => tecol: cannot write out\n => => 1 => in == Y<\n\tFSa$b$;>EX$$\n ++ out == old => => rename
+    - // An output that can't be shown, and words that were refused memory.
+    - tecol => EX$$ => => tecol: cannot write -\n => => 1 => => => shown
+    - tecol => EX$$ => => tecol: no memory\n => => 1 => => => words";
