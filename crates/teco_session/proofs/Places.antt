@@ -1,5 +1,5 @@
 -- Strings, as their entries lie in a vector or a ring.
-use Rattle.std.proofs.Common.{◌≡◌, ℕ, ◌-◌, ◌<◌, List, [], ◌∷◌, ◌++◌, Option, Some, length, take, drop, map, get_or, set, sym, ◌∙◌, ap, arith}
+use Rattle.std.proofs.Common.{◌≡◌, ℕ, ◌-◌, ◌<◌, List, [], ◌∷◌, ◌++◌, Option, Some, None, length, take, drop, map, get_or, set, sym, ◌∙◌, ap, arith}
 use Rattle.std.proofs.lemmas.List.{get_or-map, map-set, map-append, take-map, drop-map, length-map}
 use Rattle.circular_buffer.specs.Buffer.{keep_last}
 use Rattle.teco_session.specs.Kept.{KeptString, entry_at, newest}
@@ -30,3 +30,9 @@ strings_kept depth d xs vs ws v ed e k =
     ap (map kept_string) k ∙ sym (drop-map kept_string (length (vs ++ v ∷ []) - depth) (vs ++ v ∷ []))
     ∙ ap (λ n. drop (n - depth) (map kept_string (vs ++ v ∷ []))) (sym (length-map (vs ++ v ∷ []) kept_string))
     ∙ ap (newest (Some depth)) all ∙ ap (λ (o : Option ℕ). newest o (xs ++ kept_string v ∷ [])) (sym ed)
+
+-- With no depth an entry that is noted is one more.
+pub strings_grown : (d : Option ℕ) (xs : List KeptString) (vs ws : List Entry) (v : Entry) → d ≡ None → xs ≡ map kept_string vs → ws ≡ vs ++ v ∷ [] → map kept_string ws ≡ newest d (xs ++ kept_string v ∷ [])
+strings_grown d xs vs ws v ed e k =
+    ap (map kept_string) k ∙ map-append kept_string vs (v ∷ []) ∙ ap (λ (ys : List KeptString). ys ++ kept_string v ∷ []) (sym e)
+    ∙ ap (λ (o : Option ℕ). newest o (xs ++ kept_string v ∷ [])) (sym ed)
