@@ -6,6 +6,7 @@ ghost use Rattle.teco_source.specs.Places.{waiting, bytes_begun};
 
 use std::alloc::Global;
 use teco_core::NoMemory;
+use thiserror::Error;
 
 /// Where in a line of a source a reader is.
 #[derive(Clone, Copy)]
@@ -31,11 +32,13 @@ pub enum Mode {
 }
 
 /// Why a source is not read.
-#[derive(Clone, Copy)]
+#[derive(Clone, Copy, Debug, Drop, Error)]
 pub enum SourceFault {
     /// The caret at this place stands before what it cannot stand before. The place counts the bytes before it.
+    #[error("a caret before what it cannot stand before")]
     Caret(usize),
     /// Memory was refused for the commands.
+    #[error("no memory")]
     Memory,
 }
 
