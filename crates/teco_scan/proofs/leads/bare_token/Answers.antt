@@ -1,4 +1,4 @@
-use Rattle.std.proofs.Common.{drop, ◌+◌, sym, ap, ◌∙◌, refl}
+use Rattle.std.proofs.Common.{sym, ap, ◌∙◌, refl}
 use Rattle.teco_scan.specs.Scan.{operand_at}
 use Rattle.teco_scan.specs.Seen.{found_in}
 use Rattle.teco_scan.proofs.Places.{scan_found}
