@@ -9,7 +9,7 @@ ghost use Rattle.teco_program.specs.Ending.{said};
 ghost use Rattle.teco_program.specs.Exchange.{HasRung};
 ghost use Rattle.teco_program.specs.Refusing.{Tells};
 ghost use Rattle.teco_program.specs.Run.{Concludes, IsFaultIn, IsLineIn};
-ghost use Rattle.teco_program.specs.Runs.{EditsBy, EditsByFile, Runs, RunsOrChecks, host, host_view, is_streamed};
+ghost use Rattle.teco_program.specs.Runs.{EditsBy, Runs, RunsOrChecks, host, host_view, is_streamed};
 ghost use Rattle.teco_program.specs.Seen.{disk_seen, source_view};
 
 use crate::alarm::Alarm;
@@ -28,37 +28,6 @@ use teco_terminal::Terminal;
 
 /// What is told where memory is refused to the program.
 const NO_MEMORY: &[u8] = b"teco: no memory\n";
-
-/// Edits the input of the line by the commands that are in this file.
-fn edit_by_file<S: Source, A: Alarm, T: Terminal, L: Listens, D: Disk>(
-    alloc: Global,
-    line: &Line,
-    file: &str,
-    number: u32,
-    commands: &mut S,
-    alarm: &mut A,
-    term: &mut T,
-    listener: &mut L,
-    disk: &mut D,
-) -> Fate
-    requires depth { IfSome line.now.undo IsDepth }
-    ensures { let view = host_view (disk_seen D.files D.streams D.left D.gave D.changed
-        (source_view D.Input.coming D.Input.bound D.Input.failures D.Input.ended))
-        (source_view S.coming S.bound S.failures S.ended) T.screen
-        (source_view ⟦<WordSource as Source>⟧.coming ⟦<WordSource as Source>⟧.bound
-        ⟦<WordSource as Source>⟧.failures ⟦<WordSource as Source>⟧.ended) (HasRung A.answered) in
-        EditsByFile view line.now (string_bytes line.now.input) file.now (host disk.old commands.old term.old)
-        (host disk.new commands.new term.new) result }
-{
-    let mut given = match disk.open(file) {
-        Ok(given) => given,
-        Err(error) => return fate_of(error, Fate::NoCommands),
-    };
-    let name = line.input.as_str();
-    edit_input(
-        alloc, line, name, number, &mut given, commands, alarm, term, listener, disk,
-    )
-}
 
 /// Edits the input of the line by commands as they come: those on standard input, or those of a file.
 fn edit_by_line<S: Source, A: Alarm, T: Terminal, L: Listens, D: Disk>(
@@ -94,8 +63,12 @@ fn edit_by_line<S: Source, A: Alarm, T: Terminal, L: Listens, D: Disk>(
                     alloc, line, name, number, commands, alarm, term, listener, disk,
                 );
             }
-            edit_by_file(
-                alloc, line, file, number, commands, alarm, term, listener, disk,
+            let mut given = match disk.open(file) {
+                Ok(given) => given,
+                Err(error) => return fate_of(error, Fate::NoCommands),
+            };
+            edit_input(
+                alloc, line, name, number, &mut given, commands, alarm, term, listener, disk,
             )
         }
         Commands::Sources(..) | Commands::Pages(_) => unreachable!(),

@@ -1,13 +1,27 @@
-use Rattle.std.proofs.Common.{ℕ, List, ◌∙◌, ap, inr, subst}
+use Rattle.std.proofs.Common.{◌≡◌, ◌∙◌, ℕ, List, ap, false, inl, inr, refl, subst, sym}
+use Rattle.std.specs.String.{string_bytes}
 use Rattle.teco_line.specs.StreamNames.{is_standard_input}
 use Rattle.teco_program.specs.Exchange.{HasRung}
 use Rattle.teco_program.specs.Run.{Edits, KeepsDisk, input_from, named_input, standard_input}
 use Rattle.teco_program.specs.Seen.{commands_seen, disk_seen, run_seen, source_view}
 use Rattle.teco_program.proofs.Doings.{edits_from}
-use Rattle.teco_program.proofs.running.edit_by_file.Goals as goal
+use Rattle.teco_program.proofs.running.edit_by_line.Goals as goal
 
-pub returns : goal.returns
-returns g c =
+pub returns-in-Err : goal.returns-in-Err
+returns-in-Err g c =
+    let apart : is_standard_input (string_bytes c.in-Bytes.file) ≡ false = ap is_standard_input (sym c.as_str-file.ensures.value) ∙ (sym c.is_standard_input.ensures ∙ c.if-is_standard_input.false) in
+    rw (c.in-Bytes.is, apart) (record {
+      kept = λ other. refl;
+      edits = inl (
+        c.in-Err.error,
+        c.in-Err.ensures.error,
+        c.fate_of.ensures,
+        (refl, record { files = c.open.ensures.files; streams = c.open.ensures.streams; moments = c.open.ensures.moments }),
+      );
+    })
+
+pub returns-in-Ok : goal.returns-in-Ok
+returns-in-Ok g c =
     let seen = disk_seen g.D.Disk.files g.D.Disk.streams g.D.Disk.left g.D.Disk.gave g.D.Disk.changed
     (source_view g.D.Input.Source.coming g.D.Input.Source.bound g.D.Input.Source.failures g.D.Input.Source.ended) in
     let stream = standard_input (source_view g.S.Source.coming g.S.Source.bound g.S.Source.failures g.S.Source.ended) c.args.commands.now c.edit_input.new.stream in
@@ -22,13 +36,14 @@ returns g c =
     } in
     let name = c.as_str-name.result.now in
     let named = c.as_str-name.ensures.value in
-    record {
-      kept = λ apart. c.edit_input.ensures.still (ap is_standard_input named ∙ apart);
+    let apart : is_standard_input (string_bytes c.in-Bytes.file) ≡ false = ap is_standard_input (sym c.as_str-file.ensures.value) ∙ (sym c.is_standard_input.ensures ∙ c.if-is_standard_input.false) in
+    rw (c.in-Bytes.is, apart) (record {
+      kept = λ other. c.edit_input.ensures.still (ap is_standard_input named ∙ other);
       edits = inr (
         c.in-Ok.given,
         c.edit_input.new.commands,
-        c.in-Ok.ensures.input,
+        rw c.as_str-file.ensures.value at c.in-Ok.ensures.input,
         subst (λ (n : List ℕ). Edits c.args.line.now n (run_seen (input_from (is_standard_input n) stream (named_input old new n)) given old new g.T.Terminal.screen c.args.term.now c.edit_input.new.term) c.edit_input.result) named
             (edits_from old mid new kept stream name (is_standard_input name) c.args.line.now given g.T.Terminal.screen c.args.term.now c.edit_input.new.term c.edit_input.result c.edit_input.ensures.edits),
       );
-    }
+    })
