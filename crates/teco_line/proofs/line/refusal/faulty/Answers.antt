@@ -1,4 +1,4 @@
-use Rattle.std.proofs.Common.{◌≡◌, ◌∙◌, ◌++◌, ◌∷◌, [], ap, append_assoc, refl, sym}
+use Rattle.std.proofs.Common.{◌∙◌, ◌++◌, ◌∷◌, [], ap, append_assoc, refl, sym}
 use Rattle.std.specs.Prelude.{Some, codes}
 use Rattle.teco_line.proofs.line.refusal.faulty.Goals as goal
 
