@@ -173,7 +173,7 @@ fn step_digits<D: Desk, S: Stop, T: Terminal, W: Watch>(
     step_any(desk, cursor, steps, stop, term)
 }
 
-/// Does the step of a token that begins at a place, by the form of the command that its first byte alone names.
+/// Does the step of a token that begins at a place, whatever its first byte is.
 #[inline(never)]
 fn step_other<D: Desk, S: Stop, T: Terminal>(
     desk: &mut D,
@@ -187,30 +187,8 @@ fn step_other<D: Desk, S: Stop, T: Terminal>(
     ensures { StepsText D.Desk T.Terminal (S.answered stop.old) (S.answered stop.new)
         (desk.old, term.old, steps.old) (desk.new, term.new, steps.new) cursor.old cursor.new result }
 {
-    let (text, at) = (cursor.text, cursor.at);
-    match lead(text, at, from) {
-        Some(Form::Bare(command)) => {
-            let found = bare_token(text, at, from, command);
-            step_at(desk, cursor, &found, steps, stop, term)
-        }
-        Some(Form::Mark(mark)) => {
-            let found = mark_token(text, at, from, mark);
-            step_at(desk, cursor, &found, steps, stop, term)
-        }
-        Some(Form::Register(command)) => {
-            let known = register_token(text, at, from, command);
-            step_known(desk, cursor, known, steps, stop, term)
-        }
-        Some(Form::Text(command, usual)) => {
-            let known = text_token(text, at, from, command, usual);
-            step_known(desk, cursor, known, steps, stop, term)
-        }
-        Some(Form::Tag) => {
-            let known = tag_token(text, at, from);
-            step_known(desk, cursor, known, steps, stop, term)
-        }
-        _ => step_any(desk, cursor, steps, stop, term),
-    }
+    let known = known_at(cursor.text, cursor.at, from);
+    step_known(desk, cursor, known, steps, stop, term)
 }
 
 /// Does what [`step`] does, whatever comes.
