@@ -43,7 +43,7 @@ pub(crate) fn step<D: Desk, S: Stop, T: Terminal, W: Watch>(
     let from = filler_end(text, at);
     if from == text.len() {
         let found = end_found(text, at, from);
-        return step_at(desk, cursor, &found, steps, stop, term);
+        return step_found(desk, cursor, &found, steps, stop, term);
     }
     // What has no arm of its own takes longer, and is done as well. In a watched run nothing has one.
     let arm = if W::HAS_ARMS { text[from] } else { NO_ARM };
@@ -90,27 +90,9 @@ fn step_known<D: Desk, S: Stop, T: Terminal>(
         (desk.old, term.old, steps.old) (desk.new, term.new, steps.new) cursor.old cursor.new result }
 {
     match known {
-        Some(found) => step_at(desk, cursor, &found, steps, stop, term),
+        Some(found) => step_found(desk, cursor, &found, steps, stop, term),
         None => step_any(desk, cursor, steps, stop, term),
     }
-}
-
-/// Does the step of what was found.
-#[inline(always)]
-fn step_at<D: Desk, S: Stop, T: Terminal>(
-    desk: &mut D,
-    cursor: &mut Cursor,
-    found: &Found,
-    steps: &mut Steps,
-    stop: &mut S,
-    term: &mut T,
-) -> Flow
-    requires read { found_in cursor.old.text.now found.now ≡ scan (drop cursor.old.at cursor.old.text.now) }
-    requires place { IsFoundAt cursor.old.text.now cursor.old.at found.now }
-    ensures { StepsText D.Desk T.Terminal (S.answered stop.old) (S.answered stop.new)
-        (desk.old, term.old, steps.old) (desk.new, term.new, steps.new) cursor.old cursor.new result }
-{
-    step_found(desk, cursor, found, steps, stop, term)
 }
 
 /// Does the step of a token that begins at a place, of which this is the first byte: the code is made for just its command.
@@ -172,7 +154,7 @@ fn step_digits<D: Desk, S: Stop, T: Terminal, W: Watch>(
     let (text, at) = (cursor.text, cursor.at);
     if text[from].is_ascii_digit() {
         let found = digits_token(text, at, from);
-        return step_at(desk, cursor, &found, steps, stop, term);
+        return step_found(desk, cursor, &found, steps, stop, term);
     }
     step_any(desk, cursor, steps, stop, term)
 }
@@ -208,7 +190,7 @@ fn step_any<D: Desk, S: Stop, T: Terminal>(
         (desk.old, term.old, steps.old) (desk.new, term.new, steps.new) cursor.old cursor.new result }
 {
     let found = token_at(cursor.text, cursor.at);
-    step_at(desk, cursor, &found, steps, stop, term)
+    step_found(desk, cursor, &found, steps, stop, term)
 }
 
 /// The token that begins at a place, if its first byte alone names its command and what belongs to it follows.
