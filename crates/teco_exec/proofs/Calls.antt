@@ -1,5 +1,5 @@
 -- Texts that are called: how their copy begins, and what their end is to the text that called.
-use Rattle.std.proofs.Common.{◌≡◌, ℕ, true, false, is_some, ◌+◌, ◌<◌, ◌≤◌, List, ◌∷◌, length, Option, Some, None, MatchOption, refl, arith, ◌∙◌}
+use Rattle.std.proofs.Common.{◌≡◌, ℕ, true, false, is_some, ◌+◌, ◌<◌, ◌≤◌, List, ◌∷◌, length, Option, Some, None, refl, arith}
 use Rattle.teco_core.specs.Arguments.{Arguments}
 use Rattle.teco_core.specs.declared.code.Code.{Code}
 use Rattle.teco_store.specs.State.{State}
@@ -54,13 +54,3 @@ tells_call knows after P Q ending.Return done some t call = absurd cc
 tells_call knows after P Q ending.Over done some t call = absurd cc
 tells_call knows after P Q (ending.Fail code) done some t call = let r = call t.0 t.1 t.3 in (r.0, r.1, omega (arith, r.2, t.2), r.3)
 tells_call knows after P Q (ending.Stop code) done some t call = let r = call t.0 t.1 t.3 in (r.0, r.1, omega (arith, r.2, t.2), r.3)
-
--- A copy, of which the bytes are these, is short or long, and it is a copy of the text.
-module _ {A : Type 0} (items : A → List ℕ) (fits : Type 0) (text front : List ℕ) where
-  pub copy_fits : (long : Option A) → MatchOption long (fits × (front ≡ text)) (λ c. items c ≡ text) → MatchOption long fits (λ c. Unit {0})
-  copy_fits None h = h.0
-  copy_fits (Some c) h = tt
-
-  pub copy_same : (called : List ℕ) (long : Option A) → MatchOption long (fits × (front ≡ text)) (λ c. items c ≡ text) → MatchOption long (called ≡ front) (λ c. called ≡ items c) → called ≡ text
-  copy_same called None h is = is ∙ h.1
-  copy_same called (Some c) h is = is ∙ h

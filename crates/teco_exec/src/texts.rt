@@ -12,7 +12,7 @@ ghost use Rattle.teco_exec.specs.Quiet.{takes_no_memory};
 ghost use Rattle.teco_exec.specs.declared.flow.Exit.TheVariants as exit;
 
 use crate::blocks::{Block, Body};
-use crate::called::{SHORT_LIMIT, Spare, copied};
+use crate::called::{SHORT_LIMIT, Spare, copy_short};
 use crate::cursor::Cursor;
 use crate::dispatch::step;
 use crate::flow::{Exit, Flow, Steps};
@@ -208,22 +208,79 @@ fn run_called<D: Desk, S: Stop, T: Terminal, W: Watch>(
     }
     let text = desk.registers().text(q);
     let len = text.len();
+    if len <= SHORT_LIMIT {
+        let mut copy = [0; SHORT_LIMIT];
+        copy_short(text, &mut copy);
+        return run_copy(
+            desk,
+            q,
+            &copy[..len],
+            depth,
+            cursor,
+            at,
+            rooms,
+            steps,
+            spare,
+            stop,
+            term,
+            watch,
+        );
+    }
     let alloc = *desk.registers().value(q).text.allocator();
-    let mut short = [0; SHORT_LIMIT];
-    let long = match spare.copy(alloc, text, &mut short) {
-        Ok(long) => long,
+    match spare.copy(alloc, text) {
+        Ok(copy) => {
+            let exit = run_copy(
+                desk, q, &copy, depth, cursor, at, rooms, steps, spare, stop, term, watch,
+            );
+            spare.keep(copy);
+            exit
+        }
         Err(_) => {
             watch.stood(steps.done, at, cursor);
-            return Exit::Stop(Code::Mem);
+            Exit::Stop(Code::Mem)
         }
-    };
+    }
+}
+
+/// Counts the step that calls a text of which this is a copy, and runs it.
+#[cycle(run_text)]
+fn run_copy<D: Desk, S: Stop, T: Terminal, W: Watch>(
+    desk: &mut D,
+    q: Reg,
+    called: &[u8],
+    depth: usize,
+    cursor: &mut Cursor,
+    at: usize,
+    rooms: &mut [Room],
+    steps: &mut Steps,
+    spare: &mut Spare,
+    stop: &mut S,
+    term: &mut T,
+    watch: &mut W,
+) -> Exit
+    requires deep { depth ≤ CALL_LIMIT }
+    requires token { IsReadAt cursor.old.text.now at (Some (call_token q))
+        (cursor_of cursor.old).left }
+    requires within { at ≤ length cursor.old.text.now }
+    requires copy { called.now ≡ (content (D.state desk.old).registers q).text }
+    requires fuel { steps.old.done < steps.old.limit }
+    requires lets { S.answered stop.old steps.old.done false }
+    ensures text { cursor.new.text ≡ cursor.old.text }
+    ensures left { (cursor_of cursor.new).left ≡ (cursor_of cursor.old).left }
+    ensures counts { CountsSteps (S.answered stop.old) (S.answered stop.new) (result ≡ exit.Stop Lim)
+        steps.old steps.new }
+    ensures more { steps.old.done < steps.new.done }
+    ensures leads { RunLeadsAt D.Desk T.Terminal depth (desk.old, term.old, steps.old) (desk.new, term.new, steps.new)
+        (at_register_call cursor.old q) (λ callers. reached_after_call cursor.new callers result) }
+    ensures told { W.knows watch.old None → Tells (W.knows watch.new) result steps.new.done
+        (StandsFrom D.Desk T.Terminal depth (desk.old, term.old, steps.old) (at_register_call cursor.old q)) }
+{
     steps.count();
     desk.step_done(steps.done);
     if depth == CALL_LIMIT {
         watch.stood(steps.done - 1, at, cursor);
         return Exit::Fail(Code::Pdo);
     }
-    let called = copied(&long, &short, len);
     let exit = run_text(
         desk,
         called,
@@ -239,6 +296,5 @@ fn run_called<D: Desk, S: Stop, T: Terminal, W: Watch>(
     if exit.code().is_some() {
         watch.called(q, at, cursor);
     }
-    spare.keep(long);
     exit
 }

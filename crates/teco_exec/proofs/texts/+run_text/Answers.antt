@@ -2,18 +2,16 @@ use Rattle.std.proofs.Common.{◌≡◌, true, false, is_some, ◌<◌, ◌≤�
 use Rattle.std.proofs.lemmas.List.{length-drop}
 use Rattle.teco_core.specs.ArgumentsView.{arguments}
 use Rattle.teco_exec.specs.View.{cursor}
-use Rattle.teco_exec.specs.Running.{StandsFrom, Tells, at_cursor, at_register_call, at_return, code_left, goes, host, over, reached_after_call, stops}
+use Rattle.teco_exec.specs.Running.{at_cursor, at_return, code_left, goes, host, over, reached_after_call, stops}
 use Rattle.teco_exec.proofs.Continuations.{begins, caller, comes_home, less_left, too_deep}
-use Rattle.teco_exec.proofs.Calls.{copy_same, ends_around, enters_copy, tells_call, tells_nothing, tells_on}
+use Rattle.teco_exec.proofs.Calls.{ends_around, enters_copy, tells_call, tells_nothing, tells_on}
 use Rattle.teco_exec.proofs.Going.{since}
 use Rattle.teco_exec.proofs.NoMemory.{begins_quietly}
-use Rattle.teco_exec.specs.Places.{IsReadAt, Told, call_token, told_here, with_call}
+use Rattle.teco_exec.specs.Places.{IsReadAt, call_token, told_here, with_call}
 use Rattle.teco_exec.proofs.Placings.{call_told_here, called_told, stood_told}
 use Rattle.teco_exec.proofs.Stepped.{call_fails, call_leads, call_unpaid, counts_none, counts_on, counts_one, counts_over, counts_so}
 use Rattle.teco_core.specs.declared.code.Code.TheVariants.{Pdo}
-use Rattle.teco_core.specs.Register.{content}
 use Rattle.teco_exec.proofs.texts.+run_text.Goals as goal
-use Rattle.teco_exec.proofs.texts.+run_text.Goals.{run_called-then-is_some, run_called-else-is_some}
 
 pub run_in-running-init : goal.run_in-running-init
 run_in-running-init g t c = record {
@@ -153,19 +151,18 @@ run_called-returns-in-Err-clause-told g t c knows =
           call_told_here o _ c.args.cursor.now c.args.q c.args.at told.0 c.args.steps.now.done callers refl e c.requires.token told.1,
     )
 
-pub run_called-returns-then-depth-eq-CALL_LIMIT-clause-leads : goal.run_called-returns-then-depth-eq-CALL_LIMIT-clause-leads
-run_called-returns-then-depth-eq-CALL_LIMIT-clause-leads g t c o callers deep e =
+pub run_copy-returns-then-depth-eq-CALL_LIMIT-clause-leads : goal.run_copy-returns-then-depth-eq-CALL_LIMIT-clause-leads
+run_copy-returns-then-depth-eq-CALL_LIMIT-clause-leads g t c o callers deep e =
     let h = host g.D.Desk g.T.Terminal (c.step_done.new.self, c.args.term.now, c.count.new.self) in
     let from = c.args.cursor.now in
-    let text = (content (g.D.Desk.state c.args.desk.now).registers c.args.q).text in
     let there = call_leads from c.args.q callers o _ e c.count.new.self.done c.count.ensures.done (g.D.Desk.state c.step_done.new.self) c.step_done.ensures.state (g.D.Desk.follows c.step_done.new.self)
-    (g.met.D.Desk.eases c.args.desk.now) c.step_done.ensures.follows text refl in
+    (g.met.D.Desk.eases c.args.desk.now) c.step_done.ensures.follows c.args.called.now c.requires.copy in
     since c.count.new.self.limit o _ h _ (over (Some Pdo)) there.follows
-    (too_deep o h from text callers there.going c.count.new.self.limit (deep ∙ c.if-depth-eq-CALL_LIMIT.true) c.count.new.self.within)
+    (too_deep o h from c.args.called.now callers there.going c.count.new.self.limit (deep ∙ c.if-depth-eq-CALL_LIMIT.true) c.count.new.self.within)
 
-pub run_called-returns-then-depth-eq-CALL_LIMIT-clause-told : goal.run_called-returns-then-depth-eq-CALL_LIMIT-clause-told
-run_called-returns-then-depth-eq-CALL_LIMIT-clause-told g t c knows =
-    let told = c.stood-then-depth-eq-CALL_LIMIT.ensures knows in
+pub run_copy-returns-then-depth-eq-CALL_LIMIT-clause-told : goal.run_copy-returns-then-depth-eq-CALL_LIMIT-clause-told
+run_copy-returns-then-depth-eq-CALL_LIMIT-clause-told g t c knows =
+    let told = c.stood.ensures knows in
     let before = c.count.new.self.done - 1 in
     let same : before ≡ c.args.steps.now.done = omega (arith, c.count.ensures.done) in (
       told_here before c.args.cursor.now.text.now told.0 (cursor c.args.cursor.now).blocks,
@@ -207,8 +204,8 @@ run_called-returns-then-are_over-clause-counts g t c = counts_over c.are_over.en
 pub run_called-returns-in-Err-clause-counts : goal.run_called-returns-in-Err-clause-counts
 run_called-returns-in-Err-clause-counts g t c = counts_none c.are_over.ensures.still
 
-pub run_called-returns-then-depth-eq-CALL_LIMIT-clause-counts : goal.run_called-returns-then-depth-eq-CALL_LIMIT-clause-counts
-run_called-returns-then-depth-eq-CALL_LIMIT-clause-counts g t c = counts_one c.are_over.ensures.still (c.are_over.ensures.lets c.if-are_over.false) c.count.ensures.limit c.count.ensures.done
+pub run_copy-returns-then-depth-eq-CALL_LIMIT-clause-counts : goal.run_copy-returns-then-depth-eq-CALL_LIMIT-clause-counts
+run_copy-returns-then-depth-eq-CALL_LIMIT-clause-counts g t c = counts_one (λ k b h. h) c.requires.lets c.count.ensures.limit c.count.ensures.done
 
 pub run_in-returns-in_default-clause-leads : goal.run_in-returns-in_default-clause-leads
 run_in-returns-in_default-clause-leads g t c o callers deep e =
@@ -233,8 +230,8 @@ pub run_in-returns-in_default-clause-counts : goal.run_in-returns-in_default-cla
 run_in-returns-in_default-clause-counts g t c =
     counts_on c.running.invariant.counts (counts_on (counts_so (λ e. absurd cc) c.in-Call.ensures.counts) c.run_called.ensures.counts)
 
-pub run_called-returns-clause-leads : goal.run_called-returns-clause-leads
-run_called-returns-clause-leads g t c o callers deep e =
+pub run_copy-returns-then-is_some-clause-leads : goal.run_copy-returns-then-is_some-clause-leads
+run_copy-returns-then-is_some-clause-leads g t c o callers deep e =
     let from = c.args.cursor.now in
     let left = c.run_text-exit.new.args in
     let h = host g.D.Desk g.T.Terminal (c.step_done.new.self, c.args.term.now, c.count.new.self) in
@@ -243,41 +240,54 @@ run_called-returns-clause-leads g t c o callers deep e =
     let deeper : length (caller from ∷ callers) ≡ c.args.depth + 1 = omega (arith, deep) in
     let limit = c.run_text-exit.new.steps.limit in
     let exit = c.run_text-exit.result in
-    let same = copy_same _ _ _ _ _ c.in-Ok.long c.in-Ok.ensures.copied c.copied-called.ensures ∙ c.text-text.ensures ∙ ap (λ x. (content x c.args.q).text) c.registers.ensures.value in
     let into = enters_copy from c.args.q callers o _ e c.count.new.self.done c.count.ensures.done (g.D.Desk.state c.step_done.new.self) c.step_done.ensures.state (g.D.Desk.follows c.step_done.new.self)
-    (g.met.D.Desk.eases c.args.desk.now) c.step_done.ensures.follows c.copied-called.result.now same fewer in
+    (g.met.D.Desk.eases c.args.desk.now) c.step_done.ensures.follows c.args.called.now c.requires.copy fewer in
     since limit o _ h k (reached_after_call (record from { args = left }) callers exit) into.follows
     (comes_home limit o h k (arguments left) from (record from { args = left }) callers refl refl exit
     (c.run_text-exit.ensures.leads o (caller from ∷ callers) deeper into.going))
 
-pub run_called-returns-clause-counts : goal.run_called-returns-clause-counts
-run_called-returns-clause-counts g t c =
-    counts_on (counts_one c.are_over.ensures.still (c.are_over.ensures.lets c.if-are_over.false) c.count.ensures.limit c.count.ensures.done) c.run_text-exit.ensures.counts
+pub run_copy-returns-then-is_some-clause-counts : goal.run_copy-returns-then-is_some-clause-counts
+run_copy-returns-then-is_some-clause-counts g t c = counts_on (counts_one (λ k b h. h) c.requires.lets c.count.ensures.limit c.count.ensures.done) c.run_text-exit.ensures.counts
 
-pub run_called-returns-clause-told : goal.run_called-returns-clause-told
-run_called-returns-clause-told g t c knows =
+pub run_copy-returns-else-is_some-clause-leads : goal.run_copy-returns-else-is_some-clause-leads
+run_copy-returns-else-is_some-clause-leads g t c o callers deep e =
+    let from = c.args.cursor.now in
+    let left = c.run_text-exit.new.args in
+    let h = host g.D.Desk g.T.Terminal (c.step_done.new.self, c.args.term.now, c.count.new.self) in
+    let k = host g.D.Desk g.T.Terminal (c.run_text-exit.new.desk, c.run_text-exit.new.term, c.run_text-exit.new.steps) in
+    let fewer : length callers < 32 = omega (arith, deep, c.requires.deep, c.if-depth-eq-CALL_LIMIT.false) in
+    let deeper : length (caller from ∷ callers) ≡ c.args.depth + 1 = omega (arith, deep) in
+    let limit = c.run_text-exit.new.steps.limit in
+    let exit = c.run_text-exit.result in
+    let into = enters_copy from c.args.q callers o _ e c.count.new.self.done c.count.ensures.done (g.D.Desk.state c.step_done.new.self) c.step_done.ensures.state (g.D.Desk.follows c.step_done.new.self)
+    (g.met.D.Desk.eases c.args.desk.now) c.step_done.ensures.follows c.args.called.now c.requires.copy fewer in
+    since limit o _ h k (reached_after_call (record from { args = left }) callers exit) into.follows
+    (comes_home limit o h k (arguments left) from (record from { args = left }) callers refl refl exit
+    (c.run_text-exit.ensures.leads o (caller from ∷ callers) deeper into.going))
+
+pub run_copy-returns-else-is_some-clause-counts : goal.run_copy-returns-else-is_some-clause-counts
+run_copy-returns-else-is_some-clause-counts g t c = counts_on (counts_one (λ k b h. h) c.requires.lets c.count.ensures.limit c.count.ensures.done) c.run_text-exit.ensures.counts
+
+pub run_copy-returns-else-is_some-clause-told : goal.run_copy-returns-else-is_some-clause-told
+run_copy-returns-else-is_some-clause-told g t c knows =
+    let exit = c.run_text-exit.result in
+    let none : is_some (code_left exit) ≡ false = grind arith in
+    tells_nothing (g.W.Watch.knows c.run_text-exit.new.watch) _ _ exit c.run_text-exit.new.steps.done none (c.run_text-exit.ensures.told knows)
+
+pub run_copy-returns-then-is_some-clause-told : goal.run_copy-returns-then-is_some-clause-told
+run_copy-returns-then-is_some-clause-told g t c knows =
     let from = c.args.cursor.now in
     let exit = c.run_text-exit.result in
-    let same = copy_same _ _ _ _ _ c.in-Ok.long c.in-Ok.ensures.copied c.copied-called.ensures ∙ c.text-text.ensures ∙ ap (λ x. (content x c.args.q).text) c.registers.ensures.value in
-    let stands_from : Told → Type 0 = StandsFrom g.D.Desk g.T.Terminal c.args.depth (c.args.desk.now, c.args.term.now, c.args.steps.now) (at_register_call from c.args.q) in
-    elim c.if-is_some.branch [
-      | run_called-then-is_some w ↦
-          let some : is_some (code_left exit) ≡ true = grind arith in
-          subst (λ x. Tells (g.W.Watch.knows x) exit c.run_text-exit.new.steps.done stands_from) (sym w.watch-is)
-          (tells_call (g.W.Watch.knows c.run_text-exit.new.watch) (g.W.Watch.knows w.called.new.self) _ stands_from exit c.run_text-exit.new.steps.done some (c.run_text-exit.ensures.told knows) (λ p known stands.
-          let more = w.called.ensures p known in (
-            with_call p c.args.q more.0 (cursor from).blocks,
-            more.2,
-            refl,
-            λ o callers deep e.
-                let fewer : length callers < 32 = omega (arith, deep, c.requires.deep, c.if-depth-eq-CALL_LIMIT.false) in
-                let deeper : length (caller from ∷ callers) ≡ c.args.depth + 1 = omega (arith, deep) in
-                let into = enters_copy from c.args.q callers o _ e c.count.new.self.done c.count.ensures.done (g.D.Desk.state c.step_done.new.self) c.step_done.ensures.state (g.D.Desk.follows c.step_done.new.self)
-                (g.met.D.Desk.eases c.args.desk.now) c.step_done.ensures.follows c.copied-called.result.now same fewer in
-                called_told o from c.args.q c.args.at more.0 callers p (stands o (caller from ∷ callers) deeper into.going) c.requires.token more.1,
-          )))
-      | run_called-else-is_some w ↦
-          let none : is_some (code_left exit) ≡ false = grind arith in
-          subst (λ x. Tells (g.W.Watch.knows x) exit c.run_text-exit.new.steps.done stands_from) (sym w.watch-is)
-          (tells_nothing (g.W.Watch.knows c.run_text-exit.new.watch) _ stands_from exit c.run_text-exit.new.steps.done none (c.run_text-exit.ensures.told knows))
-    ]
+    let some : is_some (code_left exit) ≡ true = grind arith in
+    tells_call (g.W.Watch.knows c.run_text-exit.new.watch) (g.W.Watch.knows c.called.new.self) _ _ exit c.run_text-exit.new.steps.done some (c.run_text-exit.ensures.told knows) (λ p known stands.
+    let more = c.called.ensures p known in (
+      with_call p c.args.q more.0 (cursor from).blocks,
+      more.2,
+      refl,
+      λ o callers deep e.
+          let fewer : length callers < 32 = omega (arith, deep, c.requires.deep, c.if-depth-eq-CALL_LIMIT.false) in
+          let deeper : length (caller from ∷ callers) ≡ c.args.depth + 1 = omega (arith, deep) in
+          let into = enters_copy from c.args.q callers o _ e c.count.new.self.done c.count.ensures.done (g.D.Desk.state c.step_done.new.self) c.step_done.ensures.state (g.D.Desk.follows c.step_done.new.self)
+          (g.met.D.Desk.eases c.args.desk.now) c.step_done.ensures.follows c.args.called.now c.requires.copy fewer in
+          called_told o from c.args.q c.args.at more.0 callers p (stands o (caller from ∷ callers) deeper into.going) c.requires.token more.1,
+    ))

@@ -9,16 +9,19 @@ use Rattle.teco_exec.specs.Tokens.{CountsSteps}
 use Rattle.teco_exec.proofs.texts.+run_text.Given as goal
 
 abbrev pub decreases-run_text : goal.decreases-run_text
-decreases-run_text g l = 4 * (32 - l.depth) + 3
+decreases-run_text g l = 5 * (32 - l.depth) + 4
 
 abbrev pub decreases-run_apart : goal.decreases-run_apart
-decreases-run_apart g l = 4 * (32 - l.depth) + 2
+decreases-run_apart g l = 5 * (32 - l.depth) + 3
 
 abbrev pub decreases-run_in : goal.decreases-run_in
-decreases-run_in g l = 4 * (32 - l.depth) + 1
+decreases-run_in g l = 5 * (32 - l.depth) + 2
 
 abbrev pub decreases-run_called : goal.decreases-run_called
-decreases-run_called g l = 4 * (32 - l.depth)
+decreases-run_called g l = 5 * (32 - l.depth) + 1
+
+abbrev pub decreases-run_copy : goal.decreases-run_copy
+decreases-run_copy g l = 5 * (32 - l.depth)
 
 abbrev pub invariant-run_in-running : goal.invariant-run_in-running
 invariant-run_in-running g l = record {
