@@ -18,6 +18,9 @@ use teco_scan::{
 use teco_store::Desk;
 use teco_terminal::Terminal;
 
+/// A byte with no arm of its own in [`step`].
+const NO_ARM: u8 = 0;
+
 /// Passes what comes at the cursor, where it uses no step, or else does its steps. What uses no step is passed one token at a time, but
 /// tags that come one after the other at once.
 ///
@@ -40,10 +43,11 @@ pub(crate) fn step<D: Desk, S: Stop, T: Terminal, W: Watch>(
     let from = filler_end(text, at);
     if from == text.len() {
         let found = end_found(text, at, from);
-        return step_at(desk, cursor, &found, steps, stop, term);
+        return step_found(desk, cursor, &found, steps, stop, term);
     }
-    // What has no arm of its own takes longer, and is done as well.
-    match text[from] {
+    // What has no arm of its own takes longer, and is done as well. In a watched run nothing has one.
+    let arm = if W::HAS_ARMS { text[from] } else { NO_ARM };
+    match arm {
         b'0'..=b'9' => step_digits::<D, S, T, W>(desk, cursor, from, steps, stop, term),
         b'%' => step_led::<D, S, T, W, b'%'>(desk, cursor, from, steps, stop, term),
         b'Q' => step_led::<D, S, T, W, b'Q'>(desk, cursor, from, steps, stop, term),
@@ -86,27 +90,9 @@ fn step_known<D: Desk, S: Stop, T: Terminal>(
         (desk.old, term.old, steps.old) (desk.new, term.new, steps.new) cursor.old cursor.new result }
 {
     match known {
-        Some(found) => step_at(desk, cursor, &found, steps, stop, term),
+        Some(found) => step_found(desk, cursor, &found, steps, stop, term),
         None => step_any(desk, cursor, steps, stop, term),
     }
-}
-
-/// Does the step of what was found.
-#[inline(always)]
-fn step_at<D: Desk, S: Stop, T: Terminal>(
-    desk: &mut D,
-    cursor: &mut Cursor,
-    found: &Found,
-    steps: &mut Steps,
-    stop: &mut S,
-    term: &mut T,
-) -> Flow
-    requires read { found_in cursor.old.text.now found.now ≡ scan (drop cursor.old.at cursor.old.text.now) }
-    requires place { IsFoundAt cursor.old.text.now cursor.old.at found.now }
-    ensures { StepsText D.Desk T.Terminal (S.answered stop.old) (S.answered stop.new)
-        (desk.old, term.old, steps.old) (desk.new, term.new, steps.new) cursor.old cursor.new result }
-{
-    step_found(desk, cursor, found, steps, stop, term)
 }
 
 /// Does the step of a token that begins at a place, of which this is the first byte: the code is made for just its command.
@@ -168,12 +154,12 @@ fn step_digits<D: Desk, S: Stop, T: Terminal, W: Watch>(
     let (text, at) = (cursor.text, cursor.at);
     if text[from].is_ascii_digit() {
         let found = digits_token(text, at, from);
-        return step_at(desk, cursor, &found, steps, stop, term);
+        return step_found(desk, cursor, &found, steps, stop, term);
     }
     step_any(desk, cursor, steps, stop, term)
 }
 
-/// Does the step of a token that begins at a place, by the form of the command that its first byte alone names.
+/// Does the step of a token that begins at a place, whatever its first byte is.
 #[inline(never)]
 fn step_other<D: Desk, S: Stop, T: Terminal>(
     desk: &mut D,
@@ -187,30 +173,8 @@ fn step_other<D: Desk, S: Stop, T: Terminal>(
     ensures { StepsText D.Desk T.Terminal (S.answered stop.old) (S.answered stop.new)
         (desk.old, term.old, steps.old) (desk.new, term.new, steps.new) cursor.old cursor.new result }
 {
-    let (text, at) = (cursor.text, cursor.at);
-    match lead(text, at, from) {
-        Some(Form::Bare(command)) => {
-            let found = bare_token(text, at, from, command);
-            step_at(desk, cursor, &found, steps, stop, term)
-        }
-        Some(Form::Mark(mark)) => {
-            let found = mark_token(text, at, from, mark);
-            step_at(desk, cursor, &found, steps, stop, term)
-        }
-        Some(Form::Register(command)) => {
-            let known = register_token(text, at, from, command);
-            step_known(desk, cursor, known, steps, stop, term)
-        }
-        Some(Form::Text(command, usual)) => {
-            let known = text_token(text, at, from, command, usual);
-            step_known(desk, cursor, known, steps, stop, term)
-        }
-        Some(Form::Tag) => {
-            let known = tag_token(text, at, from);
-            step_known(desk, cursor, known, steps, stop, term)
-        }
-        _ => step_any(desk, cursor, steps, stop, term),
-    }
+    let known = known_at(cursor.text, cursor.at, from);
+    step_known(desk, cursor, known, steps, stop, term)
 }
 
 /// Does what [`step`] does, whatever comes.
@@ -226,7 +190,7 @@ fn step_any<D: Desk, S: Stop, T: Terminal>(
         (desk.old, term.old, steps.old) (desk.new, term.new, steps.new) cursor.old cursor.new result }
 {
     let found = token_at(cursor.text, cursor.at);
-    step_at(desk, cursor, &found, steps, stop, term)
+    step_found(desk, cursor, &found, steps, stop, term)
 }
 
 /// The token that begins at a place, if its first byte alone names its command and what belongs to it follows.

@@ -1,5 +1,5 @@
 //! One step of what was found in a text.
-ghost use Rattle.std.specs.Prelude.{◌≡◌, ◌<◌, ◌≤◌, ◌⊎◌, ℕ, List, None, Some, MatchOption, MatchResult, drop, false, length, true};
+ghost use Rattle.std.specs.Prelude.{◌≡◌, ◌<◌, ◌≤◌, ℕ, List, None, Some, MatchOption, MatchResult, drop, false, length, true};
 ghost use Rattle.teco_core.specs.declared.code.Code.TheVariants.{Lim};
 ghost use Rattle.teco_scan.specs.Scan.{scan};
 ghost use Rattle.teco_scan.specs.Seen.{IsFoundAt, IsSpanIn, bytes_in, found_in};
@@ -9,9 +9,9 @@ ghost use Rattle.teco_terminal.specs.Terminal.{Screen};
 ghost use Rattle.teco_step.specs.declared.next.Next.TheVariants.{Call, Error};
 ghost use Rattle.teco_exec.specs.CursorMoves.{inside_iteration, leave_is_next};
 ghost use Rattle.teco_exec.specs.Machine.{Caller, Now, after_step_end, ready_of};
-ghost use Rattle.teco_exec.specs.Running.{Comes, FlowStays, GoesOn, GoesQuietly, HasStood, HasStoodBefore, OnCall, OnLast, RunLeads, at_block_step, at_cursor, at_token, config, itself, reached_by_flow};
+ghost use Rattle.teco_exec.specs.Running.{Comes, FlowStays, GoesOn, GoesQuietly, HasStoodBefore, OnCall, OnLast, RunLeads, at_block_step, at_token, config, itself, reached_by_flow};
+ghost use Rattle.teco_exec.specs.TextStep.{StepsText};
 ghost use Rattle.teco_exec.specs.Tokens.{Continues, CountsSteps, OnDone, ProgressFinishes, ProgressStays, ProgressesQuietly, call_of, calls_text, looks_around, reached_by_progress};
-ghost use Rattle.teco_exec.specs.Places.{IsReadAt, call_token};
 ghost use Rattle.teco_exec.specs.Quiet.{IsQuiet, is_plain};
 ghost use Rattle.teco_exec.specs.View.{MayOpen, cursor as cursor_of, item_of_kind};
 ghost use Rattle.teco_exec.specs.declared.flow.Flow.TheVariants as flow;
@@ -44,21 +44,8 @@ pub(crate) fn step_found<D: Desk, S: Stop, T: Terminal>(
 ) -> Flow
     requires read { found_in cursor.old.text.now found.now ≡ scan (drop cursor.old.at cursor.old.text.now) }
     requires place { IsFoundAt cursor.old.text.now cursor.old.at found.now }
-    ensures text { cursor.new.text ≡ cursor.old.text }
-    ensures counts { CountsSteps (S.answered stop.old) (S.answered stop.new) (result ≡ flow.Stop Lim)
-        steps.old steps.new }
-    ensures advances { GoesOn result
-        → (steps.old.done < steps.new.done)
-        ⊎ (length (cursor_of cursor.new).left < length (cursor_of cursor.old).left) }
-    ensures leads { RunLeads D.Desk T.Terminal (desk.old, term.old, steps.old) (desk.new, term.new, steps.new)
-        (at_cursor cursor.old) (λ callers. reached_by_flow cursor.new callers result) }
-    ensures quiet { IsQuiet (cursor_of cursor.old) → GoesQuietly cursor.new result }
-    ensures around { OnLast result steps.new.done (λ k.
-        (cursor_of cursor.new).blocks ≡ (cursor_of cursor.old).blocks) }
-    ensures stood { OnLast result steps.new.done
-        (HasStood D.Desk T.Terminal (desk.old, term.old, steps.old) cursor.old) }
-    ensures calls { OnCall result (λ q. IsReadAt cursor.old.text.now cursor.old.at (Some (call_token q))
-        (cursor_of cursor.new).left) }
+    ensures { StepsText D.Desk T.Terminal (S.answered stop.old) (S.answered stop.new)
+        (desk.old, term.old, steps.old) (desk.new, term.new, steps.new) cursor.old cursor.new result }
 {
     block_laws();
     match cursor.pass(found) {
