@@ -73,19 +73,6 @@ impl Output {
         shown <= own || (self.from <= at && shown - own == at - self.from)
     }
 
-    // The place of a page in the input, if the part can be lengthened by the page.
-    fn place_after(&self, shown: usize, from: Option<usize>) -> Option<usize>
-        ensures same { IfSome result (λ at. from ≡ Some at) }
-        ensures ends { IfSome result (λ at. EndsAt self.now shown at) }
-    {
-        let at = from?;
-        if self.ends_at(shown, at) {
-            Some(at)
-        } else {
-            None
-        }
-    }
-
     // Makes the input from one place up to another come after the first `shown` bytes.
     fn lengthen(&mut self, shown: usize, at: usize, upto: usize)
         requires part { (self.old.from ≤ self.old.upto) × (at ≤ upto) }
@@ -132,15 +119,6 @@ impl Output {
         append_within(&mut self.own, form_feed_bytes(form_feed));
         self.from = 0;
         self.upto = 0;
-    }
-
-    // Makes the input from one place up to another come after its own bytes.
-    fn follow(&mut self, from: usize, upto: usize)
-        ensures own { self.new.own.items ≡ self.old.own.items }
-        ensures part { (self.new.from ≡ from) × (self.new.upto ≡ upto) }
-    {
-        self.from = from;
-        self.upto = upto;
     }
 
     // Copies the two parts of a text, and a form feed where one is asked for, after the first `shown` bytes.
@@ -191,11 +169,12 @@ impl Output {
         ensures err { OnErr result (bytes_of self.new input.now ≡ bytes_of self.old input.now) }
         ensures part { IsIn self.new input.now }
     {
-        match self.place_after(shown, from) {
-            Some(at) => self.lengthen(shown, at, rest.1),
-            None => {
+        match from {
+            Some(at) if self.ends_at(shown, at) => self.lengthen(shown, at, rest.1),
+            _ => {
                 self.copy(input, shown, halves, form_feed)?;
-                self.follow(rest.0, rest.1);
+                self.from = rest.0;
+                self.upto = rest.1;
             }
         }
         Ok(())

@@ -38,7 +38,9 @@ impl Editor {
             ),
             Kind::Lend(loan) => self.put_lent(loan),
             Kind::Point(pointer) => {
-                Kind::Point(mem::replace(&mut self.pointer, pointer as usize) as u32)
+                let there = Kind::Point(self.pointer as u32);
+                self.pointer = pointer as usize;
+                there
             }
             Kind::Number(q, number) => {
                 let registers = &mut self.registers;
@@ -57,11 +59,13 @@ impl Editor {
             Kind::TakeOff => Kind::Push(self.pushed.pop()),
             Kind::PopInto(q) => self.put_popped(q),
             Kind::PutBack(q, value) => self.put_back(q, value),
-            Kind::Pages(place, output, form_feed) => Kind::Pages(
-                mem::replace(&mut self.place, place as usize) as u32,
-                mem::replace(&mut self.shown, output as usize) as u32,
-                mem::replace(&mut self.form_feed, form_feed),
-            ),
+            Kind::Pages(place, output, form_feed) => {
+                let there = Kind::Pages(self.place as u32, self.shown as u32, self.form_feed);
+                self.place = place as usize;
+                self.shown = output as usize;
+                self.form_feed = form_feed;
+                there
+            }
             Kind::Search(held) => Kind::Search(mem::replace(&mut self.last_search, held)),
             Kind::Found(found) => Kind::Found(mem::replace(&mut self.last_found, found)),
             Kind::Done(done) => Kind::Done(mem::replace(&mut self.done, done)),
@@ -77,16 +81,19 @@ impl Editor {
         ensures kind { turn_of result ≡ turn_after (turn_of (Splice place held)) self.old.body }
         ensures room { HasRoom result }
     {
-        let there = held.len() as u32;
+        let there = Place {
+            at: place.at,
+            there: held.len() as u32,
+            pointer: self.pointer as u32,
+        };
         let held = swap_bytes(
             &mut self.text,
             place.at as usize,
             place.there as usize,
             held,
         );
-        let pointer = mem::replace(&mut self.pointer, place.pointer as usize) as u32;
-        let at = place.at;
-        Kind::Splice(Place { at, there, pointer }, held)
+        self.pointer = place.pointer as usize;
+        Kind::Splice(there, held)
     }
 
     // Puts bytes of the input for the whole text, and gives where in the input that stands.
@@ -99,7 +106,8 @@ impl Editor {
         let from = loan.from as usize;
         let part = &self.input[from..from + loan.count as usize];
         self.text.splice(0, loan.there as usize, part);
-        let pointer = mem::replace(&mut self.pointer, loan.pointer as usize) as u32;
+        let pointer = self.pointer as u32;
+        self.pointer = loan.pointer as usize;
         Kind::Lend(Loan {
             from: loan.there_from,
             count: loan.there,

@@ -1,6 +1,12 @@
 //! The calls of a desk, each of which notes what it changes.
-ghost use Rattle.std.specs.Prelude.{◌≡◌, ◌+◌, ◌<◌, ◌≤◌, ◌^◌, length};
-ghost use Rattle.teco_store.specs.State.{pointer_after, state_of};
+ghost use Rattle.std.specs.Prelude.{◌≡◌, ◌<◌, ◌≤◌, length, IsOk, OnErr, OnOk};
+ghost use Rattle.teco_store.specs.ChangeView.{turn_of, HasRoom};
+ghost use Rattle.teco_store.specs.Entry.{weight};
+ghost use Rattle.teco_store.specs.Follows.{Follows, StillFollows};
+ghost use Rattle.teco_store.specs.State.{IsSound, state_of};
+ghost use Rattle.teco_store.specs.Trail.{Trail, moved};
+ghost use Rattle.teco_store.specs.Turn.{body_after, full_after, FitsFull};
+ghost use Rattle.teco_store.specs.declared.desk.Refused.TheVariants.{Big};
 
 use crate::change::{Held, Kind};
 use crate::desk::{Desk, Refused};
@@ -9,14 +15,25 @@ use crate::pages::is_past;
 use crate::recorder::Recorder;
 use teco_core::{CaseMode, PushList, Reg, Registers, TEXT_LIMIT};
 
-// Where the pointer comes to stand.
-fn landing(at: usize, ins: &[u8], point: Option<usize>) -> usize
-    requires { at + length ins.now < 2 ^ 64 }
-    ensures { result ≡ pointer_after at ins.now point }
-{
-    match point {
-        Some(place) => place,
-        None => at + ins.len(),
+impl Recorder {
+    // Finds room for one change, and makes it.
+    #[inline(always)]
+    fn change(&mut self, kind: Kind) -> Result<(), Refused>
+        requires room { HasRoom kind }
+        requires fits { IsSound self.old.full.room (length self.old.full.stored) self.old.full.body
+            → FitsFull (turn_of kind) self.old.full }
+        requires rises { self.old.full.body.output ≤ (body_after (turn_of kind) self.old.full.body).output }
+        ensures ok { OnOk result (self.new.full ≡ full_after (turn_of kind) self.old.full) }
+        ensures only_memory { result ≡ Err Big → ⊥ }
+        ensures err { OnErr result (self.new.full ≡ self.old.full) }
+        ensures follows { OnOk result ((t : Trail) → Follows self.old t
+            → Follows self.new (moved t (weight (turn_of kind) self.old.full.body))) }
+        ensures keeps { OnErr result (StillFollows self.old self.new) }
+        ensures with_room { 0 < self.old.spare → IsOk result }
+    {
+        self.reserve(1)?;
+        self.note(kind);
+        Ok(())
     }
 }
 
@@ -91,7 +108,7 @@ impl Desk for Recorder {
             return Err(Refused::Big);
         }
         let held = self.find_held(1, del + ins.len(), kept + ins.len())?;
-        self.replace(at, del, ins, landing(at, ins, point), held);
+        self.replace(at, del, ins, point.unwrap_or(at + ins.len()), held);
         Ok(())
     }
 
@@ -100,17 +117,13 @@ impl Desk for Recorder {
         if place == self.editor.pointer() {
             return Ok(());
         }
-        self.reserve(1)?;
-        self.note(Kind::Point(place as u32));
-        Ok(())
+        self.change(Kind::Point(place as u32))
     }
 
     #[inline(always)]
     fn set_number(&mut self, q: Reg, number: i32) -> Result<(), Refused> {
         let _index = q.index();
-        self.reserve(1)?;
-        self.note(Kind::Number(q, number));
-        Ok(())
+        self.change(Kind::Number(q, number))
     }
 
     fn set_text(&mut self, q: Reg, text: Vec<u8>) -> Result<(), Refused> {
@@ -118,23 +131,17 @@ impl Desk for Recorder {
         if text.len() > TEXT_LIMIT {
             return Err(Refused::Big);
         }
-        self.reserve(1)?;
-        self.note(Kind::Text(q, text));
-        Ok(())
+        self.change(Kind::Text(q, text))
     }
 
     fn push(&mut self, q: Reg) -> Result<(), Refused> {
-        self.reserve(1)?;
         let value = self.editor().registers().value(q).copy()?;
-        self.note(Kind::Push(value));
-        Ok(())
+        self.change(Kind::Push(value))
     }
 
     fn pop(&mut self, q: Reg) -> Result<(), Refused> {
         let _index = q.index();
-        self.reserve(1)?;
-        self.note(Kind::PopInto(q));
-        Ok(())
+        self.change(Kind::PopInto(q))
     }
 
     fn read_page(&mut self) -> Result<(), Refused> {
@@ -240,9 +247,7 @@ impl Desk for Recorder {
     }
 
     fn set_case(&mut self, mode: CaseMode) -> Result<(), Refused> {
-        self.reserve(1)?;
-        self.note(Kind::Mode(mode));
-        Ok(())
+        self.change(Kind::Mode(mode))
     }
 
     fn step_done(&mut self, steps: u64) {
