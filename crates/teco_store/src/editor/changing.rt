@@ -1,5 +1,5 @@
 //! Parts of an editor are changed, and nothing of what stood there is kept.
-ghost use Rattle.std.specs.Prelude.{◌≡◌, ◌+◌, ◌≤◌, length, None, Some, IsOk, OnOk, OnErr};
+ghost use Rattle.std.specs.Prelude.{◌≡◌, ◌+◌, ◌≤◌, length, option_map, None, Some, IfOk, IsOk, OnOk, OnErr};
 ghost use Rattle.std.specs.Option.{option_copied};
 ghost use Rattle.teco_store.specs.PageSpan.{IsPageSpan};
 ghost use Rattle.teco_store.specs.Page.{brought, page};
@@ -7,7 +7,6 @@ ghost use Rattle.teco_store.specs.Search.{fresh, length_of, text_after};
 ghost use Rattle.teco_store.specs.State.{spliced, with_body};
 
 use crate::editor::Editor;
-use crate::noting::note_text;
 use crate::pages::PageSpan;
 use teco_core::{FILE_LIMIT, NoMemory, TEXT_LIMIT};
 
@@ -50,6 +49,25 @@ impl Editor {
         self.pointer = pointer;
     }
 
+    // A copy of a text to be noted; none where it is the last one again.
+    pub(crate) fn fresh_text(&self, text: Option<&[u8]>) -> Result<Option<Vec<u8>>, NoMemory>
+        ensures copy { IfOk result (λ f. option_map (λ v. v.items) f
+            ≡ fresh self.now.body.last_search (option_copied text.entry)) }
+        ensures none { fresh self.now.body.last_search (option_copied text.entry) ≡ None → IsOk result }
+    {
+        let Some(text) = text else {
+            return Ok(None);
+        };
+        let again = match &self.last_search {
+            None => false,
+            Some(last) => text == last.as_slice(),
+        };
+        if again {
+            return Ok(None);
+        }
+        Vec::from_slice(*self.input.allocator(), text).map(Some)
+    }
+
     // Makes a text the last search text; none leaves it. The same text again takes no memory.
     pub(super) fn note_text(&mut self, text: Option<&[u8]>) -> Result<(), NoMemory>
         requires { length_of (option_copied text) ≤ TEXT_LIMIT }
@@ -59,7 +77,9 @@ impl Editor {
         ensures err { OnErr result (self.new ≡ self.old) }
         ensures none { fresh self.old.body.last_search (option_copied text.entry) ≡ None → IsOk result }
     {
-        note_text(*self.input.allocator(), &mut self.last_search, text)?;
+        if let Some(fresh) = self.fresh_text(text)? {
+            self.last_search = Some(fresh);
+        }
         Ok(())
     }
 }

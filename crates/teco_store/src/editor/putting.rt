@@ -38,9 +38,7 @@ impl Editor {
             ),
             Kind::Lend(loan) => self.put_lent(loan),
             Kind::Point(pointer) => {
-                let there = Kind::Point(self.pointer as u32);
-                self.pointer = pointer as usize;
-                there
+                Kind::Point(mem::replace(&mut self.pointer, pointer as usize) as u32)
             }
             Kind::Number(q, number) => {
                 let registers = &mut self.registers;

@@ -207,9 +207,8 @@ impl Desk for Recorder {
             return Err(Refused::Big);
         }
         self.reserve(3)?;
-        let text = self.fresh_text(text)?;
-        self.note_text(text);
-        self.note(Kind::Found(found));
+        let text = self.editor().fresh_text(text)?;
+        self.note_result(text, found);
         self.note(Kind::Point(place as u32));
         Ok(())
     }
@@ -225,10 +224,9 @@ impl Desk for Recorder {
         if is_long(text) || is_past(TEXT_LIMIT, kept, ins.len()) {
             return Err(Refused::Big);
         }
-        let text = self.fresh_text(text)?;
+        let text = self.editor().fresh_text(text)?;
         let held = self.find_held(3, del + ins.len(), kept + ins.len())?;
-        self.note_text(text);
-        self.note(Kind::Found(true));
+        self.note_result(text, true);
         self.replace(at, del, ins, at + ins.len(), held);
         Ok(())
     }
