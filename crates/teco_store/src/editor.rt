@@ -232,7 +232,7 @@ impl Desk for Editor {
         };
         let there = self.len();
         self.reserve(span.len)?;
-        self.store_page(self.place_of_page())?;
+        self.store_upto(self.place_of_page(), self.place)?;
         self.bring_page(span, 0, there, 0, end);
         Ok(())
     }
@@ -283,10 +283,11 @@ impl Desk for Editor {
         let Some(end) = self.end_after_rest() else {
             return Err(Refused::Big);
         };
-        self.store_rest(self.place_of_page())?;
+        let over = self.input.len();
+        self.store_upto(self.place_of_page(), over)?;
         replace_text(&mut self.text, &[]);
         self.pointer = 0;
-        self.place = self.input.len();
+        self.place = over;
         self.shown = end;
         self.form_feed = false;
         self.done = true;

@@ -108,13 +108,6 @@ impl Recorder {
         self.entry.reserve(changes)
     }
 
-    // Memory for so many bytes, and no more.
-    fn memory(&self, bytes: usize) -> Result<Vec<u8>, NoMemory>
-        ensures { IfOk result (λ v. (v.items ≡ []) × (vec_capacity v ≡ bytes)) }
-    {
-        Vec::with_capacity(self.editor.allocator(), bytes)
-    }
-
     // Makes room for a text of `len` bytes.
     fn reserve_text(&mut self, len: usize) -> Result<(), NoMemory>
         ensures body { self.new.full.body ≡ self.old.full.body }
@@ -139,9 +132,8 @@ impl Recorder {
         ensures keeps { StillFollows self.old self.new }
     {
         self.reserve(changes)?;
-        let held = self.memory(bytes)?;
         self.reserve_text(len)?;
-        Ok(held)
+        Vec::with_capacity(self.editor.allocator(), bytes)
     }
 
     // Finds room for so many changes, and for a text of `len` bytes.
@@ -178,8 +170,7 @@ impl Recorder {
             self.find_room(changes, len)?;
             return Ok(None);
         }
-        let held = self.find_memory(changes, bytes, len)?;
-        Ok(Some(held))
+        self.find_memory(changes, bytes, len).map(Some)
     }
 
     // Puts a value in its place, and notes what stood there.

@@ -134,7 +134,7 @@ impl Editor {
     }
 
     // Stores the page after the output, and the input from its place up to another. A page that stands in the input isn't copied.
-    fn store_upto(&mut self, from: Option<usize>, upto: usize) -> Result<(), NoMemory>
+    pub(crate) fn store_upto(&mut self, from: Option<usize>, upto: usize) -> Result<(), NoMemory>
         requires from { IfSome from (IsAsRead self.old.body) }
         requires order { self.old.body.place ≤ upto }
         requires within { upto ≤ length self.old.body.input }
@@ -147,29 +147,5 @@ impl Editor {
         let halves = self.text.halves();
         let rest = (self.place, upto);
         self.output.store(&self.input, self.shown, from, halves, self.form_feed, rest)
-    }
-
-    // Stores the page after the output.
-    pub(crate) fn store_page(&mut self, from: Option<usize>) -> Result<(), NoMemory>
-        requires { IfSome from (IsAsRead self.old.body) }
-        ensures ok { OnOk result (self.new
-            ≡ with_stored self.old (written (state_of self.old)) self.old.room) }
-        ensures err { OnErr result (self.new ≡ self.old) }
-        ensures extends { Extends self.old self.new }
-    {
-        self.store_upto(from, self.place)
-    }
-
-    // Stores the page and the rest of the input after the output.
-    pub(crate) fn store_rest(&mut self, from: Option<usize>) -> Result<(), NoMemory>
-        requires { IfSome from (IsAsRead self.old.body) }
-        ensures ok { OnOk result (self.new
-            ≡ with_stored self.old (written (state_of self.old)
-            ++ left_of (state_of self.old)) self.old.room) }
-        ensures err { OnErr result (self.new ≡ self.old) }
-        ensures extends { Extends self.old self.new }
-    {
-        let end = self.input.len();
-        self.store_upto(from, end)
     }
 }

@@ -145,54 +145,61 @@ impl Desk for Recorder {
     }
 
     fn read_page(&mut self) -> Result<(), Refused> {
-        let span = self.editor().span();
+        let editor = self.editor();
+        let span = editor.span();
         if span.len > TEXT_LIMIT {
             return Err(Refused::Big);
         }
-        let there = self.editor().len();
-        let end = self.editor().shown();
-        let held = self.hold_page(there, span.len)?;
+        let there = editor.len();
+        let end = editor.shown();
+        let held = self.hold_page(2, there, span.len)?;
         self.bring_page(span, 0, there, 0, end, held);
         Ok(())
     }
 
     fn append_page(&mut self) -> Result<(), Refused> {
-        let there = self.editor().len();
-        if self.editor().is_input_over() {
+        let editor = self.editor();
+        let there = editor.len();
+        if editor.is_input_over() {
             return Ok(());
         }
-        let span = self.editor().span();
+        let span = editor.span();
         if is_past(TEXT_LIMIT, there, span.len) {
             return Err(Refused::Big);
         }
-        let pointer = self.editor().pointer();
-        let end = self.editor().shown();
+        let pointer = editor.pointer();
+        let end = editor.shown();
         let held = self.find_memory(2, span.len, there + span.len)?;
         self.bring_page(span, there, 0, pointer, end, Held::Memory(held));
         Ok(())
     }
 
     fn turn_page(&mut self) -> Result<(), Refused> {
-        let span = self.editor().span();
+        let editor = self.editor();
+        let span = editor.span();
         if span.len > TEXT_LIMIT {
             return Err(Refused::Big);
         }
-        let Some(end) = self.editor().end_after_page() else {
+        let Some(end) = editor.end_after_page() else {
             return Err(Refused::Big);
         };
-        let there = self.editor().len();
-        let held = self.prepare_page(there, span.len)?;
+        let there = editor.len();
+        let place = editor.place();
+        let held = self.hold_page(2, there, span.len)?;
+        self.store_upto(held.place(), place)?;
         self.bring_page(span, 0, there, 0, end, held);
         Ok(())
     }
 
     fn write_out(&mut self, from: usize, to: usize, form_feed: bool) -> Result<(), Refused> {
-        let Some(end) = self.editor().end_after_part(from, to, form_feed) else {
+        let editor = self.editor();
+        let Some(end) = editor.end_after_part(from, to, form_feed) else {
             return Err(Refused::Big);
         };
-        let place = self.editor().place();
-        let flag = self.editor().flag();
-        self.prepare_part(from, to, form_feed)?;
+        let place = editor.place();
+        let flag = editor.flag();
+        self.reserve(1)?;
+        self.store_part(from, to, form_feed)?;
         self.note(Kind::Pages(place as u32, end as u32, flag));
         Ok(())
     }
@@ -232,12 +239,14 @@ impl Desk for Recorder {
     }
 
     fn finish(&mut self) -> Result<(), Refused> {
-        let Some(end) = self.editor().end_after_rest() else {
+        let editor = self.editor();
+        let Some(end) = editor.end_after_rest() else {
             return Err(Refused::Big);
         };
-        let there = self.editor().len();
-        let over = self.editor().input_len();
-        let held = self.prepare_rest(there)?;
+        let there = editor.len();
+        let over = editor.input_len();
+        let held = self.hold_page(3, there, 0)?;
+        self.store_upto(held.place(), over)?;
         self.empty(there, held);
         self.note(Kind::Pages(over as u32, end as u32, false));
         self.note(Kind::Done(true));
