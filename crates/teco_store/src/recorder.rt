@@ -170,7 +170,8 @@ impl Recorder {
             self.find_room(changes, len)?;
             return Ok(None);
         }
-        self.find_memory(changes, bytes, len).map(Some)
+        let held = self.find_memory(changes, bytes, len)?;
+        Ok(Some(held))
     }
 
     // Puts a value in its place, and notes what stood there.

@@ -65,7 +65,7 @@ impl Editor {
         if again {
             return Ok(None);
         }
-        Vec::from_slice(*self.input.allocator(), text).map(Some)
+        Ok(Some(Vec::from_slice(*self.input.allocator(), text)?))
     }
 
     // Makes a text the last search text; none leaves it. The same text again takes no memory.

@@ -76,8 +76,8 @@ impl Recorder {
             self.reserve_text(len)?;
             return Ok(Held::Input(from));
         }
-        self.find_memory(changes, there + len, len)
-            .map(Held::Memory)
+        let held = self.find_memory(changes, there + len, len)?;
+        Ok(Held::Memory(held))
     }
 
     // Puts the next page for the `there` bytes at `at`, and notes those that stood there in `held`, which is empty.
