@@ -89,17 +89,6 @@ impl Output {
         self.upto = upto;
     }
 
-    // Finds room for so many bytes after the first `shown`.
-    fn reserve(&mut self, shown: usize, more: usize) -> Result<(), NoMemory>
-        requires { shown + more < 2 ^ 64 }
-        ensures own { self.new.own.items ≡ self.old.own.items }
-        ensures part { (self.new.from ≡ self.old.from) × (self.new.upto ≡ self.old.upto) }
-        ensures room { OnOk result (shown + more ≤ vec_capacity self.new.own) }
-    {
-        let end = shown + more;
-        self.own.reserve(end.saturating_sub(self.own.len()))
-    }
-
     // Puts the two parts of a text, and a form feed where one is asked for, after the first `shown` bytes. There is room for them.
     fn put(&mut self, input: &[u8], shown: usize, before: &[u8], after: &[u8], form_feed: bool)
         requires part { IsIn self.old input.now }
@@ -140,7 +129,8 @@ impl Output {
         ensures part { IsIn self.new input.now }
     {
         let more = halves.0.len() + halves.1.len() + usize::from(form_feed);
-        self.reserve(shown, more)?;
+        self.own
+            .reserve((shown + more).saturating_sub(self.own.len()))?;
         self.put(input, shown, halves.0, halves.1, form_feed);
         Ok(())
     }

@@ -6,7 +6,7 @@ ghost use Rattle.teco_store.specs.State.{Extends, IsEnd, IsSound, state_of, with
 
 use crate::editor::Editor;
 use crate::output::place_read;
-use crate::pages::{PageSpan, end_after, make_room, next_page, part};
+use crate::pages::{PageSpan, end_after, next_page, part};
 use std::alloc::Global;
 use teco_core::NoMemory;
 
@@ -32,14 +32,6 @@ impl Editor {
         ensures sound { IsSound self.now.room (length self.now.stored) self.now.body }
     {
         self.text.len()
-    }
-
-    // How many bytes the input has.
-    pub(crate) fn input_len(&self) -> usize
-        ensures value { result ≡ length self.now.body.input }
-        ensures sound { IsSound self.now.room (length self.now.stored) self.now.body }
-    {
-        self.input.len()
     }
 
     // How many bytes the next page of the input has, and whether a form feed ends it.
@@ -77,7 +69,7 @@ impl Editor {
         ensures room { OnOk result (len ≤ self.new.room) }
         ensures extends { Extends self.old self.new }
     {
-        make_room(*self.input.allocator(), &mut self.text, len)
+        self.text.reserve(*self.input.allocator(), len)
     }
 
     // The allocator of its parts.

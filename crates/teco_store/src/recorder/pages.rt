@@ -80,33 +80,35 @@ impl Recorder {
         Ok(Held::Memory(held))
     }
 
-    // Puts the next page for the `there` bytes at `at`, and notes those that stood there in `held`, which is empty.
-    fn exchange_page(
+    // Puts `count` bytes of the input from `from` on for the `there` bytes at `at`, and notes those that stood there in `held`, which
+    // is empty.
+    fn exchange_input(
         &mut self,
-        span: PageSpan,
+        from: usize,
+        count: usize,
         at: usize,
         there: usize,
         pointer: usize,
         held: Vec<u8>,
     )
-        requires span { IsPageSpan span self.old.full.body }
         requires spare { 0 < self.old.spare }
+        requires within { from + count ≤ length self.old.full.body.input }
         requires empty { held.items ≡ [] }
-        requires memory { there + length (page self.old.full.body) ≤ vec_capacity held }
+        requires memory { there + count ≤ vec_capacity held }
         requires there { at + there ≤ length self.old.full.body.text }
-        requires lands { pointer + there ≤ length self.old.full.body.text + length (page self.old.full.body) }
-        requires small { length self.old.full.body.text + length
-            (page self.old.full.body) ≤ TEXT_LIMIT + there }
-        requires room { length self.old.full.body.text + length
-            (page self.old.full.body) ≤ self.old.full.room + there }
-        ensures full { self.new.full ≡ full_after
-            (Splice at there pointer (page self.old.full.body)) self.old.full }
+        requires lands { pointer + there ≤ length self.old.full.body.text + count }
+        requires small { length self.old.full.body.text + count ≤ TEXT_LIMIT + there }
+        requires room { length self.old.full.body.text + count ≤ self.old.full.room + there }
+        ensures full { self.new.full ≡ full_after (Splice at there pointer
+            (lent self.old.full.body.input from count)) self.old.full }
         ensures sound { IsSound self.new.full.room (length self.new.full.stored) self.new.full.body }
         ensures spare { self.new.spare + 1 ≡ self.old.spare }
-        ensures goes { FollowsAfterChanges (there + length (page self.old.full.body)) 1 self.old self.new }
+        ensures goes { FollowsAfterChanges (there + count) 1 self.old self.new }
     {
         let _shown = self.editor.shown();
-        let held = self.editor.exchange_page(span, at, there, pointer, held);
+        let held = self
+            .editor
+            .exchange_input(from, count, at, there, pointer, held);
         self.entry.push_reserved(Change::new(self.done, held));
     }
 
@@ -134,45 +136,33 @@ impl Recorder {
         }));
     }
 
-    // Puts the next page for the `there` bytes at `at`, and notes where those stand, or them in memory that was found.
-    fn put_page(&mut self, span: PageSpan, at: usize, there: usize, pointer: usize, held: Held)
-        requires span { IsPageSpan span self.old.full.body }
+    // Puts `count` bytes of the input from `from` on for the `there` bytes at `at`, and notes where those stand, or them in memory that
+    // was found.
+    pub(super) fn put_input(
+        &mut self,
+        from: usize,
+        count: usize,
+        at: usize,
+        there: usize,
+        pointer: usize,
+        held: Held,
+    )
         requires spare { 0 < self.old.spare }
-        requires held { CanHold self.old.full.body at there (length (page self.old.full.body)) held }
+        requires within { from + count ≤ length self.old.full.body.input }
+        requires held { CanHold self.old.full.body at there count held }
         requires there { at + there ≤ length self.old.full.body.text }
-        requires lands { pointer + there ≤ length self.old.full.body.text + length (page self.old.full.body) }
-        requires small { length self.old.full.body.text + length
-            (page self.old.full.body) ≤ TEXT_LIMIT + there }
-        requires room { length self.old.full.body.text + length
-            (page self.old.full.body) ≤ self.old.full.room + there }
-        ensures full { self.new.full ≡ full_after
-            (Splice at there pointer (page self.old.full.body)) self.old.full }
+        requires lands { pointer + there ≤ length self.old.full.body.text + count }
+        requires small { length self.old.full.body.text + count ≤ TEXT_LIMIT + there }
+        requires room { length self.old.full.body.text + count ≤ self.old.full.room + there }
+        ensures full { self.new.full ≡ full_after (Splice at there pointer
+            (lent self.old.full.body.input from count)) self.old.full }
         ensures sound { IsSound self.new.full.room (length self.new.full.stored) self.new.full.body }
         ensures spare { self.new.spare + 1 ≡ self.old.spare }
-        ensures goes { FollowsAfterChanges (there + length (page self.old.full.body)) 1 self.old self.new }
+        ensures goes { FollowsAfterChanges (there + count) 1 self.old self.new }
     {
         match held {
-            Held::Memory(held) => self.exchange_page(span, at, there, pointer, held),
-            Held::Input(there_from) => {
-                let from = self.editor().place();
-                self.lend(from, span.len, there_from, there, pointer);
-            }
-        }
-    }
-
-    // Takes out the page, and notes where it stands, or its bytes in memory that was found.
-    pub(super) fn empty(&mut self, there: usize, held: Held)
-        requires spare { 0 < self.old.spare }
-        requires held { CanHold self.old.full.body 0 there 0 held }
-        requires there { there ≡ length self.old.full.body.text }
-        ensures full { self.new.full ≡ full_after (Splice 0 there 0 []) self.old.full }
-        ensures sound { IsSound self.new.full.room (length self.new.full.stored) self.new.full.body }
-        ensures spare { self.new.spare + 1 ≡ self.old.spare }
-        ensures goes { FollowsAfterChanges there 1 self.old self.new }
-    {
-        match held {
-            Held::Memory(held) => self.exchange(0, there, &[], 0, held),
-            Held::Input(there_from) => self.lend(0, 0, there_from, there, 0),
+            Held::Memory(held) => self.exchange_input(from, count, at, there, pointer, held),
+            Held::Input(there_from) => self.lend(from, count, there_from, there, pointer),
         }
     }
 
@@ -201,9 +191,10 @@ impl Recorder {
             ≡ record self.old.full { body = brought self.old.full.body at there pointer end } }
         ensures goes { FollowsAfterChanges (there + length (page self.old.full.body)) 2 self.old self.new }
     {
-        let form_feed = span.form_feed;
-        let place = self.editor().place() + span.len + usize::from(form_feed);
-        self.put_page(span, at, there, pointer, held);
+        let PageSpan { len, form_feed } = span;
+        let from = self.editor().place();
+        let place = from + len + usize::from(form_feed);
+        self.put_input(from, len, at, there, pointer, held);
         self.note(Kind::Pages(place as u32, end as u32, form_feed));
     }
 }

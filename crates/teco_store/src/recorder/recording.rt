@@ -244,10 +244,10 @@ impl Desk for Recorder {
             return Err(Refused::Big);
         };
         let there = editor.len();
-        let over = editor.input_len();
+        let over = editor.input().len();
         let held = self.hold_page(3, there, 0)?;
         self.store_upto(held.place(), over)?;
-        self.empty(there, held);
+        self.put_input(0, 0, 0, there, 0, held);
         self.note(Kind::Pages(over as u32, end as u32, false));
         self.note(Kind::Done(true));
         Ok(())
