@@ -274,7 +274,8 @@ impl Desk for Editor {
         }
         self.reserve(kept + ins.len())?;
         self.note_text(text)?;
-        self.replace(at, del, ins, at + ins.len());
+        self.text.splice(at, del, ins);
+        self.pointer = at + ins.len();
         self.last_found = true;
         Ok(())
     }

@@ -136,19 +136,6 @@ impl Recorder {
         Vec::with_capacity(self.editor.allocator(), bytes)
     }
 
-    // Finds room for so many changes, and for a text of `len` bytes.
-    fn find_room(&mut self, changes: usize, len: usize) -> Result<(), NoMemory>
-        ensures body { self.new.full.body ≡ self.old.full.body }
-        ensures stored { self.new.full.stored ≡ self.old.full.stored }
-        ensures sound { IsSound self.new.full.room (length self.new.full.stored) self.new.full.body }
-        ensures spare { OnOk result (changes ≤ self.new.spare) }
-        ensures room { OnOk result (len ≤ self.new.full.room) }
-        ensures keeps { StillFollows self.old self.new }
-    {
-        self.reserve(changes)?;
-        self.reserve_text(len)
-    }
-
     // Finds room for so many changes, and for a text of `len` bytes; and memory for `bytes` bytes that are to be noted, where they
     // are not few.
     fn find_held(
@@ -166,11 +153,12 @@ impl Recorder {
         ensures room { OnOk result (len ≤ self.new.full.room) }
         ensures keeps { StillFollows self.old self.new }
     {
+        self.reserve(changes)?;
+        self.reserve_text(len)?;
         if bytes <= SHORT_LIMIT {
-            self.find_room(changes, len)?;
             return Ok(None);
         }
-        let held = self.find_memory(changes, bytes, len)?;
+        let held = Vec::with_capacity(self.editor.allocator(), bytes)?;
         Ok(Some(held))
     }
 

@@ -1,10 +1,10 @@
 //! Parts of an editor are changed, and nothing of what stood there is kept.
-ghost use Rattle.std.specs.Prelude.{◌≡◌, ◌+◌, ◌≤◌, length, option_map, None, Some, IfOk, IsOk, OnOk, OnErr};
+ghost use Rattle.std.specs.Prelude.{◌≡◌, ◌+◌, ◌≤◌, length, option_map, None, IfOk, IsOk, OnOk, OnErr};
 ghost use Rattle.std.specs.Option.{option_copied};
 ghost use Rattle.teco_store.specs.PageSpan.{IsPageSpan};
 ghost use Rattle.teco_store.specs.Page.{brought, page};
 ghost use Rattle.teco_store.specs.Search.{fresh, length_of, text_after};
-ghost use Rattle.teco_store.specs.State.{spliced, with_body};
+ghost use Rattle.teco_store.specs.State.{with_body};
 
 use crate::editor::Editor;
 use crate::pages::PageSpan;
@@ -35,18 +35,6 @@ impl Editor {
         self.place += len + usize::from(form_feed);
         self.shown = end;
         self.form_feed = form_feed;
-    }
-
-    // Puts `ins` for the `del` bytes at `at`, and the pointer at a place.
-    pub(super) fn replace(&mut self, at: usize, del: usize, ins: &[u8], pointer: usize)
-        requires there { at + del ≤ length self.old.body.text }
-        requires lands { pointer + del ≤ length self.old.body.text + length ins.now }
-        requires small { length self.old.body.text + length ins.now ≤ TEXT_LIMIT + del }
-        requires room { length self.old.body.text + length ins.now ≤ self.old.room + del }
-        ensures { self.new ≡ with_body self.old (spliced self.old.body at del ins.now (Some pointer)) }
-    {
-        self.text.splice(at, del, ins);
-        self.pointer = pointer;
     }
 
     // A copy of a text to be noted; none where it is the last one again.
