@@ -153,12 +153,12 @@ impl Recorder {
         ensures room { OnOk result (len ≤ self.new.full.room) }
         ensures keeps { StillFollows self.old self.new }
     {
-        self.reserve(changes)?;
-        self.reserve_text(len)?;
         if bytes <= SHORT_LIMIT {
+            self.reserve(changes)?;
+            self.reserve_text(len)?;
             return Ok(None);
         }
-        let held = Vec::with_capacity(self.editor.allocator(), bytes)?;
+        let held = self.find_memory(changes, bytes, len)?;
         Ok(Some(held))
     }
 
