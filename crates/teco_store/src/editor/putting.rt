@@ -54,13 +54,11 @@ impl Editor {
             Kind::TakeOff => Kind::Push(self.pushed.pop()),
             Kind::PopInto(q) => self.put_popped(q),
             Kind::PutBack(q, value) => self.put_back(q, value),
-            Kind::Pages(place, output, form_feed) => {
-                let there = Kind::Pages(self.place as u32, self.shown as u32, self.form_feed);
-                self.place = place as usize;
-                self.shown = output as usize;
-                self.form_feed = form_feed;
-                there
-            }
+            Kind::Pages(place, output, form_feed) => Kind::Pages(
+                mem::replace(&mut self.place, place as usize) as u32,
+                mem::replace(&mut self.shown, output as usize) as u32,
+                mem::replace(&mut self.form_feed, form_feed),
+            ),
             Kind::Search(held) => Kind::Search(mem::replace(&mut self.last_search, held)),
             Kind::Found(found) => Kind::Found(mem::replace(&mut self.last_found, found)),
             Kind::Done(done) => Kind::Done(mem::replace(&mut self.done, done)),
