@@ -15,7 +15,7 @@ use Rattle.teco_step.specs.declared.failure.Failure.{Failure}
 use Rattle.teco_step.specs.declared.failure.Failure.TheVariants as failure
 use Rattle.teco_step.specs.declared.next.Next.{Next}
 use Rattle.teco_step.specs.declared.next.Next.TheVariants as next
-use Rattle.teco_step.specs.Step.{Attempt, Action, End, Made, as_byte, done_by, edits, goes_on}
+use Rattle.teco_step.specs.Step.{Attempt, Action, End, Made, as_byte, done_by, edits, gives, goes, goes_on}
 use Rattle.teco_step.specs.Stepping.{end_of, is_unfinished}
 use Rattle.teco_step.specs.Families.{ActsFrom, IsActed, IsRefusal, IsUnacted, Scene, Takes, failure_of, tag_of}
 
@@ -111,6 +111,11 @@ pub acts_as : (f h : Action) (s new : State) (a left : Arguments) (F G : Trail �
     → ActsFrom h (scene_of s a F) (scene_of new left G) r → ActsFrom f (scene_of s a F) (scene_of new left G) r
 acts_as f h s new a left F G (Ok n) e d = subst (λ m. IsActed m (scene_of s a F) (scene_of new left G) n) (sym e) d
 acts_as f h s new a left F G (Err u) e d = subst (λ m. IsUnacted m (scene_of s a F) (scene_of new left G) u) (sym e) d
+
+-- It was done by giving the same value.
+pub acts_given : (f : Action) (v w : ℤ) (s new : State) (a left : Arguments) (F G : Trail → Type 0) (r : Result Next Failure) → w ≡ v → done_by f s a ≡ goes_on s (gives s a v)
+    → ActsFrom (goes (λ s a. gives s a w)) (scene_of s a F) (scene_of new left G) r → ActsFrom f (scene_of s a F) (scene_of new left G) r
+acts_given f v w s new a left F G r same e d = acts_as f (goes (λ s a. gives s a w)) s new a left F G r (e ∙ ap (λ v. goes_on s (gives s a v)) (sym same)) d
 
 -- the same of a step that ends as it says
 pub steers_done : (attempt : Attempt) (t new : State) (left args : Arguments) (load : ℕ) (end : End) (before : Scene) (G : Trail → Type 0) (n : Next)

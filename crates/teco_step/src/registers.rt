@@ -13,8 +13,9 @@ use crate::edit::put;
 use crate::failure::Failure;
 use crate::joining::joined;
 use crate::next::Next;
-use crate::taking::{give, given, sum, takes_none, takes_one, takes_reach};
+use crate::taking::{given, sum, takes_none, takes_one, takes_reach};
 use crate::typing::show;
+use crate::value::give;
 use teco_core::{Args, Code, Level, Reg};
 use teco_scan::Modifiers;
 use teco_store::{Desk, part};
@@ -50,8 +51,7 @@ pub(crate) fn register_value<D: Desk>(
         (desk.now, args.old) (desk.now, args.new) result }
     ensures no_memory { result ≡ Err Memory → ⊥ }
 {
-    give(args, value_of(desk, modifiers, q))?;
-    Ok(Next::On)
+    give(desk, value_of(desk, modifiers, q), args)
 }
 
 /// `nUq`: the number of q becomes n.

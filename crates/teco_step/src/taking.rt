@@ -1,13 +1,13 @@
 //! What commands take: a number, a byte, a place, or a range of the text.
-ghost use Rattle.std.specs.Prelude.{◌≡◌, ◌<◌, ◌≤◌, ◌^◌, ◌+ℤ◌, ◌-ℤ◌, false, length, IfErr, IfOk, Ok, OnErr, OnOk, pos};
-ghost use Rattle.teco_core.specs.Arguments.{close_level, comma, give, give_pair, open_level, operate, taken_from};
+ghost use Rattle.std.specs.Prelude.{◌≡◌, ◌≤◌, ◌+ℤ◌, ◌-ℤ◌, false, length, IfOk, pos};
+ghost use Rattle.teco_core.specs.Arguments.{give, taken_from};
 ghost use Rattle.teco_core.specs.ArgumentsView.{arguments};
 ghost use Rattle.teco_core.specs.Number as number;
 ghost use Rattle.teco_core.specs.Number.{decimal_value, fitted};
 ghost use Rattle.teco_core.specs.declared.arguments.Taken.TheVariants.{Two};
 ghost use Rattle.teco_core.specs.declared.code.Code.TheVariants.{Pop};
 ghost use Rattle.teco_core.specs.declared.limits.TheConstants.{TEXT_LIMIT};
-ghost use Rattle.teco_step.specs.Families.{IsRefusal, Takes, range_of};
+ghost use Rattle.teco_step.specs.Families.{Takes, range_of};
 ghost use Rattle.teco_step.specs.Line.{line};
 ghost use Rattle.teco_step.specs.Step as step;
 ghost use Rattle.teco_step.specs.Stepping.{is_unfinished_code};
@@ -40,68 +40,13 @@ pub(crate) fn truth(answer: bool) -> i32
     if answer { -1 } else { 0 }
 }
 
-/// Gives a value.
-pub(crate) fn give(args: &mut Args, value: i32) -> Result<(), Failure>
-    ensures ok { OnOk result (give value (arguments args.old) ≡ Ok (arguments args.new)) }
-    ensures err { IfErr result (λ failure. IsRefusal failure (give value (arguments args.old))) }
-    ensures unchanged { OnErr result (args.new ≡ args.old) }
-{
-    Ok(args.give(value)?)
-}
-
 /// The arguments with a value given.
 pub(crate) fn given(args: &Args, value: i32) -> Result<Args, Failure>
     ensures { Takes arguments result (give value (arguments args.now)) }
 {
     let mut left = *args;
-    give(&mut left, value)?;
+    left.give(value)?;
     Ok(left)
-}
-
-/// Lets an operator wait.
-pub(crate) fn operator(args: &mut Args, op: Op) -> Result<(), Failure>
-    ensures ok { OnOk result (operate op (arguments args.old) ≡ Ok (arguments args.new)) }
-    ensures err { IfErr result (λ failure. IsRefusal failure (operate op (arguments args.old))) }
-    ensures unchanged { OnErr result (args.new ≡ args.old) }
-{
-    Ok(args.operator(op)?)
-}
-
-/// Gives 0 and a length.
-pub(crate) fn pair(args: &mut Args, length: usize) -> Result<(), Failure>
-    requires { length < 2 ^ 31 }
-    ensures ok { OnOk result (give_pair length (arguments args.old) ≡ Ok (arguments args.new)) }
-    ensures err { IfErr result (λ failure. IsRefusal failure (give_pair length (arguments args.old))) }
-    ensures unchanged { OnErr result (args.new ≡ args.old) }
-{
-    Ok(args.pair(length)?)
-}
-
-/// Opens a parenthesis.
-pub(crate) fn open(args: &mut Args) -> Result<(), Failure>
-    ensures ok { OnOk result (open_level (arguments args.old) ≡ Ok (arguments args.new)) }
-    ensures err { IfErr result (λ failure. IsRefusal failure (open_level (arguments args.old))) }
-    ensures unchanged { OnErr result (args.new ≡ args.old) }
-{
-    Ok(args.open()?)
-}
-
-/// Closes a parenthesis, whose value is given to what is around it.
-pub(crate) fn close(args: &mut Args) -> Result<(), Failure>
-    ensures ok { OnOk result (close_level (arguments args.old) ≡ Ok (arguments args.new)) }
-    ensures err { IfErr result (λ failure. IsRefusal failure (close_level (arguments args.old))) }
-    ensures unchanged { OnErr result (args.new ≡ args.old) }
-{
-    Ok(args.close()?)
-}
-
-/// Makes a value the first of two.
-pub(crate) fn comma(args: &mut Args) -> Result<(), Failure>
-    ensures ok { OnOk result (comma (arguments args.old) ≡ Ok (arguments args.new)) }
-    ensures err { IfErr result (λ failure. IsRefusal failure (comma (arguments args.old))) }
-    ensures unchanged { OnErr result (args.new ≡ args.old) }
-{
-    Ok(args.comma()?)
 }
 
 /// What a command takes. The arguments stay until it is done.
