@@ -4,7 +4,7 @@ ghost use Rattle.teco_step.specs.Editing as editing;
 ghost use Rattle.teco_step.specs.Families.{Acts, Takes};
 ghost use Rattle.teco_step.specs.Step.{goes};
 
-use crate::failure::Failure;
+use crate::failure::{Failure, done};
 use crate::joining::joined;
 use crate::next::Next;
 use crate::taking::{
@@ -19,9 +19,7 @@ fn move_to<D: Desk>(desk: &mut D, place: usize, args: &mut Args) -> Result<Next,
     requires { place ≤ length (D.state desk.old).text }
     ensures { Acts D.Desk (goes (editing.moves place)) (desk.old, args.old) (desk.new, args.new) result }
 {
-    desk.point(place)?;
-    args.clear();
-    Ok(Next::On)
+    done(desk.point(place), Next::On, args)
 }
 
 /// `nJ`: the pointer to n, or to 0.
@@ -73,9 +71,7 @@ pub(crate) fn put<D: Desk>(
     ensures { Acts D.Desk (goes (editing.puts at deleted bytes.now))
         (desk.old, args.old) (desk.new, args.new) result }
 {
-    desk.splice(at, deleted, bytes, None)?;
-    args.clear();
-    Ok(Next::On)
+    done(desk.splice(at, deleted, bytes, None), Next::On, args)
 }
 
 /// `nD`: deletes n characters after the pointer, or -n before it; one where it takes none.
