@@ -1,11 +1,10 @@
 //! What commands take: a number, a byte, a place, or a range of the text.
-ghost use Rattle.std.specs.Prelude.{◌≡◌, ◌≤◌, ◌+ℤ◌, ◌-ℤ◌, false, length, IfOk, pos};
+ghost use Rattle.std.specs.Prelude.{◌≡◌, ◌≤◌, ◌+ℤ◌, false, length, IfOk, pos};
 ghost use Rattle.teco_core.specs.Arguments.{give, taken_from};
 ghost use Rattle.teco_core.specs.ArgumentsView.{arguments};
 ghost use Rattle.teco_core.specs.Number as number;
 ghost use Rattle.teco_core.specs.Number.{decimal_value, fitted};
 ghost use Rattle.teco_core.specs.declared.arguments.Taken.TheVariants.{Two};
-ghost use Rattle.teco_core.specs.declared.code.Code.TheVariants.{Pop};
 ghost use Rattle.teco_core.specs.declared.limits.TheConstants.{TEXT_LIMIT};
 ghost use Rattle.teco_step.specs.Families.{Takes, range_of};
 ghost use Rattle.teco_step.specs.Line.{line};
@@ -122,23 +121,11 @@ pub(crate) fn place_in<D: Desk>(desk: &D, code: Code, place: i64) -> Result<usiz
     Ok(place as usize)
 }
 
-/// The place `n` characters after the pointer. One outside the text is refused by this code.
-pub(crate) fn place_after<D: Desk>(desk: &D, code: Code, n: i32) -> Result<usize, Failure>
-    requires { is_unfinished_code code ≡ false }
-    ensures value { let s = D.state desk.now in Takes (λ p. p) result
-        (step.place_or code s (pos s.pointer +ℤ n)) }
-    ensures within { IfOk result (λ place. place ≤ length (D.state desk.now).text) }
+/// The place `n` characters after the pointer, which may be outside the text.
+pub(crate) fn place_after<D: Desk>(desk: &D, n: i32) -> i64
+    ensures { result ≡ pos (D.state desk.now).pointer +ℤ n }
 {
-    place_in(desk, code, desk.pointer() as i64 + i64::from(n))
-}
-
-/// The place `n` characters before the pointer. One outside the text is [`Code::Pop`].
-pub(crate) fn place_before<D: Desk>(desk: &D, n: i32) -> Result<usize, Failure>
-    ensures value { let s = D.state desk.now in Takes (λ p. p) result
-        (step.place_or Pop s (pos s.pointer -ℤ n)) }
-    ensures within { IfOk result (λ place. place ≤ length (D.state desk.now).text) }
-{
-    place_in(desk, Code::Pop, desk.pointer() as i64 - i64::from(n))
+    desk.pointer() as i64 + i64::from(n)
 }
 
 /// The place of line `n`, as seen from the pointer.

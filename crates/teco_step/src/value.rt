@@ -1,6 +1,6 @@
 //! Tokens that give a value or build arguments. But for the commands that the level decides on, they change no state and take no
 //! memory. One that is refused keeps the arguments.
-ghost use Rattle.std.specs.Prelude.{◌≡◌, ◌++◌, ◌<◌, ◌^◌, ◌+ℤ◌, pos, Err, IfErr, Ok, OnErr, OnOk};
+ghost use Rattle.std.specs.Prelude.{◌≡◌, ◌++◌, ◌<◌, ◌^◌, pos, Err, IfErr, Ok, OnErr, OnOk};
 ghost use Rattle.teco_core.specs.ArgumentsView.{arguments};
 ghost use Rattle.teco_step.specs.Families.{Acts};
 ghost use Rattle.teco_step.specs.Step.{gives, goes};
@@ -13,7 +13,7 @@ use crate::line::byte_at;
 use crate::next::Next;
 use crate::pages::append_page;
 use crate::registers::give_alone;
-use crate::taking::{decimal, text_length, truth};
+use crate::taking::{decimal, place_after, text_length, truth};
 use teco_core::{Args, Code, Level};
 use teco_scan::{Arithmetic, LevelCommand, Quantity};
 use teco_store::Desk;
@@ -123,19 +123,12 @@ fn code_at<D: Desk>(desk: &D, place: i64) -> i32
     }
 }
 
-/// The code of the character `n` after the pointer, or -1 where none is.
-fn code_near<D: Desk>(desk: &D, n: i32) -> i32
-    ensures { let s = D.state desk.now in result ≡ values.code_at s.text (pos s.pointer +ℤ n) }
-{
-    code_at(desk, desk.pointer() as i64 + i64::from(n))
-}
-
 /// Gives the code of the character `n` after the pointer, in place of what the level has.
 fn give_code<D: Desk>(desk: &D, n: i32, args: &mut Args) -> Result<Next, Failure>
     ensures does { Acts D.Desk (goes (values.gives_code n)) (desk.now, args.old) (desk.now, args.new) result }
     ensures no_memory { result ≡ Err Memory → ⊥ }
 {
-    let code = code_near(desk, n);
+    let code = code_at(desk, place_after(desk, n));
     give_alone(args, code);
     Ok(Next::On)
 }
