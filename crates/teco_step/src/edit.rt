@@ -123,8 +123,7 @@ fn untaken(taken: Taken) -> Result<(), Failure>
 {
     match taken {
         Taken::None => Ok(()),
-        Taken::One(_) => Err(Failure::Command(Code::Iia)),
-        Taken::Two(..) => Err(Failure::Command(Code::Iia)),
+        Taken::One(_) | Taken::Two(..) => Err(Failure::Command(Code::Iia)),
     }
 }
 

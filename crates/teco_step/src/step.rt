@@ -201,9 +201,8 @@ pub fn step_token<D: Desk, T: Terminal>(
     };
     match token.kind {
         TokenKind::Item(item) => { next_of(item_step(desk, text, item, setting, args, term)) }
-        TokenKind::Mark(_) => Next::Error(Code::Ill),
-        TokenKind::Test(_) => Next::Error(Code::Ill),
-        TokenKind::Tag(_) => Next::Error(Code::Ill),
-        TokenKind::Escape => Next::Error(Code::Ill),
+        TokenKind::Mark(_) | TokenKind::Test(_) | TokenKind::Tag(_) | TokenKind::Escape => {
+            Next::Error(Code::Ill)
+        }
     }
 }

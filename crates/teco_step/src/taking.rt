@@ -62,8 +62,7 @@ pub(crate) fn takes_none(args: &Args) -> Result<(), Failure>
 {
     match taken(args)? {
         Taken::None => Ok(()),
-        Taken::One(_) => Err(Failure::Command(Code::Arg)),
-        Taken::Two(..) => Err(Failure::Command(Code::Arg)),
+        Taken::One(_) | Taken::Two(..) => Err(Failure::Command(Code::Arg)),
     }
 }
 
