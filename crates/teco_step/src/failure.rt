@@ -1,4 +1,4 @@
-//! Why a step was not done.
+//! Why a step was not done, and what an answer leads to.
 ghost use Rattle.std.specs.Prelude.{◌≡◌, Err, IfErr, Ok, OnOk};
 ghost use Rattle.teco_core.specs.Arguments.{no_arguments};
 ghost use Rattle.teco_core.specs.ArgumentsView.{arguments};
@@ -58,6 +58,7 @@ impl From<TerminalFault> for Failure {
 }
 
 /// What a command leads to by the answer of its call of the desk. If that was done, so is the command, and its arguments are gone.
+#[inline(always)]
 pub(crate) fn done(
     answer: Result<(), Refused>,
     next: Next,
