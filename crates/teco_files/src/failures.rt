@@ -19,8 +19,8 @@ impl Failures {
     /// Counts a call that failed, and notes its error.
     pub(crate) fn counted<A: Drop>(&mut self, done: io::Result<A>) -> io::Result<A>
         ensures same { result ≡ done }
-        ensures count { Counts done self.old.times self.new.times }
-        ensures error { IfErr done (λ error. self.new.last ≡ Some error) }
+        ensures count { Counts result self.old.times self.new.times }
+        ensures error { IfErr result (λ error. self.new.last ≡ Some error) }
     {
         if let Err(error) = &done {
             self.times = self.times.wrapping_add(1);
