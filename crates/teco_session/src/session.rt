@@ -13,7 +13,7 @@ ghost use Rattle.teco_session.specs.Play.{Play, ShowsAll, answers_of};
 
 use crate::changes::Changes;
 use crate::entries::Entries;
-use crate::entry::Entry;
+use crate::entry::{Entry, Turn};
 use crate::request::{Answer, Answered, NothingToRedo, NothingToUndo, Request};
 use crate::runner::{Placing, Plain, Runner, record_run, run_unnoted};
 use crate::text::Text;
@@ -69,12 +69,7 @@ impl Session {
         ensures value { IfOk result (λ session. session ≡ new_session (Some depth) input.items) }
         ensures history { IfOk result (λ session. history_of session ≡ new_history (Some depth) input.items) }
     {
-        let entries = Entries::with_depth(*input.allocator(), depth)?;
-        Ok(Session {
-            recorder: Recorder::new(Editor::new(input)),
-            entries,
-            cursor: 0,
-        })
+        Session::with_pages(input, 0, Some(depth))
     }
 
     /// A new session over this input, of at most 2^30 bytes, whose pages end after so many lines too; 0 is any number of lines. It keeps
@@ -169,7 +164,7 @@ impl Session {
         }
         record_laws();
         let i = self.cursor - 1;
-        self.entries.revert(i, self.recorder.editor_mut());
+        self.entries.turn(i, self.recorder.editor_mut(), Turn::Back);
         self.cursor = i;
         Ok(())
     }
@@ -187,7 +182,8 @@ impl Session {
             return Err(NothingToRedo);
         }
         record_laws();
-        self.entries.apply(i, self.recorder.editor_mut());
+        self.entries
+            .turn(i, self.recorder.editor_mut(), Turn::Forth);
         self.cursor = i + 1;
         Ok(())
     }
@@ -207,7 +203,8 @@ impl Session {
         record_laws();
         let i = self.cursor - 1;
         let n = n.min(self.entries.get(i).steps);
-        self.entries.rewind(i, self.recorder.editor_mut(), n);
+        self.entries
+            .turn(i, self.recorder.editor_mut(), Turn::Cut(n));
         self.entries.truncate(self.cursor);
         Ok(())
     }
