@@ -15,13 +15,13 @@ use crate::changes::Changes;
 use crate::entries::Entries;
 use crate::entry::{Entry, Turn};
 use crate::request::{Answer, Answered, NothingToRedo, NothingToUndo, Request};
-use crate::runner::{Placing, Plain, Runner, record_run, run_unnoted};
+use crate::runner::{Placing, Plain, Runner, record_run};
 use crate::text::Text;
 use std::alloc::Global;
 use std::marker::Model;
 use teco_core::{DEPTH_LIMIT, FILE_LIMIT, NoMemory};
 use teco_exec::{Never, Stop};
-use teco_store::{Change, Desk, Editor, Recorder, record_laws};
+use teco_store::{Change, Desk, Editor, Recorder, editor_laws, record_laws};
 use teco_terminal::Terminal;
 
 /// Command strings one after another, each of which can be undone and redone.
@@ -321,7 +321,9 @@ impl Session {
             return Answer::AfterExit;
         }
         if self.entries.keeps_none() {
-            let outcome = run_unnoted(self.recorder.editor_mut(), text, limit, stop, term, runner);
+            let editor = self.recorder.editor_mut();
+            let outcome = runner.run_on(editor, text, limit, stop, term);
+            editor_laws(editor);
             return Answer::Ended(outcome);
         }
         let alloc = self.entries.alloc();
