@@ -53,7 +53,13 @@ pub fn halves_between<'a>(
 fn line_ends(bytes: &[u8]) -> usize
     ensures { result ≡ count_by is_line_end bytes.now }
 {
-    bytes.iter().filter(|byte| is_line_end(**byte)).count()
+    let mut count = 0;
+    for byte in bytes {
+        if is_line_end(*byte) {
+            count += 1;
+        }
+    }
+    count
 }
 
 /// How many line ends a text in two parts has.
