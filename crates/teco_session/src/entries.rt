@@ -119,7 +119,7 @@ impl Entries {
         ensures ok { OnOk result (HasPlace self.new) }
     {
         match self {
-            Entries::All(all) => Ok(all.reserve(1)?),
+            Entries::All(all) => all.reserve(1),
             Entries::Last(_) => Ok(()),
         }
     }
