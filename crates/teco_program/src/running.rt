@@ -52,27 +52,21 @@ fn edit_by_line<S: Source, A: Alarm, T: Terminal, L: Listens, D: Disk>(
         (host disk.new commands.new term.new) result }
 {
     let name = line.input.as_str();
-    match &line.commands {
-        Commands::StandardInput => edit_file(
-            alloc, line, name, number, commands, alarm, term, listener, disk,
-        ),
-        Commands::Bytes(file) => {
-            let file = file.as_str();
-            if is_standard_input(file) {
-                return edit_file(
-                    alloc, line, name, number, commands, alarm, term, listener, disk,
-                );
-            }
-            let mut given = match disk.open(file) {
-                Ok(given) => given,
-                Err(error) => return fate_of(error, Fate::NoCommands),
-            };
-            edit_input(
-                alloc, line, name, number, &mut given, commands, alarm, term, listener, disk,
-            )
+    let file = match &line.commands {
+        Commands::Bytes(file) if !is_standard_input(file.as_str()) => file.as_str(),
+        _ => {
+            return edit_file(
+                alloc, line, name, number, commands, alarm, term, listener, disk,
+            );
         }
-        Commands::Sources(..) | Commands::Pages(_) => unreachable!(),
-    }
+    };
+    let mut given = match disk.open(file) {
+        Ok(given) => given,
+        Err(error) => return fate_of(error, Fate::NoCommands),
+    };
+    edit_input(
+        alloc, line, name, number, &mut given, commands, alarm, term, listener, disk,
+    )
 }
 
 /// Whether the commands of the line are served to one input as they come.
