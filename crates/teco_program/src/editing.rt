@@ -1,17 +1,14 @@
 //! One run of the program: an input is read, commands are served over it, and the output is written.
-ghost use Rattle.std.specs.Prelude.{◌≡◌, ◌≤◌, IfErr, IfOk, IfSome, IsTrue, OnErr, false, vec_len};
+ghost use Rattle.std.specs.Prelude.{◌≡◌, ◌≤◌, IfErr, IfOk, IfSome, IsTrue, false, vec_len};
 ghost use Rattle.std.specs.Option.{ForSome};
 ghost use Rattle.teco_core.specs.declared.limits.TheConstants.{DEPTH_LIMIT, FILE_LIMIT};
-ghost use Rattle.teco_files.specs.Source.{Gives, HasEnded};
 ghost use Rattle.teco_line.specs.CommandLine.{IsDepth};
 ghost use Rattle.teco_line.specs.StreamNames.{is_standard_input, is_standard_output};
-ghost use Rattle.teco_program.specs.Exchange.{HasRung, allowance};
-ghost use Rattle.teco_program.specs.Run.{Edits, EndsBy, FinishesIn, FailsToStream, IsFateOf, IsInput, IsStreamed, KeepsDisk, LacksInput, bounds_of, depth_of, doings_after, given_input, history_over, input_from, named_input, named_output, standard_input, standard_output};
+ghost use Rattle.teco_program.specs.Exchange.{HasRung};
+ghost use Rattle.teco_program.specs.Run.{Edits, EndsBy, FinishesIn, FailsToStream, IsFateOf, IsInput, IsStreamed, KeepsDisk, LacksInput, depth_of, doings_after, given_input, history_over, input_from, named_input, named_output, standard_input, standard_output};
 ghost use Rattle.teco_program.specs.Seen.{commands_seen, disk_seen, run_seen, source_view};
-ghost use Rattle.teco_program.specs.Serving.{Serves};
 ghost use Rattle.teco_program.specs.Writing.{both};
 ghost use Rattle.teco_session.specs.Kept.{history_of};
-ghost use Rattle.teco_terminal.specs.Terminal.{Shows};
 
 use crate::alarm::{Alarm, Bounds};
 use crate::comparing::has_bytes;
@@ -97,42 +94,6 @@ fn session_over(line: &Line, input: Vec<u8>) -> Result<Session, NoMemory>
 {
     let lines = line.page_lines.unwrap_or(0) as usize;
     Session::with_pages(input, lines, depth_of(line))
-}
-
-/// Serves the commands over the input. Gives the session that is left, and how the serving ended.
-fn serve_over<S: Source, A: Alarm, T: Terminal, L: Listens>(
-    alloc: Global,
-    line: &Line,
-    input: Vec<u8>,
-    commands: &mut S,
-    alarm: &mut A,
-    term: &mut T,
-    listener: &mut L,
-) -> Result<(Session, Served), NoMemory>
-    requires small { vec_len input ≤ FILE_LIMIT }
-    requires depth { IfSome line.now.undo IsDepth }
-    ensures serves { IfOk result (λ ended. Serves (allowance (bounds_of line.now) (HasRung A.answered)) line.now.prompt
-        (Gives S.coming S.bound S.failures commands.old commands.new)
-        (HasEnded (S.coming commands.new) (S.ended commands.new))
-        (Shows (T.screen term.old) (T.screen term.new))
-        (history_over line.now input.items) (history_of ended.0) ended.1) }
-    ensures err { OnErr result ((commands.new ≡ commands.old) × (term.new ≡ term.old)) }
-{
-    let mut session = session_over(line, input)?;
-    let served = serve(
-        alloc,
-        commands,
-        &mut session,
-        Bounds {
-            steps: line.limit,
-            seconds: line.seconds,
-        },
-        line.prompt,
-        alarm,
-        term,
-        listener,
-    );
-    Ok((session, served))
 }
 
 /// How a run ends that is to write its output over the file that was read, where that has changed since, or has these bytes already.
@@ -243,10 +204,22 @@ fn edit_over<S: Source, A: Alarm, T: Terminal, L: Listens, D: Disk>(
     let Ok(to) = output_name(alloc, line, name) else {
         return Fate::NoMemory;
     };
-    let Ok((session, served)) = serve_over(alloc, line, input, commands, alarm, term, listener)
-    else {
+    let Ok(mut session) = session_over(line, input) else {
         return Fate::NoMemory;
     };
+    let served = serve(
+        alloc,
+        commands,
+        &mut session,
+        Bounds {
+            steps: line.limit,
+            seconds: line.seconds,
+        },
+        line.prompt,
+        alarm,
+        term,
+        listener,
+    );
     let fate = finish(
         alloc,
         line.in_place,

@@ -56,9 +56,7 @@ fn edit_given<S: Source, A: Alarm, T: Terminal, L: Listens, D: Disk>(
         (host disk.new commands.new term.new) result }
 {
     let Some(bytes) = bytes else {
-        return edit_by_line(
-            alloc, line, number, commands, alarm, term, listener, disk,
-        );
+        return edit_by_line(alloc, line, number, commands, alarm, term, listener, disk);
     };
     let Ok(bytes) = Vec::from_slice(alloc, bytes) else {
         return Fate::NoMemory;
