@@ -1,7 +1,6 @@
 -- What lines that the same words say have in common, and runs one after another.
-use Rattle.std.proofs.Common.{◌≡◌, ◌++◌, inl, inr, ℕ, List, [], ◌∷◌, Result, Ok, Err, String, Vec, Global, refl, sym, ◌∙◌, ap, subst, true, false, true≢false}
+use Rattle.std.proofs.Common.{◌≡◌, ◌++◌, inl, inr, ℕ, List, [], ◌∷◌, Result, Ok, Err, String, Vec, Global, refl, sym, ◌∙◌, ap, subst, false, true≢false}
 use Rattle.std.proofs.lemmas.Bool.{cases_Bool}
-use Rattle.std.specs.String.{string_bytes}
 use Rattle.teco_line.specs.declared.line.Line.{Line}
 use Rattle.teco_line.specs.declared.line.LineFault.{LineFault}
 use Rattle.teco_program.specs.Ending.{worse, worst}

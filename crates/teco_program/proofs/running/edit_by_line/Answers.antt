@@ -1,5 +1,5 @@
 use Rattle.std.proofs.lemmas.Grind.{common_steps}
-use Rattle.std.proofs.Common.{arith, rules, ◌≡◌, ◌∙◌, ℕ, List, ap, false, inr, refl, subst, sym}
+use Rattle.std.proofs.Common.{arith, rules, ◌≡◌, ◌∙◌, ℕ, List, ap, false, inr, subst, sym}
 use Rattle.std.specs.String.{string_bytes}
 use Rattle.teco_line.specs.StreamNames.{is_standard_input}
 use Rattle.teco_program.specs.Exchange.{HasRung}
