@@ -39,6 +39,11 @@ abbrev pub ShowsHelp : Debugger → Debugger → List ℕ → Type 0
 ShowsHelp old new shown = (new ≡ old)
     × ((rows : List VerbRow) × (map verb_by rows ≡ verbs) × (shown ≡ help_shown rows))
 
+-- It goes to a step as a move that can be taken back, if there is such a step; else it says why there is none.
+abbrev pub GoesOrSays : Option ℕ → List ℕ → Debugger → Debugger → List ℕ → Type 0
+GoesOrSays (Some n) words old new shown = MovesTo n old new shown
+GoesOrSays None words old new shown = OnlyShows (answer_line words) old new shown
+
 -- It goes on to the next step at the place to stop at, if one is noted and such a step comes.
 abbrev pub GoesOnToStop : Option Spot → Debugger → Debugger → List ℕ → Type 0
 GoesOnToStop None old new shown = OnlyShows (answer_line (codes "no place to stop at is noted")) old new shown
@@ -49,8 +54,7 @@ GoesOnToStop (Some stop) old new shown =
 
 -- It goes back to before the last change of a part, if one was made.
 abbrev pub FindsChange : Option ℕ → Debugger → Debugger → List ℕ → Type 0
-FindsChange (Some n) old new shown = MovesTo n old new shown
-FindsChange None old new shown = OnlyShows (answer_line (codes "no step before this one changed it")) old new shown
+FindsChange to old new shown = GoesOrSays to (codes "no step before this one changed it") old new shown
 
 -- Some moves are taken back: it goes to where the walk stood before the first of them, if there was a move.
 abbrev pub TakesBack : ℕ → Option ℕ → Debugger → Debugger → List ℕ → Type 0

@@ -1,11 +1,9 @@
 //! The commands, done by a walk.
-ghost use Rattle.std.specs.Fmt.{decimal};
 ghost use Rattle.std.specs.Prelude.{◌≡◌, ◌+◌, ◌++◌, [], codes, IfNone, IfOk, IfSome, None, Ok, OnOk, Some, slice_get};
 ghost use Rattle.std.specs.String.{string_bytes};
-ghost use Rattle.teco_retrace.specs.Answering.{IsAnswerTo, AnswersCommand, AnswersCounted, AnswersPlain, GoesOnToStop, FindsChange, ShowsWhere, TakesBack, answer_line};
+ghost use Rattle.teco_retrace.specs.Answering.{IsAnswerTo, AnswersCommand, AnswersCounted, AnswersPlain, GoesOnToStop, GoesOrSays, ShowsWhere, TakesBack, answer_line};
 ghost use Rattle.teco_retrace.specs.Moving.{Arrives, HasNoStop, IsNextStop, MovesTo, SameRun};
 ghost use Rattle.teco_telling.specs.Spelling.{spelled};
-ghost use Rattle.teco_walk.specs.Finding.{last_change};
 ghost use Rattle.teco_walk.specs.Verb.{command_of, words_of};
 ghost use Rattle.teco_walk.specs.Walk.{meant};
 
@@ -18,7 +16,7 @@ use std::alloc::Global;
 use teco_core::NoMemory;
 use teco_store::Desk;
 use teco_telling::{Spot, spell};
-use teco_walk::{Command, Counted, Part, Plain, Walk};
+use teco_walk::{Command, Counted, Plain, Walk};
 
 /// A walk, with what the commands need beside it.
 #[derive(Drop)]
@@ -76,6 +74,18 @@ impl Debugger {
         self.arrive(out, n)
     }
 
+    /// The same, if there is such a step; else says why there is none.
+    fn go_or_say(&mut self, out: &mut String, to: Option<u64>, words: &str) -> Result<(), NoMemory>
+        requires { string_bytes out.old ≡ [] }
+        ensures goes { OnOk result (GoesOrSays to words.now self.old self.new (string_bytes out.new)) }
+        ensures same { SameRun self.old self.new }
+    {
+        match to {
+            Some(n) => self.go(out, n),
+            None => show_words(out, words),
+        }
+    }
+
     /// Where the walk stood before a move, of those that can be taken back.
     fn before_move(&self, at: usize) -> Option<u64>
         ensures { result ≡ slice_get self.now.moves.items at }
@@ -98,18 +108,6 @@ impl Debugger {
         }
     }
 
-    /// Goes back to before the last change of a part, where one was made.
-    fn find(&mut self, out: &mut String, part: Part) -> Result<(), NoMemory>
-        requires { string_bytes out.old ≡ [] }
-        ensures finds { OnOk result (FindsChange (last_change part self.old.walk.changes) self.old self.new (string_bytes out.new)) }
-        ensures same { SameRun self.old self.new }
-    {
-        match self.walk.last_change(&part) {
-            Some(steps) => self.go(out, steps),
-            None => show_words(out, "no step before this one changed it"),
-        }
-    }
-
     /// The next step at the place to stop at.
     fn next_stop(&self, stop: Spot) -> Result<Option<u64>, NoMemory>
         ensures found { IfOk result (λ found. IfSome found (IsNextStop self.now.walk stop (self.now.walk.steps + 1))) }
@@ -124,24 +122,16 @@ impl Debugger {
     }
 
     /// Goes on to the next step at the place to stop at.
-    fn go_on_to(&mut self, out: &mut String, stop: Spot) -> Result<(), NoMemory>
-        requires { string_bytes out.old ≡ [] }
-        ensures continues { OnOk result (GoesOnToStop (Some stop) self.old self.new (string_bytes out.new)) }
-        ensures same { SameRun self.old self.new }
-    {
-        match self.next_stop(stop)? {
-            Some(n) => self.go(out, n),
-            None => show_words(out, "no step at that place comes, or it is too far"),
-        }
-    }
-
     fn go_on(&mut self, out: &mut String) -> Result<(), NoMemory>
         requires { string_bytes out.old ≡ [] }
         ensures continues { OnOk result (GoesOnToStop self.old.stop self.old self.new (string_bytes out.new)) }
         ensures same { SameRun self.old self.new }
     {
         match self.stop {
-            Some(stop) => self.go_on_to(out, stop),
+            Some(stop) => {
+                let to = self.next_stop(stop)?;
+                self.go_or_say(out, to, "no step at that place comes, or it is too far")
+            }
             None => show_words(out, "no place to stop at is noted"),
         }
     }
@@ -208,7 +198,10 @@ impl Debugger {
             Command::Plain(plain) => self.answer_plain(out, plain),
             Command::Counted(counted, n) => self.answer_counted(out, counted, n),
             Command::Register(q) => show_register(out, self.walk.editor().registers(), q),
-            Command::Find(part) => self.find(out, part),
+            Command::Find(part) => {
+                let to = self.walk.last_change(&part);
+                self.go_or_say(out, to, "no step before this one changed it")
+            }
             Command::Break(spot) => {
                 self.stop = Some(spot);
                 Ok(())
@@ -216,16 +209,7 @@ impl Debugger {
         }
     }
 
-    /// What is shown if memory was refused to a command.
-    fn lack(&self, alloc: Global) -> Result<String, NoMemory>
-        ensures { IfOk result (λ text. string_bytes text
-            ≡ answer_line (codes "no memory; the walk stands at step " ++ decimal self.now.walk.steps)) }
-    {
-        let steps = self.walk.steps();
-        format!(in alloc; "no memory; the walk stands at step {steps}\n")
-    }
-
-    /// What is shown of a command; if memory is refused to it, that alone.
+    /// What is shown of a command; if memory is refused to it, that alone, with the step at which the walk then stands.
     fn answer_or_lack(&mut self, alloc: Global, command: Command) -> Result<String, NoMemory>
         ensures answers { IfOk result (λ text. IsAnswerTo (Ok command) self.old self.new (string_bytes text)) }
         ensures same { SameRun self.old self.new }
@@ -233,7 +217,10 @@ impl Debugger {
         let mut out = String::new(alloc);
         match self.answer(&mut out, command) {
             Ok(()) => Ok(out),
-            Err(NoMemory) => self.lack(alloc),
+            Err(NoMemory) => {
+                let steps = self.walk.steps();
+                format!(in alloc; "no memory; the walk stands at step {steps}\n")
+            }
         }
     }
 
