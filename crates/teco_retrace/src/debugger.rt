@@ -1,11 +1,10 @@
 //! The commands, done by a walk.
 ghost use Rattle.std.specs.Prelude.{◌≡◌, ◌+◌, ◌++◌, [], codes, IfNone, IfOk, IfSome, None, Ok, OnOk, Some, slice_get};
 ghost use Rattle.std.specs.String.{string_bytes};
-ghost use Rattle.teco_retrace.specs.Answering.{IsAnswerTo, AnswersCommand, AnswersCounted, AnswersPlain, GoesOnToStop, GoesOrSays, ShowsWhere, TakesBack, answer_line};
+ghost use Rattle.teco_retrace.specs.Answering.{IsAnswerTo, AnswersCommand, AnswersCounted, AnswersPlain, GoesOnToStop, GoesOrSays, ShowsSeen, TakesBack, answer_line};
 ghost use Rattle.teco_retrace.specs.Moving.{Arrives, HasNoStop, IsNextStop, MovesTo, SameRun};
 ghost use Rattle.teco_telling.specs.Spelling.{spelled};
 ghost use Rattle.teco_walk.specs.Verb.{command_of, words_of};
-ghost use Rattle.teco_walk.specs.Walk.{meant};
 
 use crate::help::{show_help, verb_rows};
 use crate::listing::{show_register, show_registers, show_state, show_text};
@@ -36,6 +35,25 @@ fn show_words(out: &mut String, words: &str) -> Result<(), NoMemory>
     out.push_str("\n")
 }
 
+/// Shows what was typed, in a line.
+fn show_typed(out: &mut String, typed: &[u8]) -> Result<(), NoMemory>
+    ensures { OnOk result (string_bytes out.new ≡ string_bytes out.old ++ answer_line (spelled typed.now)) }
+{
+    spell(out, typed)?;
+    out.push_str("\n")
+}
+
+/// What is shown of where a walk stands.
+#[derive(Clone, Copy)]
+pub enum View {
+    /// The step, the place and the token, in a line.
+    Step,
+    /// All that is open there, too.
+    Where,
+    /// What was typed so far.
+    Typed,
+}
+
 impl Debugger {
     pub fn new(walk: Walk, limit: u64) -> Debugger
         ensures walk { result.walk ≡ walk }
@@ -52,6 +70,18 @@ impl Debugger {
         }
     }
 
+    /// Shows where the walk stands.
+    fn show(&self, out: &mut String, view: View) -> Result<(), NoMemory>
+        ensures { OnOk result (ShowsSeen view self.now.walk (string_bytes out.old) (string_bytes out.new)) }
+    {
+        let seen = self.walk.look(self.walk.steps())?;
+        match view {
+            View::Step => show_step(out, &self.walk, &seen),
+            View::Where => show_where(out, &self.walk, &seen),
+            View::Typed => show_typed(out, seen.typed.as_slice()),
+        }
+    }
+
     /// Goes to a step, and shows where the walk then stands.
     fn arrive(&mut self, out: &mut String, n: u64) -> Result<(), NoMemory>
         requires { string_bytes out.old ≡ [] }
@@ -60,8 +90,7 @@ impl Debugger {
         ensures same { SameRun self.old self.new }
     {
         self.walk.go(n)?;
-        let seen = self.walk.look(self.walk.steps())?;
-        show_step(out, &self.walk, &seen)
+        self.show(out, View::Step)
     }
 
     /// The same, as a move that can be taken back.
@@ -136,23 +165,6 @@ impl Debugger {
         }
     }
 
-    fn show_where(&self, out: &mut String) -> Result<(), NoMemory>
-        requires { string_bytes out.old ≡ [] }
-        ensures { OnOk result (ShowsWhere self.now self.now (string_bytes out.new)) }
-    {
-        let seen = self.walk.look(self.walk.steps())?;
-        show_where(out, &self.walk, &seen)
-    }
-
-    fn show_typed(&self, out: &mut String) -> Result<(), NoMemory>
-        ensures { OnOk result (string_bytes out.new ≡ string_bytes out.old
-            ++ answer_line (spelled (meant self.now.walk.input self.now.walk.text self.now.walk.steps).typed)) }
-    {
-        let seen = self.walk.look(self.walk.steps())?;
-        spell(out, seen.typed.as_slice())?;
-        out.push_str("\n")
-    }
-
     fn answer_plain(&mut self, out: &mut String, plain: Plain) -> Result<(), NoMemory>
         requires { string_bytes out.old ≡ [] }
         ensures answers { OnOk result (AnswersPlain plain self.old self.new (string_bytes out.new)) }
@@ -161,11 +173,11 @@ impl Debugger {
         match plain {
             Plain::End => self.go(out, self.limit),
             Plain::Start => self.go(out, 0),
-            Plain::Where => self.show_where(out),
+            Plain::Where => self.show(out, View::Where),
             Plain::Registers => show_registers(out, self.walk.editor().registers()),
             Plain::State => show_state(out, self.walk.editor()),
             Plain::Continue => self.go_on(out),
-            Plain::Typed => self.show_typed(out),
+            Plain::Typed => self.show(out, View::Typed),
             Plain::Help => show_help(out, verb_rows()),
             // no line is read after it
             Plain::Quit => Ok(()),
