@@ -1,5 +1,5 @@
 //! The commands, done by a walk.
-ghost use Rattle.std.specs.Prelude.{◌≡◌, ◌+◌, ◌++◌, [], codes, IfNone, IfOk, IfSome, None, Ok, OnOk, Some, slice_get};
+ghost use Rattle.std.specs.Prelude.{◌≡◌, ◌+◌, ◌++◌, [], IfNone, IfOk, IfSome, None, Ok, OnOk, slice_get};
 ghost use Rattle.std.specs.String.{string_bytes};
 ghost use Rattle.teco_retrace.specs.Answering.{IsAnswerTo, AnswersCommand, AnswersCounted, AnswersPlain, GoesOnToStop, GoesOrSays, ShowsSeen, TakesBack, answer_line};
 ghost use Rattle.teco_retrace.specs.Moving.{Arrives, HasNoStop, IsNextStop, MovesTo, SameRun};
