@@ -1,11 +1,9 @@
-use Rattle.std.proofs.Common.{◌∙◌, ◌++◌, ℕ, ap, subst, sym}
+use Rattle.std.proofs.Common.{◌∙◌, ◌++◌, ℕ, ap, subst}
 use Rattle.std.proofs.lemmas.Result.{on_ok_weaker}
-use Rattle.std.specs.Prelude.{OnOk}
 use Rattle.std.specs.String.{string_bytes}
 use Rattle.teco_telling.specs.Spelling.{spelled}
-use Rattle.teco_retrace.specs.Answering.{ShowsSeen, answer_line}
+use Rattle.teco_retrace.specs.Answering.{answer_line}
 use Rattle.teco_retrace.specs.Moving.{IsSeen}
-use Rattle.teco_retrace.specs.declared.debugger.View.{View}
 use Rattle.teco_retrace.proofs.debugger.Debugger.show.Goals as goal
 
 pub returns-in-Step : goal.returns-in-Step
