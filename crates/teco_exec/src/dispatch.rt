@@ -18,9 +18,6 @@ use teco_scan::{
 use teco_store::Desk;
 use teco_terminal::Terminal;
 
-/// A byte with no arm of its own in [`step`].
-const NO_ARM: u8 = 0;
-
 /// Passes what comes at the cursor, where it uses no step, or else does its steps. What uses no step is passed one token at a time, but
 /// tags that come one after the other at once.
 ///
@@ -45,9 +42,8 @@ pub(crate) fn step<D: Desk, S: Stop, T: Terminal, W: Watch>(
         let found = end_found(text, at, from);
         return step_found(desk, cursor, &found, steps, stop, term);
     }
-    // What has no arm of its own takes longer, and is done as well. In a watched run nothing has one.
-    let arm = if W::HAS_ARMS { text[from] } else { NO_ARM };
-    match arm {
+    // What has no arm of its own takes longer, and is done as well.
+    match text[from] {
         b'0'..=b'9' => step_digits::<D, S, T, W>(desk, cursor, from, steps, stop, term),
         b'%' => step_led::<D, S, T, W, b'%'>(desk, cursor, from, steps, stop, term),
         b'Q' => step_led::<D, S, T, W, b'Q'>(desk, cursor, from, steps, stop, term),

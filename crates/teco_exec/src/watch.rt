@@ -15,9 +15,6 @@ pub(crate) trait Watch {
     // that it has been told nothing, or so
     ghost knows: { Self → Option Told → Type 0 };
 
-    /// Whether the commonest first bytes have an arm each in a run of this kind.
-    const HAS_ARMS: bool;
-
     /// After so many steps the run stood at a place of this text, and then it stopped or its step failed.
     fn stood(&mut self, steps: u64, at: usize, cursor: &Cursor)
         requires { at ≤ length cursor.now.text.now }
@@ -37,8 +34,6 @@ pub(crate) struct Unwatched;
 
 impl Watch for Unwatched {
     ghost knows = { λ _ _. Unit {0} };
-
-    const HAS_ARMS: bool = true;
 
     #[inline(always)]
     fn stood(&mut self, _steps: u64, _at: usize, _cursor: &Cursor) {}
@@ -103,8 +98,6 @@ impl Watch for Watched {
     ghost use Rattle.teco_exec.specs.Watching.{Knows};
 
     ghost knows = { Knows };
-
-    const HAS_ARMS: bool = false;
 
     fn stood(&mut self, steps: u64, at: usize, cursor: &Cursor) {
         self.has_stood = true;
