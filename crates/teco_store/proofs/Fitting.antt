@@ -2,7 +2,7 @@
 use Rattle.std.proofs.Common.{◌≡◌, ℕ, ◌+◌, ◌<◌, ◌≤◌, List, length, refl, sym, ◌∙◌, subst, arith, Option, Some, None, length-drop}
 use Rattle.std.proofs.lemmas.List.{length-set}
 use Rattle.std.proofs.lemmas.List.Elements.{All-drop, All-get_or, All-set}
-use Rattle.std.specs.Option.{ForSome}
+use Rattle.std.specs.Option.{ForSome, unwrap_or}
 use Rattle.teco_core.specs.Number.{IsNumber}
 use Rattle.teco_core.specs.Register.{Content, blank}
 use Rattle.teco_core.specs.declared.limits.TheConstants.{TEXT_LIMIT}
@@ -11,7 +11,12 @@ use Rattle.teco_store.specs.Turn.{PopInto, Splice, FitsFull, top_of}
 use Rattle.teco_store.proofs.Entries.{sound_more, sound_within}
 use Rattle.teco_store.proofs.Turns.{length-replaced}
 
--- where the pointer comes to stand is in the new text
+-- where the pointer comes to stand
+pub pointer_is : (at : ℕ) (ins : List ℕ) (point : Option ℕ) → unwrap_or point (at + length ins) ≡ pointer_after at ins point
+pointer_is at ins None = refl
+pointer_is at ins (Some place) = refl
+
+-- It is in the new text.
 pub lands_within : (b : Body) (at del : ℕ) (ins : List ℕ) (point : Option ℕ) → at + del ≤ length b.text
     → ForSome point (λ place. place ≤ length (spliced b at del ins point).text) → pointer_after at ins point + del ≤ length b.text + length ins
 lands_within b at del ins None within lands = omega arith

@@ -2,8 +2,10 @@
 use Rattle.std.proofs.Common.{◌≡◌, ◌∙◌, ℕ, ◌+◌, ◌-◌, ◌≤◌, slice_range, List, ◌++◌, length, take, drop, replicate, ap, refl, sym, subst, arith, append_assoc, length-append, length-drop}
 use Rattle.std.proofs.lemmas.List.{length-take-le, length-replicate, take-append-le, take-append-drop, drop-append-le, take_all, take_at}
 use Rattle.teco_store.specs.Page.{page, is_ended, page_span, form_feed_if, left_of, IsAsRead}
-use Rattle.teco_store.specs.State.{Body, Full}
-use Rattle.teco_store.specs.Turn.{Splice, lent, full_after, IsLent}
+use Rattle.teco_store.specs.PageSpan.{IsPageSpan}
+use Rattle.teco_store.specs.State.{Body}
+use Rattle.teco_store.specs.Turn.{lent, IsLent}
+use Rattle.teco_store.specs.declared.pages.PageSpan.{PageSpan}
 use Rattle.teco_store.proofs.Joining.{joins}
 
 pub length-lent : (input : List ℕ) (from count : ℕ) → length (lent input from count) ≡ count
@@ -36,14 +38,6 @@ page_is_lent b within =
     lent_within b.input b.place (length (page b)) within ∙ ap (take (length (page b))) (sym (joins b.page_lines left))
     ∙ take_at (page b) (form_feed_if (is_ended b.page_lines left) ++ drop (page_span b.page_lines left) left) (length (page b)) refl
 
-pub page_lends : (f : Full) (at there pointer from count : ℕ) → at ≡ 0 → from ≡ f.body.place → count ≡ length (page f.body) → f.body.place + length (page f.body) ≤ length f.body.input
-    → full_after (Splice 0 there pointer (lent f.body.input from count)) f ≡ full_after (Splice at there pointer (page f.body)) f
-page_lends f at there pointer from count e g h within =
-    ap (λ (k : ℕ). full_after (Splice 0 there pointer (lent f.body.input k count)) f) g
-    ∙ ap (λ (k : ℕ). full_after (Splice 0 there pointer (lent f.body.input f.body.place k)) f) h
-    ∙ ap (λ (l : List ℕ). full_after (Splice 0 there pointer l) f) (page_is_lent f.body within)
-    ∙ ap (λ (k : ℕ). full_after (Splice k there pointer (page f.body)) f) (sym e)
-
 -- the page in the buffer, where it stands as it was read
 pub as_read_is_lent : (b : Body) (from : ℕ) → IsAsRead b from → IsLent b.text b.input from (length b.text)
 as_read_is_lent b from h = read_is_lent b.input (take b.place b.input) b.text (form_feed_if b.form_feed) b.place from refl h
@@ -59,6 +53,12 @@ pub page_at : (b : Body) (len : ℕ) → len ≡ length (page b) → b.place ≤
 page_at b len is here =
     let n : b.place + len - b.place ≡ length (page b) = omega (arith, is) in
     ap (λ (k : ℕ). take k (drop b.place b.input)) n ∙ sym (lent_within b.input b.place (length (page b)) (page_within b here)) ∙ page_is_lent b (page_within b here)
+
+-- the bytes of the input that a span names
+pub span_is_lent : (b : Body) (from : ℕ) (span : PageSpan) → from ≡ b.place → IsPageSpan span b → lent b.input from span.len ≡ page b
+span_is_lent b from span here is =
+    let within : b.place + length (page b) ≤ length b.input = omega (arith, is.within) in
+    ap (λ (k : ℕ). lent b.input k span.len) here ∙ ap (λ (k : ℕ). lent b.input b.place k) is.len ∙ page_is_lent b within
 
 -- The input holds a whole page.
 pub held_is_lent : (b : Body) (from there : ℕ) → there ≡ length b.text → IsAsRead b from → IsLent b.text b.input from there

@@ -232,7 +232,7 @@ impl Desk for Editor {
         };
         let there = self.len();
         self.reserve(span.len)?;
-        self.store_page(self.place_of_page())?;
+        self.store_upto(self.place_of_page(), self.place)?;
         self.bring_page(span, 0, there, 0, end);
         Ok(())
     }
@@ -274,7 +274,8 @@ impl Desk for Editor {
         }
         self.reserve(kept + ins.len())?;
         self.note_text(text)?;
-        self.replace(at, del, ins, at + ins.len());
+        self.text.splice(at, del, ins);
+        self.pointer = at + ins.len();
         self.last_found = true;
         Ok(())
     }
@@ -283,10 +284,11 @@ impl Desk for Editor {
         let Some(end) = self.end_after_rest() else {
             return Err(Refused::Big);
         };
-        self.store_rest(self.place_of_page())?;
+        let over = self.input.len();
+        self.store_upto(self.place_of_page(), over)?;
         replace_text(&mut self.text, &[]);
         self.pointer = 0;
-        self.place = self.input.len();
+        self.place = over;
         self.shown = end;
         self.form_feed = false;
         self.done = true;

@@ -73,19 +73,6 @@ impl Output {
         shown <= own || (self.from <= at && shown - own == at - self.from)
     }
 
-    // The place of a page in the input, if the part can be lengthened by the page.
-    fn place_after(&self, shown: usize, from: Option<usize>) -> Option<usize>
-        ensures same { IfSome result (λ at. from ≡ Some at) }
-        ensures ends { IfSome result (λ at. EndsAt self.now shown at) }
-    {
-        let at = from?;
-        if self.ends_at(shown, at) {
-            Some(at)
-        } else {
-            None
-        }
-    }
-
     // Makes the input from one place up to another come after the first `shown` bytes.
     fn lengthen(&mut self, shown: usize, at: usize, upto: usize)
         requires part { (self.old.from ≤ self.old.upto) × (at ≤ upto) }
@@ -100,17 +87,6 @@ impl Output {
             self.from = at;
         }
         self.upto = upto;
-    }
-
-    // Finds room for so many bytes after the first `shown`.
-    fn reserve(&mut self, shown: usize, more: usize) -> Result<(), NoMemory>
-        requires { shown + more < 2 ^ 64 }
-        ensures own { self.new.own.items ≡ self.old.own.items }
-        ensures part { (self.new.from ≡ self.old.from) × (self.new.upto ≡ self.old.upto) }
-        ensures room { OnOk result (shown + more ≤ vec_capacity self.new.own) }
-    {
-        let end = shown + more;
-        self.own.reserve(end.saturating_sub(self.own.len()))
     }
 
     // Puts the two parts of a text, and a form feed where one is asked for, after the first `shown` bytes. There is room for them.
@@ -134,15 +110,6 @@ impl Output {
         self.upto = 0;
     }
 
-    // Makes the input from one place up to another come after its own bytes.
-    fn follow(&mut self, from: usize, upto: usize)
-        ensures own { self.new.own.items ≡ self.old.own.items }
-        ensures part { (self.new.from ≡ from) × (self.new.upto ≡ upto) }
-    {
-        self.from = from;
-        self.upto = upto;
-    }
-
     // Copies the two parts of a text, and a form feed where one is asked for, after the first `shown` bytes.
     pub(crate) fn copy(
         &mut self,
@@ -162,7 +129,8 @@ impl Output {
         ensures part { IsIn self.new input.now }
     {
         let more = halves.0.len() + halves.1.len() + usize::from(form_feed);
-        self.reserve(shown, more)?;
+        self.own
+            .reserve((shown + more).saturating_sub(self.own.len()))?;
         self.put(input, shown, halves.0, halves.1, form_feed);
         Ok(())
     }
@@ -191,11 +159,12 @@ impl Output {
         ensures err { OnErr result (bytes_of self.new input.now ≡ bytes_of self.old input.now) }
         ensures part { IsIn self.new input.now }
     {
-        match self.place_after(shown, from) {
-            Some(at) => self.lengthen(shown, at, rest.1),
-            None => {
+        match from {
+            Some(at) if self.ends_at(shown, at) => self.lengthen(shown, at, rest.1),
+            _ => {
                 self.copy(input, shown, halves, form_feed)?;
-                self.follow(rest.0, rest.1);
+                self.from = rest.0;
+                self.upto = rest.1;
             }
         }
         Ok(())

@@ -6,8 +6,7 @@ ghost use Rattle.teco_store.specs.Page.{page_of, is_ended, form_feed_if};
 ghost use Rattle.teco_store.specs.State.{IsEnd};
 
 use memchr::{memchr, memchr3};
-use std::alloc::Global;
-use teco_core::{FILE_LIMIT, NoMemory};
+use teco_core::FILE_LIMIT;
 use teco_gap::GapBuffer;
 
 const LINE_FEED: u8 = 10;
@@ -89,16 +88,6 @@ fn page_of_lines(left: &[u8], lines: usize) -> Page<'_>
         bytes: &left[..end],
         form_feed: false,
     }
-}
-
-// Makes room in a buffer for so many bytes in all. Its text stays.
-pub(crate) fn make_room(alloc: Global, buffer: &mut GapBuffer, bytes: usize) -> Result<(), NoMemory>
-    ensures same { text buffer.new ≡ text buffer.old }
-    ensures room { OnOk result (bytes ≤ buffer.new.cap) }
-    ensures grows { buffer.old.cap ≤ buffer.new.cap }
-    ensures err { OnErr result (buffer.new ≡ buffer.old) }
-{
-    buffer.reserve(alloc, bytes)
 }
 
 // Puts a page in place of the text of a buffer, which has room for it.

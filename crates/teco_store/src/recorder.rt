@@ -108,13 +108,6 @@ impl Recorder {
         self.entry.reserve(changes)
     }
 
-    // Memory for so many bytes, and no more.
-    fn memory(&self, bytes: usize) -> Result<Vec<u8>, NoMemory>
-        ensures { IfOk result (λ v. (v.items ≡ []) × (vec_capacity v ≡ bytes)) }
-    {
-        Vec::with_capacity(self.editor.allocator(), bytes)
-    }
-
     // Makes room for a text of `len` bytes.
     fn reserve_text(&mut self, len: usize) -> Result<(), NoMemory>
         ensures body { self.new.full.body ≡ self.old.full.body }
@@ -139,22 +132,8 @@ impl Recorder {
         ensures keeps { StillFollows self.old self.new }
     {
         self.reserve(changes)?;
-        let held = self.memory(bytes)?;
         self.reserve_text(len)?;
-        Ok(held)
-    }
-
-    // Finds room for so many changes, and for a text of `len` bytes.
-    fn find_room(&mut self, changes: usize, len: usize) -> Result<(), NoMemory>
-        ensures body { self.new.full.body ≡ self.old.full.body }
-        ensures stored { self.new.full.stored ≡ self.old.full.stored }
-        ensures sound { IsSound self.new.full.room (length self.new.full.stored) self.new.full.body }
-        ensures spare { OnOk result (changes ≤ self.new.spare) }
-        ensures room { OnOk result (len ≤ self.new.full.room) }
-        ensures keeps { StillFollows self.old self.new }
-    {
-        self.reserve(changes)?;
-        self.reserve_text(len)
+        Vec::with_capacity(self.editor.allocator(), bytes)
     }
 
     // Finds room for so many changes, and for a text of `len` bytes; and memory for `bytes` bytes that are to be noted, where they
@@ -175,7 +154,8 @@ impl Recorder {
         ensures keeps { StillFollows self.old self.new }
     {
         if bytes <= SHORT_LIMIT {
-            self.find_room(changes, len)?;
+            self.reserve(changes)?;
+            self.reserve_text(len)?;
             return Ok(None);
         }
         let held = self.find_memory(changes, bytes, len)?;

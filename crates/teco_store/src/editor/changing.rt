@@ -1,13 +1,12 @@
 //! Parts of an editor are changed, and nothing of what stood there is kept.
-ghost use Rattle.std.specs.Prelude.{◌≡◌, ◌+◌, ◌≤◌, length, None, Some, IsOk, OnOk, OnErr};
+ghost use Rattle.std.specs.Prelude.{◌≡◌, ◌+◌, ◌≤◌, length, option_map, None, IfOk, IsOk, OnOk, OnErr};
 ghost use Rattle.std.specs.Option.{option_copied};
 ghost use Rattle.teco_store.specs.PageSpan.{IsPageSpan};
 ghost use Rattle.teco_store.specs.Page.{brought, page};
 ghost use Rattle.teco_store.specs.Search.{fresh, length_of, text_after};
-ghost use Rattle.teco_store.specs.State.{spliced, with_body};
+ghost use Rattle.teco_store.specs.State.{with_body};
 
 use crate::editor::Editor;
-use crate::noting::note_text;
 use crate::pages::PageSpan;
 use teco_core::{FILE_LIMIT, NoMemory, TEXT_LIMIT};
 
@@ -38,16 +37,23 @@ impl Editor {
         self.form_feed = form_feed;
     }
 
-    // Puts `ins` for the `del` bytes at `at`, and the pointer at a place.
-    pub(super) fn replace(&mut self, at: usize, del: usize, ins: &[u8], pointer: usize)
-        requires there { at + del ≤ length self.old.body.text }
-        requires lands { pointer + del ≤ length self.old.body.text + length ins.now }
-        requires small { length self.old.body.text + length ins.now ≤ TEXT_LIMIT + del }
-        requires room { length self.old.body.text + length ins.now ≤ self.old.room + del }
-        ensures { self.new ≡ with_body self.old (spliced self.old.body at del ins.now (Some pointer)) }
+    // A copy of a text to be noted; none where it is the last one again.
+    pub(crate) fn fresh_text(&self, text: Option<&[u8]>) -> Result<Option<Vec<u8>>, NoMemory>
+        ensures copy { IfOk result (λ f. option_map (λ v. v.items) f
+            ≡ fresh self.now.body.last_search (option_copied text.entry)) }
+        ensures none { fresh self.now.body.last_search (option_copied text.entry) ≡ None → IsOk result }
     {
-        self.text.splice(at, del, ins);
-        self.pointer = pointer;
+        let Some(text) = text else {
+            return Ok(None);
+        };
+        let again = match &self.last_search {
+            None => false,
+            Some(last) => text == last.as_slice(),
+        };
+        if again {
+            return Ok(None);
+        }
+        Ok(Some(Vec::from_slice(*self.input.allocator(), text)?))
     }
 
     // Makes a text the last search text; none leaves it. The same text again takes no memory.
@@ -59,7 +65,9 @@ impl Editor {
         ensures err { OnErr result (self.new ≡ self.old) }
         ensures none { fresh self.old.body.last_search (option_copied text.entry) ≡ None → IsOk result }
     {
-        note_text(*self.input.allocator(), &mut self.last_search, text)?;
+        if let Some(fresh) = self.fresh_text(text)? {
+            self.last_search = Some(fresh);
+        }
         Ok(())
     }
 }

@@ -1,8 +1,6 @@
 //! Values are put in their places, and what stood there is given back.
 ghost use Rattle.std.specs.Prelude.{◌≡◌, ◌+◌, ◌≤◌, [], length};
 ghost use Rattle.std.specs.Vec.{vec_capacity};
-ghost use Rattle.teco_store.specs.PageSpan.{IsPageSpan};
-ghost use Rattle.teco_store.specs.Page.{page};
 ghost use Rattle.teco_store.specs.ChangeView.{turn_of, HasRoom};
 ghost use Rattle.teco_store.specs.declared.change.Kind.TheVariants.{Splice, Lend, PopInto, PutBack};
 ghost use Rattle.teco_store.specs.Turn as turn;
@@ -11,7 +9,6 @@ ghost use Rattle.teco_store.specs.Turn.{turn_after, full_after, FitsFull};
 use crate::change::{Kind, Loan, Place};
 use crate::editor::Editor;
 use crate::exchange::{exchange, exchange_short, swap_bytes};
-use crate::pages::PageSpan;
 use crate::short_text::SHORT_LIMIT;
 use std::mem;
 use teco_core::{Reg, Value};
@@ -77,16 +74,19 @@ impl Editor {
         ensures kind { turn_of result ≡ turn_after (turn_of (Splice place held)) self.old.body }
         ensures room { HasRoom result }
     {
-        let there = held.len() as u32;
+        let there = Place {
+            at: place.at,
+            there: held.len() as u32,
+            pointer: self.pointer as u32,
+        };
         let held = swap_bytes(
             &mut self.text,
             place.at as usize,
             place.there as usize,
             held,
         );
-        let pointer = mem::replace(&mut self.pointer, place.pointer as usize) as u32;
-        let at = place.at;
-        Kind::Splice(Place { at, there, pointer }, held)
+        self.pointer = place.pointer as usize;
+        Kind::Splice(there, held)
     }
 
     // Puts bytes of the input for the whole text, and gives where in the input that stands.
@@ -99,7 +99,8 @@ impl Editor {
         let from = loan.from as usize;
         let part = &self.input[from..from + loan.count as usize];
         self.text.splice(0, loan.there as usize, part);
-        let pointer = mem::replace(&mut self.pointer, loan.pointer as usize) as u32;
+        let pointer = self.pointer as u32;
+        self.pointer = loan.pointer as usize;
         Kind::Lend(Loan {
             from: loan.there_from,
             count: loan.there,
@@ -159,31 +160,34 @@ impl Editor {
         Kind::Short(place, held)
     }
 
-    // Puts the next page for the `there` bytes at `at`, and gives those that stood there in `held`, which is empty.
-    pub(crate) fn exchange_page(
+    // Puts `count` bytes of the input from `from` on for the `there` bytes at `at`, and gives those that stood there in `held`, which is
+    // empty.
+    pub(crate) fn exchange_input(
         &mut self,
-        span: PageSpan,
+        from: usize,
+        count: usize,
         at: usize,
         there: usize,
         pointer: usize,
         held: Vec<u8>,
     ) -> Kind
-        requires span { IsPageSpan span self.old.body }
+        requires within { from + count ≤ length self.old.body.input }
         requires empty { held.items ≡ [] }
-        requires room { there + length (page self.old.body) ≤ vec_capacity held }
-        requires fits { FitsFull (turn.Splice at there pointer (page self.old.body)) self.old }
-        ensures editor { self.new ≡ full_after (turn.Splice at there pointer (page self.old.body)) self.old }
+        requires room { there + count ≤ vec_capacity held }
+        requires fits { FitsFull (turn.Splice at there pointer (turn.lent self.old.body.input from count)) self.old }
+        ensures editor { self.new ≡ full_after (turn.Splice at there pointer
+            (turn.lent self.old.body.input from count)) self.old }
         ensures kind { turn_of result ≡ turn_after
-            (turn.Splice at there pointer (page self.old.body)) self.old.body }
+            (turn.Splice at there pointer (turn.lent self.old.body.input from count)) self.old.body }
         ensures room { HasRoom result }
     {
         let place = Place {
             at: at as u32,
-            there: span.len as u32,
+            there: count as u32,
             pointer: self.pointer as u32,
         };
-        let page = &self.input[self.place..self.place + span.len];
-        let held = exchange(&mut self.text, at, there, page, held);
+        let part = &self.input[from..from + count];
+        let held = exchange(&mut self.text, at, there, part, held);
         self.pointer = pointer;
         Kind::Splice(place, held)
     }

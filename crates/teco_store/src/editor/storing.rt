@@ -6,7 +6,7 @@ ghost use Rattle.teco_store.specs.State.{Extends, IsEnd, IsSound, state_of, with
 
 use crate::editor::Editor;
 use crate::output::place_read;
-use crate::pages::{PageSpan, end_after, make_room, next_page, part};
+use crate::pages::{PageSpan, end_after, next_page, part};
 use std::alloc::Global;
 use teco_core::NoMemory;
 
@@ -32,14 +32,6 @@ impl Editor {
         ensures sound { IsSound self.now.room (length self.now.stored) self.now.body }
     {
         self.text.len()
-    }
-
-    // How many bytes the input has.
-    pub(crate) fn input_len(&self) -> usize
-        ensures value { result ≡ length self.now.body.input }
-        ensures sound { IsSound self.now.room (length self.now.stored) self.now.body }
-    {
-        self.input.len()
     }
 
     // How many bytes the next page of the input has, and whether a form feed ends it.
@@ -77,7 +69,7 @@ impl Editor {
         ensures room { OnOk result (len ≤ self.new.room) }
         ensures extends { Extends self.old self.new }
     {
-        make_room(*self.input.allocator(), &mut self.text, len)
+        self.text.reserve(*self.input.allocator(), len)
     }
 
     // The allocator of its parts.
@@ -134,7 +126,7 @@ impl Editor {
     }
 
     // Stores the page after the output, and the input from its place up to another. A page that stands in the input isn't copied.
-    fn store_upto(&mut self, from: Option<usize>, upto: usize) -> Result<(), NoMemory>
+    pub(crate) fn store_upto(&mut self, from: Option<usize>, upto: usize) -> Result<(), NoMemory>
         requires from { IfSome from (IsAsRead self.old.body) }
         requires order { self.old.body.place ≤ upto }
         requires within { upto ≤ length self.old.body.input }
@@ -147,29 +139,5 @@ impl Editor {
         let halves = self.text.halves();
         let rest = (self.place, upto);
         self.output.store(&self.input, self.shown, from, halves, self.form_feed, rest)
-    }
-
-    // Stores the page after the output.
-    pub(crate) fn store_page(&mut self, from: Option<usize>) -> Result<(), NoMemory>
-        requires { IfSome from (IsAsRead self.old.body) }
-        ensures ok { OnOk result (self.new
-            ≡ with_stored self.old (written (state_of self.old)) self.old.room) }
-        ensures err { OnErr result (self.new ≡ self.old) }
-        ensures extends { Extends self.old self.new }
-    {
-        self.store_upto(from, self.place)
-    }
-
-    // Stores the page and the rest of the input after the output.
-    pub(crate) fn store_rest(&mut self, from: Option<usize>) -> Result<(), NoMemory>
-        requires { IfSome from (IsAsRead self.old.body) }
-        ensures ok { OnOk result (self.new
-            ≡ with_stored self.old (written (state_of self.old)
-            ++ left_of (state_of self.old)) self.old.room) }
-        ensures err { OnErr result (self.new ≡ self.old) }
-        ensures extends { Extends self.old self.new }
-    {
-        let end = self.input.len();
-        self.store_upto(from, end)
     }
 }

@@ -1,5 +1,5 @@
 //! Pages come in and go out, and what stood there is noted.
-ghost use Rattle.std.specs.Prelude.{◌≡◌, ◌+◌, ◌<◌, ◌≤◌, ◌^◌, ◌++◌, [], length, take, drop, IfOk, IfSome, OnOk, OnErr};
+ghost use Rattle.std.specs.Prelude.{◌≡◌, ◌+◌, ◌<◌, ◌≤◌, ◌^◌, ◌++◌, [], length, take, drop, slice_range, IfOk, IfSome, OnOk, OnErr};
 ghost use Rattle.std.specs.Vec.{vec_capacity};
 ghost use Rattle.teco_store.specs.ChangeView.{CanHold};
 ghost use Rattle.teco_store.specs.PageSpan.{IsPageSpan};
@@ -16,7 +16,12 @@ use teco_core::{FILE_LIMIT, NoMemory, TEXT_LIMIT};
 
 impl Recorder {
     // Stores what is between two places of the text after the output, with a form feed where one is asked for.
-    fn store_part(&mut self, from: usize, to: usize, form_feed: bool) -> Result<(), NoMemory>
+    pub(super) fn store_part(
+        &mut self,
+        from: usize,
+        to: usize,
+        form_feed: bool,
+    ) -> Result<(), NoMemory>
         requires ordered { from ≤ to }
         requires there { to ≤ length self.old.full.body.text }
         ensures ok { OnOk result (self.new.full
@@ -31,143 +36,79 @@ impl Recorder {
         self.editor.store_part(from, to, form_feed)
     }
 
-    // Stores the page after the output.
-    fn store_page(&mut self, from: Option<usize>) -> Result<(), NoMemory>
-        requires { IfSome from (IsAsRead self.old.full.body) }
-        ensures ok { OnOk result (self.new.full
-            ≡ with_stored self.old.full (written (state_of self.old.full)) self.old.full.room) }
-        ensures err { OnErr result (self.new.full ≡ self.old.full) }
-        ensures spare { self.new.spare ≡ self.old.spare }
-        ensures sound { IsSound self.new.full.room (length self.new.full.stored) self.new.full.body }
-        ensures keeps { StillFollows self.old self.new }
-    {
-        let _shown = self.editor.shown();
-        self.editor.store_page(from)
-    }
-
-    // Stores the page and the rest of the input after the output.
-    fn store_rest(&mut self, from: Option<usize>) -> Result<(), NoMemory>
-        requires { IfSome from (IsAsRead self.old.full.body) }
+    // Stores the page after the output, and the input from its place up to another. A page that stands in the input isn't copied.
+    pub(super) fn store_upto(&mut self, from: Option<usize>, upto: usize) -> Result<(), NoMemory>
+        requires from { IfSome from (IsAsRead self.old.full.body) }
+        requires order { self.old.full.body.place ≤ upto }
+        requires within { upto ≤ length self.old.full.body.input }
         ensures ok { OnOk result (self.new.full
             ≡ with_stored self.old.full (written (state_of self.old.full)
-            ++ left_of (state_of self.old.full)) self.old.full.room) }
+            ++ slice_range self.old.full.body.input self.old.full.body.place upto) self.old.full.room) }
         ensures err { OnErr result (self.new.full ≡ self.old.full) }
         ensures spare { self.new.spare ≡ self.old.spare }
         ensures sound { IsSound self.new.full.room (length self.new.full.stored) self.new.full.body }
         ensures keeps { StillFollows self.old self.new }
     {
         let _shown = self.editor.shown();
-        self.editor.store_rest(from)
+        self.editor.store_upto(from, upto)
     }
 
-    // Finds what holds the page in the buffer, which `len` bytes are to replace: its place in the input, or memory.
-    pub(super) fn hold_page(&mut self, there: usize, len: usize) -> Result<Held, NoMemory>
+    // Finds room for so many changes, and what holds the page in the buffer, which `len` bytes are to replace: its place in the
+    // input, or memory.
+    pub(super) fn hold_page(
+        &mut self,
+        changes: usize,
+        there: usize,
+        len: usize,
+    ) -> Result<Held, NoMemory>
         requires there { there ≡ length self.old.full.body.text }
         requires few { there + len < 2 ^ 64 }
         ensures body { self.new.full.body ≡ self.old.full.body }
         ensures stored { self.new.full.stored ≡ self.old.full.stored }
         ensures held { IfOk result (CanHold self.new.full.body 0 there len) }
-        ensures spare { OnOk result (2 ≤ self.new.spare) }
+        ensures spare { OnOk result (changes ≤ self.new.spare) }
         ensures room { OnOk result (len ≤ self.new.full.room) }
         ensures sound { IsSound self.new.full.room (length self.new.full.stored) self.new.full.body }
         ensures keeps { StillFollows self.old self.new }
     {
         if let Some(from) = self.editor.place_of_page() {
-            self.reserve(2)?;
+            self.reserve(changes)?;
             self.reserve_text(len)?;
             return Ok(Held::Input(from));
         }
-        let held = self.find_memory(2, there + len, len)?;
+        let held = self.find_memory(changes, there + len, len)?;
         Ok(Held::Memory(held))
     }
 
-    // Finds memory to write what is between two places of the text, and stores it.
-    pub(super) fn prepare_part(
+    // Puts `count` bytes of the input from `from` on for the `there` bytes at `at`, and notes those that stood there in `held`, which
+    // is empty.
+    fn exchange_input(
         &mut self,
         from: usize,
-        to: usize,
-        form_feed: bool,
-    ) -> Result<(), NoMemory>
-        requires ordered { from ≤ to }
-        requires there { to ≤ length self.old.full.body.text }
-        ensures ok { OnOk result (self.new.full
-            ≡ with_stored self.old.full (drop from (take to self.old.full.body.text)
-            ++ form_feed_if form_feed) self.old.full.room) }
-        ensures err { OnErr result (self.new.full ≡ self.old.full) }
-        ensures spare { OnOk result (1 ≤ self.new.spare) }
-        ensures sound { IsSound self.new.full.room (length self.new.full.stored) self.new.full.body }
-        ensures keeps { StillFollows self.old self.new }
-    {
-        self.reserve(1)?;
-        self.store_part(from, to, form_feed)
-    }
-
-    // Finds memory to write the page and to bring in one of `len` bytes, and stores it.
-    pub(super) fn prepare_page(&mut self, there: usize, len: usize) -> Result<Held, NoMemory>
-        requires there { there ≡ length self.old.full.body.text }
-        requires few { there + len < 2 ^ 64 }
-        ensures ok { OnOk result (self.new.full
-            ≡ with_stored self.old.full (written (state_of self.old.full)) self.new.full.room) }
-        ensures err { OnErr result (state_of self.new.full ≡ state_of self.old.full) }
-        ensures held { IfOk result (CanHold self.new.full.body 0 there len) }
-        ensures spare { OnOk result (2 ≤ self.new.spare) }
-        ensures room { OnOk result (len ≤ self.new.full.room) }
-        ensures sound { IsSound self.new.full.room (length self.new.full.stored) self.new.full.body }
-        ensures keeps { StillFollows self.old self.new }
-    {
-        let held = self.hold_page(there, len)?;
-        self.store_page(held.place())?;
-        Ok(held)
-    }
-
-    // Finds memory to write the page and the rest of the input, and stores them.
-    pub(super) fn prepare_rest(&mut self, there: usize) -> Result<Held, NoMemory>
-        requires { there ≡ length self.old.full.body.text }
-        ensures ok { OnOk result (self.new.full
-            ≡ with_stored self.old.full (written (state_of self.old.full)
-            ++ left_of (state_of self.old.full)) self.old.full.room) }
-        ensures err { OnErr result (self.new.full ≡ self.old.full) }
-        ensures held { IfOk result (CanHold self.new.full.body 0 there 0) }
-        ensures spare { OnOk result (3 ≤ self.new.spare) }
-        ensures sound { IsSound self.new.full.room (length self.new.full.stored) self.new.full.body }
-        ensures keeps { StillFollows self.old self.new }
-    {
-        self.reserve(3)?;
-        let held = match self.editor.place_of_page() {
-            Some(from) => Held::Input(from),
-            None => Held::Memory(self.memory(there)?),
-        };
-        self.store_rest(held.place())?;
-        Ok(held)
-    }
-
-    // Puts the next page for the `there` bytes at `at`, and notes those that stood there in `held`, which is empty.
-    fn exchange_page(
-        &mut self,
-        span: PageSpan,
+        count: usize,
         at: usize,
         there: usize,
         pointer: usize,
         held: Vec<u8>,
     )
-        requires span { IsPageSpan span self.old.full.body }
         requires spare { 0 < self.old.spare }
+        requires within { from + count ≤ length self.old.full.body.input }
         requires empty { held.items ≡ [] }
-        requires memory { there + length (page self.old.full.body) ≤ vec_capacity held }
+        requires memory { there + count ≤ vec_capacity held }
         requires there { at + there ≤ length self.old.full.body.text }
-        requires lands { pointer + there ≤ length self.old.full.body.text + length (page self.old.full.body) }
-        requires small { length self.old.full.body.text + length
-            (page self.old.full.body) ≤ TEXT_LIMIT + there }
-        requires room { length self.old.full.body.text + length
-            (page self.old.full.body) ≤ self.old.full.room + there }
-        ensures full { self.new.full ≡ full_after
-            (Splice at there pointer (page self.old.full.body)) self.old.full }
+        requires lands { pointer + there ≤ length self.old.full.body.text + count }
+        requires small { length self.old.full.body.text + count ≤ TEXT_LIMIT + there }
+        requires room { length self.old.full.body.text + count ≤ self.old.full.room + there }
+        ensures full { self.new.full ≡ full_after (Splice at there pointer
+            (lent self.old.full.body.input from count)) self.old.full }
         ensures sound { IsSound self.new.full.room (length self.new.full.stored) self.new.full.body }
         ensures spare { self.new.spare + 1 ≡ self.old.spare }
-        ensures goes { FollowsAfterChanges (there + length (page self.old.full.body)) 1 self.old self.new }
+        ensures goes { FollowsAfterChanges (there + count) 1 self.old self.new }
     {
         let _shown = self.editor.shown();
-        let held = self.editor.exchange_page(span, at, there, pointer, held);
+        let held = self
+            .editor
+            .exchange_input(from, count, at, there, pointer, held);
         self.entry.push_reserved(Change::new(self.done, held));
     }
 
@@ -195,45 +136,33 @@ impl Recorder {
         }));
     }
 
-    // Puts the next page for the `there` bytes at `at`, and notes where those stand, or them in memory that was found.
-    fn put_page(&mut self, span: PageSpan, at: usize, there: usize, pointer: usize, held: Held)
-        requires span { IsPageSpan span self.old.full.body }
+    // Puts `count` bytes of the input from `from` on for the `there` bytes at `at`, and notes where those stand, or them in memory that
+    // was found.
+    pub(super) fn put_input(
+        &mut self,
+        from: usize,
+        count: usize,
+        at: usize,
+        there: usize,
+        pointer: usize,
+        held: Held,
+    )
         requires spare { 0 < self.old.spare }
-        requires held { CanHold self.old.full.body at there (length (page self.old.full.body)) held }
+        requires within { from + count ≤ length self.old.full.body.input }
+        requires held { CanHold self.old.full.body at there count held }
         requires there { at + there ≤ length self.old.full.body.text }
-        requires lands { pointer + there ≤ length self.old.full.body.text + length (page self.old.full.body) }
-        requires small { length self.old.full.body.text + length
-            (page self.old.full.body) ≤ TEXT_LIMIT + there }
-        requires room { length self.old.full.body.text + length
-            (page self.old.full.body) ≤ self.old.full.room + there }
-        ensures full { self.new.full ≡ full_after
-            (Splice at there pointer (page self.old.full.body)) self.old.full }
+        requires lands { pointer + there ≤ length self.old.full.body.text + count }
+        requires small { length self.old.full.body.text + count ≤ TEXT_LIMIT + there }
+        requires room { length self.old.full.body.text + count ≤ self.old.full.room + there }
+        ensures full { self.new.full ≡ full_after (Splice at there pointer
+            (lent self.old.full.body.input from count)) self.old.full }
         ensures sound { IsSound self.new.full.room (length self.new.full.stored) self.new.full.body }
         ensures spare { self.new.spare + 1 ≡ self.old.spare }
-        ensures goes { FollowsAfterChanges (there + length (page self.old.full.body)) 1 self.old self.new }
+        ensures goes { FollowsAfterChanges (there + count) 1 self.old self.new }
     {
         match held {
-            Held::Memory(held) => self.exchange_page(span, at, there, pointer, held),
-            Held::Input(there_from) => {
-                let from = self.editor().place();
-                self.lend(from, span.len, there_from, there, pointer);
-            }
-        }
-    }
-
-    // Takes out the page, and notes where it stands, or its bytes in memory that was found.
-    pub(super) fn empty(&mut self, there: usize, held: Held)
-        requires spare { 0 < self.old.spare }
-        requires held { CanHold self.old.full.body 0 there 0 held }
-        requires there { there ≡ length self.old.full.body.text }
-        ensures full { self.new.full ≡ full_after (Splice 0 there 0 []) self.old.full }
-        ensures sound { IsSound self.new.full.room (length self.new.full.stored) self.new.full.body }
-        ensures spare { self.new.spare + 1 ≡ self.old.spare }
-        ensures goes { FollowsAfterChanges there 1 self.old self.new }
-    {
-        match held {
-            Held::Memory(held) => self.exchange(0, there, &[], 0, held),
-            Held::Input(there_from) => self.lend(0, 0, there_from, there, 0),
+            Held::Memory(held) => self.exchange_input(from, count, at, there, pointer, held),
+            Held::Input(there_from) => self.lend(from, count, there_from, there, pointer),
         }
     }
 
@@ -262,9 +191,10 @@ impl Recorder {
             ≡ record self.old.full { body = brought self.old.full.body at there pointer end } }
         ensures goes { FollowsAfterChanges (there + length (page self.old.full.body)) 2 self.old self.new }
     {
-        let form_feed = span.form_feed;
-        let place = self.editor().place() + span.len + usize::from(form_feed);
-        self.put_page(span, at, there, pointer, held);
+        let PageSpan { len, form_feed } = span;
+        let from = self.editor().place();
+        let place = from + len + usize::from(form_feed);
+        self.put_input(from, len, at, there, pointer, held);
         self.note(Kind::Pages(place as u32, end as u32, form_feed));
     }
 }

@@ -1,6 +1,12 @@
 //! The calls of a desk, each of which notes what it changes.
-ghost use Rattle.std.specs.Prelude.{◌≡◌, ◌+◌, ◌<◌, ◌≤◌, ◌^◌, length};
-ghost use Rattle.teco_store.specs.State.{pointer_after, state_of};
+ghost use Rattle.std.specs.Prelude.{◌≡◌, ◌<◌, ◌≤◌, length, IsOk, OnErr, OnOk};
+ghost use Rattle.teco_store.specs.ChangeView.{turn_of, HasRoom};
+ghost use Rattle.teco_store.specs.Entry.{weight};
+ghost use Rattle.teco_store.specs.Follows.{Follows, StillFollows};
+ghost use Rattle.teco_store.specs.State.{IsSound, state_of};
+ghost use Rattle.teco_store.specs.Trail.{Trail, moved};
+ghost use Rattle.teco_store.specs.Turn.{body_after, full_after, FitsFull};
+ghost use Rattle.teco_store.specs.declared.desk.Refused.TheVariants.{Big};
 
 use crate::change::{Held, Kind};
 use crate::desk::{Desk, Refused};
@@ -9,14 +15,25 @@ use crate::pages::is_past;
 use crate::recorder::Recorder;
 use teco_core::{CaseMode, PushList, Reg, Registers, TEXT_LIMIT};
 
-// Where the pointer comes to stand.
-fn landing(at: usize, ins: &[u8], point: Option<usize>) -> usize
-    requires { at + length ins.now < 2 ^ 64 }
-    ensures { result ≡ pointer_after at ins.now point }
-{
-    match point {
-        Some(place) => place,
-        None => at + ins.len(),
+impl Recorder {
+    // Finds room for one change, and makes it.
+    #[inline(always)]
+    fn change(&mut self, kind: Kind) -> Result<(), Refused>
+        requires room { HasRoom kind }
+        requires fits { IsSound self.old.full.room (length self.old.full.stored) self.old.full.body
+            → FitsFull (turn_of kind) self.old.full }
+        requires rises { self.old.full.body.output ≤ (body_after (turn_of kind) self.old.full.body).output }
+        ensures ok { OnOk result (self.new.full ≡ full_after (turn_of kind) self.old.full) }
+        ensures only_memory { result ≡ Err Big → ⊥ }
+        ensures err { OnErr result (self.new.full ≡ self.old.full) }
+        ensures follows { OnOk result ((t : Trail) → Follows self.old t
+            → Follows self.new (moved t (weight (turn_of kind) self.old.full.body))) }
+        ensures keeps { OnErr result (StillFollows self.old self.new) }
+        ensures with_room { 0 < self.old.spare → IsOk result }
+    {
+        self.reserve(1)?;
+        self.note(kind);
+        Ok(())
     }
 }
 
@@ -91,7 +108,7 @@ impl Desk for Recorder {
             return Err(Refused::Big);
         }
         let held = self.find_held(1, del + ins.len(), kept + ins.len())?;
-        self.replace(at, del, ins, landing(at, ins, point), held);
+        self.replace(at, del, ins, point.unwrap_or(at + ins.len()), held);
         Ok(())
     }
 
@@ -100,17 +117,13 @@ impl Desk for Recorder {
         if place == self.editor.pointer() {
             return Ok(());
         }
-        self.reserve(1)?;
-        self.note(Kind::Point(place as u32));
-        Ok(())
+        self.change(Kind::Point(place as u32))
     }
 
     #[inline(always)]
     fn set_number(&mut self, q: Reg, number: i32) -> Result<(), Refused> {
         let _index = q.index();
-        self.reserve(1)?;
-        self.note(Kind::Number(q, number));
-        Ok(())
+        self.change(Kind::Number(q, number))
     }
 
     fn set_text(&mut self, q: Reg, text: Vec<u8>) -> Result<(), Refused> {
@@ -118,74 +131,75 @@ impl Desk for Recorder {
         if text.len() > TEXT_LIMIT {
             return Err(Refused::Big);
         }
-        self.reserve(1)?;
-        self.note(Kind::Text(q, text));
-        Ok(())
+        self.change(Kind::Text(q, text))
     }
 
     fn push(&mut self, q: Reg) -> Result<(), Refused> {
-        self.reserve(1)?;
         let value = self.editor().registers().value(q).copy()?;
-        self.note(Kind::Push(value));
-        Ok(())
+        self.change(Kind::Push(value))
     }
 
     fn pop(&mut self, q: Reg) -> Result<(), Refused> {
         let _index = q.index();
-        self.reserve(1)?;
-        self.note(Kind::PopInto(q));
-        Ok(())
+        self.change(Kind::PopInto(q))
     }
 
     fn read_page(&mut self) -> Result<(), Refused> {
-        let span = self.editor().span();
+        let editor = self.editor();
+        let span = editor.span();
         if span.len > TEXT_LIMIT {
             return Err(Refused::Big);
         }
-        let there = self.editor().len();
-        let end = self.editor().shown();
-        let held = self.hold_page(there, span.len)?;
+        let there = editor.len();
+        let end = editor.shown();
+        let held = self.hold_page(2, there, span.len)?;
         self.bring_page(span, 0, there, 0, end, held);
         Ok(())
     }
 
     fn append_page(&mut self) -> Result<(), Refused> {
-        let there = self.editor().len();
-        if self.editor().is_input_over() {
+        let editor = self.editor();
+        let there = editor.len();
+        if editor.is_input_over() {
             return Ok(());
         }
-        let span = self.editor().span();
+        let span = editor.span();
         if is_past(TEXT_LIMIT, there, span.len) {
             return Err(Refused::Big);
         }
-        let pointer = self.editor().pointer();
-        let end = self.editor().shown();
+        let pointer = editor.pointer();
+        let end = editor.shown();
         let held = self.find_memory(2, span.len, there + span.len)?;
         self.bring_page(span, there, 0, pointer, end, Held::Memory(held));
         Ok(())
     }
 
     fn turn_page(&mut self) -> Result<(), Refused> {
-        let span = self.editor().span();
+        let editor = self.editor();
+        let span = editor.span();
         if span.len > TEXT_LIMIT {
             return Err(Refused::Big);
         }
-        let Some(end) = self.editor().end_after_page() else {
+        let Some(end) = editor.end_after_page() else {
             return Err(Refused::Big);
         };
-        let there = self.editor().len();
-        let held = self.prepare_page(there, span.len)?;
+        let there = editor.len();
+        let place = editor.place();
+        let held = self.hold_page(2, there, span.len)?;
+        self.store_upto(held.place(), place)?;
         self.bring_page(span, 0, there, 0, end, held);
         Ok(())
     }
 
     fn write_out(&mut self, from: usize, to: usize, form_feed: bool) -> Result<(), Refused> {
-        let Some(end) = self.editor().end_after_part(from, to, form_feed) else {
+        let editor = self.editor();
+        let Some(end) = editor.end_after_part(from, to, form_feed) else {
             return Err(Refused::Big);
         };
-        let place = self.editor().place();
-        let flag = self.editor().flag();
-        self.prepare_part(from, to, form_feed)?;
+        let place = editor.place();
+        let flag = editor.flag();
+        self.reserve(1)?;
+        self.store_part(from, to, form_feed)?;
         self.note(Kind::Pages(place as u32, end as u32, flag));
         Ok(())
     }
@@ -200,9 +214,8 @@ impl Desk for Recorder {
             return Err(Refused::Big);
         }
         self.reserve(3)?;
-        let text = self.fresh_text(text)?;
-        self.note_text(text);
-        self.note(Kind::Found(found));
+        let text = self.editor().fresh_text(text)?;
+        self.note_result(text, found);
         self.note(Kind::Point(place as u32));
         Ok(())
     }
@@ -218,31 +231,30 @@ impl Desk for Recorder {
         if is_long(text) || is_past(TEXT_LIMIT, kept, ins.len()) {
             return Err(Refused::Big);
         }
-        let text = self.fresh_text(text)?;
+        let text = self.editor().fresh_text(text)?;
         let held = self.find_held(3, del + ins.len(), kept + ins.len())?;
-        self.note_text(text);
-        self.note(Kind::Found(true));
+        self.note_result(text, true);
         self.replace(at, del, ins, at + ins.len(), held);
         Ok(())
     }
 
     fn finish(&mut self) -> Result<(), Refused> {
-        let Some(end) = self.editor().end_after_rest() else {
+        let editor = self.editor();
+        let Some(end) = editor.end_after_rest() else {
             return Err(Refused::Big);
         };
-        let there = self.editor().len();
-        let over = self.editor().input_len();
-        let held = self.prepare_rest(there)?;
-        self.empty(there, held);
+        let there = editor.len();
+        let over = editor.input().len();
+        let held = self.hold_page(3, there, 0)?;
+        self.store_upto(held.place(), over)?;
+        self.put_input(0, 0, 0, there, 0, held);
         self.note(Kind::Pages(over as u32, end as u32, false));
         self.note(Kind::Done(true));
         Ok(())
     }
 
     fn set_case(&mut self, mode: CaseMode) -> Result<(), Refused> {
-        self.reserve(1)?;
-        self.note(Kind::Mode(mode));
-        Ok(())
+        self.change(Kind::Mode(mode))
     }
 
     fn step_done(&mut self, steps: u64) {

@@ -20,15 +20,6 @@ returns-in_err-reserve-clause-err c = search rules
 pub returns-in_err-note_text-clause-big : goal.returns-in_err-note_text-clause-big
 returns-in_err-note_text-clause-big c = grind (arith, common_steps)
 
-pub replace-requires-clause-lands : goal.replace-requires-clause-lands
-replace-requires-clause-lands c = grind (arith, common_steps)
-
-pub replace-requires-clause-small : goal.replace-requires-clause-small
-replace-requires-clause-small c = grind (arith, common_steps)
-
-pub replace-requires-clause-room : goal.replace-requires-clause-room
-replace-requires-clause-room c = grind (arith, common_steps)
-
 pub invariant_of-self : goal.invariant_of-self
 invariant_of-self c = grind (arith, common_steps)
 

@@ -1,5 +1,4 @@
-use Rattle.std.proofs.Common.{◌∙◌, ◌≡◌, ◌≤◌, ◌++◌, ap, List, ℕ, drop, length, subst, take}
-use Rattle.std.specs.Option.{IfSome}
+use Rattle.std.proofs.Common.{◌∙◌, ◌≡◌, ◌≤◌, ◌++◌, ap, drop, length, List, ℕ, rules, take}
 use Rattle.teco_store.specs.Output.{bytes_of}
 use Rattle.teco_store.specs.Page.{form_feed_if}
 use Rattle.teco_store.proofs.Outputs.{page_then}
@@ -10,7 +9,7 @@ returns-in-Some-clause-ok c =
     let input = c.args.input.now in
     let read = take c.args.rest.0 input in
     let page : List ℕ = (c.args.halves.0.now ++ c.args.halves.1.now) ++ form_feed_if c.args.form_feed in
-    let stands = subst (λ o. IfSome o (λ at. (at ≤ length read) × (drop at read ≡ page))) c.in-Some.ensures.same c.requires.from in
+    let stands : (c.in-Some.at ≤ length read) × (drop c.in-Some.at read ≡ page) = search rules in
     c.lengthen.ensures.bytes input c.requires.part c.requires.within
     ∙ ap (λ (l : List ℕ). take c.args.shown (bytes_of c.args.self.now input) ++ l)
     (page_then input page c.in-Some.at c.args.rest.0 c.args.rest.1 c.requires.order stands.0 stands.1)

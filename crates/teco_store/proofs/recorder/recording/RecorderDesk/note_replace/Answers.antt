@@ -1,9 +1,9 @@
-use Rattle.std.proofs.Common.{ap, arith, length, ◌+◌}
+use Rattle.std.proofs.Common.{ap, arith, length, ◌+◌, ◌∙◌}
 use Rattle.std.proofs.lemmas.Grind.{common_steps}
 use Rattle.std.proofs.lemmas.Result.{err_from_is_err_and}
 use Rattle.std.specs.Option.{option_copied}
-use Rattle.teco_store.specs.Search.{note_load}
-use Rattle.teco_store.specs.State.{Body, state_of}
+use Rattle.teco_store.specs.Search.{fresh, note_load}
+use Rattle.teco_store.specs.State.{Body, Full, state_of}
 use Rattle.teco_store.proofs.Recordings.{goes_call, goes_then}
 use Rattle.teco_store.proofs.Searches.{fresh_load_noted}
 use Rattle.teco_store.proofs.recorder.recording.RecorderDesk.note_replace.Goals as goal
@@ -16,10 +16,10 @@ returns-clause-follows c =
     let text = option_copied c.args.text in
     let m = c.args.del + length c.args.ins.now in
     let n = note_load (state_of c.args.self.now.full) text + m in
-    let load = fresh_load_noted (state_of c.args.self.now.full) text _ _ (ap (λ (b : Body). b.last_search) c.find_held.ensures.body) c.in_ok-text.ensures.copy in
-    goes_call c.args.self.now c.find_held.new.self c.replace.new.self (_ + 0 + m) 3 n c.find_held.ensures.keeps
-    (goes_then c.find_held.new.self c.note.new.self c.replace.new.self (_ + 0) m 2 1
-    (goes_then c.find_held.new.self c.note_text.new.self c.note.new.self _ 0 1 1 c.note_text.ensures.goes c.note.ensures.goes) c.replace.ensures.goes)
+    let load = fresh_load_noted (state_of c.args.self.now.full) text _ _ (ap (λ (b : Body). b.last_search) c.find_held.ensures.body)
+    (c.in_ok-text.ensures.copy ∙ ap (λ (x : Full). fresh x.body.last_search text) c.editor-2.ensures) in
+    goes_call c.args.self.now c.find_held.new.self c.replace.new.self (_ + m) 3 n c.find_held.ensures.keeps
+    (goes_then c.find_held.new.self c.note_result.new.self c.replace.new.self _ m 2 1 c.note_result.ensures.goes c.replace.ensures.goes)
     (omega (arith, load)) (omega arith)
 
 pub returns-then-is_long-clause-big : goal.returns-then-is_long-clause-big

@@ -1,13 +1,13 @@
-use Rattle.std.proofs.Common.{ap, arith, length, ◌≡◌, ◌+◌}
+use Rattle.std.proofs.Common.{ap, arith, length, ◌≡◌, ◌∙◌, ◌+◌}
 use Rattle.std.proofs.lemmas.Grind.{common_steps}
-use Rattle.teco_store.proofs.Fitting.{lands_within}
+use Rattle.teco_store.proofs.Fitting.{lands_within, pointer_is}
 use Rattle.teco_store.proofs.Recordings.{goes_call}
 use Rattle.teco_store.proofs.recorder.recording.RecorderDesk.splice.Goals as goal
 
 pub replace-requires-clause-lands : goal.replace-requires-clause-lands
 replace-requires-clause-lands c =
     let lands = lands_within c.args.self.now.full.body c.args.at c.args.del c.args.ins.now c.args.point c.requires.there c.requires.lands in
-    let pointer = c.landing.ensures in
+    let pointer = c.unwrap_or.ensures ∙ pointer_is c.args.at c.args.ins.now c.args.point in
     let text : length c.find_held.new.self.full.body.text ≡ length c.args.self.now.full.body.text = ap (λ b. length b.text) c.find_held.ensures.body in
     omega arith
 
