@@ -80,8 +80,7 @@ fn end_of_block(kind: Kind, mark: BlockMark, to: usize) -> Result<Stop, Code>
         (BlockMark::EndIteration, Kind::Iter) => Ok(whole),
         (BlockMark::EndIteration, _) => Err(Code::Bni),
         (BlockMark::Otherwise, Kind::Then) => Ok(Stop { to, divided: true }),
-        (BlockMark::EndTest, Kind::Then) => Ok(whole),
-        (BlockMark::EndTest, Kind::Else) => Ok(whole),
+        (BlockMark::EndTest, Kind::Then | Kind::Else) => Ok(whole),
         _ => Err(Code::Ill),
     }
 }

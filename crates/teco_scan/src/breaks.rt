@@ -87,8 +87,7 @@ fn stray_code(kind: Option<Kind>, mark: BlockMark) -> Option<Code>
         (BlockMark::EndIteration, Some(Kind::Iter)) => None,
         (BlockMark::EndIteration, _) => Some(Code::Bni),
         (BlockMark::Otherwise, Some(Kind::Then)) => None,
-        (BlockMark::EndTest, Some(Kind::Then)) => None,
-        (BlockMark::EndTest, Some(Kind::Else)) => None,
+        (BlockMark::EndTest, Some(Kind::Then | Kind::Else)) => None,
         _ => Some(Code::Ill),
     }
 }

@@ -1,12 +1,14 @@
 -- What a function for a token did, by what its calls gave.
-use Rattle.std.proofs.Common.{ℤ, pos, negsuc, nat_abs, ◌≡◌, ◌∙◌, sym, ap, subst, refl, ℕ, ◌<◌, ◌≤◌, [], Result, Ok, Err, false, IfErr, IsErrAnd, ◌⊎◌, inl, inr, arith}
+use Rattle.std.proofs.Common.{ℤ, pos, negsuc, nat_abs, ◌≡◌, ◌∙◌, sym, ap, subst, refl, ℕ, ◌<◌, ◌≤◌, [], Result, Ok, Err, false, IfErr, IsErrAnd, OnErr, OnOk, length, ◌⊎◌, inl, inr, arith}
 use Rattle.std.specs.Prelude.{nat_le, if◌then◌else◌}
 use lib.Signed.{lt_z}
 use Rattle.std.proofs.lemmas.Bool.Decides.{nat_tests}
 use Rattle.teco_core.specs.declared.code.Code.{Code}
 use Rattle.teco_core.specs.declared.code.Code.TheVariants as code
-use Rattle.teco_core.specs.Arguments.{Arguments}
+use Rattle.teco_core.specs.Arguments.{Arguments, no_arguments}
 use Rattle.teco_core.specs.Refusal.{◌>>=◌}
+use Rattle.teco_core.specs.declared.limits.TheConstants.{FILE_LIMIT, TEXT_LIMIT}
+use Rattle.teco_store.specs.Page.{with_next_page}
 use Rattle.teco_store.specs.State.{State}
 use Rattle.teco_store.specs.Trail.{Trail, moved}
 use Rattle.teco_store.specs.declared.desk.Refused.{Refused}
@@ -15,7 +17,8 @@ use Rattle.teco_step.specs.declared.failure.Failure.{Failure}
 use Rattle.teco_step.specs.declared.failure.Failure.TheVariants as failure
 use Rattle.teco_step.specs.declared.next.Next.{Next}
 use Rattle.teco_step.specs.declared.next.Next.TheVariants as next
-use Rattle.teco_step.specs.Step.{Attempt, Action, End, Made, as_byte, done_by, edits, goes_on}
+use Rattle.teco_step.specs.Step.{Attempt, Action, End, Made, on, as_byte, done_by, edits, gives, goes, goes_on}
+use Rattle.teco_step.specs.Pages.{with_page_turned}
 use Rattle.teco_step.specs.Stepping.{end_of, is_unfinished}
 use Rattle.teco_step.specs.Families.{ActsFrom, IsActed, IsRefusal, IsUnacted, Scene, Takes, failure_of, tag_of}
 
@@ -112,6 +115,11 @@ pub acts_as : (f h : Action) (s new : State) (a left : Arguments) (F G : Trail �
 acts_as f h s new a left F G (Ok n) e d = subst (λ m. IsActed m (scene_of s a F) (scene_of new left G) n) (sym e) d
 acts_as f h s new a left F G (Err u) e d = subst (λ m. IsUnacted m (scene_of s a F) (scene_of new left G) u) (sym e) d
 
+-- It was done by giving the same value.
+pub acts_given : (f : Action) (v w : ℤ) (s new : State) (a left : Arguments) (F G : Trail → Type 0) (r : Result Next Failure) → w ≡ v → done_by f s a ≡ goes_on s (gives s a v)
+    → ActsFrom (goes (λ s a. gives s a w)) (scene_of s a F) (scene_of new left G) r → ActsFrom f (scene_of s a F) (scene_of new left G) r
+acts_given f v w s new a left F G r same e d = acts_as f (goes (λ s a. gives s a w)) s new a left F G r (e ∙ ap (λ v. goes_on s (gives s a v)) (sym same)) d
+
 -- the same of a step that ends as it says
 pub steers_done : (attempt : Attempt) (t new : State) (left args : Arguments) (load : ℕ) (end : End) (before : Scene) (G : Trail → Type 0) (n : Next)
     → attempt ≡ Ok (record { state = t; arguments = left; typed = []; load = load; end = end }) → new ≡ t → args ≡ left → end_of new (tag_of end) n ≡ end → is_unfinished n ≡ false
@@ -124,6 +132,42 @@ steers_done attempt t new left args load end before G n e same here leads finish
   finished = finished;
   carries = inl carries;
 }
+
+-- what is made of a change by which the string goes on
+pub goes_made : (f : State → Arguments → Made) (s t : State) (a left : Arguments) (load : ℕ) → f s a ≡ edits t left load → t.is_done ≡ s.is_done
+    → done_by (goes f) s a ≡ Ok (record { state = t; arguments = left; typed = []; load = load; end = on })
+goes_made f s t a left load e done = ap (goes_on s) e ∙ ap (λ d. goes_on (record s { is_done = d }) (edits t left load)) (sym done)
+
+-- It was done, or not, by the answer of a call.
+pub acts_answered : (f : Action) (s t new : State) (a left : Arguments) (load : ℕ) (end : End) (F G : Trail → Type 0) (d : Answer) (n : Next) (r : Result Next Failure)
+    → OnOk d ((r ≡ Ok n) × (left ≡ no_arguments)) → IfErr d (λ e. (r ≡ Err (failure_of e)) × (left ≡ a)) → OnOk d (new ≡ t) → OnErr d (new ≡ s)
+    → OnOk d ((u : Trail) → F u → G (moved u load)) → OnErr d ((u : Trail) → F u → G u) → (IsBig d → done_by f s a ≡ Err code.Big)
+    → (d ≡ Ok tt → done_by f s a ≡ Ok (record { state = t; arguments = no_arguments; typed = []; load = load; end = end }))
+    → end_of new (tag_of end) n ≡ end → is_unfinished n ≡ false → ActsFrom f (scene_of s a F) (scene_of new left G) r
+acts_answered f s t new a left load end F G (Ok u) n r ok err there still carries keeps big made leads finished =
+    subst (λ r. ActsFrom f (scene_of s a F) (scene_of new left G) r) (sym ok.0)
+    (steers_done _ t new no_arguments left load end (scene_of s a F) G n (made refl) there ok.1 leads finished carries)
+acts_answered f s t new a left load end F G (Err Big) n r ok err there still carries keeps big made leads finished =
+    subst (λ r. ActsFrom f (scene_of s a F) (scene_of new left G) r) (sym err.0)
+    (record { why = inl (record { code = code.Big; is = refl; refused = big refl; own = refl }); state = still; arguments = err.1; follows = keeps })
+acts_answered f s t new a left load end F G (Err NoMemory) n r ok err there still carries keeps big made leads finished =
+    subst (λ r. ActsFrom f (scene_of s a F) (scene_of new left G) r) (sym err.0)
+    (record { why = inr refl; state = still; arguments = err.1; follows = keeps })
+
+-- what a desk did whose answer is no refusal is within the limit
+pub within_by : (n limit : ℕ) (d : Answer) → (limit < n → IsBig d) → d ≡ Ok tt → n ≤ limit
+within_by n limit d big e = in_limit n limit tt (λ over. subst IsBig e (big over))
+
+-- a page turned whose text or output is past its limit, and one within both
+pub turned_over : (s : State) → (TEXT_LIMIT < length (with_next_page s).text) ⊎ (FILE_LIMIT < length (with_next_page s).output) → with_page_turned s ≡ Err code.Big
+turned_over s over = grind (arith, nat_tests)
+
+pub turned_within : (s : State) (d : Answer) → ((TEXT_LIMIT < length (with_next_page s).text) ⊎ (FILE_LIMIT < length (with_next_page s).output) → IsBig d) → d ≡ Ok tt
+    → with_page_turned s ≡ Ok (with_next_page s)
+turned_within s d big e =
+    let t = with_next_page s in
+    then_ok _ t _ _ (if_within (length t.output) FILE_LIMIT t (within_by (length t.output) FILE_LIMIT d (λ over. big (inr over)) e))
+    (if_within (length t.text) TEXT_LIMIT t (within_by (length t.text) TEXT_LIMIT d (λ over. big (inl over)) e))
 
 -- a byte
 pub as_byte_in : (n : ℤ) → lt_z n (pos 0) ≡ false → lt_z (pos 255) n ≡ false → as_byte n ≡ Ok (nat_abs n)

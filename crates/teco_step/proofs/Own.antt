@@ -11,7 +11,10 @@ use Rattle.teco_core.specs.declared.arguments.Expression.TheVariants.{Nothing, N
 use Rattle.teco_core.specs.Refusal.{◌>>=◌}
 use Rattle.teco_core.specs.Number.{fitted, quotient, operation, decimal_value, digits_value}
 use Rattle.teco_core.specs.Arguments.{Arguments, with_value, give, with_operator, operate, opened_after, open_level, closed_into, close_level, divided, comma, ground_value, with_first, taken_on, taken_from, paired, give_pair}
+use Rattle.teco_scan.specs.declared.command.Arithmetic.{Arithmetic}
+use Rattle.teco_scan.specs.declared.command.Arithmetic.TheVariants as arithmetic
 use Rattle.teco_step.specs.Stepping.{is_unfinished_code}
+use Rattle.teco_step.specs.Values.{built}
 
 -- where it is refused, the code is one of its own
 abbrev pub IsOwn : {A : Type 0} → Result A Code → Type 0
@@ -102,7 +105,7 @@ own_taken a c e = own_code (taken_from a) c (is_own_taken a) e
 pub own_given_value : (v : ℤ) (a : Arguments) (c : Code) → give v a ≡ Err c → is_unfinished_code c ≡ false
 own_given_value v a c e = own_code (give v a) c (own_give v a) e
 
-pub own_operator : (o : Op) (a : Arguments) (c : Code) → operate o a ≡ Err c → is_unfinished_code c ≡ false
+own_operator : (o : Op) (a : Arguments) (c : Code) → operate o a ≡ Err c → is_unfinished_code c ≡ false
 own_operator o a c e = own_code (operate o a) c (own_operate o a) e
 
 pub own_decimal : (ds : List ℕ) (c : Code) → decimal_value ds ≡ Err c → is_unfinished_code c ≡ false
@@ -115,7 +118,7 @@ own_paired : (z : ℕ) (first : Option ℤ) (es : List Expression) (e : Expressi
 own_paired z None [] Nothing = tt
 own_paired z _ _ _ = refl
 
-pub own_pair : (z : ℕ) (a : Arguments) (c : Code) → give_pair z a ≡ Err c → is_unfinished_code c ≡ false
+own_pair : (z : ℕ) (a : Arguments) (c : Code) → give_pair z a ≡ Err c → is_unfinished_code c ≡ false
 unfolding give_pair
 own_pair z a c e = own_code (paired z a.first a.outer a.expression) c (own_paired z a.first a.outer a.expression) e
 
@@ -125,7 +128,7 @@ own_opened Nothing a = own_if _ (Err code.Pdo) (Ok _) refl tt
 own_opened (Signed s) a = own_if _ (Err code.Pdo) (Ok _) refl tt
 own_opened (Operation v o) a = own_if _ (Err code.Pdo) (Ok _) refl tt
 
-pub own_opening : (a : Arguments) (c : Code) → open_level a ≡ Err c → is_unfinished_code c ≡ false
+own_opening : (a : Arguments) (c : Code) → open_level a ≡ Err c → is_unfinished_code c ≡ false
 unfolding open_level
 own_opening a c e = own_code (opened_after a.expression a) c (own_opened a.expression a) e
 
@@ -136,7 +139,7 @@ own_closed Nothing es first = refl
 own_closed (Signed s) es first = refl
 own_closed (Operation v o) es first = refl
 
-pub own_closing : (a : Arguments) (c : Code) → close_level a ≡ Err c → is_unfinished_code c ≡ false
+own_closing : (a : Arguments) (c : Code) → close_level a ≡ Err c → is_unfinished_code c ≡ false
 unfolding close_level
 own_closing a c e = own_code (closed_into a.expression a.outer a.first) c (own_closed a.expression a.outer a.first) e
 
@@ -144,6 +147,14 @@ own_divided : (first : Option ℤ) (es : List Expression) (e : Expression) → I
 own_divided None [] (Number v) = tt
 own_divided _ _ _ = refl
 
-pub own_comma : (a : Arguments) (c : Code) → comma a ≡ Err c → is_unfinished_code c ≡ false
+own_comma : (a : Arguments) (c : Code) → comma a ≡ Err c → is_unfinished_code c ≡ false
 unfolding comma
 own_comma a c e = own_code (divided a.first a.outer a.expression) c (own_divided a.first a.outer a.expression) e
+
+-- what builds arguments
+pub own_built : (b : Arithmetic) (z : ℕ) (a : Arguments) (c : Code) → built b z a ≡ Err c → is_unfinished_code c ≡ false
+own_built arithmetic.Whole z a c e = own_pair z a c e
+own_built (arithmetic.Operator o) z a c e = own_operator o a c e
+own_built arithmetic.Open z a c e = own_opening a c e
+own_built arithmetic.Close z a c e = own_closing a c e
+own_built arithmetic.Comma z a c e = own_comma a c e

@@ -1,5 +1,5 @@
 -- Moves and insertions.
-use Rattle.std.specs.Prelude.{ℕ, List, [], ◌∷◌, length, min, max, Option, None, Some, Result, Ok, Err, pos, ◌+◌, ◌-◌, ◌+ℤ◌, ◌-ℤ◌, nat_le, if◌then◌else◌}
+use Rattle.std.specs.Prelude.{ℕ, ℤ, List, [], ◌∷◌, length, min, max, Option, None, Some, Result, Ok, Err, pos, ◌+◌, ◌-◌, ◌+ℤ◌, ◌-ℤ◌, nat_le, if◌then◌else◌}
 use Rattle.teco_core.specs.declared.code.Code.{Code}
 use Rattle.teco_core.specs.declared.code.Code.TheVariants.{Arg, Big, Dtb, Iia, Pop}
 use Rattle.teco_core.specs.declared.arguments.Taken.{Taken}
@@ -14,6 +14,12 @@ use Rattle.teco_step.specs.Line.{line}
 -- The pointer goes to a place.
 abbrev pub moves : ℕ → State → Arguments → Made
 moves place s a = changes (pointed s place) 0
+
+-- It goes to a place of the text, else POP.
+abbrev pub moves_to : ℤ → State → Arguments → Made
+moves_to p s a = do
+  place ← place_or Pop s p
+  moves place s a
 
 -- nJ: the pointer to n, or to 0.
 abbrev pub jump : State → Arguments → Made

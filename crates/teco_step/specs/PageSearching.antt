@@ -1,5 +1,5 @@
 -- Searches over pages: a page is searched in one step, and turned or read in the next.
-use Rattle.std.specs.Prelude.{ℕ, true, false, List, [], length, Option, None, Some, Result, Ok, ℤ, pos, ◌-ℤ◌, if◌then◌else◌}
+use Rattle.std.specs.Prelude.{ℕ, Bool, true, false, List, [], length, Option, None, Some, Result, Ok, ℤ, pos, ◌-ℤ◌, if◌then◌else◌}
 use Rattle.teco_core.specs.declared.code.Code.{Code}
 use Rattle.teco_core.specs.declared.code.Code.TheVariants.{Isa}
 use Rattle.teco_core.specs.Refusal.{◌>>=◌}
@@ -8,7 +8,7 @@ use Rattle.teco_search.specs.Occurrence.{Sought, Span, forward, occurrence}
 use Rattle.teco_store.specs.Page.{is_input_over, page_load}
 use Rattle.teco_store.specs.State.{State}
 use Rattle.teco_step.specs.declared.next.Work.{Work}
-use Rattle.teco_step.specs.Pages.{above_zero}
+use Rattle.teco_step.specs.Pages.{above_zero, with_page_read, with_page_turned}
 use Rattle.teco_step.specs.Searching.{fails, notes, sought, succeeds}
 use Rattle.teco_step.specs.Step.{Attempt, Setting, again, takes_one_or}
 
@@ -56,6 +56,11 @@ goes_to_page with_next left s = do
     load = page_load s;
     end = again (record { left = left; search = true });
   })
+
+-- how the next page comes in: quietly it is read, and else the page is turned
+abbrev pub next_in : Bool → State → Result State Code
+next_in true s = with_page_read s
+next_in false s = with_page_turned s
 
 -- a step of such a search: its first, or the one that an earlier step left
 abbrev pub step_of : (State → Result State Code) → Option Work → List ℕ → Setting → State → Arguments

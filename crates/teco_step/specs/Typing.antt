@@ -1,5 +1,5 @@
 -- Typing.
-use Rattle.std.specs.Prelude.{ℕ, List, [], ◌∷◌, ◌++◌, take, drop, pos, false, ◌==◌, if◌then◌else◌}
+use Rattle.std.specs.Prelude.{ℕ, ℤ, Bool, List, [], ◌∷◌, ◌++◌, take, drop, pos, false, true, ◌==◌, if◌then◌else◌}
 use Rattle.std.specs.Fmt.{digits, signed_decimal}
 use Rattle.teco_core.specs.declared.code.Code.TheVariants.{Arg, Nae}
 use Rattle.teco_core.specs.Refusal.{◌>>=◌}
@@ -48,17 +48,22 @@ type_byte s a = do
 abbrev pub ended : Modifiers → List ℕ → List ℕ
 ended m bytes = if m.colons == 1 then bytes else bytes ++ 13 ∷ 10 ∷ []
 
+-- n in decimal, or the 32-bit two's complement of n in octal
+abbrev pub numeral : Bool → ℤ → List ℕ
+numeral in_octal n = if in_octal then digits 8 false (to_word n) else signed_decimal n
+
+abbrev pub print_in : Bool → Modifiers → State → Arguments → Made
+print_in in_octal m s a = do
+  n ← takes_one Nae a
+  types s (ended m (numeral in_octal n))
+
 -- n=: types n in decimal.
 abbrev pub print : Modifiers → State → Arguments → Made
-print m s a = do
-  n ← takes_one Nae a
-  types s (ended m (signed_decimal n))
+print m s a = print_in false m s a
 
--- n==: types the 32-bit two's complement of n in octal.
+-- n==: types n in octal.
 abbrev pub print_octal : Modifiers → State → Arguments → Made
-print_octal m s a = do
-  n ← takes_one Nae a
-  types s (ended m (digits 8 false (to_word n)))
+print_octal m s a = print_in true m s a
 
 -- ^Atext^A: types its text.
 abbrev pub type_text : List ℕ → State → Arguments → Made

@@ -3,7 +3,7 @@ ghost use Rattle.teco_step.specs.Case as case;
 ghost use Rattle.teco_step.specs.Families.{Acts, Takes};
 ghost use Rattle.teco_step.specs.Step.{goes};
 
-use crate::failure::Failure;
+use crate::failure::{Failure, done};
 use crate::next::Next;
 use crate::taking::takes_one;
 use teco_core::{Args, CaseMode, Code};
@@ -25,7 +25,5 @@ pub(crate) fn set_case<D: Desk>(desk: &mut D, args: &mut Args) -> Result<Next, F
     ensures { Acts D.Desk (goes case.set_case) (desk.old, args.old) (desk.new, args.new) result }
 {
     let mode = mode_of(takes_one(args, Code::Arg)?)?;
-    desk.set_case(mode)?;
-    args.clear();
-    Ok(Next::On)
+    done(desk.set_case(mode), Next::On, args)
 }

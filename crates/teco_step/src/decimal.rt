@@ -121,8 +121,6 @@ pub(crate) fn decimal<D: Desk>(desk: &mut D, args: &mut Args) -> Result<Next, Fa
 {
     match args.level() {
         Level::Value(_) => insert_number(desk, args),
-        Level::Sign(_) => read_number(desk, args),
-        Level::Empty => read_number(desk, args),
-        Level::Waits => read_number(desk, args),
+        Level::Sign(_) | Level::Empty | Level::Waits => read_number(desk, args),
     }
 }

@@ -4,24 +4,21 @@ ghost use Rattle.teco_step.specs.Editing as editing;
 ghost use Rattle.teco_step.specs.Families.{Acts, Takes};
 ghost use Rattle.teco_step.specs.Step.{goes};
 
-use crate::failure::Failure;
+use crate::failure::{Failure, done};
 use crate::joining::joined;
 use crate::next::Next;
 use crate::taking::{
-    as_byte, line_from, place_after, place_before, place_in, rising, taken, takes_one_or,
-    takes_reach,
+    as_byte, line_from, place_after, place_in, rising, taken, takes_one_or, takes_reach,
 };
 use teco_core::{Args, Code, Taken};
 use teco_store::Desk;
 
-/// Puts the pointer at a place. The command is then done, and its arguments gone.
-fn move_to<D: Desk>(desk: &mut D, place: usize, args: &mut Args) -> Result<Next, Failure>
-    requires { place ≤ length (D.state desk.old).text }
-    ensures { Acts D.Desk (goes (editing.moves place)) (desk.old, args.old) (desk.new, args.new) result }
+/// Puts the pointer at a place. The command is then done, and its arguments gone. A place outside the text is [`Code::Pop`].
+fn move_to<D: Desk>(desk: &mut D, place: i64, args: &mut Args) -> Result<Next, Failure>
+    ensures { Acts D.Desk (goes (editing.moves_to place)) (desk.old, args.old) (desk.new, args.new) result }
 {
-    desk.point(place)?;
-    args.clear();
-    Ok(Next::On)
+    let place = place_in(desk, Code::Pop, place)?;
+    done(desk.point(place), Next::On, args)
 }
 
 /// `nJ`: the pointer to n, or to 0.
@@ -29,8 +26,7 @@ pub(crate) fn jump<D: Desk>(desk: &mut D, args: &mut Args) -> Result<Next, Failu
     ensures { Acts D.Desk (goes editing.jump) (desk.old, args.old) (desk.new, args.new) result }
 {
     let n = takes_one_or(args, 0)?;
-    let place = place_in(desk, Code::Pop, i64::from(n))?;
-    move_to(desk, place, args)
+    move_to(desk, i64::from(n), args)
 }
 
 /// `nC`: the pointer forward by n, or by 1.
@@ -38,7 +34,7 @@ pub(crate) fn forward<D: Desk>(desk: &mut D, args: &mut Args) -> Result<Next, Fa
     ensures { Acts D.Desk (goes editing.forward) (desk.old, args.old) (desk.new, args.new) result }
 {
     let n = takes_one_or(args, 1)?;
-    let place = place_after(desk, Code::Pop, n)?;
+    let place = place_after(desk, n);
     move_to(desk, place, args)
 }
 
@@ -47,7 +43,7 @@ pub(crate) fn back<D: Desk>(desk: &mut D, args: &mut Args) -> Result<Next, Failu
     ensures { Acts D.Desk (goes editing.back) (desk.old, args.old) (desk.new, args.new) result }
 {
     let n = takes_one_or(args, 1)?;
-    let place = place_before(desk, n)?;
+    let place = desk.pointer() as i64 - i64::from(n);
     move_to(desk, place, args)
 }
 
@@ -57,7 +53,7 @@ pub(crate) fn to_line<D: Desk>(desk: &mut D, args: &mut Args) -> Result<Next, Fa
 {
     let n = takes_one_or(args, 1)?;
     let place = line_from(desk, n);
-    move_to(desk, place, args)
+    done(desk.point(place), Next::On, args)
 }
 
 /// Puts bytes for so many at a place, and the pointer after them. The command is then done, and its arguments gone. A text past its
@@ -73,9 +69,7 @@ pub(crate) fn put<D: Desk>(
     ensures { Acts D.Desk (goes (editing.puts at deleted bytes.now))
         (desk.old, args.old) (desk.new, args.new) result }
 {
-    desk.splice(at, deleted, bytes, None)?;
-    args.clear();
-    Ok(Next::On)
+    done(desk.splice(at, deleted, bytes, None), Next::On, args)
 }
 
 /// `nD`: deletes n characters after the pointer, or -n before it; one where it takes none.
@@ -83,7 +77,8 @@ pub(crate) fn delete<D: Desk>(desk: &mut D, args: &mut Args) -> Result<Next, Fai
     ensures { Acts D.Desk (goes editing.delete) (desk.old, args.old) (desk.new, args.new) result }
 {
     let n = takes_one_or(args, 1)?;
-    let range = rising(desk.pointer(), place_after(desk, Code::Dtb, n)?);
+    let place = place_in(desk, Code::Dtb, place_after(desk, n))?;
+    let range = rising(desk.pointer(), place);
     put(desk, range.start, range.end - range.start, &[], args)
 }
 
@@ -128,8 +123,7 @@ fn untaken(taken: Taken) -> Result<(), Failure>
 {
     match taken {
         Taken::None => Ok(()),
-        Taken::One(_) => Err(Failure::Command(Code::Iia)),
-        Taken::Two(..) => Err(Failure::Command(Code::Iia)),
+        Taken::One(_) | Taken::Two(..) => Err(Failure::Command(Code::Iia)),
     }
 }
 

@@ -1,11 +1,13 @@
-//! Why a step was not done.
-ghost use Rattle.std.specs.Prelude.{◌≡◌};
+//! Why a step was not done, and what an answer leads to.
+ghost use Rattle.std.specs.Prelude.{◌≡◌, Err, IfErr, Ok, OnOk};
+ghost use Rattle.teco_core.specs.Arguments.{no_arguments};
+ghost use Rattle.teco_core.specs.ArgumentsView.{arguments};
 ghost use Rattle.teco_step.specs.Families as family;
 ghost use Rattle.teco_step.specs.declared.failure.Failure.TheVariants as failure;
 
 use crate::next::Next;
 use std::alloc::AllocError;
-use teco_core::Code;
+use teco_core::{Args, Code};
 use teco_store::Refused;
 use teco_terminal::TerminalFault;
 
@@ -53,6 +55,22 @@ impl From<TerminalFault> for Failure {
     fn from(_: TerminalFault) -> Self {
         Failure::Terminal
     }
+}
+
+/// What a command leads to by the answer of its call of the desk. If that was done, so is the command, and its arguments are gone.
+#[inline(always)]
+pub(crate) fn done(
+    answer: Result<(), Refused>,
+    next: Next,
+    args: &mut Args,
+) -> Result<Next, Failure>
+    ensures ok { OnOk answer ((result ≡ Ok next) × (arguments args.new ≡ no_arguments)) }
+    ensures err { IfErr answer (λ refused. (result ≡ Err (family.failure_of refused))
+        × (arguments args.new ≡ arguments args.old)) }
+{
+    answer?;
+    args.clear();
+    Ok(next)
 }
 
 /// What an answer leads to.

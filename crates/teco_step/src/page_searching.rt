@@ -4,12 +4,11 @@ ghost use Rattle.std.specs.Prelude.{◌≡◌, ◌<ℤ◌, IfOk, pos};
 ghost use Rattle.teco_core.specs.ArgumentsView.{arguments};
 ghost use Rattle.teco_step.specs.Families.{Acts, Takes};
 ghost use Rattle.teco_step.specs.PageSearching as paging;
-ghost use Rattle.teco_step.specs.Pages.{with_page_read, with_page_turned};
 ghost use Rattle.teco_step.specs.Step.{steers};
 
-use crate::failure::Failure;
+use crate::failure::{Failure, done};
 use crate::next::{Next, Setting, Work};
-use crate::searching::{fail, noted_text, sought, succeed};
+use crate::searching::{fail, note, sought};
 use crate::taking::{takes_one_or, text_length};
 use teco_core::{Args, Code};
 use teco_search::find_forward;
@@ -51,12 +50,11 @@ fn run_out<D: Desk>(
     if desk.is_input_over() {
         return fail(desk, text, setting, args);
     }
-    desk.note_search(noted_text(text), false, 0)?;
-    args.clear();
-    Ok(Next::Again(Work {
+    let next = Next::Again(Work {
         left,
         search: false,
-    }))
+    });
+    note(desk, text, false, 0, false, next, args)
 }
 
 /// Searches the page in the buffer from the pointer.
@@ -72,62 +70,44 @@ fn search_page<D: Desk>(
     let n = wanted(setting.work, args)?;
     let pattern = sought(desk, text)?;
     match find_forward(&pattern, desk.halves(), desk.pointer(), n) {
-        Ok((_, end)) => succeed(desk, text, end, setting, args),
+        Ok((_, end)) => {
+            let asked = setting.modifiers.colons == 1;
+            note(desk, text, true, end, asked, Next::On, args)
+        }
         Err(left) => run_out(desk, text, setting, left, args),
     }
 }
 
-/// Turns the page. The search of the next one is a further step.
-fn turn_on<D: Desk>(desk: &mut D, left: i32, args: &mut Args) -> Result<Next, Failure>
-    ensures { Acts D.Desk (steers (λ s _. paging.goes_to_page with_page_turned left s))
+/// Turns the page, or reads the next one. To read it where the buffer isn't empty is [`Code::Yca`]. The search of the page is a further
+/// step.
+fn go_on<D: Desk>(desk: &mut D, quietly: bool, left: i32, args: &mut Args) -> Result<Next, Failure>
+    ensures { Acts D.Desk (steers (λ s _. paging.goes_to_page (paging.next_in quietly) left s))
         (desk.old, args.old) (desk.new, args.new) result }
 {
-    desk.turn_page()?;
-    args.clear();
-    Ok(Next::Again(Work { left, search: true }))
-}
-
-/// Reads the next page. Where the buffer isn't empty it is [`Code::Yca`]. The search of the page is a further step.
-fn read_on<D: Desk>(desk: &mut D, left: i32, args: &mut Args) -> Result<Next, Failure>
-    ensures { Acts D.Desk (steers (λ s _. paging.goes_to_page with_page_read left s))
-        (desk.old, args.old) (desk.new, args.new) result }
-{
+    let next = Next::Again(Work { left, search: true });
+    if !quietly {
+        return done(desk.turn_page(), next, args);
+    }
     if text_length(desk) > 0 {
         return Err(Failure::Command(Code::Yca));
     }
-    desk.read_page()?;
-    args.clear();
-    Ok(Next::Again(Work { left, search: true }))
+    done(desk.read_page(), next, args)
 }
 
 /// `nN` looks for the nth occurrence in the buffer and the pages after it. A page that has too few is written, and the next one replaces it.
+/// `n_` reads the next page without writing. The buffer must be empty where it does.
 pub(crate) fn search_pages<D: Desk>(
     desk: &mut D,
     text: &[u8],
+    quietly: bool,
     setting: Setting,
     args: &mut Args,
 ) -> Result<Next, Failure>
-    ensures { Acts D.Desk (steers (paging.search_pages with_page_turned text.now setting))
+    ensures { Acts D.Desk (steers (paging.search_pages (paging.next_in quietly) text.now setting))
         (desk.old, args.old) (desk.new, args.new) result }
 {
     match setting.work {
-        Some(work) if !work.search => turn_on(desk, work.left, args),
-        _ => search_page(desk, text, setting, args),
-    }
-}
-
-/// `n_` looks for the nth occurrence as `nN` does, and reads the next page without writing. The buffer must be empty where it does.
-pub(crate) fn search_pages_quietly<D: Desk>(
-    desk: &mut D,
-    text: &[u8],
-    setting: Setting,
-    args: &mut Args,
-) -> Result<Next, Failure>
-    ensures { Acts D.Desk (steers (paging.search_pages with_page_read text.now setting))
-        (desk.old, args.old) (desk.new, args.new) result }
-{
-    match setting.work {
-        Some(work) if !work.search => read_on(desk, work.left, args),
+        Some(work) if !work.search => go_on(desk, quietly, work.left, args),
         _ => search_page(desk, text, setting, args),
     }
 }

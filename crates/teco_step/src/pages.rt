@@ -1,12 +1,12 @@
 //! Pages of the input, what is written to the output, and the exit. A command that is not done keeps the arguments and the state.
-ghost use Rattle.std.specs.Prelude.{◌≡◌, ◌≤◌, [], false, length};
+ghost use Rattle.std.specs.Prelude.{◌≡◌, ◌≤◌, false, length};
 ghost use Rattle.teco_core.specs.ArgumentsView.{arguments};
-ghost use Rattle.teco_step.specs.Families.{Acts, Takes};
+ghost use Rattle.teco_step.specs.Families.{Acts, Takes, tag_of};
 ghost use Rattle.teco_step.specs.Pages as pages;
 ghost use Rattle.teco_step.specs.Step.{goes, steers};
 ghost use Rattle.teco_step.specs.Stepping.{end_of, is_unfinished};
 
-use crate::failure::Failure;
+use crate::failure::{Failure, done};
 use crate::next::{Next, Work};
 use crate::taking::{range_between, taken, takes_none, takes_one_or, text_length};
 use std::ops::Range;
@@ -21,9 +21,7 @@ pub(crate) fn next_page<D: Desk>(desk: &mut D, args: &mut Args) -> Result<Next, 
     if text_length(desk) > 0 {
         return Err(Failure::Command(Code::Yca));
     }
-    desk.read_page()?;
-    args.clear();
-    Ok(Next::On)
+    done(desk.read_page(), Next::On, args)
 }
 
 /// `A`: the next page comes after the text of the buffer, and the pointer stays. With no input left nothing changes.
@@ -31,9 +29,7 @@ pub(crate) fn append_page<D: Desk>(desk: &mut D, args: &mut Args) -> Result<Next
     ensures { Acts D.Desk (goes pages.append_page) (desk.old, args.old) (desk.new, args.new) result }
 {
     takes_none(args)?;
-    desk.append_page()?;
-    args.clear();
-    Ok(Next::On)
+    done(desk.append_page(), Next::On, args)
 }
 
 /// The pages that are left to turn. A number that isn't above 0 is [`Code::Ipa`].
@@ -54,7 +50,7 @@ fn pages_left(work: Option<Work>, args: &Args) -> Result<i32, Failure>
 
 /// What comes after one of so many pages on this desk.
 fn after_page<D: Desk>(desk: &D, n: i32) -> Next
-    ensures leads { end_of (D.state desk.now) [] result ≡ pages.after_page n }
+    ensures leads { let end = pages.after_page n in end_of (D.state desk.now) (tag_of end) result ≡ end }
     ensures finished { is_unfinished result ≡ false }
 {
     if n <= 1 {
@@ -75,9 +71,7 @@ pub(crate) fn turn_pages<D: Desk>(
     ensures { Acts D.Desk (steers (pages.turn_pages work)) (desk.old, args.old) (desk.new, args.new) result }
 {
     let n = pages_left(work, args)?;
-    desk.turn_page()?;
-    args.clear();
-    Ok(after_page(desk, n))
+    done(desk.turn_page(), after_page(desk, n), args)
 }
 
 /// Writes a range of the buffer, and a form feed where one is asked for. The command is then done, and its arguments gone.
@@ -92,9 +86,11 @@ fn write_out<D: Desk>(
     ensures { Acts D.Desk (goes (pages.writes range.start range.end form_feed))
         (desk.old, args.old) (desk.new, args.new) result }
 {
-    desk.write_out(range.start, range.end, form_feed)?;
-    args.clear();
-    Ok(Next::On)
+    done(
+        desk.write_out(range.start, range.end, form_feed),
+        Next::On,
+        args,
+    )
 }
 
 /// `PW` writes the buffer and a form feed, and `m,nPW` the range alone.
@@ -119,7 +115,5 @@ pub(crate) fn exit<D: Desk>(desk: &mut D, args: &mut Args) -> Result<Next, Failu
     ensures { Acts D.Desk (steers pages.exit) (desk.old, args.old) (desk.new, args.new) result }
 {
     takes_none(args)?;
-    desk.finish()?;
-    args.clear();
-    Ok(Next::Out)
+    done(desk.finish(), Next::Out, args)
 }

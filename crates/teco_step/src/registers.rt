@@ -4,17 +4,18 @@ ghost use Rattle.teco_core.specs.ArgumentsView.{arguments};
 ghost use Rattle.teco_core.specs.Arguments.{emptied, give};
 ghost use Rattle.teco_core.specs.Register.{content};
 ghost use Rattle.teco_core.specs.declared.limits.TheConstants.{TEXT_LIMIT};
-ghost use Rattle.teco_step.specs.Families.{Acts, Does, Types};
+ghost use Rattle.teco_step.specs.Families.{Acts, Does};
 ghost use Rattle.teco_step.specs.Registers as registers;
 ghost use Rattle.teco_step.specs.Step.{goes};
 ghost use Rattle.teco_step.specs.declared.failure.Failure.TheVariants.{Memory};
 
 use crate::edit::put;
-use crate::failure::Failure;
+use crate::failure::{Failure, done};
 use crate::joining::joined;
 use crate::next::Next;
-use crate::taking::{give, given, sum, takes_none, takes_one, takes_reach};
-use crate::typing::show;
+use crate::taking::{given, sum, takes_none, takes_one, takes_reach};
+use crate::typing::type_text;
+use crate::value::give;
 use teco_core::{Args, Code, Level, Reg};
 use teco_scan::Modifiers;
 use teco_store::{Desk, part};
@@ -50,8 +51,7 @@ pub(crate) fn register_value<D: Desk>(
         (desk.now, args.old) (desk.now, args.new) result }
     ensures no_memory { result ≡ Err Memory → ⊥ }
 {
-    give(args, value_of(desk, modifiers, q))?;
-    Ok(Next::On)
+    give(desk, value_of(desk, modifiers, q), args)
 }
 
 /// `nUq`: the number of q becomes n.
@@ -60,9 +60,7 @@ pub(crate) fn set_number<D: Desk>(desk: &mut D, q: Reg, args: &mut Args) -> Resu
     ensures { Acts D.Desk (goes (registers.set_number q)) (desk.old, args.old) (desk.new, args.new) result }
 {
     let n = takes_one(args, Code::Nau)?;
-    desk.set_number(q, n)?;
-    args.clear();
-    Ok(Next::On)
+    done(desk.set_number(q, n), Next::On, args)
 }
 
 /// Gives a value in place of what the level has, which no level refuses.
@@ -136,9 +134,7 @@ pub(crate) fn set_text<D: Desk>(
 {
     takes_none(args)?;
     let text = copy(desk, q, text)?;
-    desk.set_text(q, text)?;
-    args.clear();
-    Ok(Next::On)
+    done(desk.set_text(q, text), Next::On, args)
 }
 
 /// `nXq`: what n lines reach becomes the text of q, and with `m,nXq` the range.
@@ -149,9 +145,7 @@ pub(crate) fn extract<D: Desk>(desk: &mut D, q: Reg, args: &mut Args) -> Result<
     let (before, after) = desk.halves();
     let (first, second) = part(before, after, range.start, range.end);
     let text = joined(desk, first, second)?;
-    desk.set_text(q, text)?;
-    args.clear();
-    Ok(Next::On)
+    done(desk.set_text(q, text), Next::On, args)
 }
 
 /// `[q` pushes what q holds. The arguments stay.
@@ -176,20 +170,6 @@ pub(crate) fn pop<D: Desk>(desk: &mut D, q: Reg, args: &Args) -> Result<Next, Fa
     Ok(Next::On)
 }
 
-/// `:Gq` types the text of q.
-fn type_text<D: Desk, T: Terminal>(
-    desk: &D,
-    q: Reg,
-    args: &mut Args,
-    term: &mut T,
-) -> Result<Next, Failure>
-    ensures { Types (goes (registers.type_text q)) (D.state desk.now) (arguments args.old)
-        (arguments args.new) (T.screen term.old) (T.screen term.new) result }
-{
-    takes_none(args)?;
-    show(desk, desk.registers().text(q), args, term)
-}
-
 /// `Gq` inserts the text of q.
 fn insert_text<D: Desk>(desk: &mut D, q: Reg, args: &mut Args) -> Result<Next, Failure>
     ensures { Acts D.Desk (goes (registers.insert_text q)) (desk.old, args.old) (desk.new, args.new) result }
@@ -212,7 +192,7 @@ pub(crate) fn get<D: Desk, T: Terminal>(
         (desk.old, args.old, term.old) (desk.new, args.new, term.new) result }
 {
     if modifiers.colons == 1 {
-        return type_text(desk, q, args, term);
+        return type_text(desk, desk.registers().text(q), args, term);
     }
     insert_text(desk, q, args)
 }

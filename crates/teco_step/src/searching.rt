@@ -1,10 +1,13 @@
 //! Searches. One that is not done keeps the arguments and the state; one that fails is done.
-ghost use Rattle.std.specs.Prelude.{◌≡◌, ◌⊎◌, ◌<◌, ◌≤◌, IfErr, IfOk, IfSome, Ok, length};
+ghost use Rattle.std.specs.Prelude.{◌≡◌, ◌⊎◌, ◌<◌, ◌≤◌, IfErr, IfOk, IfSome, Ok, [], false, if◌then◌else◌, length};
 ghost use Rattle.std.specs.Option.{option_copied};
+ghost use Rattle.teco_core.specs.Arguments.{no_arguments};
 ghost use Rattle.teco_core.specs.ArgumentsView.{arguments};
+ghost use Rattle.teco_store.specs.State.{State};
 ghost use Rattle.teco_step.specs.Families.{Acts, IsRefusal, Takes};
 ghost use Rattle.teco_step.specs.Searching as searching;
-ghost use Rattle.teco_step.specs.Step.{on, steers};
+ghost use Rattle.teco_step.specs.Step.{steers};
+ghost use Rattle.teco_step.specs.Stepping.{end_of, is_unfinished};
 ghost use Rattle.teco_step.specs.declared.failure.Failure.TheVariants.{Memory};
 
 use crate::failure::Failure;
@@ -77,23 +80,47 @@ pub(crate) fn noted_text(text: &[u8]) -> Option<&[u8]>
     if text.is_empty() { None } else { Some(text) }
 }
 
-/// Leaves the result as the one argument.
+/// Leaves the result as the one argument where it is asked for, else none.
 #[tactic(auto, unfolding(teco_core::specs::Arguments::give))]
-fn answer(found: bool, args: &mut Args)
-    ensures { arguments args.new ≡ searching.answer found }
+fn answer(asked: bool, found: bool, args: &mut Args)
+    ensures { arguments args.new ≡ (if asked then searching.answer found else no_arguments) }
 {
     args.clear();
-    give_alone(args, truth(found));
+    if asked {
+        give_alone(args, truth(found));
+    }
 }
 
-/// Leaves the result as the one argument where there is a colon, else none.
-fn answer_colon(setting: Setting, found: bool, args: &mut Args)
-    ensures { arguments args.new ≡ searching.answers setting found }
+/// Notes the text and the result, puts the pointer at a place, and leaves the result where it is asked for. The step then leads on.
+pub(crate) fn note<D: Desk>(
+    desk: &mut D,
+    text: &[u8],
+    found: bool,
+    place: usize,
+    asked: bool,
+    next: Next,
+    args: &mut Args,
+) -> Result<Next, Failure>
+    requires there { place ≤ length (D.state desk.old).text }
+    requires finished { is_unfinished next ≡ false }
+    ensures { Acts D.Desk (steers (λ s _. searching.notes text.now found place
+        (if asked then searching.answer found else no_arguments) (end_of s [] next) s))
+        (desk.old, args.old) (desk.new, args.new) result }
 {
-    if setting.modifiers.colons == 1 {
-        return answer(found, args);
+    desk.note_search(noted_text(text), found, place)?;
+    answer(asked, found, args);
+    Ok(next)
+}
+
+/// What a failed search leads to: the string ends unless a colon asks or a `;` comes next in an iteration.
+fn after_failing(setting: Setting) -> Next
+    ensures leads { (s : State) → end_of s [] result ≡ searching.end_failed setting }
+    ensures finished { is_unfinished result ≡ false }
+{
+    if setting.modifiers.colons == 1 || (setting.inside && setting.before) {
+        return Next::On;
     }
-    args.clear();
+    Next::Error(Code::Srh)
 }
 
 /// The search failed: the pointer goes to 0, and the string ends unless a colon asks or a `;` comes next in an iteration.
@@ -106,29 +133,8 @@ pub(crate) fn fail<D: Desk>(
     ensures { Acts D.Desk (steers (searching.fails text.now setting))
         (desk.old, args.old) (desk.new, args.new) result }
 {
-    desk.note_search(noted_text(text), false, 0)?;
-    answer_colon(setting, false, args);
-    if setting.modifiers.colons == 1 || (setting.inside && setting.before) {
-        return Ok(Next::On);
-    }
-    Ok(Next::Error(Code::Srh))
-}
-
-/// The search found: the pointer goes to the end of it.
-pub(crate) fn succeed<D: Desk>(
-    desk: &mut D,
-    text: &[u8],
-    end: usize,
-    setting: Setting,
-    args: &mut Args,
-) -> Result<Next, Failure>
-    requires { end ≤ length (D.state desk.old).text }
-    ensures { Acts D.Desk (steers (λ s _. searching.succeeds text.now setting end s))
-        (desk.old, args.old) (desk.new, args.new) result }
-{
-    desk.note_search(noted_text(text), true, end)?;
-    answer_colon(setting, true, args);
-    Ok(Next::On)
+    let asked = setting.modifiers.colons == 1;
+    note(desk, text, false, 0, asked, after_failing(setting), args)
 }
 
 /// `nS` looks for the nth occurrence of the text, and puts the pointer after it.
@@ -144,7 +150,8 @@ fn search<D: Desk>(
     let Some((_, end)) = found(desk, text, args)? else {
         return fail(desk, text, setting, args);
     };
-    succeed(desk, text, end, setting, args)
+    let asked = setting.modifiers.colons == 1;
+    note(desk, text, true, end, asked, Next::On, args)
 }
 
 /// Where the text ends that is at the pointer, if it is there.
@@ -158,23 +165,6 @@ fn matched<D: Desk>(desk: &D, text: &[u8]) -> Result<Option<usize>, Failure>
     Ok(matches_at(&pattern, desk.halves(), desk.pointer()))
 }
 
-/// Notes the text and the result, puts the pointer at a place, and leaves the result as the one argument.
-fn note<D: Desk>(
-    desk: &mut D,
-    text: &[u8],
-    found: bool,
-    place: usize,
-    args: &mut Args,
-) -> Result<Next, Failure>
-    requires { place ≤ length (D.state desk.old).text }
-    ensures { Acts D.Desk (steers (λ s _. searching.notes text.now found place (searching.answer found) on s))
-        (desk.old, args.old) (desk.new, args.new) result }
-{
-    desk.note_search(noted_text(text), found, place)?;
-    answer(found, args);
-    Ok(Next::On)
-}
-
 /// `::S` tells whether the text is at the pointer, and puts the pointer after it.
 fn compare<D: Desk>(desk: &mut D, text: &[u8], args: &mut Args) -> Result<Next, Failure>
     ensures { Acts D.Desk (steers (searching.compare text.now))
@@ -182,10 +172,10 @@ fn compare<D: Desk>(desk: &mut D, text: &[u8], args: &mut Args) -> Result<Next, 
 {
     takes_none(args)?;
     match matched(desk, text)? {
-        Some(end) => note(desk, text, true, end, args),
+        Some(end) => note(desk, text, true, end, true, Next::On, args),
         None => {
             let pointer = desk.pointer();
-            note(desk, text, false, pointer, args)
+            note(desk, text, false, pointer, true, Next::On, args)
         }
     }
 }
@@ -221,6 +211,6 @@ pub(crate) fn search_and_replace<D: Desk>(
         return fail(desk, text, setting, args);
     };
     desk.note_replace(noted_text(text), start, end - start, bytes)?;
-    answer_colon(setting, true, args);
+    answer(setting.modifiers.colons == 1, true, args);
     Ok(Next::On)
 }

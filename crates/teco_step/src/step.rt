@@ -17,11 +17,11 @@ use crate::control::{jump_to, leave_or_not, run_register};
 use crate::edit::{back, delete, forward, insert, insert_tab, jump, kill, to_line};
 use crate::failure::{Failure, next_of};
 use crate::next::{Next, Setting, Work};
-use crate::page_searching::{search_pages, search_pages_quietly};
+use crate::page_searching::search_pages;
 use crate::pages::{exit, next_page, turn_pages, write_page};
 use crate::registers::{extract, get, increment, pop, push, register_value, set_number, set_text};
 use crate::searching::{search_and_replace, search_or_compare};
-use crate::typing::{print, print_octal, type_byte, type_out, type_text, view};
+use crate::typing::{print, type_byte, type_out, type_text, view};
 use crate::value::{arithmetic, at_level, byte, number, quantity};
 use teco_core::{Args, Code, Reg};
 use teco_scan::{Bare, Command, Item, RegisterCommand, Span, TextCommand, Token, TokenKind};
@@ -45,8 +45,8 @@ fn command_step<D: Desk, T: Terminal>(
         Command::TypeOut => type_out(desk, args, term),
         Command::View => view(desk, args, term),
         Command::TypeByte => type_byte(desk, args, term),
-        Command::Print => print(desk, setting.modifiers, args, term),
-        Command::PrintOctal => print_octal(desk, setting.modifiers, args, term),
+        Command::Print => print(desk, false, setting.modifiers, args, term),
+        Command::PrintOctal => print(desk, true, setting.modifiers, args, term),
         Command::Leave => leave_or_not(desk, setting.inside, args),
         Command::Back => back(desk, args),
         Command::Line => to_line(desk, args),
@@ -124,8 +124,8 @@ fn text_step<D: Desk, T: Terminal>(
         TextCommand::InsertTab => insert_tab(desk, text, args),
         TextCommand::TypeOut => type_text(desk, text, args, term),
         TextCommand::Search => search_or_compare(desk, text, setting, args),
-        TextCommand::SearchPages => search_pages(desk, text, setting, args),
-        TextCommand::SearchPagesQuietly => search_pages_quietly(desk, text, setting, args),
+        TextCommand::SearchPages => search_pages(desk, text, false, setting, args),
+        TextCommand::SearchPagesQuietly => search_pages(desk, text, true, setting, args),
     }
 }
 
@@ -201,9 +201,8 @@ pub fn step_token<D: Desk, T: Terminal>(
     };
     match token.kind {
         TokenKind::Item(item) => { next_of(item_step(desk, text, item, setting, args, term)) }
-        TokenKind::Mark(_) => Next::Error(Code::Ill),
-        TokenKind::Test(_) => Next::Error(Code::Ill),
-        TokenKind::Tag(_) => Next::Error(Code::Ill),
-        TokenKind::Escape => Next::Error(Code::Ill),
+        TokenKind::Mark(_) | TokenKind::Test(_) | TokenKind::Tag(_) | TokenKind::Escape => {
+            Next::Error(Code::Ill)
+        }
     }
 }

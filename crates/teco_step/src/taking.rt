@@ -1,13 +1,12 @@
 //! What commands take: a number, a byte, a place, or a range of the text.
-ghost use Rattle.std.specs.Prelude.{◌≡◌, ◌<◌, ◌≤◌, ◌^◌, ◌+ℤ◌, ◌-ℤ◌, false, length, IfErr, IfOk, Ok, OnErr, OnOk, pos};
-ghost use Rattle.teco_core.specs.Arguments.{close_level, comma, give, give_pair, open_level, operate, taken_from};
+ghost use Rattle.std.specs.Prelude.{◌≡◌, ◌≤◌, ◌+ℤ◌, false, length, IfOk, pos};
+ghost use Rattle.teco_core.specs.Arguments.{give, taken_from};
 ghost use Rattle.teco_core.specs.ArgumentsView.{arguments};
 ghost use Rattle.teco_core.specs.Number as number;
 ghost use Rattle.teco_core.specs.Number.{decimal_value, fitted};
 ghost use Rattle.teco_core.specs.declared.arguments.Taken.TheVariants.{Two};
-ghost use Rattle.teco_core.specs.declared.code.Code.TheVariants.{Pop};
 ghost use Rattle.teco_core.specs.declared.limits.TheConstants.{TEXT_LIMIT};
-ghost use Rattle.teco_step.specs.Families.{IsRefusal, Takes, range_of};
+ghost use Rattle.teco_step.specs.Families.{Takes, range_of};
 ghost use Rattle.teco_step.specs.Line.{line};
 ghost use Rattle.teco_step.specs.Step as step;
 ghost use Rattle.teco_step.specs.Stepping.{is_unfinished_code};
@@ -40,68 +39,13 @@ pub(crate) fn truth(answer: bool) -> i32
     if answer { -1 } else { 0 }
 }
 
-/// Gives a value.
-pub(crate) fn give(args: &mut Args, value: i32) -> Result<(), Failure>
-    ensures ok { OnOk result (give value (arguments args.old) ≡ Ok (arguments args.new)) }
-    ensures err { IfErr result (λ failure. IsRefusal failure (give value (arguments args.old))) }
-    ensures unchanged { OnErr result (args.new ≡ args.old) }
-{
-    Ok(args.give(value)?)
-}
-
 /// The arguments with a value given.
 pub(crate) fn given(args: &Args, value: i32) -> Result<Args, Failure>
     ensures { Takes arguments result (give value (arguments args.now)) }
 {
     let mut left = *args;
-    give(&mut left, value)?;
+    left.give(value)?;
     Ok(left)
-}
-
-/// Lets an operator wait.
-pub(crate) fn operator(args: &mut Args, op: Op) -> Result<(), Failure>
-    ensures ok { OnOk result (operate op (arguments args.old) ≡ Ok (arguments args.new)) }
-    ensures err { IfErr result (λ failure. IsRefusal failure (operate op (arguments args.old))) }
-    ensures unchanged { OnErr result (args.new ≡ args.old) }
-{
-    Ok(args.operator(op)?)
-}
-
-/// Gives 0 and a length.
-pub(crate) fn pair(args: &mut Args, length: usize) -> Result<(), Failure>
-    requires { length < 2 ^ 31 }
-    ensures ok { OnOk result (give_pair length (arguments args.old) ≡ Ok (arguments args.new)) }
-    ensures err { IfErr result (λ failure. IsRefusal failure (give_pair length (arguments args.old))) }
-    ensures unchanged { OnErr result (args.new ≡ args.old) }
-{
-    Ok(args.pair(length)?)
-}
-
-/// Opens a parenthesis.
-pub(crate) fn open(args: &mut Args) -> Result<(), Failure>
-    ensures ok { OnOk result (open_level (arguments args.old) ≡ Ok (arguments args.new)) }
-    ensures err { IfErr result (λ failure. IsRefusal failure (open_level (arguments args.old))) }
-    ensures unchanged { OnErr result (args.new ≡ args.old) }
-{
-    Ok(args.open()?)
-}
-
-/// Closes a parenthesis, whose value is given to what is around it.
-pub(crate) fn close(args: &mut Args) -> Result<(), Failure>
-    ensures ok { OnOk result (close_level (arguments args.old) ≡ Ok (arguments args.new)) }
-    ensures err { IfErr result (λ failure. IsRefusal failure (close_level (arguments args.old))) }
-    ensures unchanged { OnErr result (args.new ≡ args.old) }
-{
-    Ok(args.close()?)
-}
-
-/// Makes a value the first of two.
-pub(crate) fn comma(args: &mut Args) -> Result<(), Failure>
-    ensures ok { OnOk result (comma (arguments args.old) ≡ Ok (arguments args.new)) }
-    ensures err { IfErr result (λ failure. IsRefusal failure (comma (arguments args.old))) }
-    ensures unchanged { OnErr result (args.new ≡ args.old) }
-{
-    Ok(args.comma()?)
 }
 
 /// What a command takes. The arguments stay until it is done.
@@ -118,8 +62,7 @@ pub(crate) fn takes_none(args: &Args) -> Result<(), Failure>
 {
     match taken(args)? {
         Taken::None => Ok(()),
-        Taken::One(_) => Err(Failure::Command(Code::Arg)),
-        Taken::Two(..) => Err(Failure::Command(Code::Arg)),
+        Taken::One(_) | Taken::Two(..) => Err(Failure::Command(Code::Arg)),
     }
 }
 
@@ -177,23 +120,11 @@ pub(crate) fn place_in<D: Desk>(desk: &D, code: Code, place: i64) -> Result<usiz
     Ok(place as usize)
 }
 
-/// The place `n` characters after the pointer. One outside the text is refused by this code.
-pub(crate) fn place_after<D: Desk>(desk: &D, code: Code, n: i32) -> Result<usize, Failure>
-    requires { is_unfinished_code code ≡ false }
-    ensures value { let s = D.state desk.now in Takes (λ p. p) result
-        (step.place_or code s (pos s.pointer +ℤ n)) }
-    ensures within { IfOk result (λ place. place ≤ length (D.state desk.now).text) }
+/// The place `n` characters after the pointer, which may be outside the text.
+pub(crate) fn place_after<D: Desk>(desk: &D, n: i32) -> i64
+    ensures { result ≡ pos (D.state desk.now).pointer +ℤ n }
 {
-    place_in(desk, code, desk.pointer() as i64 + i64::from(n))
-}
-
-/// The place `n` characters before the pointer. One outside the text is [`Code::Pop`].
-pub(crate) fn place_before<D: Desk>(desk: &D, n: i32) -> Result<usize, Failure>
-    ensures value { let s = D.state desk.now in Takes (λ p. p) result
-        (step.place_or Pop s (pos s.pointer -ℤ n)) }
-    ensures within { IfOk result (λ place. place ≤ length (D.state desk.now).text) }
-{
-    place_in(desk, Code::Pop, desk.pointer() as i64 - i64::from(n))
+    desk.pointer() as i64 + i64::from(n)
 }
 
 /// The place of line `n`, as seen from the pointer.

@@ -1,6 +1,6 @@
 //! Commands that type. They change no state and take no memory, and one that is not done keeps the arguments.
 ghost use Rattle.std.specs.Prelude.{◌≡◌, ◌≢◌, ◌≤◌, ◌++◌, [], false, length, drop, take, OnErr};
-ghost use Rattle.std.specs.Fmt.{digits, signed_decimal};
+ghost use Rattle.std.specs.Fmt.{digits};
 ghost use Rattle.teco_core.specs.ArgumentsView.{arguments};
 ghost use Rattle.teco_core.specs.Number.{to_word};
 ghost use Rattle.teco_step.specs.Families.{Types};
@@ -142,32 +142,6 @@ fn put_line<T: Terminal>(
     put_some(&line[..end + 2], term)
 }
 
-/// Shows a number in decimal.
-fn put_number<T: Terminal>(n: i32, modifiers: Modifiers, term: &mut T) -> Result<(), TerminalFault>
-    ensures puts { Puts (T.screen term.old) (T.screen term.new)
-        (typing.ended modifiers (signed_decimal n)) result }
-    ensures some { OnErr result (typing.ended modifiers (signed_decimal n) ≢ []) }
-{
-    let mut buffer = Buffer::new();
-    put_line(buffer.format(n).as_bytes(), modifiers, term)
-}
-
-/// `n=` types n in decimal.
-pub(crate) fn print<D: Desk, T: Terminal>(
-    desk: &D,
-    modifiers: Modifiers,
-    args: &mut Args,
-    term: &mut T,
-) -> Result<Next, Failure>
-    ensures { Types (goes (typing.print modifiers)) (D.state desk.now) (arguments args.old)
-        (arguments args.new) (T.screen term.old) (T.screen term.new) result }
-{
-    let n = takes_one(args, Code::Nae)?;
-    put_number(n, modifiers, term)?;
-    args.clear();
-    Ok(Next::On)
-}
-
 /// Writes a number in octal at the end of the bytes, and says where it begins.
 fn octal(n: u32, bytes: &mut [u8; 64]) -> usize
     ensures value { drop result bytes.new ≡ digits 8 false n }
@@ -205,18 +179,37 @@ fn put_octal<T: Terminal>(n: i32, modifiers: Modifiers, term: &mut T) -> Result<
     put_line(&bytes[start..], modifiers, term)
 }
 
-/// `n==` types n in octal.
-pub(crate) fn print_octal<D: Desk, T: Terminal>(
+/// Shows a number in decimal, or in octal.
+fn put_number<T: Terminal>(
+    n: i32,
+    in_octal: bool,
+    modifiers: Modifiers,
+    term: &mut T,
+) -> Result<(), TerminalFault>
+    ensures puts { Puts (T.screen term.old) (T.screen term.new)
+        (typing.ended modifiers (typing.numeral in_octal n)) result }
+    ensures some { OnErr result (typing.ended modifiers (typing.numeral in_octal n) ≢ []) }
+{
+    if in_octal {
+        return put_octal(n, modifiers, term);
+    }
+    let mut buffer = Buffer::new();
+    put_line(buffer.format(n).as_bytes(), modifiers, term)
+}
+
+/// `n=` types n in decimal, and `n==` in octal.
+pub(crate) fn print<D: Desk, T: Terminal>(
     desk: &D,
+    in_octal: bool,
     modifiers: Modifiers,
     args: &mut Args,
     term: &mut T,
 ) -> Result<Next, Failure>
-    ensures { Types (goes (typing.print_octal modifiers)) (D.state desk.now) (arguments args.old)
+    ensures { Types (goes (typing.print_in in_octal modifiers)) (D.state desk.now) (arguments args.old)
         (arguments args.new) (T.screen term.old) (T.screen term.new) result }
 {
     let n = takes_one(args, Code::Nae)?;
-    put_octal(n, modifiers, term)?;
+    put_number(n, in_octal, modifiers, term)?;
     args.clear();
     Ok(Next::On)
 }

@@ -1,8 +1,9 @@
 //! Tokens that give a value or build arguments. But for the commands that the level decides on, they change no state and take no
 //! memory. One that is refused keeps the arguments.
-ghost use Rattle.std.specs.Prelude.{◌≡◌, ◌++◌, ◌+ℤ◌, pos, Err};
+ghost use Rattle.std.specs.Prelude.{◌≡◌, ◌++◌, ◌<◌, ◌^◌, pos, Err, IfErr, Ok, OnErr, OnOk};
+ghost use Rattle.teco_core.specs.ArgumentsView.{arguments};
 ghost use Rattle.teco_step.specs.Families.{Acts};
-ghost use Rattle.teco_step.specs.Step.{goes};
+ghost use Rattle.teco_step.specs.Step.{gives, goes};
 ghost use Rattle.teco_step.specs.Values as values;
 ghost use Rattle.teco_step.specs.declared.failure.Failure.TheVariants.{Memory};
 
@@ -12,10 +13,19 @@ use crate::line::byte_at;
 use crate::next::Next;
 use crate::pages::append_page;
 use crate::registers::give_alone;
-use crate::taking::{close, comma, decimal, give, open, operator, pair, text_length, truth};
+use crate::taking::{decimal, place_after, text_length, truth};
 use teco_core::{Args, Code, Level};
 use teco_scan::{Arithmetic, LevelCommand, Quantity};
 use teco_store::Desk;
+
+/// Gives a value.
+pub(crate) fn give<D: Desk>(desk: &D, value: i32, args: &mut Args) -> Result<Next, Failure>
+    ensures does { Acts D.Desk (goes (λ s a. gives s a value)) (desk.now, args.old) (desk.now, args.new) result }
+    ensures no_memory { result ≡ Err Memory → ⊥ }
+{
+    args.give(value)?;
+    Ok(Next::On)
+}
 
 /// A run of digits gives its value.
 pub(crate) fn number<D: Desk>(desk: &D, digits: &[u8], args: &mut Args) -> Result<Next, Failure>
@@ -23,8 +33,7 @@ pub(crate) fn number<D: Desk>(desk: &D, digits: &[u8], args: &mut Args) -> Resul
         (desk.now, args.old) (desk.now, args.new) result }
     ensures no_memory { result ≡ Err Memory → ⊥ }
 {
-    give(args, decimal(digits)?)?;
-    Ok(Next::On)
+    give(desk, decimal(digits)?, args)
 }
 
 /// The places of `B`, `Z` and `.`, whether a form feed ended the page, and whether no input is left.
@@ -50,8 +59,7 @@ pub(crate) fn quantity<D: Desk>(
         (desk.now, args.old) (desk.now, args.new) result }
     ensures no_memory { result ≡ Err Memory → ⊥ }
 {
-    give(args, value_of(desk, quantity))?;
-    Ok(Next::On)
+    give(desk, value_of(desk, quantity), args)
 }
 
 /// `^^` and a byte gives the byte's code.
@@ -60,8 +68,23 @@ pub(crate) fn byte<D: Desk>(desk: &D, byte: u8, args: &mut Args) -> Result<Next,
         (desk.now, args.old) (desk.now, args.new) result }
     ensures no_memory { result ≡ Err Memory → ⊥ }
 {
-    give(args, i32::from(byte))?;
-    Ok(Next::On)
+    give(desk, i32::from(byte), args)
+}
+
+/// Builds the arguments, where the text has this length.
+fn build(arithmetic: Arithmetic, length: usize, args: &mut Args) -> Result<(), Code>
+    requires { length < 2 ^ 31 }
+    ensures ok { OnOk result (values.built arithmetic length (arguments args.old) ≡ Ok (arguments args.new)) }
+    ensures err { IfErr result (λ code. values.built arithmetic length (arguments args.old) ≡ Err code) }
+    ensures unchanged { OnErr result (args.new ≡ args.old) }
+{
+    match arithmetic {
+        Arithmetic::Whole => args.pair(length),
+        Arithmetic::Operator(op) => args.operator(op),
+        Arithmetic::Open => args.open(),
+        Arithmetic::Close => args.close(),
+        Arithmetic::Comma => args.comma(),
+    }
 }
 
 /// `H` gives a pair, an operator waits for the next value, a parenthesis opens or closes, and a comma makes a value the first of two.
@@ -74,13 +97,7 @@ pub(crate) fn arithmetic<D: Desk>(
         (desk.now, args.old) (desk.now, args.new) result }
     ensures no_memory { result ≡ Err Memory → ⊥ }
 {
-    match arithmetic {
-        Arithmetic::Whole => pair(args, text_length(desk))?,
-        Arithmetic::Operator(op) => operator(args, op)?,
-        Arithmetic::Open => open(args)?,
-        Arithmetic::Close => close(args)?,
-        Arithmetic::Comma => comma(args)?,
-    }
+    build(arithmetic, text_length(desk), args)?;
     Ok(Next::On)
 }
 
@@ -106,19 +123,12 @@ fn code_at<D: Desk>(desk: &D, place: i64) -> i32
     }
 }
 
-/// The code of the character `n` after the pointer, or -1 where none is.
-fn code_near<D: Desk>(desk: &D, n: i32) -> i32
-    ensures { let s = D.state desk.now in result ≡ values.code_at s.text (pos s.pointer +ℤ n) }
-{
-    code_at(desk, desk.pointer() as i64 + i64::from(n))
-}
-
 /// Gives the code of the character `n` after the pointer, in place of what the level has.
 fn give_code<D: Desk>(desk: &D, n: i32, args: &mut Args) -> Result<Next, Failure>
     ensures does { Acts D.Desk (goes (values.gives_code n)) (desk.now, args.old) (desk.now, args.new) result }
     ensures no_memory { result ≡ Err Memory → ⊥ }
 {
-    let code = code_near(desk, n);
+    let code = code_at(desk, place_after(desk, n));
     give_alone(args, code);
     Ok(Next::On)
 }
