@@ -29,8 +29,8 @@ macro_rules! rows {
     };
 }
 
-/// The commands with `E`; here and in the other tables a longer name comes before one that begins it.
-static WITH_E: [LeftOut; 24] = rows! {
+/// The commands with `E` that have to do with files and the system. In each table a longer name comes before one that begins it.
+static ON_FILES: [LeftOut; 12] = rows! {
     Text "ER" "opens an input file" "give it as INPUT on the command line";
     Text "EW" "opens an output file" "give it by --output on the command line";
     Text "EB" "opens a file to edit it" "give it as INPUT with --in-place";
@@ -43,6 +43,10 @@ static WITH_E: [LeftOut; 24] = rows! {
     Nothing "EK" "drops the output file" "leave EX out";
     Nothing "EP" "reads from the second input" "two runs";
     Nothing "EA" "writes to the second output" "two runs";
+};
+
+/// The other commands with `E`.
+static WITH_E: [LeftOut; 12] = rows! {
     Nothing "EY" "reads a page and drops the last" "HKY";
     Nothing "EM" "moves a tape" "nothing";
     Nothing "ED" "sets how much is done by itself" "leave it out";
@@ -159,6 +163,9 @@ fn row_in(rows: &'static [LeftOut], bytes: &[u8]) -> Option<(&'static LeftOut, u
 pub fn row_of(bytes: &[u8]) -> Option<(&'static LeftOut, usize)>
     ensures { IfSome result (λ found. found.1 ≤ length bytes.now) }
 {
+    if let Some(found) = row_in(&ON_FILES, bytes) {
+        return Some(found);
+    }
     if let Some(found) = row_in(&WITH_E, bytes) {
         return Some(found);
     }

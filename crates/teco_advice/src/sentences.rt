@@ -80,9 +80,10 @@ fn show_no_end(out: &mut String, bytes: &[u8]) -> Result<(), NoMemory> {
 
 /// Says why no token can be read.
 fn show_unreadable(out: &mut String, bytes: &[u8], code: Code) -> Result<(), NoMemory> {
-    if !matches!(code, Code::Utc)
-        && let Some((row, _)) = row_of(bytes)
-    {
+    if let Code::Utc = code {
+        return show_no_end(out, bytes);
+    }
+    if let Some((row, _)) = row_of(bytes) {
         let written = row.written;
         let does = row.does;
         let instead = row.instead;
@@ -99,7 +100,6 @@ fn show_unreadable(out: &mut String, bytes: &[u8], code: Code) -> Result<(), NoM
             " comes a register, A to Z or 0 to 9",
         ),
         Code::Iqc => out.push_str("after \" comes a letter of E F U N G L S T A D R V W"),
-        Code::Utc => show_no_end(out, bytes),
         _ => show_no_command(out, bytes),
     }
 }
@@ -143,9 +143,12 @@ fn tag_name(bytes: &[u8]) -> &[u8] {
     }
 }
 
-/// What opens a block.
-fn opener(text: &[u8], at: usize) -> &[u8] {
-    token(text, at, 1)
+/// What opens a block, if one is open.
+fn opener(text: &[u8], place: Option<usize>) -> Option<&[u8]> {
+    match place {
+        Some(at) => Some(token(text, at, 1)),
+        None => None,
+    }
 }
 
 /// The code of a fault; none of those that a run does not end by.
@@ -181,12 +184,7 @@ fn show_wrong(
     let token = token(text, at, 1);
     match wrong {
         Wrong::Unreadable(code) => show_unreadable(out, here, code),
-        Wrong::Stray(_, place) => show_stray(
-            out,
-            here,
-            place.map(|place| opener(text, place)),
-            opening,
-        ),
+        Wrong::Stray(_, place) => show_stray(out, here, opener(text, place), opening),
         Wrong::Unended => match here {
             [b'<', ..] => out.push_str("< has no >"),
             _ => show_around(out, "", token, " has no '"),
@@ -216,10 +214,11 @@ fn show_fault(
     fault: &FaultIn,
     opening: Option<Spot>,
 ) -> Result<(), NoMemory> {
-    match code_of(fault.wrong) {
-        Some(code) => write!(out, "{code}: ")?,
-        None => out.push_str("not checked: ")?,
-    }
+    let begun = match code_of(fault.wrong) {
+        Some(code) => write!(out, "{code}: "),
+        None => out.push_str("not checked: "),
+    };
+    begun?;
     let at = fault.at.saturating_sub(fault.inside.from);
     show_wrong(out, part(commands, fault.inside), at, fault.wrong, opening)
 }

@@ -1,5 +1,6 @@
 -- What a note more makes of the files that a log tells.
-use Rattle.std.proofs.Common.{◌≡◌, ◌≢◌, ◌⊎◌, inl, inr, ℕ, ◌+◌, ◌<◌, ◌++◌, true, false, List, [], ◌∷◌, length, drop, get_or, Option, Some, None, refl, ap, sym, subst, ◌∙◌}
+use Rattle.std.proofs.Common.{◌≡◌, ◌≢◌, ◌⊎◌, inl, inr, ℕ, ◌+◌, ◌<◌, ◌++◌, true, false, List, [], ◌∷◌, length, drop, get_or, Option, Some, None, Result, Ok, Err, refl, ap, sym, subst, ◌∙◌}
+use Rattle.std.specs.Prelude.{OnOk, OnErr}
 use Rattle.std.specs.Str.{bytes_eq}
 use Rattle.std.proofs.lemmas.Bool.{false_from_ne_true}
 use Rattle.std.proofs.lemmas.List.{drop_more}
@@ -60,6 +61,16 @@ module _ {old new : List FileNote} where
     gone = at_gone (noted from to bytes) more from apart refl;
     others = λ name not_from not_to. at_other (noted from to bytes) more name not_to not_from;
   }
+
+-- What a call that notes it, or fails, makes of the log and the files.
+module _ {T E : Type 0} (old new : List FileNote) where
+  pub grows_by : (note : FileNote) (noting : Result T E) → OnOk noting (new ≡ note ∷ old) → OnErr noting (new ≡ old) → GrowsByOne old new
+  grows_by note (Ok done) more same = inr (note, more)
+  grows_by note (Err fault) more same = inl same
+
+  pub others_of : (name : List ℕ) (bytes : Option (List ℕ)) (noting : Result T E) → OnOk noting (new ≡ noted name name bytes ∷ old) → OnErr noting (new ≡ old) → SameBut name (files_of old) (files_of new)
+  others_of name bytes (Ok done) more same = others_noted more
+  others_of name bytes (Err fault) more same = λ other apart. ap (λ log. files_of log other) same
 
 module _ (old new : List FileNote) (moment : Files → Files → Type 0) where
   last_or_once : (before files : Files) (note : FileNote) → new ≡ note ∷ old → moment before (files_of new) → WereOnce (note ∷ old) files → WereOnce old files ⊎ moment before files

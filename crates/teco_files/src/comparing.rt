@@ -2,7 +2,7 @@
 ghost use Rattle.std.specs.Prelude.{◌≡◌, ◌++◌, IfSome, true, false};
 ghost use Rattle.teco_files.specs.Source.{Gives, HasEnded};
 
-use crate::source::{Source, SourceFault};
+use crate::source::Source;
 
 /// The most bytes of a piece.
 const PIECE: usize = 1 << 16;
@@ -38,16 +38,15 @@ pub fn gives_just<S: Source>(source: &mut S, bytes: (&[u8], &[u8])) -> bool
     let mut piece = [0; PIECE];
     let mut left = bytes;
     'pieces: loop {
-        let n = match source.read(&mut piece) {
-            Ok(n) => n,
-            Err(SourceFault) => return false,
+        let Ok(n) = source.read(&mut piece) else {
+            return false;
         };
         if n == 0 {
             return left.0.is_empty() && left.1.is_empty();
         }
-        left = match after_piece(left, &piece[..n]) {
-            Some(left) => left,
-            None => return false,
+        let Some(rest) = after_piece(left, &piece[..n]) else {
+            return false;
         };
+        left = rest;
     }
 }

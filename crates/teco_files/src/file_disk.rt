@@ -1,9 +1,9 @@
 //! The files of the system.
-ghost use Rattle.std.specs.Prelude.{◌≡◌, ⊤, true, IfErr, None, Some};
-ghost use Rattle.teco_files.specs.Disk.{Counts};
+ghost use Rattle.std.specs.Prelude.{◌≡◌, ⊤, true, None, Some};
 
 use crate::disk::Disk;
 use crate::draft::{give_mode, make_like, open_new};
+use crate::failures::Failures;
 use crate::reader_source::ReaderSource;
 use crate::target::{Target, append, is_same_file, known, target_of};
 use std::fs::{Files, Metadata, OpenFile};
@@ -22,27 +22,35 @@ pub struct FileDisk<'a, R: Files> {
     replaced: Option<Metadata>,
     // whether the file that was last asked about was not as it was when it was opened
     changed: bool,
-    failures: u64,
-    // the last failure
-    failure: Option<io::Error>,
+    failures: Failures,
 }
 
-/// Opens a file to be read, and tells what it is. A folder can't be read.
-fn open_known<R: Files>(rt: &R, name: &str) -> io::Result<(R::File, Metadata)> {
+/// Opens a file to be read, and notes what it is. A folder can't be read.
+fn open_noted<R: Files>(
+    rt: &R,
+    name: &str,
+    opened: &mut Option<Metadata>,
+) -> io::Result<ReaderSource<R::File>> {
     let file = fs::open(rt, name)?;
     let about = file.metadata()?;
     if about.is_dir() {
         return Err(io::Error::from(ErrorKind::IsADirectory));
     }
-    Ok((file, about))
+    *opened = Some(about);
+    Ok(ReaderSource::new(file))
 }
 
-/// Whether it is the same file, of the same size, which nobody has written to since.
-fn is_unchanged(was: &Metadata, now: &Metadata) -> bool {
-    is_same_file(was, now)
-        && was.size() == now.size()
-        && was.mtime() == now.mtime()
-        && was.mtime_nsec() == now.mtime_nsec()
+/// Whether both are there, and are the same file, of the same size, which nobody has written to since.
+fn is_unchanged(was: &Option<Metadata>, now: &Option<Metadata>) -> bool {
+    match (was, now) {
+        (Some(was), Some(now)) => {
+            is_same_file(was, now)
+                && was.size() == now.size()
+                && was.mtime() == now.mtime()
+                && was.mtime_nsec() == now.mtime_nsec()
+        }
+        _ => false,
+    }
 }
 
 impl<'a, R: Files> FileDisk<'a, R> {
@@ -53,22 +61,11 @@ impl<'a, R: Files> FileDisk<'a, R> {
             opened: None,
             replaced: None,
             changed: false,
-            failures: 0,
-            failure: None,
+            failures: Failures {
+                times: 0,
+                last: None,
+            },
         }
-    }
-
-    /// Counts a call that failed, and notes its error.
-    fn counted<A: Drop>(&mut self, done: io::Result<A>) -> io::Result<A>
-        ensures same { result ≡ done }
-        ensures count { Counts done self.old.failures self.new.failures }
-        ensures error { IfErr done (λ error. self.new.failure ≡ Some error) }
-    {
-        if let Err(error) = &done {
-            self.failures = self.failures.wrapping_add(1);
-            self.failure = Some(*error);
-        }
-        done
     }
 
     /// The permissions that a new file is to have: those of the file that was opened last, if that was no device and no pipe.
@@ -94,9 +91,9 @@ where
 
     ghost streams = { λ _ _. None };
 
-    ghost failures = { λ disk. disk.failures };
+    ghost failures = { λ disk. disk.failures.times };
 
-    ghost gave = { λ disk error. disk.failure ≡ Some error };
+    ghost gave = { λ disk error. disk.failures.last ≡ Some error };
 
     ghost is_of = { λ _ _. ⊤ };
 
@@ -107,24 +104,15 @@ where
     ghost changed = { λ disk _. disk.changed ≡ true };
 
     fn open(&mut self, name: &str) -> io::Result<ReaderSource<R::File>> {
-        let opened = open_known(self.rt, name);
-        match self.counted(opened) {
-            Ok((file, about)) => {
-                self.opened = Some(about);
-                Ok(ReaderSource::new(file))
-            }
-            Err(error) => Err(error),
-        }
+        let opened = open_noted(self.rt, name, &mut self.opened);
+        self.failures.counted(opened)
     }
 
     fn is_as_read(&mut self, name: &str) -> io::Result<bool> {
         let now = known(self.rt, name);
-        match self.counted(now) {
+        match self.failures.counted(now) {
             Ok(now) => {
-                let same = match (&self.opened, &now) {
-                    (Some(was), Some(now)) => is_unchanged(was, now),
-                    _ => false,
-                };
+                let same = is_unchanged(&self.opened, &now);
                 self.changed = !same;
                 Ok(same)
             }
@@ -133,30 +121,24 @@ where
     }
 
     fn target_of(&mut self, name: &str) -> io::Result<Target> {
-        let found = target_of(self.rt, name);
-        match self.counted(found) {
-            Ok(found) => {
-                self.replaced = found.replaced;
-                Ok(found.target)
-            }
-            Err(error) => Err(error),
-        }
+        let found = target_of(self.rt, name, &mut self.replaced);
+        self.failures.counted(found)
     }
 
     fn append(&mut self, name: &str, bytes: (&[u8], &[u8])) -> io::Result<()> {
         let appended = append(self.rt, name, bytes);
-        self.counted(appended)
+        self.failures.counted(appended)
     }
 
     fn make(&mut self, name: &str) -> io::Result<R::File> {
         let is_private = self.replaced.is_some() || self.mode_of_new().is_some();
         let made = open_new(self.rt, name, is_private);
-        self.counted(made)
+        self.failures.counted(made)
     }
 
     fn write(&mut self, draft: &mut R::File, _name: &str, bytes: &[u8]) -> io::Result<()> {
         let written = draft.write_all(bytes);
-        self.counted(written)
+        self.failures.counted(written)
     }
 
     fn make_like(&mut self, draft: &R::File, _name: &str) {
@@ -169,12 +151,12 @@ where
 
     fn sync(&mut self, draft: &R::File, _name: &str) -> io::Result<()> {
         let synced = draft.sync_all();
-        self.counted(synced)
+        self.failures.counted(synced)
     }
 
     fn rename(&mut self, from: &str, to: &str) -> io::Result<()> {
         let renamed = fs::rename(self.rt, from, to);
-        self.counted(renamed)
+        self.failures.counted(renamed)
     }
 
     fn remove(&mut self, name: &str) -> io::Result<()> {
@@ -182,9 +164,6 @@ where
     }
 
     fn why(&self) -> Option<ErrorKind> {
-        match &self.failure {
-            Some(error) => Some(error.kind()),
-            None => None,
-        }
+        self.failures.why()
     }
 }

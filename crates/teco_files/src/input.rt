@@ -64,13 +64,17 @@ pub fn read_input<S: Source>(
     let mut input = Vec::new(alloc);
     let mut piece = [0; PIECE];
     'pieces: loop {
-        let n = source.read(&mut piece)?;
+        let Ok(n) = source.read(&mut piece) else {
+            return Err(InputFault::Read);
+        };
         if n == 0 {
             return Ok(input);
         }
         if n > max - input.len() {
             return Err(InputFault::TooLarge);
         }
-        input.extend_from_slice(&piece[..n])?;
+        let Ok(()) = input.extend_from_slice(&piece[..n]) else {
+            return Err(InputFault::Memory);
+        };
     }
 }

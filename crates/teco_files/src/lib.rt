@@ -5,6 +5,7 @@ mod comparing;
 mod copying;
 mod disk;
 mod draft;
+mod failures;
 mod file_disk;
 mod input;
 mod memory_disk;

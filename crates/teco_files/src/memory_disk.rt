@@ -1,10 +1,11 @@
 //! Files in memory.
-ghost use Rattle.std.specs.Prelude.{◌≡◌, ⊤, true, IfErr, IfOk, Some};
+ghost use Rattle.std.specs.Prelude.{◌≡◌, ⊤, true, IfOk, Some};
 ghost use Rattle.teco_files.specs.declared.memory_disk.Refused.TheVariants.{Changed};
-ghost use Rattle.teco_files.specs.Disk.{Counts, IsTargetOf};
+ghost use Rattle.teco_files.specs.Disk.{IsTargetOf};
 ghost use Rattle.teco_files.specs.FileLog.{WereOnce, files_of};
 
 use crate::disk::Disk;
+use crate::failures::Failures;
 use crate::memory_source::MemorySource;
 use crate::target::Target;
 use std::alloc::Global;
@@ -31,26 +32,6 @@ pub enum Refused {
     RenameAndRemove,
     /// To replace a file: it is told not to be what it was when it was opened.
     Changed,
-}
-
-/// How often a call has failed, modulo 2^64, and what the last failure was.
-#[derive(Drop)]
-struct Failures {
-    times: u64,
-    last: Option<io::Error>,
-}
-
-impl Failures {
-    /// Counts a call that failed, and notes its error.
-    fn count<A>(&mut self, done: &io::Result<A>)
-        ensures count { Counts done.now self.old.times self.new.times }
-        ensures error { IfErr done.now (λ error. self.new.last ≡ Some error) }
-    {
-        if let Err(error) = done {
-            self.times = self.times.wrapping_add(1);
-            self.last = Some(*error);
-        }
-    }
 }
 
 /// Files in memory, which tells them. So a disk can tell its files and do all that is said of a disk.
@@ -144,8 +125,7 @@ impl Disk for MemoryDisk {
 
     fn open(&mut self, name: &str) -> io::Result<MemorySource> {
         let opened = self.log.opened(self.refused, name);
-        self.failures.count(&opened);
-        opened
+        self.failures.counted(opened)
     }
 
     fn is_as_read(&mut self, _name: &str) -> io::Result<bool> {
@@ -154,26 +134,22 @@ impl Disk for MemoryDisk {
 
     fn target_of(&mut self, name: &str) -> io::Result<Target> {
         let target = target_among(&self.devices, self.alloc, name);
-        self.failures.count(&target);
-        target
+        self.failures.counted(target)
     }
 
     fn append(&mut self, name: &str, bytes: (&[u8], &[u8])) -> io::Result<()> {
         let appended = self.devices.written_both(self.refused, name, bytes);
-        self.failures.count(&appended);
-        appended
+        self.failures.counted(appended)
     }
 
     fn make(&mut self, name: &str) -> io::Result<()> {
         let made = self.log.made(self.refused, name);
-        self.failures.count(&made);
-        made
+        self.failures.counted(made)
     }
 
     fn write(&mut self, _draft: &mut (), name: &str, bytes: &[u8]) -> io::Result<()> {
         let written = self.log.written(self.refused, name, bytes);
-        self.failures.count(&written);
-        written
+        self.failures.counted(written)
     }
 
     fn make_like(&mut self, _draft: &(), _name: &str) {}
@@ -183,14 +159,12 @@ impl Disk for MemoryDisk {
             Refused::Sync => Err(io::Error::from(ErrorKind::StorageFull)),
             _ => Ok(()),
         };
-        self.failures.count(&synced);
-        synced
+        self.failures.counted(synced)
     }
 
     fn rename(&mut self, from: &str, to: &str) -> io::Result<()> {
         let renamed = self.log.renamed(self.refused, from, to);
-        self.failures.count(&renamed);
-        renamed
+        self.failures.counted(renamed)
     }
 
     fn remove(&mut self, name: &str) -> io::Result<()> {
@@ -200,9 +174,6 @@ impl Disk for MemoryDisk {
     }
 
     fn why(&self) -> Option<ErrorKind> {
-        match &self.failures.last {
-            Some(error) => Some(error.kind()),
-            None => None,
-        }
+        self.failures.why()
     }
 }

@@ -20,13 +20,6 @@ pub enum Target {
     Stream,
 }
 
-/// A target, and what is known of the file that is there now, if one is.
-#[derive(Drop)]
-pub struct Found {
-    pub target: Target,
-    pub replaced: Option<Metadata>,
-}
-
 /// Whether both tell of the same file, whatever its names are.
 pub fn is_same_file(one: &Metadata, other: &Metadata) -> bool {
     one.dev() == other.dev() && one.ino() == other.ino()
@@ -51,11 +44,13 @@ fn end_of_links<R: Files + AllocGlobal>(rt: &R, name: &str) -> io::Result<String
                 let path = Path::new(end.as_str()).with_file_name(rt.alloc(), next.as_str())?;
                 end = path.into_string();
             }
-            // what is there is no link, or nothing is there
-            Err(error) if matches!(error.kind(), ErrorKind::InvalidInput | ErrorKind::NotFound) => {
-                return Ok(end);
+            Err(error) => {
+                return match error.kind() {
+                    // what is there is no link, or nothing is there
+                    ErrorKind::InvalidInput | ErrorKind::NotFound => Ok(end),
+                    _ => Err(error),
+                };
             }
-            Err(error) => return Err(error),
         }
     }
     Err(io::Error::from(ErrorKind::FilesystemLoop))
@@ -81,38 +76,33 @@ fn file_to_write<R: Files>(rt: &R, name: &str) -> io::Result<Metadata> {
     Ok(about)
 }
 
-/// The target where something has the name. A file has to be one that may be written.
-fn target_there<R: Files + AllocGlobal>(rt: &R, name: &str, about: &Metadata) -> io::Result<Found> {
-    if about.is_dir() {
-        return Err(io::Error::from(ErrorKind::IsADirectory));
-    }
-    if !about.is_file() {
-        return Ok(Found {
-            target: Target::Stream,
-            replaced: None,
-        });
-    }
-    let end = end_of_links(rt, name)?;
-    let replaced = file_to_write(rt, end.as_str())?;
-    Ok(Found {
-        target: Target::File(end),
-        replaced: Some(replaced),
-    })
-}
-
-/// Where the output of this name goes. What the file is tells that, and not where its name lies.
+/// Where the output of this name goes. What the file is tells that, and not where its name lies. A file has to be one that may be
+/// written; what is known of it is put into `replaced`, which is nothing where no file is there.
 ///
 /// Links are followed to their end, so that they stay what they are. A link that leads to nothing makes the file that it leads
 /// to, as `> link` does in a shell. The links are those that the system followed just before: one that it doesn't follow, as
 /// another user's in /tmp, is an error.
-pub fn target_of<R: Files + AllocGlobal>(rt: &R, name: &str) -> io::Result<Found> {
-    match known(rt, name)? {
-        Some(about) => target_there(rt, name, &about),
-        None => Ok(Found {
-            target: Target::File(end_of_links(rt, name)?),
-            replaced: None,
-        }),
+pub fn target_of<R: Files + AllocGlobal>(
+    rt: &R,
+    name: &str,
+    replaced: &mut Option<Metadata>,
+) -> io::Result<Target> {
+    let there = known(rt, name)?;
+    if let Some(about) = &there {
+        if about.is_dir() {
+            return Err(io::Error::from(ErrorKind::IsADirectory));
+        }
+        if !about.is_file() {
+            *replaced = None;
+            return Ok(Target::Stream);
+        }
     }
+    let end = end_of_links(rt, name)?;
+    *replaced = match there {
+        Some(_) => Some(file_to_write(rt, end.as_str())?),
+        None => None,
+    };
+    Ok(Target::File(end))
 }
 
 /// Writes both parts after what a device, a pipe or a socket has.

@@ -30,7 +30,7 @@ use Rattle.clap.proofs.CallerLemmas.{default_present, required_has_value}
 use Rattle.clap.proofs.SimpleLemmas.{plain_fields}
 use Rattle.clap.proofs.WalkLemmas.{first_value-rows, one_text-rows}
 use Rattle.teco_core.specs.declared.limits.TheConstants.{DEPTH_LIMIT}
-use Rattle.teco_line.specs.CommandLine.{HasLine, IsCommandsFault, IsTecoError, IsFaultOnceMade, IsGiven, IsLineBy, IsLineFault, IsMisfit, IsNumber, IsReadFault, IsRefusal, number_of, teco_app}
+use Rattle.teco_line.specs.CommandLine.{AreMany, HasLine, IsCommandsFault, IsFaultSaid, IsTecoError, IsFaultOnceMade, IsGiven, IsLineBy, IsLineFault, IsMisfit, IsNumber, IsReadFault, IsRefusal, number_of, teco_app}
 use Rattle.teco_line.specs.Conflict.{has_conflict}
 use Rattle.teco_line.specs.Joining.{joined}
 use Rattle.teco_line.specs.Refusals.{IsToldAs}
@@ -289,3 +289,12 @@ by_rows P is_word is_files is_pages is_bytes h = rw (is_word, is_files, is_pages
 pub fault_at_all : (words : List Text) (fault : LineFault) → IsFaultOnceMade (joined words) fault → IsLineFault words fault
 fault_at_all words NoMemory h = tt
 fault_at_all words (Refused refusal) h = h
+
+-- What is said of a faulty line is its fault.
+pub said_many : (word : Option Text) (files : List Text) (pages bytes : Option Text) (why : Text) (fault : LineFault) → AreMany word files pages bytes → IsFaultSaid why fault → IsCommandsFault word files pages bytes fault
+said_many word files pages bytes why NoMemory many said = tt
+said_many word files pages bytes why (Refused refusal) many said = (many, said.refused_as)
+
+pub said_misfit : (line : Line) (why : Text) (fault : LineFault) → has_conflict line ≡ true → IsFaultSaid why fault → IsMisfit line fault
+said_misfit line why NoMemory has said = tt
+said_misfit line why (Refused refusal) has said = (has, said.refused_as)

@@ -16,7 +16,7 @@ use Rattle.teco_core.specs.declared.limits.TheConstants.{DEPTH_LIMIT}
 use Rattle.teco_line.specs.Conflict.{has_conflict}
 use Rattle.teco_line.specs.Joining.{joined}
 use Rattle.teco_line.specs.OptionTable.{option_rules, with_rules}
-use Rattle.teco_line.specs.Refusals.{IsToldAs}
+use Rattle.teco_line.specs.Refusals.{IsFaulty, IsToldAs}
 use Rattle.teco_line.specs.declared.line.Commands.{Commands}
 use Rattle.teco_line.specs.declared.line.Commands.TheVariants.{StandardInput, Sources, Pages, Bytes}
 use Rattle.teco_line.specs.declared.line.Line.{Line}
@@ -190,6 +190,11 @@ pub record IsRefusal (words : List Text) (refusal : Refusal) : Type 0 where
   pub error : ErrorKind
   pub error_is : IsTecoError words error
   pub told : IsToldAs refusal.refused_as error
+
+-- A line of the program is faulty, and its text says why; or memory was refused to tell it.
+abbrev pub IsFaultSaid : Text → LineFault → Type 0
+IsFaultSaid why NoMemory = ⊤
+IsFaultSaid why (Refused refusal) = IsFaulty why (codes "teco [OPTIONS] <INPUT>...") refusal
 
 -- Why the words gave no line: memory was refused, or the line is.
 abbrev pub IsLineFault : List Text → LineFault → Type 0

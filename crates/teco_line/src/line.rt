@@ -4,7 +4,7 @@ ghost use Rattle.std.specs.IoError.{error_kind};
 ghost use Rattle.std.specs.Prelude.{◌≡◌, ◌≢◌, ◌≤◌, IfErr, IfOk, IfSome, codes, false, map};
 ghost use Rattle.std.specs.String.{string_bytes};
 ghost use Rattle.std.specs.declared.io.ErrorKind.TheVariants as io_kind;
-ghost use Rattle.teco_line.specs.CommandLine.{HasLine, IsCommands, IsCommandsFault, IsDepth, IsFaultOnceMade, IsGiven, IsLine, IsLineBy, IsLineFault, IsMisfit, IsPageLength, IsReadFault, SaysCommands, fault_for, input_rule, more_rule, teco_app, text_behind, texts_behind, with_version};
+ghost use Rattle.teco_line.specs.CommandLine.{HasLine, IsCommands, IsCommandsFault, IsDepth, IsFaultOnceMade, IsFaultSaid, IsGiven, IsLine, IsLineBy, IsLineFault, IsMisfit, IsPageLength, IsReadFault, SaysCommands, fault_for, input_rule, more_rule, teco_app, text_behind, texts_behind, with_version};
 ghost use Rattle.teco_line.specs.Conflict.{has_conflict};
 ghost use Rattle.teco_line.specs.Refusals.{IsFaulty};
 
@@ -150,11 +150,14 @@ fn command<'a>(alloc: Global) -> Result<Command<'a>, NoMemory>
         .arg(more_arg(alloc))
 }
 
-/// The refusal of a line of the program that is faulty, and why.
-fn faulty_line(alloc: Global, why: &str) -> Result<Refusal, NoMemory>
-    ensures { IfOk result (IsFaulty why.now (codes "teco [OPTIONS] <INPUT>...")) }
+/// The fault of a line of the program that is faulty, and why; or that memory was refused to tell it.
+fn faulty_line(alloc: Global, why: &str) -> LineFault
+    ensures { IsFaultSaid why.now result }
 {
-    faulty(alloc, why, USAGE)
+    match faulty(alloc, why, USAGE) {
+        Ok(refusal) => LineFault::Refused(refusal),
+        Err(NoMemory) => LineFault::NoMemory,
+    }
 }
 
 /// Where the commands come from, by the texts that are given. A line with more than one place of them is faulty.
@@ -179,7 +182,7 @@ fn commands_of(
         )),
         (false, Some(word), None) => Ok(Commands::Pages(String::from_str(alloc, word)?)),
         (false, None, Some(name)) => Ok(Commands::Bytes(String::from_str(alloc, name)?)),
-        _ => Err(LineFault::Refused(faulty_line(alloc, MANY)?)),
+        _ => Err(faulty_line(alloc, MANY)),
     }
 }
 
@@ -239,7 +242,7 @@ fn fitting(alloc: Global, line: Line) -> Result<Line, LineFault>
 {
     match conflict_in(&line) {
         None => Ok(line),
-        Some(why) => Err(LineFault::Refused(faulty_line(alloc, why)?)),
+        Some(why) => Err(faulty_line(alloc, why)),
     }
 }
 
@@ -285,7 +288,7 @@ pub fn line_of(alloc: Global, words: &[String]) -> Result<Line, LineFault>
 pub fn not_text(alloc: Global) -> Result<Refusal, NoMemory>
     ensures { IfOk result (IsFaulty (codes "an argument is not UTF-8 text") (codes "teco [OPTIONS] <INPUT>...")) }
 {
-    faulty_line(alloc, "an argument is not UTF-8 text")
+    faulty(alloc, "an argument is not UTF-8 text", USAGE)
 }
 
 /// Why the program's words were not given: memory was refused to copy them, or one of them is not UTF-8 and the line is faulty.

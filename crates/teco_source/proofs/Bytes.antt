@@ -1,9 +1,8 @@
 -- What a reader makes of one written byte.
-use Rattle.std.proofs.Common.{◌≡◌, ℕ, ◌+◌, ◌<◌, ◌≤◌, Bool, true, false, List, [], ◌∷◌, ◌++◌, Some, refl, sym, ap, ◌∙◌, arith, eqb, ltb, ltb-true, ltb-false}
+use Rattle.std.proofs.Common.{◌≡◌, ℕ, ◌+◌, ◌-◌, ◌<◌, ◌≤◌, Bool, true, false, List, [], ◌∷◌, ◌++◌, Some, refl, sym, ap, ◌∙◌, arith, eqb, ltb, ltb-true, ltb-false}
 use Rattle.std.specs.Prelude.{nat_lt}
 use Rattle.std.proofs.lemmas.List.{append-nil}
-use Rattle.std.proofs.lemmas.Bool.{eqb-true, false_from_ne_true}
-use Rattle.std.proofs.lemmas.Bool.Decides.{nat_tests}
+use Rattle.std.proofs.lemmas.Bool.{eqb-true, false_from_ne_true, le-leb}
 use Rattle.teco_source.specs.declared.reader.Mode.{Mode}
 use Rattle.teco_source.specs.declared.reader.Mode.TheVariants.{First, Margin, Blank, Text, Hash, Mark, Caret, Comment, Wrong}
 use Rattle.teco_source.specs.Source.{State, is_blank, marked, step, run}
@@ -23,8 +22,12 @@ differs b n ne = false_from_ne_true (eqb b n) (λ e. ne (eqb-true b n e))
 abbrev pub at : Mode → List ℕ → List ℕ → State
 at mode bytes blanks = record { mode = mode; bytes = bytes; blanks = blanks }
 
+marked_capital : (c : ℕ) → 64 ≤ c → c ≤ 95 → marked c ≡ Some ((c - 64) ∷ [])
+marked_capital c least most =
+    rw (differs c 36 (λ is. absurd (omega arith)), differs c 33 (λ is. absurd (omega arith)), differs c 126 (λ is. absurd (omega arith)), differs c 61 (λ is. absurd (omega arith)), differs c 63 (λ is. absurd (omega arith)), differs c 46 (λ is. absurd (omega arith)), le-leb 64 c least, le-leb c 95 most) refl
+
 marked_control : (b : ℕ) → b < 32 → marked (b + 64) ≡ Some (b ∷ [])
-marked_control b h = grind (arith, nat_tests)
+marked_control b h = let is : b + 64 - 64 ≡ b = omega arith in marked_capital (b + 64) (omega arith) (omega arith) ∙ ap (λ c. Some (c ∷ [])) is
 
 -- within a line a byte that is neither a blank nor an exclamation mark is put
 pub text_reads : (b : ℕ) (bytes blanks : List ℕ) → eqb b 32 ≡ false → eqb b 33 ≡ false

@@ -256,12 +256,13 @@ impl Reader {
     fn finish(mut self, at: usize) -> Result<Vec<u8>, SourceFault>
         ensures { IsReadAs (ended (state_of self) at) result }
     {
-        match self.mode {
+        let waits = match self.mode {
             Mode::Caret | Mode::Wrong => return Err(SourceFault::Caret(at.saturating_sub(1))),
-            Mode::Hash => self.put(b'#')?,
-            Mode::Mark => self.put(b'!')?,
-            _ => {}
-        }
+            Mode::Hash => b'#',
+            Mode::Mark => b'!',
+            _ => return Ok(self.bytes),
+        };
+        self.put(waits)?;
         Ok(self.bytes)
     }
 }

@@ -101,16 +101,23 @@ impl Log {
 
     /// Whether each file has one of these names.
     pub(super) fn has_only(&self, names: &[(&str, &str)]) -> bool {
-        let mut held = true;
         for note in self.notes.iter() {
             let name = note.name.as_str();
-            held = held && (self.bytes(name).is_none() || is_among(names, name));
+            if self.bytes(name).is_some() && !is_among(names, name) {
+                return false;
+            }
         }
-        held
+        true
     }
 
-    /// Notes what a call made of the files.
-    fn note(&mut self, gone: &str, name: &str, bytes: Option<Vec<u8>>) -> Result<(), NoMemory>
+    /// Notes what a call made of the files, unless it is refused.
+    fn note(
+        &mut self,
+        is_refused: bool,
+        gone: &str,
+        name: &str,
+        bytes: Option<Vec<u8>>,
+    ) -> io::Result<()>
         ensures ok { OnOk result (self.new
             ≡ record {
               gone = gone.now;
@@ -119,6 +126,9 @@ impl Log {
             } ∷ self.old) }
         ensures err { OnErr result (self.new ≡ self.old) }
     {
+        if is_refused {
+            return Err(io::Error::from(ErrorKind::PermissionDenied));
+        }
         let gone = String::from_str(self.alloc, gone)?;
         let name = String::from_str(self.alloc, name)?;
         Ok(self.notes.insert(0, Note { gone, name, bytes })?)
@@ -130,7 +140,10 @@ impl Log {
     /// Puts a file there.
     pub(super) fn put(&mut self, name: &str, bytes: &[u8]) -> Result<(), NoMemory> {
         let bytes = Vec::from_slice(self.alloc, bytes)?;
-        self.note(name, name, Some(bytes))
+        if self.note(false, name, name, Some(bytes)).is_err() {
+            return Err(NoMemory);
+        }
+        Ok(())
     }
 
     pub(super) fn opened(&self, refused: Refused, name: &str) -> io::Result<MemorySource>
@@ -138,7 +151,7 @@ impl Log {
             (λ input. Opens (Some (files_of self.now)) name.now (⟦<MemorySource as Source>⟧.coming input)) }
     {
         let bytes = self.copied(name)?;
-        let fails = matches!(refused, Refused::Read);
+        let fails = refused == Refused::Read;
         Ok(MemorySource::new(bytes, Vec::new(self.alloc), fails))
     }
 
@@ -148,13 +161,11 @@ impl Log {
         ensures others { SameBut name.now (files_of self.old) (files_of self.new) }
         ensures grows { GrowsByOne self.old self.new }
     {
-        if matches!(refused, Refused::Make) {
-            return Err(io::Error::from(ErrorKind::PermissionDenied));
-        }
         let None = self.bytes(name) else {
             return Err(io::Error::from(ErrorKind::AlreadyExists));
         };
-        Ok(self.note(name, name, Some(Vec::new(self.alloc)))?)
+        let empty = Vec::new(self.alloc);
+        self.note(refused == Refused::Make, name, name, Some(empty))
     }
 
     pub(super) fn written(&mut self, refused: Refused, name: &str, bytes: &[u8]) -> io::Result<()>
@@ -163,13 +174,18 @@ impl Log {
         ensures grows { GrowsByOne self.old self.new }
     {
         let mut all = self.copied(name)?;
-        if matches!(refused, Refused::Write) {
-            all.extend_from_slice(&bytes[..bytes.len() / 2])?;
-            self.note(name, name, Some(all))?;
-            return Err(io::Error::from(ErrorKind::StorageFull));
+        let is_refused = refused == Refused::Write;
+        let n = if is_refused {
+            bytes.len() / 2
+        } else {
+            bytes.len()
+        };
+        all.extend_from_slice(&bytes[..n])?;
+        let noted = self.note(false, name, name, Some(all));
+        if is_refused {
+            return noted.and(Err(io::Error::from(ErrorKind::StorageFull)));
         }
-        all.extend_from_slice(bytes)?;
-        Ok(self.note(name, name, Some(all))?)
+        noted
     }
 
     pub(super) fn written_both(
@@ -192,11 +208,9 @@ impl Log {
         ensures err { OnErr result (Same (files_of self.old) (files_of self.new)) }
         ensures grows { GrowsByOne self.old self.new }
     {
-        if matches!(refused, Refused::Rename | Refused::RenameAndRemove) {
-            return Err(io::Error::from(ErrorKind::PermissionDenied));
-        }
         let bytes = self.copied(from)?;
-        Ok(self.note(from, to, Some(bytes))?)
+        let is_refused = refused == Refused::Rename || refused == Refused::RenameAndRemove;
+        self.note(is_refused, from, to, Some(bytes))
     }
 
     pub(super) fn removed(&mut self, refused: Refused, name: &str) -> io::Result<()>
@@ -204,9 +218,6 @@ impl Log {
         ensures others { SameBut name.now (files_of self.old) (files_of self.new) }
         ensures grows { GrowsByOne self.old self.new }
     {
-        if matches!(refused, Refused::RenameAndRemove) {
-            return Err(io::Error::from(ErrorKind::PermissionDenied));
-        }
-        Ok(self.note(name, name, None)?)
+        self.note(refused == Refused::RenameAndRemove, name, name, None)
     }
 }

@@ -91,12 +91,8 @@ fn is_joined(word: &str, next: &str) -> bool
 fn with_value(alloc: Global, word: &str, value: &str) -> Result<String, NoMemory>
     ensures { IfOk result (λ made. string_bytes made ≡ one_word word.now value.now) }
 {
-    let mut made = String::from_str(alloc, word)?;
-    if word.len() != 2 {
-        made.push_str("=")?;
-    }
-    made.push_str(value)?;
-    Ok(made)
+    let between = if word.len() == 2 { "" } else { "=" };
+    format!(in alloc; "{word}{between}{value}")
 }
 
 /// Puts the words after those that are there.

@@ -25,7 +25,7 @@ pieces-preserved g c =
     let piece = take c.in-Ok.n c.read.new.piece in (
       given ++ piece,
       Gives-more c.pieces.invariant.1 c.in-Ok.ensures.ok,
-      c.pieces.invariant.2 ∙ (ap (λ l. given ++ l) c.in-Some.ensures ∙ sym (append_assoc given piece (c.in-Some.left.0.now ++ c.in-Some.left.1.now))),
+      c.pieces.invariant.2 ∙ (ap (λ l. given ++ l) c.in-Some.ensures ∙ sym (append_assoc given piece (c.in-Some.rest.0.now ++ c.in-Some.rest.1.now))),
     )
 
 pub pieces-init : goal.pieces-init
@@ -47,15 +47,3 @@ returns-else-is_empty-clause-given g c = grind (arith, common_steps)
 
 pub returns-else-is_empty-clause-ended : goal.returns-else-is_empty-clause-ended
 returns-else-is_empty-clause-ended g c = grind (arith, common_steps)
-
-pub returns-in-None-clause-given : goal.returns-in-None-clause-given
-returns-in-None-clause-given g c = grind (arith, common_steps)
-
-pub returns-in-None-clause-ended : goal.returns-in-None-clause-ended
-returns-in-None-clause-ended g c = grind (arith, common_steps)
-
-pub returns-in-Err-clause-given : goal.returns-in-Err-clause-given
-returns-in-Err-clause-given g c = grind (arith, common_steps)
-
-pub returns-in-Err-clause-ended : goal.returns-in-Err-clause-ended
-returns-in-Err-clause-ended g c = grind (arith, common_steps)

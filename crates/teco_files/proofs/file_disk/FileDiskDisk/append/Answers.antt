@@ -4,9 +4,3 @@ use Rattle.teco_files.proofs.file_disk.FileDiskDisk.append.Goals as goal
 
 pub returns-clause-ok : goal.returns-clause-ok
 returns-clause-ok g c = grind (arith, common_steps)
-
-pub returns-clause-error : goal.returns-clause-error
-returns-clause-error g c = grind (arith, common_steps)
-
-pub returns-clause-count : goal.returns-clause-count
-returns-clause-count g c = grind (arith, common_steps)

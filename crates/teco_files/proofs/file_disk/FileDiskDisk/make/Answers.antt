@@ -8,14 +8,8 @@ returns-clause-ok g c = grind (arith, common_steps)
 pub returns-clause-err : goal.returns-clause-err
 returns-clause-err g c = grind (arith, common_steps)
 
-pub returns-clause-error : goal.returns-clause-error
-returns-clause-error g c = grind (arith, common_steps)
-
 pub returns-clause-draft : goal.returns-clause-draft
 returns-clause-draft g c = grind (arith, common_steps)
 
 pub returns-clause-moments : goal.returns-clause-moments
 returns-clause-moments g c = grind (arith, common_steps)
-
-pub returns-clause-count : goal.returns-clause-count
-returns-clause-count g c = grind (arith, common_steps)
