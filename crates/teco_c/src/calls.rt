@@ -10,6 +10,7 @@ ghost use Rattle.teco_c.specs.Numbers.{answer_number, steps_of};
 
 use crate::answers::{CLOSED, DEEP, LARGE, number_of_answer, steps_of_answer};
 use crate::handle::Teco;
+use crate::parts::Parts;
 use crate::room::Room;
 use std::alloc::Global;
 use teco_core::{Code, DEPTH_LIMIT, FILE_LIMIT, NoMemory};
@@ -51,7 +52,7 @@ pub extern "C" fn teco_open(alloc: Global, t: &mut Teco, input: &[u8], depth: us
     match session_over(alloc, input, depth) {
         Err(_) => Code::Mem.number(),
         Ok(session) => {
-            t.put(session);
+            t.put(Teco::of_parts(Parts::of(session)));
             0
         }
     }
@@ -62,7 +63,7 @@ pub extern "C" fn teco_open(alloc: Global, t: &mut Teco, input: &[u8], depth: us
 pub extern "C" fn teco_close(alloc: Global, t: &mut Teco)
     ensures { t.new.value ≡ None }
 {
-    drop(t.take(alloc));
+    t.put(Teco::closed(alloc));
 }
 
 /// Goes back by a string: 0, or the number of NTU where there is none. Takes no memory.

@@ -20,16 +20,6 @@ fn change_at(session: &Session, i: usize, k: usize) -> Option<&Change>
     }
 }
 
-/// The kind of a change of a string, if it has so many.
-fn kind_of_change(session: &Session, i: usize, k: usize) -> Option<ChangeKind>
-    ensures { result ≡ kind_at i k session.now }
-{
-    match change_at(session, i, k) {
-        None => None,
-        Some(change) => Some(change.kind()),
-    }
-}
-
 /// Writes how many changes string `i` has. Takes no memory.
 #[unsafe(no_mangle)]
 pub extern "C" fn teco_changes(t: &mut Teco, i: usize, count: &mut usize) -> u8
@@ -109,14 +99,15 @@ pub extern "C" fn teco_splice(
     let Some(session) = t.look() else {
         return CLOSED;
     };
-    match kind_of_change(session, i, k) {
-        Some(
-            ChangeKind::Splice {
-                at: place,
-                gone: out,
-                came: put,
-            },
-        ) => {
+    let Some(change) = change_at(session, i, k) else {
+        return OUTSIDE;
+    };
+    match change.kind() {
+        ChangeKind::Splice {
+            at: place,
+            gone: out,
+            came: put,
+        } => {
             *at = place;
             *gone = out;
             *came = put;

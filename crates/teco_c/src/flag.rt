@@ -1,7 +1,8 @@
 //! The flag of a stopper, which two handles share.
-use std::alloc::{AllocError, Global};
+use std::alloc::Global;
 use std::sync::Arc;
 use std::sync::atomic::{AtomicBool, Ordering};
+use teco_core::NoMemory;
 use teco_exec::Stop;
 
 /// Whether runs are asked to stop. What the flag holds no contract tells, since another thread may set it at any time.
@@ -11,11 +12,12 @@ pub struct Flag {
 }
 
 impl Flag {
-    /// A flag that asks nothing, twice.
-    pub fn pair(alloc: Global) -> Result<(Flag, Flag), AllocError> {
-        let here = Arc::new(alloc, AtomicBool::new(false))?;
-        let there = Arc::try_clone(&here)?;
-        Ok((Flag { asked: here }, Flag { asked: there }))
+    /// A flag that asks nothing, in two boxes.
+    pub fn pair(alloc: Global) -> Result<(Box<Flag>, Box<Flag>), NoMemory> {
+        let there = Arc::new(alloc, AtomicBool::new(false))?;
+        let here = Arc::try_clone(&there)?;
+        let mine = Box::new(alloc, Flag { asked: here })?;
+        Ok((mine, Box::new(alloc, Flag { asked: there })?))
     }
 
     /// Asks runs to stop, or takes it back. Takes no memory, and waits for nobody.

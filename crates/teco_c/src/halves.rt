@@ -27,16 +27,8 @@ fn first_bytes(bytes: &[u8], size: usize) -> &[u8]
     &bytes[..size.min(bytes.len())]
 }
 
-/// The first so many bytes of a text in two parts.
-#[tactic(auto, using(crate::proofs::Dropping::take_in_parts))]
-fn first_halves<'a>(before: &'a [u8], after: &'a [u8], size: usize) -> (&'a [u8], &'a [u8])
-    ensures { result.0.now ++ result.1.now ≡ take size (before.now ++ after.now) }
-{
-    let past = size.saturating_sub(before.len());
-    (first_bytes(before, size), first_bytes(after, past))
-}
-
 /// What a text in two parts has between two places: nothing where the second one comes first.
+#[tactic(auto, using(crate::proofs::Dropping::take_in_parts))]
 pub fn halves_between<'a>(
     before: &'a [u8],
     after: &'a [u8],
@@ -46,19 +38,20 @@ pub fn halves_between<'a>(
     ensures { result.0.now ++ result.1.now ≡ slice_range (before.now ++ after.now) from to }
 {
     let (before, after) = halves_from(before, after, from);
-    first_halves(before, after, to.saturating_sub(from))
+    let size = to.saturating_sub(from);
+    let past = size.saturating_sub(before.len());
+    (first_bytes(before, size), first_bytes(after, past))
 }
 
 /// How many line ends a text has.
-fn line_ends(bytes: &[u8]) -> usize
+pub fn line_ends(bytes: &[u8]) -> usize
     ensures { result ≡ count_by is_line_end bytes.now }
 {
-    bytes.iter().filter(|byte| is_line_end(**byte)).count()
-}
-
-/// How many line ends a text in two parts has.
-pub fn line_ends_in(before: &[u8], after: &[u8]) -> usize
-    ensures { result ≡ count_by is_line_end (before.now ++ after.now) }
-{
-    line_ends(before) + line_ends(after)
+    let mut count = 0;
+    for byte in bytes {
+        if is_line_end(*byte) {
+            count += 1;
+        }
+    }
+    count
 }

@@ -31,7 +31,8 @@ impl Teco {
     ghost use Rattle.std.specs.Borrow.{sem};
     ghost use Rattle.teco_c.specs.Lending.{LendsSession, StaysTheSame, with_session};
 
-    fn closed(alloc: Global) -> Teco
+    /// A handle that is closed. Takes no memory.
+    pub fn closed(alloc: Global) -> Teco
         ensures { result.value ≡ None }
     {
         Teco {
@@ -40,7 +41,8 @@ impl Teco {
         }
     }
 
-    fn of_parts(parts: Parts<Session, Global>) -> Teco
+    /// A handle of the session whose box was taken apart. Takes no memory.
+    pub fn of_parts(parts: Parts<Session, Global>) -> Teco
         ensures { result.value ≡ Some parts.value }
     {
         let Parts { ptr, alloc } = parts;
@@ -92,23 +94,11 @@ impl Teco {
         }
     }
 
-    /// Takes the session out, and leaves the handle closed. Takes no memory.
-    pub fn take(&mut self, alloc: Global) -> Option<Box<Session>>
-        ensures closed { self.new.value ≡ None }
-        ensures value { MatchOption result (self.old.value ≡ None)
-            (λ session. self.old.value ≡ Some session.value) }
+    /// Puts another handle in its place; the session that was here is freed. Takes no memory.
+    pub fn put(&mut self, other: Teco)
+        ensures { self.new.value ≡ other.value }
     {
-        match replace(self, Teco::closed(alloc)).into_parts() {
-            None => None,
-            Some(parts) => Some(parts.into_box()),
-        }
-    }
-
-    /// Puts a session in; what was there is freed. Takes no memory.
-    pub fn put(&mut self, session: Box<Session>)
-        ensures { self.new.value ≡ Some session.value }
-    {
-        match replace(self, Teco::of_parts(Parts::of(session))).into_parts() {
+        match replace(self, other).into_parts() {
             None => {}
             Some(parts) => drop(parts.into_box()),
         }

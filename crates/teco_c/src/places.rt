@@ -5,7 +5,7 @@ ghost use Rattle.teco_c.specs.Calls.{StaysClosed, RunsTo, RunsToWithin};
 ghost use Rattle.teco_c.specs.Handle.{SessionGoes};
 ghost use Rattle.teco_c.specs.Numbers.{answer_number, steps_of};
 ghost use Rattle.teco_c.specs.Stops.{may_answer};
-ghost use Rattle.teco_c.specs.Places.{IsWhere, TellsWhere, outermost, told_at, told_calls};
+ghost use Rattle.teco_c.specs.Places.{IsWhere, TellsWhere, told_at, told_calls};
 
 use crate::answers::{CLOSED, NOWHERE, number_of_answer, steps_of_answer};
 use crate::flag::Asking;
@@ -16,22 +16,18 @@ use teco_core::NoMemory;
 use teco_exec::{Never, Place, Stop};
 use teco_session::{Answered, Session};
 
-/// The place in the string itself: of the outermost call, or of the token where no call is open.
-fn outermost(place: &Place) -> usize
-    ensures { result ≡ outermost place.now }
-{
-    match place.calls.last() {
-        None => place.at,
-        Some(call) => call.at,
-    }
-}
-
-/// What is told of a place in a string of so many bytes.
+/// What is told of a place in a string of so many bytes: the place of the outermost call, or of the token where no call is open.
 fn told_at(place: &Result<Option<Place>, NoMemory>, size: usize) -> usize
     ensures { result ≡ told_at size place.now }
 {
     match place {
-        Ok(Some(place)) => outermost(place).min(size),
+        Ok(Some(place)) => {
+            let at = match place.calls.last() {
+                None => place.at,
+                Some(call) => call.at,
+            };
+            at.min(size)
+        }
         _ => NOWHERE,
     }
 }

@@ -4,7 +4,7 @@ ghost use Rattle.teco_core.specs.Ascii.{is_line_end};
 ghost use Rattle.teco_c.specs.Looks.{Tells, TellsIf, Says, Copies, CopiesIf, register_named_by, state_now, is_either};
 
 use crate::answers::{CLOSED, OUTSIDE};
-use crate::halves::{bytes_from, halves_between, halves_from, line_ends_in};
+use crate::halves::{bytes_from, halves_between, halves_from, line_ends};
 use crate::handle::Teco;
 use crate::room::{copy_front, copy_halves};
 use teco_core::{CaseMode, Reg};
@@ -71,7 +71,7 @@ pub extern "C" fn teco_lines(t: &mut Teco, from: usize, to: usize, count: &mut u
     };
     let (before, after) = session.editor().halves();
     let (before, after) = halves_between(before, after, from, to);
-    *count = line_ends_in(before, after);
+    *count = line_ends(before) + line_ends(after);
     0
 }
 

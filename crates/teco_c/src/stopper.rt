@@ -28,7 +28,8 @@ impl Stopper {
     ghost use Rattle.std.specs.Borrow.{sem};
     ghost use Rattle.teco_c.specs.FlagLending.{LendsFlag, FlagStays, with_flag};
 
-    fn closed(alloc: Global) -> Stopper
+    /// A stopper that is closed. Takes no memory.
+    pub fn closed(alloc: Global) -> Stopper
         ensures { result.value ≡ None }
     {
         Stopper {
@@ -37,7 +38,8 @@ impl Stopper {
         }
     }
 
-    fn of_parts(parts: Parts<Flag, Global>) -> Stopper
+    /// A stopper of the flag whose box was taken apart. Takes no memory.
+    pub fn of_parts(parts: Parts<Flag, Global>) -> Stopper
         ensures { result.value ≡ Some parts.value }
     {
         let Parts { ptr, alloc } = parts;
@@ -88,23 +90,11 @@ impl Stopper {
         }
     }
 
-    /// Takes the flag out, and leaves the stopper closed. Takes no memory.
-    pub fn take(&mut self, alloc: Global) -> Option<Box<Flag>>
-        ensures closed { self.new.value ≡ None }
-        ensures value { MatchOption result (self.old.value ≡ None)
-            (λ flag. self.old.value ≡ Some flag.value) }
+    /// Puts another stopper in its place; the flag that was here is freed. Takes no memory.
+    pub fn put(&mut self, other: Stopper)
+        ensures { self.new.value ≡ other.value }
     {
-        match replace(self, Stopper::closed(alloc)).into_parts() {
-            None => None,
-            Some(parts) => Some(parts.into_box()),
-        }
-    }
-
-    /// Puts a flag in; what was there is freed. Takes no memory.
-    pub fn put(&mut self, flag: Box<Flag>)
-        ensures { self.new.value ≡ Some flag.value }
-    {
-        match replace(self, Stopper::of_parts(Parts::of(flag))).into_parts() {
+        match replace(self, other).into_parts() {
             None => {}
             Some(parts) => drop(parts.into_box()),
         }

@@ -8,20 +8,15 @@ ghost use Rattle.teco_c.specs.contracts.stopper.Stopper.{the_row};
 
 use crate::answers::CLOSED;
 use crate::flag::Flag;
+use crate::parts::Parts;
 use crate::stopper::Stopper;
 use std::alloc::Global;
-use teco_core::{Code, NoMemory};
+use teco_core::Code;
 
 /// A stopper may go from thread to thread. The call does nothing.
 pub fn stopper_laws()
     ensures crosses { IsSend the_row }
 {}
-
-/// A flag that is not set, for two handles.
-fn two_flags(alloc: Global) -> Result<(Box<Flag>, Box<Flag>), NoMemory> {
-    let (here, there) = Flag::pair(alloc)?;
-    Ok((Box::new(alloc, here)?, Box::new(alloc, there)?))
-}
 
 /// Opens a stopper: a flag that is not set, with two handles. What was open in them is closed then.
 ///
@@ -32,11 +27,11 @@ pub extern "C" fn teco_stopper_open(alloc: Global, here: &mut Stopper, there: &m
     ensures refused { result ≢ 0 → (here.new.value ≡ here.old.value) × (there.new.value ≡ there.old.value) }
     ensures else_memory { (result ≡ 0) ⊎ (result ≡ number_of Mem) }
 {
-    match two_flags(alloc) {
+    match Flag::pair(alloc) {
         Err(_) => Code::Mem.number(),
         Ok((mine, other)) => {
-            here.put(mine);
-            there.put(other);
+            here.put(Stopper::of_parts(Parts::of(mine)));
+            there.put(Stopper::of_parts(Parts::of(other)));
             0
         }
     }
@@ -47,7 +42,7 @@ pub extern "C" fn teco_stopper_open(alloc: Global, here: &mut Stopper, there: &m
 pub extern "C" fn teco_stopper_close(alloc: Global, stopper: &mut Stopper)
     ensures { stopper.new.value ≡ None }
 {
-    drop(stopper.take(alloc));
+    stopper.put(Stopper::closed(alloc));
 }
 
 /// Asks the runs that have this stopper to stop, or takes that back where `asked` is 0. It stays so until the next such call. Takes no

@@ -1,7 +1,7 @@
 //! What a token is, in numbers.
 ghost use Rattle.std.specs.Prelude.{◌≡◌, ℕ, List};
 ghost use Rattle.teco_scan.specs.Seen.{instruction_in};
-ghost use Rattle.teco_c.specs.Tokens.{bare_kind, instruction_kind, text_kind};
+ghost use Rattle.teco_c.specs.Tokens.{instruction_kind};
 
 use teco_scan::{Bare, Item, TextCommand, TokenKind};
 
@@ -69,38 +69,20 @@ pub fn token_kind_values()
     ensures escape { ESCAPE ≡ 15 }
 {}
 
-/// The number of what has nothing after its name.
-fn number_of_bare(command: Bare) -> u8
-    ensures { result ≡ bare_kind command }
-{
-    match command {
-        Bare::Quantity(_) => VALUE,
-        Bare::Arithmetic(_) => ARITHMETIC,
-        Bare::Level(_) => LEVEL,
-        Bare::Command(_) => COMMAND,
-    }
-}
-
-/// The number of a command with one text.
-fn number_of_text(command: TextCommand) -> u8
-    ensures { result ≡ text_kind command }
-{
-    match command {
-        TextCommand::Go => JUMP,
-        _ => ONE_TEXT,
-    }
-}
-
 /// The number of what a token instructs.
 pub fn number_of_token(kind: TokenKind) -> u8
     ensures { (text : List ℕ) → result ≡ instruction_kind (instruction_in text kind) }
 {
     match kind {
         TokenKind::Item(Item::Digits(_)) => DIGITS,
-        TokenKind::Item(Item::Bare(command)) => number_of_bare(command),
+        TokenKind::Item(Item::Bare(Bare::Quantity(_))) => VALUE,
+        TokenKind::Item(Item::Bare(Bare::Arithmetic(_))) => ARITHMETIC,
+        TokenKind::Item(Item::Bare(Bare::Level(_))) => LEVEL,
+        TokenKind::Item(Item::Bare(Bare::Command(_))) => COMMAND,
         TokenKind::Item(Item::Register(..)) => REGISTER,
         TokenKind::Item(Item::Byte(_)) => BYTE,
-        TokenKind::Item(Item::Text(command, _)) => number_of_text(command),
+        TokenKind::Item(Item::Text(TextCommand::Go, _)) => JUMP,
+        TokenKind::Item(Item::Text(..)) => ONE_TEXT,
         TokenKind::Item(Item::SetText(..)) => SET_TEXT,
         TokenKind::Item(Item::Replace(..)) => REPLACE,
         TokenKind::Mark(_) => MARK,

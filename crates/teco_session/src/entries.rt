@@ -1,14 +1,13 @@
 //! The entries of a session: of every string that has begun, or of the last ones.
 ghost use Rattle.std.specs.Prelude.{◌≡◌, [], ◌∷◌, ◌++◌, ◌<◌, ◌≤◌, true, length, take, None, Some, IfOk, IsOk, OnOk};
 ghost use Rattle.std.proofs.Common.{set};
-ghost use Rattle.teco_store.specs.Entry.{body_back, body_forth, since, FitsBack, FitsForth};
-ghost use Rattle.teco_store.specs.Follows.{IsInOrder};
 ghost use Rattle.teco_store.specs.State.{with_body};
 ghost use Rattle.teco_session.specs.History.{IsWithinDepth, keeps_none};
-ghost use Rattle.teco_session.specs.Kept.{string_back, string_cut, string_forth, entry_at, newest};
+ghost use Rattle.teco_session.specs.Kept.{entry_at, newest};
+ghost use Rattle.teco_session.specs.Turns.{FitsTurn, body_turned, string_turned};
 ghost use Rattle.teco_session.specs.Entries.{kept_string, strings_of, depth_of, HasPlace};
 
-use crate::entry::Entry;
+use crate::entry::{Entry, Turn};
 use circular_buffer::HeapCircularBuffer;
 use std::alloc::Global;
 use teco_core::NoMemory;
@@ -24,21 +23,14 @@ pub enum Entries {
 }
 
 impl Entries {
-    /// Finds room for a ring of this depth.
-    pub fn with_depth(alloc: Global, depth: usize) -> Result<Entries, NoMemory>
-        ensures { IfOk result (λ entries. (strings_of entries ≡ []) × (depth_of entries ≡ Some depth)) }
-    {
-        Ok(Entries::Last(HeapCircularBuffer::with_capacity(alloc, depth)?))
-    }
-
-    /// None of a session that keeps so many strings, or every string where there is no depth.
+    /// None of a session that keeps so many strings, or every string where there is no depth. Room for a ring of this depth is found here.
     pub fn of_depth(alloc: Global, depth: Option<usize>) -> Result<Entries, NoMemory>
         ensures none { IfOk result (λ entries. (strings_of entries ≡ []) × (depth_of entries ≡ depth)) }
         ensures every { depth ≡ None → IsOk result }
     {
         match depth {
             None => Ok(Entries::All(Vec::new(alloc))),
-            Some(depth) => Entries::with_depth(alloc, depth),
+            Some(depth) => Ok(Entries::Last(HeapCircularBuffer::with_capacity(alloc, depth)?)),
         }
     }
 
@@ -87,63 +79,21 @@ impl Entries {
         }
     }
 
-    /// Takes back what the string at a place did. Takes no memory.
-    pub fn revert(&mut self, i: usize, editor: &mut Editor)
+    /// Turns the string at a place so. Takes no memory.
+    pub fn turn(&mut self, i: usize, editor: &mut Editor, way: Turn)
         requires within { i < length (strings_of self.old) }
-        requires fits { FitsBack editor.old.room (entry_at (strings_of self.old) i).changes editor.old.body }
-        ensures editor { editor.new
-            ≡ with_body editor.old (body_back (entry_at (strings_of self.old) i).changes editor.old.body) }
-        ensures strings { strings_of self.new
-            ≡ set (strings_of self.old) i (string_back (entry_at (strings_of self.old) i) editor.old.body) }
-        ensures depth { depth_of self.new ≡ depth_of self.old }
-    {
-        match self {
-            Entries::All(all) => all[i].revert(editor),
-            Entries::Last(ring) => match ring.get_mut(i) {
-                Some(entry) => entry.revert(editor),
-                // The ring has this place, by what the call requires.
-                None => unreachable!(),
-            },
-        }
-    }
-
-    /// Does again what the string at a place did. Takes no memory.
-    pub fn apply(&mut self, i: usize, editor: &mut Editor)
-        requires within { i < length (strings_of self.old) }
-        requires fits { FitsForth editor.old.room (length editor.old.stored)
+        requires fits { FitsTurn way editor.old.room (length editor.old.stored)
             (entry_at (strings_of self.old) i).changes editor.old.body }
         ensures editor { editor.new
-            ≡ with_body editor.old (body_forth (entry_at (strings_of self.old) i).changes editor.old.body) }
+            ≡ with_body editor.old (body_turned way (entry_at (strings_of self.old) i).changes editor.old.body) }
         ensures strings { strings_of self.new
-            ≡ set (strings_of self.old) i (string_forth (entry_at (strings_of self.old) i) editor.old.body) }
+            ≡ set (strings_of self.old) i (string_turned way (entry_at (strings_of self.old) i) editor.old.body) }
         ensures depth { depth_of self.new ≡ depth_of self.old }
     {
         match self {
-            Entries::All(all) => all[i].apply(editor),
+            Entries::All(all) => all[i].turn(editor, way),
             Entries::Last(ring) => match ring.get_mut(i) {
-                Some(entry) => entry.apply(editor),
-                // The ring has this place, by what the call requires.
-                None => unreachable!(),
-            },
-        }
-    }
-
-    /// Takes back the steps after the first `n` of the string at a place, and drops their changes. Takes no memory.
-    pub fn rewind(&mut self, i: usize, editor: &mut Editor, n: u64)
-        requires within { i < length (strings_of self.old) }
-        requires fits { FitsBack editor.old.room (entry_at (strings_of self.old) i).changes editor.old.body }
-        requires order { IsInOrder (entry_at (strings_of self.old) i).changes }
-        ensures editor { editor.new
-            ≡ with_body editor.old
-            (body_back (since n (entry_at (strings_of self.old) i).changes) editor.old.body) }
-        ensures strings { strings_of self.new
-            ≡ set (strings_of self.old) i (string_cut n (entry_at (strings_of self.old) i)) }
-        ensures depth { depth_of self.new ≡ depth_of self.old }
-    {
-        match self {
-            Entries::All(all) => all[i].rewind(editor, n),
-            Entries::Last(ring) => match ring.get_mut(i) {
-                Some(entry) => entry.rewind(editor, n),
+                Some(entry) => entry.turn(editor, way),
                 // The ring has this place, by what the call requires.
                 None => unreachable!(),
             },
@@ -169,7 +119,7 @@ impl Entries {
         ensures ok { OnOk result (HasPlace self.new) }
     {
         match self {
-            Entries::All(all) => Ok(all.reserve(1)?),
+            Entries::All(all) => all.reserve(1),
             Entries::Last(_) => Ok(()),
         }
     }

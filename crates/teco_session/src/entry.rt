@@ -1,8 +1,6 @@
 //! What a session keeps of a string, and how it is turned.
 ghost use Rattle.std.specs.Prelude.{◌≡◌, length};
-ghost use Rattle.teco_store.specs.Entry.{body_back, body_forth, since, FitsBack, FitsForth};
-ghost use Rattle.teco_store.specs.Follows.{IsInOrder};
-ghost use Rattle.teco_session.specs.Kept.{string_back, string_cut, string_forth};
+ghost use Rattle.teco_session.specs.Turns.{FitsTurn, body_turned, string_turned};
 ghost use Rattle.teco_store.specs.State.{with_body};
 
 use crate::changes::Changes;
@@ -17,41 +15,37 @@ pub struct Entry {
     pub changes: Changes,
 }
 
+/// How a string is turned.
+#[derive(Clone, Copy)]
+pub enum Turn {
+    /// What it did is taken back, and what does it again is kept.
+    Back,
+    /// What it did is done again, and what takes it back is kept.
+    Forth,
+    /// The steps after the first so many are taken back, and their changes are dropped.
+    Cut(u64),
+}
+
 const _: () = prove!(size_of::<Entry>() <= 96);
 
 impl Entry {
     ghost use Rattle.teco_session.specs.Entries.{kept_string};
 
-    /// Takes back what the string did, and keeps what does it again. Takes no memory.
-    pub fn revert(&mut self, editor: &mut Editor)
-        requires { FitsBack editor.old.room self.old.changes editor.old.body }
-        ensures editor { editor.new
-            ≡ with_body editor.old (body_back self.old.changes editor.old.body) }
-        ensures entry { kept_string self.new ≡ string_back (kept_string self.old) editor.old.body }
-    {
-        self.changes.revert(editor);
-    }
-
-    /// Does again what the string did, and keeps what takes it back. Takes no memory.
-    pub fn apply(&mut self, editor: &mut Editor)
-        requires { FitsForth editor.old.room (length editor.old.stored) self.old.changes
+    /// Turns the string so. Takes no memory.
+    pub fn turn(&mut self, editor: &mut Editor, way: Turn)
+        requires { FitsTurn way editor.old.room (length editor.old.stored) self.old.changes
             editor.old.body }
         ensures editor { editor.new
-            ≡ with_body editor.old (body_forth self.old.changes editor.old.body) }
-        ensures entry { kept_string self.new ≡ string_forth (kept_string self.old) editor.old.body }
+            ≡ with_body editor.old (body_turned way self.old.changes editor.old.body) }
+        ensures entry { kept_string self.new ≡ string_turned way (kept_string self.old) editor.old.body }
     {
-        self.changes.apply(editor);
-    }
-
-    /// Takes back the steps after the first `n`, and drops their changes. Takes no memory.
-    pub fn rewind(&mut self, editor: &mut Editor, n: u64)
-        requires fits { FitsBack editor.old.room self.old.changes editor.old.body }
-        requires order { IsInOrder self.old.changes }
-        ensures editor { editor.new
-            ≡ with_body editor.old (body_back (since n self.old.changes) editor.old.body) }
-        ensures entry { kept_string self.new ≡ string_cut n (kept_string self.old) }
-    {
-        self.changes.rewind(editor, n);
-        self.steps = n;
+        match way {
+            Turn::Back => self.changes.revert(editor),
+            Turn::Forth => self.changes.apply(editor),
+            Turn::Cut(n) => {
+                self.changes.rewind(editor, n);
+                self.steps = n;
+            }
+        }
     }
 }

@@ -10,7 +10,7 @@ ghost use Rattle.teco_session.specs.Kept.{HasRun};
 use std::alloc::Global;
 use teco_core::NoMemory;
 use teco_exec::{Outcome, Place, Stop, meaning_laws, run_until, run_where_until};
-use teco_store::{Change, Desk, Editor, Recorder, editor_laws, record_laws};
+use teco_store::{Change, Desk, Recorder, record_laws};
 use teco_terminal::Terminal;
 
 /// What runs a string, and may tell more than how it ended.
@@ -85,29 +85,6 @@ impl Runner for Placing {
         self.place = stopped.place;
         stopped.outcome
     }
-}
-
-/// Runs a string on an editor, and notes no change: it can't be undone.
-pub(crate) fn run_unnoted<S: Stop, T: Terminal, R: Runner>(
-    editor: &mut Editor,
-    text: &[u8],
-    limit: u64,
-    stop: &mut S,
-    term: &mut T,
-    runner: &mut R,
-) -> Outcome
-    ensures run { RunsWithin (S.answered stop.new) limit result (λ l. (typed : List ℕ)
-        × Runs (state_of editor.old) text.now l result typed (state_of editor.new)
-        × Shows (T.screen term.old) (T.screen term.new) typed (is_tty result)) }
-    ensures again { state_of editor.new ≡ (string_meaning (state_of editor.old) text.now result.steps).state }
-    ensures exit { (state_of editor.old).is_done ≡ false → (state_of editor.new).is_done ≡ true
-        → result.code ≡ None }
-    ensures sound { IsSound editor.new.room (length editor.new.stored) editor.new.body }
-    ensures tells { R.tells runner.new (state_of editor.old) text.now result }
-{
-    let outcome = runner.run_on(editor, text, limit, stop, term);
-    editor_laws(editor);
-    outcome
 }
 
 /// Runs a string, and gives the changes that lead back.

@@ -13,15 +13,15 @@ ghost use Rattle.teco_session.specs.Play.{Play, ShowsAll, answers_of};
 
 use crate::changes::Changes;
 use crate::entries::Entries;
-use crate::entry::Entry;
+use crate::entry::{Entry, Turn};
 use crate::request::{Answer, Answered, NothingToRedo, NothingToUndo, Request};
-use crate::runner::{Placing, Plain, Runner, record_run, run_unnoted};
+use crate::runner::{Placing, Plain, Runner, record_run};
 use crate::text::Text;
 use std::alloc::Global;
 use std::marker::Model;
 use teco_core::{DEPTH_LIMIT, FILE_LIMIT, NoMemory};
 use teco_exec::{Never, Stop};
-use teco_store::{Change, Desk, Editor, Recorder, record_laws};
+use teco_store::{Change, Desk, Editor, Recorder, editor_laws, record_laws};
 use teco_terminal::Terminal;
 
 /// Command strings one after another, each of which can be undone and redone.
@@ -69,12 +69,7 @@ impl Session {
         ensures value { IfOk result (λ session. session ≡ new_session (Some depth) input.items) }
         ensures history { IfOk result (λ session. history_of session ≡ new_history (Some depth) input.items) }
     {
-        let entries = Entries::with_depth(*input.allocator(), depth)?;
-        Ok(Session {
-            recorder: Recorder::new(Editor::new(input)),
-            entries,
-            cursor: 0,
-        })
+        Session::with_pages(input, 0, Some(depth))
     }
 
     /// A new session over this input, of at most 2^30 bytes, whose pages end after so many lines too; 0 is any number of lines. It keeps
@@ -169,7 +164,7 @@ impl Session {
         }
         record_laws();
         let i = self.cursor - 1;
-        self.entries.revert(i, self.recorder.editor_mut());
+        self.entries.turn(i, self.recorder.editor_mut(), Turn::Back);
         self.cursor = i;
         Ok(())
     }
@@ -187,7 +182,8 @@ impl Session {
             return Err(NothingToRedo);
         }
         record_laws();
-        self.entries.apply(i, self.recorder.editor_mut());
+        self.entries
+            .turn(i, self.recorder.editor_mut(), Turn::Forth);
         self.cursor = i + 1;
         Ok(())
     }
@@ -207,7 +203,8 @@ impl Session {
         record_laws();
         let i = self.cursor - 1;
         let n = n.min(self.entries.get(i).steps);
-        self.entries.rewind(i, self.recorder.editor_mut(), n);
+        self.entries
+            .turn(i, self.recorder.editor_mut(), Turn::Cut(n));
         self.entries.truncate(self.cursor);
         Ok(())
     }
@@ -324,7 +321,9 @@ impl Session {
             return Answer::AfterExit;
         }
         if self.entries.keeps_none() {
-            let outcome = run_unnoted(self.recorder.editor_mut(), text, limit, stop, term, runner);
+            let editor = self.recorder.editor_mut();
+            let outcome = runner.run_on(editor, text, limit, stop, term);
+            editor_laws(editor);
             return Answer::Ended(outcome);
         }
         let alloc = self.entries.alloc();

@@ -37,26 +37,26 @@ returns-clause-offers c =
     let n = counts c.args.self.now c.self.inside c.self.view_is c.self.invariant.within in
     (λ e. omega (arith, n.cursor, n.notes, n.within), λ h. refl)
 
-pub apply-requires-clause-within : goal.apply-requires-clause-within
-apply-requires-clause-within c = let le = c.self.invariant.within in omega arith
+pub turn-requires-clause-within : goal.turn-requires-clause-within
+turn-requires-clause-within c = let le = c.self.invariant.within in omega arith
 
-pub apply-requires-clause-fits : goal.apply-requires-clause-fits
-apply-requires-clause-fits c =
+pub turn-requires-clause-fits : goal.turn-requires-clause-fits
+turn-requires-clause-fits c =
     let s = kept_session c.self.inside in
     let le = c.self.invariant.within in
     subst (λ (f : Full). FitsForth f.room (length f.stored) (string_at s s.cursor).changes f.body) (sym c.editor_mut.ensures.value)
     (redo_fits s (string_at s s.cursor) (omega arith) c.self.invariant (at_self s s.cursor (omega arith)))
 
-applied_now : (c : goal.After-self-2-1) → IsApplied (kept_session c.self.inside) (session_with c.apply.new.editor (strings_of c.apply.new.self) (c.self.inside.cursor + 1) (depth_of c.apply.new.self))
+applied_now : (c : goal.After-self-2-1) → IsApplied (kept_session c.self.inside) (session_with c.turn.new.editor (strings_of c.turn.new.self) (c.self.inside.cursor + 1) (depth_of c.turn.new.self))
 applied_now c =
     let s = kept_session c.self.inside in
     let x = string_at s s.cursor in
     let le = c.self.invariant.within in
     session_applied c.record_laws.ensures.forth s _ _ _ (omega arith) c.self.invariant (
-      c.apply.ensures.editor ∙ ap (λ (f : Full). with_body f (body_forth x.changes f.body)) c.editor_mut.ensures.value,
-      c.apply.ensures.strings ∙ ap (λ (f : Full). set s.strings s.cursor (string_forth x f.body)) c.editor_mut.ensures.value,
+      c.turn.ensures.editor ∙ ap (λ (f : Full). with_body f (body_forth x.changes f.body)) c.editor_mut.ensures.value,
+      c.turn.ensures.strings ∙ ap (λ (f : Full). set s.strings s.cursor (string_forth x f.body)) c.editor_mut.ensures.value,
     )
-    c.apply.ensures.depth
+    c.turn.ensures.depth
 
 pub invariant_of-self : goal.invariant_of-self
 invariant_of-self c = (applied_now c).holds

@@ -11,8 +11,8 @@ use Rattle.teco_session.proofs.session.Session.rewind.Goals as goal
 pub get-requires : goal.get-requires
 get-requires c = let le = c.self.invariant.within in omega arith
 
-pub rewind-requires-clause-within : goal.rewind-requires-clause-within
-rewind-requires-clause-within c = let le = c.self.invariant.within in omega arith
+pub turn-requires-clause-within : goal.turn-requires-clause-within
+turn-requires-clause-within c = let le = c.self.invariant.within in omega arith
 
 ran_now : (c : goal.After-editor_mut) → HasRun c.self.inside.recorder.full (string_at (kept_session c.self.inside) (c.self.inside.cursor - 1))
 ran_now c =
@@ -20,22 +20,21 @@ ran_now c =
     let le = c.self.invariant.within in
     has_run s (string_at s (s.cursor - 1)) (s.cursor - 1) (omega arith) c.self.invariant (at_self s (s.cursor - 1) (omega arith))
 
-pub rewind-requires-clause-fits : goal.rewind-requires-clause-fits
-rewind-requires-clause-fits c = subst (λ (f : Full). FitsBack f.room (string_at (kept_session c.self.inside) (c.self.inside.cursor - 1)).changes f.body) (sym c.editor_mut.ensures.value) (ran_now c).turns.fits
-
-pub rewind-requires-clause-order : goal.rewind-requires-clause-order
-rewind-requires-clause-order c = (_, (ran_now c).turns.marked)
+pub turn-requires-clause-fits : goal.turn-requires-clause-fits
+turn-requires-clause-fits c =
+    let s = kept_session c.self.inside in
+    (subst (λ (f : Full). FitsBack f.room (string_at s (s.cursor - 1)).changes f.body) (sym c.editor_mut.ensures.value) (ran_now c).turns.fits, (_, (ran_now c).turns.marked))
 
 rewound_now : (c : goal.After-truncate)
-    → IsRewoundTo c.args.n (kept_session c.self.inside) (session_with c.rewind.new.editor (strings_of c.truncate.new.self) c.self.inside.cursor (depth_of c.truncate.new.self))
+    → IsRewoundTo c.args.n (kept_session c.self.inside) (session_with c.turn.new.editor (strings_of c.truncate.new.self) c.self.inside.cursor (depth_of c.truncate.new.self))
 rewound_now c =
     let s = kept_session c.self.inside in
     let few = c.min-n.ensures ∙ ap (min c.args.n) (ap (λ (x : KeptString). x.steps) c.get.ensures) in
-    session_rewound c.record_laws.ensures.back c.record_laws.ensures.extended c.record_laws.ensures.cut c.args.n s c.rewind.new.editor _ _ (omega arith) c.self.invariant (
-      c.rewind.ensures.editor ∙ ap (λ (f : Full). with_body f (body_back (since c.min-n.result (string_at s (s.cursor - 1)).changes) f.body)) c.editor_mut.ensures.value ∙ ap (λ k. with_body s.editor (body_back (since k (string_at s (s.cursor - 1)).changes) s.editor.body)) few,
-      c.truncate.ensures.strings ∙ ap (take s.cursor) (c.rewind.ensures.strings ∙ ap (λ k. set s.strings (s.cursor - 1) (string_cut k (string_at s (s.cursor - 1)))) few),
+    session_rewound c.record_laws.ensures.back c.record_laws.ensures.extended c.record_laws.ensures.cut c.args.n s c.turn.new.editor _ _ (omega arith) c.self.invariant (
+      c.turn.ensures.editor ∙ ap (λ (f : Full). with_body f (body_back (since c.min-n.result (string_at s (s.cursor - 1)).changes) f.body)) c.editor_mut.ensures.value ∙ ap (λ k. with_body s.editor (body_back (since k (string_at s (s.cursor - 1)).changes) s.editor.body)) few,
+      c.truncate.ensures.strings ∙ ap (take s.cursor) (c.turn.ensures.strings ∙ ap (λ k. set s.strings (s.cursor - 1) (string_cut k (string_at s (s.cursor - 1)))) few),
     )
-    (c.truncate.ensures.depth ∙ c.rewind.ensures.depth)
+    (c.truncate.ensures.depth ∙ c.turn.ensures.depth)
 
 pub invariant_of-self : goal.invariant_of-self
 invariant_of-self c = (rewound_now c).holds

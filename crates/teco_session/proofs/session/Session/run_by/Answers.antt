@@ -152,31 +152,31 @@ returns-clause-tells g c =
     subst (λ (s : State). g.R.Runner.tells c.record_run-changes.new.runner s c.args.text.now c.record_run-changes.result.1) (state_now g c) c.record_run-changes.ensures.tells
 
 -- With a depth of 0 nothing is noted.
-lent_now : (g : given.Over) (c : goal.After-self-1 g) → state_of c.editor_mut.result.now ≡ present (history_of c.args.self.now)
+lent_now : (g : given.Over) (c : goal.After-self-1 g) → state_of c.editor_mut-editor.result.now ≡ present (history_of c.args.self.now)
 lent_now g c =
-    ap state_of c.editor_mut.ensures.value ∙ sym (present_is (kept_session c.self.inside) c.self.invariant.within) ∙ ap (λ (s : KeptSession). present (history_of s)) c.self.view_is
+    ap state_of c.editor_mut-editor.ensures.value ∙ sym (present_is (kept_session c.self.inside) c.self.invariant.within) ∙ ap (λ (s : KeptSession). present (history_of s)) c.self.view_is
 
-went_now : (g : given.Over) (c : goal.After-self-1 g) → Went (kept_session c.self.inside) (session_with c.run_unnoted-outcome.new.editor (strings_of c.self.inside.entries) c.self.inside.cursor (depth_of c.self.inside.entries))
-    (record { text = c.args.text.now; steps = c.run_unnoted-outcome.result.steps; state = state_of c.run_unnoted-outcome.new.editor })
+went_now : (g : given.Over) (c : goal.After-self-1 g) → Went (kept_session c.self.inside) (session_with c.run_on-outcome.new.desk (strings_of c.self.inside.entries) c.self.inside.cursor (depth_of c.self.inside.entries))
+    (record { text = c.args.text.now; steps = c.run_on-outcome.result.steps; state = state_of c.run_on-outcome.new.desk })
 went_now g c =
     let kept = c.if-keeps_none.true in
-    session_went (kept_session c.self.inside) c.run_unnoted-outcome.new.editor c.args.text.now c.run_unnoted-outcome.result.steps (sym c.keeps_none.ensures.depth ∙ kept) (c.keeps_none.ensures.none kept)
-    c.self.invariant c.run_unnoted-outcome.ensures.sound
-    (c.run_unnoted-outcome.ensures.again ∙ ap (λ (f : Full). (string_meaning (state_of f) c.args.text.now c.run_unnoted-outcome.result.steps).state) c.editor_mut.ensures.value)
+    session_went (kept_session c.self.inside) c.run_on-outcome.new.desk c.args.text.now c.run_on-outcome.result.steps (sym c.keeps_none.ensures.depth ∙ kept) (c.keeps_none.ensures.none kept)
+    c.self.invariant c.editor_laws.ensures.sound
+    (c.run_on-outcome.ensures.again ∙ ap (λ (f : Full). (string_meaning (state_of f) c.args.text.now c.run_on-outcome.result.steps).state) c.editor_mut-editor.ensures.value)
 
 pub invariant_of-self : goal.invariant_of-self
 invariant_of-self g c = (went_now g c).holds
 
 pub returns-then-keeps_none-clause-step : goal.returns-then-keeps_none-clause-step
 returns-then-keeps_none-clause-step g c =
-    let under = c.run_unnoted-outcome.ensures.run in
+    let under = c.run_on-outcome.ensures.run in
     let ran = under.so in
     let old = history_of c.args.self.now in
-    let new = state_of c.run_unnoted-outcome.new.editor in
+    let new = state_of c.run_on-outcome.new.desk in
     let here = lent_now g c in
     let going : (present old).is_done ≡ false = ap (λ (s : State). s.is_done) (sym c.editor.ensures.present) ∙ sym c.done.ensures ∙ c.if-done.false in
-    let run = subst (λ (s : State). Runs s c.args.text.now under.under c.run_unnoted-outcome.result ran.0 new) here ran.1 in
-    let note : NotedString = record { text = c.args.text.now; steps = c.run_unnoted-outcome.result.steps; state = new } in
+    let run = subst (λ (s : State). Runs s c.args.text.now under.under c.run_on-outcome.result ran.0 new) here ran.1 in
+    let note : NotedString = record { text = c.args.text.now; steps = c.run_on-outcome.result.steps; state = new } in
     record {
       under = under.under;
       within = under.within;
@@ -188,9 +188,9 @@ returns-then-keeps_none-clause-step g c =
 pub returns-then-keeps_none-clause-exit : goal.returns-then-keeps_none-clause-exit
 returns-then-keeps_none-clause-exit g c = λ going over.
     let done = λ (s : State). s.is_done in
-    let last = present_is (session_with c.run_unnoted-outcome.new.editor (strings_of c.self.inside.entries) c.self.inside.cursor (depth_of c.self.inside.entries)) (went_now g c).holds.within in
-    c.run_unnoted-outcome.ensures.exit (ap done (lent_now g c) ∙ going) (sym (ap done last) ∙ over)
+    let last = present_is (session_with c.run_on-outcome.new.desk (strings_of c.self.inside.entries) c.self.inside.cursor (depth_of c.self.inside.entries)) (went_now g c).holds.within in
+    c.run_on-outcome.ensures.exit (ap done (lent_now g c) ∙ going) (sym (ap done last) ∙ over)
 
 pub returns-then-keeps_none-clause-tells : goal.returns-then-keeps_none-clause-tells
 returns-then-keeps_none-clause-tells g c =
-    subst (λ (s : State). g.R.Runner.tells c.run_unnoted-outcome.new.runner s c.args.text.now c.run_unnoted-outcome.result) (lent_now g c) c.run_unnoted-outcome.ensures.tells
+    subst (λ (s : State). g.R.Runner.tells c.run_on-outcome.new.self s c.args.text.now c.run_on-outcome.result) (lent_now g c) c.run_on-outcome.ensures.tells
