@@ -1,6 +1,5 @@
 -- What a run has done leads to what it has done as seen from before, or over another input.
 use Rattle.std.proofs.Common.{◌≡◌, ◌≢◌, inl, inr, ℕ, List, Bool, IsTrue, true, false, refl, ap, sym, ◌∙◌, subst}
-use Rattle.std.specs.Prelude.{⊤}
 use Rattle.std.specs.declared.io.Error.{Error}
 use Rattle.teco_files.specs.Disk.{Changes, Files}
 use Rattle.teco_files.specs.declared.input.InputFault.{InputFault}
@@ -137,32 +136,6 @@ module _ {I : Type 0} {old mid : DiskSeen I} (kept : KeepsDisk old mid) where
     same = λ output h. (h.0, λ before told. h.1 before (kept.files ∙ told));
     changed = λ h. h;
   }
-
-  -- what was done after a look at the disk
-  pub after_look : {in_place : Type 0} {end : Served} {output : List ℕ} (new : DiskSeen I) (name : List ℕ)
-      → Leads (doings_after end output ⊥ (named_output mid new name)) (doings_after end output in_place (named_output old new name))
-  after_look new name = record {
-    lacks = λ fate none. none;
-    idle = λ none. none;
-    keeps = keeps_after;
-    serves = λ e o is. is;
-    writes = λ o w. writes_after w;
-    fails = λ o fate f. fails_after f;
-    same = λ o h. absurd h.0;
-    changed = λ h. absurd h.0;
-  }
-
-pub in_place_so : {in_place : Type 0} {end : Served} {output : List ℕ} {to : OutputSeen} → in_place → Leads (doings_after end output ⊤ to) (doings_after end output in_place to)
-in_place_so so = record {
-  lacks = λ fate none. none;
-  idle = λ none. none;
-  keeps = λ k. k;
-  serves = λ e o is. is;
-  writes = λ o w. w;
-  fails = λ o fate f. f;
-  same = λ o h. (so, h.1);
-  changed = λ h. (so, h.1);
-}
 
 pub to_terminal : {line : Line} {bytes : List ℕ} {input : InputSeen} {to : OutputSeen} {commands : CommandsSeen} {term : TerminalSeen} → input.is_input bytes
     → Leads (doings line (given_input bytes) to commands term) (doings line input to commands term)
@@ -326,18 +299,20 @@ pub reads_all : {I T : Type 0} {line : Line} {name : List ℕ} {run : RunSeen I 
 reads_all {line} {name} {run} never e is = reads_to line (output_of line name) run (is_standard_output (output_of line name)) never (subst (EndsIn (is_standard_output (output_of line name)) line (output_of line name) run) is e.ends)
 
 -- With an output in a file, from where nothing else was shown.
-pub finishes_in_file : {I T : Type 0} (output name : List ℕ) (in_place : Bool) (before after : DiskSeen I) (screen : T → Screen) (term : T) (fate : Fate)
-    → is_standard_output name ≡ false → EndsBy (doings_after served.Exit output (IsTrue in_place) (named_output before after name)) fate
-    → FinishesIn (is_standard_output name) served.Exit output in_place name before after screen term term fate
-finishes_in_file output name in_place before after screen term fate apart e =
-    subst (λ b. FinishesIn b served.Exit output in_place name before after screen term term fate) (sym apart) (e, refl)
+pub finishes_in_file : {I T : Type 0} (output name : List ℕ) (in_place : Bool) (before after : DiskSeen I) (screen : T → Screen) (term : T) (fate : Fate) {end : Served}
+    → end ≡ served.Exit → is_standard_output name ≡ false → EndsBy (doings_after served.Exit output (IsTrue in_place) (named_output before after name)) fate
+    → FinishesIn (is_standard_output name) end output in_place name before after screen term term fate
+finishes_in_file output name in_place before after screen term fate exit apart e =
+    subst (λ s. FinishesIn (is_standard_output name) s output in_place name before after screen term term fate) (sym exit)
+    (subst (λ b. FinishesIn b served.Exit output in_place name before after screen term term fate) (sym apart) (e, refl))
 
 -- With an output on the terminal.
-pub finishes_on_terminal : {I T : Type 0} (output name : List ℕ) (in_place : Bool) (disk : DiskSeen I) (screen : T → Screen) (old new : T) (fate : Fate)
-    → is_standard_output name ≡ true → EndsBy (doings_after served.Exit output ⊥ (standard_output screen old new)) fate
-    → FinishesIn (is_standard_output name) served.Exit output in_place name disk disk screen old new fate
-finishes_on_terminal output name in_place disk screen old new fate here e =
-    subst (λ b. FinishesIn b served.Exit output in_place name disk disk screen old new fate) (sym here) (e, kept_same)
+pub finishes_on_terminal : {I T : Type 0} (output name : List ℕ) (in_place : Bool) (disk : DiskSeen I) (screen : T → Screen) (old new : T) (fate : Fate) {end : Served}
+    → end ≡ served.Exit → is_standard_output name ≡ true → EndsBy (doings_after served.Exit output ⊥ (standard_output screen old new)) fate
+    → FinishesIn (is_standard_output name) end output in_place name disk disk screen old new fate
+finishes_on_terminal output name in_place disk screen old new fate exit here e =
+    subst (λ s. FinishesIn (is_standard_output name) s output in_place name disk disk screen old new fate) (sym exit)
+    (subst (λ b. FinishesIn b served.Exit output in_place name disk disk screen old new fate) (sym here) (e, kept_same))
 
 -- The commands were opened on the disk before: a run from there on is one from before.
 module _ {I : Type 0} (old mid new : DiskSeen I) (kept : KeepsDisk old mid) (stream : InputSeen) (name : List ℕ) where

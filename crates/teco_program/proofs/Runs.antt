@@ -1,11 +1,6 @@
 -- What lines that the same words say have in common, and runs one after another.
-use Rattle.std.proofs.Common.{arith, ◌≡◌, ◌++◌, inl, inr, ℕ, List, [], ◌∷◌, Result, Ok, Err, String, Vec, Global, refl, sym, ◌∙◌, ap, subst, true, false, true≢false}
+use Rattle.std.proofs.Common.{◌≡◌, ◌++◌, inl, inr, ℕ, List, [], ◌∷◌, Result, Ok, Err, String, Vec, Global, refl, sym, ◌∙◌, ap, subst, false, true≢false}
 use Rattle.std.proofs.lemmas.Bool.{cases_Bool}
-use Rattle.std.proofs.lemmas.Grind.{common_steps}
-use Rattle.std.specs.String.{string_bytes}
-use Rattle.teco_line.specs.Conflict.{has_conflict}
-use Rattle.teco_line.specs.StreamNames.{is_standard_input}
-use Rattle.teco_line.specs.declared.line.Commands.TheVariants.{Bytes}
 use Rattle.teco_line.specs.declared.line.Line.{Line}
 use Rattle.teco_line.specs.declared.line.LineFault.{LineFault}
 use Rattle.teco_program.specs.Ending.{worse, worst}
@@ -33,8 +28,3 @@ same_explain (Ok words) line other is same off = elim (cases_Bool line.explain) 
   | inr down ↦ down
 ]
 same_explain (Err fault) line other is same off = absurd is
-
--- Where a line fits, the file of its commands and its input are not both standard input.
-pub commands_apart : (line : Line) (file : String Global) → line.commands ≡ Bytes file → has_conflict line ≡ false
-    → is_standard_input (string_bytes file) ≡ true → is_standard_input (string_bytes line.input) ≡ false
-commands_apart line file is fits on = grind (arith, common_steps)

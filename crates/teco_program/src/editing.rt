@@ -1,17 +1,14 @@
 //! One run of the program: an input is read, commands are served over it, and the output is written.
-ghost use Rattle.std.specs.Prelude.{◌≡◌, ◌≤◌, ⊤, IfErr, IfOk, IfSome, OnErr, false, vec_len};
+ghost use Rattle.std.specs.Prelude.{◌≡◌, ◌≤◌, IfErr, IfOk, IfSome, IsTrue, false, vec_len};
 ghost use Rattle.std.specs.Option.{ForSome};
 ghost use Rattle.teco_core.specs.declared.limits.TheConstants.{DEPTH_LIMIT, FILE_LIMIT};
-ghost use Rattle.teco_files.specs.Source.{Gives, HasEnded};
 ghost use Rattle.teco_line.specs.CommandLine.{IsDepth};
 ghost use Rattle.teco_line.specs.StreamNames.{is_standard_input, is_standard_output};
-ghost use Rattle.teco_program.specs.Exchange.{HasRung, allowance};
-ghost use Rattle.teco_program.specs.Run.{Edits, EndsBy, FinishesIn, FailsToStream, IsFateOf, IsInput, IsStreamed, KeepsDisk, LacksInput, bounds_of, depth_of, doings_after, given_input, history_over, input_from, named_input, named_output, standard_input, standard_output};
+ghost use Rattle.teco_program.specs.Exchange.{HasRung};
+ghost use Rattle.teco_program.specs.Run.{Edits, EndsBy, FinishesIn, FailsToStream, IsFateOf, IsInput, IsStreamed, KeepsDisk, LacksInput, depth_of, doings_after, given_input, history_over, input_from, named_input, named_output, standard_input, standard_output};
 ghost use Rattle.teco_program.specs.Seen.{commands_seen, disk_seen, run_seen, source_view};
-ghost use Rattle.teco_program.specs.Serving.{Serves};
 ghost use Rattle.teco_program.specs.Writing.{both};
 ghost use Rattle.teco_session.specs.Kept.{history_of};
-ghost use Rattle.teco_terminal.specs.Terminal.{Shows};
 
 use crate::alarm::{Alarm, Bounds};
 use crate::comparing::has_bytes;
@@ -99,83 +96,33 @@ fn session_over(line: &Line, input: Vec<u8>) -> Result<Session, NoMemory>
     Session::with_pages(input, lines, depth_of(line))
 }
 
-/// Serves the commands over the input. Gives the session that is left, and how the serving ended.
-fn serve_over<S: Source, A: Alarm, T: Terminal, L: Listens>(
-    alloc: Global,
-    line: &Line,
-    input: Vec<u8>,
-    commands: &mut S,
-    alarm: &mut A,
-    term: &mut T,
-    listener: &mut L,
-) -> Result<(Session, Served), NoMemory>
-    requires small { vec_len input ≤ FILE_LIMIT }
-    requires depth { IfSome line.now.undo IsDepth }
-    ensures serves { IfOk result (λ ended. Serves (allowance (bounds_of line.now) (HasRung A.answered)) line.now.prompt
-        (Gives S.coming S.bound S.failures commands.old commands.new)
-        (HasEnded (S.coming commands.new) (S.ended commands.new))
-        (Shows (T.screen term.old) (T.screen term.new))
-        (history_over line.now input.items) (history_of ended.0) ended.1) }
-    ensures err { OnErr result ((commands.new ≡ commands.old) × (term.new ≡ term.old)) }
-{
-    let mut session = session_over(line, input)?;
-    let served = serve(
-        alloc,
-        commands,
-        &mut session,
-        Bounds {
-            steps: line.limit,
-            seconds: line.seconds,
-        },
-        line.prompt,
-        alarm,
-        term,
-        listener,
-    );
-    Ok((session, served))
-}
-
-/// Writes the output to a file after an exit.
-fn put_in_file<D: Disk>(
-    alloc: Global,
+/// How a run ends that is to write its output over the file that was read, where that has changed since, or has these bytes already.
+fn found_in_place<D: Disk>(
+    in_place: bool,
     name: &str,
-    number: u32,
     output: (&[u8], &[u8]),
     disk: &mut D,
-) -> Fate
-    ensures { let seen = disk_seen D.files D.streams D.left D.gave D.changed
+) -> Option<Fate>
+    ensures found { let seen = disk_seen D.files D.streams D.left D.gave D.changed
         (source_view D.Input.coming D.Input.bound D.Input.failures D.Input.ended) in
-        EndsBy (doings_after Served.Exit (both output.entry) ⊥
-        (named_output (seen disk.old) (seen disk.new) name.now)) result }
+        IfSome result (EndsBy (doings_after Served.Exit (both output.entry) (IsTrue in_place)
+        (named_output (seen disk.old) (seen disk.new) name.now))) }
+    ensures keeps { let seen = disk_seen D.files D.streams D.left D.gave D.changed
+        (source_view D.Input.coming D.Input.bound D.Input.failures D.Input.ended) in
+        KeepsDisk (seen disk.old) (seen disk.new) }
 {
-    match write_output(alloc, disk, name, number, output) {
-        Ok(()) => Fate::Ended(Served::Exit),
-        Err(error) => fate_of(error, Fate::NoOutput),
+    if !in_place {
+        return None;
     }
-}
-
-/// Writes the output over the file that was read, unless that has changed since, or has these bytes already.
-fn put_in_place<D: Disk>(
-    alloc: Global,
-    name: &str,
-    number: u32,
-    output: (&[u8], &[u8]),
-    disk: &mut D,
-) -> Fate
-    ensures { let seen = disk_seen D.files D.streams D.left D.gave D.changed
-        (source_view D.Input.coming D.Input.bound D.Input.failures D.Input.ended) in
-        EndsBy (doings_after Served.Exit (both output.entry) ⊤
-        (named_output (seen disk.old) (seen disk.new) name.now)) result }
-{
     match disk.is_as_read(name) {
         Ok(true) => {}
-        Ok(false) => return Fate::Changed,
-        Err(error) => return fate_of(error, Fate::NoOutput),
+        Ok(false) => return Some(Fate::Changed),
+        Err(error) => return Some(fate_of(error, Fate::NoOutput)),
     }
     if has_bytes(name, output, disk) {
-        return Fate::Unchanged;
+        return Some(Fate::Unchanged);
     }
-    put_in_file(alloc, name, number, output, disk)
+    None
 }
 
 /// Shows the output after an exit, after all that was typed.
@@ -192,31 +139,7 @@ fn put_on_terminal<T: Terminal>(output: (&[u8], &[u8]), term: &mut T) -> Fate
     }
 }
 
-/// Writes the output to where the line says, after an exit.
-fn put_output<T: Terminal, D: Disk>(
-    alloc: Global,
-    in_place: bool,
-    name: &str,
-    number: u32,
-    output: (&[u8], &[u8]),
-    term: &mut T,
-    disk: &mut D,
-) -> Fate
-    ensures { let seen = disk_seen D.files D.streams D.left D.gave D.changed
-        (source_view D.Input.coming D.Input.bound D.Input.failures D.Input.ended) in
-        FinishesIn (is_standard_output name.now) Served.Exit (both output.entry) in_place name.now
-        (seen disk.old) (seen disk.new) T.screen term.old term.new result }
-{
-    if is_standard_output(name) {
-        return put_on_terminal(output, term);
-    }
-    if in_place {
-        return put_in_place(alloc, name, number, output, disk);
-    }
-    put_in_file(alloc, name, number, output, disk)
-}
-
-/// What is done after a serving: after an exit the output is written.
+/// What is done after a serving: after an exit the output is written to where the line says.
 fn finish<T: Terminal, D: Disk>(
     alloc: Global,
     in_place: bool,
@@ -233,8 +156,18 @@ fn finish<T: Terminal, D: Disk>(
         (seen disk.old) (seen disk.new) T.screen term.old term.new result }
 {
     match served {
-        Served::Exit => put_output(alloc, in_place, name, number, output, term, disk),
-        other => Fate::Ended(other),
+        Served::Exit => {}
+        other => return Fate::Ended(other),
+    }
+    if is_standard_output(name) {
+        return put_on_terminal(output, term);
+    }
+    if let Some(fate) = found_in_place(in_place, name, output, disk) {
+        return fate;
+    }
+    match write_output(alloc, disk, name, number, output) {
+        Ok(()) => Fate::Ended(Served::Exit),
+        Err(error) => fate_of(error, Fate::NoOutput),
     }
 }
 
@@ -271,10 +204,22 @@ fn edit_over<S: Source, A: Alarm, T: Terminal, L: Listens, D: Disk>(
     let Ok(to) = output_name(alloc, line, name) else {
         return Fate::NoMemory;
     };
-    let Ok((session, served)) = serve_over(alloc, line, input, commands, alarm, term, listener)
-    else {
+    let Ok(mut session) = session_over(line, input) else {
         return Fate::NoMemory;
     };
+    let served = serve(
+        alloc,
+        commands,
+        &mut session,
+        Bounds {
+            steps: line.limit,
+            seconds: line.seconds,
+        },
+        line.prompt,
+        alarm,
+        term,
+        listener,
+    );
     let fate = finish(
         alloc,
         line.in_place,

@@ -15,27 +15,6 @@ use teco_files::{Disk, Target};
 /// How many names are tried for a draft.
 const DRAFTS: u32 = 100;
 
-/// Writes both parts to a draft, or some of their bytes where it fails.
-fn write_both<D: Disk>(
-    disk: &mut D,
-    draft: &mut D::Draft,
-    name: &str,
-    bytes: (&[u8], &[u8]),
-) -> io::Result<()>
-    requires { D.is_of draft.old name.now }
-    ensures ok { OnOk result (Changes (D.files disk.old) (D.files disk.new)
-        (Appends name.now (both bytes.entry))) }
-    ensures draft { D.is_of draft.new name.now }
-    ensures err { OnErr result (Changes (D.files disk.old) (D.files disk.new) (SameBut name.now)) }
-    ensures streams { D.streams disk.new ≡ D.streams disk.old }
-    ensures moments { Passes (D.files disk.old) (D.left disk.old) (D.left disk.new) (SameBut name.now) }
-    ensures count { Counts result (D.failures disk.old) (D.failures disk.new) }
-    ensures error { IfErr result (D.gave disk.new) }
-{
-    disk.write(draft, name, bytes.0)?;
-    disk.write(draft, name, bytes.1)
-}
-
 /// Writes the bytes to a draft, and waits until they outlast a crash.
 fn fill<D: Disk>(
     disk: &mut D,
@@ -53,7 +32,8 @@ fn fill<D: Disk>(
     ensures count { Counts result (D.failures disk.old) (D.failures disk.new) }
     ensures error { IfErr result (D.gave disk.new) }
 {
-    write_both(disk, draft, name, bytes)?;
+    disk.write(draft, name, bytes.0)?;
+    disk.write(draft, name, bytes.1)?;
     disk.make_like(draft, name);
     disk.sync(draft, name)
 }

@@ -16,9 +16,9 @@ use crate::alarm::Alarm;
 use crate::checking::check_line;
 use crate::editing::{edit_file, edit_input, fate_of};
 use crate::fate::{Fate, ending_of};
-use crate::listener::{Explainer, Listens, Silent};
+use crate::listener::Listens;
 use crate::refusing::refuse;
-use crate::several::edit_all;
+use crate::several::{edit_all, edit_told};
 use std::alloc::Global;
 use std::process::ExitCode;
 use teco_core::NoMemory;
@@ -30,7 +30,7 @@ use teco_terminal::Terminal;
 const NO_MEMORY: &[u8] = b"teco: no memory\n";
 
 /// Edits the input of the line by commands as they come: those on standard input, or those of a file.
-fn edit_by_line<S: Source, A: Alarm, T: Terminal, L: Listens, D: Disk>(
+pub fn edit_by_line<S: Source, A: Alarm, T: Terminal, L: Listens, D: Disk>(
     alloc: Global,
     line: &Line,
     number: u32,
@@ -52,27 +52,21 @@ fn edit_by_line<S: Source, A: Alarm, T: Terminal, L: Listens, D: Disk>(
         (host disk.new commands.new term.new) result }
 {
     let name = line.input.as_str();
-    match &line.commands {
-        Commands::StandardInput => edit_file(
-            alloc, line, name, number, commands, alarm, term, listener, disk,
-        ),
-        Commands::Bytes(file) => {
-            let file = file.as_str();
-            if is_standard_input(file) {
-                return edit_file(
-                    alloc, line, name, number, commands, alarm, term, listener, disk,
-                );
-            }
-            let mut given = match disk.open(file) {
-                Ok(given) => given,
-                Err(error) => return fate_of(error, Fate::NoCommands),
-            };
-            edit_input(
-                alloc, line, name, number, &mut given, commands, alarm, term, listener, disk,
-            )
+    let file = match &line.commands {
+        Commands::Bytes(file) if !is_standard_input(file.as_str()) => file.as_str(),
+        _ => {
+            return edit_file(
+                alloc, line, name, number, commands, alarm, term, listener, disk,
+            );
         }
-        Commands::Sources(..) | Commands::Pages(_) => unreachable!(),
-    }
+    };
+    let mut given = match disk.open(file) {
+        Ok(given) => given,
+        Err(error) => return fate_of(error, Fate::NoCommands),
+    };
+    edit_input(
+        alloc, line, name, number, &mut given, commands, alarm, term, listener, disk,
+    )
 }
 
 /// Whether the commands of the line are served to one input as they come.
@@ -81,56 +75,6 @@ fn is_streamed(line: &Line) -> bool
 {
     let as_wanted = matches!(line.commands, Commands::StandardInput | Commands::Bytes(_));
     as_wanted && line.more.is_empty()
-}
-
-/// The same, and where the line asks for it what is done is explained in notes.
-fn edit_noted<S: Source, A: Alarm, T: Terminal, N: Terminal, D: Disk>(
-    alloc: Global,
-    line: &Line,
-    number: u32,
-    commands: &mut S,
-    alarm: &mut A,
-    term: &mut T,
-    notes: &mut N,
-    disk: &mut D,
-) -> Fate
-    requires depth { IfSome line.now.undo IsDepth }
-    requires fits { has_conflict line.now ≡ false }
-    requires streamed { is_streamed line.now ≡ true }
-    ensures edits { let view = host_view (disk_seen D.files D.streams D.left D.gave D.changed
-        (source_view D.Input.coming D.Input.bound D.Input.failures D.Input.ended))
-        (source_view S.coming S.bound S.failures S.ended) T.screen
-        (source_view ⟦<WordSource as Source>⟧.coming ⟦<WordSource as Source>⟧.bound
-        ⟦<WordSource as Source>⟧.failures ⟦<WordSource as Source>⟧.ended) (HasRung A.answered) in
-        EditsBy view line.now (string_bytes line.now.input) line.now.commands (host disk.old commands.old term.old)
-        (host disk.new commands.new term.new) result }
-    ensures silent { line.now.explain ≡ false → notes.new ≡ notes.old }
-{
-    if !line.explain {
-        return edit_by_line(
-            alloc,
-            line,
-            number,
-            commands,
-            alarm,
-            term,
-            &mut Silent,
-            disk,
-        );
-    }
-    let mut explainer = Explainer::new(alloc, line, notes);
-    let fate = edit_by_line(
-        alloc,
-        line,
-        number,
-        commands,
-        alarm,
-        term,
-        &mut explainer,
-        disk,
-    );
-    explainer.ended(line, line.input.as_str(), fate, disk.why());
-    fate
 }
 
 /// Tells that there is no memory, and gives the status.
@@ -200,8 +144,10 @@ fn run_over<S: Source, A: Alarm, T: Terminal, E: Terminal, N: Terminal, D: Disk>
         return check_line(alloc, line, commands, term, errors, disk);
     }
     if is_streamed(line) {
-        let fate = edit_noted(alloc, line, number, commands, alarm, term, notes, disk);
-        return conclude(alloc, line, line.input.as_str(), fate, errors);
+        let name = line.input.as_str();
+        return edit_told(
+            alloc, line, name, number, None, commands, alarm, term, errors, notes, disk,
+        );
     }
     edit_all(
         alloc, line, number, commands, alarm, term, errors, notes, disk,

@@ -4,14 +4,14 @@ ghost use Rattle.teco_line.specs.CommandLine.{IsDepth};
 ghost use Rattle.teco_line.specs.Conflict.{are_awaited};
 ghost use Rattle.teco_program.specs.Ending.{worse};
 ghost use Rattle.teco_program.specs.Exchange.{HasRung};
-ghost use Rattle.teco_program.specs.Runs.{EditsByBytes, LinkOver, RunsInOrder, RunsOverAll, host, host_view, inputs_of, is_streamed};
+ghost use Rattle.teco_program.specs.Runs.{EditsGiven, LinkGiven, MayCome, RunsInOrder, RunsOverAll, host, host_view, inputs_of, is_streamed};
 ghost use Rattle.teco_program.specs.Seen.{disk_seen, source_view};
 
 use crate::alarm::Alarm;
 use crate::editing::edit_input;
 use crate::fate::Fate;
 use crate::listener::{Explainer, Listens, Silent};
-use crate::running::conclude;
+use crate::running::{conclude, edit_by_line};
 use crate::sources::{Parts, commands_given, decline};
 use std::alloc::Global;
 use teco_files::{Disk, Source, WordSource};
@@ -31,13 +31,14 @@ fn worse(a: u8, b: u8) -> u8
     }
 }
 
-/// Edits this input of the line by these bytes as commands, if there is memory for a copy of them.
-fn edit_by_bytes<S: Source, A: Alarm, T: Terminal, L: Listens, D: Disk>(
+/// Edits this input of the line by these bytes as commands, if there is memory for a copy of them; without bytes, by commands as they
+/// come.
+fn edit_given<S: Source, A: Alarm, T: Terminal, L: Listens, D: Disk>(
     alloc: Global,
     line: &Line,
     name: &str,
     number: u32,
-    bytes: &[u8],
+    bytes: Option<&[u8]>,
     commands: &mut S,
     alarm: &mut A,
     term: &mut T,
@@ -45,14 +46,18 @@ fn edit_by_bytes<S: Source, A: Alarm, T: Terminal, L: Listens, D: Disk>(
     disk: &mut D,
 ) -> Fate
     requires depth { IfSome line.now.undo IsDepth }
+    requires come { MayCome line.now bytes }
     ensures { let view = host_view (disk_seen D.files D.streams D.left D.gave D.changed
         (source_view D.Input.coming D.Input.bound D.Input.failures D.Input.ended))
         (source_view S.coming S.bound S.failures S.ended) T.screen
         (source_view ⟦<WordSource as Source>⟧.coming ⟦<WordSource as Source>⟧.bound
         ⟦<WordSource as Source>⟧.failures ⟦<WordSource as Source>⟧.ended) (HasRung A.answered) in
-        EditsByBytes view line.now name.now bytes.now (host disk.old commands.old term.old)
+        EditsGiven view line.now bytes.entry name.now (host disk.old commands.old term.old)
         (host disk.new commands.new term.new) result }
 {
+    let Some(bytes) = bytes else {
+        return edit_by_line(alloc, line, number, commands, alarm, term, listener, disk);
+    };
     let Ok(bytes) = Vec::from_slice(alloc, bytes) else {
         return Fate::NoMemory;
     };
@@ -64,12 +69,12 @@ fn edit_by_bytes<S: Source, A: Alarm, T: Terminal, L: Listens, D: Disk>(
 
 /// Runs over this input of the line, and tells how that ends. Where the line asks for it what is done is explained in notes. Gives the
 /// status.
-fn edit_told<S: Source, A: Alarm, T: Terminal, E: Terminal, N: Terminal, D: Disk>(
+pub fn edit_told<S: Source, A: Alarm, T: Terminal, E: Terminal, N: Terminal, D: Disk>(
     alloc: Global,
     line: &Line,
     name: &str,
     number: u32,
-    bytes: &[u8],
+    bytes: Option<&[u8]>,
     commands: &mut S,
     alarm: &mut A,
     term: &mut T,
@@ -78,17 +83,18 @@ fn edit_told<S: Source, A: Alarm, T: Terminal, E: Terminal, N: Terminal, D: Disk
     disk: &mut D,
 ) -> u8
     requires depth { IfSome line.now.undo IsDepth }
+    requires come { MayCome line.now bytes }
     ensures link { let view = host_view (disk_seen D.files D.streams D.left D.gave D.changed
         (source_view D.Input.coming D.Input.bound D.Input.failures D.Input.ended))
         (source_view S.coming S.bound S.failures S.ended) T.screen
         (source_view ⟦<WordSource as Source>⟧.coming ⟦<WordSource as Source>⟧.bound
         ⟦<WordSource as Source>⟧.failures ⟦<WordSource as Source>⟧.ended) (HasRung A.answered) in
-        LinkOver view E.screen line.now bytes.now name.now (host disk.old commands.old term.old, errors.old)
+        LinkGiven view E.screen line.now bytes.entry name.now (host disk.old commands.old term.old, errors.old)
         (host disk.new commands.new term.new, errors.new) result }
     ensures silent { line.now.explain ≡ false → notes.new ≡ notes.old }
 {
     if !line.explain {
-        let fate = edit_by_bytes(
+        let fate = edit_given(
             alloc,
             line,
             name,
@@ -103,7 +109,7 @@ fn edit_told<S: Source, A: Alarm, T: Terminal, E: Terminal, N: Terminal, D: Disk
         return conclude(alloc, line, name, fate, errors);
     }
     let mut explainer = Explainer::new(alloc, line, notes);
-    let fate = edit_by_bytes(
+    let fate = edit_given(
         alloc,
         line,
         name,
@@ -144,14 +150,15 @@ fn edit_each<S: Source, A: Alarm, T: Terminal, E: Terminal, N: Terminal, D: Disk
     ensures silent { line.now.explain ≡ false → notes.new ≡ notes.old }
 {
     let name = line.input.as_str();
+    let given = Some(bytes);
     let first = edit_told(
-        alloc, line, name, number, bytes, commands, alarm, term, errors, notes, disk,
+        alloc, line, name, number, given, commands, alarm, term, errors, notes, disk,
     );
     let mut status = worse(0, first);
     for name in line.more.iter() {
         let name = name.as_str();
         let next = edit_told(
-            alloc, line, name, number, bytes, commands, alarm, term, errors, notes, disk,
+            alloc, line, name, number, given, commands, alarm, term, errors, notes, disk,
         );
         status = worse(status, next);
     }

@@ -94,11 +94,11 @@ impl Parts {
         word: &str,
         to: usize,
     ) -> Result<(), NoMemory> {
-        if self.keeps {
-            let source = Vec::from_slice(alloc, word.as_bytes())?;
-            self.list.push(Part { at, source, to })?;
+        if !self.keeps {
+            return Ok(());
         }
-        Ok(())
+        let source = Vec::from_slice(alloc, word.as_bytes())?;
+        self.keep(at, source, to)
     }
 }
 

@@ -1,27 +1,41 @@
 use Rattle.std.proofs.lemmas.Grind.{common_steps}
-use Rattle.std.proofs.Common.{◌∙◌, arith}
-use Rattle.teco_files.proofs.Disks.{others_appended}
+use Rattle.std.proofs.Common.{◌∙◌, arith, ℕ, Ok}
+use Rattle.teco_files.proofs.Disks.{appends_if, but_then, others_appended, passes_then}
 use Rattle.teco_program.proofs.Writings.{appends_still, on_err_by, on_ok_by}
 use Rattle.teco_program.proofs.output.fill.Goals as goal
 
 pub returns : goal.returns
-returns g c = record {
-  ok = on_ok_by c.sync.result (appends_still (c.sync.ensures.files ∙ c.make_like.ensures.files) c.in_ok-write_both.ensures.ok);
-  kept = c.sync.ensures.kept;
-  err = on_err_by c.sync.result (others_appended (appends_still (c.sync.ensures.files ∙ c.make_like.ensures.files) c.in_ok-write_both.ensures.ok));
-  streams = c.sync.ensures.streams ∙ (c.make_like.ensures.streams ∙ c.write_both.ensures.streams);
-  moments = λ before told files left. c.write_both.ensures.moments before told files (c.make_like.ensures.moments files (c.sync.ensures.moments files left));
-  count = grind (arith, common_steps);
-  error = c.sync.ensures.error;
-}
+returns g c =
+    let written = appends_still (c.sync.ensures.files ∙ c.make_like.ensures.files) (appends_if {A = ℕ} {E = ℕ} c.args.bytes.1.now (g.D.Disk.files c.write-2.new.self) (Ok 0) c.in_ok-write.ensures.ok c.in_ok-write-2.ensures.ok) in
+    let passed = passes_then c.write.ensures.moments (others_appended c.in_ok-write.ensures.ok) c.write-2.ensures.moments in
+    record {
+      ok = on_ok_by c.sync.result written;
+      kept = c.sync.ensures.kept;
+      err = on_err_by c.sync.result (others_appended written);
+      streams = c.sync.ensures.streams ∙ (c.make_like.ensures.streams ∙ (c.write-2.ensures.streams ∙ c.write.ensures.streams));
+      moments = λ before told files left. passed before told files (c.make_like.ensures.moments files (c.sync.ensures.moments files left));
+      count = grind (arith, common_steps);
+      error = c.sync.ensures.error;
+    }
 
-pub returns-in_err-write_both : goal.returns-in_err-write_both
-returns-in_err-write_both g c = record {
+pub returns-in_err-write : goal.returns-in_err-write
+returns-in_err-write g c = record {
   ok = grind (arith, common_steps);
   kept = grind (arith, common_steps);
   err = grind (arith, common_steps);
-  streams = c.write_both.ensures.streams;
-  moments = c.write_both.ensures.moments;
+  streams = c.write.ensures.streams;
+  moments = c.write.ensures.moments;
+  count = grind (arith, common_steps);
+  error = grind (arith, common_steps);
+}
+
+pub returns-in_err-write-2 : goal.returns-in_err-write-2
+returns-in_err-write-2 g c = record {
+  ok = grind (arith, common_steps);
+  kept = grind (arith, common_steps);
+  err = on_err_by c.from_residual-in_err-write-2.result (but_then (others_appended c.in_ok-write.ensures.ok) c.in_err-write-2.ensures.err);
+  streams = c.write-2.ensures.streams ∙ c.write.ensures.streams;
+  moments = passes_then c.write.ensures.moments (others_appended c.in_ok-write.ensures.ok) c.write-2.ensures.moments;
   count = grind (arith, common_steps);
   error = grind (arith, common_steps);
 }

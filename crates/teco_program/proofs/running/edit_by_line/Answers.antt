@@ -1,4 +1,5 @@
-use Rattle.std.proofs.Common.{◌≡◌, ◌∙◌, ℕ, List, ap, false, inl, inr, refl, subst, sym}
+use Rattle.std.proofs.lemmas.Grind.{common_steps}
+use Rattle.std.proofs.Common.{arith, rules, ◌≡◌, ◌∙◌, ℕ, List, ap, false, inr, subst, sym}
 use Rattle.std.specs.String.{string_bytes}
 use Rattle.teco_line.specs.StreamNames.{is_standard_input}
 use Rattle.teco_program.specs.Exchange.{HasRung}
@@ -7,21 +8,8 @@ use Rattle.teco_program.specs.Seen.{commands_seen, disk_seen, run_seen, source_v
 use Rattle.teco_program.proofs.Doings.{edits_from}
 use Rattle.teco_program.proofs.running.edit_by_line.Goals as goal
 
-pub returns-in-Err : goal.returns-in-Err
-returns-in-Err g c =
-    let apart : is_standard_input (string_bytes c.in-Bytes.file) ≡ false = ap is_standard_input (sym c.as_str-file.ensures.value) ∙ (sym c.is_standard_input.ensures ∙ c.if-is_standard_input.false) in
-    rw (c.in-Bytes.is, apart) (record {
-      kept = λ other. refl;
-      edits = inl (
-        c.in-Err.error,
-        c.in-Err.ensures.error,
-        c.fate_of.ensures,
-        (refl, record { files = c.open.ensures.files; streams = c.open.ensures.streams; moments = c.open.ensures.moments }),
-      );
-    })
-
-pub returns-in-Ok : goal.returns-in-Ok
-returns-in-Ok g c =
+pub returns : goal.returns
+returns g c =
     let seen = disk_seen g.D.Disk.files g.D.Disk.streams g.D.Disk.left g.D.Disk.gave g.D.Disk.changed
     (source_view g.D.Input.Source.coming g.D.Input.Source.bound g.D.Input.Source.failures g.D.Input.Source.ended) in
     let stream = standard_input (source_view g.S.Source.coming g.S.Source.bound g.S.Source.failures g.S.Source.ended) c.args.commands.now c.edit_input.new.stream in
@@ -36,7 +24,8 @@ returns-in-Ok g c =
     } in
     let name = c.as_str-name.result.now in
     let named = c.as_str-name.ensures.value in
-    let apart : is_standard_input (string_bytes c.in-Bytes.file) ≡ false = ap is_standard_input (sym c.as_str-file.ensures.value) ∙ (sym c.is_standard_input.ensures ∙ c.if-is_standard_input.false) in
+    let off : c.is_standard_input.result ≡ false = first_of (cc, search rules, grind (arith, common_steps)) in
+    let apart : is_standard_input (string_bytes c.in-Bytes.file) ≡ false = ap is_standard_input (sym c.as_str.ensures.value) ∙ (sym c.is_standard_input.ensures ∙ off) in
     rw (c.in-Bytes.is, apart) (record {
       kept = λ other. c.edit_input.ensures.still (ap is_standard_input named ∙ other);
       edits = inr (

@@ -1,9 +1,9 @@
 use Rattle.std.proofs.Common.{◌∙◌, ap, arith, inr, Some}
 use Rattle.teco_program.proofs.Doings.{reads_all}
-use Rattle.teco_program.proofs.several.edit_by_bytes.Goals as goal
+use Rattle.teco_program.proofs.several.edit_given.Goals as goal
 
 pub returns : goal.returns
-returns g c = record {
+returns g c = rw c.in-Some.is (record {
   kept = c.edit_input.ensures.still;
   edits = inr (
     c.new-given.result,
@@ -12,4 +12,4 @@ returns g c = record {
     c.edit_input.ensures.edits,
     reads_all (λ bytes gave. omega (arith, gave.count)) c.edit_input.ensures.edits,
   );
-}
+})

@@ -1,0 +1,21 @@
+use Rattle.std.proofs.Common.{◌∙◌, refl, rules}
+use Rattle.teco_program.specs.Writing.{both}
+use Rattle.teco_program.specs.Run.{KeepsDisk}
+use Rattle.teco_program.specs.Seen.{disk_seen, source_view}
+use Rattle.teco_program.proofs.Doings.{keeps_after}
+use Rattle.teco_program.proofs.editing.found_in_place.Goals as goal
+
+pub returns-then-has_bytes-clause-found : goal.returns-then-has_bytes-clause-found
+returns-then-has_bytes-clause-found g c =
+    let seen = disk_seen g.D.Disk.files g.D.Disk.streams g.D.Disk.left g.D.Disk.gave g.D.Disk.changed
+    (source_view g.D.Input.Source.coming g.D.Input.Source.bound g.D.Input.Source.failures g.D.Input.Source.ended) in
+    let looked : KeepsDisk (seen c.args.disk.now) (seen c.is_as_read.new.self) = record {
+      files = c.is_as_read.ensures.files;
+      streams = c.is_as_read.ensures.streams;
+      moments = c.is_as_read.ensures.moments;
+    } in (
+      both c.args.output,
+      (refl, refl),
+      (search rules, λ before told. c.has_bytes.ensures.same c.if-has_bytes.true before (c.is_as_read.ensures.files ∙ told)),
+      keeps_after looked c.has_bytes.ensures.keeps,
+    )
