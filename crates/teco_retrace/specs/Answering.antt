@@ -5,7 +5,7 @@ use Rattle.teco_telling.specs.Spelling.{spelled}
 use Rattle.teco_telling.specs.declared.spot.Spot.{Spot}
 use Rattle.teco_walk.specs.Finding.{last_change}
 use Rattle.teco_walk.specs.Verb.{verb_by, verbs, words_of}
-use Rattle.teco_walk.specs.Walk.{meant, state_there}
+use Rattle.teco_walk.specs.Walk.{KeptWalk, meant, state_there}
 use Rattle.teco_walk.specs.declared.command.Command.{Command}
 use Rattle.teco_walk.specs.declared.command.Command.TheVariants as command
 use Rattle.teco_walk.specs.declared.command.Fault.{Fault}
@@ -18,8 +18,10 @@ use Rattle.teco_walk.specs.declared.walk.Seen.{Seen}
 use Rattle.teco_retrace.specs.Help.{help_shown}
 use Rattle.teco_retrace.specs.Listing.{lines_there_shown, registers_shown, state_shown, whole_register}
 use Rattle.teco_retrace.specs.Moving.{Arrives, HasNoStop, IsNextStop, IsSeen, MovesTo, SameRun}
-use Rattle.teco_retrace.specs.Showing.{where_shown}
+use Rattle.teco_retrace.specs.Showing.{step_shown, where_shown}
 use Rattle.teco_retrace.specs.declared.debugger.Debugger.{Debugger}
+use Rattle.teco_retrace.specs.declared.debugger.View.{View}
+use Rattle.teco_retrace.specs.declared.debugger.View.TheVariants.{Step, Where as WhereItStands, Typed as TypedSoFar}
 
 -- a line that ends by LF
 abbrev pub answer_line : List ℕ → List ℕ
@@ -28,6 +30,16 @@ answer_line words = words ++ 10 ∷ []
 -- This is shown, and nothing changes.
 abbrev pub OnlyShows : List ℕ → Debugger → Debugger → List ℕ → Type 0
 OnlyShows text old new shown = (new ≡ old) × (shown ≡ text)
+
+-- what is shown of where a walk stands
+abbrev pub seen_shown : View → KeptWalk → Seen → List ℕ
+seen_shown Step walk seen = step_shown walk seen
+seen_shown WhereItStands walk seen = where_shown walk seen
+seen_shown TypedSoFar walk seen = answer_line (spelled seen.typed.items)
+
+-- This is shown of where a walk stands, behind what was shown before.
+abbrev pub ShowsSeen : View → KeptWalk → List ℕ → List ℕ → Type 0
+ShowsSeen view walk old new = (seen : Seen) × IsSeen walk walk.steps seen × (new ≡ old ++ seen_shown view walk seen)
 
 -- Where the walk stands is shown, with all that is open there.
 abbrev pub ShowsWhere : Debugger → Debugger → List ℕ → Type 0
@@ -39,6 +51,11 @@ abbrev pub ShowsHelp : Debugger → Debugger → List ℕ → Type 0
 ShowsHelp old new shown = (new ≡ old)
     × ((rows : List VerbRow) × (map verb_by rows ≡ verbs) × (shown ≡ help_shown rows))
 
+-- It goes to a step as a move that can be taken back, if there is such a step; else it says why there is none.
+abbrev pub GoesOrSays : Option ℕ → List ℕ → Debugger → Debugger → List ℕ → Type 0
+GoesOrSays (Some n) words old new shown = MovesTo n old new shown
+GoesOrSays None words old new shown = OnlyShows (answer_line words) old new shown
+
 -- It goes on to the next step at the place to stop at, if one is noted and such a step comes.
 abbrev pub GoesOnToStop : Option Spot → Debugger → Debugger → List ℕ → Type 0
 GoesOnToStop None old new shown = OnlyShows (answer_line (codes "no place to stop at is noted")) old new shown
@@ -49,8 +66,7 @@ GoesOnToStop (Some stop) old new shown =
 
 -- It goes back to before the last change of a part, if one was made.
 abbrev pub FindsChange : Option ℕ → Debugger → Debugger → List ℕ → Type 0
-FindsChange (Some n) old new shown = MovesTo n old new shown
-FindsChange None old new shown = OnlyShows (answer_line (codes "no step before this one changed it")) old new shown
+FindsChange to old new shown = GoesOrSays to (codes "no step before this one changed it") old new shown
 
 -- Some moves are taken back: it goes to where the walk stood before the first of them, if there was a move.
 abbrev pub TakesBack : ℕ → Option ℕ → Debugger → Debugger → List ℕ → Type 0

@@ -1,13 +1,10 @@
 //! The commands, done by a walk.
-ghost use Rattle.std.specs.Fmt.{decimal};
-ghost use Rattle.std.specs.Prelude.{◌≡◌, ◌+◌, ◌++◌, [], codes, IfNone, IfOk, IfSome, None, Ok, OnOk, Some, slice_get};
+ghost use Rattle.std.specs.Prelude.{◌≡◌, ◌+◌, ◌++◌, [], IfNone, IfOk, IfSome, None, Ok, OnOk, slice_get};
 ghost use Rattle.std.specs.String.{string_bytes};
-ghost use Rattle.teco_retrace.specs.Answering.{IsAnswerTo, AnswersCommand, AnswersCounted, AnswersPlain, GoesOnToStop, FindsChange, ShowsWhere, TakesBack, answer_line};
+ghost use Rattle.teco_retrace.specs.Answering.{IsAnswerTo, AnswersCommand, AnswersCounted, AnswersPlain, GoesOnToStop, GoesOrSays, ShowsSeen, TakesBack, answer_line};
 ghost use Rattle.teco_retrace.specs.Moving.{Arrives, HasNoStop, IsNextStop, MovesTo, SameRun};
 ghost use Rattle.teco_telling.specs.Spelling.{spelled};
-ghost use Rattle.teco_walk.specs.Finding.{last_change};
 ghost use Rattle.teco_walk.specs.Verb.{command_of, words_of};
-ghost use Rattle.teco_walk.specs.Walk.{meant};
 
 use crate::help::{show_help, verb_rows};
 use crate::listing::{show_register, show_registers, show_state, show_text};
@@ -18,7 +15,7 @@ use std::alloc::Global;
 use teco_core::NoMemory;
 use teco_store::Desk;
 use teco_telling::{Spot, spell};
-use teco_walk::{Command, Counted, Part, Plain, Walk};
+use teco_walk::{Command, Counted, Plain, Walk};
 
 /// A walk, with what the commands need beside it.
 #[derive(Drop)]
@@ -38,6 +35,25 @@ fn show_words(out: &mut String, words: &str) -> Result<(), NoMemory>
     out.push_str("\n")
 }
 
+/// Shows what was typed, in a line.
+fn show_typed(out: &mut String, typed: &[u8]) -> Result<(), NoMemory>
+    ensures { OnOk result (string_bytes out.new ≡ string_bytes out.old ++ answer_line (spelled typed.now)) }
+{
+    spell(out, typed)?;
+    out.push_str("\n")
+}
+
+/// What is shown of where a walk stands.
+#[derive(Clone, Copy)]
+pub enum View {
+    /// The step, the place and the token, in a line.
+    Step,
+    /// All that is open there, too.
+    Where,
+    /// What was typed so far.
+    Typed,
+}
+
 impl Debugger {
     pub fn new(walk: Walk, limit: u64) -> Debugger
         ensures walk { result.walk ≡ walk }
@@ -54,6 +70,18 @@ impl Debugger {
         }
     }
 
+    /// Shows where the walk stands.
+    fn show(&self, out: &mut String, view: View) -> Result<(), NoMemory>
+        ensures { OnOk result (ShowsSeen view self.now.walk (string_bytes out.old) (string_bytes out.new)) }
+    {
+        let seen = self.walk.look(self.walk.steps())?;
+        match view {
+            View::Step => show_step(out, &self.walk, &seen),
+            View::Where => show_where(out, &self.walk, &seen),
+            View::Typed => show_typed(out, seen.typed.as_slice()),
+        }
+    }
+
     /// Goes to a step, and shows where the walk then stands.
     fn arrive(&mut self, out: &mut String, n: u64) -> Result<(), NoMemory>
         requires { string_bytes out.old ≡ [] }
@@ -62,8 +90,7 @@ impl Debugger {
         ensures same { SameRun self.old self.new }
     {
         self.walk.go(n)?;
-        let seen = self.walk.look(self.walk.steps())?;
-        show_step(out, &self.walk, &seen)
+        self.show(out, View::Step)
     }
 
     /// The same, as a move that can be taken back.
@@ -74,6 +101,18 @@ impl Debugger {
     {
         self.moves.push(self.walk.steps())?;
         self.arrive(out, n)
+    }
+
+    /// The same, if there is such a step; else says why there is none.
+    fn go_or_say(&mut self, out: &mut String, to: Option<u64>, words: &str) -> Result<(), NoMemory>
+        requires { string_bytes out.old ≡ [] }
+        ensures goes { OnOk result (GoesOrSays to words.now self.old self.new (string_bytes out.new)) }
+        ensures same { SameRun self.old self.new }
+    {
+        match to {
+            Some(n) => self.go(out, n),
+            None => show_words(out, words),
+        }
     }
 
     /// Where the walk stood before a move, of those that can be taken back.
@@ -98,18 +137,6 @@ impl Debugger {
         }
     }
 
-    /// Goes back to before the last change of a part, where one was made.
-    fn find(&mut self, out: &mut String, part: Part) -> Result<(), NoMemory>
-        requires { string_bytes out.old ≡ [] }
-        ensures finds { OnOk result (FindsChange (last_change part self.old.walk.changes) self.old self.new (string_bytes out.new)) }
-        ensures same { SameRun self.old self.new }
-    {
-        match self.walk.last_change(&part) {
-            Some(steps) => self.go(out, steps),
-            None => show_words(out, "no step before this one changed it"),
-        }
-    }
-
     /// The next step at the place to stop at.
     fn next_stop(&self, stop: Spot) -> Result<Option<u64>, NoMemory>
         ensures found { IfOk result (λ found. IfSome found (IsNextStop self.now.walk stop (self.now.walk.steps + 1))) }
@@ -124,43 +151,18 @@ impl Debugger {
     }
 
     /// Goes on to the next step at the place to stop at.
-    fn go_on_to(&mut self, out: &mut String, stop: Spot) -> Result<(), NoMemory>
-        requires { string_bytes out.old ≡ [] }
-        ensures continues { OnOk result (GoesOnToStop (Some stop) self.old self.new (string_bytes out.new)) }
-        ensures same { SameRun self.old self.new }
-    {
-        match self.next_stop(stop)? {
-            Some(n) => self.go(out, n),
-            None => show_words(out, "no step at that place comes, or it is too far"),
-        }
-    }
-
     fn go_on(&mut self, out: &mut String) -> Result<(), NoMemory>
         requires { string_bytes out.old ≡ [] }
         ensures continues { OnOk result (GoesOnToStop self.old.stop self.old self.new (string_bytes out.new)) }
         ensures same { SameRun self.old self.new }
     {
         match self.stop {
-            Some(stop) => self.go_on_to(out, stop),
+            Some(stop) => {
+                let to = self.next_stop(stop)?;
+                self.go_or_say(out, to, "no step at that place comes, or it is too far")
+            }
             None => show_words(out, "no place to stop at is noted"),
         }
-    }
-
-    fn show_where(&self, out: &mut String) -> Result<(), NoMemory>
-        requires { string_bytes out.old ≡ [] }
-        ensures { OnOk result (ShowsWhere self.now self.now (string_bytes out.new)) }
-    {
-        let seen = self.walk.look(self.walk.steps())?;
-        show_where(out, &self.walk, &seen)
-    }
-
-    fn show_typed(&self, out: &mut String) -> Result<(), NoMemory>
-        ensures { OnOk result (string_bytes out.new ≡ string_bytes out.old
-            ++ answer_line (spelled (meant self.now.walk.input self.now.walk.text self.now.walk.steps).typed)) }
-    {
-        let seen = self.walk.look(self.walk.steps())?;
-        spell(out, seen.typed.as_slice())?;
-        out.push_str("\n")
     }
 
     fn answer_plain(&mut self, out: &mut String, plain: Plain) -> Result<(), NoMemory>
@@ -171,11 +173,11 @@ impl Debugger {
         match plain {
             Plain::End => self.go(out, self.limit),
             Plain::Start => self.go(out, 0),
-            Plain::Where => self.show_where(out),
+            Plain::Where => self.show(out, View::Where),
             Plain::Registers => show_registers(out, self.walk.editor().registers()),
             Plain::State => show_state(out, self.walk.editor()),
             Plain::Continue => self.go_on(out),
-            Plain::Typed => self.show_typed(out),
+            Plain::Typed => self.show(out, View::Typed),
             Plain::Help => show_help(out, verb_rows()),
             // no line is read after it
             Plain::Quit => Ok(()),
@@ -208,7 +210,10 @@ impl Debugger {
             Command::Plain(plain) => self.answer_plain(out, plain),
             Command::Counted(counted, n) => self.answer_counted(out, counted, n),
             Command::Register(q) => show_register(out, self.walk.editor().registers(), q),
-            Command::Find(part) => self.find(out, part),
+            Command::Find(part) => {
+                let to = self.walk.last_change(&part);
+                self.go_or_say(out, to, "no step before this one changed it")
+            }
             Command::Break(spot) => {
                 self.stop = Some(spot);
                 Ok(())
@@ -216,16 +221,7 @@ impl Debugger {
         }
     }
 
-    /// What is shown if memory was refused to a command.
-    fn lack(&self, alloc: Global) -> Result<String, NoMemory>
-        ensures { IfOk result (λ text. string_bytes text
-            ≡ answer_line (codes "no memory; the walk stands at step " ++ decimal self.now.walk.steps)) }
-    {
-        let steps = self.walk.steps();
-        format!(in alloc; "no memory; the walk stands at step {steps}\n")
-    }
-
-    /// What is shown of a command; if memory is refused to it, that alone.
+    /// What is shown of a command; if memory is refused to it, that alone, with the step at which the walk then stands.
     fn answer_or_lack(&mut self, alloc: Global, command: Command) -> Result<String, NoMemory>
         ensures answers { IfOk result (λ text. IsAnswerTo (Ok command) self.old self.new (string_bytes text)) }
         ensures same { SameRun self.old self.new }
@@ -233,7 +229,10 @@ impl Debugger {
         let mut out = String::new(alloc);
         match self.answer(&mut out, command) {
             Ok(()) => Ok(out),
-            Err(NoMemory) => self.lack(alloc),
+            Err(NoMemory) => {
+                let steps = self.walk.steps();
+                format!(in alloc; "no memory; the walk stands at step {steps}\n")
+            }
         }
     }
 

@@ -4,7 +4,7 @@ ghost use Rattle.std.specs.Prelude.{◌≡◌, ◌≤◌, ◌++◌, OnOk, drop, 
 ghost use Rattle.std.specs.String.{string_bytes};
 ghost use Rattle.teco_core.specs.Register.{content, register_of};
 ghost use Rattle.teco_core.specs.declared.limits.TheConstants.{FILE_LIMIT};
-ghost use Rattle.teco_retrace.specs.Listing.{case_shown, flags_shown, found_shown, held_shown, if_held_shown, is_blank_content, is_line_ended, last_search_shown, last_shown, line_if, lines_shown, lines_there_shown, register_shown, registers_shown, rest_shown, shown_in_lines, sizes_shown, state_shown, text_shown, whole_register, with_line_end};
+ghost use Rattle.teco_retrace.specs.Listing.{flags_shown, held_shown, if_held_shown, is_blank_content, is_line_ended, last_search_shown, last_shown, line_if, lines_shown, lines_there_shown, register_shown, registers_shown, rest_shown, shown_in_lines, sizes_shown, state_shown, text_shown, whole_register, with_line_end};
 ghost use Rattle.teco_store.specs.State.{state_of};
 
 use std::fmt::Write;
@@ -173,24 +173,14 @@ pub fn show_registers(out: &mut String, registers: &Registers) -> Result<(), NoM
     show_all_held(out, registers, NAMES)
 }
 
-/// Shows whether the last search found its text.
-#[tactic(auto, unfolding(crate::specs::Listing::found_shown))]
-fn show_found(out: &mut String, found: bool) -> Result<(), NoMemory>
-    ensures { OnOk result (string_bytes out.new ≡ string_bytes out.old ++ found_shown found) }
-{
-    if found {
-        return out.push_str(", found\n");
-    }
-    out.push_str(", not found\n")
-}
-
-#[tactic(auto, unfolding(crate::specs::Listing::last_shown))]
+/// Shows a search text, and whether it was found.
+#[tactic(auto, unfolding(crate::specs::Listing::last_shown, crate::specs::Listing::found_shown))]
 fn show_last(out: &mut String, text: &[u8], found: bool) -> Result<(), NoMemory>
     ensures { OnOk result (string_bytes out.new ≡ string_bytes out.old ++ last_shown text.now found) }
 {
     out.push_str("last search ")?;
     spell(out, text)?;
-    show_found(out, found)
+    out.push_str(if found { ", found\n" } else { ", not found\n" })
 }
 
 /// Shows the last search text, and whether it was found.
@@ -217,16 +207,6 @@ fn show_line_if(out: &mut String, so: bool, words: &str) -> Result<(), NoMemory>
     out.push_str("\n")
 }
 
-#[tactic(auto, unfolding(crate::specs::Listing::case_shown))]
-fn show_case(out: &mut String, mode: CaseMode) -> Result<(), NoMemory>
-    ensures { OnOk result (string_bytes out.new ≡ string_bytes out.old ++ case_shown mode) }
-{
-    match mode {
-        CaseMode::Exact => out.push_str("searches tell the cases of a letter apart\n"),
-        CaseMode::Either => Ok(()),
-    }
-}
-
 /// How many bytes two parts have together.
 fn length_of(parts: (&[u8], &[u8])) -> usize
     requires { length (parts.0.now ++ parts.1.now) ≤ FILE_LIMIT }
@@ -244,12 +224,10 @@ fn show_sizes(out: &mut String, editor: &Editor) -> Result<(), NoMemory>
     let place = editor.place();
     let output = length_of(editor.output());
     let pushed = editor.pushed().len();
-    writeln!(out, "pointer {pointer} of {len}")?;
     writeln!(
         out,
-        "input {place} bytes read, output {output} bytes written"
-    )?;
-    writeln!(out, "pushed {pushed}")
+        "pointer {pointer} of {len}\ninput {place} bytes read, output {output} bytes written\npushed {pushed}"
+    )
 }
 
 /// Shows how the page ended, how a search takes letters, and whether the session is done.
@@ -257,7 +235,8 @@ fn show_flags(out: &mut String, editor: &Editor) -> Result<(), NoMemory>
     ensures { OnOk result (string_bytes out.new ≡ string_bytes out.old ++ flags_shown (state_of editor.now)) }
 {
     show_line_if(out, editor.flag(), "a form feed ended the page")?;
-    show_case(out, editor.case_mode())?;
+    let exact = matches!(editor.case_mode(), CaseMode::Exact);
+    show_line_if(out, exact, "searches tell the cases of a letter apart")?;
     show_line_if(out, editor.done(), "the session is done")
 }
 

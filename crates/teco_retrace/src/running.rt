@@ -6,8 +6,8 @@ ghost use Rattle.teco_program.specs.Run.{KeepsDisk};
 ghost use Rattle.teco_program.specs.Runs.{host};
 ghost use Rattle.teco_program.specs.Seen.{disk_seen, source_view};
 ghost use Rattle.teco_retrace.specs.CommandLine.{WordsGivenSay, WordsGivenSayNone};
-ghost use Rattle.teco_retrace.specs.Program.{RetracesBy, RetracesLine, retrace_view};
-ghost use Rattle.teco_retrace.specs.Reading.{BeginsOver, IsInputOf, IsTextOf, CannotRead};
+ghost use Rattle.teco_retrace.specs.Program.{HasNoFiles, RetracesBy, ServesFiles, retrace_view};
+ghost use Rattle.teco_retrace.specs.Reading.{IsInputOf, IsTextOf, CannotRead};
 
 use crate::debugger::Debugger;
 use crate::ending::{Ending, NO_MEMORY, conclude};
@@ -65,38 +65,28 @@ fn input_of<D: Disk>(alloc: Global, line: &Line, disk: &mut D) -> Result<Vec<u8>
     }
 }
 
-/// The debugger that the line asks for.
-fn debugger_of<D: Disk>(alloc: Global, line: &Line, disk: &mut D) -> Result<Debugger, Ending>
-    ensures begins { IfOk result (BeginsOver (D.files disk.old) line.now) }
-    ensures lacks { let seen = disk_seen D.files D.streams D.left D.gave D.changed
-        (source_view D.Input.coming D.Input.bound D.Input.failures D.Input.ended) in
-        IfErr result (CannotRead (D.files disk.old) (seen disk.new) line.now) }
-    ensures keeps { let seen = disk_seen D.files D.streams D.left D.gave D.changed
-        (source_view D.Input.coming D.Input.bound D.Input.failures D.Input.ended) in
-        KeepsDisk (seen disk.old) (seen disk.new) }
-{
-    let text = text_of(alloc, line, disk)?;
-    let input = input_of(alloc, line, disk)?;
-    let walk = Walk::new(input, text)?;
-    Ok(Debugger::new(walk, line.limit))
-}
-
-/// Serves the commands over what the line asks for.
+/// Serves the commands over what the line asks for; says how that ends, or why there is nothing to serve them over.
 fn retrace<C: BufRead, T: Terminal, D: Disk>(
     alloc: Global,
     line: &Line,
     commands: &mut C,
     term: &mut T,
     disk: &mut D,
-) -> Ending
-    ensures { let view = retrace_view (disk_seen D.files D.streams D.left D.gave D.changed
+) -> Result<Ending, Ending>
+    ensures serves { let view = retrace_view (disk_seen D.files D.streams D.left D.gave D.changed
         (source_view D.Input.coming D.Input.bound D.Input.failures D.Input.ended)) C.remaining T.screen in
-        RetracesLine view line.now (host disk.old commands.old term.old) (host disk.new commands.new term.new) result }
+        IfOk result (ServesFiles view line.now (host disk.old commands.old term.old) (host disk.new commands.new term.new)) }
+    ensures lacks { let view = retrace_view (disk_seen D.files D.streams D.left D.gave D.changed
+        (source_view D.Input.coming D.Input.bound D.Input.failures D.Input.ended)) C.remaining T.screen in
+        IfErr result (HasNoFiles view line.now (host disk.old commands.old term.old) (host disk.new commands.new term.new)) }
+    ensures keeps { let seen = disk_seen D.files D.streams D.left D.gave D.changed
+        (source_view D.Input.coming D.Input.bound D.Input.failures D.Input.ended) in
+        KeepsDisk (seen disk.old) (seen disk.new) }
 {
-    match debugger_of(alloc, line, disk) {
-        Ok(mut debugger) => serve(alloc, &mut debugger, commands, term),
-        Err(ending) => ending,
-    }
+    let text = text_of(alloc, line, disk)?;
+    let input = input_of(alloc, line, disk)?;
+    let mut debugger = Debugger::new(Walk::new(input, text)?, line.limit);
+    Ok(serve(alloc, &mut debugger, commands, term))
 }
 
 fn line_by(alloc: Global, words: Result<Vec<String>, LineFault>) -> Result<Line, LineFault>
@@ -125,7 +115,10 @@ pub fn program<C: BufRead, T: Terminal, E: Terminal, D: Disk>(
 {
     match line_by(alloc, words) {
         Ok(line) => {
-            let ending = retrace(alloc, &line, commands, term, disk);
+            let ending = match retrace(alloc, &line, commands, term, disk) {
+                Ok(ending) => ending,
+                Err(ending) => ending,
+            };
             ExitCode::from(conclude(alloc, &line, ending, errors))
         }
         Err(fault) => ExitCode::from(refuse(&fault, NO_MEMORY, term, errors)),

@@ -1,7 +1,7 @@
 //! Where a walk stands, shown.
 ghost use Rattle.std.specs.Prelude.{◌≡◌, ◌++◌, ◌≤◌, ◌<◌, IfOk, OnOk, Some, length, option_copied, replicate, slice_get};
 ghost use Rattle.std.specs.String.{string_bytes};
-ghost use Rattle.teco_retrace.specs.Showing.{call_line, call_lines, code_there, each_turn_shown, here_shown, innermost, line_shown, line_there, lines_there, mark_shown, marked_line, place_there, step_shown, turn_shown, turns_of_call, turns_shown, where_shown};
+ghost use Rattle.teco_retrace.specs.Showing.{call_line, call_lines, code_there, each_turn_shown, here_shown, innermost, line_shown, line_there, lines_there, mark_shown, place_there, step_shown, turn_shown, turns_of_call, turns_shown, where_shown};
 ghost use Rattle.teco_telling.specs.Spelling.{spelled};
 
 use std::alloc::Global;
@@ -24,15 +24,6 @@ fn innermost<'a>(walk: &'a Walk, place: &Place) -> &'a [u8]
     text_under(place, 0, walk.editor().registers(), walk.text())
 }
 
-fn show_token(out: &mut String, walk: &Walk, place: &Place) -> Result<(), NoMemory>
-    ensures { OnOk result (string_bytes out.new
-        ≡ string_bytes out.old ++ place_there walk.now (Some place.now)) }
-{
-    show_place(out, place, walk.editor().registers(), walk.text())?;
-    out.push_str(", ")?;
-    spell(out, token(innermost(walk, place), place.at, MOST_FAULTY))
-}
-
 /// Shows where the walk stands, and the token there.
 fn show_standing(out: &mut String, walk: &Walk, place: Option<&Place>) -> Result<(), NoMemory>
     ensures { OnOk result (string_bytes out.new
@@ -40,7 +31,11 @@ fn show_standing(out: &mut String, walk: &Walk, place: Option<&Place>) -> Result
 {
     match place {
         None => out.push_str("the end"),
-        Some(place) => show_token(out, walk, place),
+        Some(place) => {
+            show_place(out, place, walk.editor().registers(), walk.text())?;
+            out.push_str(", ")?;
+            spell(out, token(innermost(walk, place), place.at, MOST_FAULTY))
+        }
     }
 }
 
@@ -66,7 +61,7 @@ pub fn show_step(out: &mut String, walk: &Walk, seen: &Seen) -> Result<(), NoMem
 }
 
 /// Shows an ASCII character so many times.
-fn push_many(out: &mut String, byte: u8, n: usize) -> Result<(), NoMemory>
+pub fn push_many(out: &mut String, byte: u8, n: usize) -> Result<(), NoMemory>
     requires { byte < 128 }
     ensures { OnOk result (string_bytes out.new ≡ string_bytes out.old ++ replicate n byte) }
 {
@@ -113,24 +108,16 @@ fn show_mark(out: &mut String, text: &[u8], at: usize) -> Result<(), NoMemory>
     push_many(out, b'^', width(alloc, &text[at..at + inside])?.max(1))
 }
 
-/// Shows the line of a token, and marks below it as much of the token as is in the line.
-fn show_marked(out: &mut String, text: &[u8], at: usize) -> Result<(), NoMemory>
-    requires { at ≤ length text.now }
-    ensures { OnOk result (string_bytes out.new ≡ string_bytes out.old ++ marked_line text.now at) }
-{
-    show_whole_line(out, text, at)?;
-    show_mark(out, text, at)?;
-    out.push_str("\n")
-}
-
-/// Shows the line of a place, if the text has it.
+/// Shows the line of a place, if the text has it, and marks below it as much of the token there as is in the line.
 fn show_line(out: &mut String, text: &[u8], at: usize) -> Result<(), NoMemory>
     ensures { OnOk result (string_bytes out.new ≡ string_bytes out.old ++ line_there text.now at) }
 {
     if at > text.len() {
         return Ok(());
     }
-    show_marked(out, text, at)
+    show_whole_line(out, text, at)?;
+    show_mark(out, text, at)?;
+    out.push_str("\n")
 }
 
 fn show_turn(out: &mut String, turn: Option<u32>) -> Result<(), NoMemory>

@@ -118,14 +118,20 @@ spot_in bytes =
     then spot_from (number_in (take (colon_in bytes) bytes)) (number_in (drop (colon_in bytes + 1) bytes))
     else Err NoPlace
 
+abbrev pub find : Part → Command
+find part = command.Find part
+
+abbrev pub break_at : Spot → Command
+break_at spot = command.Break spot
+
 -- the command that takes this, with these bytes after its word
 abbrev pub command_in : Takes → List ℕ → Result Command Fault
 command_in (Nothing plain) bytes = alone (command.Plain plain) bytes
 command_in (Number counted) bytes = given (command.Counted counted) (number_in bytes)
 command_in (NumberOr counted otherwise) bytes = given (command.Counted counted) (number_or otherwise bytes)
 command_in Register bytes = given command.Register (register_in bytes)
-command_in ThePart bytes = given command.Find (part_in bytes)
-command_in TheSpot bytes = given command.Break (spot_in bytes)
+command_in ThePart bytes = given find (part_in bytes)
+command_in TheSpot bytes = given break_at (spot_in bytes)
 
 abbrev pub command_by : Option Takes → List ℕ → Result Command Fault
 command_by (Some takes) bytes = command_in takes bytes

@@ -1,7 +1,7 @@
 //! The commands, a line each.
 ghost use Rattle.std.specs.List.{prefix_len, suffix_len};
 ghost use Rattle.std.specs.Prelude.{◌≡◌, ℕ, ◌≤◌, length, not, Result, Some};
-ghost use Rattle.teco_walk.specs.Verb.{alone, colon_in, command_in, command_of, is_blank, number_or, part_in, register_in, spot_in, without_blanks_after, without_blanks_before, words_of};
+ghost use Rattle.teco_walk.specs.Verb.{break_at, colon_in, command_in, command_of, find, given, is_blank, part_in, register_in, spot_in, without_blanks_after, without_blanks_before, words_of};
 
 use crate::finding::Part;
 use crate::number::number_in;
@@ -90,26 +90,6 @@ fn word_end(bytes: &[u8]) -> usize
     end
 }
 
-/// The number that the bytes say, or else the one that stands for no bytes.
-fn number_or(otherwise: u64, bytes: &[u8]) -> Result<u64, Fault>
-    ensures { result ≡ number_or otherwise bytes.now }
-{
-    if bytes.is_empty() {
-        return Ok(otherwise);
-    }
-    number_in(bytes)
-}
-
-/// A command that wants nothing after its word.
-fn alone(command: Command, bytes: &[u8]) -> Result<Command, Fault>
-    ensures { result ≡ alone command bytes.now }
-{
-    if bytes.is_empty() {
-        return Ok(command);
-    }
-    Err(Fault::TooMuch)
-}
-
 fn register_in(bytes: &[u8]) -> Result<Reg, Fault>
     ensures { result ≡ register_in bytes.now }
 {
@@ -122,13 +102,14 @@ fn register_in(bytes: &[u8]) -> Result<Reg, Fault>
     }
 }
 
-fn part_in(bytes: &[u8]) -> Result<Part, Fault>
-    ensures { result ≡ part_in bytes.now }
+/// The command that finds the part.
+fn find_in(bytes: &[u8]) -> Result<Command, Fault>
+    ensures { result ≡ given find (part_in bytes.now) }
 {
     if bytes == b"text".as_slice() {
-        return Ok(Part::Buffer);
+        return Ok(Command::Find(Part::Buffer));
     }
-    Ok(Part::Register(register_in(bytes)?))
+    Ok(Command::Find(Part::Register(register_in(bytes)?)))
 }
 
 /// Where the first colon is; the length where there is none.
@@ -143,15 +124,16 @@ fn colon(bytes: &[u8]) -> usize
     at
 }
 
-fn spot_in(bytes: &[u8]) -> Result<Spot, Fault>
-    ensures { result ≡ spot_in bytes.now }
+/// The command that notes the place.
+fn break_in(bytes: &[u8]) -> Result<Command, Fault>
+    ensures { result ≡ given break_at (spot_in bytes.now) }
 {
     let at = colon(bytes);
     if at == bytes.len() {
         return Err(Fault::NoPlace);
     }
     match (number_in(&bytes[..at]), number_in(&bytes[at + 1..])) {
-        (Ok(line), Ok(column)) => Ok(Spot { line, column }),
+        (Ok(line), Ok(column)) => Ok(Command::Break(Spot { line, column })),
         _ => Err(Fault::NoPlace),
     }
 }
@@ -161,14 +143,17 @@ fn command_in(takes: Takes, bytes: &[u8]) -> Result<Command, Fault>
     ensures { result ≡ command_in takes bytes.now }
 {
     match takes {
-        Takes::Nothing(plain) => alone(Command::Plain(plain), bytes),
-        Takes::Number(counted) => Ok(Command::Counted(counted, number_in(bytes)?)),
-        Takes::NumberOr(counted, otherwise) => {
-            Ok(Command::Counted(counted, number_or(otherwise, bytes)?))
+        Takes::Nothing(plain) if bytes.is_empty() => Ok(Command::Plain(plain)),
+        Takes::Nothing(_) => Err(Fault::TooMuch),
+        Takes::NumberOr(counted, otherwise) if bytes.is_empty() => {
+            Ok(Command::Counted(counted, otherwise))
+        }
+        Takes::Number(counted) | Takes::NumberOr(counted, _) => {
+            Ok(Command::Counted(counted, number_in(bytes)?))
         }
         Takes::Register => Ok(Command::Register(register_in(bytes)?)),
-        Takes::Part => Ok(Command::Find(part_in(bytes)?)),
-        Takes::Spot => Ok(Command::Break(spot_in(bytes)?)),
+        Takes::Part => find_in(bytes),
+        Takes::Spot => break_in(bytes),
     }
 }
 

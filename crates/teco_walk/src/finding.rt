@@ -1,6 +1,6 @@
 //! Who changed a part of the state last.
 ghost use Rattle.std.specs.Prelude.{◌≡◌};
-ghost use Rattle.teco_walk.specs.Finding.{is_for, last_change, step_before};
+ghost use Rattle.teco_walk.specs.Finding.{is_for, last_change};
 
 use teco_core::Reg;
 use teco_store::{Change, ChangeKind};
@@ -26,17 +26,6 @@ fn is_for(part: &Part, kind: ChangeKind) -> bool
     }
 }
 
-/// The steps that were done before a change, if it is for the part.
-fn step_before(part: &Part, change: &Change) -> Option<u64>
-    ensures { result ≡ step_before part.now change.now }
-{
-    if is_for(part, change.kind()) {
-        Some(change.step())
-    } else {
-        None
-    }
-}
-
 /// The steps that were done before the last of the changes that is for the part, where one is.
 pub fn last_change(part: &Part, changes: &[Change]) -> Option<u64>
     ensures { result ≡ last_change part.now changes.now }
@@ -44,8 +33,9 @@ pub fn last_change(part: &Part, changes: &[Change]) -> Option<u64>
     let mut left = changes.len();
     while left > 0 {
         left -= 1;
-        if let Some(step) = step_before(part, &changes[left]) {
-            return Some(step);
+        let change = &changes[left];
+        if is_for(part, change.kind()) {
+            return Some(change.step());
         }
     }
     None

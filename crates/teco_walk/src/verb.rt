@@ -1,6 +1,6 @@
 //! The table of commands.
 ghost use Rattle.std.specs.Prelude.{◌≡◌, map};
-ghost use Rattle.teco_walk.specs.Verb.{is_spelled, taken, verb_by, verbs};
+ghost use Rattle.teco_walk.specs.Verb.{taken, verb_by, verbs};
 
 /// A command that takes nothing.
 #[derive(Clone, Copy)]
@@ -184,20 +184,12 @@ pub const VERBS: [VerbRow; 17] = [
     },
 ];
 
-impl VerbRow {
-    fn is_spelled(&self, bytes: &[u8]) -> bool
-        ensures { result ≡ is_spelled bytes.now (verb_by self.now) }
-    {
-        bytes == self.word.as_bytes() || bytes == self.letter.as_bytes()
-    }
-}
-
 /// What the first of these rows takes whose word or letter the bytes are.
 fn taken_by(rows: &[VerbRow], bytes: &[u8]) -> Option<Takes>
     ensures { result ≡ taken (map verb_by rows.now) bytes.now }
 {
     for row in rows {
-        if row.is_spelled(bytes) {
+        if bytes == row.word.as_bytes() || bytes == row.letter.as_bytes() {
             return Some(row.takes);
         }
     }

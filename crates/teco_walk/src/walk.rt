@@ -139,20 +139,11 @@ impl Walk {
         ensures never_too_far { self.new.steps ≤ n }
     {
         if n <= self.steps {
-            self.go_back(n);
+            let _ = self.session.rewind(n);
+            self.steps = n;
             return Ok(());
         }
         self.go_on(n)
-    }
-
-    /// Goes back to a step that is done.
-    fn go_back(&mut self, n: u64)
-        requires { n ≤ self.old.steps }
-        ensures string { SameString self.old self.new }
-        ensures steps { self.new.steps ≡ n }
-    {
-        let _ = self.session.rewind(n);
-        self.steps = n;
     }
 
     /// Runs the string anew for at most `n` steps.

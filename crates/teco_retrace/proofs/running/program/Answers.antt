@@ -1,11 +1,15 @@
-use Rattle.std.proofs.Common.{inr}
+use Rattle.std.proofs.Common.{inl, inr}
 use Rattle.teco_retrace.proofs.running.program.Goals as goal
+use Rattle.teco_retrace.proofs.running.program.Goals.{in-Ok-retrace, in-Err-retrace}
 
-pub returns-in-Ok : goal.returns-in-Ok
-returns-in-Ok g c = inr (record {
+pub returns-after-retrace : goal.returns-after-retrace
+returns-after-retrace g c = inr (record {
   line = c.in-Ok.line;
   line_is = c.in-Ok.ensures.line;
-  ending = c.retrace-ending.result;
-  run = c.retrace-ending.ensures;
+  ending = c.match-retrace.ending;
+  run = elim c.match-retrace.branch [
+    | in-Ok-retrace w ↦ record { keeps = c.retrace.ensures.keeps; ends = inr (rw w.ending-is w.in-Ok-retrace.ensures.serves) }
+    | in-Err-retrace w ↦ record { keeps = c.retrace.ensures.keeps; ends = inl (rw w.ending-is w.in-Err-retrace.ensures.lacks) }
+  ];
   end = rw c.from.ensures c.conclude.ensures;
 })
