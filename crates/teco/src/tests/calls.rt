@@ -1,8 +1,9 @@
 //! How each crate is called: the examples of the crates' pages. A call that was refused memory is made a second time.
-use crate::tests::bytes::{are_both, joined};
+use crate::tests::bytes::{are, are_both, is, joined, wide_screen};
+use crate::tests::program::words_of;
 use std::alloc::Global;
 use std::test::*;
-use teco_core::{Args, CaseMode, Code, NoMemory, Op, Taken};
+use teco_core::{Args, CaseMode, Op, Taken};
 use teco_exec::run;
 use teco_files::{MemorySource, read_input};
 use teco_gap::GapBuffer;
@@ -25,18 +26,22 @@ fn a_sum_is_taken() -> bool {
 }
 
 /// teco_gap: two bytes take the place of one.
-fn a_text_is_edited(alloc: Global) -> Result<bool, NoMemory> {
+fn a_text_is_edited(alloc: Global) -> bool {
     let mut text = GapBuffer::new();
-    text.reserve(alloc, 8)?;
+    if text.reserve(alloc, 8).is_err() {
+        return false;
+    }
     text.splice(0, 0, b"hello");
     text.splice(2, 1, b"XY");
-    Ok(are_both(text.halves(), b"heXYlo"))
+    are_both(text.halves(), b"heXYlo")
 }
 
 /// teco_search: the second occurrence backward, across the place where the halves meet.
-fn an_occurrence_is_found(alloc: Global) -> Result<bool, Code> {
-    let pattern = Pattern::read(alloc, b"aXb", CaseMode::Exact)?;
-    Ok(find(&pattern, (b"aX", b"baXb"), 6, -2) == Some((0, 3)))
+fn an_occurrence_is_found(alloc: Global) -> bool {
+    match Pattern::read(alloc, b"aXb", CaseMode::Exact) {
+        Ok(pattern) => find(&pattern, (b"aX", b"baXb"), 6, -2) == Some((0, 3)),
+        Err(_) => false,
+    }
 }
 
 /// teco_scan: a token ends where its text ends, and a block without its end is a fault.
@@ -59,7 +64,7 @@ fn an_edit_is_made(alloc: Global) -> bool {
 /// teco_terminal: a terminal in memory shows what is put on it.
 fn a_put_is_shown(alloc: Global) -> bool {
     let mut terminal = MemoryTerminal::new(alloc);
-    terminal.put(b"2\r\n").is_ok() && terminal.bytes() == b"2\r\n".as_slice()
+    terminal.put(b"2\r\n").is_ok() && are(terminal.bytes(), b"2\r\n")
 }
 
 /// teco_step: the next line begins after the line end that comes, across the place where the halves meet.
@@ -72,26 +77,21 @@ fn a_string_is_run(alloc: Global) -> bool {
     let mut editor = Editor::new(Vec::new(alloc));
     let mut terminal = MemoryTerminal::new(alloc);
     let outcome = run(&mut editor, b"3<%A>QA=\x1b", 100, &mut terminal);
-    outcome.code.is_none() && outcome.steps == 10 && terminal.bytes() == b"3\r\n".as_slice()
+    outcome.code.is_none() && outcome.steps == 10 && are(terminal.bytes(), b"3\r\n")
 }
 
 /// teco_session: an undo gives back the state before the last string.
 fn a_string_is_undone(alloc: Global) -> bool {
     let mut session = Session::new(Vec::new(alloc));
-    let mut terminal = MemoryTerminal::new(alloc);
-    let _answer = session.run(b"Ihello\x1b", 100, &mut terminal);
+    let _answer = session.run(b"Ihello\x1b", 100, &mut wide_screen(alloc));
     session.undo().is_ok() && session.editor().pointer() == 0 && session.redo().is_ok()
 }
 
 /// teco_line: the words of a line.
-fn a_line_is_read(alloc: Global) -> Result<bool, NoMemory> {
-    let mut words = Vec::new(alloc);
-    for word in &["teco", "-i", "in"] {
-        words.push(String::from_str(alloc, word)?)?;
-    }
-    match line_of(alloc, words.as_slice()) {
-        Ok(line) => Ok(line.in_place && line.input.as_str() == "in"),
-        Err(_) => Ok(false),
+fn a_line_is_read(alloc: Global) -> bool {
+    match line_of(alloc, words_of(alloc, "teco -i in").as_slice()) {
+        Ok(line) => line.in_place && is(&line.input, "in"),
+        Err(_) => false,
     }
 }
 
@@ -99,35 +99,36 @@ fn a_line_is_read(alloc: Global) -> Result<bool, NoMemory> {
 fn a_source_is_read(alloc: Global) -> bool {
     let mut source = MemorySource::new(joined(alloc, &[b"one"]), Vec::new(alloc), false);
     match read_input(alloc, &mut source, 3) {
-        Ok(input) => input.as_slice() == b"one".as_slice(),
+        Ok(input) => are(&input, b"one"),
         Err(_) => false,
     }
 }
 
 /// teco_program: a stream is cut at its pairs of ESC.
-fn a_stream_is_cut(alloc: Global) -> Result<bool, NoMemory> {
+fn a_stream_is_cut(alloc: Global) -> bool {
     let mut splitter = Splitter::new(alloc);
-    splitter.feed(b"1=\x1b\x1b2{\x1b\x1b")?;
-    let first = splitter.next()?;
-    let second = splitter.next()?;
-    Ok(matches!(first, Some(Asked::Run(_))) && matches!(second, Some(Asked::Undo(2))))
+    splitter.feed(b"1=\x1b\x1b2{\x1b\x1b").is_ok()
+        && matches!(splitter.next(), Ok(Some(Asked::Run(_))))
+        && matches!(splitter.next(), Ok(Some(Asked::Undo(2))))
 }
 
-/// Whether each example holds that asks for memory.
+/// Whether each example holds.
 fn all_hold(alloc: Global) -> bool {
-    a_text_is_edited(alloc).unwrap_or(false)
-        && an_occurrence_is_found(alloc).unwrap_or(false)
+    a_sum_is_taken()
+        && a_text_is_edited(alloc)
+        && an_occurrence_is_found(alloc)
+        && a_token_is_read()
         && an_edit_is_made(alloc)
         && a_put_is_shown(alloc)
+        && a_line_is_placed()
         && a_string_is_run(alloc)
         && a_string_is_undone(alloc)
-        && a_line_is_read(alloc).unwrap_or(false)
+        && a_line_is_read(alloc)
         && a_source_is_read(alloc)
-        && a_stream_is_cut(alloc).unwrap_or(false)
+        && a_stream_is_cut(alloc)
 }
 
 #[test]
 fn crates_are_called_so(rt: HostRuntime) {
-    assert!(rt; a_sum_is_taken() && a_token_is_read() && a_line_is_placed());
     assert!(rt; all_hold(rt.alloc()) || all_hold(rt.alloc()));
 }

@@ -1,5 +1,5 @@
 //! Of teco_program: its parts, and runs of the whole program over files in memory.
-use super::bytes::{are_there, is, is_typed, joined, screen_of, wide_screen};
+use super::bytes::{Screen, are_there, first_of, is, is_typed, joined, screen_of, wide_screen};
 use super::keep::runs;
 use super::line_commands::{checked, explained, shown, sources};
 use super::rows::{Cells, Rule, all_hold, cells_of, halves_at, number_or};
@@ -76,9 +76,36 @@ impl Clock for Ticking {
     }
 }
 
+/// What a run of `teco` or `tecol` types on a terminal, tells and notes.
+#[derive(Drop)]
+struct Shown {
+    typed: Screen,
+    told: Screen,
+    noted: Screen,
+}
+
+/// The status of a run, of `tecol` if that is said.
+fn status_of(
+    alloc: Global,
+    words: Result<Vec<String>, LineFault>,
+    source: &mut MemorySource,
+    shown: &mut Shown,
+    disk: &mut MemoryDisk,
+    of_tecol: bool,
+) -> ExitCode {
+    let (to, errors) = (&mut shown.typed, &mut shown.told);
+    if of_tecol {
+        return teco_keep::program(alloc, words, 7, source, to, errors, disk);
+    }
+    let clock = Ticking::new();
+    let alarm = &mut ClockAlarm::new(&clock);
+    let notes = &mut shown.noted;
+    program(alloc, words, 7, source, alarm, to, errors, notes, disk)
+}
+
 /// Whether a run of `teco` or `tecol` ends so, and types, tells and notes what its row says.
 fn runs_on(alloc: Global, disk: &mut MemoryDisk, cells: &Cells) -> bool {
-    let words = if is(cells[8], "words") {
+    let words = if is(cells[8], "no words") {
         Err(LineFault::NoMemory)
     } else {
         Ok(words_of(alloc, cells[0]))
@@ -86,44 +113,31 @@ fn runs_on(alloc: Global, disk: &mut MemoryDisk, cells: &Cells) -> bool {
     let commands = commands_of(cells[1]);
     let bytes = joined(alloc, &[commands.as_bytes()]);
     let mut source = MemorySource::new(bytes, Vec::new(alloc), false);
-    let mut term = screen_of(alloc, if is(cells[8], "shown") { 0 } else { 10_000 });
-    let mut errors = wide_screen(alloc);
-    let mut notes = wide_screen(alloc);
-    let (from, to) = (&mut source, &mut term);
-    let status = if cells[0].starts_with("tecol") {
-        teco_keep::program(alloc, words, 7, from, to, &mut errors, disk)
-    } else {
-        let clock = Ticking::new();
-        let alarm = &mut ClockAlarm::new(&clock);
-        program(
-            alloc,
-            words,
-            7,
-            from,
-            alarm,
-            to,
-            &mut errors,
-            &mut notes,
-            disk,
-        )
+    let mut shown = Shown {
+        typed: screen_of(alloc, if is(cells[8], "no room") { 0 } else { 10_000 }),
+        told: wide_screen(alloc),
+        noted: wide_screen(alloc),
     };
+    let of_tecol = cells[0].starts_with("tecol");
+    let status = status_of(alloc, words, &mut source, &mut shown, disk, of_tecol);
     status == ExitCode::from(number_or(cells[5], 0).min(255) as u8)
-        && is_typed(&term, cells[2])
-        && is_typed(&errors, cells[3])
-        && is_typed(&notes, cells[4])
+        && is_typed(&shown.typed, cells[2])
+        && is_typed(&shown.told, cells[3])
+        && is_typed(&shown.noted, cells[4])
         && is_unread(&mut source, commands)
 }
 
-/// The call that is refused, by the beginning of its name.
-fn refused_of(call: &str) -> Refused {
-    match call.as_bytes() {
-        [b'r', b'e', b'a', ..] => Refused::Read,
-        [b'r', b'e', b'n', ..] => Refused::Rename,
-        [b'r', b'e', b'm', ..] => Refused::RenameAndRemove,
-        [b'm', ..] => Refused::Make,
-        [b'w', b'r', ..] => Refused::Write,
-        [b's', b'y', ..] => Refused::Sync,
-        [b'c', ..] => Refused::Changed,
+/// The call that is refused, by the first letter of what a row says: that which reads, makes, writes or keeps, puts a draft in its place, or
+/// that and the removal of the draft; or that a file has changed.
+fn refused_of(said: &str) -> Refused {
+    match first_of(said) {
+        b'r' => Refused::Read,
+        b'm' => Refused::Make,
+        b'w' => Refused::Write,
+        b's' => Refused::Sync,
+        b'p' => Refused::Rename,
+        b'b' => Refused::RenameAndRemove,
+        b'c' => Refused::Changed,
         _ => Refused::Nothing,
     }
 }
@@ -210,8 +224,8 @@ const ROWS: &str = "
     - teco in => Y\x1b\x1bZ=\x1b\x1bEX\x1b\x1b => 3\r\n => teco: cannot write in.out\n => => 1 => in == hi\n => => make
     - teco in => Y\x1b\x1bZ=\x1b\x1bEX\x1b\x1b => 3\r\n => teco: cannot write in.out\n => => 1 => in == hi\n => => write
     - teco in => Y\x1b\x1bZ=\x1b\x1bEX\x1b\x1b => 3\r\n => teco: cannot write in.out\n => => 1 => in == hi\n => => sync
-    - teco in => Y\x1b\x1bZ=\x1b\x1bEX\x1b\x1b => 3\r\n => teco: cannot write in.out\n => => 1 => in == hi\n ++ in.out == old => => rename
-    - teco in => Y\x1b\x1bZ=\x1b\x1bEX\x1b\x1b => 3\r\n => teco: cannot write in.out\n => => 1 => in == hi\n ++ in.out == old => in == hi\n ++ in.out == old ++ .teco-7 == hi\n => remove too
+    - teco in => Y\x1b\x1bZ=\x1b\x1bEX\x1b\x1b => 3\r\n => teco: cannot write in.out\n => => 1 => in == hi\n ++ in.out == old => => place
+    - teco in => Y\x1b\x1bZ=\x1b\x1bEX\x1b\x1b => 3\r\n => teco: cannot write in.out\n => => 1 => in == hi\n ++ in.out == old => in == hi\n ++ in.out == old ++ .teco-7 == hi\n => both place and remove
     - // A faulty line.
     - teco --version => Y\x1b\x1bZ=\x1b\x1bEX\x1b\x1b => teco 0.2.0\n => => => => in == hi\n";
 

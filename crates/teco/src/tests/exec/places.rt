@@ -4,20 +4,11 @@ use super::strings::is_code;
 use super::{breaks, faults};
 use crate::tests::bytes::{Screen, is, is_typed};
 use crate::tests::rows::{Cells, Rule, all_hold, cells_of, number_or};
-use crate::tests::session::requests::{Over, Trial, holds_once};
+use crate::tests::session::requests::{Over, Trial, broken_off, holds_once};
 use std::alloc::Global;
 use std::test::*;
 use teco_exec::{Never, Stop};
 use teco_session::{Answer, Answered, Session};
-
-/// How a run is tried: as it is, with its place; or broken off after its steps, by its answers, or after its steps with its place.
-#[derive(Clone, Copy)]
-enum Way {
-    Where,
-    Steps,
-    Answers,
-    Until,
-}
 
 const ROWS: &str = "
     // A token after fillers, and the end.
@@ -99,37 +90,24 @@ fn is_told(alloc: Global, answered: &Answered, told: &str) -> bool {
     }
 }
 
-/// A row, whose text is run in a way.
+/// A row, whose text is run; what it is asked, if it may be broken off; and whether it tells its place then.
 #[derive(Clone, Copy)]
-struct By<'a>(Cells<'a>, Way);
+struct By<'a>(Cells<'a>, Option<Asking>, bool);
 
 impl Trial for By<'_> {
     fn holds(&self, alloc: Global, session: &mut Session, term: &mut Screen) -> bool {
-        let By(cells, way) = self;
+        let By(cells, asking, tells) = self;
         let (text, limit) = (cells[0].as_bytes(), number_or(cells[1], 1000));
-        let after = number_or(cells[5], 0);
-        let mut asking = match way {
-            Way::Answers => Asking::Answers(after),
-            _ => Asking::Steps(after),
-        };
-        let (answered, told) = match way {
-            Way::Where => (session.run_where(text, limit, term), cells[4]),
-            Way::Until => (
-                session.run_where_until(text, limit, &mut asking, term),
-                cells[4],
-            ),
-            Way::Steps | Way::Answers => {
-                let answer = session.run_until(text, limit, &mut asking, term);
-                let place = Ok(None);
-                (Answered { answer, place }, "")
-            }
+        let answered = match asking {
+            None => session.run_where(text, limit, term),
+            Some(asking) => broken_off(session, text, limit, *asking, *tells, term),
         };
         match answered.answer {
             Answer::Ended(outcome) => {
                 is_code(outcome.code, cells[2])
                     && number_or(cells[3], u64::MAX) == outcome.steps
-                    && (cells[5].is_empty() || is_typed(term, cells[6]))
-                    && is_told(alloc, &answered, told)
+                    && (asking.is_none() || is_typed(term, cells[6]))
+                    && is_told(alloc, &answered, if *tells { cells[4] } else { "" })
             }
             _ => false,
         }
@@ -152,12 +130,16 @@ struct Stands;
 impl Rule for Stands {
     fn holds(&self, alloc: Global, row: &str) -> bool {
         let cells = cells_of(row);
+        let after = number_or(cells[5], 0);
         if cells[5].is_empty() {
-            return holds_once(alloc, &NO_STRING, &By(cells, Way::Where));
+            return holds_once(alloc, &NO_STRING, &By(cells, None, true));
         }
-        holds_once(alloc, &NO_STRING, &By(cells, Way::Steps))
-            && holds_once(alloc, &NO_STRING, &By(cells, Way::Answers))
-            && holds_once(alloc, &NO_STRING, &By(cells, Way::Until))
+        let (steps, answers) = (Asking::Steps(after), Asking::Answers(after));
+        let mut held = true;
+        for (asking, tells) in [(steps, false), (answers, false), (steps, true)] {
+            held = holds_once(alloc, &NO_STRING, &By(cells, Some(asking), tells)) && held;
+        }
+        held
     }
 }
 

@@ -28,7 +28,7 @@ pub(crate) const ROWS: &str = "
     - tecol -o out in => => => tecol: cannot write out\n => => 1 => in == Y<\n\tFSa$b$;>EX$$\n ++ out == old => => make
     - tecol -o out in => => => tecol: cannot write out\n => => 1 => in == Y<\n\tFSa$b$;>EX$$\n ++ out == old => => write
     - tecol -o out in => => => tecol: cannot write out\n => => 1 => in == Y<\n\tFSa$b$;>EX$$\n ++ out == old => => sync
-    - tecol -o out in => => => tecol: cannot write out\n => => 1 => in == Y<\n\tFSa$b$;>EX$$\n ++ out == old => => rename
+    - tecol -o out in => => => tecol: cannot write out\n => => 1 => in == Y<\n\tFSa$b$;>EX$$\n ++ out == old => => place
     - // An output that can't be shown, and words that were refused memory.
-    - tecol => EX$$ => => tecol: cannot write -\n => => 1 => => => shown
-    - tecol => EX$$ => => tecol: no memory\n => => 1 => => => words";
+    - tecol => EX$$ => => tecol: cannot write -\n => => 1 => => => no room
+    - tecol => EX$$ => => tecol: no memory\n => => 1 => => => no words";

@@ -1,5 +1,6 @@
 //! Sentences that a check tells of large commands alone.
 use crate::tests::assert_of;
+use crate::tests::bytes::{has, is};
 use std::alloc::Global;
 use std::test::*;
 use teco_advice::{FaultIn, Remark, What, check, report, show_remark};
@@ -22,7 +23,7 @@ static SENTENCES: [(&str, Wrong, &str); 2] = [
 ];
 
 /// Whether a row is told so.
-fn is_told(alloc: Global, row: &(&str, Wrong, &str)) -> Result<bool, NoMemory> {
+fn is_told(alloc: Global, row: &(&str, Wrong, &str)) -> bool {
     let (text, wrong, sentence) = *row;
     let inside = Span {
         from: 0,
@@ -38,29 +39,30 @@ fn is_told(alloc: Global, row: &(&str, Wrong, &str)) -> Result<bool, NoMemory> {
         what: What::Fault(fault),
     };
     let mut out = String::new(alloc);
-    show_remark(&mut out, text.as_bytes(), &remark, None)?;
-    Ok(out.as_str() == sentence)
+    show_remark(&mut out, text.as_bytes(), &remark, None).is_ok() && is(&out, sentence)
 }
 
-/// Of 1,001 semicolons outside of an iteration a thousand remarks are told, and that there are more.
+/// What is told at the end of 1,001 semicolons outside of an iteration: a thousand remarks, and that there are more.
+const END: &str = "
+-:1:1000: hint: ; is in no iteration of this text, which is SNI
+-:1:1001: hint: more remarks are not told
+";
+
+/// Whether these lines end what is told of such commands.
 fn ends_there(alloc: Global) -> Result<bool, NoMemory> {
     let mut commands = Vec::new(alloc);
     commands.resize(1001, b';')?;
     let advice = check(alloc, &commands)?;
     let lines = report(alloc, "-", &commands, None, &commands, &advice)?;
-    Ok(
-        lines.as_str().contains(
-            "\n-:1:1000: hint: ; is in no iteration of this text, which is SNI\n-:1:1001: hint: more remarks are not told\n",
-        ),
-    )
+    Ok(has(&lines, END))
 }
 
 #[test]
 fn a_sentence_is_told(rt: HostRuntime) {
     let alloc = rt.alloc();
     for row in &SENTENCES {
-        let held = is_told(alloc, row) == Ok(true) || is_told(alloc, row) == Ok(true);
-        assert_of(&rt, row.0, held);
+        assert_of(&rt, row.0, is_told(alloc, row) || is_told(alloc, row));
     }
-    assert!(rt; ends_there(alloc) == Ok(true) || ends_there(alloc) == Ok(true));
+    let held = ends_there(alloc).unwrap_or(false) || ends_there(alloc).unwrap_or(false);
+    assert_of(&rt, END, held);
 }

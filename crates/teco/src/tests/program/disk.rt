@@ -4,9 +4,10 @@ use crate::tests::assert_of;
 use crate::tests::bytes::{are, are_there, first_of, is};
 use crate::tests::rows::{LINE, halves_at, is_row};
 use std::alloc::Global;
+use std::fs::{Files, Permissions};
 use std::io::{ErrorKind, Read};
 use std::os::fd::AsRawFd;
-use std::os::unix::fs::{MetadataExt, PermissionsExt, chown, symlink};
+use std::os::unix::fs::{MetadataExt, PermissionsExt};
 use std::{fs, io};
 use teco_files::{Disk, FileDisk, MemoryDisk, Refused};
 use teco_program::write_output;
@@ -17,12 +18,12 @@ fn writes<D: Disk>(alloc: Global, disk: &mut D, name: &str, bytes: &str) -> bool
     write_output(alloc, disk, name, 7, parts).is_ok()
 }
 
-/// A disk of the system.
-type Files<'a> = FileDisk<'a, HostRuntime>;
-
-/// The same on a disk of the system. Its calls are made here alone, since each costs the proof seconds.
-fn puts(rt: &HostRuntime, disk: &mut Files, name: &str, bytes: &str) -> bool {
-    writes(rt.alloc(), disk, name, bytes)
+/// Whether a file is told to be as it was read, or not to be so.
+fn is_as_read<D: Disk>(disk: &mut D, name: &str, wanted: bool) -> bool {
+    match disk.is_as_read(name) {
+        Ok(same) => same == wanted,
+        Err(_) => false,
+    }
 }
 
 /// Octal digits as permissions.
@@ -32,8 +33,8 @@ fn mode_of(digits: &str) -> u32 {
 
 /// Whether a name is a link, a device or nothing, or a file whose owner is kept, or one with these permissions. Only root has a file that
 /// was given away, and would own the one that replaces it.
-fn is_a(rt: &HostRuntime, name: &str, kind: &str) -> bool {
-    let Ok(file) = fs::symlink_metadata(rt, name) else {
+fn is_a(rt: &impl Files, name: &str, kind: &str) -> bool {
+    let Ok(file) = rt.symlink_metadata(name) else {
         return is(kind, "gone");
     };
     match first_of(kind) {
@@ -45,27 +46,40 @@ fn is_a(rt: &HostRuntime, name: &str, kind: &str) -> bool {
 }
 
 /// Whether an output is written to the name of a descriptor of the process, to which a link is made then.
-fn puts_there(rt: &HostRuntime, disk: &mut Files, number: i32, link: &str, bytes: &str) -> bool {
+fn puts_there<R: Files + AllocGlobal, D: Disk>(
+    rt: &R,
+    disk: &mut D,
+    number: i32,
+    link: &str,
+    bytes: &str,
+) -> bool {
     match format!(in rt.alloc(); "/proc/self/fd/{number}") {
-        Ok(name) => puts(rt, disk, &name, bytes) && symlink(rt, &name, link).is_ok(),
+        Ok(name) => writes(rt.alloc(), disk, &name, bytes) && rt.symlink(&name, link).is_ok(),
         Err(_) => false,
     }
 }
 
 /// A pipe is a stream, by its name among the descriptors and by a link to that.
-fn leads_to_a_pipe(rt: &HostRuntime, disk: &mut Files, link: &str) -> bool {
-    let Ok((mut reader, writer)) = io::pipe(rt) else {
+fn leads_to_a_pipe<R: Files + AllocGlobal, D: Disk>(rt: &R, disk: &mut D, link: &str) -> bool {
+    let Ok((mut reader, writer)) = rt.pipe() else {
         return false;
     };
     let mut read = [0; 8];
     puts_there(rt, disk, writer.as_raw_fd(), link, "abcd")
-        && puts(rt, disk, link, "efgh")
+        && writes(rt.alloc(), disk, link, "efgh")
         && reader.read_exact(&mut read).is_ok()
         && are(&read, b"abcdefgh")
 }
 
 /// A name among the descriptors that leads to a file is that file: it has the new text alone.
-fn is_replaced_by_its_descriptor(rt: &HostRuntime, disk: &mut Files, name: &str) -> bool {
+fn is_replaced_by_its_descriptor<R: Files + AllocGlobal, D: Disk>(
+    rt: &R,
+    disk: &mut D,
+    name: &str,
+) -> bool
+where
+    R::File: AsRawFd,
+{
     match fs::open(rt, name) {
         Ok(file) => puts_there(rt, disk, file.as_raw_fd(), "teco_test/descriptor", "new"),
         Err(_) => false,
@@ -87,17 +101,53 @@ fn failed_by(why: Option<ErrorKind>, kind: &str) -> bool {
 }
 
 /// If standard output goes to a file, that is not replaced, by whichever name.
-fn is_standard_output(rt: &HostRuntime, disk: &mut Files, name: &str) -> bool {
-    let is_file = match fs::metadata(rt, name) {
+fn is_standard_output<R: Files + AllocGlobal, D: Disk>(rt: &R, disk: &mut D, name: &str) -> bool {
+    let is_file = match rt.metadata(name) {
         Ok(file) => file.is_file(),
         Err(_) => false,
     };
     !is_file || disk.target_of(name).is_err() && failed_by(disk.why(), "ResourceBusy")
 }
 
+/// What a disk answers to a line of the script, by the first letter of its verb.
+fn asked<D: Disk>(alloc: Global, disk: &mut D, verb: u8, name: &str, value: &str) -> bool {
+    match verb {
+        b'o' => disk.open(name).is_ok(),
+        b't' => disk.target_of(name).is_ok(),
+        b'w' => writes(alloc, disk, name, value),
+        b's' => is_as_read(disk, name, value.is_empty()),
+        _ => failed_by(disk.why(), name),
+    }
+}
+
+/// Does what a line of the script says to the files of the system, by the first letter of its verb.
+fn done<R: Files + AllocGlobal>(rt: &R, verb: u8, name: &str, value: &str) -> io::Result<()> {
+    match verb {
+        b'n' => rt.create_dir(name),
+        b'u' => rt.remove_dir_all(rt.alloc(), name),
+        b'm' => fs::write(rt, name, value.as_bytes()),
+        b'r' => rt.remove_file(name),
+        b'l' => rt.symlink(value, name),
+        b'c' => rt.set_permissions(name, Permissions::from_mode(mode_of(value))),
+        b'g' => rt.chown(name, Some(1234), Some(4321)),
+        _ => Err(io::Error::from(ErrorKind::Other)),
+    }
+}
+
+/// Whether a file has these bytes.
+fn reads_so<R: Files + AllocGlobal>(rt: &R, name: &str, bytes: &str) -> bool {
+    match fs::read(rt, name) {
+        Ok(read) => are(&read, bytes.as_bytes()),
+        Err(_) => false,
+    }
+}
+
 /// Whether a line of the script holds on a disk: a verb, which its first letter tells, a name and a value, or the same with a `not` before
 /// them.
-fn line_holds(rt: &HostRuntime, disk: &mut Files, line: &str) -> bool {
+fn line_holds<R: Files + AllocGlobal, D: Disk>(rt: &R, disk: &mut D, line: &str) -> bool
+where
+    R::File: AsRawFd,
+{
     let (call, wanted) = match line.strip_prefix("not ") {
         Some(call) => (call, false),
         None => (line, true),
@@ -105,36 +155,24 @@ fn line_holds(rt: &HostRuntime, disk: &mut Files, line: &str) -> bool {
     let (verb, rest) = halves_at(call, " ");
     let (name, value) = halves_at(rest, " ");
     let held = match first_of(verb) {
-        b'n' => fs::create_dir(rt, name).is_ok(),
-        b'u' => fs::remove_dir_all(rt, name).is_ok() || is(value, "if there"),
-        b'm' => fs::write(rt, name, value.as_bytes()).is_ok(),
-        b'h' => match fs::read(rt, name) {
-            Ok(read) => are(&read, value.as_bytes()),
-            Err(_) => false,
-        },
-        b'r' => fs::remove_file(rt, name).is_ok(),
-        b'l' => symlink(rt, value, name).is_ok(),
-        b'c' => {
-            fs::set_permissions(rt, name, fs::Permissions::from_mode(mode_of(value))).is_ok()
-        }
-        b'g' => chown(rt, name, Some(1234), Some(4321)).is_ok() || is(value, "if root"),
+        b'h' => reads_so(rt, name, value),
         b'i' => is_a(rt, name, value),
         b'p' => leads_to_a_pipe(rt, disk, name),
         b'd' => is_replaced_by_its_descriptor(rt, disk, name),
         b'b' => is_standard_output(rt, disk, name),
-        b'o' => disk.open(name).is_ok(),
-        b't' => disk.target_of(name).is_ok(),
-        b'w' => puts(rt, disk, name, value),
-        b's' => disk.is_as_read(name).ok() == Some(value.is_empty()),
-        b'e' => failed_by(disk.why(), name),
-        _ => !wanted,
+        verb @ (b'o' | b't' | b'w' | b's' | b'e') => asked(rt.alloc(), disk, verb, name, value),
+        verb if wanted => done(rt, verb, name, value).is_ok() || value.starts_with("if "),
+        _ => true,
     };
     held == wanted
 }
 
 /// The first line of the script that does not hold on a disk, or where it says so on another, which opens no file, as one of another
 /// program; empty where all do.
-fn fails_at(rt: &HostRuntime, disk: &mut Files, other: &mut Files) -> &'static str {
+fn fails_at<R: Files + AllocGlobal, D: Disk>(rt: &R, disk: &mut D, other: &mut D) -> &'static str
+where
+    R::File: AsRawFd,
+{
     for line in SCRIPT.split(LINE) {
         let held = match line.strip_prefix("other ") {
             Some(line) => line_holds(rt, other, line),
@@ -302,7 +340,7 @@ fn gives_a_device(alloc: Global, refused: Refused, given: &str) -> bool {
         && failed_by(disk.why(), "StorageFull") == is_full
         && are_there(disk.given("dev"), given.as_bytes())
         && disk.has_only(&[])
-        && disk.is_as_read("in").ok() == Some(!matches!(refused, Refused::Changed))
+        && is_as_read(&mut disk, "in", !matches!(refused, Refused::Changed))
 }
 
 /// Where memory was refused, a second time.

@@ -51,6 +51,14 @@ fn says(alloc: Global, line: &Line, cells: &Cells) -> bool {
         && is_told(rest_told(alloc, line), cells[2])
 }
 
+/// Whether a line is refused with the status that a cell says, if it does.
+fn is_refused(fault: &LineFault, status: &str) -> bool {
+    match fault {
+        LineFault::Refused(error) => number_or(status, 256) == u64::from(refused_status(error)),
+        LineFault::NoMemory => false,
+    }
+}
+
 /// What the rows of lines tell. Each begins with words, with blanks between them.
 #[derive(Clone, Copy)]
 enum Lines {
@@ -60,18 +68,22 @@ enum Lines {
     End,
 }
 
+impl Lines {
+    /// Whether a row holds of its line.
+    fn hold_of(self, alloc: Global, line: &Line, cells: &Cells) -> bool {
+        match self {
+            Lines::Say => says(alloc, line, cells),
+            Lines::End => ends_so(alloc, line, cells),
+        }
+    }
+}
+
 impl Rule for Lines {
     fn holds(&self, alloc: Global, row: &str) -> bool {
         let cells = cells_of(row);
         match line_of(alloc, words_of(alloc, cells[0]).as_slice()) {
-            Ok(line) => match self {
-                Lines::Say => says(alloc, &line, &cells),
-                Lines::End => ends_so(alloc, &line, &cells),
-            },
-            Err(LineFault::Refused(error)) => {
-                number_or(cells[3], 256) == u64::from(refused_status(&error))
-            }
-            Err(LineFault::NoMemory) => false,
+            Ok(line) => self.hold_of(alloc, &line, &cells),
+            Err(fault) => is_refused(&fault, cells[3]),
         }
     }
 }
@@ -163,10 +175,8 @@ const ROWS: &str = "
 
 /// Whether an argument that is not UTF-8 leads to the status of a refused line.
 fn is_refused_without_text(alloc: Global) -> bool {
-    match fault_of_words(io::Error::from(io::ErrorKind::InvalidData), not_text(alloc)) {
-        LineFault::Refused(error) => refused_status(&error) == 3,
-        LineFault::NoMemory => false,
-    }
+    let error = io::Error::from(io::ErrorKind::InvalidData);
+    is_refused(&fault_of_words(error, not_text(alloc)), "3")
 }
 
 /// Names, and whose each is: standard input's, standard output's, or both.

@@ -1,6 +1,6 @@
 //! Sessions: strings that are undone and redone, and requests that are refused only where memory is.
-use super::requests::{Over, Trial, holds_once, ran, ran_at_last, turned};
-use crate::tests::bytes::{Screen, is, is_typed, joined};
+use super::requests::{Over, Trial, holds_once, ran, turned};
+use crate::tests::bytes::{Screen, first_of, is, is_typed, joined};
 use crate::tests::rows::{Cells, Rule, all_hold, cells_of};
 use crate::tests::store::states::{is_seen, seen};
 use std::alloc::Global;
@@ -8,31 +8,14 @@ use std::test::*;
 use teco_core::NoMemory;
 use teco_session::{Answer, Request, Session};
 
-/// Twelve strings, of which each third is not undone.
-#[derive(Clone, Copy)]
-struct Twelve;
-
-impl Trial for Twelve {
-    /// Each is begun, at once or after a refusal, and undone strings are dropped then.
-    fn holds(&self, _alloc: Global, session: &mut Session, term: &mut Screen) -> bool {
-        let mut held = true;
-        for at in 0..12 {
-            let is_begun = !matches!(ran_at_last(session, b"1=\x1b", 100, term), Answer::NotBegun);
-            held = is_begun && session.strings() == session.cursor() && held;
-            held = (at % 3 == 0 || turned(session, false).is_none()) && held;
-        }
-        held && session.strings() == 5 && session.cursor() == 4
-    }
-}
-
 /// The requests of a text, with blanks between them: an undo, a redo, or a string.
 fn requests_of(alloc: Global, text: &str) -> Vec<Request> {
     let mut requests = Vec::new(alloc);
     for word in text.split(' ') {
-        let request = match word.as_bytes() {
-            [b'{'] => Request::Undo,
-            [b'}'] => Request::Redo,
-            string => Request::Run(joined(alloc, &[string])),
+        let request = match first_of(word) {
+            b'{' => Request::Undo,
+            b'}' => Request::Redo,
+            _ => Request::Run(joined(alloc, &[word.as_bytes()])),
         };
         let _ = requests.push(request).is_ok();
     }
@@ -112,14 +95,17 @@ impl Trial for Cut<'_> {
     }
 }
 
-/// Texts over an input, a row each.
-impl Rule for Over<'_> {
+/// A string and its input, a row each.
+#[derive(Clone, Copy)]
+struct Cuts;
+
+impl Rule for Cuts {
     fn holds(&self, alloc: Global, row: &str) -> bool {
-        holds_once(alloc, self, &Cut(row.as_bytes()))
+        let [text, input, ..] = cells_of(row);
+        holds_once(alloc, &Over::new(input.as_bytes()), &Cut(text.as_bytes()))
     }
 }
 
-/// Strings over no input.
 const TEXTS: &str = "
     // edits, numbers and blocks
     5J\x1b
@@ -164,25 +150,20 @@ const TEXTS: &str = "
     Iab\x1bJ:SB\x1b=0^X:SB\x1b=\x1b
     1^X\x1b
     0^XIab\x1b0JS\x0eA\x1b.=\x1b
-    ";
-
-/// Strings over three pages.
-const OVER_PAGES: &str = "
-    YNc\x1bHT\x1b
-    Y2P1,0PWEX\x1b
-    _a\x1b_b\x1b
-    YPEX\x1b
-    YY\x1b
-    2P\x1b
-    Y_b\x1b
-    YZ=EX\x1b
+    // over three pages
+    YNc\x1bHT\x1b => a\x0cb\x0cc
+    Y2P1,0PWEX\x1b => a\x0cb\x0cc
+    _a\x1b_b\x1b => a\x0cb\x0cc
+    YPEX\x1b => a\x0cb\x0cc
+    YY\x1b => a\x0cb\x0cc
+    2P\x1b => a\x0cb\x0cc
+    Y_b\x1b => a\x0cb\x0cc
+    YZ=EX\x1b => a\x0cb\x0cc
     ";
 
 #[test]
 fn strings_are_begun_undone_and_redone(rt: HostRuntime) {
     let alloc = rt.alloc();
-    assert!(rt; holds_once(alloc, &Over::new(b""), &Twelve));
     all_hold(&rt, alloc, &Plays, PLAYS);
-    all_hold(&rt, alloc, &Over::new(b""), TEXTS);
-    all_hold(&rt, alloc, &Over::new(b"a\x0cb\x0cc"), OVER_PAGES);
+    all_hold(&rt, alloc, &Cuts, TEXTS);
 }

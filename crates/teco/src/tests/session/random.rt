@@ -200,6 +200,5 @@ fn come_back(alloc: Global, depth: Option<usize>, most: usize) -> bool {
 /// Also where the last three strings are kept.
 #[test]
 fn random_strings_come_back(rt: HostRuntime) {
-    assert!(rt; come_back(rt.alloc(), None, usize::MAX));
-    assert!(rt; come_back(rt.alloc(), Some(3), 4));
+    assert!(rt; come_back(rt.alloc(), None, usize::MAX) && come_back(rt.alloc(), Some(3), 4));
 }

@@ -61,8 +61,8 @@ pub(super) const SCRIPTS: &str = "
     { => => ab\x0cxcd\x0c => ef => 0
     // A string shows the kinds of its changes, and the way back once it is undone.
     over
-    Iabc\x1b-DIxy\x1bJ\x1b => => => => => => 1 0 5: 0 3 0, 2 0 1, 2 2 0, point,.
-    { => => => => => => 1 0 5: 0 0 3, 2 1 0, 2 0 2, point,.
+    Iabc\x1b-DIxy\x1bJ\x1b => => => => => => 1 0 5: splice [0, 3, 0] splice [2, 0, 1] splice [2, 2, 0] point [0, 0, 0] end
+    { => => => => => => 1 0 5: splice [0, 0, 3] splice [2, 1, 0] splice [2, 0, 2] point [0, 0, 0] end
     // A hundred strings are undone, each by itself, and redone, and one redo more is refused.
     over
     Ix\x1b => => => => => 100
@@ -70,6 +70,42 @@ pub(super) const SCRIPTS: &str = "
     { => NTU => => -
     } => => => => => 100
     } => NTR => => xxxxxxxxxxxxxxxxxxxxxxxxxxxxxxxxxxxxxxxxxxxxxxxxxxxxxxxxxxxxxxxxxxxxxxxxxxxxxxxxxxxxxxxxxxxxxxxxxxxx
+    // Twelve strings, of which each third is not undone. A string that is begun drops those that are undone.
+    over => 1\r\n1\r\n1\r\n1\r\n1\r\n1\r\n1\r\n1\r\n1\r\n1\r\n1\r\n1\r\n => 5
+    1=\x1b => => => => => => 1 0 2:
+    } => NTR
+    1=\x1b => => => => => => 2 0 2:
+    } => NTR
+    { =>
+    1=\x1b => => => => => => 2 0 2:
+    } => NTR
+    { =>
+    1=\x1b => => => => => => 2 0 2:
+    } => NTR
+    1=\x1b => => => => => => 3 0 2:
+    } => NTR
+    { =>
+    1=\x1b => => => => => => 3 0 2:
+    } => NTR
+    { =>
+    1=\x1b => => => => => => 3 0 2:
+    } => NTR
+    1=\x1b => => => => => => 4 0 2:
+    } => NTR
+    { =>
+    1=\x1b => => => => => => 4 0 2:
+    } => NTR
+    { =>
+    1=\x1b => => => => => => 4 0 2:
+    } => NTR
+    1=\x1b => => => => => => 5 0 2:
+    } => NTR
+    { =>
+    1=\x1b => => => => => => 5 0 2:
+    } => NTR
+    { =>
+    { => => => => => 4
+    { => NTU
     // A page that was turned is turned back with its output, and forth again; and the output goes on from where the undo left it.
     over one\n\x0ctwo\n
     YP\x1b => => one\n\x0c => two\n

@@ -44,18 +44,41 @@ pub(crate) fn turned(session: &mut Session, forth: bool) -> Option<Code> {
     }
 }
 
-/// The code of a string that was broken off after two steps, if it tells that it stood after two bytes.
-fn code_there(answered: &Answered) -> Option<Code> {
-    match &answered.place {
-        Ok(Some(place)) if place.at == 2 && place.steps == 2 => answered.answer.code(),
-        _ => None,
+/// Runs a string that may be broken off, and tells its place where that is wanted.
+pub(crate) fn broken_off(
+    session: &mut Session,
+    text: &[u8],
+    limit: u64,
+    mut asking: Asking,
+    tells: bool,
+    term: &mut Screen,
+) -> Answered {
+    if tells {
+        return session.run_where_until(text, limit, &mut asking, term);
+    }
+    let answer = session.run_until(text, limit, &mut asking, term);
+    Answered {
+        answer,
+        place: Ok(None),
+    }
+}
+
+/// The code of a string that was broken off after two steps, if it tells that it stood after two bytes, where it is to tell that.
+fn code_there(answered: &Answered, tells: bool) -> Option<Code> {
+    let stood = match &answered.place {
+        Ok(Some(place)) => place.at == 2 && place.steps == 2,
+        _ => false,
+    };
+    if stood == tells {
+        answered.answer.code()
+    } else {
+        None
     }
 }
 
 /// The code of the answer to a request: `{` undoes a string, `}` redoes one, `~` goes back to before the first step and `~1` to after
 /// it, `2!` runs `CCC` and breaks it off after two steps, `2?` does so where the place is told, and any other request is run.
 fn code_of(session: &mut Session, request: &str, term: &mut Screen) -> Option<Code> {
-    let two = &mut Asking::Steps(2);
     match request.as_bytes() {
         [b'{'] => turned(session, false),
         [b'}'] => turned(session, true),
@@ -63,8 +86,10 @@ fn code_of(session: &mut Session, request: &str, term: &mut Screen) -> Option<Co
             Ok(()) => None,
             Err(refused) => Some(Code::from(refused)),
         },
-        [b'2', b'!'] => session.run_until(b"CCC", 1000, two, term).code(),
-        [b'2', b'?'] => code_there(&session.run_where_until(b"CCC", 1000, two, term)),
+        [b'2', mark] => {
+            let (two, tells) = (Asking::Steps(2), *mark == b'?');
+            code_there(&broken_off(session, b"CCC", 1000, two, tells, term), tells)
+        }
         text => ran(session, text, 1000, term).code(),
     }
 }
@@ -94,13 +119,14 @@ fn is_told(alloc: Global, session: &Session, told: &str) -> bool {
     let mut out = String::new(alloc);
     let mut held = write!(out, "{strings} {pointer} {steps}:").is_ok();
     for change in session.entry(strings - 1) {
-        held = match change.kind() {
-            ChangeKind::Splice { at, gone, came } => write!(out, " {at} {gone} {came},").is_ok(),
-            ChangeKind::Point => write!(out, " point,").is_ok(),
-            _ => write!(out, " another,").is_ok(),
-        } && held;
+        let (name, numbers) = match change.kind() {
+            ChangeKind::Splice { at, gone, came } => ("splice", [at, gone, came]),
+            ChangeKind::Point => ("point", [0; 3]),
+            _ => ("another", [0; 3]),
+        };
+        held = write!(out, " {name} {numbers:?}").is_ok() && held;
     }
-    held && write!(out, ".").is_ok() && out.as_str().starts_with(told)
+    held && out.push_str(" end").is_ok() && out.as_str().starts_with(told)
 }
 
 /// Whether a session is left as cells of a row say.

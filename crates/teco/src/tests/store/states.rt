@@ -22,38 +22,37 @@ fn put_registers(bytes: &mut Vec<u8>, editor: &Editor) {
     }
 }
 
-fn put_pushed(alloc: Global, bytes: &mut Vec<u8>, editor: &Editor) {
+/// Puts the pointer, the place in the input, the values that are pushed, what the last search was, and whether it has found, the page ended
+/// at a form feed, the session is done, and letters match in either case.
+fn put_shown(alloc: Global, bytes: &mut Vec<u8>, editor: &Editor) {
+    let search = editor.last_search();
+    let is_either = editor.case_mode() == CaseMode::Either;
     for _ in 0..2 {
-        if let Ok(shown) = format!(in alloc; "{:?}", editor.pushed()) {
-            put_text(bytes, (shown.as_bytes(), &[]));
+        if let Ok(shown) = format!(in alloc;
+            "{} {} {:?} {search:?} {:?}",
+            editor.pointer(),
+            editor.place(),
+            editor.pushed(),
+            [
+                editor.last_result(),
+                editor.flag(),
+                editor.done(),
+                is_either
+            ]
+        ) {
+            put(bytes, shown.as_bytes());
             return;
         }
     }
-}
-
-/// What the last search was and has found, whether the page ended at a form feed and the session is done, and the mode of case.
-fn put_flags(bytes: &mut Vec<u8>, editor: &Editor) {
-    let flags = [
-        u8::from(editor.last_result()),
-        u8::from(editor.last_search().is_some()),
-        u8::from(editor.flag()),
-        u8::from(editor.done()),
-        u8::from(editor.case_mode() == CaseMode::Either),
-    ];
-    put(bytes, &flags);
-    put_text(bytes, (editor.last_search().unwrap_or(&[]), &[]));
 }
 
 /// All that is seen of an editor.
 pub(crate) fn seen(alloc: Global, editor: &Editor) -> Vec<u8> {
     let mut bytes = Vec::new(alloc);
     put_text(&mut bytes, editor.halves());
-    put(&mut bytes, &editor.pointer().to_le_bytes());
     put_registers(&mut bytes, editor);
-    put_pushed(alloc, &mut bytes, editor);
-    put_flags(&mut bytes, editor);
-    put(&mut bytes, &editor.place().to_le_bytes());
     put_text(&mut bytes, editor.output());
+    put_shown(alloc, &mut bytes, editor);
     bytes
 }
 

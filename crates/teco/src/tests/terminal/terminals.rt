@@ -12,33 +12,28 @@ fn puts_again(terminal: &mut MemoryTerminal, bytes: &[u8]) -> bool {
 
 /// Whether what was shown is handed over, and the terminal then begins anew.
 fn keeps(terminal: &mut MemoryTerminal) -> bool {
-    let mut held = true;
-    for bytes in ["1", "", "=23456789012345\r\n"] {
-        held = puts_again(terminal, bytes.as_bytes()) && held;
-    }
-    let taken = terminal.take();
-    held && are(&taken, b"1=23456789012345\r\n")
+    puts_again(terminal, b"1")
+        && puts_again(terminal, b"")
+        && puts_again(terminal, b"=23456789012345\r\n")
+        && are(&terminal.take(), b"1=23456789012345\r\n")
         && puts_again(terminal, b"2")
         && are(terminal.bytes(), b"2")
 }
 
-/// Whether `hi` and then `!` are put, where a growth that is refused the first time isn't the second, and each is flushed.
-fn flushes_each(terminal: &mut WriterTerminal<MemorySink>) -> bool {
-    let mut held = true;
-    for (bytes, flushed) in [("hi", "hi"), ("!", "hi!")] {
-        let bytes = bytes.as_bytes();
-        let is_put = terminal.put(bytes).is_ok() || terminal.put(bytes).is_ok();
-        held = is_put && are(terminal.sink().flushed(), flushed.as_bytes()) && held;
-    }
-    held
+/// Whether bytes are put and flushed, where a growth that is refused the first time isn't the second.
+fn flushes(terminal: &mut WriterTerminal<MemorySink>, bytes: &[u8], flushed: &[u8]) -> bool {
+    let is_put = terminal.put(bytes).is_ok() || terminal.put(bytes).is_ok();
+    is_put && are(terminal.sink().flushed(), flushed)
 }
 
 #[test]
 fn keeps_and_flushes_what_is_shown(rt: HostRuntime) {
-    let mut terminal = MemoryTerminal::new(rt.alloc());
-    assert!(rt; keeps(&mut terminal));
+    let mut kept = MemoryTerminal::new(rt.alloc());
     let mut terminal = WriterTerminal::new(MemorySink::new(rt.alloc()));
-    assert!(rt; flushes_each(&mut terminal));
+    let held = keeps(&mut kept)
+        && flushes(&mut terminal, b"hi", b"hi")
+        && flushes(&mut terminal, b"!", b"hi!");
+    assert!(rt; held);
 }
 
 /// How a writer fails.
