@@ -101,11 +101,11 @@ impl Class {
     {
         match self {
             Class::Any => true,
-            Class::Other => !byte.is_ascii_alphabetic() && !byte.is_ascii_digit(),
+            Class::Other => !byte.is_ascii_alphanumeric(),
             Class::Letter => byte.is_ascii_alphabetic(),
             Class::Digit => byte.is_ascii_digit(),
             Class::LineEnd => is_line_end(byte),
-            Class::LetterOrDigit => byte.is_ascii_alphabetic() || byte.is_ascii_digit(),
+            Class::LetterOrDigit => byte.is_ascii_alphanumeric(),
             Class::LowerCase => byte.is_ascii_lowercase(),
             Class::UpperCase => byte.is_ascii_uppercase(),
         }
