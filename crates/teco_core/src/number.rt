@@ -19,19 +19,20 @@ pub enum Op {
 pub fn operation(op: Op, a: i32, b: i32) -> Result<i32, Code>
     ensures { result ≡ operation op a b }
 {
-    match op {
-        Op::Plus => a.checked_add(b).ok_or(Code::Ovf),
-        Op::Minus => a.checked_sub(b).ok_or(Code::Ovf),
-        Op::Times => a.checked_mul(b).ok_or(Code::Ovf),
+    let fitted = match op {
+        Op::Plus => a.checked_add(b),
+        Op::Minus => a.checked_sub(b),
+        Op::Times => a.checked_mul(b),
         Op::Over => {
             if b == 0 {
                 return Err(Code::Dvz);
             }
-            a.checked_div(b).ok_or(Code::Ovf)
+            a.checked_div(b)
         }
-        Op::And => Ok(a & b),
-        Op::Or => Ok(a | b),
-    }
+        Op::And => Some(a & b),
+        Op::Or => Some(a | b),
+    };
+    fitted.ok_or(Code::Ovf)
 }
 
 /// A number with one more digit after its own.

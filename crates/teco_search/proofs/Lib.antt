@@ -19,3 +19,4 @@ pub mod Scans
 pub mod Tables
 pub mod Anchored
 pub mod Tried
+pub mod Commas

@@ -1,11 +1,10 @@
 //! The elements of a search text, and which bytes they admit.
 ghost use Rattle.std.specs.Prelude.{◌≡◌, ◌↔◌, ◌||◌, ◌==◌, ℕ, false, IsTrue, Some};
-ghost use Rattle.std.specs.Fmt.{WritesOnOk};
-ghost use Rattle.std.specs.List.{flat_map, list_any};
+ghost use Rattle.std.specs.List.{list_any};
 ghost use Rattle.teco_search.specs.Anchor.{begins};
 ghost use Rattle.teco_search.specs.Element.{is_blank, is_in, is_same, item_admits, admits};
 ghost use Rattle.teco_search.specs.Literal.{is_exact};
-ghost use Rattle.teco_search.specs.Shown.{shown_byte, shown_class, shown_element, shown_item, shown_items, shown_one, shown_other};
+ghost use Rattle.teco_search.specs.Shown.{shown_class, shown_element, shown_item, shown_items, shown_one};
 
 use std::fmt::{self, Display};
 use std::marker::Model;
@@ -102,11 +101,11 @@ impl Class {
     {
         match self {
             Class::Any => true,
-            Class::Other => !byte.is_ascii_alphabetic() && !byte.is_ascii_digit(),
+            Class::Other => !byte.is_ascii_alphanumeric(),
             Class::Letter => byte.is_ascii_alphabetic(),
             Class::Digit => byte.is_ascii_digit(),
             Class::LineEnd => is_line_end(byte),
-            Class::LetterOrDigit => byte.is_ascii_alphabetic() || byte.is_ascii_digit(),
+            Class::LetterOrDigit => byte.is_ascii_alphanumeric(),
             Class::LowerCase => byte.is_ascii_lowercase(),
             Class::UpperCase => byte.is_ascii_uppercase(),
         }
@@ -179,72 +178,45 @@ impl Element {
     }
 }
 
+/// How each kind is shown, in the order of the kinds.
+const KINDS: [&str; 8] = ["^EX", "^EB", "^EA", "^ED", "^EL", "^ER", "^EV", "^EW"];
+
 impl fmt::Display for Class {
     ghost output = { λ class. Some (shown_class class) };
 
     fn fmt<W: fmt::Write>(&self, f: &mut fmt::Formatter<W>) -> fmt::Result {
-        f.write_str(match self {
-            Class::Any => "^EX",
-            Class::Other => "^EB",
-            Class::Letter => "^EA",
-            Class::Digit => "^ED",
-            Class::LineEnd => "^EL",
-            Class::LetterOrDigit => "^ER",
-            Class::LowerCase => "^EV",
-            Class::UpperCase => "^EW",
-        })
-    }
-}
-
-/// A byte shown as itself, or by its code where it is no ASCII character that shows.
-#[derive(Clone, Copy)]
-pub(crate) struct Shown(pub u8);
-
-impl fmt::Display for Shown {
-    ghost output = { λ shown. Some (shown_byte shown.0) };
-
-    fn fmt<W: fmt::Write>(&self, f: &mut fmt::Formatter<W>) -> fmt::Result {
-        let byte = self.0;
-        if b' ' <= byte && byte <= b'~' {
-            f.write_char(char::from(byte))
-        } else {
-            write!(f, "<{byte}>")
-        }
+        f.write_str(KINDS[*self as usize])
     }
 }
 
 impl fmt::Display for Item {
     ghost output = { λ item. Some (shown_item item) };
 
+    /// A byte is shown as itself, or by its code where it is no ASCII character that shows.
     fn fmt<W: fmt::Write>(&self, f: &mut fmt::Formatter<W>) -> fmt::Result {
         match self {
-            Item::Byte(byte) => Shown(*byte).fmt(f),
+            Item::Byte(byte) => {
+                if b' ' <= *byte && *byte <= b'~' {
+                    f.write_char(char::from(*byte))
+                } else {
+                    write!(f, "<{byte}>")
+                }
+            }
             Item::Class(class) => class.fmt(f),
         }
     }
-}
-
-/// Shows the items of a list that come after its first one.
-fn show_others<W: fmt::Write>(others: &[Item], f: &mut fmt::Formatter<W>) -> fmt::Result
-    ensures { WritesOnOk W.write_str_gives f.old result (flat_map shown_other others.now) f.new }
-{
-    'others: for item in others {
-        write!(f, ",{item}")?;
-    }
-    Ok(())
 }
 
 impl fmt::Display for Items {
     ghost output = { λ items. Some (shown_items items) };
 
     fn fmt<W: fmt::Write>(&self, f: &mut fmt::Formatter<W>) -> fmt::Result {
-        match self.items.as_slice() {
-            [] => Ok(()),
-            [first, others @ ..] => {
-                first.fmt(f)?;
-                show_others(others, f)
-            }
+        let mut between = "";
+        'items: for item in self.items.as_slice() {
+            write!(f, "{between}{item}")?;
+            between = ",";
         }
+        Ok(())
     }
 }
 

@@ -10,7 +10,7 @@ ghost use Rattle.teco_search.specs.Reading.{read};
 ghost use Rattle.teco_search.specs.Shown.{shown, shown_byte};
 
 use crate::anchor::Anchor;
-use crate::element::{Element, Shown};
+use crate::element::{Element, Item};
 use crate::joined::Joined;
 use crate::matching::match_end;
 use crate::reading::{literal, read};
@@ -79,16 +79,7 @@ fn show_bytes<W: fmt::Write>(bytes: &[u8], f: &mut fmt::Formatter<W>) -> fmt::Re
     ensures { WritesOnOk W.write_str_gives f.old result (flat_map shown_byte bytes.now) f.new }
 {
     'bytes: for byte in bytes {
-        Shown(*byte).fmt(f)?;
-    }
-    Ok(())
-}
-
-fn show_elements<W: fmt::Write>(elements: &[Element], f: &mut fmt::Formatter<W>) -> fmt::Result
-    ensures { WritesOnOk W.write_str_gives f.old result (shown elements.now) f.new }
-{
-    'elements: for element in elements {
-        element.fmt(f)?;
+        Item::Byte(*byte).fmt(f)?;
     }
     Ok(())
 }
@@ -98,10 +89,14 @@ impl fmt::Display for Pattern {
 
     /// The search text, its controls as `^E` and a letter, a byte that doesn't show by its code in angle brackets.
     fn fmt<W: fmt::Write>(&self, f: &mut fmt::Formatter<W>) -> fmt::Result {
-        match &self.form {
-            Form::Literal(bytes) => show_bytes(bytes, f),
-            Form::Elements(elements, _) => show_elements(elements, f),
+        let elements = match &self.form {
+            Form::Literal(bytes) => return show_bytes(bytes, f),
+            Form::Elements(elements, _) => elements,
+        };
+        'elements: for element in elements {
+            element.fmt(f)?;
         }
+        Ok(())
     }
 }
 

@@ -66,13 +66,14 @@ fn item_at(text: &[u8], at: usize) -> Result<(Item, usize), Code>
     let byte = byte_at(text, at)?;
     let at = at + 1;
     match byte {
-        CONTROL_Q => Ok((Item::Byte(byte_at(text, at)?), at + 1)),
-        CONTROL_E => {
-            let letter = byte_at(text, at)?;
-            Ok((
-                Item::Class(class_named(letter.to_ascii_uppercase())?),
-                at + 1,
-            ))
+        CONTROL_Q | CONTROL_E => {
+            let next = byte_at(text, at)?;
+            let item = if byte == CONTROL_Q {
+                Item::Byte(next)
+            } else {
+                Item::Class(class_named(next.to_ascii_uppercase())?)
+            };
+            Ok((item, at + 1))
         }
         CONTROL_X => Ok((Item::Class(Class::Any), at)),
         CONTROL_S => Ok((Item::Class(Class::Other), at)),
@@ -154,12 +155,13 @@ fn element_at(alloc: Global, text: &[u8], at: usize) -> Result<(Element, usize),
     {
         return Ok((Element::Blanks, at + 2));
     }
-    if occurs_at(text, at, CONTROL_N) {
-        let (one, at) = one_byte_at(alloc, text, at + 1)?;
-        Ok((Element::Except(one), at))
+    let is_except = occurs_at(text, at, CONTROL_N);
+    let start = if is_except { at + 1 } else { at };
+    let (one, after) = one_byte_at(alloc, text, start)?;
+    if is_except {
+        Ok((Element::Except(one), after))
     } else {
-        let (one, at) = one_byte_at(alloc, text, at)?;
-        Ok((Element::Among(one), at))
+        Ok((Element::Among(one), after))
     }
 }
 
