@@ -1,9 +1,13 @@
 -- One put after another.
-use Rattle.std.proofs.Common.{ℕ, List, [], ◌∷◌, ◌++◌, Bool, true, false, Result, Ok, Err, refl, sym, ap, subst, append-nil, append_assoc, ◌∙◌}
-use Rattle.std.specs.Prelude.{◌≢◌, OnErr}
+use Rattle.std.proofs.Common.{◌≡◌, inl, inr, String, Global, ℕ, List, [], ◌∷◌, ◌++◌, Bool, true, false, Result, Ok, Err, refl, sym, ap, subst, append-nil, append_assoc, ◌∙◌}
+use Rattle.std.specs.Prelude.{◌≢◌, IfOk, OnErr}
+use Rattle.std.specs.String.{string_bytes}
+use Rattle.std.specs.declared.alloc.AllocError.{AllocError}
 use Rattle.std.proofs.KnownBytes.{Appends-trans, Appends-nil}
 use Rattle.teco_terminal.specs.Terminal.{IsFrontOf, Screen, Shows, Puts, count_after}
 use Rattle.teco_program.specs.Exchange.{BreaksOff}
+use Rattle.teco_program.specs.Explaining.{TellsLines, told}
+use Rattle.teco_program.specs.Refusing.{Tells}
 
 pub Shows-nil : (t : Screen) → Shows t t [] false
 Shows-nil t = record { more = Appends-nil t.shown; count = refl }
@@ -52,3 +56,13 @@ module _ (first second whole : List ℕ → Bool → Type 0) (joins : Joins firs
 
   pub BreaksOff-first : (xs last : List ℕ) → first xs false → BreaksOff second [] last → BreaksOff whole xs last
   BreaksOff-first xs last p b = subst (λ l. BreaksOff whole l last) (append-nil xs) (BreaksOff-after xs [] last p b)
+
+-- A put tells the text, or a beginning of it.
+pub told_by : {A E : Type 0} {old new : Screen} {bytes text : List ℕ} (result : Result A E) → bytes ≡ text → Puts old new bytes result → Tells old new text
+told_by {old} {new} (Ok done) same puts = subst (Tells old new) same (inl puts)
+told_by {old} {new} (Err fault) same puts = subst (Tells old new) same (inr puts)
+
+-- The lines are told; or, where memory lacked for them, that.
+pub lines_told : {old new : Screen} {text : List ℕ} (lines : Result (String Global) AllocError) → IfOk lines (λ line. string_bytes line ≡ text) → Tells old new (told lines) → TellsLines old new text
+lines_told {old} {new} (Ok line) same tells = inl (subst (Tells old new) same tells)
+lines_told (Err lacking) same tells = inr tells

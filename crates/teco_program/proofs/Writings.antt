@@ -1,6 +1,6 @@
 -- Writing a file by one draft after another.
 use Rattle.std.proofs.Common.{◌≡◌, ◌≢◌, inl, inr, ℕ, List, Option, Some, None, Bool, true, false, Result, Ok, Err, OnErr, refl, ap, sym, subst, ◌∙◌}
-use Rattle.std.specs.Prelude.{OnOk, bytes_eq}
+use Rattle.std.specs.Prelude.{IsErrAnd, OnOk, bytes_eq}
 use Rattle.std.proofs.lemmas.Slice.Eq.{bytes_eq-Decides}
 use Rattle.teco_files.specs.Disk.{Appends, Changes, Creates, Files, IsWhole, LeavesFiles, Passes, Renames, Replaces, Same}
 use Rattle.teco_program.specs.Draft.{draft_beside}
@@ -16,6 +16,11 @@ passes_none moment files left before told now is = inl is
 -- files that are as they were have no draft
 pub adds_same : (file : List ℕ) {old new : Option Files} → new ≡ old → Changes old new (AddsDrafts file)
 adds_same file same before told = (before, same ∙ told, record { same = refl; files = λ other there. refl; others = λ other apart. refl })
+
+-- an error that is passed on
+pub is_error : {T E : Type 0} (result : Result T E) (error : E) → IsErrAnd result (λ given. given ≡ error) → result ≡ Err error
+is_error (Ok done) error is = absurd is
+is_error (Err given) error is = ap Err is
 
 -- what holds however a call ends
 pub on_err_by : {A E P : Type 0} (result : Result A E) → P → OnErr result P

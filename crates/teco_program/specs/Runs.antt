@@ -1,6 +1,5 @@
 -- The runs of the program: over one input by commands as they come, or over each input by commands that are had at once.
-use Rattle.std.specs.Prelude.{◌≡◌, ◌≢◌, ◌⊎◌, ◌&&◌, not, ℕ, List, [], ◌∷◌, map, Option, Some, None, Result, Bool, true, false, ⊤}
-use Rattle.std.specs.Borrow.{Bor}
+use Rattle.std.specs.Prelude.{◌≡◌, ◌≢◌, ◌⊎◌, ◌&&◌, not, ℕ, List, [], ◌∷◌, map, Some, Result, Bool, true, false}
 use Rattle.std.specs.String.{string_bytes}
 use Rattle.std.specs.declared.string.String.{String}
 use Rattle.std.specs.declared.vec.Vec.{Vec}
@@ -8,7 +7,7 @@ use Rattle.std.specs.declared.alloc.Global.{Global}
 use Rattle.std.specs.declared.io.Error.{Error}
 use Rattle.teco_files.specs.Disk.{Opens}
 use Rattle.teco_terminal.specs.Terminal.{Screen}
-use Rattle.teco_line.specs.Conflict.{has_conflict, has_more}
+use Rattle.teco_line.specs.Conflict.{has_more}
 use Rattle.teco_line.specs.StreamNames.{is_standard_input}
 use Rattle.teco_line.specs.declared.line.Commands.{Commands}
 use Rattle.teco_line.specs.declared.line.Commands.TheVariants.{StandardInput, Sources, Pages, Bytes}
@@ -146,22 +145,18 @@ LinkOver {D} {I} {S} {T} {W} {E} view errors line bytes = Link {W = Host D S T �
     (λ input old new fate. EditsByBytes view line input bytes old.0 new.0 fate)
     (λ input fate old new status. Concludes line input fate (errors old.1) (errors new.1) status)
 
--- Without bytes the commands come as they are wanted, which the line has to ask for.
-abbrev pub MayCome : Line → Option (Bor (List ℕ)) → Type 0
-MayCome line None = (is_streamed line ≡ true) × (has_conflict line ≡ false)
-MayCome line (Some bytes) = ⊤
-
--- A run over this input by these bytes as commands; without bytes one over the line's own input, by commands as they come.
-abbrev pub EditsGiven : {D I S T W : Type 0} → HostView D I S T W → Line → Option (Bor (List ℕ)) → List ℕ → Host D S T
+-- A run over the line's own input by commands as they come, if the line is streamed; else one over this input by these
+-- bytes as commands.
+abbrev pub EditsGiven : {D I S T W : Type 0} → Bool → HostView D I S T W → Line → List ℕ → List ℕ → Host D S T
     → Host D S T → Fate → Type 0
-EditsGiven view line None input old new fate = EditsBy view line (string_bytes line.input) line.commands old new fate
-EditsGiven view line (Some bytes) input old new fate = EditsByBytes view line input bytes.now old new fate
+EditsGiven true view line bytes input old new fate = EditsBy view line (string_bytes line.input) line.commands old new fate
+EditsGiven false view line bytes input old new fate = EditsByBytes view line input bytes old new fate
 
 -- That run is told.
-abbrev pub LinkGiven : {D I S T W E : Type 0} → HostView D I S T W → (E → Screen) → Line → Option (Bor (List ℕ)) → List ℕ
+abbrev pub LinkGiven : {D I S T W E : Type 0} → Bool → HostView D I S T W → (E → Screen) → Line → List ℕ → List ℕ
     → Host D S T × E → Host D S T × E → ℕ → Type 0
-LinkGiven {D} {I} {S} {T} {W} {E} view errors line bytes = Link {W = Host D S T × E}
-    (λ input old new fate. EditsGiven view line bytes input old.0 new.0 fate)
+LinkGiven {D} {I} {S} {T} {W} {E} streamed view errors line bytes = Link {W = Host D S T × E}
+    (λ input old new fate. EditsGiven streamed view line bytes input old.0 new.0 fate)
     (λ input fate old new status. Concludes line input fate (errors old.1) (errors new.1) status)
 
 -- Each of these inputs is run over in order, by these bytes as commands, and that is told. The status is the worst.

@@ -70,7 +70,7 @@ pub fn edit_by_line<S: Source, A: Alarm, T: Terminal, L: Listens, D: Disk>(
 }
 
 /// Whether the commands of the line are served to one input as they come.
-fn is_streamed(line: &Line) -> bool
+pub fn is_streamed(line: &Line) -> bool
     ensures { result ≡ is_streamed line.now }
 {
     let as_wanted = matches!(line.commands, Commands::StandardInput | Commands::Bytes(_));
@@ -146,7 +146,17 @@ fn run_over<S: Source, A: Alarm, T: Terminal, E: Terminal, N: Terminal, D: Disk>
     if is_streamed(line) {
         let name = line.input.as_str();
         return edit_told(
-            alloc, line, name, number, None, commands, alarm, term, errors, notes, disk,
+            alloc,
+            line,
+            name,
+            number,
+            &[],
+            commands,
+            alarm,
+            term,
+            errors,
+            notes,
+            disk,
         );
     }
     edit_all(

@@ -1,17 +1,17 @@
 //! Runs over each input, one after another, by commands that are had at once.
-ghost use Rattle.std.specs.Prelude.{◌≡◌, false, IfSome};
+ghost use Rattle.std.specs.Prelude.{◌≡◌, true, false, IfSome};
 ghost use Rattle.teco_line.specs.CommandLine.{IsDepth};
-ghost use Rattle.teco_line.specs.Conflict.{are_awaited};
+ghost use Rattle.teco_line.specs.Conflict.{are_awaited, has_conflict};
 ghost use Rattle.teco_program.specs.Ending.{worse};
 ghost use Rattle.teco_program.specs.Exchange.{HasRung};
-ghost use Rattle.teco_program.specs.Runs.{EditsGiven, LinkGiven, MayCome, RunsInOrder, RunsOverAll, host, host_view, inputs_of, is_streamed};
+ghost use Rattle.teco_program.specs.Runs.{EditsGiven, LinkGiven, RunsInOrder, RunsOverAll, host, host_view, inputs_of, is_streamed};
 ghost use Rattle.teco_program.specs.Seen.{disk_seen, source_view};
 
 use crate::alarm::Alarm;
 use crate::editing::edit_input;
 use crate::fate::Fate;
 use crate::listener::{Explainer, Listens, Silent};
-use crate::running::{conclude, edit_by_line};
+use crate::running::{conclude, edit_by_line, is_streamed};
 use crate::sources::{Parts, commands_given, decline};
 use std::alloc::Global;
 use teco_files::{Disk, Source, WordSource};
@@ -31,14 +31,14 @@ fn worse(a: u8, b: u8) -> u8
     }
 }
 
-/// Edits this input of the line by these bytes as commands, if there is memory for a copy of them; without bytes, by commands as they
-/// come.
+/// Edits this input of the line by commands as they come, if the line is one of those; else by these bytes as commands, if there is
+/// memory for a copy of them.
 fn edit_given<S: Source, A: Alarm, T: Terminal, L: Listens, D: Disk>(
     alloc: Global,
     line: &Line,
     name: &str,
     number: u32,
-    bytes: Option<&[u8]>,
+    bytes: &[u8],
     commands: &mut S,
     alarm: &mut A,
     term: &mut T,
@@ -46,18 +46,18 @@ fn edit_given<S: Source, A: Alarm, T: Terminal, L: Listens, D: Disk>(
     disk: &mut D,
 ) -> Fate
     requires depth { IfSome line.now.undo IsDepth }
-    requires come { MayCome line.now bytes }
+    requires come { is_streamed line.now ≡ true → has_conflict line.now ≡ false }
     ensures { let view = host_view (disk_seen D.files D.streams D.left D.gave D.changed
         (source_view D.Input.coming D.Input.bound D.Input.failures D.Input.ended))
         (source_view S.coming S.bound S.failures S.ended) T.screen
         (source_view ⟦<WordSource as Source>⟧.coming ⟦<WordSource as Source>⟧.bound
         ⟦<WordSource as Source>⟧.failures ⟦<WordSource as Source>⟧.ended) (HasRung A.answered) in
-        EditsGiven view line.now bytes.entry name.now (host disk.old commands.old term.old)
+        EditsGiven (is_streamed line.now) view line.now bytes.now name.now (host disk.old commands.old term.old)
         (host disk.new commands.new term.new) result }
 {
-    let Some(bytes) = bytes else {
+    if is_streamed(line) {
         return edit_by_line(alloc, line, number, commands, alarm, term, listener, disk);
-    };
+    }
     let Ok(bytes) = Vec::from_slice(alloc, bytes) else {
         return Fate::NoMemory;
     };
@@ -74,7 +74,7 @@ pub fn edit_told<S: Source, A: Alarm, T: Terminal, E: Terminal, N: Terminal, D: 
     line: &Line,
     name: &str,
     number: u32,
-    bytes: Option<&[u8]>,
+    bytes: &[u8],
     commands: &mut S,
     alarm: &mut A,
     term: &mut T,
@@ -83,13 +83,13 @@ pub fn edit_told<S: Source, A: Alarm, T: Terminal, E: Terminal, N: Terminal, D: 
     disk: &mut D,
 ) -> u8
     requires depth { IfSome line.now.undo IsDepth }
-    requires come { MayCome line.now bytes }
+    requires come { is_streamed line.now ≡ true → has_conflict line.now ≡ false }
     ensures link { let view = host_view (disk_seen D.files D.streams D.left D.gave D.changed
         (source_view D.Input.coming D.Input.bound D.Input.failures D.Input.ended))
         (source_view S.coming S.bound S.failures S.ended) T.screen
         (source_view ⟦<WordSource as Source>⟧.coming ⟦<WordSource as Source>⟧.bound
         ⟦<WordSource as Source>⟧.failures ⟦<WordSource as Source>⟧.ended) (HasRung A.answered) in
-        LinkGiven view E.screen line.now bytes.entry name.now (host disk.old commands.old term.old, errors.old)
+        LinkGiven (is_streamed line.now) view E.screen line.now bytes.now name.now (host disk.old commands.old term.old, errors.old)
         (host disk.new commands.new term.new, errors.new) result }
     ensures silent { line.now.explain ≡ false → notes.new ≡ notes.old }
 {
@@ -138,6 +138,7 @@ fn edit_each<S: Source, A: Alarm, T: Terminal, E: Terminal, N: Terminal, D: Disk
     notes: &mut N,
     disk: &mut D,
 ) -> u8
+    requires whole { is_streamed line.now ≡ false }
     requires depth { IfSome line.now.undo IsDepth }
     ensures runs { let view = host_view (disk_seen D.files D.streams D.left D.gave D.changed
         (source_view D.Input.coming D.Input.bound D.Input.failures D.Input.ended))
@@ -150,15 +151,14 @@ fn edit_each<S: Source, A: Alarm, T: Terminal, E: Terminal, N: Terminal, D: Disk
     ensures silent { line.now.explain ≡ false → notes.new ≡ notes.old }
 {
     let name = line.input.as_str();
-    let given = Some(bytes);
     let first = edit_told(
-        alloc, line, name, number, given, commands, alarm, term, errors, notes, disk,
+        alloc, line, name, number, bytes, commands, alarm, term, errors, notes, disk,
     );
     let mut status = worse(0, first);
     for name in line.more.iter() {
         let name = name.as_str();
         let next = edit_told(
-            alloc, line, name, number, given, commands, alarm, term, errors, notes, disk,
+            alloc, line, name, number, bytes, commands, alarm, term, errors, notes, disk,
         );
         status = worse(status, next);
     }

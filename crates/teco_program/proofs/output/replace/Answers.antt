@@ -1,19 +1,21 @@
-use Rattle.std.proofs.lemmas.Grind.{common_steps}
-use Rattle.std.proofs.Common.{◌∙◌, arith}
+use Rattle.std.proofs.Common.{◌∙◌, ap, true}
 use Rattle.teco_files.proofs.Disks.{passes_making, passes_renaming, leaves_draft, passes_removing, removed_or, same_but}
-use Rattle.teco_program.proofs.Writings.{replaces_by}
+use Rattle.teco_terminal.specs.Terminal.{count_after}
+use Rattle.teco_program.proofs.Writings.{is_error, on_err_by, replaces_by}
 use Rattle.teco_program.proofs.output.replace.Goals as goal
 
 pub returns-in_err-create : goal.returns-in_err-create
-returns-in_err-create g c = record {
-  ok = grind (arith, common_steps);
-  err = grind (arith, common_steps);
-  removed = grind (arith, common_steps);
-  streams = c.create.ensures.streams;
-  moments = passes_making c.requires c.create.ensures.moments;
-  count = grind (arith, common_steps);
-  error = grind (arith, common_steps);
-}
+returns-in_err-create g c =
+    let failed = is_error c.from_residual.result c.in_err-create.field-0.0 c.from_residual.ensures.1 in
+    record {
+      ok = rw failed tt;
+      err = on_err_by c.from_residual.result c.in_err-create.ensures.err;
+      removed = on_err_by c.from_residual.result c.in_err-create.ensures.removed;
+      streams = c.create.ensures.streams;
+      moments = passes_making c.requires c.create.ensures.moments;
+      count = rw failed c.in_err-create.ensures.count;
+      error = rw failed c.in_err-create.ensures.error;
+    }
 
 pub returns-in-Err : goal.returns-in-Err
 returns-in-Err g c = record {
@@ -22,8 +24,8 @@ returns-in-Err g c = record {
   removed = removed_or c.remove.result c.in_ok-create.ensures.ok (same_but c.in-Err.ensures.err) c.remove.ensures.ok c.remove.ensures.err;
   streams = c.remove.ensures.streams ∙ (c.rename.ensures.streams ∙ c.create.ensures.streams);
   moments = passes_removing c.requires c.create.ensures.moments c.in_ok-create.ensures.ok (c.rename.ensures.moments c.in_ok-create.ensures.kept) c.in-Err.ensures.err c.remove.ensures.moments;
-  count = grind (arith, common_steps);
-  error = grind (arith, common_steps);
+  count = c.remove.ensures.count ∙ (c.in-Err.ensures.count ∙ ap (count_after true) c.in_ok-create.ensures.count);
+  error = c.remove.ensures.errors _ c.in-Err.ensures.error;
 }
 
 pub returns : goal.returns
@@ -33,6 +35,6 @@ returns g c = record {
   removed = tt;
   streams = c.rename.ensures.streams ∙ c.create.ensures.streams;
   moments = passes_renaming c.requires c.create.ensures.moments c.in_ok-create.ensures.ok (c.rename.ensures.moments c.in_ok-create.ensures.kept);
-  count = grind (arith, common_steps);
+  count = c.in_default.ensures.count ∙ c.in_ok-create.ensures.count;
   error = tt;
 }

@@ -1,21 +1,22 @@
-use Rattle.std.proofs.lemmas.Grind.{common_steps}
-use Rattle.std.proofs.Common.{◌≡◌, ◌≢◌, ◌∙◌, sym, arith}
-use Rattle.std.proofs.lemmas.Result.{on_err_weaker, on_ok_weaker}
+use Rattle.std.proofs.Common.{◌≡◌, ◌≢◌, ◌∙◌, inl, inr, refl, sym}
+use Rattle.std.proofs.lemmas.Result.{IfErr-weaker, err_from_is_err_and, on_err_weaker, on_ok_weaker}
 use Rattle.teco_files.specs.Disk.{Changes, LeavesFiles, Replaces}
-use Rattle.teco_program.specs.Writing.{AddsDrafts, Writes, both}
+use Rattle.teco_program.specs.Writing.{AddsDrafts, IsWriting, Writes, both}
 use Rattle.teco_program.specs.Draft.{draft_beside}
-use Rattle.teco_program.proofs.Writings.{adds_more, on_err_by, passes_more, writes_after}
+use Rattle.teco_program.proofs.Writings.{adds_more, adds_none, on_err_by, passes_more, passes_none, writes_after}
 use Rattle.teco_program.proofs.output.replace_file.Goals as goal
 use Rattle.teco_program.proofs.output.replace_file.Goals.{in_default-via-in-Err+else-eq, in_default-via-in-Ok-1}
 
 pub returns-in_err-draft : goal.returns-in_err-draft
-returns-in_err-draft g c = record {
-  ok = grind (arith, common_steps);
-  err = on_err_by c.from_residual.result c.drafts.invariant.adds;
-  streams = c.drafts.invariant.streams;
-  moments = c.drafts.invariant.moments;
-  error = grind (arith, common_steps);
-}
+returns-in_err-draft g c =
+    let failed = err_from_is_err_and c.from_residual.result c.from_residual.ensures.1 in
+    record {
+      ok = rw failed.1 tt;
+      err = on_err_by c.from_residual.result c.drafts.invariant.adds;
+      streams = c.drafts.invariant.streams;
+      moments = c.drafts.invariant.moments;
+      error = rw failed.1 (inr (inl failed.2));
+    }
 
 pub returns-in_default : goal.returns-in_default
 returns-in_default g c =
@@ -36,16 +37,19 @@ returns-in_default g c =
       ];
       streams = c.replace.ensures.streams ∙ c.drafts.invariant.streams;
       moments = passes_more c.drafts.draft_number named differ c.drafts.invariant.adds c.drafts.invariant.moments c.replace.ensures.moments;
-      error = grind (arith, common_steps);
+      error = elim c.in_default-1.branch [
+        | in_default-via-in-Err+else-eq w ↦ rw w.done-is (inl w.in-Err.ensures.error)
+        | in_default-via-in-Ok-1 w ↦ rw w.done-is (IfErr-weaker c.replace.result (g.D.Disk.gave c.replace.new.disk) _ (λ _ given. inl given) c.replace.ensures.error)
+      ];
     }
 
 pub returns : goal.returns
 returns g c = record {
-  ok = grind (arith, common_steps);
+  ok = tt;
   err = c.drafts.invariant.adds;
   streams = c.drafts.invariant.streams;
   moments = c.drafts.invariant.moments;
-  error = grind (arith, common_steps);
+  error = inr (inr c.from.ensures);
 }
 
 pub drafts-preserved : goal.drafts-preserved
@@ -59,4 +63,8 @@ drafts-preserved g c =
     }
 
 pub drafts-init : goal.drafts-init
-drafts-init g c = grind (arith, common_steps)
+drafts-init g c = record {
+  adds = adds_none c.args.file.now (g.D.Disk.files c.args.disk.now);
+  streams = refl;
+  moments = passes_none (IsWriting c.args.file.now (both c.args.bytes)) (g.D.Disk.files c.args.disk.now) (g.D.Disk.left c.args.disk.now);
+}

@@ -1,9 +1,8 @@
-use Rattle.std.proofs.lemmas.Grind.{common_steps}
-use Rattle.std.proofs.Common.{arith, ◌≡◌, ◌≢◌, ◌∙◌, ap, subst, inl, inr, List, ℕ, None, Some}
-use Rattle.std.proofs.lemmas.Result.{on_err_weaker, on_ok_weaker}
+use Rattle.std.proofs.Common.{◌≡◌, ◌≢◌, ◌∙◌, ap, subst, inl, inr, List, ℕ, None, Some}
+use Rattle.std.proofs.lemmas.Result.{IfErr-weaker, on_err_weaker, on_ok_weaker}
 use Rattle.teco_files.specs.Disk.{Files, IsTargetOf}
 use Rattle.teco_program.specs.Writing.{IsWriting, both}
-use Rattle.teco_program.proofs.Writings.{adds_in, adds_same, are_told, on_err_by, puts_in, puts_on}
+use Rattle.teco_program.proofs.Writings.{adds_in, adds_same, are_told, is_error, on_err_by, puts_in, puts_on}
 use Rattle.teco_program.proofs.output.write_output.Goals as goal
 
 pub returns-in-Stream : goal.returns-in-Stream
@@ -14,7 +13,7 @@ returns-in-Stream g c = record {
   err = on_err_by c.append.result (adds_same c.args.name.now (c.append.ensures.files ∙ c.target_of.ensures.files));
   streams = λ other apart. c.append.ensures.others other apart ∙ ap (λ (streams : Files). streams other) c.target_of.ensures.streams;
   moments = λ before told files left. inl (c.target_of.ensures.moments files (c.append.ensures.moments files left));
-  error = grind (arith, common_steps);
+  error = IfErr-weaker c.append.result (g.D.Disk.gave c.append.new.self) _ (λ _ given. inl given) c.append.ensures.error;
 }
 
 pub returns-in-File : goal.returns-in-File
@@ -33,14 +32,16 @@ returns-in-File g c = record {
         | inl was ↦ inl (c.target_of.ensures.moments files was)
         | inr now ↦ inr (subst (λ name. IsWriting name (both c.args.output) before files) here now)
       ];
-  error = grind (arith, common_steps);
+  error = c.replace_file.ensures.error;
 }
 
 pub returns-in_err-target_of : goal.returns-in_err-target_of
-returns-in_err-target_of g c = record {
-  ok = grind (arith, common_steps);
-  err = on_err_by c.from_residual.result (adds_same c.args.name.now c.target_of.ensures.files);
-  streams = λ other apart. ap (λ (streams : Files). streams other) c.target_of.ensures.streams;
-  moments = λ before told files left. inl (c.target_of.ensures.moments files left);
-  error = grind (arith, common_steps);
-}
+returns-in_err-target_of g c =
+    let failed = is_error c.from_residual.result c.in_err-target_of.field-0.0 c.from_residual.ensures.1 in
+    record {
+      ok = rw failed tt;
+      err = on_err_by c.from_residual.result (adds_same c.args.name.now c.target_of.ensures.files);
+      streams = λ other apart. ap (λ (streams : Files). streams other) c.target_of.ensures.streams;
+      moments = λ before told files left. inl (c.target_of.ensures.moments files left);
+      error = rw failed (inl c.in_err-target_of.ensures.error);
+    }

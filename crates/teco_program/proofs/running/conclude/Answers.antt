@@ -1,9 +1,9 @@
-use Rattle.std.proofs.Common.{arith, rules}
-use Rattle.std.proofs.lemmas.Grind.{common_steps}
+use Rattle.std.proofs.Common.{◌∙◌, inl}
+use Rattle.teco_program.proofs.Showing.{told_by}
 use Rattle.teco_program.proofs.running.conclude.Goals as goal
 
 pub returns-in-Ok : goal.returns-in-Ok
 returns-in-Ok g c = record {
   status_is = c.in-Ok.ensures.ok.0;
-  told = first_of (search rules, grind (arith, common_steps));
+  told = inl (told_by c.put.result (c.as_bytes.ensures.value ∙ c.in-Ok.ensures.ok.1) c.put.ensures);
 }

@@ -4,11 +4,12 @@ use Rattle.teco_program.proofs.running.run_over.Goals as goal
 
 pub returns-then-is_streamed-clause-runs : goal.returns-then-is_streamed-clause-runs
 returns-then-is_streamed-clause-runs g c =
-    let h = c.edit_told.ensures.link in
+    let streamed = sym c.is_streamed.ensures ∙ c.if-is_streamed.true in
+    let h = rw streamed at c.edit_told.ensures.link in
     inl (
       search rules,
       inl (record {
-        streamed = sym c.is_streamed.ensures ∙ c.if-is_streamed.true;
+        streamed = streamed;
         fate = h.fate;
         run = h.run;
         end = subst (λ (n : List ℕ). Concludes c.args.line.now n h.fate (g.E.Terminal.screen c.args.errors.now) (g.E.Terminal.screen c.edit_told.new.errors) c.edit_told.result) c.as_str-name.ensures.value h.end;

@@ -7,10 +7,21 @@ use Rattle.teco_files.specs.Source.{Gives}
 use Rattle.teco_program.specs.Stream.{requests, texts_of}
 use Rattle.teco_program.specs.Exchange.{HasRung, allowance}
 use Rattle.teco_program.specs.Message.{star}
+use Rattle.teco_program.specs.declared.served.Served.TheVariants.{EndOfCommands, NoMemory, ReadFault, ShowFault}
 use Rattle.teco_program.proofs.Showing.{Shows-joins}
 use Rattle.teco_files.proofs.Sources.{Gives-nil, Gives-more, Gives-on}
 use Rattle.teco_program.proofs.Servings.{CutsOff-none, CutsOff-fed, CutsOff-append, CutsOff-first, CutsOff-all, Exchanges-append, GoOn-append, held_shows, ends_from}
 use Rattle.teco_program.proofs.serving.serve.Goals as goal
+
+-- no fault is the end of the commands
+show_apart : ShowFault ≡ EndOfCommands → ⊥
+show_apart end = cc
+
+read_apart : ReadFault ≡ EndOfCommands → ⊥
+read_apart end = cc
+
+memory_apart : NoMemory ≡ EndOfCommands → ⊥
+memory_apart end = cc
 
 -- what holds of a call that gave no error
 no_error : {T E P : Type 0} (result : Result T E) → is_err result ≡ false → OnOk result P → P
@@ -27,7 +38,7 @@ returns-in-Err g c =
       done = refl;
       first = ([], refl);
       all = λ out. absurd (true≢false (sym out));
-      ended = λ end. absurd cc;
+      ended = λ end. absurd (show_apart end);
       exit = tt;
       shown = record {
         before = [];
@@ -59,7 +70,7 @@ returns-in-Err-read g c =
       done = inv.3;
       first = CutsOff-first inv.0 c.pieces.splitter inv.1 inv.4;
       all = λ out. CutsOff-all inv.0 c.pieces.splitter inv.1 inv.4 inv.5;
-      ended = λ end. absurd cc;
+      ended = λ end. absurd (read_apart end);
       exit = inv.6;
       shown = inv.7;
     }
@@ -91,7 +102,7 @@ returns-then-is_err g c =
       done = inv.3;
       first = (requests (c.pieces.splitter ++ piece), inv.4.asks piece);
       all = λ out. absurd (true≢false (sym out));
-      ended = λ end. absurd cc;
+      ended = λ end. absurd (memory_apart end);
       exit = inv.6;
       shown = inv.7;
     }

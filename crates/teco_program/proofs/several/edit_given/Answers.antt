@@ -1,9 +1,9 @@
-use Rattle.std.proofs.Common.{◌∙◌, ap, arith, inr, Some}
+use Rattle.std.proofs.Common.{◌∙◌, ap, arith, inr, sym, Some}
 use Rattle.teco_program.proofs.Doings.{reads_all}
 use Rattle.teco_program.proofs.several.edit_given.Goals as goal
 
 pub returns : goal.returns
-returns g c = rw c.in-Some.is (record {
+returns g c = rw (sym c.is_streamed.ensures ∙ c.if-is_streamed.false) (record {
   kept = c.edit_input.ensures.still;
   edits = inr (
     c.new-given.result,
