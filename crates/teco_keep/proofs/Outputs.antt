@@ -11,7 +11,7 @@ use Rattle.teco_program.specs.Run.{KeepsDisk, WritesOutput}
 use Rattle.teco_program.specs.Seen.{DiskSeen}
 use Rattle.teco_program.proofs.Doings.{kept_same}
 use Rattle.teco_terminal.specs.Terminal.{Puts, Screen, Shows}
-use Rattle.teco_keep.specs.Keeping.{EndsWritten, FailsToPut, FailsToWrite, MakesAndPuts, Output, PutsOut, output_to}
+use Rattle.teco_keep.specs.Keeping.{FailsToPut, FailsToWrite, MakesAndPuts, Output, PutsOut, output_to}
 use Rattle.teco_keep.specs.declared.fate.Fate.{Fate}
 use Rattle.teco_keep.specs.Ending.{IsFateOf, is_told, said, status_of, text_of}
 use Rattle.teco_keep.specs.declared.fate.Fate.TheVariants.{Done, Faulty, Unreadable, NoInput, LargeInput, NoMemory, NoOutput}
@@ -56,13 +56,20 @@ pub fails_by : {I T : Type 0} (b : Bool) (screen : T → Screen) (name bytes : L
 fails_by true screen name bytes before after old new fate f = inr f.0.fate_is
 fails_by false screen name bytes before after old new fate f = of_error fate f.1.fate_is
 
-module _ (is_made : Made → Type 0) (input : List ℕ) (output : Output) {fate : Fate} (bytes : Vec ℕ Global) where
-  pub puts_fine : is_made (made.Fine bytes) → EndsWritten output bytes.items Done fate → MakesAndPuts is_made input output fate
-  puts_fine m (inl w) = subst (MakesAndPuts is_made input output) (sym w.0) (bytes, m, w.1)
-  puts_fine m (inr (f, inl is)) = subst (MakesAndPuts is_made input output) (sym is) (inr (bytes, inl m, subst (output.fails bytes.items) is f))
-  puts_fine m (inr (f, inr is)) = subst (MakesAndPuts is_made input output) (sym is) (bytes, inl m, subst (output.fails bytes.items) is f)
+-- what is to be written was made, and the run is to end by whether it tells of a fault
+abbrev pub Chosen : (Made → Type 0) → Vec ℕ Global × Fate → Type 0
+Chosen is_made (bytes, wanted) = (is_made (made.Fine bytes) × (wanted ≡ Done)) ⊎ (is_made (made.Faulty bytes) × (wanted ≡ Faulty))
 
-  pub puts_faulty : is_made (made.Faulty bytes) → EndsWritten output bytes.items Faulty fate → MakesAndPuts is_made input output fate
-  puts_faulty m (inl w) = subst (MakesAndPuts is_made input output) (sym w.0) (bytes, m, w.1)
-  puts_faulty m (inr (f, inl is)) = subst (MakesAndPuts is_made input output) (sym is) (inr (bytes, inr m, subst (output.fails bytes.items) is f))
-  puts_faulty m (inr (f, inr is)) = subst (MakesAndPuts is_made input output) (sym is) (bytes, inr m, subst (output.fails bytes.items) is f)
+module _ (is_made : Made → Type 0) (input : List ℕ) (output : Output) (bytes : Vec ℕ Global) where
+  pub puts : (wanted : Fate) → Chosen is_made (bytes, wanted) → output.writes bytes.items → MakesAndPuts is_made input output wanted
+  puts wanted (inl (m, is)) w = subst (MakesAndPuts is_made input output) (sym is) (bytes, m, w)
+  puts wanted (inr (m, is)) w = subst (MakesAndPuts is_made input output) (sym is) (bytes, m, w)
+
+  made_so : (wanted : Fate) → Chosen is_made (bytes, wanted) → is_made (made.Fine bytes) ⊎ is_made (made.Faulty bytes)
+  made_so wanted (inl (m, is)) = inl m
+  made_so wanted (inr (m, is)) = inr m
+
+  pub fails : (wanted fate : Fate) → Chosen is_made (bytes, wanted) → output.fails bytes.items fate → (fate ≡ NoMemory) ⊎ (fate ≡ NoOutput)
+      → MakesAndPuts is_made input output fate
+  fails wanted fate m f (inl is) = subst (MakesAndPuts is_made input output) (sym is) (inr (bytes, made_so wanted m, subst (output.fails bytes.items) is f))
+  fails wanted fate m f (inr is) = subst (MakesAndPuts is_made input output) (sym is) (bytes, made_so wanted m, subst (output.fails bytes.items) is f)

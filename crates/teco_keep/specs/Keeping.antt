@@ -127,11 +127,6 @@ MakesAndPuts is_made input output LargeInput = ⊥
 MakesAndPuts is_made input output NoMemory = output.keeps ⊎ FailsWith is_made output NoMemory
 MakesAndPuts is_made input output NoOutput = FailsWith is_made output NoOutput
 
--- The bytes were written, and the run ends as it is to; or that failed, and it ends by want of memory or of an output.
-abbrev pub EndsWritten : Output → List ℕ → Fate → Fate → Type 0
-EndsWritten output bytes wanted fate = ((fate ≡ wanted) × output.writes bytes)
-    ⊎ (output.fails bytes fate × ((fate ≡ NoMemory) ⊎ (fate ≡ NoOutput)))
-
 -- The input was read, and the run ends by what was made of it; or it was not read, and nothing is written.
 abbrev pub EndsAfter : Mode → Result (Vec ℕ Global) Fate → Output → Fate → Type 0
 EndsAfter mode (Ok input) output fate = MakesAndPuts (IsMade mode input.items) input.items output fate

@@ -3,7 +3,7 @@ ghost use Rattle.std.specs.Prelude.{◌≡◌, IfErr, IfOk, codes, false};
 ghost use Rattle.std.specs.Process.{exit_status};
 ghost use Rattle.teco_keep.specs.CommandLine.{SayNoLineIn, SayLineIn};
 ghost use Rattle.teco_keep.specs.Ending.{said};
-ghost use Rattle.teco_keep.specs.Keeping.{Concludes, EndsWritten, Keeps, MakesAndPuts, PutsOut, ReadsInput, RunsOver, output_of, view_of};
+ghost use Rattle.teco_keep.specs.Keeping.{Concludes, Keeps, MakesAndPuts, PutsOut, ReadsInput, RunsOver, output_of, view_of};
 ghost use Rattle.teco_keep.specs.Made.{IsMade};
 ghost use Rattle.teco_line.specs.StreamNames.{is_standard_input};
 ghost use Rattle.teco_keep.specs.Program.{KeepsBy};
@@ -72,26 +72,6 @@ fn put<T: Terminal, D: Disk>(
     put_in_file(alloc, name, number, bytes, disk)
 }
 
-/// Writes what was made. Once it is written the run ends as it is to.
-fn put_and_end<T: Terminal, D: Disk>(
-    alloc: Global,
-    line: &Line,
-    number: u32,
-    bytes: &[u8],
-    wanted: Fate,
-    term: &mut T,
-    disk: &mut D,
-) -> Fate
-    ensures { let seen = disk_seen D.files D.streams D.left D.gave D.changed
-        (source_view D.Input.coming D.Input.bound D.Input.failures D.Input.ended) in
-        EndsWritten (output_of T.screen line.now (seen disk.old) (seen disk.new) term.old term.new) bytes.now wanted result }
-{
-    match put(alloc, line, number, bytes, term, disk) {
-        Ok(()) => wanted,
-        Err(failed) => failed,
-    }
-}
-
 /// Makes of the input what the line says, and writes it.
 fn make_and_put<T: Terminal, D: Disk>(
     alloc: Global,
@@ -106,13 +86,15 @@ fn make_and_put<T: Terminal, D: Disk>(
         MakesAndPuts (IsMade line.now.mode input.now) input.now
         (output_of T.screen line.now (seen disk.old) (seen disk.new) term.old term.new) result }
 {
-    match make(alloc, line, input) {
-        Ok(Made::Fine(bytes)) => put_and_end(alloc, line, number, &bytes, Fate::Done, term, disk),
-        Ok(Made::Faulty(bytes)) => {
-            put_and_end(alloc, line, number, &bytes, Fate::Faulty, term, disk)
-        }
-        Ok(Made::Unreadable(at)) => Fate::Unreadable(spot_in(input, at)),
-        Err(NoMemory) => Fate::NoMemory,
+    let (bytes, wanted) = match make(alloc, line, input) {
+        Ok(Made::Fine(bytes)) => (bytes, Fate::Done),
+        Ok(Made::Faulty(bytes)) => (bytes, Fate::Faulty),
+        Ok(Made::Unreadable(at)) => return Fate::Unreadable(spot_in(input, at)),
+        Err(NoMemory) => return Fate::NoMemory,
+    };
+    match put(alloc, line, number, &bytes, term, disk) {
+        Ok(()) => wanted,
+        Err(failed) => failed,
     }
 }
 
