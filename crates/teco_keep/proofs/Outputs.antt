@@ -22,20 +22,13 @@ pub tells_put : {A E : Type 0} {old new : Screen} {bytes : List ℕ} (result : R
 tells_put (Ok done) p = inl p
 tells_put (Err fault) p = inr p
 
-module _ {I T A : Type 0} (screen : T → Screen) (name bytes : List ℕ) where
-  -- the bytes were put on standard output
-  pub puts_on : (disk : DiskSeen I) (old new : T) (result : Result A Fate) → is_standard_output name ≡ true
-      → OnOk result (Shows (screen old) (screen new) bytes false) → IfErr result (FailsToPut (screen old) (screen new) bytes)
-      → PutsOut (output_to (is_standard_output name) screen name disk disk old new) bytes result
-  puts_on disk old new (Ok done) on ok err = subst (λ b. (output_to b screen name disk disk old new).writes bytes) (sym on) (ok, kept_same)
-  puts_on disk old new (Err fate) on ok err = subst (λ b. (output_to b screen name disk disk old new).fails bytes fate) (sym on) (err, kept_same)
+-- the output goes to a file
+module _ {I T : Type 0} (screen : T → Screen) (name bytes : List ℕ) (before after : DiskSeen I) (term : T) (off : is_standard_output name ≡ false) where
+  pub writes_in : WritesOutput before after name bytes → (output_to (is_standard_output name) screen name before after term term).writes bytes
+  writes_in writes = subst (λ b. (output_to b screen name before after term term).writes bytes) (sym off) (refl, writes)
 
-  -- the bytes were put in a file
-  pub puts_in : (before after : DiskSeen I) (term : T) (result : Result A Fate) → is_standard_output name ≡ false
-      → OnOk result (WritesOutput before after name bytes) → IfErr result (FailsToWrite before after name bytes)
-      → PutsOut (output_to (is_standard_output name) screen name before after term term) bytes result
-  puts_in before after term (Ok done) off ok err = subst (λ b. (output_to b screen name before after term term).writes bytes) (sym off) (refl, ok)
-  puts_in before after term (Err fate) off ok err = subst (λ b. (output_to b screen name before after term term).fails bytes fate) (sym off) (refl, err)
+  pub fails_in : (fate : Fate) → FailsToWrite before after name bytes fate → (output_to (is_standard_output name) screen name before after term term).fails bytes fate
+  fails_in fate fails = subst (λ b. (output_to b screen name before after term term).fails bytes fate) (sym off) (refl, fails)
 
 -- an error's fate is want of memory or the other one
 no_other : {error : Error} {other fate : Fate} → IsFateOf error other fate → fate ≢ NoMemory → fate ≢ other → ⊥

@@ -12,20 +12,19 @@ ghost use Rattle.teco_program.specs.Run.{KeepsDisk};
 ghost use Rattle.teco_program.specs.Runs.{host};
 ghost use Rattle.teco_program.specs.Seen.{disk_seen, source_view};
 
-use crate::fate::{Fate, status};
+use crate::fate::{Fate, fate_of, status};
 use crate::line::Line;
 use crate::made::{Made, make};
 use crate::parsing::line_of;
 use crate::reading::{input_of_file, input_of_stream};
 use crate::telling::{spot_in, text_of};
-use crate::writing::{put_in_file, put_on_terminal};
 use std::alloc::Global;
 use std::process::ExitCode;
 use teco_core::NoMemory;
 use teco_files::{Disk, Source};
 use teco_line::{LineFault, is_standard_input, is_standard_output};
-use teco_program::refuse;
-use teco_terminal::Terminal;
+use teco_program::{refuse, write_output};
+use teco_terminal::{Terminal, TerminalFault};
 
 /// What is told where memory is refused to the program.
 const NO_MEMORY: &[u8] = b"tecol: no memory\n";
@@ -52,7 +51,8 @@ fn input_of<S: Source, D: Disk>(
     input_of_file(alloc, name, disk)
 }
 
-/// Writes what was made to where the line says.
+/// Writes what was made to where the line says: to standard output, or to a file, which has the bytes whole at each moment or is as it
+/// was. Says how that ended, if it failed.
 fn put<T: Terminal, D: Disk>(
     alloc: Global,
     line: &Line,
@@ -67,9 +67,15 @@ fn put<T: Terminal, D: Disk>(
 {
     let name = line.output.as_str();
     if is_standard_output(name) {
-        return put_on_terminal(bytes, term);
+        return match term.put(bytes) {
+            Ok(()) => Ok(()),
+            Err(TerminalFault) => Err(Fate::NoOutput),
+        };
     }
-    put_in_file(alloc, name, number, bytes, disk)
+    match write_output(alloc, disk, name, number, (bytes, &[])) {
+        Ok(()) => Ok(()),
+        Err(error) => Err(fate_of(error, Fate::NoOutput)),
+    }
 }
 
 /// Makes of the input what the line says, and writes it.

@@ -16,8 +16,8 @@ returns-in-Ok g c =
     let is_made = IsMade c.args.line.now.mode c.args.input.now in
     let made = c.match-make-2.bytes in
     let chosen : Chosen is_made made = elim c.match-make-2.branch [
-      in-Ok-Fine w ↦ subst (Chosen is_made) (sym w.bytes-is) (inl (search rules, refl))
-    | in-Ok-Faulty w ↦ subst (Chosen is_made) (sym w.bytes-is) (inr (search rules, refl))
+      | in-Ok-Fine w ↦ subst (Chosen is_made) (sym w.bytes-is) (inl (search rules, refl))
+      | in-Ok-Faulty w ↦ subst (Chosen is_made) (sym w.bytes-is) (inr (search rules, refl))
     ] in
     puts is_made c.args.input.now output made.0 made.1 chosen (subst (λ (bytes : List ℕ). output.writes bytes) c.deref.ensures.value c.in-Ok.ensures)
 
@@ -30,8 +30,8 @@ returns g c =
     let is_made = IsMade c.args.line.now.mode c.args.input.now in
     let made = c.match-make-2.bytes in
     let chosen : Chosen is_made made = elim c.match-make-2.branch [
-      in-Ok-Fine w ↦ subst (Chosen is_made) (sym w.bytes-is) (inl (search rules, refl))
-    | in-Ok-Faulty w ↦ subst (Chosen is_made) (sym w.bytes-is) (inr (search rules, refl))
+      | in-Ok-Fine w ↦ subst (Chosen is_made) (sym w.bytes-is) (inl (search rules, refl))
+      | in-Ok-Faulty w ↦ subst (Chosen is_made) (sym w.bytes-is) (inr (search rules, refl))
     ] in
     fails is_made c.args.input.now output made.0 made.1 c.in-Err-put.failed chosen (subst (λ (bytes : List ℕ). output.fails bytes c.in-Err-put.failed) c.deref.ensures.value c.in-Err-put.ensures)
     (fails_by (is_standard_output name) g.T.Terminal.screen name c.deref.result.now (seen c.args.disk.now) (seen c.put.new.disk) c.args.term.now c.put.new.term c.in-Err-put.failed c.in-Err-put.ensures)
