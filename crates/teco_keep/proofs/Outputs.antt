@@ -1,19 +1,14 @@
 -- Where the output goes, and what is told.
-use Rattle.std.proofs.Common.{◌≡◌, ◌≢◌, ◌⊎◌, inl, inr, ℕ, List, [], ◌++◌, Bool, true, false, Result, Ok, Err, Vec, Global, refl, sym, subst, ◌∙◌}
-use Rattle.std.specs.Prelude.{IfErr, OnOk}
-use Rattle.std.specs.IoError.{error_kind}
+use Rattle.std.proofs.Common.{◌≡◌, ◌≢◌, ◌⊎◌, inl, inr, ℕ, List, Bool, true, false, Result, Ok, Err, Vec, Global, refl, sym, subst}
 use Rattle.std.specs.declared.io.Error.{Error}
-use Rattle.std.specs.declared.io.ErrorKind.{ErrorKind}
-use Rattle.std.specs.declared.io.ErrorKind.TheVariants.{OutOfMemory}
 use Rattle.teco_line.specs.StreamNames.{is_standard_output}
 use Rattle.teco_program.specs.Refusing.{Tells}
-use Rattle.teco_program.specs.Run.{KeepsDisk, WritesOutput}
+use Rattle.teco_program.specs.Run.{WritesOutput}
 use Rattle.teco_program.specs.Seen.{DiskSeen}
-use Rattle.teco_program.proofs.Doings.{kept_same}
-use Rattle.teco_terminal.specs.Terminal.{Puts, Screen, Shows}
-use Rattle.teco_keep.specs.Keeping.{FailsToPut, FailsToWrite, MakesAndPuts, Output, PutsOut, output_to}
+use Rattle.teco_terminal.specs.Terminal.{Puts, Screen}
+use Rattle.teco_keep.specs.Keeping.{FailsToWrite, MakesAndPuts, Output, output_to}
 use Rattle.teco_keep.specs.declared.fate.Fate.{Fate}
-use Rattle.teco_keep.specs.Ending.{IsFateOf, is_told, said, status_of, text_of}
+use Rattle.teco_keep.specs.Ending.{IsFateOf}
 use Rattle.teco_keep.specs.declared.fate.Fate.TheVariants.{Done, Faulty, Unreadable, NoInput, LargeInput, NoMemory, NoOutput}
 use Rattle.teco_keep.specs.declared.made.Made.{Made}
 use Rattle.teco_keep.specs.declared.made.Made.TheVariants as made

@@ -35,3 +35,6 @@ returns g c =
     ] in
     fails is_made c.args.input.now output made.0 made.1 c.in-Err-put.failed chosen (subst (λ (bytes : List ℕ). output.fails bytes c.in-Err-put.failed) c.deref.ensures.value c.in-Err-put.ensures)
     (fails_by (is_standard_output name) g.T.Terminal.screen name c.deref.result.now (seen c.args.disk.now) (seen c.put.new.disk) c.args.term.now c.put.new.term c.in-Err-put.failed c.in-Err-put.ensures)
+
+pub returns-in-Ok-Unreadable : goal.returns-in-Ok-Unreadable
+returns-in-Ok-Unreadable g c = search rules

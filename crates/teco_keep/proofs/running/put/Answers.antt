@@ -1,4 +1,4 @@
-use Rattle.std.proofs.Common.{List, ℕ, append-nil, sym, subst, ◌∙◌}
+use Rattle.std.proofs.Common.{List, ℕ, append-nil, rules, sym, subst, ◌∙◌}
 use Rattle.teco_files.specs.Disk.{Changes, Passes}
 use Rattle.teco_line.specs.StreamNames.{is_standard_output}
 use Rattle.teco_program.specs.Seen.{disk_seen, source_view}
@@ -39,3 +39,6 @@ returns-in-Err-write_output g c =
       given = c.in-Err-write_output.ensures.error;
       fate_is = c.fate_of.ensures;
     }))
+
+pub returns-in-Err : goal.returns-in-Err
+returns-in-Err g c = search rules
