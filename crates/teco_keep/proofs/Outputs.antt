@@ -1,19 +1,14 @@
 -- Where the output goes, and what is told.
-use Rattle.std.proofs.Common.{◌≡◌, ◌≢◌, ◌⊎◌, inl, inr, ℕ, List, [], ◌++◌, Bool, true, false, Result, Ok, Err, Vec, Global, refl, sym, subst, ◌∙◌}
-use Rattle.std.specs.Prelude.{IfErr, OnOk}
-use Rattle.std.specs.IoError.{error_kind}
+use Rattle.std.proofs.Common.{◌≡◌, ◌≢◌, ◌⊎◌, inl, inr, ℕ, List, Bool, true, false, Result, Ok, Err, Vec, Global, refl, sym, subst}
 use Rattle.std.specs.declared.io.Error.{Error}
-use Rattle.std.specs.declared.io.ErrorKind.{ErrorKind}
-use Rattle.std.specs.declared.io.ErrorKind.TheVariants.{OutOfMemory}
 use Rattle.teco_line.specs.StreamNames.{is_standard_output}
 use Rattle.teco_program.specs.Refusing.{Tells}
-use Rattle.teco_program.specs.Run.{KeepsDisk, WritesOutput}
+use Rattle.teco_program.specs.Run.{WritesOutput}
 use Rattle.teco_program.specs.Seen.{DiskSeen}
-use Rattle.teco_program.proofs.Doings.{kept_same}
-use Rattle.teco_terminal.specs.Terminal.{Puts, Screen, Shows}
-use Rattle.teco_keep.specs.Keeping.{EndsWritten, FailsToPut, FailsToWrite, MakesAndPuts, Output, PutsOut, output_to}
+use Rattle.teco_terminal.specs.Terminal.{Puts, Screen}
+use Rattle.teco_keep.specs.Keeping.{FailsToWrite, MakesAndPuts, Output, output_to}
 use Rattle.teco_keep.specs.declared.fate.Fate.{Fate}
-use Rattle.teco_keep.specs.Ending.{IsFateOf, is_told, said, status_of, text_of}
+use Rattle.teco_keep.specs.Ending.{IsFateOf}
 use Rattle.teco_keep.specs.declared.fate.Fate.TheVariants.{Done, Faulty, Unreadable, NoInput, LargeInput, NoMemory, NoOutput}
 use Rattle.teco_keep.specs.declared.made.Made.{Made}
 use Rattle.teco_keep.specs.declared.made.Made.TheVariants as made
@@ -22,20 +17,13 @@ pub tells_put : {A E : Type 0} {old new : Screen} {bytes : List ℕ} (result : R
 tells_put (Ok done) p = inl p
 tells_put (Err fault) p = inr p
 
-module _ {I T A : Type 0} (screen : T → Screen) (name bytes : List ℕ) where
-  -- the bytes were put on standard output
-  pub puts_on : (disk : DiskSeen I) (old new : T) (result : Result A Fate) → is_standard_output name ≡ true
-      → OnOk result (Shows (screen old) (screen new) bytes false) → IfErr result (FailsToPut (screen old) (screen new) bytes)
-      → PutsOut (output_to (is_standard_output name) screen name disk disk old new) bytes result
-  puts_on disk old new (Ok done) on ok err = subst (λ b. (output_to b screen name disk disk old new).writes bytes) (sym on) (ok, kept_same)
-  puts_on disk old new (Err fate) on ok err = subst (λ b. (output_to b screen name disk disk old new).fails bytes fate) (sym on) (err, kept_same)
+-- the output goes to a file
+module _ {I T : Type 0} (screen : T → Screen) (name bytes : List ℕ) (before after : DiskSeen I) (term : T) (off : is_standard_output name ≡ false) where
+  pub writes_in : WritesOutput before after name bytes → (output_to (is_standard_output name) screen name before after term term).writes bytes
+  writes_in writes = subst (λ b. (output_to b screen name before after term term).writes bytes) (sym off) (refl, writes)
 
-  -- the bytes were put in a file
-  pub puts_in : (before after : DiskSeen I) (term : T) (result : Result A Fate) → is_standard_output name ≡ false
-      → OnOk result (WritesOutput before after name bytes) → IfErr result (FailsToWrite before after name bytes)
-      → PutsOut (output_to (is_standard_output name) screen name before after term term) bytes result
-  puts_in before after term (Ok done) off ok err = subst (λ b. (output_to b screen name before after term term).writes bytes) (sym off) (refl, ok)
-  puts_in before after term (Err fate) off ok err = subst (λ b. (output_to b screen name before after term term).fails bytes fate) (sym off) (refl, err)
+  pub fails_in : (fate : Fate) → FailsToWrite before after name bytes fate → (output_to (is_standard_output name) screen name before after term term).fails bytes fate
+  fails_in fate fails = subst (λ b. (output_to b screen name before after term term).fails bytes fate) (sym off) (refl, fails)
 
 -- an error's fate is want of memory or the other one
 no_other : {error : Error} {other fate : Fate} → IsFateOf error other fate → fate ≢ NoMemory → fate ≢ other → ⊥
@@ -56,13 +44,20 @@ pub fails_by : {I T : Type 0} (b : Bool) (screen : T → Screen) (name bytes : L
 fails_by true screen name bytes before after old new fate f = inr f.0.fate_is
 fails_by false screen name bytes before after old new fate f = of_error fate f.1.fate_is
 
-module _ (is_made : Made → Type 0) (input : List ℕ) (output : Output) {fate : Fate} (bytes : Vec ℕ Global) where
-  pub puts_fine : is_made (made.Fine bytes) → EndsWritten output bytes.items Done fate → MakesAndPuts is_made input output fate
-  puts_fine m (inl w) = subst (MakesAndPuts is_made input output) (sym w.0) (bytes, m, w.1)
-  puts_fine m (inr (f, inl is)) = subst (MakesAndPuts is_made input output) (sym is) (inr (bytes, inl m, subst (output.fails bytes.items) is f))
-  puts_fine m (inr (f, inr is)) = subst (MakesAndPuts is_made input output) (sym is) (bytes, inl m, subst (output.fails bytes.items) is f)
+-- what is to be written was made, and the run is to end by whether it tells of a fault
+abbrev pub Chosen : (Made → Type 0) → Vec ℕ Global × Fate → Type 0
+Chosen is_made (bytes, wanted) = (is_made (made.Fine bytes) × (wanted ≡ Done)) ⊎ (is_made (made.Faulty bytes) × (wanted ≡ Faulty))
 
-  pub puts_faulty : is_made (made.Faulty bytes) → EndsWritten output bytes.items Faulty fate → MakesAndPuts is_made input output fate
-  puts_faulty m (inl w) = subst (MakesAndPuts is_made input output) (sym w.0) (bytes, m, w.1)
-  puts_faulty m (inr (f, inl is)) = subst (MakesAndPuts is_made input output) (sym is) (inr (bytes, inr m, subst (output.fails bytes.items) is f))
-  puts_faulty m (inr (f, inr is)) = subst (MakesAndPuts is_made input output) (sym is) (bytes, inr m, subst (output.fails bytes.items) is f)
+module _ (is_made : Made → Type 0) (input : List ℕ) (output : Output) (bytes : Vec ℕ Global) where
+  pub puts : (wanted : Fate) → Chosen is_made (bytes, wanted) → output.writes bytes.items → MakesAndPuts is_made input output wanted
+  puts wanted (inl (m, is)) w = subst (MakesAndPuts is_made input output) (sym is) (bytes, m, w)
+  puts wanted (inr (m, is)) w = subst (MakesAndPuts is_made input output) (sym is) (bytes, m, w)
+
+  made_so : (wanted : Fate) → Chosen is_made (bytes, wanted) → is_made (made.Fine bytes) ⊎ is_made (made.Faulty bytes)
+  made_so wanted (inl (m, is)) = inl m
+  made_so wanted (inr (m, is)) = inr m
+
+  pub fails : (wanted fate : Fate) → Chosen is_made (bytes, wanted) → output.fails bytes.items fate → (fate ≡ NoMemory) ⊎ (fate ≡ NoOutput)
+      → MakesAndPuts is_made input output fate
+  fails wanted fate m f (inl is) = subst (MakesAndPuts is_made input output) (sym is) (inr (bytes, made_so wanted m, subst (output.fails bytes.items) is f))
+  fails wanted fate m f (inr is) = subst (MakesAndPuts is_made input output) (sym is) (bytes, made_so wanted m, subst (output.fails bytes.items) is f)

@@ -1,5 +1,5 @@
 -- A run over a line: what it reads, makes of that, writes and tells.
-use Rattle.std.specs.Prelude.{◌≡◌, ◌≢◌, ◌⊎◌, ℕ, List, Option, Bool, true, false, Result, Ok, Err, codes}
+use Rattle.std.specs.Prelude.{◌≡◌, ◌⊎◌, ℕ, List, Option, Bool, true, false, Result, Ok, Err, codes}
 use Rattle.std.specs.String.{string_bytes}
 use Rattle.std.specs.declared.alloc.Global.{Global}
 use Rattle.std.specs.declared.io.Error.{Error}
@@ -126,11 +126,6 @@ MakesAndPuts is_made input output LargeInput = ⊥
 -- memory was refused to the making, or to the writing
 MakesAndPuts is_made input output NoMemory = output.keeps ⊎ FailsWith is_made output NoMemory
 MakesAndPuts is_made input output NoOutput = FailsWith is_made output NoOutput
-
--- The bytes were written, and the run ends as it is to; or that failed, and it ends by want of memory or of an output.
-abbrev pub EndsWritten : Output → List ℕ → Fate → Fate → Type 0
-EndsWritten output bytes wanted fate = ((fate ≡ wanted) × output.writes bytes)
-    ⊎ (output.fails bytes fate × ((fate ≡ NoMemory) ⊎ (fate ≡ NoOutput)))
 
 -- The input was read, and the run ends by what was made of it; or it was not read, and nothing is written.
 abbrev pub EndsAfter : Mode → Result (Vec ℕ Global) Fate → Output → Fate → Type 0

@@ -1,7 +1,7 @@
 -- What a run makes of its input.
 use Rattle.std.specs.Prelude.{◌≡◌, ℕ, Bool, true, false, List, Ok, Err}
 use Rattle.teco_keep.specs.declared.line.Mode.{Mode}
-use Rattle.teco_keep.specs.declared.line.Mode.TheVariants.{Bytes, Listing, Again, CheckSource, CheckBytes}
+use Rattle.teco_keep.specs.declared.line.Mode.TheVariants.{Listing, Again, CheckSource, CheckBytes}
 use Rattle.teco_keep.specs.declared.made.Made.{Made}
 use Rattle.teco_keep.specs.declared.made.Made.TheVariants.{Fine, Faulty, Unreadable}
 use Rattle.teco_source.specs.Source.{commands_of}

@@ -1,6 +1,5 @@
 -- A run of the program: over the line of its words, or of words that say none.
 use Rattle.std.specs.Prelude.{◌≡◌, ◌⊎◌, ℕ, Result, codes}
-use Rattle.std.specs.String.{string_bytes}
 use Rattle.std.specs.declared.alloc.Global.{Global}
 use Rattle.std.specs.declared.string.String.{String}
 use Rattle.std.specs.declared.vec.Vec.{Vec}

@@ -8,7 +8,6 @@ mod parsing;
 mod reading;
 mod running;
 mod telling;
-mod writing;
 
 pub use line::{Line, Mode};
 pub use made::{Made, make};

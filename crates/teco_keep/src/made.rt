@@ -1,6 +1,6 @@
 //! What a run makes of its input.
 ghost use Rattle.std.specs.Prelude.{◌≡◌, IfOk};
-ghost use Rattle.teco_keep.specs.Made.{IsMade, IsMadeOf, IsMadeOfSource, IsVerdict, TellsWhether};
+ghost use Rattle.teco_keep.specs.Made.{IsMade, IsMadeOf, IsMadeOfSource, IsVerdict};
 
 use crate::line::{Line, Mode};
 use std::alloc::Global;
@@ -19,34 +19,23 @@ pub enum Made {
     Unreadable(usize),
 }
 
-/// What is told of commands.
-fn verdict(faulty: bool, lines: String) -> Made
-    ensures { TellsWhether faulty result }
-{
-    if faulty {
-        Made::Faulty(lines.into_bytes())
-    } else {
-        Made::Fine(lines.into_bytes())
-    }
-}
-
-/// The lines of a check of bytes.
-fn check_bytes(alloc: Global, name: &str, input: &[u8]) -> Result<Made, NoMemory>
-    ensures { IfOk result (IsVerdict input.now) }
-{
-    let advice = check(alloc, input)?;
-    let lines = report(alloc, name, input, None, input, &advice)?;
-    Ok(verdict(advice.is_faulty, lines))
-}
-
-/// The lines of a check of a source that stands for these commands.
-fn check_commands(alloc: Global, name: &str, source: &[u8], bytes: &[u8]) -> Result<Made, NoMemory>
+/// What a check tells of commands. `places` tells for each of their bytes where in the source it begins; without it the commands are
+/// the source.
+fn check_in(
+    alloc: Global,
+    name: &str,
+    source: &[u8],
+    places: Option<&[usize]>,
+    bytes: &[u8],
+) -> Result<Made, NoMemory>
     ensures { IfOk result (IsVerdict bytes.now) }
 {
     let advice = check(alloc, bytes)?;
-    let places = beginnings(alloc, source)?;
-    let lines = report(alloc, name, source, Some(&places), bytes, &advice)?;
-    Ok(verdict(advice.is_faulty, lines))
+    let lines = report(alloc, name, source, places, bytes, &advice)?.into_bytes();
+    if advice.is_faulty {
+        return Ok(Made::Faulty(lines));
+    }
+    Ok(Made::Fine(lines))
 }
 
 /// What is made of a source that stands for these commands.
@@ -59,7 +48,10 @@ fn make_of_commands(
     ensures { IfOk result (IsMadeOf line.now.mode bytes.items) }
 {
     match line.mode {
-        Mode::CheckSource => check_commands(alloc, line.input.as_str(), source, &bytes),
+        Mode::CheckSource => {
+            let places = beginnings(alloc, source)?;
+            check_in(alloc, line.input.as_str(), source, Some(&places), &bytes)
+        }
         Mode::Again => Ok(Made::Fine(listing(alloc, &bytes, line.words)?)),
         _ => Ok(Made::Fine(bytes)),
     }
@@ -82,7 +74,7 @@ pub fn make(alloc: Global, line: &Line, input: &[u8]) -> Result<Made, NoMemory>
 {
     match line.mode {
         Mode::Listing => Ok(Made::Fine(listing(alloc, input, line.words)?)),
-        Mode::CheckBytes => check_bytes(alloc, line.input.as_str(), input),
+        Mode::CheckBytes => check_in(alloc, line.input.as_str(), input, None, input),
         _ => make_of_source(alloc, line, input),
     }
 }

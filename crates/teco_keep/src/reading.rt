@@ -19,13 +19,9 @@ pub fn input_of_file<D: Disk>(alloc: Global, name: &str, disk: &mut D) -> Result
         (source_view D.Input.coming D.Input.bound D.Input.failures D.Input.ended) in
         KeepsDisk (seen disk.old) (seen disk.new) }
 {
-    let mut source = match disk.open(name) {
-        Ok(source) => source,
-        Err(error) => return Err(fate_of(error, Fate::NoInput)),
-    };
-    match read_input(alloc, &mut source, FILE_LIMIT) {
-        Ok(input) => Ok(input),
-        Err(fault) => Err(Fate::from(fault)),
+    match disk.open(name) {
+        Ok(mut source) => input_of_stream(alloc, &mut source),
+        Err(error) => Err(fate_of(error, Fate::NoInput)),
     }
 }
 
@@ -36,8 +32,5 @@ pub fn input_of_stream<S: Source>(alloc: Global, stream: &mut S) -> Result<Vec<u
     ensures fault { IfErr result (FailsToStream (source_view S.coming S.bound S.failures S.ended)
         stream.old stream.new) }
 {
-    match read_input(alloc, stream, FILE_LIMIT) {
-        Ok(input) => Ok(input),
-        Err(fault) => Err(Fate::from(fault)),
-    }
+    read_input(alloc, stream, FILE_LIMIT).map_err(Fate::from)
 }

@@ -3,7 +3,7 @@ ghost use Rattle.std.specs.Prelude.{◌≡◌, IfErr, IfOk, codes, false};
 ghost use Rattle.std.specs.Process.{exit_status};
 ghost use Rattle.teco_keep.specs.CommandLine.{SayNoLineIn, SayLineIn};
 ghost use Rattle.teco_keep.specs.Ending.{said};
-ghost use Rattle.teco_keep.specs.Keeping.{Concludes, EndsWritten, Keeps, MakesAndPuts, PutsOut, ReadsInput, RunsOver, output_of, view_of};
+ghost use Rattle.teco_keep.specs.Keeping.{Concludes, Keeps, MakesAndPuts, PutsOut, ReadsInput, RunsOver, output_of, view_of};
 ghost use Rattle.teco_keep.specs.Made.{IsMade};
 ghost use Rattle.teco_line.specs.StreamNames.{is_standard_input};
 ghost use Rattle.teco_keep.specs.Program.{KeepsBy};
@@ -12,20 +12,19 @@ ghost use Rattle.teco_program.specs.Run.{KeepsDisk};
 ghost use Rattle.teco_program.specs.Runs.{host};
 ghost use Rattle.teco_program.specs.Seen.{disk_seen, source_view};
 
-use crate::fate::{Fate, status};
+use crate::fate::{Fate, fate_of, status};
 use crate::line::Line;
 use crate::made::{Made, make};
 use crate::parsing::line_of;
 use crate::reading::{input_of_file, input_of_stream};
 use crate::telling::{spot_in, text_of};
-use crate::writing::{put_in_file, put_on_terminal};
 use std::alloc::Global;
 use std::process::ExitCode;
 use teco_core::NoMemory;
 use teco_files::{Disk, Source};
 use teco_line::{LineFault, is_standard_input, is_standard_output};
-use teco_program::refuse;
-use teco_terminal::Terminal;
+use teco_program::{refuse, write_output};
+use teco_terminal::{Terminal, TerminalFault};
 
 /// What is told where memory is refused to the program.
 const NO_MEMORY: &[u8] = b"tecol: no memory\n";
@@ -52,7 +51,8 @@ fn input_of<S: Source, D: Disk>(
     input_of_file(alloc, name, disk)
 }
 
-/// Writes what was made to where the line says.
+/// Writes what was made to where the line says: to standard output, or to a file, which has the bytes whole at each moment or is as it
+/// was. Says how that ended, if it failed.
 fn put<T: Terminal, D: Disk>(
     alloc: Global,
     line: &Line,
@@ -67,28 +67,14 @@ fn put<T: Terminal, D: Disk>(
 {
     let name = line.output.as_str();
     if is_standard_output(name) {
-        return put_on_terminal(bytes, term);
+        return match term.put(bytes) {
+            Ok(()) => Ok(()),
+            Err(TerminalFault) => Err(Fate::NoOutput),
+        };
     }
-    put_in_file(alloc, name, number, bytes, disk)
-}
-
-/// Writes what was made. Once it is written the run ends as it is to.
-fn put_and_end<T: Terminal, D: Disk>(
-    alloc: Global,
-    line: &Line,
-    number: u32,
-    bytes: &[u8],
-    wanted: Fate,
-    term: &mut T,
-    disk: &mut D,
-) -> Fate
-    ensures { let seen = disk_seen D.files D.streams D.left D.gave D.changed
-        (source_view D.Input.coming D.Input.bound D.Input.failures D.Input.ended) in
-        EndsWritten (output_of T.screen line.now (seen disk.old) (seen disk.new) term.old term.new) bytes.now wanted result }
-{
-    match put(alloc, line, number, bytes, term, disk) {
-        Ok(()) => wanted,
-        Err(failed) => failed,
+    match write_output(alloc, disk, name, number, (bytes, &[])) {
+        Ok(()) => Ok(()),
+        Err(error) => Err(fate_of(error, Fate::NoOutput)),
     }
 }
 
@@ -106,13 +92,15 @@ fn make_and_put<T: Terminal, D: Disk>(
         MakesAndPuts (IsMade line.now.mode input.now) input.now
         (output_of T.screen line.now (seen disk.old) (seen disk.new) term.old term.new) result }
 {
-    match make(alloc, line, input) {
-        Ok(Made::Fine(bytes)) => put_and_end(alloc, line, number, &bytes, Fate::Done, term, disk),
-        Ok(Made::Faulty(bytes)) => {
-            put_and_end(alloc, line, number, &bytes, Fate::Faulty, term, disk)
-        }
-        Ok(Made::Unreadable(at)) => Fate::Unreadable(spot_in(input, at)),
-        Err(NoMemory) => Fate::NoMemory,
+    let (bytes, wanted) = match make(alloc, line, input) {
+        Ok(Made::Fine(bytes)) => (bytes, Fate::Done),
+        Ok(Made::Faulty(bytes)) => (bytes, Fate::Faulty),
+        Ok(Made::Unreadable(at)) => return Fate::Unreadable(spot_in(input, at)),
+        Err(NoMemory) => return Fate::NoMemory,
+    };
+    match put(alloc, line, number, &bytes, term, disk) {
+        Ok(()) => wanted,
+        Err(failed) => failed,
     }
 }
 

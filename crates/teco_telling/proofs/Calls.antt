@@ -20,7 +20,6 @@ more_calls place registers string k old so mid new a b c =
     rw add-one
     (c ∙ ap (λ m. m ++ call) b ∙ ap (λ s. (s ++ codes ", ") ++ call) a ∙ append_assoc (old ++ some) (codes ", ") call ∙ append_assoc old some (codes ", " ++ call))
 
--- three texts put behind one after the other
-pub three : (old one two new xs ys zs : List ℕ) → one ≡ old ++ xs → two ≡ one ++ ys → new ≡ two ++ zs → new ≡ old ++ (xs ++ (ys ++ zs))
-three old one two new xs ys zs a b c =
-    c ∙ ap (λ t. t ++ zs) b ∙ ap (λ o. (o ++ ys) ++ zs) a ∙ append_assoc (old ++ xs) ys zs ∙ append_assoc old xs (ys ++ zs)
+-- two texts put behind one after the other
+pub two : (old one new xs ys : List ℕ) → one ≡ old ++ xs → new ≡ one ++ ys → new ≡ old ++ (xs ++ ys)
+two old one new xs ys a b = b ∙ ap (λ o. o ++ ys) a ∙ append_assoc old xs ys

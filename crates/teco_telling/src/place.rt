@@ -3,7 +3,7 @@
 ghost use Rattle.std.specs.Prelude.{◌≡◌, ◌++◌, OnOk, Some};
 ghost use Rattle.std.specs.String.{string_bytes};
 ghost use Rattle.teco_core.specs.Register.{register_of};
-ghost use Rattle.teco_telling.specs.Placed.{call_in_shown, call_shown, letter_of, name_shown, standing_shown, text_under};
+ghost use Rattle.teco_telling.specs.Placed.{call_in_shown, call_shown, letter_of, standing_shown, text_under};
 ghost use Rattle.teco_telling.specs.Shown.{place_shown};
 
 use crate::spot::spot_of;
@@ -50,14 +50,6 @@ pub fn show_spot(out: &mut String, text: &[u8], at: usize) -> Result<(), NoMemor
     write!(out, "{spot}")
 }
 
-/// Shows the letter of a register, and a space.
-fn show_name(out: &mut String, register: Reg) -> Result<(), NoMemory>
-    ensures { OnOk result (string_bytes out.new ≡ string_bytes out.old ++ name_shown register) }
-{
-    let name = letter(register);
-    write!(out, "{name} ")
-}
-
 /// Shows the register whose text is run, if one is called, and the place in the text that is run.
 pub fn show_place(
     out: &mut String,
@@ -69,7 +61,8 @@ pub fn show_place(
         ≡ string_bytes out.old ++ standing_shown place.now registers.now string.now) }
 {
     if let Some(call) = place.calls.first() {
-        show_name(out, call.register)?;
+        let name = letter(call.register);
+        write!(out, "{name} ")?;
     }
     show_spot(out, text_under(place, 0, registers, string), place.at)
 }
@@ -78,8 +71,8 @@ pub fn show_place(
 fn show_call_in(out: &mut String, call: &Call, text: &[u8]) -> Result<(), NoMemory>
     ensures { OnOk result (string_bytes out.new ≡ string_bytes out.old ++ call_in_shown call.now text.now) }
 {
-    show_name(out, call.register)?;
-    out.push_str("is called at ")?;
+    let name = letter(call.register);
+    write!(out, "{name} is called at ")?;
     show_spot(out, text, call.at)
 }
 

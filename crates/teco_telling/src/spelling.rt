@@ -1,5 +1,5 @@
 //! How bytes are spelled.
-ghost use Rattle.std.specs.Prelude.{◌≡◌, ◌<◌, ◌++◌, ◌∷◌, [], OnOk};
+ghost use Rattle.std.specs.Prelude.{◌≡◌, ◌<◌, ◌++◌, OnOk};
 ghost use Rattle.std.specs.String.{string_bytes};
 ghost use Rattle.teco_telling.specs.Spelling.{hex_digit, spelled, spelling, token_shown};
 
@@ -16,34 +16,26 @@ fn hex_digit(n: u8) -> u8
     if n < 10 { b'0' + n } else { b'A' - 10 + n }
 }
 
-fn push_byte(out: &mut String, byte: u8) -> Result<(), NoMemory>
-    requires { byte < 128 }
-    ensures { OnOk result (string_bytes out.new ≡ string_bytes out.old ++ byte ∷ []) }
-{
-    out.push(char::from(byte))
-}
-
 /// Spells a byte at the end of a text.
 pub fn spell_byte(out: &mut String, byte: u8) -> Result<(), NoMemory>
     ensures { OnOk result (string_bytes out.new ≡ string_bytes out.old ++ spelling byte) }
 {
     if byte == ESC {
-        return push_byte(out, b'$');
+        return out.push('$');
     }
     if byte < 32 {
-        push_byte(out, b'^')?;
-        return push_byte(out, byte + 64);
+        let letter = char::from(byte + 64);
+        return write!(out, "^{letter}");
     }
     if byte < 127 {
-        return push_byte(out, byte);
+        return out.push(char::from(byte));
     }
     if byte == 127 {
         return out.push_str("^?");
     }
-    push_byte(out, b'[')?;
-    push_byte(out, hex_digit(byte / 16))?;
-    push_byte(out, hex_digit(byte % 16))?;
-    push_byte(out, b']')
+    let high = char::from(hex_digit(byte / 16));
+    let low = char::from(hex_digit(byte % 16));
+    write!(out, "[{high}{low}]")
 }
 
 /// Spells bytes at the end of a text.

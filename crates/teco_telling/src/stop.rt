@@ -1,5 +1,5 @@
 //! Why a run stopped.
-ghost use Rattle.std.specs.Prelude.{◌≡◌, ◌++◌, List, ℕ, Option, Some, None, OnOk, drop, length, option_copied};
+ghost use Rattle.std.specs.Prelude.{◌≡◌, ◌++◌, List, ℕ, Option, Some, None, OnOk, codes, drop, length, option_copied};
 ghost use Rattle.std.specs.String.{string_bytes};
 ghost use Rattle.teco_scan.specs.Scan.{scan};
 ghost use Rattle.teco_exec.specs.declared.place.Place.{Place};
@@ -54,13 +54,14 @@ fn show_token_at(out: &mut String, text: &[u8], at: usize) -> Result<(), NoMemor
     spell_token(out, token(text, at, MOST_FAULTY))
 }
 
-/// Shows the code of a fault, where it isn't the one that is told.
-fn show_code_of_fault(out: &mut String, fault: Code, code: Code) -> Result<(), NoMemory>
-    ensures { OnOk result (string_bytes out.new ≡ string_bytes out.old ++ code_of_fault fault code) }
+/// Shows that a fault comes at the place which is shown next, and its code, where it isn't the one that is told.
+fn show_fault_before(out: &mut String, fault: Code, code: Code) -> Result<(), NoMemory>
+    ensures { OnOk result (string_bytes out.new
+        ≡ string_bytes out.old ++ (codes ", fault " ++ code_of_fault fault code ++ codes "at ")) }
 {
     match code {
-        Code::Tag => write!(out, "{fault} "),
-        _ => Ok(()),
+        Code::Tag => write!(out, ", fault {fault} at "),
+        _ => out.push_str(", fault at "),
     }
 }
 
@@ -84,9 +85,7 @@ fn show_fault_here(
 ) -> Result<(), NoMemory>
     ensures { OnOk result (string_bytes out.new ≡ string_bytes out.old ++ fault_here_shown text.now at fault code) }
 {
-    out.push_str(", fault ")?;
-    show_code_of_fault(out, fault, code)?;
-    out.push_str("at ")?;
+    show_fault_before(out, fault, code)?;
     show_spot(out, text, at)?;
     out.push_str(", ")?;
     show_token_at(out, text, at)

@@ -1,25 +1,44 @@
-use Rattle.std.proofs.Common.{List, ℕ, sym, subst, ◌∙◌}
+use Rattle.std.proofs.Common.{List, ℕ, append-nil, rules, sym, subst, ◌∙◌}
+use Rattle.teco_files.specs.Disk.{Changes, Passes}
 use Rattle.teco_line.specs.StreamNames.{is_standard_output}
 use Rattle.teco_program.specs.Seen.{disk_seen, source_view}
-use Rattle.teco_keep.specs.Keeping.{PutsOut, output_to}
-use Rattle.teco_keep.proofs.Outputs.{puts_in, puts_on}
+use Rattle.teco_program.specs.Writing.{IsPut, IsWriting}
+use Rattle.teco_keep.specs.Keeping.{output_to}
+use Rattle.teco_keep.proofs.Outputs.{fails_in, writes_in}
 use Rattle.teco_keep.proofs.running.put.Goals as goal
 
-pub returns-then-is_standard_output : goal.returns-then-is_standard_output
-returns-then-is_standard_output g c =
+pub returns-in-Ok-write_output : goal.returns-in-Ok-write_output
+returns-in-Ok-write_output g c =
     let seen = disk_seen g.D.Disk.files g.D.Disk.streams g.D.Disk.left g.D.Disk.gave g.D.Disk.changed
     (source_view g.D.Input.Source.coming g.D.Input.Source.bound g.D.Input.Source.failures g.D.Input.Source.ended) in
-    let disk = seen c.args.disk.now in
-    subst (λ (n : List ℕ). PutsOut (output_to (is_standard_output n) g.T.Terminal.screen n disk disk c.args.term.now c.put_on_terminal.new.term) c.args.bytes.now c.put_on_terminal.result) c.as_str-name.ensures.value
-    (puts_on g.T.Terminal.screen c.as_str-name.result.now c.args.bytes.now disk c.args.term.now c.put_on_terminal.new.term c.put_on_terminal.result
-    (sym c.is_standard_output.ensures ∙ c.if-is_standard_output.true) c.put_on_terminal.ensures.ok c.put_on_terminal.ensures.err)
+    let old = c.args.disk.now in
+    let new = c.write_output.new.disk in
+    let name = c.as_str-name.result.now in
+    let whole = append-nil c.args.bytes.now in
+    subst (λ (n : List ℕ). (output_to (is_standard_output n) g.T.Terminal.screen n (seen old) (seen new) c.args.term.now c.args.term.now).writes c.args.bytes.now) c.as_str-name.ensures.value
+    (writes_in g.T.Terminal.screen name c.args.bytes.now (seen old) (seen new) c.args.term.now (sym c.is_standard_output.ensures ∙ c.if-is_standard_output.false) (record {
+      files = subst (λ (bytes : List ℕ). Changes (g.D.Disk.files old) (g.D.Disk.files new) (IsPut name bytes (g.D.Disk.streams old name) (g.D.Disk.streams new name))) whole c.in-Ok-write_output.ensures.ok;
+      streams = c.in-Ok-write_output.ensures.streams;
+      moments = subst (λ (bytes : List ℕ). Passes (g.D.Disk.files old) (g.D.Disk.left old) (g.D.Disk.left new) (IsWriting name bytes)) whole c.in-Ok-write_output.ensures.moments;
+    }))
 
-pub returns : goal.returns
-returns g c =
+pub returns-in-Err-write_output : goal.returns-in-Err-write_output
+returns-in-Err-write_output g c =
     let seen = disk_seen g.D.Disk.files g.D.Disk.streams g.D.Disk.left g.D.Disk.gave g.D.Disk.changed
     (source_view g.D.Input.Source.coming g.D.Input.Source.bound g.D.Input.Source.failures g.D.Input.Source.ended) in
-    let old = seen c.args.disk.now in
-    let new = seen c.put_in_file.new.disk in
-    subst (λ (n : List ℕ). PutsOut (output_to (is_standard_output n) g.T.Terminal.screen n old new c.args.term.now c.args.term.now) c.args.bytes.now c.put_in_file.result) c.as_str-name.ensures.value
-    (puts_in g.T.Terminal.screen c.as_str-name.result.now c.args.bytes.now old new c.args.term.now c.put_in_file.result
-    (sym c.is_standard_output.ensures ∙ c.if-is_standard_output.false) c.put_in_file.ensures.ok c.put_in_file.ensures.err)
+    let old = c.args.disk.now in
+    let new = c.write_output.new.disk in
+    let name = c.as_str-name.result.now in
+    let fate = c.fate_of.result in
+    subst (λ (n : List ℕ). (output_to (is_standard_output n) g.T.Terminal.screen n (seen old) (seen new) c.args.term.now c.args.term.now).fails c.args.bytes.now fate) c.as_str-name.ensures.value
+    (fails_in g.T.Terminal.screen name c.args.bytes.now (seen old) (seen new) c.args.term.now (sym c.is_standard_output.ensures ∙ c.if-is_standard_output.false) fate (record {
+      files = c.in-Err-write_output.ensures.err;
+      streams = c.in-Err-write_output.ensures.streams;
+      moments = subst (λ (bytes : List ℕ). Passes (g.D.Disk.files old) (g.D.Disk.left old) (g.D.Disk.left new) (IsWriting name bytes)) (append-nil c.args.bytes.now) c.in-Err-write_output.ensures.moments;
+      error = c.in-Err-write_output.error;
+      given = c.in-Err-write_output.ensures.error;
+      fate_is = c.fate_of.ensures;
+    }))
+
+pub returns-in-Err : goal.returns-in-Err
+returns-in-Err g c = search rules

@@ -1,4 +1,4 @@
-use Rattle.std.proofs.Common.{List, ℕ, Ok, ap, sym, subst, ◌∙◌}
+use Rattle.std.proofs.Common.{List, ℕ, ap, sym, subst, ◌∙◌}
 use Rattle.teco_line.specs.StreamNames.{is_standard_input}
 use Rattle.teco_program.specs.Seen.{disk_seen, source_view}
 use Rattle.teco_keep.specs.Keeping.{EndsAfter, MakesAndPuts, ReadsInput, output_of}

@@ -1,14 +1,20 @@
+use Rattle.std.proofs.Common.{◌≡◌, ◌∙◌, ◌<◌, ◌++◌, ◌∷◌, ap, arith}
 use Rattle.std.specs.Prelude.{codes}
 use Rattle.std.specs.String.{string_bytes}
+use Rattle.std.proofs.lemmas.Grind.{common_steps}
 use Rattle.std.proofs.lemmas.Result.{on_ok_weaker}
-use Rattle.teco_telling.specs.Placed.{name_shown}
+use Rattle.std.proofs.lemmas.Str.{encode_ascii}
 use Rattle.teco_telling.specs.Shown.{place_shown}
-use Rattle.teco_telling.proofs.Calls.{three}
+use Rattle.teco_telling.specs.Placed.{letter_of}
+use Rattle.teco_telling.proofs.Calls.{two}
 use Rattle.teco_telling.proofs.place.show_call_in.Goals as goal
 
 pub returns : goal.returns
 returns c =
-    on_ok_weaker c.show_spot.result
-    (λ e. three (string_bytes c.args.out.now) (string_bytes c.show_name.new.out) (string_bytes c.push_str.new.self) (string_bytes c.show_spot.new.out) (name_shown c.args.call.now.register) (codes "is called at ") (place_shown c.args.text.now c.args.call.now.at)
-    c.in_ok-show_name.ensures c.in_ok-push_str.ensures.bytes e)
-    c.show_spot.ensures
+    let old = string_bytes c.args.out.now in
+    let mid = string_bytes c.write.new.self in
+    let called = codes " is called at " in
+    let low : c.letter-name.result < 128 = grind (arith, common_steps) in
+    let first : mid ≡ old ++ (letter_of c.args.call.now.register ∷ called) =
+    c.in_ok-write.ensures.bytes ∙ ap (λ n. old ++ (n ++ called)) (encode_ascii c.letter-name.result low) ∙ ap (λ n. old ++ (n ∷ called)) c.letter-name.ensures.value in
+    on_ok_weaker c.show_spot.result (λ e. two old mid (string_bytes c.show_spot.new.out) (letter_of c.args.call.now.register ∷ called) (place_shown c.args.text.now c.args.call.now.at) first e) c.show_spot.ensures
