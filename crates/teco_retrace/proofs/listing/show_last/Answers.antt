@@ -3,9 +3,8 @@ use Rattle.std.specs.Prelude.{codes}
 use Rattle.std.specs.String.{string_bytes}
 use Rattle.std.proofs.lemmas.Result.{on_ok_weaker}
 use Rattle.teco_telling.specs.Spelling.{spelled}
-use Rattle.teco_telling.proofs.Calls.{three}
 use Rattle.teco_retrace.specs.Listing.{found_shown, last_shown}
-use Rattle.teco_retrace.proofs.Texts.{put_behind}
+use Rattle.teco_retrace.proofs.Texts.{put_behind, three_from_right}
 use Rattle.teco_retrace.proofs.listing.show_last.Goals as goal
 use Rattle.teco_retrace.proofs.listing.show_last.Goals.{then-found, else-found}
 
@@ -20,6 +19,6 @@ returns c =
       | else-found w ↦ rw (w.push_str-is, w.if-found.false) refl
     ] in
     on_ok_weaker c.push_str-2.result
-    (λ e. three (string_bytes c.args.out.now) (string_bytes c.push_str.new.self) two new
+    (λ e. three_from_right (string_bytes c.args.out.now) (string_bytes c.push_str.new.self) two new
     (codes "last search ") (spelled c.args.text.now) (found_shown c.args.found) c.in_ok-push_str.ensures.bytes c.in_ok-spell.ensures (e ∙ ap (λ t. two ++ t) found_is))
     (put_behind c.push_str-2.result two new words c.push_str-2.ensures.bytes)

@@ -2,10 +2,9 @@ use Rattle.std.proofs.Common.{◌≡◌, ◌∙◌, ◌++◌, ◌∷◌, ap, ari
 use Rattle.std.proofs.lemmas.Result.{on_ok_weaker}
 use Rattle.std.specs.Prelude.{codes, slice_range}
 use Rattle.std.specs.String.{string_bytes}
-use Rattle.teco_telling.proofs.Calls.{three}
 use Rattle.teco_telling.specs.Spelling.{spelled}
 use Rattle.teco_retrace.specs.Showing.{line_end_of, line_shown, line_start_of}
-use Rattle.teco_retrace.proofs.Texts.{put_behind}
+use Rattle.teco_retrace.proofs.Texts.{put_behind, three_from_right}
 use Rattle.teco_retrace.proofs.showing.show_whole_line.Goals as goal
 
 pub returns : goal.returns
@@ -21,5 +20,5 @@ returns c =
     let line_is =
     c.in_ok-spell.ensures ∙ ap (λ s. one ++ spelled (slice_range text s c.line_end-end.result)) start_is ∙ ap (λ e. one ++ spelled (slice_range text start e)) c.line_end-end.ensures.value in
     on_ok_weaker c.push_str-2.result
-    (λ e. three (string_bytes c.args.out.now) one two new (codes "    ") (spelled (slice_range text start end)) (10 ∷ codes "    ") c.in_ok-push_str.ensures.bytes line_is e)
+    (λ e. three_from_right (string_bytes c.args.out.now) one two new (codes "    ") (spelled (slice_range text start end)) (10 ∷ codes "    ") c.in_ok-push_str.ensures.bytes line_is e)
     (put_behind c.push_str-2.result two new (10 ∷ codes "    ") c.push_str-2.ensures.bytes)
