@@ -9,7 +9,6 @@ use crate::next::Next;
 use std::alloc::AllocError;
 use teco_core::{Args, Code};
 use teco_store::Refused;
-use teco_terminal::TerminalFault;
 
 /// Why a step was not done.
 #[derive(Clone, Copy)]
@@ -46,14 +45,6 @@ impl From<AllocError> for Failure {
 
     fn from(_: AllocError) -> Self {
         Failure::Memory
-    }
-}
-
-impl From<TerminalFault> for Failure {
-    ghost from_gives = { λ _ result. result ≡ failure.Terminal };
-
-    fn from(_: TerminalFault) -> Self {
-        Failure::Terminal
     }
 }
 

@@ -1,6 +1,7 @@
 //! Commands that type. They change no state and take no memory, and one that is not done keeps the arguments.
-ghost use Rattle.std.specs.Prelude.{◌≡◌, ◌≢◌, ◌≤◌, ◌++◌, [], false, length, drop, take, OnErr};
+ghost use Rattle.std.specs.Prelude.{◌≡◌, ◌≢◌, ◌≤◌, ◌++◌, [], false, length, drop, take, Err, Ok, OnErr, OnOk};
 ghost use Rattle.std.specs.Fmt.{digits};
+ghost use Rattle.teco_core.specs.Arguments.{no_arguments};
 ghost use Rattle.teco_core.specs.ArgumentsView.{arguments};
 ghost use Rattle.teco_core.specs.Number.{to_word};
 ghost use Rattle.teco_step.specs.Families.{Types};
@@ -47,6 +48,20 @@ fn put_range<T: Terminal>(
     put_some(second, term)
 }
 
+/// What a command that types leads to. If its bytes are shown it is done, and its arguments are gone.
+fn typed(shown: Result<(), TerminalFault>, args: &mut Args) -> Result<Next, Failure>
+    ensures ok { OnOk shown ((result ≡ Ok Next.On) × (arguments args.new ≡ no_arguments)) }
+    ensures err { OnErr shown ((result ≡ Err Failure.Terminal) × (arguments args.new ≡ arguments args.old)) }
+{
+    match shown {
+        Ok(()) => {
+            args.clear();
+            Ok(Next::On)
+        }
+        Err(TerminalFault) => Err(Failure::Terminal),
+    }
+}
+
 /// Shows the bytes. The command is then done, and its arguments gone.
 pub(crate) fn show<D: Desk, T: Terminal>(
     desk: &D,
@@ -57,9 +72,7 @@ pub(crate) fn show<D: Desk, T: Terminal>(
     ensures { Types (goes (typing.shows bytes.now)) (D.state desk.now) (arguments args.old)
         (arguments args.new) (T.screen term.old) (T.screen term.new) result }
 {
-    put_some(bytes, term)?;
-    args.clear();
-    Ok(Next::On)
+    typed(put_some(bytes, term), args)
 }
 
 /// `nT` types what n lines reach, and `m,nT` the range.
@@ -73,9 +86,7 @@ pub(crate) fn type_out<D: Desk, T: Terminal>(
 {
     let range = takes_reach(desk, args)?;
     let (before, after) = desk.halves();
-    put_range(before, after, range, term)?;
-    args.clear();
-    Ok(Next::On)
+    typed(put_range(before, after, range, term), args)
 }
 
 /// `V` types the line that the pointer is in.
@@ -90,9 +101,7 @@ pub(crate) fn view<D: Desk, T: Terminal>(
     takes_none(args)?;
     let range = line_around(desk);
     let (before, after) = desk.halves();
-    put_range(before, after, range, term)?;
-    args.clear();
-    Ok(Next::On)
+    typed(put_range(before, after, range, term), args)
 }
 
 /// `^Atext^A` types its text.
@@ -209,7 +218,5 @@ pub(crate) fn print<D: Desk, T: Terminal>(
         (arguments args.new) (T.screen term.old) (T.screen term.new) result }
 {
     let n = takes_one(args, Code::Nae)?;
-    put_number(n, in_octal, modifiers, term)?;
-    args.clear();
-    Ok(Next::On)
+    typed(put_number(n, in_octal, modifiers, term), args)
 }
