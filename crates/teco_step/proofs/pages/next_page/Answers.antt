@@ -1,21 +1,12 @@
-use Rattle.std.proofs.Common.{◌≡◌, ◌<◌, ◌≤◌, ap, arith, Err, length, Ok, refl}
-use Rattle.std.proofs.lemmas.Bool.Decides.{nat_tests}
+use Rattle.std.proofs.Common.{◌≡◌, ap, arith, length, refl}
 use Rattle.teco_core.specs.ArgumentsView.{arguments}
-use Rattle.teco_core.specs.declared.code.Code.TheVariants.{Big}
 use Rattle.teco_core.specs.declared.limits.TheConstants.{TEXT_LIMIT}
 use Rattle.teco_store.specs.Page.{page_load, with_page}
-use Rattle.teco_store.specs.State.{State}
-use Rattle.teco_step.specs.Pages.{next_page, with_page_read}
+use Rattle.teco_step.specs.Pages.{next_page}
 use Rattle.teco_step.specs.Step.{goes, goes_on, on}
 use Rattle.teco_step.proofs.Acting.{acts_answered, acts_refused, goes_made, refusal_made, refusal_then, then_not, then_ok, within_by}
+use Rattle.teco_step.proofs.PageReads.{read_over, read_within}
 use Rattle.teco_step.proofs.pages.next_page.Goals as goal
-
--- a page that comes into an empty buffer, past its limit or within it
-read_over : (s : State) → length s.text ≡ 0 → TEXT_LIMIT < length (with_page s).text → with_page_read s ≡ Err Big
-read_over s empty over = grind (arith, nat_tests)
-
-read_within : (s : State) → length s.text ≡ 0 → length (with_page s).text ≤ TEXT_LIMIT → with_page_read s ≡ Ok (with_page s)
-read_within s empty within = grind (arith, nat_tests)
 
 pub returns-in_err-takes_none : goal.returns-in_err-takes_none
 returns-in_err-takes_none g c =
