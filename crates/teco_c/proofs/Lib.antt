@@ -1,8 +1,1 @@
-mod AsBox
-mod Opens
-mod AsFlag
-mod OpensFlag
-mod Filling
-mod Dropping
-mod OpenCalls
 mod Telling

@@ -1,13 +1,2 @@
-pub mod Handle
-pub mod Lending
-pub mod Stopper
-pub mod FlagLending
-pub mod Stops
-pub mod Numbers
-pub mod Rooms
-pub mod Calls
-pub mod Places
 pub mod Looks
 pub mod Changes
-pub mod Tokens
-pub mod Frames

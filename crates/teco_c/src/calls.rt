@@ -4,32 +4,15 @@ ghost use Rattle.teco_core.specs.Code.{number_of};
 ghost use Rattle.teco_core.specs.declared.code.Code.TheVariants.{Mem};
 ghost use Rattle.teco_session.specs.Kept.{new_session};
 ghost use Rattle.teco_session.specs.declared.request.Answer.{Answer as RunAnswer};
-ghost use Rattle.teco_c.specs.Calls.{StaysClosed, Undoes, Redoes, Rewinds, Forgets, RunsTo, depth_asked};
-ghost use Rattle.teco_c.specs.Handle.{SessionGoes};
-ghost use Rattle.teco_c.specs.Numbers.{answer_number, steps_of};
+ghost use Rattle.teco_door.specs.Calls.{StaysClosed, Undoes, Redoes, Rewinds, Forgets, RunsTo, depth_asked};
+ghost use Rattle.teco_door.specs.Handle.{SessionGoes};
+ghost use Rattle.teco_door.specs.Numbers.{answer_number, steps_of};
 
 use crate::answers::{CLOSED, DEEP, LARGE, number_of_answer, steps_of_answer};
 use crate::handle::Teco;
-use crate::parts::Parts;
-use crate::room::Room;
 use std::alloc::Global;
-use teco_core::{Code, DEPTH_LIMIT, FILE_LIMIT, NoMemory};
-use teco_session::{Answer, Session};
-
-/// A session over a copy of the input, that keeps the last `depth` strings, or all of them where that is 0.
-fn session_over(alloc: Global, input: &[u8], depth: usize) -> Result<Box<Session>, NoMemory>
-    requires input { length input.now ≤ FILE_LIMIT }
-    requires depth { depth ≤ DEPTH_LIMIT }
-    ensures { IfOk result (λ session. session.value ≡ new_session (depth_asked depth) input.now) }
-{
-    let input = Vec::from_slice(alloc, input)?;
-    let session = if depth == 0 {
-        Session::new(input)
-    } else {
-        Session::with_depth(input, depth)?
-    };
-    Ok(Box::new(alloc, session)?)
-}
+use teco_core::{Code, DEPTH_LIMIT, FILE_LIMIT};
+use teco_door::calls::{run_in, session_over, undo};
 
 /// Opens a handle: a session over a copy of the input, that keeps the last `depth` strings, or all of them where that is 0. What was
 /// open in it is freed then.
@@ -52,7 +35,7 @@ pub extern "C" fn teco_open(alloc: Global, t: &mut Teco, input: &[u8], depth: us
     match session_over(alloc, input, depth) {
         Err(_) => Code::Mem.number(),
         Ok(session) => {
-            t.put(Teco::of_parts(Parts::of(session)));
+            t.open(session);
             0
         }
     }
@@ -63,7 +46,7 @@ pub extern "C" fn teco_open(alloc: Global, t: &mut Teco, input: &[u8], depth: us
 pub extern "C" fn teco_close(alloc: Global, t: &mut Teco)
     ensures { t.new.value ≡ None }
 {
-    t.put(Teco::closed(alloc));
+    t.close(alloc);
 }
 
 /// Goes back by a string: 0, or the number of NTU where there is none. Takes no memory.
@@ -75,10 +58,7 @@ pub extern "C" fn teco_undo(t: &mut Teco) -> u8
     let Some(session) = t.session() else {
         return CLOSED;
     };
-    match session.undo() {
-        Ok(()) => 0,
-        Err(_) => Code::Ntu.number(),
-    }
+    undo(session)
 }
 
 /// Goes on by a string: 0, or the number of NTR where there is none. Takes no memory.
@@ -122,27 +102,6 @@ pub extern "C" fn teco_forget(t: &mut Teco) -> u8
     };
     session.forget();
     0
-}
-
-/// Runs a string on an empty room, which keeps the room that it writes to.
-fn run_on(session: &mut Session, text: &[u8], limit: u64, term: &mut Room) -> Answer
-    requires { term.old.count ≡ 0 }
-    ensures same_reference { term.new.room.ghost_name ≡ term.old.room.ghost_name }
-    ensures length { length term.new.room.now ≡ length term.old.room.now }
-    ensures run { RunsTo limit session.old text.now result
-        (take term.new.count term.new.room.now) session.new }
-{
-    session.run(text, limit, term)
-}
-
-/// Runs a string over a room, and tells how many bytes were typed.
-fn run_in(session: &mut Session, text: &[u8], limit: u64, room: &mut [u8]) -> (Answer, usize)
-    ensures run { RunsTo limit session.old text.now result.0 (take result.1 room.new) session.new }
-    ensures within { result.1 ≤ length room.new }
-{
-    let mut term = Room::new(room);
-    let answer = run_on(session, text, limit, &mut term);
-    (answer, term.count)
 }
 
 /// Runs a command string under a limit of steps. Typed bytes go to the room, and where too little of it is left for a put the terminal

@@ -1,62 +1,17 @@
 //! The call that runs a string and tells each call that is open where it stopped.
-ghost use Rattle.std.specs.Prelude.{◌≡◌, ◌≤◌, length, map, take, None};
+ghost use Rattle.std.specs.Prelude.{◌≡◌, ◌≤◌, length, take, None};
 ghost use Rattle.teco_session.specs.declared.request.Answer.{Answer as RunAnswer};
-ghost use Rattle.teco_c.specs.Calls.{StaysClosed, RunsToWithin};
-ghost use Rattle.teco_c.specs.Frames.{TellsFrames, filled_calls, open_call, open_calls, place_within};
-ghost use Rattle.teco_c.specs.Handle.{SessionGoes};
-ghost use Rattle.teco_c.specs.Numbers.{answer_number, steps_of};
-ghost use Rattle.teco_c.specs.Places.{told_calls};
-ghost use Rattle.teco_c.specs.Stops.{may_answer};
+ghost use Rattle.teco_door.specs.Calls.{StaysClosed, RunsToWithin};
+ghost use Rattle.teco_door.specs.Frames.{TellsFrames};
+ghost use Rattle.teco_door.specs.Handle.{SessionGoes};
+ghost use Rattle.teco_door.specs.Numbers.{answer_number, steps_of};
+ghost use Rattle.teco_door.specs.Stops.{may_answer};
 
 use crate::answers::{CLOSED, NOWHERE, number_of_answer, steps_of_answer};
 use crate::handle::Teco;
-use crate::kinds::name_of;
-use crate::places::{run_asked, told_calls};
 use crate::stopper::Stopper;
-use teco_core::NoMemory;
-use teco_exec::{Call, Place};
-
-/// A call that is open: its place in the text that calls, and the byte that names the register whose text it calls.
-#[repr(C)]
-#[derive(Clone, Copy)]
-pub struct OpenCall {
-    pub at: usize,
-    pub name: u8,
-}
-
-/// A call as it is told.
-fn told(call: &Call) -> OpenCall
-    ensures { result ≡ open_call call.now }
-{
-    OpenCall {
-        at: call.at,
-        name: name_of(call.register),
-    }
-}
-
-/// Tells as many of the calls as there is room for, the latest first.
-fn tell_calls(room: &mut [OpenCall], calls: &[Call])
-    ensures { room.new ≡ filled_calls room.old (map open_call calls.now) }
-{
-    let n = calls.len().min(room.len());
-    for k in 0..n {
-        room[k] = told(&calls[k]);
-    }
-}
-
-/// Tells the calls that are open at a place, and gives its own place in the innermost text.
-fn tell_place(place: &Result<Option<Place>, NoMemory>, room: &mut [OpenCall]) -> usize
-    ensures at { result ≡ place_within place.now }
-    ensures calls { room.new ≡ filled_calls room.old (open_calls place.now) }
-{
-    match place {
-        Ok(Some(place)) => {
-            tell_calls(room, place.calls.as_slice());
-            place.at
-        }
-        _ => NOWHERE,
-    }
-}
+use teco_door::frames::{OpenCall, tell_place};
+use teco_door::places::{run_asked, told_calls};
 
 /// Runs a command string as `teco_where_until` does, and tells each call that is open where it stopped, the latest first, as far as there
 /// is room for them. `at` is the place of the token in the innermost text: of the register that the first of them calls, or of the string

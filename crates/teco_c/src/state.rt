@@ -4,9 +4,9 @@ ghost use Rattle.teco_core.specs.Ascii.{is_line_end};
 ghost use Rattle.teco_c.specs.Looks.{Tells, TellsIf, Says, Copies, CopiesIf, register_named_by, state_now, is_either};
 
 use crate::answers::{CLOSED, OUTSIDE};
-use crate::halves::{bytes_from, halves_between, halves_from, line_ends};
+use crate::halves::{bytes_from, halves_between, line_ends};
 use crate::handle::Teco;
-use crate::room::{copy_front, copy_halves};
+use crate::room::{copy_from, copy_front};
 use teco_core::{CaseMode, Reg};
 use teco_store::Desk;
 
@@ -52,9 +52,7 @@ pub extern "C" fn teco_text(t: &mut Teco, from: usize, room: &mut [u8], len: &mu
         return CLOSED;
     };
     let (before, after) = session.editor().halves();
-    let (before, after) = halves_from(before, after, from);
-    *len = before.len() + after.len();
-    copy_halves(room, before, after);
+    *len = copy_from(room, before, after, from);
     0
 }
 
@@ -89,9 +87,7 @@ pub extern "C" fn teco_output(t: &mut Teco, from: usize, room: &mut [u8], len: &
         return CLOSED;
     };
     let (own, rest) = session.editor().output();
-    let (before, after) = halves_from(own, rest, from);
-    *len = before.len() + after.len();
-    copy_halves(room, before, after);
+    *len = copy_from(room, own, rest, from);
     0
 }
 

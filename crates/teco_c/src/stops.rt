@@ -1,22 +1,14 @@
 //! The calls that make, ask and end a stopper.
 ghost use Rattle.std.specs.Prelude.{◌≡◌, ◌≢◌, ◌⊎◌, None, IsSome, Option};
-ghost use denote.Param.Send.{IsSend};
 ghost use Rattle.teco_core.specs.Code.{number_of};
 ghost use Rattle.teco_core.specs.declared.code.Code.TheVariants.{Mem};
-ghost use Rattle.teco_c.specs.Stops.{Hears};
-ghost use Rattle.teco_c.specs.contracts.stopper.Stopper.{the_row};
+ghost use Rattle.teco_door.specs.Stops.{Hears};
 
 use crate::answers::CLOSED;
-use crate::flag::Flag;
-use crate::parts::Parts;
 use crate::stopper::Stopper;
 use std::alloc::Global;
 use teco_core::Code;
-
-/// A stopper may go from thread to thread. The call does nothing.
-pub fn stopper_laws()
-    ensures crosses { IsSend the_row }
-{}
+use teco_door::flag::Flag;
 
 /// Opens a stopper: a flag that is not set, with two handles. What was open in them is closed then.
 ///
@@ -30,8 +22,8 @@ pub extern "C" fn teco_stopper_open(alloc: Global, here: &mut Stopper, there: &m
     match Flag::pair(alloc) {
         Err(_) => Code::Mem.number(),
         Ok((mine, other)) => {
-            here.put(Stopper::of_parts(Parts::of(mine)));
-            there.put(Stopper::of_parts(Parts::of(other)));
+            here.open(mine);
+            there.open(other);
             0
         }
     }
@@ -42,7 +34,7 @@ pub extern "C" fn teco_stopper_open(alloc: Global, here: &mut Stopper, there: &m
 pub extern "C" fn teco_stopper_close(alloc: Global, stopper: &mut Stopper)
     ensures { stopper.new.value ≡ None }
 {
-    stopper.put(Stopper::closed(alloc));
+    stopper.close(alloc);
 }
 
 /// Asks the runs that have this stopper to stop, or takes that back where `asked` is 0. It stays so until the next such call. Takes no

@@ -29,11 +29,21 @@ use teco_terminal::Terminal;
 /// A clause sees a session as it is kept: one editor, the strings with their changes, and how many of the strings are not undone.
 /// `history_of` is the history that this tells: the state before the first string, and each string with its text, its steps and the
 /// state after it. A session with a depth keeps so many strings: where one more begins, the first one goes, with the state before it.
-#[derive(Drop)]
 pub struct Session {
     recorder: Recorder,
     entries: Entries,
     cursor: usize,
+}
+
+// Its parts go here, and a crate that lets a session go calls this.
+impl Drop for Session {
+    fn drop(self) {
+        let Session {
+            recorder: _,
+            entries: _,
+            cursor: _,
+        } = self;
+    }
 }
 
 impl Model for Session {

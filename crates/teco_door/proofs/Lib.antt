@@ -1,0 +1,7 @@
+mod AsBox
+mod Opens
+mod AsFlag
+mod OpensFlag
+mod Filling
+mod Dropping
+mod OpenCalls

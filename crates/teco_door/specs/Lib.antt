@@ -1,0 +1,12 @@
+pub mod Handle
+pub mod Lending
+pub mod Stopper
+pub mod FlagLending
+pub mod Stops
+pub mod Numbers
+pub mod Rooms
+pub mod Calls
+pub mod Places
+pub mod Kinds
+pub mod Tokens
+pub mod Frames
