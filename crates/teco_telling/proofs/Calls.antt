@@ -3,7 +3,7 @@ use Rattle.std.proofs.Common.{◌≡◌, ◌<◌, ◌≤◌, ℕ, arith, ◌+◌
 use Rattle.std.proofs.lemmas.Bool.{ltb-false, ltb-true}
 use Rattle.std.proofs.lemmas.Option.{slice_get_past, slice_get_read}
 use Rattle.std.specs.List.{slice_get}
-use Rattle.std.specs.Prelude.{OnOk, codes, false, true, None, Some}
+use Rattle.std.specs.Prelude.{OnOk, codes, false, true, None, Some, Ok, Err, is_ok, if◌then◌else◌}
 use Rattle.teco_core.specs.Register.{Content, register_of}
 use Rattle.teco_exec.specs.declared.place.Call.{Call}
 use Rattle.teco_exec.specs.declared.place.Place.{Place}
@@ -48,3 +48,8 @@ call_there r place k registers string old new text call some text_is shown =
 -- the name of a register is ASCII
 pub name_is_small : (name q : ℕ) → register_of name ≡ Some q → name < 128
 name_is_small name q is = grind arith
+
+-- a text that is put behind if there is memory for it
+pub put_behind : {A E : Type 0} (r : Result A E) (old new text : List ℕ) → new ≡ (if is_ok r then old ++ text else old) → OnOk r (new ≡ old ++ text)
+put_behind (Ok done) old new text e = e
+put_behind (Err fault) old new text e = tt
