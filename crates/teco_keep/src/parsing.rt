@@ -1,18 +1,16 @@
 //! The program's command line.
-ghost use Rattle.clap.specs.Words.{app_of, first_of, found_of, kind_of, new_app, rows_of, rule_of};
-ghost use Rattle.std.specs.Prelude.{◌≡◌, IfErr, IfOk, Some, codes, false, map, unwrap_or};
+ghost use Rattle.clap.specs.Words.{first_of, found_of, rows_of};
+ghost use Rattle.std.specs.Prelude.{◌≡◌, IfErr, IfOk, codes, map, unwrap_or};
 ghost use Rattle.std.specs.String.{string_bytes};
-ghost use Rattle.teco_keep.specs.CommandLine.{GivesLine, IsFlag, SayLine, SayNoLine, GivesNoLine, file_rule, mode_by, tecol_app};
-ghost use Rattle.teco_line.specs.CommandLine.{with_version};
-ghost use Rattle.teco_line.specs.OptionTable.{flag, with_text};
-ghost use Rattle.teco_line.specs.Refusals.{IsFaulty, IsToldAs};
+ghost use Rattle.teco_keep.specs.CommandLine.{GivesLine, SayLine, SayNoLine, GivesNoLine, mode_by, tecol_rules};
+ghost use Rattle.teco_line.specs.OptionTable.{rule_by};
+ghost use Rattle.teco_line.specs.Refusals.{IsFaulty};
 
 use crate::line::{Line, Mode};
-use clap::error::ErrorKind;
-use clap::{Arg, ArgAction, ArgMatches, Command};
+use clap::ArgMatches;
 use std::alloc::Global;
 use teco_core::NoMemory;
-use teco_line::{LineFault, Refusal, RefusedAs, VERSION, faulty, refused_by};
+use teco_line::{LineFault, OptionRow, Program, Refusal, Takes, faulty, flag_at, parsed};
 
 /// What the help says after the options.
 const AFTER_HELP: &str =
@@ -24,98 +22,65 @@ Status: 0; 1 a file or memory failed; 2 a fault was found, or a source can't be 
 /// The usage, which the help and each faulty line show.
 const USAGE: &str = "tecol [OPTIONS] [FILE]";
 
-fn flag_arg<'a>(alloc: Global, name: &'static str, letter: char, help: &'static str) -> Arg<'a>
-    ensures rule { rule_of result ≡ flag name.entry.now (Some letter) }
-    ensures local { result.global ≡ false }
+/// What the help tells.
+static PROGRAM: Program = Program {
+    name: "tecol",
+    about: "Turns sources of TECO command strings into their bytes and back, and checks them",
+    after_help: AFTER_HELP,
+    usage: USAGE,
+};
+
+/// Every option, in the order of the help, and then the file.
+static ARGUMENTS: [OptionRow; 5] = [
+    OptionRow {
+        name: "reverse",
+        short: Some('r'),
+        takes: Takes::Nothing,
+        value: "",
+        help: "Reads bytes, and writes a source of them",
+    },
+    OptionRow {
+        name: "words",
+        short: Some('w'),
+        takes: Takes::Nothing,
+        value: "",
+        help: "Writes a source, with what each command does as a comment",
+    },
+    OptionRow {
+        name: "check",
+        short: Some('c'),
+        takes: Takes::Nothing,
+        value: "",
+        help: "Tells what is wrong, and runs nothing",
+    },
+    OptionRow {
+        name: "output",
+        short: Some('o'),
+        takes: Takes::Text,
+        value: "FILE",
+        help: "Where the output goes, - for standard output; a file has it whole or stays as it was",
+    },
+    OptionRow {
+        name: "input",
+        short: None,
+        takes: Takes::MaybeOperand,
+        value: "FILE",
+        help: "The file to read; without it, or by -, standard input",
+    },
+];
+
+/// What the program is called, and what its help tells.
+fn program() -> &'static Program
+    ensures { result.now.name.now ≡ codes "tecol" }
 {
-    Arg::new(alloc, name)
-        .long(name)
-        .short(letter)
-        .action(ArgAction::SetTrue)
-        .help(help)
+    &PROGRAM
 }
 
-fn output_arg<'a>(alloc: Global) -> Arg<'a>
-    ensures rule { rule_of result ≡ with_text (codes "output") (Some 111) }
-    ensures local { result.global ≡ false }
+/// The table.
+fn arguments() -> &'static [OptionRow]
+    ensures { map rule_by result.now ≡ tecol_rules }
 {
-    Arg::new(alloc, "output")
-        .long("output")
-        .short('o')
-        .value_name("FILE")
-        .action(ArgAction::Set)
-        .help(
-            "Where the output goes, - for standard output; a file has it whole or stays as it was",
-        )
-}
-
-fn input_arg<'a>(alloc: Global) -> Arg<'a>
-    ensures rule { rule_of result ≡ file_rule }
-    ensures local { result.global ≡ false }
-{
-    Arg::new(alloc, "input")
-        .value_name("FILE")
-        .action(ArgAction::Set)
-        .help("The file to read; without it, or by -, standard input")
-}
-
-/// The command without its arguments: its name, and what its help and its version tell.
-fn described<'a>(alloc: Global) -> Command<'a>
-    ensures { app_of result ≡ with_version (new_app (codes "tecol")) }
-{
-    Command::new(alloc, "tecol")
-        .about("Turns sources of TECO command strings into their bytes and back, and checks them")
-        .after_help(AFTER_HELP)
-        .override_usage(USAGE)
-        .version(VERSION)
-}
-
-/// The command that the parser reads the words by.
-fn command<'a>(alloc: Global) -> Result<Command<'a>, NoMemory>
-    ensures { IfOk result (λ command. app_of command ≡ tecol_app) }
-{
-    described(alloc)
-        .arg(flag_arg(
-            alloc,
-            "reverse",
-            'r',
-            "Reads bytes, and writes a source of them",
-        ))?
-        .arg(flag_arg(
-            alloc,
-            "words",
-            'w',
-            "Writes a source, with what each command does as a comment",
-        ))?
-        .arg(flag_arg(alloc, "check", 'c', "Tells what is wrong, and runs nothing"))?
-        .arg(output_arg(alloc))?
-        .arg(input_arg(alloc))
-}
-
-/// What a line is for which the parser has an error of this kind.
-fn refused_as(kind: ErrorKind) -> RefusedAs
-    ensures { IsToldAs result kind }
-{
-    match kind {
-        ErrorKind::DisplayHelp => RefusedAs::Help,
-        ErrorKind::DisplayVersion => RefusedAs::Version,
-        ErrorKind::OutOfMemory => RefusedAs::NoMemory,
-        _ => RefusedAs::Faulty,
-    }
-}
-
-/// The refusal that the parser's error tells.
-fn refusal_of(alloc: Global, error: &clap::Error) -> Refusal
-    ensures { IsToldAs result.refused_as (kind_of error.now) }
-{
-    refused_by(alloc, refused_as(error.kind()), error)
-}
-
-/// Whether a flag is up.
-fn flag_at(matches: &ArgMatches, name: &str) -> bool
-    ensures { IsFlag (rows_of (found_of matches.now)) name.now result }
-{
-    matches.get_one::<bool>(name).unwrap_or(false)
+    &ARGUMENTS
 }
 
 /// The text of an argument; `-` if it isn't given.
@@ -167,9 +132,9 @@ pub fn line_of(alloc: Global, words: &[String]) -> Result<Line, LineFault>
     ensures line { IfOk result (SayLine (map string_bytes words.now)) }
     ensures refused { IfErr result (SayNoLine (map string_bytes words.now)) }
 {
-    match command(alloc)?.try_get_matches_from(words) {
+    match parsed(alloc, program(), arguments(), words) {
         Ok(matches) => line_in(alloc, &matches),
-        Err(error) => Err(LineFault::Refused(refusal_of(alloc, &error))),
+        Err(fault) => Err(fault),
     }
 }
 

@@ -1,5 +1,5 @@
 -- What a parse by the program's command gives.
-use Rattle.std.proofs.Common.{◌≡◌, ◌∙◌, ◌≤◌, ℕ, Bool, true, false, refl, sym, ap, subst, arith, List, [], length, is_some, codes, Option, Some, None, Result, Ok, Err, inl, inr, true≢false}
+use Rattle.std.proofs.Common.{◌≡◌, ◌∙◌, ◌≤◌, ℕ, Bool, true, false, refl, sym, ap, subst, arith, List, [], length, is_some, codes, map, Option, Some, None, Result, Ok, Err, inl, inr, true≢false}
 use Rattle.std.specs.Prelude.{option_and_then, option_map, slice_get, unwrap_or, IfOk, IfSome, IsSomeAnd, IsTrue, ◌↔◌}
 use Rattle.std.specs.List.{slice_index_or}
 use Rattle.std.specs.Str.Parse.{ParsesBool, ParsesUnsigned}
@@ -12,9 +12,9 @@ use Rattle.clap.specs.Facts.{WantsDefault, args_of, least_values, unwrap_or_rang
 use Rattle.clap.specs.Built.{IsParsedFrom}
 use Rattle.clap.specs.Values.{IsUnsignedIn, kind_of, read_as}
 use Rattle.clap.specs.Matches.{ReadsOne, first_value, found_of, matched_of, one_text}
-use Rattle.clap.specs.Walk.{Row, Text, all_of, first_of, one_of, rows_of}
+use Rattle.clap.specs.Walk.{Row, Rule, Text, all_of, first_of, one_of, rows_of}
 use Rattle.clap.specs.declared.builder.action.ArgAction.TheVariants.{Set}
-use Rattle.clap.specs.Simple.{HasMatchesOf, app_of, is_simple, matches_of}
+use Rattle.clap.specs.Simple.{App, HasMatchesOf, app_of, is_simple, matches_of, new_app}
 use Rattle.clap.specs.Faults.{fault_of, is_simple_and_free}
 use Rattle.clap.specs.declared.builder.arg.Arg.{Arg}
 use Rattle.clap.specs.declared.builder.command.Command.{Command}
@@ -30,13 +30,17 @@ use Rattle.clap.proofs.CallerLemmas.{default_present, required_has_value}
 use Rattle.clap.proofs.SimpleLemmas.{plain_fields}
 use Rattle.clap.proofs.WalkLemmas.{first_value-rows, one_text-rows}
 use Rattle.teco_core.specs.declared.limits.TheConstants.{DEPTH_LIMIT}
-use Rattle.teco_line.specs.CommandLine.{AreMany, HasLine, IsCommandsFault, IsFaultSaid, IsTecoError, IsFaultOnceMade, IsGiven, IsLineBy, IsLineFault, IsMisfit, IsNumber, IsReadFault, IsRefusal, number_of, teco_app}
+use Rattle.teco_line.specs.CommandLine.{AreMany, HasLine, IsCommandsFault, IsFaultSaid, IsTecoError, IsFaultOnceMade, IsGiven, IsLineBy, IsLineFault, IsMisfit, IsNumber, IsReadFault, IsRefusal, number_of, teco_app, with_version}
 use Rattle.teco_line.specs.Conflict.{has_conflict}
 use Rattle.teco_line.specs.Joining.{joined}
+use Rattle.teco_line.specs.OptionTable.{rule_by, with_rules}
+use Rattle.teco_line.specs.Parsing.{IsErrorOf, IsUnparsed, app_by}
 use Rattle.teco_line.specs.Refusals.{IsToldAs}
 use Rattle.teco_line.specs.declared.line.Line.{Line}
 use Rattle.teco_line.specs.declared.line.LineFault.{LineFault}
 use Rattle.teco_line.specs.declared.line.LineFault.TheVariants.{NoMemory, Refused}
+use Rattle.teco_line.specs.declared.line.options.OptionRow.{OptionRow}
+use Rattle.teco_line.specs.declared.line.parsing.Program.{Program}
 use Rattle.teco_line.specs.declared.line.refusal.Refusal.{Refusal}
 use Rattle.teco_line.specs.declared.line.refusal.RefusedAs.{RefusedAs}
 use Rattle.teco_line.specs.declared.line.refusal.RefusedAs.TheVariants.{Faulty}
@@ -98,10 +102,9 @@ abbrev is_memory : ErrorKind → Bool
 is_memory kind.OutOfMemory = true
 is_memory _ = false
 
-at_kind : (k : ErrorKind) (words : List Text)
-    → (is_memory k ≡ false → (takes teco_app words ≡ false) × IsAmong k (fault_of teco_app words)) → IsTecoError words k
-at_kind kind.OutOfMemory words h = inl refl
-at_kind _ words h = inr (inl (h refl))
+at_kind : (k : ErrorKind) (app : App) (words : List Text) → (is_memory k ≡ false → (takes app words ≡ false) × IsAmong k (fault_of app words)) → IsErrorOf app words k
+at_kind kind.OutOfMemory app words h = inl refl
+at_kind _ app words h = inr (h refl)
 
 not_taken : (b : Bool) (error : Error) → (b ≡ true → kind_of error ≡ kind.OutOfMemory) → is_memory (kind_of error) ≡ false → b ≡ false
 not_taken true error h other = absurd (true≢false (sym (ap is_memory (h refl)) ∙ other))
@@ -111,22 +114,51 @@ among : (kinds : List ErrorKind) (error : Error) → HasKind kinds error → is_
 among kinds error (inl h) other = absurd (true≢false (sym (ap is_memory h) ∙ other))
 among kinds error (inr h) other = h
 
+-- an error of the parser by a command
+error_by : (c : Command) (app : App) (words : List Text) (error : Error) → app_of c ≡ app → (takes (app_of c) words ≡ true → kind_of error ≡ kind.OutOfMemory)
+    → (is_simple_and_free (app_of c) ≡ true → HasKind (fault_of (app_of c) words) error) → is_simple_and_free app ≡ true → IsErrorOf app words (kind_of error)
+error_by c app words error is passes kinds free =
+    let kinds_are : HasKind (fault_of app words) error = subst (λ a. HasKind (fault_of a words) error) is (kinds (ap is_simple_and_free is ∙ free)) in
+    at_kind (kind_of error) app words (λ other. (
+      not_taken (takes app words) error (λ e. passes (ap (λ a. takes a words) is ∙ e)) other,
+      among (fault_of app words) error kinds_are other,
+    ))
+
+teco_error : (words : List Text) (k : ErrorKind) → IsErrorOf teco_app words k → IsTecoError words k
+teco_error words k (inl h) = inl h
+teco_error words k (inr h) = inr (inl h)
+
 pub fault_is : (c : Command) (words : List Text) (error : Error) (refusal : Refusal) → app_of c ≡ teco_app
     → (takes (app_of c) words ≡ true → kind_of error ≡ kind.OutOfMemory) → (is_simple_and_free (app_of c) ≡ true → HasKind (fault_of (app_of c) words) error)
     → IsToldAs refusal.refused_as (kind_of error) → IsRefusal words refusal
-fault_is c words error refusal is passes kinds told =
-    let kinds_are : HasKind (fault_of teco_app words) error = subst (λ a. HasKind (fault_of a words) error) is (kinds (ap is_simple_and_free is ∙ teco_is_free)) in
-    record {
-      error = kind_of error;
-      error_is = at_kind (kind_of error) words (λ other. (
-        not_taken (takes teco_app words) error (λ e. passes (ap (λ a. takes a words) is ∙ e)) other,
-        among (fault_of teco_app words) error kinds_are other,
-      ));
-      told = told;
-    }
+fault_is c words error refusal is passes kinds told = record {
+  error = kind_of error;
+  error_is = teco_error words (kind_of error) (error_by c teco_app words error is passes kinds teco_is_free);
+  told = told;
+}
+
+-- ---- a program that is read by a table
+
+module _ (c : Command) (app : App) (is : app_of c ≡ app) (words : List Text) where
+  pub matches_by : (m : ArgMatches) → HasMatchesOf (app_of c) words m → HasMatchesOf app words m
+  matches_by m = subst (λ a. HasMatchesOf a words m) is
+
+  pub taken_by : (is_simple_and_free (app_of c) ≡ true → fault_of (app_of c) words ≡ []) → is_simple_and_free app ≡ true → fault_of app words ≡ []
+  taken_by fault free = ap (λ a. fault_of a words) (sym is) ∙ fault (ap is_simple_and_free is ∙ free)
+
+  pub unparsed_by : (error : Error) (refusal : Refusal) → (takes (app_of c) words ≡ true → kind_of error ≡ kind.OutOfMemory)
+      → (is_simple_and_free (app_of c) ≡ true → HasKind (fault_of (app_of c) words) error) → IsToldAs refusal.refused_as (kind_of error)
+      → is_simple_and_free app ≡ true → IsUnparsed app words (Refused refusal)
+  unparsed_by error refusal passes kinds told free = (kind_of error, error_by c app words error is passes kinds free, told)
+
+-- the command of a program with this name and these rules
+pub app_is : (program : Program) (rows : List OptionRow) (name : Text) (rules : List Rule) → program.name.now ≡ name → map rule_by rows ≡ rules
+    → app_by program rows ≡ with_rules (with_version (new_app name)) rules
+app_is program rows name rules name_is rules_are =
+    ap (λ n. with_rules (with_version (new_app n)) (map rule_by rows)) name_is ∙ ap (with_rules (with_version (new_app name))) rules_are
 
 -- a faulty line is told as an error for what doesn't go together
-told_faulty : (what : RefusedAs) → what ≡ Faulty → IsToldAs what kind.ArgumentConflict
+pub told_faulty : (what : RefusedAs) → what ≡ Faulty → IsToldAs what kind.ArgumentConflict
 told_faulty what is = subst (λ (w : RefusedAs). IsToldAs w kind.ArgumentConflict) (sym is) ((λ e. cc), (λ e. cc), (λ e. cc))
 
 -- ---- what a parse gives, for every option of the program's command

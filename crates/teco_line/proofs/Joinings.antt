@@ -1,5 +1,7 @@
 -- What words make as they are joined.
 use Rattle.std.proofs.Common.{◌≡◌, ◌∙◌, ◌++◌, ◌-◌, ◌<◌, ◌≤◌, ℕ, Bool, true, false, true≢false, refl, sym, ap, arith, List, [], ◌∷◌, length, codes, map, take, drop, get_or, String, Global, append_assoc, if◌then◌else◌}
+use Rattle.std.specs.List.{list_any}
+use Rattle.std.specs.Prelude.{◌||◌}
 use Rattle.std.specs.Str.{bytes_eq}
 use Rattle.std.specs.String.{string_bytes}
 use Rattle.clap.specs.Words.{Text}
@@ -89,3 +91,8 @@ rest_stays (x ∷ []) w lt at_w end = absurd (omega (arith, lt))
 rest_stays (x ∷ y ∷ xs) w lt at_w end =
     taken_first (is_end x) (asks x y) (texts (x ∷ y ∷ xs)) (with_value (string_bytes x) (string_bytes y) ∷ joined_after (texts xs))
     (string_bytes x ∷ joined_after (texts (y ∷ xs))) (ap is_end (sym at_w) ∙ end)
+
+-- what holds of none of the last does not hold of all of them for that
+pub any_front : {X : Type 0} (p : X → Bool) (xs ys : List X) → list_any p ys ≡ false → list_any p (xs ++ ys) ≡ list_any p xs
+any_front p [] ys h = h
+any_front p (x ∷ xs) ys h = ap (λ b. p x || b) (any_front p xs ys h)

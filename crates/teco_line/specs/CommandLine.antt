@@ -49,10 +49,14 @@ more_rule = record (new_rule (codes "more")) { value_names = 1; action = Some Ap
 abbrev pub with_version : App → App
 with_version app = on_top (λ shape. record shape { has_version = true }) app
 
+-- the options, and then the inputs
+abbrev pub teco_rules : List Rule
+teco_rules = option_rules ++ input_rule ∷ more_rule ∷ []
+
 -- The command that the words are read by: the parser's rules for a command with these arguments and no others
 -- of its own.
 abbrev pub teco_app : App
-teco_app = with_rules (with_version (new_app (codes "teco"))) (option_rules ++ input_rule ∷ more_rule ∷ [])
+teco_app = with_rules (with_version (new_app (codes "teco"))) teco_rules
 
 -- the number that a text spells in decimal digits, after a plus sign or none
 abbrev pub number_of : Text → ℕ

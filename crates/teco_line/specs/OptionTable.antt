@@ -1,5 +1,5 @@
 -- The rules that the parser has for the rows of the table of options.
-use Rattle.std.specs.Prelude.{ℕ, List, [], ◌∷◌, codes, Option, Some, None}
+use Rattle.std.specs.Prelude.{ℕ, List, [], ◌∷◌, codes, true, Option, Some, None}
 use Rattle.clap.specs.Words.{App, Rule, new_rule, with_rule}
 use Rattle.clap.specs.declared.builder.action.ArgAction.{ArgAction}
 use Rattle.clap.specs.declared.builder.action.ArgAction.TheVariants.{Append, Set, SetTrue}
@@ -7,7 +7,7 @@ use Rattle.clap.specs.declared.builder.value_parser.ValueParser.TheVariants as p
 use Rattle.teco_core.specs.declared.limits.TheConstants.{DEPTH_LIMIT}
 use Rattle.teco_line.specs.declared.line.options.OptionRow.{OptionRow}
 use Rattle.teco_line.specs.declared.line.options.Takes.{Takes}
-use Rattle.teco_line.specs.declared.line.options.Takes.TheVariants.{Nothing, Text, Texts, Number, NumberOr}
+use Rattle.teco_line.specs.declared.line.options.Takes.TheVariants.{Nothing, Text, Texts, Number, NumberOr, Operand, MaybeOperand, Operands}
 
 -- an option by its names: --name, and -x where it has a letter
 abbrev pub option : List ℕ → Option ℕ → Rule
@@ -39,6 +39,21 @@ action_of Text = Set
 action_of Texts = Append
 action_of (Number least most) = Set
 action_of (NumberOr least most default) = Set
+action_of Operand = Set
+action_of MaybeOperand = Set
+action_of Operands = Append
+
+-- an option by its names, and what the parser does where it is given
+abbrev pub option_taking : Takes → List ℕ → Option ℕ → Rule
+option_taking takes name short = record (option name short) { action = Some (action_of takes) }
+
+-- one with a number in a range
+abbrev pub option_in_range : Takes → List ℕ → Option ℕ → ℕ → ℕ → Rule
+option_in_range takes name short least most = record (option_taking takes name short) { value_names = 1; parser = Some (parser.Unsigned least most) }
+
+-- a word by itself
+abbrev pub operand : Takes → List ℕ → Rule
+operand takes name = record (new_rule name) { value_names = 1; action = Some (action_of takes) }
 
 -- the rule of a row
 abbrev pub rule_taking : Takes → List ℕ → Option ℕ → Rule
@@ -48,6 +63,9 @@ rule_taking Texts name short = with_texts name short
 rule_taking (Number least most) name short = with_number name short least most []
 rule_taking (NumberOr least most default) name short =
     with_number name short least most (default.now ∷ [])
+rule_taking Operand name short = record (operand Operand name) { required = true }
+rule_taking MaybeOperand name short = operand MaybeOperand name
+rule_taking Operands name short = operand Operands name
 
 abbrev pub rule_by : OptionRow → Rule
 rule_by row = rule_taking row.takes row.name.now row.short

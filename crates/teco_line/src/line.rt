@@ -1,22 +1,23 @@
 //! The program's command line.
-ghost use Rattle.clap.specs.Words.{app_of, found_of, new_app, rows_of, rule_of};
+ghost use Rattle.clap.specs.Words.{app_of, found_of, rows_of};
 ghost use Rattle.std.specs.IoError.{error_kind};
 ghost use Rattle.std.specs.Prelude.{◌≡◌, ◌≢◌, ◌≤◌, IfErr, IfOk, IfSome, codes, false, map};
 ghost use Rattle.std.specs.String.{string_bytes};
 ghost use Rattle.std.specs.declared.io.ErrorKind.TheVariants as io_kind;
-ghost use Rattle.teco_line.specs.CommandLine.{HasLine, IsCommands, IsCommandsFault, IsDepth, IsFaultOnceMade, IsFaultSaid, IsGiven, IsLine, IsLineBy, IsLineFault, IsMisfit, IsPageLength, IsReadFault, SaysCommands, fault_for, input_rule, more_rule, teco_app, text_behind, texts_behind, with_version};
+ghost use Rattle.teco_line.specs.CommandLine.{HasLine, IsCommands, IsCommandsFault, IsDepth, IsFaultOnceMade, IsFaultSaid, IsGiven, IsLine, IsLineBy, IsLineFault, IsMisfit, IsPageLength, IsReadFault, SaysCommands, fault_for, teco_app, text_behind, texts_behind};
 ghost use Rattle.teco_line.specs.Conflict.{has_conflict};
 ghost use Rattle.teco_line.specs.Refusals.{IsFaulty};
 
-use clap::{Arg, ArgAction, ArgMatches, Command};
+use clap::{ArgMatches, Command};
 use conflict::conflict_in;
 use joining::joined;
-use options::{options, with_table};
+use options::options;
+use parsing::command_of;
 use refusal::refusal_of;
 use std::alloc::Global;
 use std::io;
 use teco_core::NoMemory;
-use values::{are_given, flag_at, number_at, text_at, text_given, texts_at, texts_given};
+use values::{are_given, number_at, texts_at, texts_given};
 
 /// The most steps that a command string may be given.
 pub const MOST_STEPS: u64 = 1_000_000_000_000;
@@ -105,49 +106,19 @@ impl From<NoMemory> for LineFault {
     }
 }
 
-fn input_arg<'a>(alloc: Global) -> Arg<'a>
-    ensures rule { rule_of result ≡ input_rule }
-    ensures local { result.global ≡ false }
-{
-    Arg::new(alloc, "input")
-        .value_name("INPUT")
-        .required(true)
-        .action(ArgAction::Set)
-        .help(
-            "The file to edit, or - for standard input; only --in-place, or --output with its name, changes it",
-        )
-}
+/// What the help tells.
+static PROGRAM: Program = Program {
+    name: "teco",
+    about: "TECO, a text editor whose command strings are programs, each of which can be undone",
+    after_help: AFTER_HELP,
+    usage: USAGE,
+};
 
-fn more_arg<'a>(alloc: Global) -> Arg<'a>
-    ensures rule { rule_of result ≡ more_rule }
-    ensures local { result.global ≡ false }
+/// What the program is called, and what its help tells.
+fn program() -> &'static Program
+    ensures { result.now.name.now ≡ codes "teco" }
 {
-    Arg::new(alloc, "more")
-        .value_name("INPUT")
-        .action(ArgAction::Append)
-        .help("More files, each edited by itself, in their order")
-}
-
-/// The command without its arguments: its name, and what its help and its version tell.
-fn described<'a>(alloc: Global) -> Command<'a>
-    ensures { app_of result ≡ with_version (new_app (codes "teco")) }
-{
-    Command::new(alloc, "teco")
-        .about(
-            "TECO, a text editor whose command strings are programs, each of which can be undone",
-        )
-        .after_help(AFTER_HELP)
-        .override_usage(USAGE)
-        .version(VERSION)
-}
-
-/// The command that the parser reads the words by.
-fn command<'a>(alloc: Global) -> Result<Command<'a>, NoMemory>
-    ensures { IfOk result (λ command. app_of command ≡ teco_app) }
-{
-    with_table(alloc, described(alloc), options())?
-        .arg(input_arg(alloc))?
-        .arg(more_arg(alloc))
+    &PROGRAM
 }
 
 /// The fault of a line of the program that is faulty, and why; or that memory was refused to tell it.
@@ -281,7 +252,8 @@ pub fn line_of(alloc: Global, words: &[String]) -> Result<Line, LineFault>
     ensures refused { IfErr result (IsLineFault (map string_bytes words.now)) }
 {
     let made = joined(alloc, words)?;
-    line_by(alloc, command(alloc)?, made.as_slice())
+    let command = command_of(alloc, program(), options())?;
+    line_by(alloc, command, made.as_slice())
 }
 
 /// The refusal of a line with an argument that is not UTF-8.
@@ -309,10 +281,14 @@ mod conflict;
 mod joining;
 mod options;
 mod pages;
+mod parsing;
 mod refusal;
 mod streams;
 mod values;
 
+pub use options::{OptionRow, Takes};
 pub use pages::commands_on_pages;
+pub use parsing::{Program, parsed};
 pub use refusal::{Refusal, RefusedAs, faulty, refused_by, refused_status};
 pub use streams::{is_standard_input, is_standard_output};
+pub use values::{flag_at, text_at, text_given};

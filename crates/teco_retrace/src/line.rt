@@ -1,18 +1,17 @@
 //! The program's command line.
-ghost use Rattle.clap.specs.Words.{app_of, first_of, found_of, kind_of, new_app, one_of, rows_of, rule_of};
-ghost use Rattle.std.specs.Prelude.{[], ◌≡◌, ◌≤◌, ◌↔◌, IfErr, IfOk, IsTrue, None, Some, codes, false, map, option_map, unwrap_or};
+ghost use Rattle.clap.specs.Words.{found_of, one_of, rows_of};
+ghost use Rattle.std.specs.Prelude.{[], ◌≡◌, ◌≤◌, IfErr, IfOk, codes, map, option_map, unwrap_or};
 ghost use Rattle.std.specs.String.{string_bytes};
-ghost use Rattle.teco_line.specs.CommandLine.{text_behind, with_version};
-ghost use Rattle.teco_line.specs.OptionTable.{flag, with_number, with_text};
-ghost use Rattle.teco_line.specs.Refusals.{IsFaulty, IsToldAs};
-ghost use Rattle.teco_retrace.specs.CommandLine.{IsLimit, LineHas, WordsSay, WordsSayNone, debug_app, macro_rule};
+ghost use Rattle.teco_line.specs.OptionTable.{rule_by};
+ghost use Rattle.teco_line.specs.Refusals.{IsFaulty};
+ghost use Rattle.teco_retrace.specs.CommandLine.{IsLimit, LineHas, WordsSay, WordsSayNone, debug_rules};
 
-use clap::builder::ValueParser;
-use clap::error::ErrorKind;
-use clap::{Arg, ArgAction, ArgMatches, Command};
+use clap::ArgMatches;
 use std::alloc::Global;
 use teco_core::NoMemory;
-use teco_line::{LineFault, MOST_STEPS, Refusal, RefusedAs, VERSION, faulty, refused_by};
+use teco_line::{
+    LineFault, MOST_STEPS, OptionRow, Program, Refusal, Takes, faulty, flag_at, parsed, text_at,
+};
 
 /// The steps that the string is given if the line says nothing.
 const STEPS: u64 = 1_000_000;
@@ -33,106 +32,58 @@ pub struct Line {
     pub text: String,
 }
 
-fn limit_arg<'a>(alloc: Global) -> Arg<'a>
-    ensures rule { rule_of result ≡ with_number (codes "limit") None 0 1000000000000 [] }
-    ensures local { result.global ≡ false }
+/// What the help tells.
+static PROGRAM: Program = Program {
+    name: "teco-debug",
+    about: "Walks over the steps of a TECO command string, forward and back",
+    after_help: "Commands are read from standard input, a line each; help lists them.",
+    usage: USAGE,
+};
+
+/// Every option, in the order of the help, and then the file of the string.
+static ARGUMENTS: [OptionRow; 4] = [
+    OptionRow {
+        name: "limit",
+        short: None,
+        takes: Takes::Number(0, MOST_STEPS),
+        value: "N",
+        help: "The most steps of the string, at most 1000000000000; 1000000 without it",
+    },
+    OptionRow {
+        name: "input",
+        short: None,
+        takes: Takes::Text,
+        value: "FILE",
+        help: "The file that the string edits; it is only read",
+    },
+    OptionRow {
+        name: "dollar",
+        short: None,
+        takes: Takes::Nothing,
+        value: "",
+        help: "Takes each $ of the string for ESC",
+    },
+    OptionRow {
+        name: "macro",
+        short: None,
+        takes: Takes::Operand,
+        value: "MACRO",
+        help: "The file of the command string",
+    },
+];
+
+/// What the program is called, and what its help tells.
+fn program() -> &'static Program
+    ensures { result.now.name.now ≡ codes "teco-debug" }
 {
-    Arg::new(alloc, "limit")
-        .long("limit")
-        .value_name("N")
-        .action(ArgAction::Set)
-        .value_parser(ValueParser::Unsigned(0, MOST_STEPS))
-        .help("The most steps of the string, at most 1000000000000; 1000000 without it")
+    &PROGRAM
 }
 
-fn input_arg<'a>(alloc: Global) -> Arg<'a>
-    ensures rule { rule_of result ≡ with_text (codes "input") None }
-    ensures local { result.global ≡ false }
+/// The table.
+fn arguments() -> &'static [OptionRow]
+    ensures { map rule_by result.now ≡ debug_rules }
 {
-    Arg::new(alloc, "input")
-        .long("input")
-        .value_name("FILE")
-        .action(ArgAction::Set)
-        .help("The file that the string edits; it is only read")
-}
-
-fn dollar_arg<'a>(alloc: Global) -> Arg<'a>
-    ensures rule { rule_of result ≡ flag (codes "dollar") None }
-    ensures local { result.global ≡ false }
-{
-    Arg::new(alloc, "dollar")
-        .long("dollar")
-        .action(ArgAction::SetTrue)
-        .help("Takes each $ of the string for ESC")
-}
-
-fn macro_arg<'a>(alloc: Global) -> Arg<'a>
-    ensures rule { rule_of result ≡ macro_rule }
-    ensures local { result.global ≡ false }
-{
-    Arg::new(alloc, "macro")
-        .value_name("MACRO")
-        .required(true)
-        .action(ArgAction::Set)
-        .help("The file of the command string")
-}
-
-/// The command without its arguments: its name, and what its help and its version tell.
-fn described<'a>(alloc: Global) -> Command<'a>
-    ensures { app_of result ≡ with_version (new_app (codes "teco-debug")) }
-{
-    Command::new(alloc, "teco-debug")
-        .about("Walks over the steps of a TECO command string, forward and back")
-        .after_help("Commands are read from standard input, a line each; help lists them.")
-        .override_usage(USAGE)
-        .version(VERSION)
-}
-
-/// The command that the parser reads the words by.
-fn command<'a>(alloc: Global) -> Result<Command<'a>, NoMemory>
-    ensures { IfOk result (λ command. app_of command ≡ debug_app) }
-{
-    described(alloc)
-        .arg(limit_arg(alloc))?
-        .arg(input_arg(alloc))?
-        .arg(dollar_arg(alloc))?
-        .arg(macro_arg(alloc))
-}
-
-/// What a line is for which the parser has an error of this kind.
-fn refused_as(kind: ErrorKind) -> RefusedAs
-    ensures { IsToldAs result kind }
-{
-    match kind {
-        ErrorKind::DisplayHelp => RefusedAs::Help,
-        ErrorKind::DisplayVersion => RefusedAs::Version,
-        ErrorKind::OutOfMemory => RefusedAs::NoMemory,
-        _ => RefusedAs::Faulty,
-    }
-}
-
-/// The refusal that the parser's error tells.
-fn refusal_of(alloc: Global, error: &clap::Error) -> Refusal
-    ensures { IsToldAs result.refused_as (kind_of error.now) }
-{
-    refused_by(alloc, refused_as(error.kind()), error)
-}
-
-/// A text of the line, where it is given.
-fn text_given(alloc: Global, text: Option<&str>) -> Result<Option<String>, NoMemory>
-    ensures { IfOk result (λ given. option_map string_bytes given ≡ text_behind text.entry) }
-{
-    match text {
-        Some(text) => Ok(Some(String::from_str(alloc, text)?)),
-        None => Ok(None),
-    }
-}
-
-/// The text of an argument, where it is given.
-fn text_at(alloc: Global, matches: &ArgMatches, id: &str) -> Result<Option<String>, NoMemory>
-    ensures { IfOk result (λ given. first_of id.now (rows_of (found_of matches.now)) ≡ option_map string_bytes given) }
-{
-    text_given(alloc, matches.get_str(id))
+    &ARGUMENTS
 }
 
 /// The text, or an empty one.
@@ -143,13 +94,6 @@ fn text_or_empty(alloc: Global, text: Option<String>) -> String
         Some(text) => text,
         None => String::new(alloc),
     }
-}
-
-/// Whether a flag is up.
-fn flag_at(matches: &ArgMatches, id: &str) -> bool
-    ensures { IsTrue result ↔ (one_of id.now (rows_of (found_of matches.now)) ≡ Some (codes "true")) }
-{
-    matches.get_one::<bool>(id).unwrap_or(false)
 }
 
 /// The most steps of the string.
@@ -185,9 +129,9 @@ pub fn line_of(alloc: Global, words: &[String]) -> Result<Line, LineFault>
     ensures range { IfOk result (λ line. line.limit ≤ 1000000000000) }
     ensures refused { IfErr result (WordsSayNone (map string_bytes words.now)) }
 {
-    match command(alloc)?.try_get_matches_from(words) {
+    match parsed(alloc, program(), arguments(), words) {
         Ok(matches) => line_in(alloc, &matches),
-        Err(error) => Err(LineFault::Refused(refusal_of(alloc, &error))),
+        Err(fault) => Err(fault),
     }
 }
 

@@ -50,7 +50,7 @@ fn is_option(word: &str, row: &OptionRow) -> bool
     ensures { result ≡ wants_value word.now (rule_by row.now) }
 {
     match row.takes {
-        Takes::Nothing => false,
+        Takes::Nothing | Takes::Operand | Takes::MaybeOperand | Takes::Operands => false,
         Takes::Text | Takes::Texts | Takes::Number(..) | Takes::NumberOr(..) => is_name_of(
             word, row,
         ),

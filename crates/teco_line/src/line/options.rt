@@ -1,7 +1,8 @@
 //! The table of options.
 ghost use Rattle.clap.specs.Words.{app_of, rule_of};
 ghost use Rattle.std.specs.Prelude.{◌≡◌, IfOk, false, map};
-ghost use Rattle.teco_line.specs.OptionTable.{action_of, option, option_rules, rule_by, with_rules};
+ghost use Rattle.teco_line.specs.CommandLine.{teco_rules};
+ghost use Rattle.teco_line.specs.OptionTable.{action_of, operand, option_in_range, option_taking, rule_by, with_rules};
 
 use super::{MOST_PAGE_LINES, MOST_SECONDS, MOST_STEPS};
 use clap::builder::ValueParser;
@@ -9,9 +10,9 @@ use clap::{Arg, ArgAction, Command};
 use std::alloc::Global;
 use teco_core::{DEPTH_LIMIT, NoMemory};
 
-/// What an option takes.
+/// What an option takes, or that a row is no option.
 #[derive(Clone, Copy)]
-pub(crate) enum Takes {
+pub enum Takes {
     /// Nothing: it is a flag.
     Nothing,
     /// A text.
@@ -22,25 +23,31 @@ pub(crate) enum Takes {
     Number(u64, u64),
     /// The same; the option that is not given is the third, in digits.
     NumberOr(u64, u64, &'static str),
+    /// No option: it is a word by itself, which has to be there.
+    Operand,
+    /// The same, if it is there.
+    MaybeOperand,
+    /// The same, any number of them.
+    Operands,
 }
 
-/// One option.
+/// One option, or an operand: a word that no option takes.
 #[derive(Clone, Copy)]
-pub(crate) struct OptionRow {
-    /// What follows the two hyphens; it names the option.
-    pub(crate) name: &'static str,
+pub struct OptionRow {
+    /// What follows the two hyphens; it names the option. An operand has it as its name alone.
+    pub name: &'static str,
     /// What follows the one hyphen.
-    pub(crate) short: Option<char>,
+    pub short: Option<char>,
     /// What it takes.
-    pub(crate) takes: Takes,
+    pub takes: Takes,
     /// What the help calls the value.
-    value: &'static str,
+    pub value: &'static str,
     /// What the help says.
-    help: &'static str,
+    pub help: &'static str,
 }
 
-/// Every option, in the order of the help.
-static OPTIONS: [OptionRow; 13] = [
+/// Every option, in the order of the help, and then the operands.
+static OPTIONS: [OptionRow; 15] = [
     OptionRow {
         name: "execute",
         short: Some('e'),
@@ -132,25 +139,27 @@ static OPTIONS: [OptionRow; 13] = [
         value: "",
         help: "Explains each error, and with --prompt what was done, on standard error",
     },
+    OptionRow {
+        name: "input",
+        short: None,
+        takes: Takes::Operand,
+        value: "INPUT",
+        help: "The file to edit, or - for standard input; only --in-place, or --output with its name, changes it",
+    },
+    OptionRow {
+        name: "more",
+        short: None,
+        takes: Takes::Operands,
+        value: "INPUT",
+        help: "More files, each edited by itself, in their order",
+    },
 ];
 
 /// The table.
 pub(crate) fn options() -> &'static [OptionRow]
-    ensures { map rule_by result.now ≡ option_rules }
+    ensures { map rule_by result.now ≡ teco_rules }
 {
     &OPTIONS
-}
-
-/// The argument by its name alone.
-fn named<'a>(alloc: Global, row: &OptionRow) -> Arg<'a>
-    ensures rule { rule_of result ≡ option row.now.name.now row.now.short }
-    ensures local { result.global ≡ false }
-{
-    let arg = Arg::new(alloc, row.name).long(row.name).help(row.help);
-    match row.short {
-        Some(letter) => arg.short(letter),
-        None => arg,
-    }
 }
 
 /// What the parser does where an option is given that takes this.
@@ -160,8 +169,46 @@ fn action_of(takes: Takes) -> ArgAction
     match takes {
         Takes::Nothing => ArgAction::SetTrue,
         Takes::Texts => ArgAction::Append,
+        Takes::Operands => ArgAction::Append,
         Takes::Text | Takes::Number(..) | Takes::NumberOr(..) => ArgAction::Set,
+        Takes::Operand | Takes::MaybeOperand => ArgAction::Set,
     }
+}
+
+/// An option by its names alone.
+fn named<'a>(alloc: Global, row: &OptionRow) -> Arg<'a>
+    ensures rule { rule_of result ≡ option_taking row.now.takes row.now.name.now row.now.short }
+    ensures local { result.global ≡ false }
+{
+    let arg = Arg::new(alloc, row.name)
+        .long(row.name)
+        .help(row.help)
+        .action(action_of(row.takes));
+    match row.short {
+        Some(letter) => arg.short(letter),
+        None => arg,
+    }
+}
+
+/// An option that takes a number of a range.
+fn numbered<'a>(alloc: Global, row: &OptionRow, least: u64, most: u64) -> Arg<'a>
+    ensures rule { rule_of result ≡ option_in_range row.now.takes row.now.name.now row.now.short least most }
+    ensures local { result.global ≡ false }
+{
+    named(alloc, row)
+        .value_name(row.value)
+        .value_parser(ValueParser::Unsigned(least, most))
+}
+
+/// A word by itself.
+fn operand<'a>(alloc: Global, row: &OptionRow) -> Arg<'a>
+    ensures rule { rule_of result ≡ operand row.now.takes row.now.name.now }
+    ensures local { result.global ≡ false }
+{
+    Arg::new(alloc, row.name)
+        .value_name(row.value)
+        .help(row.help)
+        .action(action_of(row.takes))
 }
 
 /// The argument of a row.
@@ -169,21 +216,19 @@ fn arg_by<'a>(alloc: Global, row: &OptionRow) -> Arg<'a>
     ensures rule { rule_of result ≡ rule_by row.now }
     ensures local { result.global ≡ false }
 {
-    let arg = named(alloc, row).action(action_of(row.takes));
     match row.takes {
-        Takes::Nothing => arg,
-        Takes::Text | Takes::Texts => arg.value_name(row.value),
-        Takes::Number(least, most) => arg
-            .value_name(row.value)
-            .value_parser(ValueParser::Unsigned(least, most)),
-        Takes::NumberOr(least, most, default) => arg
-            .value_name(row.value)
-            .value_parser(ValueParser::Unsigned(least, most))
-            .default_value(default),
+        Takes::Nothing => named(alloc, row),
+        Takes::Text | Takes::Texts => named(alloc, row).value_name(row.value),
+        Takes::Number(least, most) => numbered(alloc, row, least, most),
+        Takes::NumberOr(least, most, default) => {
+            numbered(alloc, row, least, most).default_value(default)
+        }
+        Takes::Operand => operand(alloc, row).required(true),
+        Takes::MaybeOperand | Takes::Operands => operand(alloc, row),
     }
 }
 
-/// The command with an option for each row.
+/// The command with an argument for each row.
 pub(crate) fn with_table<'a>(
     alloc: Global,
     command: Command<'a>,

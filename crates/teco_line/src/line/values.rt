@@ -9,7 +9,7 @@ use std::alloc::Global;
 use teco_core::NoMemory;
 
 /// A text of the line, where it is given.
-pub(crate) fn text_given(alloc: Global, text: Option<&str>) -> Result<Option<String>, NoMemory>
+pub fn text_given(alloc: Global, text: Option<&str>) -> Result<Option<String>, NoMemory>
     ensures { IfOk result (λ given. option_map string_bytes given ≡ text_behind text.entry) }
 {
     match text {
@@ -19,11 +19,7 @@ pub(crate) fn text_given(alloc: Global, text: Option<&str>) -> Result<Option<Str
 }
 
 /// The text of an option, where it is given.
-pub(crate) fn text_at(
-    alloc: Global,
-    matches: &ArgMatches,
-    id: &str,
-) -> Result<Option<String>, NoMemory>
+pub fn text_at(alloc: Global, matches: &ArgMatches, id: &str) -> Result<Option<String>, NoMemory>
     ensures { IfOk result (λ given. first_of id.now (rows_of (found_of matches.now)) ≡ option_map string_bytes given) }
 {
     text_given(alloc, matches.get_str(id))
@@ -72,7 +68,7 @@ pub(crate) fn texts_at(
 }
 
 /// Whether a flag is up.
-pub(crate) fn flag_at(matches: &ArgMatches, id: &str) -> bool
+pub fn flag_at(matches: &ArgMatches, id: &str) -> bool
     ensures { IsTrue result ↔ (one_of id.now (rows_of (found_of matches.now)) ≡ Some (codes "true")) }
 {
     matches.get_one::<bool>(id).unwrap_or(false)

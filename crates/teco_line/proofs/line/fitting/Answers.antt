@@ -1,4 +1,4 @@
-use Rattle.std.proofs.Common.{sym, rules}
+use Rattle.std.proofs.Common.{rules}
 use Rattle.teco_line.proofs.CommandLines.{said_misfit}
 use Rattle.teco_line.proofs.line.fitting.Goals as goal
 

@@ -1,11 +1,14 @@
-use Rattle.std.proofs.Common.{◌∙◌, ap}
+use Rattle.std.proofs.Common.{◌∙◌, [], ◌∷◌, ap, refl}
 use Rattle.std.specs.List.{list_any}
 use Rattle.clap.proofs.WalkLemmas.{list_any-map}
+use Rattle.teco_line.specs.CommandLine.{input_rule, more_rule}
 use Rattle.teco_line.specs.Joining.{wants_value}
-use Rattle.teco_line.specs.OptionTable.{rule_by}
+use Rattle.teco_line.specs.OptionTable.{option_rules, rule_by}
+use Rattle.teco_line.proofs.Joinings.{any_front}
 use Rattle.teco_line.proofs.line.joining.is_awaiting.Goals as goal
 
--- the rows are the rules
+-- the rows are the rules, and no operand takes a value
 pub returns : goal.returns
 returns c =
-    c.one_is_option.ensures ∙ (list_any-map (wants_value c.args.word.now) rule_by c.options.result.now ∙ ap (list_any (wants_value c.args.word.now)) c.options.ensures)
+    c.one_is_option.ensures ∙ (list_any-map (wants_value c.args.word.now) rule_by c.options.result.now
+    ∙ (ap (list_any (wants_value c.args.word.now)) c.options.ensures ∙ any_front (wants_value c.args.word.now) option_rules (input_rule ∷ more_rule ∷ []) refl))

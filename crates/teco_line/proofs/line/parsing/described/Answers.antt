@@ -1,7 +1,7 @@
 use Rattle.std.proofs.Common.{ap, ◌∙◌}
 use Rattle.clap.specs.Simple.{app_of_fields}
 use Rattle.teco_line.specs.CommandLine.{with_version}
-use Rattle.teco_line.proofs.line.described.Goals as goal
+use Rattle.teco_line.proofs.line.parsing.described.Goals as goal
 
 pub returns : goal.returns
 returns c =
