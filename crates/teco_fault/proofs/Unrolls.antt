@@ -1,12 +1,11 @@
 -- The walk unrolls over its tokens.
-use Rattle.std.proofs.Common.{◌≡◌, ℕ, zero, suc, ◌+◌, ◌<◌, ◌≤◌, Bool, true, false, List, [], ◌∷◌, length, drop, set, Option, Some, None, is_some, eqb, cond as choose, refl, sym, ap, ◌∙◌, arith}
+use Rattle.std.proofs.Common.{◌≡◌, ℕ, zero, suc, ◌+◌, ◌<◌, ◌≤◌, Bool, List, [], ◌∷◌, length, drop, set, Option, Some, None, is_some, eqb, cond as choose, refl, sym, ap, ◌∙◌, arith}
 use Rattle.std.specs.Prelude.{◌||◌, slice_index, ◌==◌}
 use Rattle.std.proofs.lemmas.List.{get_or-set_same}
 use Rattle.teco_scan.specs.declared.command.BlockMark.{BlockMark}
 use Rattle.teco_scan.specs.declared.command.BlockMark.TheVariants.{Iterate, EndIteration, Otherwise, EndTest}
 use Rattle.teco_scan.specs.declared.blocks.Kind.{Kind}
 use Rattle.teco_scan.specs.declared.blocks.Kind.TheVariants.{Iter, Then, Else}
-use Rattle.teco_scan.specs.declared.blocks.Stop.{Stop}
 use Rattle.teco_scan.specs.Scan.{Instruction, Item, Scanned, TokenMeaning, found, ended, fault, scan, after_fillers}
 use Rattle.teco_scan.specs.Scan as token
 use Rattle.teco_scan.specs.Lists.{tag_at}
@@ -16,7 +15,7 @@ use Rattle.teco_fault.specs.declared.faults.Wrong.{Wrong}
 use Rattle.teco_fault.specs.declared.faults.Wrong.TheVariants as wrongs
 use Rattle.teco_fault.specs.Checked.{lands_below}
 use Rattle.teco_fault.specs.Walk.{CodeRule, OpenList, Walker, lands_in, wrong_with, place, fault_at, after_item, in_block, out_of, at_mark, at_instruction, at_scan, walk_within, walk}
-use Rattle.teco_fault.specs.Walked.{BeginThere, after_stop}
+use Rattle.teco_fault.specs.Walked.{BeginThere}
 use Rattle.teco_fault.proofs.Open.{below_kept}
 use Rattle.teco_fault.proofs.Places.{place_is}
 use Rattle.std.proofs.lemmas.Bool.{eqb-true, false_from_ne_true}
@@ -107,19 +106,3 @@ block_opens go bytes kind at o os to few inside =
 
 pub one_more : (o : OpenList) (os : List OpenList) (d : ℕ) → length os ≡ d → length (o ∷ os) ≡ d + 1
 one_more o os d e = omega (arith, e)
-
--- a block that is not opened, since the most are open
-pub block_deep : (go : Walker) (bytes : List ℕ) (kind : Kind) (at : ℕ) (o : OpenList) (os : List OpenList) (rest : List ℕ) → length os ≡ 64 → in_block go bytes kind at o os rest ≡ fault_at at wrongs.TooDeep
-block_deep go bytes kind at o os rest e =
-    ap (λ (n : ℕ). choose (eqb n 64) (fault_at at wrongs.TooDeep) (go (record { kind = Some kind; opening = at; start = place bytes rest }) (o ∷ os) rest)) e
-
--- after the first part of a conditional: its second part, or what comes after it
-pub divided : (code : CodeRule) (bytes : List ℕ) (opening : ℕ) (os : List OpenList) (stop : Stop) → stop.divided ≡ true
-    → after_stop code bytes (Some Then) opening os stop ≡ walk code bytes (record { kind = Some Else; opening = opening; start = stop.to }) os (drop stop.to bytes)
-divided code bytes opening os stop is =
-    ap (λ (b : Bool). choose b (walk code bytes (record { kind = Some Else; opening = opening; start = stop.to }) os (drop stop.to bytes)) (out_of (walk code bytes) os (drop stop.to bytes))) is
-
-pub undivided : (code : CodeRule) (bytes : List ℕ) (opening : ℕ) (os : List OpenList) (stop : Stop) → stop.divided ≡ false
-    → after_stop code bytes (Some Then) opening os stop ≡ out_of (walk code bytes) os (drop stop.to bytes)
-undivided code bytes opening os stop is =
-    ap (λ (b : Bool). choose b (walk code bytes (record { kind = Some Else; opening = opening; start = stop.to }) os (drop stop.to bytes)) (out_of (walk code bytes) os (drop stop.to bytes))) is
