@@ -1,17 +1,8 @@
 -- Places of tokens.
-use Rattle.std.proofs.Common.{◌≡◌, ℕ, zero, suc, ◌+◌, ◌<◌, ◌≤◌, Bool, true, false, List, [], ◌∷◌, length, length-drop, drop, get_or, cond as choose, refl, sym, ap, ◌∙◌, arith, add-one, drop-cons}
+use Rattle.std.proofs.Common.{◌≡◌, ℕ, ◌≤◌, Bool, true, false, List, [], ◌∷◌, length, length-drop, drop, cond as choose, refl, sym, ap, ◌∙◌, arith}
 use Rattle.teco_core.specs.Ascii.{is_filler}
 use Rattle.teco_scan.specs.Scan.{scan, scan_here, after_fillers}
 use Rattle.teco_fault.specs.Walk.{place}
-
-pub front : (xs : List ℕ) (at : ℕ) → at < length xs → drop at xs ≡ get_or xs at 0 ∷ drop (at + 1) xs
-front xs at h = rw (add-one, drop-cons xs at 0)
-
-pub no_front : (xs : List ℕ) (at : ℕ) → length xs ≤ at → drop at xs ≡ []
-no_front [] zero h = refl
-no_front [] (suc at) h = refl
-no_front (x ∷ xs) zero h = absurd (omega arith)
-no_front (x ∷ xs) (suc at) h = no_front xs at (omega arith)
 
 -- after fillers there are none
 pub none_more : (bs : List ℕ) → after_fillers (after_fillers bs) ≡ after_fillers bs

@@ -2,9 +2,8 @@
 ghost use Rattle.std.specs.Prelude.{◌≡◌, ◌≢◌, ◌≤◌, ℕ, true, false, Bool, List, length, drop, IfOk, IfErr, Option, Some, None, Ok, is_ok};
 ghost use Rattle.teco_core.specs.declared.code.Code.{Code};
 ghost use Rattle.teco_scan.specs.Scan.{ended};
-ghost use Rattle.teco_scan.specs.Skip.{closing_mark};
 ghost use Rattle.teco_scan.specs.Tree.{Nodes};
-ghost use Rattle.teco_scan.specs.Seen.{instruction_in, close_of};
+ghost use Rattle.teco_scan.specs.Seen.{close_of};
 ghost use Rattle.teco_scan.specs.Lists.{at_mark, at_scan, broken, list_at};
 ghost use Rattle.teco_fault.specs.Clean.{is_clean};
 ghost use Rattle.teco_fault.specs.Checked.{is_stray, code_of};
@@ -14,19 +13,7 @@ ghost use Rattle.teco_fault.specs.Walked.{after_list};
 
 use crate::faults::{Fault, Wrong};
 use teco_core::Code;
-use teco_scan::{BlockMark, Kind, Stop, TokenKind};
-
-/// The mark by which a block ends or is divided, if the token is one.
-pub fn closing_mark(kind: TokenKind) -> Option<BlockMark>
-    ensures { (text : List ℕ) → result ≡ closing_mark (instruction_in text kind) }
-{
-    match kind {
-        TokenKind::Mark(BlockMark::EndIteration) => Some(BlockMark::EndIteration),
-        TokenKind::Mark(BlockMark::Otherwise) => Some(BlockMark::Otherwise),
-        TokenKind::Mark(BlockMark::EndTest) => Some(BlockMark::EndTest),
-        _ => None,
-    }
-}
+use teco_scan::{BlockMark, Kind, Stop};
 
 /// The place at which the innermost list was opened, if it is a block's.
 fn opened_at(kind: Option<Kind>, opening: usize) -> Option<usize>

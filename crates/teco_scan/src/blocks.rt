@@ -31,7 +31,7 @@ pub struct Stop {
 }
 
 /// The mark by which a block ends or is divided, if the token is one.
-pub(crate) fn closing_mark(kind: TokenKind) -> Option<BlockMark>
+pub fn closing_mark(kind: TokenKind) -> Option<BlockMark>
     ensures { (text : List ℕ) → result ≡ closing_mark (instruction_in text kind) }
 {
     match kind {

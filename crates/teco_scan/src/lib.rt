@@ -11,7 +11,9 @@ mod scan;
 mod table;
 mod token;
 
-pub use blocks::{Kind, Stop, block_laws, find_tag, nesting, skip_block, skip_whole_block};
+pub use blocks::{
+    Kind, Stop, block_laws, closing_mark, find_tag, nesting, skip_block, skip_whole_block,
+};
 pub use breaks::{Fault, OpenList, break_laws, first_fault};
 pub use command::{
     Arithmetic, Bare, BlockMark, Command, Form, LevelCommand, Modifiers, Name, Quantity,

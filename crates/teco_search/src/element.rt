@@ -147,7 +147,12 @@ impl Items {
     pub(crate) fn admit(&self, mode: CaseMode, byte: u8) -> bool
         ensures { result ≡ list_any (λ i. item_admits mode i byte) self.now }
     {
-        self.items.iter().any(|item| item.admits(mode, byte))
+        'items: for item in self.as_slice() {
+            if item.admits(mode, byte) {
+                return true;
+            }
+        }
+        false
     }
 }
 

@@ -30,3 +30,8 @@ pub line_says : (out out_new text bytes : List ℕ) (mode : Mode) (n : ℕ) (not
 line_says out out_new text [] mode n note some written is before = absurd (omega arith)
 line_says out out_new text (b ∷ bs) mode n note some written is before =
     rw (written, is, run-append start out (line_written (line_mode text) n (b ∷ bs) note), before) (line_reads text n b bs note)
+
+-- a space after spaces is one before them
+pub space_before : (n : ℕ) (more : List ℕ) → spaces n ++ 32 ∷ more ≡ 32 ∷ (spaces n ++ more)
+space_before zero more = refl
+space_before (suc n) more = ap (λ xs. 32 ∷ xs) (space_before n more)

@@ -3,7 +3,7 @@ ghost use Rattle.std.specs.Prelude.{◌≡◌, ◌<◌, ◌≤◌, length, take,
 ghost use Rattle.teco_source.specs.Source.{start, run, commands_of};
 ghost use Rattle.teco_source.specs.Listing.{line_mode, between};
 
-use crate::layout::Layout;
+use crate::layout::{Layout, Line};
 use crate::notes::push_words;
 use crate::reader::{Mode, ends_line};
 use crate::writer::{Note, push_line};
@@ -26,23 +26,6 @@ fn line_mode(text: &[u8], at: usize) -> Mode
     }
 }
 
-/// Writes a line that says the text from one place up to another.
-fn push_part(
-    out: &mut Vec<u8>,
-    text: &[u8],
-    at: usize,
-    to: usize,
-    margin: usize,
-    note: Option<Note>,
-) -> Result<(), NoMemory>
-    requires { (at < to) × (to ≤ length text.now) }
-    ensures { run start out.old.items ≡ between (take at text.now)
-        → OnOk result (run start out.new.items ≡ between (take to text.now)) }
-{
-    let part = &text[at..to];
-    push_line(out, line_mode(text, at), margin, part, note)
-}
-
 /// The columns of a line before its note.
 fn columns(bytes: &[u8], margin: usize) -> usize {
     let mut columns = margin;
@@ -63,6 +46,35 @@ const NOTES: usize = 40;
 /// How long a line may become before it is broken, where it has no note.
 const WIDTH: usize = 40;
 
+/// Writes a line that says the text from a place up to the line's end, and has words as its note, if there are any.
+fn push_part(
+    out: &mut Vec<u8>,
+    text: &[u8],
+    at: usize,
+    line: Line,
+    words: &[u8],
+) -> Result<(), NoMemory>
+    requires { (at < line.to) × (line.to ≤ length text.now) }
+    ensures { run start out.old.items ≡ between (take at text.now)
+        → OnOk result (run start out.new.items ≡ between (take line.to text.now)) }
+{
+    let part = &text[at..line.to];
+    let mode = line_mode(text, at);
+    let margin = match mode {
+        Mode::Margin => line.margin,
+        _ => 0,
+    };
+    let note = if words.is_empty() {
+        None
+    } else {
+        Some(Note {
+            spaces: NOTES.saturating_sub(columns(part, margin)),
+            text: words,
+        })
+    };
+    push_line(out, mode, margin, part, note)
+}
+
 /// A source of a text, whose lines go by its commands and blocks. With words each line has what its commands do as a note.
 ///
 /// Whatever the lines and the notes are, the source stands for the text.
@@ -78,20 +90,7 @@ pub fn listing(alloc: Global, text: &[u8], with_words: bool) -> Result<Vec<u8>, 
         if with_words {
             push_words(&mut words, text, at, line.told)?;
         }
-        let margin = match line_mode(text, at) {
-            Mode::Margin => line.margin,
-            _ => 0,
-        };
-        let spaces = NOTES.saturating_sub(columns(&text[at..line.to], margin));
-        let note = if words.is_empty() {
-            None
-        } else {
-            Some(Note {
-                spaces,
-                text: &words,
-            })
-        };
-        push_part(&mut out, text, at, line.to, margin, note)?;
+        push_part(&mut out, text, at, line, &words)?;
         at = line.to;
     }
     Ok(out)

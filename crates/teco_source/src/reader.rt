@@ -121,18 +121,17 @@ impl Reader {
     fn keep_blanks(&mut self) -> Result<(), NoMemory>
         ensures { OnOk result (state_of self.new ≡ kept (state_of self.old)) }
     {
-        self.bytes.extend_from_slice(&self.blanks)?;
+        let kept = self.bytes.extend_from_slice(&self.blanks);
         self.blanks.clear();
         self.mode = Mode::Text;
-        Ok(())
+        kept
     }
 
     fn put(&mut self, byte: u8) -> Result<(), NoMemory>
         ensures { OnOk result (state_of self.new ≡ put (byte ∷ []) (state_of self.old)) }
     {
         self.keep_blanks()?;
-        self.bytes.push(byte)?;
-        Ok(())
+        self.bytes.extend_from_slice(&[byte])
     }
 
     fn next_line(&mut self)
@@ -163,9 +162,8 @@ impl Reader {
             self.mode = Mode::Margin;
             return Ok(());
         }
-        self.blanks.push(byte)?;
         self.mode = Mode::Blank;
-        Ok(())
+        self.blanks.extend_from_slice(&[byte])
     }
 
     fn plain(&mut self, byte: u8) -> Result<(), NoMemory>

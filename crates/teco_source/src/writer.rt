@@ -114,9 +114,8 @@ fn push_note(out: &mut Vec<u8>, note: Option<Note>) -> Result<(), NoMemory>
     let Some(note) = note else {
         return Ok(());
     };
-    out.push(b' ')?;
     push_spaces(out, note.spaces)?;
-    out.extend_from_slice(b"!!")?;
+    out.extend_from_slice(b" !!")?;
     push_comment(out, note.text)
 }
 

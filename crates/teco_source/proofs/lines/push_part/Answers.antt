@@ -7,5 +7,5 @@ use Rattle.teco_source.proofs.lines.push_part.Goals as goal
 pub returns : goal.returns
 returns c before =
     subst (λ (xs : List ℕ). OnOk c.push_line.result (run start c.push_line.new.out.items ≡ between xs))
-    (joined c.args.at c.args.to c.args.text.now (omega arith))
-    (c.push_line.ensures.says (take c.args.at c.args.text.now) c.line_mode.ensures before)
+    (joined c.args.at c.args.line.to c.args.text.now (omega arith))
+    (c.push_line.ensures.says (take c.args.at c.args.text.now) c.line_mode-mode.ensures before)
