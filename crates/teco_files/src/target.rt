@@ -60,8 +60,10 @@ fn end_of_links<R: Files + AllocGlobal>(rt: &R, name: &str) -> io::Result<String
 pub fn known<R: Files>(rt: &R, name: &str) -> io::Result<Option<Metadata>> {
     match fs::metadata(rt, name) {
         Ok(about) => Ok(Some(about)),
-        Err(error) if error.kind() == ErrorKind::NotFound => Ok(None),
-        Err(error) => Err(error),
+        Err(error) => match error.kind() {
+            ErrorKind::NotFound => Ok(None),
+            _ => Err(error),
+        },
     }
 }
 

@@ -13,7 +13,7 @@ use crate::listener::Listens;
 use crate::served::Served;
 use crate::splitter::Splitter;
 use std::alloc::Global;
-use teco_files::{Source, SourceFault};
+use teco_files::Source;
 use teco_session::Session;
 use teco_terminal::{Terminal, TerminalFault};
 
@@ -37,15 +37,15 @@ fn serve_held<A: Alarm, T: Terminal, L: Listens>(
         × HeldEnds (Shows (T.screen term.old) (T.screen term.new)) prompt exchanges result }
 {
     'held: loop {
-        match splitter.next() {
-            Err(_) => return Some(Served::NoMemory),
-            Ok(None) => return None,
-            Ok(Some(asked)) => {
-                let ended = do_exchange(&asked, session, bounds, prompt, alarm, term, listener);
-                if let Some(served) = ended {
-                    return Some(served);
-                }
-            }
+        let Ok(next) = splitter.next() else {
+            return Some(Served::NoMemory);
+        };
+        let Some(asked) = next else {
+            return None;
+        };
+        let ended = do_exchange(&asked, session, bounds, prompt, alarm, term, listener);
+        if let Some(served) = ended {
+            return Some(served);
         }
     }
 }
@@ -78,9 +78,8 @@ pub fn serve<S: Source, A: Alarm, T: Terminal, L: Listens>(
     let mut splitter = Splitter::new(alloc);
     let mut piece = [0; PIECE];
     'pieces: loop {
-        let n = match source.read(&mut piece) {
-            Err(SourceFault) => return Served::ReadFault,
-            Ok(n) => n,
+        let Ok(n) = source.read(&mut piece) else {
+            return Served::ReadFault;
         };
         if n == 0 {
             listener.left(splitter.held(), false);

@@ -60,12 +60,12 @@ pieces-init g c = (
   subst (λ l. Shows (g.T.Terminal.screen c.args.term.now) (g.T.Terminal.screen c.show_prompt.new.term) l false) (sym (append-nil (star c.args.prompt))) c.in_default.ensures.puts,
 )
 
-pub returns-in-Err-read : goal.returns-in-Err-read
-returns-in-Err-read g c =
+pub returns-in_default-read : goal.returns-in_default-read
+returns-in_default-read g c =
     let inv = c.pieces.invariant in
     record {
       bytes = inv.0;
-      read = Gives-on inv.2 c.in-Err-read.ensures.err.0;
+      read = Gives-on inv.2 c.in_default-read.ensures.err.0;
       exchanges = inv.1;
       done = inv.3;
       first = CutsOff-first inv.0 c.pieces.splitter inv.1 inv.4;
