@@ -1,5 +1,5 @@
-use Rattle.std.proofs.Common.{◌≡◌, ◌∙◌, ◌++◌, ◌+◌, ◌≤◌, ℕ, List, String, Global, [], ◌∷◌, map, take, length, refl, sym, ap, subst, add-one, take-suc}
-use Rattle.std.proofs.lemmas.List.{take_all, map-append}
+use Rattle.std.proofs.Common.{◌≡◌, ◌∙◌, ◌++◌, ◌+◌, ◌≤◌, ℕ, List, String, Global, [], ◌∷◌, map, take, length, refl, sym, ap, subst}
+use Rattle.std.proofs.lemmas.List.{take_all, take_more, map-append}
 use Rattle.std.specs.String.{string_bytes}
 use Rattle.teco_files.specs.contracts.word_source.WordSourceSource.TheImpl as word
 use Rattle.teco_program.specs.Ending.{worse}
@@ -41,7 +41,7 @@ loop-name-preserved g c =
     let input = string_bytes c.args.line.now.input in
     let name = string_bytes item in
     let taken : take (i + 1) items ≡ take i items ++ item ∷ [] =
-    ap (λ k. take k items) (add-one i) ∙ (take-suc items i item c.loop-name-test.true ∙ ap (λ x. take i items ++ x ∷ []) (sym c.name-item.is)) in
+    subst (λ (x : String Global). take (i + 1) items ≡ take i items ++ x ∷ []) (sym c.name-item.is) (take_more items i item c.loop-name-test.true) in
     let front : take (i + 1) more ≡ take i more ++ item ∷ [] = subst (λ xs. take (i + 1) xs ≡ take i xs ++ item ∷ []) c.deref-name-items.ensures.value taken in
     let names : map string_bytes (take i more) ++ name ∷ [] ≡ map string_bytes (take (i + 1) more) =
     sym (map-append string_bytes (take i more) (item ∷ [])) ∙ ap (map string_bytes) (sym front) in

@@ -1,5 +1,5 @@
-use Rattle.std.proofs.Common.{◌≡◌, ◌∙◌, ◌++◌, ◌+◌, ℕ, List, [], ◌∷◌, Ok, ap, sym, subst, take, add-one, take-suc}
-use Rattle.std.proofs.lemmas.List.{take_all}
+use Rattle.std.proofs.Common.{◌≡◌, ◌∙◌, ◌++◌, ◌+◌, ℕ, List, String, Global, [], ◌∷◌, Ok, ap, sym, subst, take}
+use Rattle.std.proofs.lemmas.List.{take_all, take_more}
 use Rattle.std.specs.String.{string_bytes}
 use Rattle.teco_line.specs.StreamNames.{is_standard_input}
 use Rattle.teco_program.specs.Seen.{disk_seen, source_view}
@@ -57,9 +57,9 @@ loop-at-preserved g c =
     let read : commands_of text ≡ Ok strings = ap commands_of (sym c.as_slice.ensures.value) ∙ c.in_ok-strings.ensures.read in
     let one = one_source_more source files (take at names) item old c.loop-at.stream new c.loop-at.made.items text strings h.0 whole read in
     let front : take (at + 1) names ≡ take at names ++ item ∷ [] =
-    ap (λ k. take k names) (add-one at) ∙ (take-suc names at item c.loop-at-test.true ∙ ap (λ x. take at names ++ x ∷ []) (sym c.index-names-at.is)) in
+    subst (λ (x : String Global). take (at + 1) names ≡ take at names ++ x ∷ []) (sym c.index-names-at.is) (take_more names at item c.loop-at-test.true) in
     let items : c.extend_from_slice.new.self.items ≡ c.loop-at.made.items ++ strings =
-    c.in_ok-extend_from_slice.ensures.items ∙ ap (λ (t : List ℕ). c.loop-at.made.items ++ t) c.as_slice-in-loop-at.ensures.value in (
+    subst (λ (t : List ℕ). c.extend_from_slice.new.self.items ≡ c.loop-at.made.items ++ t) c.as_slice-in-loop-at.ensures.value c.in_ok-extend_from_slice.ensures.items in (
       subst (λ ns. AreCommandsIn source files ns old new c.extend_from_slice.new.self.items) (sym front) (subst (λ (m : List ℕ). AreCommandsIn source files (take at names ++ item ∷ []) old new m) (sym items) one),
       keeps_after h.1 c.bytes_of.ensures.keeps,
     )
