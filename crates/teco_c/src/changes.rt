@@ -1,20 +1,22 @@
 //! The calls that tell of the changes of a string.
-ghost use Rattle.std.specs.Prelude.{◌≡◌, length, option_map, option_copied};
+ghost use Rattle.std.specs.Prelude.{◌≡◌, ◌<◌, None, Some, length, option_map, slice_index_or, MatchOption};
 ghost use Rattle.teco_c.specs.Changes.{change_of, changes_of, kind_at, kind_number, name_in, splice_of};
 ghost use Rattle.teco_c.specs.Looks.{TellsIf};
+ghost use Rattle.teco_store.specs.Listing.{no_note};
 
 use crate::answers::{CLOSED, OUTSIDE};
 use crate::handle::Teco;
 use crate::kinds::{name_in_kind, number_of_kind};
-use teco_session::Session;
-use teco_store::{Change, ChangeKind};
+use teco_session::{Changes, Session};
+use teco_store::ChangeKind;
 
-/// A change of a string, if it has so many.
-fn change_at(session: &Session, i: usize, k: usize) -> Option<&Change>
-    ensures { option_copied result ≡ change_of i k session.now }
+/// The changes of a string, if it has so many.
+fn with_change(session: &Session, i: usize, k: usize) -> Option<&Changes>
+    ensures { MatchOption result (change_of i k session.now ≡ None) (λ changes. (k < length changes.now)
+        × (change_of i k session.now ≡ Some (slice_index_or changes.now k no_note))) }
 {
-    if i < session.strings() {
-        session.entry(i).get(k)
+    if i < session.strings() && k < session.entry(i).len() {
+        Some(session.entry(i))
     } else {
         None
     }
@@ -63,12 +65,12 @@ pub extern "C" fn teco_change(
     let Some(session) = t.look() else {
         return CLOSED;
     };
-    match change_at(session, i, k) {
+    match with_change(session, i, k) {
         None => OUTSIDE,
-        Some(change) => {
-            *kind = number_of_kind(change.kind());
-            *name = name_in_kind(change.kind());
-            *step = change.step();
+        Some(changes) => {
+            *kind = number_of_kind(changes.kind(k));
+            *name = name_in_kind(changes.kind(k));
+            *step = changes.step(k);
             0
         }
     }
@@ -99,10 +101,10 @@ pub extern "C" fn teco_splice(
     let Some(session) = t.look() else {
         return CLOSED;
     };
-    let Some(change) = change_at(session, i, k) else {
+    let Some(changes) = with_change(session, i, k) else {
         return OUTSIDE;
     };
-    match change.kind() {
+    match changes.kind(k) {
         ChangeKind::Splice {
             at: place,
             gone: out,

@@ -6,7 +6,6 @@ ghost use Rattle.teco_core.specs.Ascii.{is_filler};
 ghost use Rattle.teco_program.specs.Ending.{output_of};
 ghost use Rattle.teco_program.specs.Explaining.{after_what, end_line, exit_line, exits_first, fault_line, history_line, is_bare_exit, is_turn, left_line, limits_after, move_lines, next_number, place_had, reason_of, refusal_line, run_lines, steps_line, steps_told, stop_line};
 ghost use Rattle.teco_session.specs.Answers.{answer_code, outcome_of};
-ghost use Rattle.teco_store.specs.Kinds.{kind_of};
 
 use crate::fate::{Fate, output_name};
 use crate::served::Served;
@@ -16,8 +15,8 @@ use std::io::ErrorKind;
 use teco_core::{Code, NoMemory, is_filler};
 use teco_exec::Outcome;
 use teco_line::Line;
-use teco_session::{Answer, Answered, Session};
-use teco_store::{Change, ChangeKind, Desk};
+use teco_session::{Answer, Answered, Changes, Session};
+use teco_store::{ChangeKind, Desk};
 use teco_telling::{Limits, show_code, show_stop};
 
 /// What is told of an exit before any page was read.
@@ -116,17 +115,23 @@ fn tell_steps(
     }
 }
 
-fn is_turn(change: &Change) -> bool
-    ensures { result ≡ is_turn (kind_of change.now.turn) }
+fn is_turn(kind: ChangeKind) -> bool
+    ensures { result ≡ is_turn kind }
 {
-    matches!(change.kind(), ChangeKind::Pages)
+    matches!(kind, ChangeKind::Pages)
 }
 
 /// Whether a string that exited has read no page: its exit alone moved the place in the input.
-fn is_bare_exit(changes: &[Change]) -> bool
+fn is_bare_exit(changes: &Changes) -> bool
     ensures { result ≡ is_bare_exit changes.now }
 {
-    changes.iter().filter(|change| is_turn(change)).count() < 2
+    let mut turns: usize = 0;
+    for k in 0..changes.len() {
+        if is_turn(changes.kind(k)) {
+            turns += 1;
+        }
+    }
+    turns < 2
 }
 
 /// Whether the last string has made the session done, and no page was read before and in it.

@@ -10,7 +10,7 @@ ghost use Rattle.teco_session.specs.Kept.{HasRun};
 use std::alloc::Global;
 use teco_core::NoMemory;
 use teco_exec::{Outcome, Place, Stop, meaning_laws, run_until, run_where_until};
-use teco_store::{Change, Desk, Recorder, record_laws};
+use teco_store::{ChangeList, Desk, Recorder, record_laws};
 use teco_terminal::Terminal;
 
 /// What runs a string, and may tell more than how it ended.
@@ -95,7 +95,7 @@ pub(crate) fn record_run<S: Stop, T: Terminal, R: Runner>(
     stop: &mut S,
     term: &mut T,
     runner: &mut R,
-) -> (Vec<Change>, Outcome)
+) -> (ChangeList, Outcome)
     requires { IsSound recorder.old.full.room (length recorder.old.full.stored) recorder.old.full.body }
     ensures run { RunsWithin (S.answered stop.new) limit result.1 (λ l. (typed : List ℕ)
         × Runs (state_of recorder.old.full) text.now l result.1 typed (state_of recorder.new.full)

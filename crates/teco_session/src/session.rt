@@ -21,7 +21,7 @@ use std::alloc::Global;
 use std::marker::Model;
 use teco_core::{DEPTH_LIMIT, FILE_LIMIT, NoMemory};
 use teco_exec::{Never, Stop};
-use teco_store::{Change, Desk, Editor, Recorder, editor_laws, record_laws};
+use teco_store::{Desk, Editor, Recorder, editor_laws, record_laws};
 use teco_terminal::Terminal;
 
 /// Command strings one after another, each of which can be undone and redone.
@@ -151,14 +151,14 @@ impl Session {
     }
 
     /// The changes of a string, as an undo or a redo would turn them now. Takes no memory.
-    pub fn entry(&self, i: usize) -> &[Change]
+    pub fn entry(&self, i: usize) -> &Changes
         requires { i < length self.now.strings }
         ensures value { result.now ≡ (string_at self.now i).changes }
         ensures small { IsSmall (string_at self.now i)
             (state_after (history_of self.now).first (history_of self.now).notes i) }
     {
         record_laws();
-        self.entries.get(i).changes.as_slice()
+        &self.entries.get(i).changes
     }
 
     /// Goes back to the state before the last string that is not undone, where there is one; otherwise nothing changes. Takes no

@@ -7,8 +7,10 @@ pub mod PageLines
 pub mod Halves
 pub mod Joining
 pub mod Leading
+pub mod Listing
 pub mod Loans
 pub mod Naming
+pub mod OneByte
 pub mod Outputs
 pub mod Recordings
 pub mod Rows

@@ -1,10 +1,11 @@
 -- A turn changes only what its kind names, and leaves a change of the kind that goes back.
-use Rattle.std.proofs.Common.{◌≡◌, length, drop, refl, sym, ap, subst, arith, length-drop}
+use Rattle.std.proofs.Common.{◌≡◌, length, drop, refl, sym, ◌∙◌, ap, subst, arith, length-drop}
 use Rattle.std.proofs.lemmas.List.{length-take-le}
 use Rattle.teco_store.specs.State.{Body}
 use Rattle.teco_store.specs.Turn.{Turn, Splice, Lend, Point, Number, Text, Push, TakeOff, PopInto, PutBack, Pages, Search, Found, Done, Mode, lent, top_of, body_after, turn_after, Stands}
 use Rattle.teco_store.proofs.Loans.{length-lent}
 use Rattle.teco_store.specs.Kinds.{kind_of, ChangesOnly, way_back}
+use Rattle.teco_store.specs.declared.change_kind.ChangeKind.{ChangeKind}
 use Rattle.teco_store.specs.declared.change_kind.ChangeKind.TheVariants as kind
 
 pub changes_only : (t : Turn) (b : Body) → ChangesOnly (kind_of t) b (body_after t b)
@@ -43,3 +44,16 @@ kind_back (Mode mode) b s = refl
 -- The same where a turn is known to be another.
 pub changes_only_as : (t u : Turn) (b : Body) → t ≡ u → ChangesOnly (kind_of u) b (body_after t b)
 changes_only_as t u b e = subst (λ (x : Turn). ChangesOnly (kind_of u) b (body_after x b)) (sym e) (changes_only u b)
+
+-- What a kind tells, where it is known to be that of a turn.
+pub record Tells (kind : ChangeKind) (t : Turn) : Type 0 where
+  pub kind_is : kind ≡ kind_of t
+  pub only : (b : Body) → ChangesOnly kind b (body_after t b)
+  pub back : (b : Body) → Stands t b → kind_of (turn_after t b) ≡ way_back kind
+
+pub tells_kind : (kind : ChangeKind) (t : Turn) → kind ≡ kind_of t → Tells kind t
+tells_kind kind t e = record {
+  kind_is = e;
+  only = λ b. subst (λ (k : ChangeKind). ChangesOnly k b (body_after t b)) (sym e) (changes_only t b);
+  back = λ b stands. kind_back t b stands ∙ ap way_back (sym e);
+}

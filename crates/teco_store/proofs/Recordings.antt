@@ -176,12 +176,12 @@ come_noted r t d f fits rises =
     }
 
 -- The parts of a recorder are those of its value `r`; `d` is put in, and what stood there is noted.
-pub goes_noted : (r : Recording) (e g : Full) (xs ys : List Note) (k spare : ℕ) (d : Turn) → (let x : Recording = record { full = e; notes = xs; done = k; spare = spare } in x) ≡ r
+pub goes_noted : (r : Recording) (e g : Full) (xs ys : List Note) (k spare apart : ℕ) (d : Turn) → (let x : Recording = record { full = e; notes = xs; done = k; spare = spare; apart = apart } in x) ≡ r
     → g ≡ full_after d e → ys ≡ xs ++ record { step = k; turn = turn_after d e.body } ∷ [] → FitsFull d r.full → r.full.body.output ≤ (body_after d r.full.body).output
     → (t : Trail) → Follows r t → HasCome g ys k (noting t (weight d r.full.body) 1)
-goes_noted r e g xs ys k spare d view full notes fits rises = λ t f.
+goes_noted r e g xs ys k spare apart d view full notes fits rises = λ t f.
     let come : Follows (with_note r d) (noting t (weight d r.full.body) 1) = come_noted r t d f fits rises in
-    let seen : Follows (with_note (record { full = e; notes = xs; done = k; spare = spare }) d) (noting t (weight d r.full.body) 1) =
+    let seen : Follows (with_note (record { full = e; notes = xs; done = k; spare = spare; apart = apart }) d) (noting t (weight d r.full.body) 1) =
     subst (λ (x : Recording). Follows (with_note x d) (noting t (weight d r.full.body) 1)) (sym view) come in
     rw (full, notes) seen
 
@@ -214,9 +214,9 @@ come_extended e g notes steps t x f =
     } in
     subst (λ (y : Body). HasCome (record { body = y; stored = g.stored; room = g.room }) notes steps t) (sym x.body) extended
 
-pub keeps_extended : (r : Recording) (e g : Full) (xs : List Note) (k spare : ℕ) → (let x : Recording = record { full = e; notes = xs; done = k; spare = spare } in x) ≡ r
+pub keeps_extended : (r : Recording) (e g : Full) (xs : List Note) (k spare apart : ℕ) → (let x : Recording = record { full = e; notes = xs; done = k; spare = spare; apart = apart } in x) ≡ r
     → Extends e g → (t : Trail) → Follows r t → HasCome g xs k t
-keeps_extended r e g xs k spare view x = λ t f. come_extended e g xs k t x (subst (λ (y : Recording). Follows y t) (sym view) f)
+keeps_extended r e g xs k spare apart view x = λ t f. come_extended e g xs k t x (subst (λ (y : Recording). Follows y t) (sym view) f)
 
 pub keeps_then : (r s u : Recording) → StillFollows r s → StillFollows s u → StillFollows r u
 keeps_then r s u h k = λ t f. k t (h t f)

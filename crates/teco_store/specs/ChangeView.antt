@@ -1,5 +1,5 @@
 -- What contracts see of a change.
-use Rattle.std.specs.Prelude.{◌≡◌, ℕ, ◌+◌, ◌≤◌, [], length, option_map, Option, Some, None}
+use Rattle.std.specs.Prelude.{◌≡◌, ℕ, ◌+◌, ◌≤◌, [], ◌∷◌, ◌==◌, if◌then◌else◌, length, option_map, Option, Some, None}
 use Rattle.std.specs.Vec.{vec_capacity}
 use Rattle.teco_core.specs.Contents.{content_of}
 use Rattle.teco_store.specs.Page.{IsAsRead}
@@ -9,28 +9,43 @@ use Rattle.teco_store.specs.Turn.{Turn}
 use Rattle.teco_store.specs.declared.change.Held.{Held}
 use Rattle.teco_store.specs.declared.change.Held.TheVariants.{Input, Memory}
 use Rattle.teco_store.specs.declared.change.Kind.{Kind}
-use Rattle.teco_store.specs.declared.change.Kind.TheVariants.{Splice, Short, Lend, Point, Number, Text, Push, TakeOff, PopInto, PutBack, Pages, Search, Found, Done, Mode}
+use Rattle.teco_store.specs.declared.change.Kind.TheVariants.{Plain, Splice, Short, Lend, Text, Push, TakeOff, PopInto, PutBack, Search}
+use Rattle.teco_store.specs.declared.change.Small.{Small}
+use Rattle.teco_store.specs.declared.change.Small.TheVariants.{ByteIn, ByteOut, Point, Number, Pages, Found, Done, Mode, Apart}
 use Rattle.teco_store.specs.declared.short_text.TheConstants.{SHORT_LIMIT}
 
+-- What lies in the change itself. The place of what is held apart says nothing by itself.
+abbrev pub small_turn : Small → Turn
+small_turn (ByteIn at pointer byte) = turn.Splice at 0 pointer (byte ∷ [])
+small_turn (ByteOut at pointer) = turn.Splice at 1 pointer []
+small_turn (Point pointer) = turn.Point pointer
+small_turn (Number q number) = turn.Number q number
+small_turn (Pages place output form_feed) = turn.Pages place output form_feed
+small_turn (Found found) = turn.Found found
+small_turn (Done done) = turn.Done done
+small_turn (Mode mode) = turn.Mode mode
+small_turn (Apart place) = turn.TakeOff
+
+-- Its value lies in it.
+abbrev pub IsHere : Small → Type 0
+IsHere (Apart place) = ⊥
+IsHere s = Unit {0}
+
 abbrev pub turn_of : Kind → Turn
+turn_of (Plain small) = small_turn small
 turn_of (Splice p held) = turn.Splice p.at p.there p.pointer held.items
 turn_of (Short p held) = turn.Splice p.at p.there p.pointer held
 turn_of (Lend l) = turn.Lend l.from l.count l.there_from l.there l.pointer
-turn_of (Point pointer) = turn.Point pointer
-turn_of (Number q number) = turn.Number q number
 turn_of (Text q held) = turn.Text q held.items
 turn_of (Push value) = turn.Push (content_of value)
 turn_of TakeOff = turn.TakeOff
 turn_of (PopInto q) = turn.PopInto q
 turn_of (PutBack q value) = turn.PutBack q (content_of value)
-turn_of (Pages place output form_feed) = turn.Pages place output form_feed
 turn_of (Search held) = turn.Search (option_map (λ v. v.items) held)
-turn_of (Found found) = turn.Found found
-turn_of (Done done) = turn.Done done
-turn_of (Mode mode) = turn.Mode mode
 
 -- The bytes that stand in a place have room beside those that are held for it. A short text has the room that lies in the change.
 abbrev pub HasRoom : Kind → Type 0
+HasRoom (Plain small) = IsHere small
 HasRoom (Splice p held) = p.there + length held.items ≤ vec_capacity held
 HasRoom (Short p held) = p.there + length held ≤ SHORT_LIMIT
 HasRoom k = Unit {0}
@@ -44,3 +59,7 @@ place_of (Memory v) = None
 abbrev pub CanHold : Body → ℕ → ℕ → ℕ → Held → Type 0
 CanHold b at there came (Input from) = ((at ≡ 0) × (there ≡ length b.text)) × IsAsRead b from
 CanHold b at there came (Memory v) = (v.items ≡ []) × (vec_capacity v ≡ there + came)
+
+-- how many of the changes of a splice are held apart, which has so many bytes on both its sides: a single byte lies in the change
+abbrev pub held_apart : ℕ → ℕ
+held_apart bytes = if bytes == 1 then 0 else 1

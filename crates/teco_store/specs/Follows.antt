@@ -7,12 +7,14 @@ use Rattle.teco_store.specs.Trail.{Trail, most_changes, moved}
 use Rattle.teco_store.specs.Turn.{Turn, Note, full_after, turn_after}
 use Rattle.teco_store.specs.Entry.{body_back, FitsBack, since, before, of_step, load_back}
 
--- an editor with the changes that were noted, the steps done, and how many more changes can be noted before memory is needed
+-- an editor with the changes that were noted, the steps done, and how many more changes can be noted before memory is needed: at all,
+-- and of those that are held apart
 pub record Recording : Type 0 where
   pub full : Full
   pub notes : List Note
   pub done : ℕ
   pub spare : ℕ
+  pub apart : ℕ
 
 -- Each was made with at least `low` and at most `high` steps done, and none with fewer than the one before it.
 abbrev pub AreMarked : ℕ → ℕ → List Note → Type 0
@@ -80,6 +82,7 @@ with_note r d = record {
   notes = r.notes ++ record { step = r.done; turn = turn_after d r.full.body } ∷ [];
   done = r.done;
   spare = r.spare - 1;
+  apart = r.apart;
 }
 
 -- The loads and the changes of a trail are bounds.

@@ -3,6 +3,7 @@ pub mod Entry
 pub mod Follows
 pub mod Kinds
 pub mod Lending
+pub mod Listing
 pub mod Output
 pub mod Page
 pub mod PageLaws

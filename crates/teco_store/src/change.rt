@@ -1,6 +1,6 @@
 //! Changes: a part of the state, and the value that is to be put there.
 ghost use Rattle.std.specs.Prelude.{◌≡◌, ◌≤◌};
-ghost use Rattle.teco_store.specs.ChangeView.{turn_of, place_of, HasRoom};
+ghost use Rattle.teco_store.specs.ChangeView.{small_turn, turn_of, place_of, HasRoom, IsHere};
 ghost use Rattle.teco_store.specs.Entry.{held_by};
 ghost use Rattle.teco_store.specs.Kinds.{kind_of, way_back, ChangesOnly};
 ghost use Rattle.teco_store.specs.State.{Body};
@@ -73,67 +73,171 @@ pub(crate) enum Held {
     Memory(Vec<u8>),
 }
 
+/// A part of the state with a value for it that lies in the change itself; or the place of a change that is held apart.
+///
+/// A byte goes in, or out, at the first place, and the pointer goes to the second.
+#[derive(Clone, Copy)]
+pub(crate) enum Small {
+    ByteIn(u32, u32, u8),
+    ByteOut(u32, u32),
+    Point(u32),
+    Number(Reg, i32),
+    Pages(u32, u32, bool),
+    Found(bool),
+    Done(bool),
+    Mode(CaseMode),
+    Apart(usize),
+}
+
+impl Small {
+    /// What it is for.
+    pub(crate) fn kind(self) -> ChangeKind
+        requires { IsHere self }
+        ensures { result ≡ kind_of (small_turn self) }
+    {
+        match self {
+            Small::ByteIn(at, _, _) => ChangeKind::Splice {
+                at: at as usize,
+                gone: 0,
+                came: 1,
+            },
+            Small::ByteOut(at, _) => ChangeKind::Splice {
+                at: at as usize,
+                gone: 1,
+                came: 0,
+            },
+            Small::Point(_) => ChangeKind::Point,
+            Small::Number(q, _) => ChangeKind::Number(q),
+            Small::Pages(_, _, _) => ChangeKind::Pages,
+            Small::Found(_) => ChangeKind::Found,
+            Small::Done(_) => ChangeKind::Done,
+            Small::Mode(_) => ChangeKind::Mode,
+            // Its value lies in it, by what the call requires.
+            Small::Apart(_) => unreachable!(),
+        }
+    }
+}
+
 /// The part of the state that a change is for, with the value.
 #[derive(Drop)]
 pub(crate) enum Kind {
+    Plain(Small),
     Splice(Place, Vec<u8>),
     Short(Place, ShortText),
     Lend(Loan),
-    Point(u32),
-    Number(Reg, i32),
     Text(Reg, Vec<u8>),
     Push(Value),
     TakeOff,
     PopInto(Reg),
     PutBack(Reg, Value),
-    Pages(u32, u32, bool),
     Search(Option<Vec<u8>>),
-    Found(bool),
-    Done(bool),
-    Mode(CaseMode),
 }
 
-/// A part of the state and the value that is to be put there, with the steps that were done before it was noted.
+/// A part of the state and the value that is to be put there.
 ///
 /// It holds the text that it takes the place of, and no other. Turned, it holds what stood there. A page that stands in the input as it
 /// was read is not held: the change names its place.
-pub struct Change {
-    step: u64,
+#[derive(Drop)]
+pub(crate) struct Part {
     kind: Kind,
 }
 
-impl Drop for Change {
-    // A loop that counts has millions of changes with no text: they are gone in line.
-    #[inline(always)]
-    fn drop(self) {
-        let Change { step: _, kind } = self;
-        match kind {
-            Kind::Number(_, _) | Kind::Point(_) => {}
-            other => drop(other),
+impl Model for Part {
+    ghost use Rattle.teco_store.specs.Turn.{Turn};
+    ghost use Rattle.teco_store.specs.ChangeView.{turn_of, HasRoom};
+
+    ghost Value = { Turn };
+
+    ghost view = { λ p. turn_of p.kind };
+
+    ghost invariant = { λ p. HasRoom p.kind };
+}
+
+impl Part {
+    /// A value for a part of the state.
+    pub(crate) fn new(kind: Kind) -> Part
+        requires { HasRoom kind }
+        ensures { result ≡ turn_of kind }
+    {
+        Part { kind }
+    }
+
+    /// The bytes of its text, if it has one.
+    pub(crate) fn held(&self) -> usize
+        ensures { result ≡ held_by self.now }
+    {
+        match &self.kind {
+            Kind::Splice(_, held) | Kind::Text(_, held) | Kind::Search(Some(held)) => held.len(),
+            Kind::Short(_, held) => held.len(),
+            Kind::Push(value) | Kind::PutBack(_, value) => value.text.len(),
+            Kind::Plain(Small::ByteIn(_, _, _)) => 1,
+            Kind::Plain(_)
+            | Kind::Lend(_)
+            | Kind::TakeOff
+            | Kind::PopInto(_)
+            | Kind::Search(None) => 0,
         }
     }
+
+    /// What it is for.
+    pub(crate) fn kind(&self) -> ChangeKind
+        ensures { result ≡ kind_of self.now }
+    {
+        match &self.kind {
+            Kind::Plain(small) => small.kind(),
+            Kind::Splice(place, held) => place.kind(held.len()),
+            Kind::Short(place, held) => place.kind(held.len()),
+            Kind::Lend(loan) => loan.kind(),
+            Kind::Text(q, _) => ChangeKind::Text(*q),
+            Kind::Push(_) | Kind::TakeOff => ChangeKind::Push,
+            Kind::PopInto(q) => ChangeKind::Pop(*q),
+            Kind::PutBack(q, _) => ChangeKind::Pop(*q),
+            Kind::Search(_) => ChangeKind::Search,
+        }
+    }
+
+    /// Swaps what it holds with what stands in its place. Takes no memory.
+    pub(crate) fn turn(&mut self, editor: &mut Editor)
+        requires { FitsFull self.old editor.old }
+        ensures editor { editor.new ≡ full_after self.old editor.old }
+        ensures part { self.new ≡ turn_after self.old editor.old.body }
+    {
+        let held = mem::replace(&mut self.kind, Kind::TakeOff);
+        self.kind = editor.put(held);
+    }
+}
+
+/// A part of the state and the value that is to be put there, with the steps that were done before it was noted.
+#[derive(Drop)]
+pub struct Change {
+    step: u64,
+    part: Part,
 }
 
 const _: () = prove!(size_of::<Change>() <= 48);
 
 impl Model for Change {
     ghost use Rattle.teco_store.specs.Turn.{Note};
-    ghost use Rattle.teco_store.specs.ChangeView.{turn_of, HasRoom};
 
     ghost Value = { Note };
 
-    ghost view = { λ c. record { step = c.step; turn = turn_of c.kind } };
-
-    ghost invariant = { λ c. HasRoom c.kind };
+    ghost view = { λ c. record { step = c.step; turn = c.part } };
 }
 
 impl Change {
     /// A value for a part of the state.
-    pub(crate) fn new(step: u64, kind: Kind) -> Change
-        requires { HasRoom kind }
-        ensures { result ≡ record { step = step; turn = turn_of kind } }
+    pub(crate) fn new(step: u64, part: Part) -> Change
+        ensures { result ≡ record { step = step; turn = part } }
     {
-        Change { step, kind }
+        Change { step, part }
+    }
+
+    /// One whose value lies in it.
+    pub(crate) fn small(step: u64, small: Small) -> Change
+        requires { IsHere small }
+        ensures { result ≡ record { step = step; turn = small_turn small } }
+    {
+        Change::new(step, Part::new(Kind::Plain(small)))
     }
 
     /// The steps that were done before it.
@@ -147,25 +251,10 @@ impl Change {
     pub fn held(&self) -> usize
         ensures { result ≡ held_by self.now.turn }
     {
-        match &self.kind {
-            Kind::Splice(_, held) | Kind::Text(_, held) | Kind::Search(Some(held)) => held.len(),
-            Kind::Short(_, held) => held.len(),
-            Kind::Push(value) | Kind::PutBack(_, value) => value.text.len(),
-            Kind::Lend(_)
-            | Kind::Point(_)
-            | Kind::Number(_, _)
-            | Kind::TakeOff
-            | Kind::PopInto(_)
-            | Kind::Pages(_, _, _)
-            | Kind::Search(None)
-            | Kind::Found(_)
-            | Kind::Done(_)
-            | Kind::Mode(_) => 0,
-        }
+        self.part.held()
     }
 
     /// What it is for, and of a splice how many bytes a turn takes out and puts in. Takes no memory.
-    #[tactic(auto, using(crate::proofs::Naming::changes_only, crate::proofs::Naming::kind_back))]
     pub fn kind(&self) -> ChangeKind
         ensures kind { result ≡ kind_of self.now.turn }
 
@@ -174,59 +263,15 @@ impl Change {
         ensures back { (b : Body) → Stands self.now.turn b
             → kind_of (turn_after self.now.turn b) ≡ way_back result }
     {
-        match &self.kind {
-            Kind::Splice(place, held) => place.kind(held.len()),
-            Kind::Short(place, held) => place.kind(held.len()),
-            Kind::Lend(loan) => loan.kind(),
-            Kind::Point(_) => ChangeKind::Point,
-            Kind::Number(q, _) => ChangeKind::Number(*q),
-            Kind::Text(q, _) => ChangeKind::Text(*q),
-            Kind::Push(_) | Kind::TakeOff => ChangeKind::Push,
-            Kind::PopInto(q) => ChangeKind::Pop(*q),
-            Kind::PutBack(q, _) => ChangeKind::Pop(*q),
-            Kind::Pages(_, _, _) => ChangeKind::Pages,
-            Kind::Search(_) => ChangeKind::Search,
-            Kind::Found(_) => ChangeKind::Found,
-            Kind::Done(_) => ChangeKind::Done,
-            Kind::Mode(_) => ChangeKind::Mode,
-        }
+        self.part.kind()
     }
 
     /// Swaps what it holds with what stands in its place. Takes no memory.
-    ///
-    /// A string that counts or moves has millions of numbers and places: these are put with their kind known, and nothing goes through memory.
     pub(crate) fn turn(&mut self, editor: &mut Editor)
         requires { FitsFull self.old.turn editor.old }
         ensures editor { editor.new ≡ full_after self.old.turn editor.old }
         ensures change { self.new ≡ note_after self.old editor.old.body }
     {
-        match &self.kind {
-            Kind::Number(q, number) => {
-                let held = Kind::Number(*q, *number);
-                self.exchange(held, editor);
-            }
-            Kind::Point(pointer) => {
-                let held = Kind::Point(*pointer);
-                self.exchange(held, editor);
-            }
-            _ => {
-                let held = mem::replace(&mut self.kind, Kind::TakeOff);
-                self.exchange(held, editor);
-            }
-        }
-    }
-
-    // Puts a value in its place, and holds what stood there.
-    #[inline(always)]
-    fn exchange(&mut self, held: Kind, editor: &mut Editor)
-        requires room { HasRoom held }
-        requires fits { FitsFull (turn_of held) editor.old }
-        ensures editor { editor.new ≡ full_after (turn_of held) editor.old }
-        ensures change { self.new ≡ record {
-          step = self.old.step;
-          turn = turn_after (turn_of held) editor.old.body;
-        } }
-    {
-        self.kind = editor.put(held);
+        self.part.turn(editor);
     }
 }

@@ -3,6 +3,7 @@
 
 mod change;
 mod change_kind;
+mod change_list;
 mod desk;
 mod editor;
 mod exchange;
@@ -16,6 +17,7 @@ mod turning;
 
 pub use change::Change;
 pub use change_kind::ChangeKind;
+pub use change_list::ChangeList;
 pub use desk::{Desk, Refused};
 pub use editor::Editor;
 pub use laws::{editor_laws, page_laws, record_laws};

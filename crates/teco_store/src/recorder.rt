@@ -1,7 +1,7 @@
 //! A desk that notes each change, so that it can be turned back.
 ghost use Rattle.std.specs.Prelude.{◌≡◌, ◌+◌, ◌<◌, ◌≤◌, length, [], take, IfOk, IsOk, MatchOption, OnOk, OnErr};
 ghost use Rattle.std.specs.Vec.{vec_capacity};
-ghost use Rattle.teco_store.specs.ChangeView.{turn_of, HasRoom};
+ghost use Rattle.teco_store.specs.ChangeView.{held_apart, small_turn, turn_of, HasRoom, IsHere};
 ghost use Rattle.teco_store.specs.Entry.{weight};
 ghost use Rattle.teco_store.specs.Follows.{Follows, FollowsAfterChanges, StillFollows, with_note};
 ghost use Rattle.teco_store.specs.State.{IsSound, state_of};
@@ -12,7 +12,8 @@ mod pages;
 mod recording;
 mod texts;
 
-use crate::change::{Change, Kind};
+use crate::change::{Kind, Part, Small};
+use crate::change_list::ChangeList;
 use crate::editor::Editor;
 use crate::short_text::SHORT_LIMIT;
 use std::marker::Model;
@@ -21,22 +22,21 @@ use teco_core::{NoMemory, TEXT_LIMIT};
 
 /// An editor whose changes are noted: each call of `Desk` finds all memory first and then makes its changes.
 ///
-/// A clause sees it as the editor, the changes that were noted, the steps done, and how many more changes have room.
+/// A clause sees it as the editor, the changes that were noted, the steps done, and how many more changes have room: at all, and of those
+/// that are held apart.
 #[derive(Drop)]
 pub struct Recorder {
     editor: Editor,
-    entry: Vec<Change>,
+    entry: ChangeList,
     done: u64,
 }
 
 impl Model for Recorder {
-    ghost use Rattle.std.specs.Prelude.{◌-◌, length};
-    ghost use Rattle.std.specs.Vec.{vec_capacity};
     ghost use Rattle.teco_store.specs.Follows.{Recording};
 
     ghost Value = { Recording };
 
-    ghost view = { λ r. record { full = r.editor; notes = r.entry.items; done = r.done; spare = vec_capacity r.entry - length r.entry.items } };
+    ghost view = { λ r. record { full = r.editor; notes = r.entry.items; done = r.done; spare = r.entry.spare; apart = r.entry.apart } };
 }
 
 impl Recorder {
@@ -48,7 +48,7 @@ impl Recorder {
         ensures full { result.full ≡ editor }
     {
         Recorder {
-            entry: Vec::new(editor.allocator()),
+            entry: ChangeList::new(editor.allocator()),
             editor,
             done: 0,
         }
@@ -73,12 +73,12 @@ impl Recorder {
     }
 
     /// Gives what was noted. Takes no memory.
-    pub fn take(&mut self) -> Vec<Change>
+    pub fn take(&mut self) -> ChangeList
         ensures full { self.new.full ≡ self.old.full }
         ensures entry { result.items ≡ self.old.notes }
     {
         let alloc = self.editor.allocator();
-        mem::replace(&mut self.entry, Vec::new(alloc))
+        mem::replace(&mut self.entry, ChangeList::new(alloc))
     }
 
     /// The editor. Takes no memory.
@@ -96,16 +96,18 @@ impl Recorder {
         &mut self.editor
     }
 
-    // Finds room for so many more changes.
-    fn reserve(&mut self, changes: usize) -> Result<(), NoMemory>
+    // Finds room for so many more changes, and for so many of them that are held apart.
+    #[inline(always)]
+    fn reserve(&mut self, changes: usize, apart: usize) -> Result<(), NoMemory>
         ensures full { self.new.full ≡ self.old.full }
         ensures sound { IsSound self.new.full.room (length self.new.full.stored) self.new.full.body }
         ensures spare { OnOk result (changes ≤ self.new.spare) }
-        ensures with_room { changes ≤ self.old.spare → IsOk result }
+        ensures apart { OnOk result (apart ≤ self.new.apart) }
+        ensures with_room { changes ≤ self.old.spare → apart ≤ self.old.apart → IsOk result }
         ensures keeps { StillFollows self.old self.new }
     {
         let _shown = self.editor.shown();
-        self.entry.reserve(changes)
+        self.entry.reserve(changes, apart)
     }
 
     // Makes room for a text of `len` bytes.
@@ -113,6 +115,7 @@ impl Recorder {
         ensures body { self.new.full.body ≡ self.old.full.body }
         ensures stored { self.new.full.stored ≡ self.old.full.stored }
         ensures spare { self.new.spare ≡ self.old.spare }
+        ensures apart { self.new.apart ≡ self.old.apart }
         ensures room { OnOk result (len ≤ self.new.full.room) }
         ensures sound { IsSound self.new.full.room (length self.new.full.stored) self.new.full.body }
         ensures keeps { StillFollows self.old self.new }
@@ -121,68 +124,138 @@ impl Recorder {
         self.editor.reserve(len)
     }
 
-    // Finds memory for so many changes, for `bytes` bytes that are to be noted, and for a text of `len` bytes.
-    fn find_memory(&mut self, changes: usize, bytes: usize, len: usize) -> Result<Vec<u8>, NoMemory>
+    // Finds memory for so many changes, for so many of them that are held apart, for `bytes` bytes that are to be noted, and for a text
+    // of `len` bytes.
+    fn find_memory(
+        &mut self,
+        changes: usize,
+        apart: usize,
+        bytes: usize,
+        len: usize,
+    ) -> Result<Vec<u8>, NoMemory>
         ensures body { self.new.full.body ≡ self.old.full.body }
         ensures stored { self.new.full.stored ≡ self.old.full.stored }
         ensures sound { IsSound self.new.full.room (length self.new.full.stored) self.new.full.body }
         ensures ok { IfOk result (λ v. (v.items ≡ []) × (vec_capacity v ≡ bytes)) }
         ensures spare { OnOk result (changes ≤ self.new.spare) }
+        ensures apart { OnOk result (apart ≤ self.new.apart) }
         ensures room { OnOk result (len ≤ self.new.full.room) }
         ensures keeps { StillFollows self.old self.new }
     {
-        self.reserve(changes)?;
+        self.reserve(changes, apart)?;
         self.reserve_text(len)?;
         Vec::with_capacity(self.editor.allocator(), bytes)
     }
 
-    // Finds room for so many changes, and for a text of `len` bytes; and memory for `bytes` bytes that are to be noted, where they
-    // are not few.
+    // Finds room for so many changes, for so many of them that are held apart beside the splice, and for a text of `len` bytes; and
+    // memory for `bytes` bytes that are to be noted, where they are not few.
     fn find_held(
         &mut self,
         changes: usize,
+        apart: usize,
         bytes: usize,
         len: usize,
     ) -> Result<Option<Vec<u8>>, NoMemory>
+        requires { apart ≤ 1 }
         ensures body { self.new.full.body ≡ self.old.full.body }
         ensures stored { self.new.full.stored ≡ self.old.full.stored }
         ensures sound { IsSound self.new.full.room (length self.new.full.stored) self.new.full.body }
         ensures held { IfOk result (λ held. MatchOption held (bytes ≤ SHORT_LIMIT)
-            (λ v. (v.items ≡ []) × (bytes ≤ vec_capacity v))) }
+            (λ v. (v.items ≡ []) × (bytes ≤ vec_capacity v) × (SHORT_LIMIT < bytes))) }
         ensures spare { OnOk result (changes ≤ self.new.spare) }
+        ensures apart { OnOk result (apart + held_apart bytes ≤ self.new.apart) }
         ensures room { OnOk result (len ≤ self.new.full.room) }
         ensures keeps { StillFollows self.old self.new }
     {
+        let apart = apart + usize::from(bytes != 1);
         if bytes <= SHORT_LIMIT {
-            self.reserve(changes)?;
+            self.reserve(changes, apart)?;
             self.reserve_text(len)?;
             return Ok(None);
         }
-        let held = self.find_memory(changes, bytes, len)?;
+        let held = self.find_memory(changes, apart, bytes, len)?;
         Ok(Some(held))
     }
 
-    // Puts a value in its place, and notes what stood there.
+    // Puts a value that lies in its change in its place, and notes what stood there.
     #[inline(always)]
-    fn note(&mut self, kind: Kind)
+    fn note(&mut self, small: Small)
         requires spare { 0 < self.old.spare }
+        requires here { IsHere small }
+        requires fits { FitsFull (small_turn small) self.old.full }
+        requires rises { self.old.full.body.output ≤ (body_after (small_turn small) self.old.full.body).output }
+        ensures full { self.new.full ≡ full_after (small_turn small) self.old.full }
+        ensures sound { IsSound self.new.full.room (length self.new.full.stored) self.new.full.body }
+        ensures spare { self.new.spare + 1 ≡ self.old.spare }
+        ensures apart { self.new.apart ≡ self.old.apart }
+        ensures goes { FollowsAfterChanges (weight (small_turn small) self.old.full.body) 1 self.old self.new }
+    {
+        let held = self.editor.put_small(small);
+        self.entry.push(self.done, held);
+    }
+
+    // Puts a value in its place, and notes what stood there, which is held apart.
+    fn note_apart(&mut self, kind: Kind)
+        requires spare { 0 < self.old.spare }
+        requires apart { 0 < self.old.apart }
         requires room { HasRoom kind }
         requires fits { FitsFull (turn_of kind) self.old.full }
         requires rises { self.old.full.body.output ≤ (body_after (turn_of kind) self.old.full.body).output }
         ensures full { self.new.full ≡ full_after (turn_of kind) self.old.full }
         ensures sound { IsSound self.new.full.room (length self.new.full.stored) self.new.full.body }
         ensures spare { self.new.spare + 1 ≡ self.old.spare }
+        ensures apart { self.new.apart + 1 ≡ self.old.apart }
         ensures goes { FollowsAfterChanges (weight (turn_of kind) self.old.full.body) 1 self.old self.new }
     {
         let held = self.editor.put(kind);
-        self.entry.push_reserved(Change::new(self.done, held));
+        self.entry.push_apart(self.done, Part::new(held));
     }
 
     // Puts `ins` for the `there` bytes at `at`, and notes those that stood there in `held`, which is empty.
     fn exchange(&mut self, at: usize, there: usize, ins: &[u8], pointer: usize, held: Vec<u8>)
         requires spare { 0 < self.old.spare }
+        requires apart { 0 < self.old.apart }
         requires empty { held.items ≡ [] }
         requires memory { there + length ins.now ≤ vec_capacity held }
+        requires there { at + there ≤ length self.old.full.body.text }
+        requires lands { pointer + there ≤ length self.old.full.body.text + length ins.now }
+        requires small { length self.old.full.body.text + length ins.now ≤ TEXT_LIMIT + there }
+        requires room { length self.old.full.body.text + length ins.now ≤ self.old.full.room + there }
+        ensures full { self.new.full ≡ full_after (Splice at there pointer ins.now) self.old.full }
+        ensures sound { IsSound self.new.full.room (length self.new.full.stored) self.new.full.body }
+        ensures spare { self.new.spare + 1 ≡ self.old.spare }
+        ensures apart { self.new.apart + 1 ≡ self.old.apart }
+        ensures goes { FollowsAfterChanges (there + length ins.now) 1 self.old self.new }
+    {
+        let _shown = self.editor.shown();
+        let held = self.editor.exchange(at, there, ins, pointer, held);
+        self.entry.push_apart(self.done, Part::new(held));
+    }
+
+    // Puts `ins` for the `there` bytes at `at`, and notes those that stood there, as a short text.
+    fn exchange_short(&mut self, at: usize, there: usize, ins: &[u8], pointer: usize)
+        requires spare { 0 < self.old.spare }
+        requires apart { 0 < self.old.apart }
+        requires short { there + length ins.now ≤ SHORT_LIMIT }
+        requires there { at + there ≤ length self.old.full.body.text }
+        requires lands { pointer + there ≤ length self.old.full.body.text + length ins.now }
+        requires small { length self.old.full.body.text + length ins.now ≤ TEXT_LIMIT + there }
+        requires room { length self.old.full.body.text + length ins.now ≤ self.old.full.room + there }
+        ensures full { self.new.full ≡ full_after (Splice at there pointer ins.now) self.old.full }
+        ensures sound { IsSound self.new.full.room (length self.new.full.stored) self.new.full.body }
+        ensures spare { self.new.spare + 1 ≡ self.old.spare }
+        ensures apart { self.new.apart + 1 ≡ self.old.apart }
+        ensures goes { FollowsAfterChanges (there + length ins.now) 1 self.old self.new }
+    {
+        let _shown = self.editor.shown();
+        let held = self.editor.exchange_short(at, there, ins, pointer);
+        self.entry.push_apart(self.done, Part::new(held));
+    }
+
+    // Puts a byte in at `at`, or takes it out there, and notes that in the change itself.
+    fn exchange_byte(&mut self, at: usize, there: usize, ins: &[u8], pointer: usize)
+        requires spare { 0 < self.old.spare }
+        requires one { there + length ins.now ≡ 1 }
         requires there { at + there ≤ length self.old.full.body.text }
         requires lands { pointer + there ≤ length self.old.full.body.text + length ins.now }
         requires small { length self.old.full.body.text + length ins.now ≤ TEXT_LIMIT + there }
@@ -193,13 +266,17 @@ impl Recorder {
         ensures goes { FollowsAfterChanges (there + length ins.now) 1 self.old self.new }
     {
         let _shown = self.editor.shown();
-        let held = self.editor.exchange(at, there, ins, pointer, held);
-        self.entry.push_reserved(Change::new(self.done, held));
+        if there == 0 {
+            self.note(Small::ByteIn(at as u32, pointer as u32, ins[0]));
+        } else {
+            self.note(Small::ByteOut(at as u32, pointer as u32));
+        }
     }
 
-    // Puts `ins` for the `there` bytes at `at`, and notes those that stood there, as a short text.
-    fn exchange_short(&mut self, at: usize, there: usize, ins: &[u8], pointer: usize)
+    // Puts `ins` for the `there` bytes at `at`, and notes those that stood there, which are few.
+    fn replace_few(&mut self, at: usize, there: usize, ins: &[u8], pointer: usize)
         requires spare { 0 < self.old.spare }
+        requires apart { held_apart (there + length ins.now) ≤ self.old.apart }
         requires short { there + length ins.now ≤ SHORT_LIMIT }
         requires there { at + there ≤ length self.old.full.body.text }
         requires lands { pointer + there ≤ length self.old.full.body.text + length ins.now }
@@ -210,9 +287,11 @@ impl Recorder {
         ensures spare { self.new.spare + 1 ≡ self.old.spare }
         ensures goes { FollowsAfterChanges (there + length ins.now) 1 self.old self.new }
     {
-        let _shown = self.editor.shown();
-        let held = self.editor.exchange_short(at, there, ins, pointer);
-        self.entry.push_reserved(Change::new(self.done, held));
+        if there + ins.len() == 1 {
+            self.exchange_byte(at, there, ins, pointer);
+        } else {
+            self.exchange_short(at, there, ins, pointer);
+        }
     }
 
     // Puts `ins` for the `there` bytes at `at`, and notes those that stood there, in memory if that was found.
@@ -225,8 +304,9 @@ impl Recorder {
         held: Option<Vec<u8>>,
     )
         requires spare { 0 < self.old.spare }
+        requires apart { held_apart (there + length ins.now) ≤ self.old.apart }
         requires memory { MatchOption held (there + length ins.now ≤ SHORT_LIMIT)
-            (λ v. (v.items ≡ []) × (there + length ins.now ≤ vec_capacity v)) }
+            (λ v. (v.items ≡ []) × (there + length ins.now ≤ vec_capacity v) × (SHORT_LIMIT < there + length ins.now)) }
         requires there { at + there ≤ length self.old.full.body.text }
         requires lands { pointer + there ≤ length self.old.full.body.text + length ins.now }
         requires small { length self.old.full.body.text + length ins.now ≤ TEXT_LIMIT + there }
@@ -237,7 +317,7 @@ impl Recorder {
         ensures goes { FollowsAfterChanges (there + length ins.now) 1 self.old self.new }
     {
         match held {
-            None => self.exchange_short(at, there, ins, pointer),
+            None => self.replace_few(at, there, ins, pointer),
             Some(held) => self.exchange(at, there, ins, pointer, held),
         }
     }

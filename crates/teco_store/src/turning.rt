@@ -1,11 +1,12 @@
 //! Changes and entries are turned: nothing of it takes memory, or fails.
-ghost use Rattle.std.specs.Prelude.{◌≡◌, ◌≤◌, length, take};
+ghost use Rattle.std.specs.Prelude.{◌≡◌, ◌≤◌, length};
 ghost use Rattle.teco_store.specs.Entry.{body_back, notes_back, body_forth, notes_forth, before, since, FitsBack, FitsForth};
 ghost use Rattle.teco_store.specs.Follows.{IsInOrder};
 ghost use Rattle.teco_store.specs.State.{IsSound};
 ghost use Rattle.teco_store.specs.Turn.{full_after, note_after, IsRevertible, IsApplicable};
 
 use crate::change::Change;
+use crate::change_list::ChangeList;
 use crate::editor::Editor;
 
 /// Takes back what the change did. Takes no memory.
@@ -39,7 +40,7 @@ pub fn apply(editor: &mut Editor, change: &mut Change)
 }
 
 // Reverts each change, the last first.
-fn revert_each(editor: &mut Editor, entry: &mut Vec<Change>)
+fn revert_each(editor: &mut Editor, entry: &mut ChangeList)
     requires { FitsBack editor.old.room entry.old.items editor.old.body }
     ensures editor { editor.new ≡ record editor.old { body = body_back entry.old.items editor.old.body } }
     ensures entry { entry.new.items ≡ notes_back entry.old.items editor.old.body }
@@ -47,23 +48,24 @@ fn revert_each(editor: &mut Editor, entry: &mut Vec<Change>)
     let mut i = entry.len();
     while i > 0 {
         i -= 1;
-        revert(editor, &mut entry[i]);
+        let _shown = editor.shown();
+        entry.turn(i, editor);
     }
 }
 
 // Applies each change, the first first.
-fn apply_each(editor: &mut Editor, entry: &mut Vec<Change>)
+fn apply_each(editor: &mut Editor, entry: &mut ChangeList)
     requires { FitsForth editor.old.room (length editor.old.stored) entry.old.items editor.old.body }
     ensures editor { editor.new ≡ record editor.old { body = body_forth entry.old.items editor.old.body } }
     ensures entry { entry.new.items ≡ notes_forth entry.old.items editor.old.body }
 {
     for i in 0..entry.len() {
-        apply(editor, &mut entry[i]);
+        entry.turn(i, editor);
     }
 }
 
 /// Reverts all changes, the last first. Takes no memory.
-pub fn revert_all(editor: &mut Editor, entry: &mut Vec<Change>)
+pub fn revert_all(editor: &mut Editor, entry: &mut ChangeList)
     requires { FitsBack editor.old.room entry.old.items editor.old.body }
     ensures editor { editor.new ≡ record editor.old { body = body_back entry.old.items editor.old.body } }
     ensures entry { entry.new.items ≡ notes_back entry.old.items editor.old.body }
@@ -80,7 +82,7 @@ pub fn revert_all(editor: &mut Editor, entry: &mut Vec<Change>)
 }
 
 /// Applies all changes, the first first. Takes no memory.
-pub fn apply_all(editor: &mut Editor, entry: &mut Vec<Change>)
+pub fn apply_all(editor: &mut Editor, entry: &mut ChangeList)
     requires { FitsForth editor.old.room (length editor.old.stored) entry.old.items editor.old.body }
     ensures editor { editor.new ≡ record editor.old { body = body_forth entry.old.items editor.old.body } }
     ensures entry { entry.new.items ≡ notes_forth entry.old.items editor.old.body }
@@ -96,29 +98,8 @@ pub fn apply_all(editor: &mut Editor, entry: &mut Vec<Change>)
     apply_each(editor, entry);
 }
 
-// Reverts each change that was made after so many steps, the last first, and gives how many come before them.
-fn revert_since(editor: &mut Editor, entry: &mut Vec<Change>, steps: u64) -> usize
-    requires fits { FitsBack editor.old.room entry.old.items editor.old.body }
-    requires order { IsInOrder entry.old.items }
-    ensures editor { editor.new ≡ record editor.old {
-      body = body_back
-          (since steps entry.old.items) editor.old.body;
-    } }
-    ensures entry { take result entry.new.items ≡ before steps entry.old.items }
-{
-    let mut kept = entry.len();
-    while kept > 0 {
-        if entry[kept - 1].step() < steps {
-            break;
-        }
-        kept -= 1;
-        revert(editor, &mut entry[kept]);
-    }
-    kept
-}
-
 /// Reverts the changes that were made after so many steps, the last first, and drops them. Takes no memory.
-pub fn rewind(editor: &mut Editor, entry: &mut Vec<Change>, steps: u64)
+pub fn rewind(editor: &mut Editor, entry: &mut ChangeList, steps: u64)
     requires fits { FitsBack editor.old.room entry.old.items editor.old.body }
     requires order { IsInOrder entry.old.items }
     ensures editor { editor.new ≡ record editor.old {
@@ -127,6 +108,14 @@ pub fn rewind(editor: &mut Editor, entry: &mut Vec<Change>, steps: u64)
     } }
     ensures entry { entry.new.items ≡ before steps entry.old.items }
 {
-    let kept = revert_since(editor, entry, steps);
-    entry.truncate(kept);
+    let mut kept = entry.len();
+    while kept > 0 {
+        kept -= 1;
+        if entry.step(kept) < steps {
+            break;
+        }
+        let _shown = editor.shown();
+        entry.turn(kept, editor);
+        drop(entry.pop());
+    }
 }

@@ -3,7 +3,8 @@ ghost use Rattle.std.specs.Prelude.{◌≡◌};
 ghost use Rattle.teco_walk.specs.Finding.{is_for, last_change};
 
 use teco_core::Reg;
-use teco_store::{Change, ChangeKind};
+use teco_session::Changes;
+use teco_store::ChangeKind;
 
 /// A part of the state that is asked for.
 #[derive(Clone, Copy)]
@@ -27,15 +28,14 @@ fn is_for(part: &Part, kind: ChangeKind) -> bool
 }
 
 /// The steps that were done before the last of the changes that is for the part, where one is.
-pub fn last_change(part: &Part, changes: &[Change]) -> Option<u64>
+pub fn last_change(part: &Part, changes: &Changes) -> Option<u64>
     ensures { result ≡ last_change part.now changes.now }
 {
     let mut left = changes.len();
     while left > 0 {
         left -= 1;
-        let change = &changes[left];
-        if is_for(part, change.kind()) {
-            return Some(change.step());
+        if is_for(part, changes.kind(left)) {
+            return Some(changes.step(left));
         }
     }
     None

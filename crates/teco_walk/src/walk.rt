@@ -1,5 +1,5 @@
 //! A walk over the steps of a command string.
-ghost use Rattle.std.specs.Prelude.{◌≡◌, ◌↔◌, ◌+◌, None, ℕ, ◌≤◌, ◌<◌, OnOk, OnErr, IfNone, IfOk, IfSome, length, vec_len};
+ghost use Rattle.std.specs.Prelude.{◌≡◌, ◌↔◌, ◌+◌, None, ℕ, ◌≤◌, ◌<◌, [], OnOk, OnErr, IfNone, IfOk, IfSome, MatchOption, length, vec_len};
 ghost use Rattle.teco_core.specs.declared.limits.TheConstants.{FILE_LIMIT};
 ghost use Rattle.teco_exec.specs.Telling.{IsLastPlace};
 ghost use Rattle.teco_store.specs.State.{beginning, state_of};
@@ -11,8 +11,8 @@ use std::alloc::Global;
 use std::marker::Model;
 use teco_core::{Code, NoMemory};
 use teco_exec::{Outcome, Place, meaning_laws, run_where};
-use teco_session::{Answer, Session};
-use teco_store::{Change, Editor};
+use teco_session::{Answer, Changes, Session};
+use teco_store::Editor;
 use teco_terminal::MemoryTerminal;
 
 /// A command string over an input, of which some steps are done.
@@ -105,14 +105,24 @@ impl Walk {
         self.session.editor()
     }
 
-    /// The changes that led there, the first first.
-    pub fn changes(&self) -> &[Change]
-        ensures { result.now ≡ self.now.changes }
+    /// The changes that led there, the first first; none where the string was not begun.
+    pub fn changes(&self) -> Option<&Changes>
+        ensures { MatchOption result (self.now.changes ≡ []) (λ changes. changes.now ≡ self.now.changes) }
     {
         if self.session.strings() == 0 {
-            return &[];
+            return None;
         }
-        self.session.entry(0)
+        Some(self.session.entry(0))
+    }
+
+    // The same of the changes as they are listed.
+    fn last_listed(&self, part: &Part) -> Option<u64>
+        ensures { result ≡ last_change part.now self.now.changes }
+    {
+        match self.changes() {
+            None => None,
+            Some(changes) => last_change(part, changes),
+        }
     }
 
     /// The steps that were done before the last change that is for a part of the state, where one is. Takes no memory.
@@ -125,7 +135,7 @@ impl Walk {
         ensures ever { IfNone result (IsAsNowFrom 0 part.now self.now) }
     {
         let _leads = self.session.editor();
-        last_change(part, self.changes())
+        self.last_listed(part)
     }
 
     /// Goes to the state after the first `n` steps of the string, or after all that it takes where those are fewer. Going back takes

@@ -1,12 +1,12 @@
 //! Values are put in their places, and what stood there is given back.
 ghost use Rattle.std.specs.Prelude.{◌≡◌, ◌+◌, ◌≤◌, [], length};
 ghost use Rattle.std.specs.Vec.{vec_capacity};
-ghost use Rattle.teco_store.specs.ChangeView.{turn_of, HasRoom};
+ghost use Rattle.teco_store.specs.ChangeView.{small_turn, turn_of, HasRoom, IsHere};
 ghost use Rattle.teco_store.specs.declared.change.Kind.TheVariants.{Splice, Lend, PopInto, PutBack};
 ghost use Rattle.teco_store.specs.Turn as turn;
 ghost use Rattle.teco_store.specs.Turn.{turn_after, full_after, FitsFull};
 
-use crate::change::{Kind, Loan, Place};
+use crate::change::{Kind, Loan, Place, Small};
 use crate::editor::Editor;
 use crate::exchange::{exchange, exchange_short, swap_bytes};
 use crate::short_text::SHORT_LIMIT;
@@ -14,10 +14,52 @@ use std::mem;
 use teco_core::{Reg, Value};
 
 impl Editor {
-    // Puts a value in its place, and gives what stood there. Takes no memory.
+    // Puts a value that lies in its change in its place, and gives what stood there. Takes no memory.
     //
-    // In line, since a caller's kind is mostly known: then nothing is matched, and no kind goes through memory.
+    // In line, since a caller's value is mostly known: then nothing is matched, and nothing goes through memory.
     #[inline(always)]
+    pub(crate) fn put_small(&mut self, small: Small) -> Small
+        requires fits { FitsFull (small_turn small) self.old }
+        requires here { IsHere small }
+        ensures editor { self.new ≡ full_after (small_turn small) self.old }
+        ensures small { small_turn result ≡ turn_after (small_turn small) self.old.body }
+        ensures here { IsHere result }
+    {
+        match small {
+            Small::ByteIn(at, pointer, byte) => {
+                self.text.splice(at as usize, 0, &[byte]);
+                let there = mem::replace(&mut self.pointer, pointer as usize);
+                Small::ByteOut(at, there as u32)
+            }
+            Small::ByteOut(at, pointer) => {
+                let byte = self.text.get(at as usize);
+                self.text.splice(at as usize, 1, &[]);
+                let there = mem::replace(&mut self.pointer, pointer as usize);
+                Small::ByteIn(at, there as u32, byte)
+            }
+            Small::Point(pointer) => {
+                Small::Point(mem::replace(&mut self.pointer, pointer as usize) as u32)
+            }
+            Small::Number(q, number) => {
+                let registers = &mut self.registers;
+                let there = registers.number(q);
+                registers.set_number(q, number);
+                Small::Number(q, there)
+            }
+            Small::Pages(place, output, form_feed) => Small::Pages(
+                mem::replace(&mut self.place, place as usize) as u32,
+                mem::replace(&mut self.shown, output as usize) as u32,
+                mem::replace(&mut self.form_feed, form_feed),
+            ),
+            Small::Found(found) => Small::Found(mem::replace(&mut self.last_found, found)),
+            Small::Done(done) => Small::Done(mem::replace(&mut self.done, done)),
+            Small::Mode(mode) => Small::Mode(mem::replace(&mut self.case_mode, mode)),
+            // The value lies in it, by what the call requires.
+            Small::Apart(_) => unreachable!(),
+        }
+    }
+
+    // Puts a value in its place, and gives what stood there. Takes no memory.
     pub(crate) fn put(&mut self, kind: Kind) -> Kind
         requires fits { FitsFull (turn_of kind) self.old }
         requires room { HasRoom kind }
@@ -26,6 +68,7 @@ impl Editor {
         ensures room { HasRoom result }
     {
         match kind {
+            Kind::Plain(small) => Kind::Plain(self.put_small(small)),
             Kind::Splice(place, held) => self.put_splice(place, held),
             Kind::Short(place, held) => self.exchange_short(
                 place.at as usize,
@@ -34,15 +77,6 @@ impl Editor {
                 place.pointer as usize,
             ),
             Kind::Lend(loan) => self.put_lent(loan),
-            Kind::Point(pointer) => {
-                Kind::Point(mem::replace(&mut self.pointer, pointer as usize) as u32)
-            }
-            Kind::Number(q, number) => {
-                let registers = &mut self.registers;
-                let there = registers.number(q);
-                registers.set_number(q, number);
-                Kind::Number(q, there)
-            }
             Kind::Text(q, mut held) => {
                 self.registers.swap_text(q, &mut held);
                 Kind::Text(q, held)
@@ -54,15 +88,7 @@ impl Editor {
             Kind::TakeOff => Kind::Push(self.pushed.pop()),
             Kind::PopInto(q) => self.put_popped(q),
             Kind::PutBack(q, value) => self.put_back(q, value),
-            Kind::Pages(place, output, form_feed) => Kind::Pages(
-                mem::replace(&mut self.place, place as usize) as u32,
-                mem::replace(&mut self.shown, output as usize) as u32,
-                mem::replace(&mut self.form_feed, form_feed),
-            ),
             Kind::Search(held) => Kind::Search(mem::replace(&mut self.last_search, held)),
-            Kind::Found(found) => Kind::Found(mem::replace(&mut self.last_found, found)),
-            Kind::Done(done) => Kind::Done(mem::replace(&mut self.done, done)),
-            Kind::Mode(mode) => Kind::Mode(mem::replace(&mut self.case_mode, mode)),
         }
     }
 

@@ -8,7 +8,7 @@ ghost use Rattle.teco_store.specs.Page.{brought, form_feed_if, left_of, page, wr
 ghost use Rattle.teco_store.specs.State.{IsSound, state_of, with_stored};
 ghost use Rattle.teco_store.specs.Turn.{full_after, lent, IsLent, Splice};
 
-use crate::change::{Change, Held, Kind, Loan};
+use crate::change::{Held, Kind, Loan, Part, Small};
 use crate::desk::Desk;
 use crate::pages::PageSpan;
 use crate::recorder::Recorder;
@@ -29,6 +29,7 @@ impl Recorder {
             ++ form_feed_if form_feed) self.old.full.room) }
         ensures err { OnErr result (self.new.full ≡ self.old.full) }
         ensures spare { self.new.spare ≡ self.old.spare }
+        ensures apart { self.new.apart ≡ self.old.apart }
         ensures sound { IsSound self.new.full.room (length self.new.full.stored) self.new.full.body }
         ensures keeps { StillFollows self.old self.new }
     {
@@ -46,6 +47,7 @@ impl Recorder {
             ++ slice_range self.old.full.body.input self.old.full.body.place upto) self.old.full.room) }
         ensures err { OnErr result (self.new.full ≡ self.old.full) }
         ensures spare { self.new.spare ≡ self.old.spare }
+        ensures apart { self.new.apart ≡ self.old.apart }
         ensures sound { IsSound self.new.full.room (length self.new.full.stored) self.new.full.body }
         ensures keeps { StillFollows self.old self.new }
     {
@@ -67,16 +69,17 @@ impl Recorder {
         ensures stored { self.new.full.stored ≡ self.old.full.stored }
         ensures held { IfOk result (CanHold self.new.full.body 0 there len) }
         ensures spare { OnOk result (changes ≤ self.new.spare) }
+        ensures apart { OnOk result (1 ≤ self.new.apart) }
         ensures room { OnOk result (len ≤ self.new.full.room) }
         ensures sound { IsSound self.new.full.room (length self.new.full.stored) self.new.full.body }
         ensures keeps { StillFollows self.old self.new }
     {
         if let Some(from) = self.editor.place_of_page() {
-            self.reserve(changes)?;
+            self.reserve(changes, 1)?;
             self.reserve_text(len)?;
             return Ok(Held::Input(from));
         }
-        let held = self.find_memory(changes, there + len, len)?;
+        let held = self.find_memory(changes, 1, there + len, len)?;
         Ok(Held::Memory(held))
     }
 
@@ -92,6 +95,7 @@ impl Recorder {
         held: Vec<u8>,
     )
         requires spare { 0 < self.old.spare }
+        requires apart { 0 < self.old.apart }
         requires within { from + count ≤ length self.old.full.body.input }
         requires empty { held.items ≡ [] }
         requires memory { there + count ≤ vec_capacity held }
@@ -103,18 +107,20 @@ impl Recorder {
             (lent self.old.full.body.input from count)) self.old.full }
         ensures sound { IsSound self.new.full.room (length self.new.full.stored) self.new.full.body }
         ensures spare { self.new.spare + 1 ≡ self.old.spare }
+        ensures apart { self.new.apart + 1 ≡ self.old.apart }
         ensures goes { FollowsAfterChanges (there + count) 1 self.old self.new }
     {
         let _shown = self.editor.shown();
         let held = self
             .editor
             .exchange_input(from, count, at, there, pointer, held);
-        self.entry.push_reserved(Change::new(self.done, held));
+        self.entry.push_apart(self.done, Part::new(held));
     }
 
     // Lends `count` bytes of the input from `from` on to the text, which stands there at a place of its own, and notes that place.
     fn lend(&mut self, from: usize, count: usize, there_from: usize, there: usize, pointer: usize)
         requires spare { 0 < self.old.spare }
+        requires apart { 0 < self.old.apart }
         requires there { IsLent self.old.full.body.text self.old.full.body.input there_from there }
         requires within { from + count ≤ length self.old.full.body.input }
         requires lands { pointer ≤ count }
@@ -124,10 +130,11 @@ impl Recorder {
             (lent self.old.full.body.input from count)) self.old.full }
         ensures sound { IsSound self.new.full.room (length self.new.full.stored) self.new.full.body }
         ensures spare { self.new.spare + 1 ≡ self.old.spare }
+        ensures apart { self.new.apart + 1 ≡ self.old.apart }
         ensures goes { FollowsAfterChanges (there + count) 1 self.old self.new }
     {
         let _shown = self.editor.shown();
-        self.note(Kind::Lend(Loan {
+        self.note_apart(Kind::Lend(Loan {
             from: from as u32,
             count: count as u32,
             there_from: there_from as u32,
@@ -148,6 +155,7 @@ impl Recorder {
         held: Held,
     )
         requires spare { 0 < self.old.spare }
+        requires apart { 0 < self.old.apart }
         requires within { from + count ≤ length self.old.full.body.input }
         requires held { CanHold self.old.full.body at there count held }
         requires there { at + there ≤ length self.old.full.body.text }
@@ -158,6 +166,7 @@ impl Recorder {
             (lent self.old.full.body.input from count)) self.old.full }
         ensures sound { IsSound self.new.full.room (length self.new.full.stored) self.new.full.body }
         ensures spare { self.new.spare + 1 ≡ self.old.spare }
+        ensures apart { self.new.apart + 1 ≡ self.old.apart }
         ensures goes { FollowsAfterChanges (there + count) 1 self.old self.new }
     {
         match held {
@@ -177,6 +186,7 @@ impl Recorder {
         held: Held,
     )
         requires spare { 2 ≤ self.old.spare }
+        requires apart { 0 < self.old.apart }
         requires span { IsPageSpan span self.old.full.body }
         requires held { CanHold self.old.full.body at there (length (page self.old.full.body)) held }
         requires there { at + there ≤ length self.old.full.body.text }
@@ -195,6 +205,6 @@ impl Recorder {
         let from = self.editor().place();
         let place = from + len + usize::from(form_feed);
         self.put_input(from, len, at, there, pointer, held);
-        self.note(Kind::Pages(place as u32, end as u32, form_feed));
+        self.note(Small::Pages(place as u32, end as u32, form_feed));
     }
 }

@@ -1,6 +1,6 @@
 //! The calls of a desk, each of which notes what it changes.
 ghost use Rattle.std.specs.Prelude.{◌≡◌, ◌<◌, ◌≤◌, length, IsOk, OnErr, OnOk};
-ghost use Rattle.teco_store.specs.ChangeView.{turn_of, HasRoom};
+ghost use Rattle.teco_store.specs.ChangeView.{small_turn, turn_of, HasRoom, IsHere};
 ghost use Rattle.teco_store.specs.Entry.{weight};
 ghost use Rattle.teco_store.specs.Follows.{Follows, StillFollows};
 ghost use Rattle.teco_store.specs.State.{IsSound, state_of};
@@ -8,17 +8,37 @@ ghost use Rattle.teco_store.specs.Trail.{Trail, moved};
 ghost use Rattle.teco_store.specs.Turn.{body_after, full_after, FitsFull};
 ghost use Rattle.teco_store.specs.declared.desk.Refused.TheVariants.{Big};
 
-use crate::change::{Held, Kind};
+use crate::change::{Held, Kind, Small};
 use crate::desk::{Desk, Refused};
 use crate::noting::is_long;
 use crate::pages::is_past;
 use crate::recorder::Recorder;
+use crate::recorder::texts::count_of;
 use teco_core::{CaseMode, PushList, Reg, Registers, TEXT_LIMIT};
 
 impl Recorder {
-    // Finds room for one change, and makes it.
+    // Finds room for one change whose value lies in it, and makes it.
     #[inline(always)]
-    fn change(&mut self, kind: Kind) -> Result<(), Refused>
+    fn change(&mut self, small: Small) -> Result<(), Refused>
+        requires here { IsHere small }
+        requires fits { IsSound self.old.full.room (length self.old.full.stored) self.old.full.body
+            → FitsFull (small_turn small) self.old.full }
+        requires rises { self.old.full.body.output ≤ (body_after (small_turn small) self.old.full.body).output }
+        ensures ok { OnOk result (self.new.full ≡ full_after (small_turn small) self.old.full) }
+        ensures only_memory { result ≡ Err Big → ⊥ }
+        ensures err { OnErr result (self.new.full ≡ self.old.full) }
+        ensures follows { OnOk result ((t : Trail) → Follows self.old t
+            → Follows self.new (moved t (weight (small_turn small) self.old.full.body))) }
+        ensures keeps { OnErr result (StillFollows self.old self.new) }
+        ensures with_room { 0 < self.old.spare → IsOk result }
+    {
+        self.reserve(1, 0)?;
+        self.note(small);
+        Ok(())
+    }
+
+    // Finds room for one change that is held apart, and makes it.
+    fn change_apart(&mut self, kind: Kind) -> Result<(), Refused>
         requires room { HasRoom kind }
         requires fits { IsSound self.old.full.room (length self.old.full.stored) self.old.full.body
             → FitsFull (turn_of kind) self.old.full }
@@ -29,10 +49,10 @@ impl Recorder {
         ensures follows { OnOk result ((t : Trail) → Follows self.old t
             → Follows self.new (moved t (weight (turn_of kind) self.old.full.body))) }
         ensures keeps { OnErr result (StillFollows self.old self.new) }
-        ensures with_room { 0 < self.old.spare → IsOk result }
+        ensures with_room { 0 < self.old.spare → 0 < self.old.apart → IsOk result }
     {
-        self.reserve(1)?;
-        self.note(kind);
+        self.reserve(1, 1)?;
+        self.note_apart(kind);
         Ok(())
     }
 }
@@ -44,7 +64,7 @@ impl Desk for Recorder {
 
     ghost follows = { Follows };
 
-    ghost has_places = { λ r changes. changes ≤ r.spare };
+    ghost has_places = { λ r changes. (changes ≤ r.spare) × (changes ≤ r.apart) };
 
     ghost eases = { follows_eases };
 
@@ -107,7 +127,7 @@ impl Desk for Recorder {
         if is_past(TEXT_LIMIT, kept, ins.len()) {
             return Err(Refused::Big);
         }
-        let held = self.find_held(1, del + ins.len(), kept + ins.len())?;
+        let held = self.find_held(1, 0, del + ins.len(), kept + ins.len())?;
         self.replace(at, del, ins, point.unwrap_or(at + ins.len()), held);
         Ok(())
     }
@@ -117,13 +137,13 @@ impl Desk for Recorder {
         if place == self.editor.pointer() {
             return Ok(());
         }
-        self.change(Kind::Point(place as u32))
+        self.change(Small::Point(place as u32))
     }
 
     #[inline(always)]
     fn set_number(&mut self, q: Reg, number: i32) -> Result<(), Refused> {
         let _index = q.index();
-        self.change(Kind::Number(q, number))
+        self.change(Small::Number(q, number))
     }
 
     fn set_text(&mut self, q: Reg, text: Vec<u8>) -> Result<(), Refused> {
@@ -131,17 +151,17 @@ impl Desk for Recorder {
         if text.len() > TEXT_LIMIT {
             return Err(Refused::Big);
         }
-        self.change(Kind::Text(q, text))
+        self.change_apart(Kind::Text(q, text))
     }
 
     fn push(&mut self, q: Reg) -> Result<(), Refused> {
         let value = self.editor().registers().value(q).copy()?;
-        self.change(Kind::Push(value))
+        self.change_apart(Kind::Push(value))
     }
 
     fn pop(&mut self, q: Reg) -> Result<(), Refused> {
         let _index = q.index();
-        self.change(Kind::PopInto(q))
+        self.change_apart(Kind::PopInto(q))
     }
 
     fn read_page(&mut self) -> Result<(), Refused> {
@@ -169,7 +189,7 @@ impl Desk for Recorder {
         }
         let pointer = editor.pointer();
         let end = editor.shown();
-        let held = self.find_memory(2, span.len, there + span.len)?;
+        let held = self.find_memory(2, 1, span.len, there + span.len)?;
         self.bring_page(span, there, 0, pointer, end, Held::Memory(held));
         Ok(())
     }
@@ -198,9 +218,9 @@ impl Desk for Recorder {
         };
         let place = editor.place();
         let flag = editor.flag();
-        self.reserve(1)?;
+        self.reserve(1, 0)?;
         self.store_part(from, to, form_feed)?;
-        self.note(Kind::Pages(place as u32, end as u32, flag));
+        self.note(Small::Pages(place as u32, end as u32, flag));
         Ok(())
     }
 
@@ -213,10 +233,10 @@ impl Desk for Recorder {
         if is_long(text) {
             return Err(Refused::Big);
         }
-        self.reserve(3)?;
         let text = self.editor().fresh_text(text)?;
+        self.reserve(3, count_of(&text))?;
         self.note_result(text, found);
-        self.note(Kind::Point(place as u32));
+        self.note(Small::Point(place as u32));
         Ok(())
     }
 
@@ -232,7 +252,8 @@ impl Desk for Recorder {
             return Err(Refused::Big);
         }
         let text = self.editor().fresh_text(text)?;
-        let held = self.find_held(3, del + ins.len(), kept + ins.len())?;
+        let apart = count_of(&text);
+        let held = self.find_held(3, apart, del + ins.len(), kept + ins.len())?;
         self.note_result(text, true);
         self.replace(at, del, ins, at + ins.len(), held);
         Ok(())
@@ -248,13 +269,13 @@ impl Desk for Recorder {
         let held = self.hold_page(3, there, 0)?;
         self.store_upto(held.place(), over)?;
         self.put_input(0, 0, 0, there, 0, held);
-        self.note(Kind::Pages(over as u32, end as u32, false));
-        self.note(Kind::Done(true));
+        self.note(Small::Pages(over as u32, end as u32, false));
+        self.note(Small::Done(true));
         Ok(())
     }
 
     fn set_case(&mut self, mode: CaseMode) -> Result<(), Refused> {
-        self.change(Kind::Mode(mode))
+        self.change(Small::Mode(mode))
     }
 
     fn step_done(&mut self, steps: u64) {

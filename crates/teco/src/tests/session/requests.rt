@@ -102,8 +102,8 @@ fn is_within(session: &Session, most: u64) -> bool {
     }
     let changes = session.entry(strings - 1);
     let mut held: usize = 0;
-    for change in changes {
-        held = held.saturating_add(change.held());
+    for k in 0..changes.len() {
+        held = held.saturating_add(changes.held(k));
     }
     changes.len() as u64 <= session.steps(strings - 1).saturating_mul(6) && held as u64 <= most
 }
@@ -118,8 +118,9 @@ fn is_told(alloc: Global, session: &Session, told: &str) -> bool {
     let (steps, pointer) = (session.steps(strings - 1), session.editor().pointer());
     let mut out = String::new(alloc);
     let mut held = write!(out, "{strings} {pointer} {steps}:").is_ok();
-    for change in session.entry(strings - 1) {
-        let (name, numbers) = match change.kind() {
+    let changes = session.entry(strings - 1);
+    for k in 0..changes.len() {
+        let (name, numbers) = match changes.kind(k) {
             ChangeKind::Splice { at, gone, came } => ("splice", [at, gone, came]),
             ChangeKind::Point => ("point", [0; 3]),
             _ => ("another", [0; 3]),

@@ -14,5 +14,5 @@ returns-then-strings-i-clause-told c =
 pub returns-clause-told : goal.returns-clause-told
 returns-clause-told c =
     let there = changes_there c.in-Some.session.now c.args.i c.strings.result c.strings.ensures.value c.if-strings-i.false in
-    TellsIf-there _ _ c.in-Some.ensures.value 0 (λ kept. option_map length (changes_of c.args.i kept)) (length c.entry.result.now)
-    (ap (option_map length) there ∙ ap (λ changes. Some (length changes)) (sym c.entry.ensures.value))
+    TellsIf-there _ _ c.in-Some.ensures.value 0 (λ kept. option_map length (changes_of c.args.i kept)) c.len.result
+    (ap (option_map length) there ∙ ap (λ changes. Some (length changes)) (sym c.entry.ensures.value) ∙ ap Some (sym c.len.ensures))

@@ -8,7 +8,7 @@ pub get-requires : goal.get-requires
 get-requires c = subst (λ (s : KeptSession). c.args.i < length s.strings) (sym c.self.view_is) c.requires
 
 pub returns-clause-value : goal.returns-clause-value
-returns-clause-value c = c.as_slice.ensures ∙ ap (λ (x : KeptString). x.changes) c.get.ensures ∙ ap (λ (s : KeptSession). (string_at s c.args.i).changes) c.self.view_is
+returns-clause-value c = ap (λ (x : KeptString). x.changes) c.get.ensures ∙ ap (λ (s : KeptSession). (string_at s c.args.i).changes) c.self.view_is
 
 pub returns-clause-small : goal.returns-clause-small
 returns-clause-small c =

@@ -26,6 +26,6 @@ returns-clause-goes c = λ t f.
     let fits : FitsFull (Splice c.args.at c.args.there c.args.pointer (lent e.body.input c.args.from c.args.count)) g =
     subst (λ (x : Full). FitsFull (Splice c.args.at c.args.there c.args.pointer (lent x.body.input c.args.from c.args.count)) g) (sym full)
     (splice_fits g c.args.at c.args.there c.args.pointer (lent g.body.input c.args.from c.args.count) sound c.requires.there (omega (arith, len)) (omega (arith, len)) (omega (arith, len))) in
-    subst (λ (n : ℕ). HasCome c.exchange_input-held.new.self c.push_reserved.new.self.items c.self.inside.done (noting t (c.args.there + n) 1)) (length-lent e.body.input c.args.from c.args.count)
-    (goes_noted c.args.self.now e c.exchange_input-held.new.self c.self.inside.entry.items c.push_reserved.new.self.items c.self.inside.done _
+    subst (λ (n : ℕ). HasCome c.exchange_input-held.new.self c.push_apart.new.self.items c.self.inside.done (noting t (c.args.there + n) 1)) (length-lent e.body.input c.args.from c.args.count)
+    (goes_noted c.args.self.now e c.exchange_input-held.new.self c.self.inside.entry.items c.push_apart.new.self.items c.self.inside.done _ _
     (Splice c.args.at c.args.there c.args.pointer (lent e.body.input c.args.from c.args.count)) c.self.view_is c.exchange_input-held.ensures.editor (search rules) fits (omega arith) t f)

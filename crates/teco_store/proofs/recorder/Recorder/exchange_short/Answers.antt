@@ -13,5 +13,5 @@ pub returns-clause-goes : goal.returns-clause-goes
 returns-clause-goes c =
     let fits = (splice_fits_seen c.self.inside.editor c.args.self.now.full c.args.at c.args.there c.args.pointer c.args.ins.now (ap (λ (r : Recording). r.full) c.self.view_is)
     c.shown-shown.ensures.sound c.requires.there c.requires.lands c.requires.small c.requires.room).1 in
-    goes_noted c.args.self.now c.self.inside.editor c.exchange_short-held.new.self c.self.inside.entry.items c.push_reserved.new.self.items c.self.inside.done _
+    goes_noted c.args.self.now c.self.inside.editor c.exchange_short-held.new.self c.self.inside.entry.items c.push_apart.new.self.items c.self.inside.done _ _
     (Splice c.args.at c.args.there c.args.pointer c.args.ins.now) c.self.view_is c.exchange_short-held.ensures.editor (search rules) fits (omega arith)

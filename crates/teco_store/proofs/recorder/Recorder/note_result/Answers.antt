@@ -9,5 +9,5 @@ returns-clause-goes c =
     let r = c.args.self.now in
     let n = fresh_load r.full.body.last_search (option_map (λ v. v.items) c.args.text) in
     let first : FollowsAfterChanges n 1 r c.match-text.self = search rules in
-    goes_more r c.note-2.new.self (n + 0) n 2 2 (omega arith) (omega arith)
-    (goes_then r c.match-text.self c.note-2.new.self n 0 1 1 first c.note-2.ensures.goes)
+    goes_more r c.note.new.self (n + 0) n 2 2 (omega arith) (omega arith)
+    (goes_then r c.match-text.self c.note.new.self n 0 1 1 first c.note.ensures.goes)
