@@ -10,7 +10,7 @@ use Rattle.teco_exec.specs.Laws.{EnoughIsEnough, StepsWithinLimit}
 use Rattle.teco_exec.specs.Runs.{Runs, EndsWell}
 use Rattle.teco_exec.specs.StringMeaning.{StringMeaning, string_meaning}
 use Rattle.teco_exec.specs.declared.outcome.Outcome.{Outcome}
-use Rattle.teco_session.specs.History.{History, noted, undone}
+use Rattle.teco_session.specs.History.{History, new_history, noted, undone}
 use Rattle.teco_session.specs.Step.{RunStep}
 use Rattle.teco_session.specs.declared.request.Answer.{Answer}
 use Rattle.teco_session.specs.declared.request.Answer.TheVariants.{Ended}
@@ -36,6 +36,33 @@ no_further : StepsWithinLimit → (s : State) (text : List ℕ) (limit : ℕ) (c
 no_further within s text limit (Some Mem) steps typed new r = omega (arith, r.before, within s text limit)
 no_further within s text limit (Some Tty) steps typed new r = omega (arith, r.before, within s text limit)
 no_further within s text limit code steps typed new r = omega (arith, r.steps, within s text limit)
+
+-- Under limit 0 it took no step.
+no_step : (s : State) (text : List ℕ) (code : Option Code) (steps : ℕ) (typed : List ℕ) (new : State) → Runs s text 0 (record { code = code; steps = steps }) typed new → steps ≡ 0
+no_step s text (Some Mem) steps typed new r = absurd (omega (arith, r.before))
+no_step s text (Some Tty) steps typed new r = absurd (omega (arith, r.before))
+no_step s text code steps typed new r = omega (arith, r.steps)
+
+unmoved : (s : State) (text : List ℕ) (code : Option Code) (steps : ℕ) (typed : List ℕ) (new : State) → Runs s text 0 (record { code = code; steps = steps }) typed new → new ≡ (string_meaning s text 0).state
+unmoved s text (Some Mem) steps typed new r = absurd (omega (arith, r.before))
+unmoved s text (Some Tty) steps typed new r = absurd (omega (arith, r.before))
+unmoved s text code steps typed new r = r.state
+
+-- what was answered of the first string of a session, under limit 0
+module _ (input text : List ℕ) (before after : History) (ran : List ℕ) (answer : Answer) (outcome : Outcome) (typed : List ℕ) (new : before ≡ new_history None input) (same : ran ≡ text) (is : answer ≡ Ended outcome) (run : RunStep 0 before ran answer typed after) where
+  first : RunStep 0 (new_history None input) text (Ended outcome) typed after
+  first =
+      subst (λ h. RunStep 0 h text (Ended outcome) typed after) new
+      (subst (λ t. RunStep 0 before t (Ended outcome) typed after) same
+      (subst (λ a. RunStep 0 before ran a typed after) is run))
+
+  pub began_steps : outcome.steps ≡ 0
+  began_steps = no_step (beginning input) text outcome.code outcome.steps typed first.0 first.2
+
+  pub began : after ≡ walked input text outcome.steps
+  began =
+      first.3 ∙ ap (λ (s : State). noted (new_history None input) (record { text = text; steps = outcome.steps; state = s }))
+      (unmoved (beginning input) text outcome.code outcome.steps typed first.0 first.2 ∙ ap (λ k. (string_meaning (beginning input) text k).state) (sym began_steps))
 
 -- what was answered of a string that ran in a history at the beginning, before any other string
 module _ (limit : ℕ) (input text : List ℕ) (done : ℕ) (there after : History) (ran : List ℕ) (answer : Answer) (outcome : Outcome) (typed : List ℕ) (back : there ≡ undone (walked input text done)) (same : ran ≡ text) (is : answer ≡ Ended outcome) (run : RunStep limit there ran answer typed after) where
