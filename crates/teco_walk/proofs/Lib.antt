@@ -3,3 +3,4 @@ pub mod Findings
 pub mod Staying
 pub mod Changes
 pub mod Returning
+pub mod Ending

@@ -24,12 +24,17 @@ on_ok : {T E : Type 0} (r : Result T E) {P : Type 0} → IsOk r → OnOk r P →
 on_ok (Ok x) ok p = p
 on_ok (Err e) ok p = absurd (false≢true ok)
 
+-- An undo of the only string comes back to before it.
+pub gone_back : {T E : Type 0} (undo : Result T E) (input text : List ℕ) (steps : ℕ) (before there : History) → before ≡ walked input text steps
+    → (0 < before.cursor → IsOk undo) → OnOk undo (there ≡ undone before) → there ≡ undone (walked input text steps)
+gone_back undo input text steps before there came can_undo is_undone =
+    on_ok undo (can_undo (subst (λ (h : History). 0 < h.cursor) (sym came) (omega arith))) is_undone ∙ ap undone came
+
 -- An undo and then a redo of the only string come back to it.
 pub came_again : {T E U F : Type 0} (undo : Result T E) (redo : Result U F) (input text : List ℕ) (steps : ℕ) (before there still after : History) → before ≡ walked input text steps
     → (0 < before.cursor → IsOk undo) → OnOk undo (there ≡ undone before) → still ≡ there
     → (still.cursor < length still.notes → IsOk redo) → OnOk redo (after ≡ redone still) → after ≡ walked input text steps
 came_again undo redo input text steps before there still after came can_undo is_undone same can_redo is_redone =
-    let back : there ≡ undone before = on_ok undo (can_undo (subst (λ (h : History). 0 < h.cursor) (sym came) (omega arith))) is_undone in
-    let here : still ≡ undone (walked input text steps) = same ∙ back ∙ ap undone came in
+    let here : still ≡ undone (walked input text steps) = same ∙ gone_back undo input text steps before there came can_undo is_undone in
     let again : after ≡ redone still = on_ok redo (can_redo (subst (λ (h : History). h.cursor < length h.notes) (sym here) (omega arith))) is_redone in
     again ∙ ap redone here
