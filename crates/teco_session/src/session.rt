@@ -161,8 +161,7 @@ impl Session {
         &self.entries.get(i).changes
     }
 
-    /// Goes back to the state before the last string that is not undone, where there is one; otherwise nothing changes. Takes no
-    /// memory, also after an exit.
+    /// Goes back to before the last string that is not undone, also after an exit. If there is none, nothing changes. Takes no memory.
     pub fn undo(&mut self) -> Result<(), NothingToUndo>
         ensures offers { IsOk result ↔ (0 < self.old.cursor) }
         ensures ok { OnOk result (self.new ≡ reverted self.old) }
@@ -198,9 +197,8 @@ impl Session {
         Ok(())
     }
 
-    /// Goes back to the state after the first `n` steps of the last string that is not undone, where there is one; otherwise nothing
-    /// changes. The string has taken `n` steps then, or as many as before where those are fewer, and undone strings are dropped. Takes
-    /// no memory, also after an exit.
+    /// Cuts the last string that is not undone after its first `n` steps, if it took more, and drops the undone strings. If there is
+    /// no such string, nothing changes. Takes no memory, also after an exit.
     pub fn rewind(&mut self, n: u64) -> Result<(), NothingToUndo>
         ensures offers { IsOk result ↔ (0 < self.old.cursor) }
         ensures ok { OnOk result (self.new ≡ cut_to n self.old) }
@@ -243,8 +241,7 @@ impl Session {
         self.run_by(text, limit, &mut Never, term, &mut Plain)
     }
 
-    /// Runs a command string as [`Session::run`] does, until it is asked to stop: then it is noted as under a limit of just the steps
-    /// that were done, so that an undo takes back what it did.
+    /// Runs a command string as [`Session::run`] does, until it is asked to stop. It is noted then as under a limit of the steps done.
     pub fn run_until<S: Stop, T: Terminal>(
         &mut self,
         text: &[u8],
@@ -379,9 +376,7 @@ impl Session {
         }
     }
 
-    /// Answers requests in order, one answer each.
-    ///
-    /// Where memory is refused for the answers, no request is begun and nothing has changed.
+    /// Answers requests in order, one answer each. If memory is refused for the answers, none is begun and nothing has changed.
     pub fn play<T: Terminal>(
         &mut self,
         alloc: Global,
