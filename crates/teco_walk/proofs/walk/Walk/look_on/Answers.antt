@@ -7,6 +7,12 @@ use Rattle.teco_walk.specs.Walk.{KeptWalk, lacks_memory, meant}
 use Rattle.teco_walk.proofs.Ending.{all_typed, ends_well}
 use Rattle.teco_walk.proofs.walk.Walk.look_on.Goals as goal
 
+pub returns-clause-told : goal.returns-clause-told
+returns-clause-told c =
+    let was = c.in_ok-stopped.was in
+    let told = c.run_where-stopped.ensures.told in
+    (λ none. told.0 (was ∙ ap Ok none), λ none. let same : Ok c.in_ok-stopped.field-0 ≡ Ok None = sym was ∙ told.1 none in cc)
+
 pub returns-clause-place : goal.returns-clause-place
 returns-clause-place c =
     let w = c.args.self.now in
@@ -15,12 +21,6 @@ returns-clause-place c =
     subst (λ r. IfOk r (λ told. IfSome told (λ p. IsLastPlace (beginning w.input) w.text k p))) c.in_ok-stopped.was
     (subst (λ t. IfOk c.run_where-stopped.result.place (λ told. IfSome told (λ p. IsLastPlace (beginning w.input) t k p))) text
     (subst (λ s. IfOk c.run_where-stopped.result.place (λ told. IfSome told (λ p. IsLastPlace s c.as_slice.result.now k p))) c.requires c.run_where-stopped.ensures.place))
-
-pub returns-clause-told : goal.returns-clause-told
-returns-clause-told c =
-    let was = c.in_ok-stopped.was in
-    let told = c.run_where-stopped.ensures.told in
-    (λ none. told.0 (was ∙ ap Ok none), λ none. let same : Ok c.in_ok-stopped.field-0 ≡ Ok None = sym was ∙ told.1 none in cc)
 
 pub returns-clause-steps : goal.returns-clause-steps
 returns-clause-steps c =
