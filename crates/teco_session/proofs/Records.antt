@@ -3,9 +3,9 @@ use Rattle.std.proofs.Common.{◌≡◌, ℕ, ◌≤◌, List, length, refl, sym
 use Rattle.teco_store.specs.State.{State, Full, IsSound, state_at, state_of}
 use Rattle.teco_store.specs.Trail.{Trail}
 use Rattle.teco_store.specs.Turn.{Note as Change}
-use Rattle.teco_store.specs.Entry.{body_back}
-use Rattle.teco_store.specs.Follows.{Recording, HasCome, Follows, LeadsBack}
-use Rattle.teco_store.specs.RecordLaws.{LeadsToItsBeginning}
+use Rattle.teco_record.specs.Entry.{body_back}
+use Rattle.teco_record.specs.Follows.{Recording, HasCome, Follows, LeadsBack}
+use Rattle.teco_record.specs.RecordLaws.{LeadsToItsBeginning}
 use Rattle.teco_exec.specs.Laws.{ZeroLimitChangesNothing}
 use Rattle.teco_exec.specs.Runs.{trail_of}
 use Rattle.teco_session.specs.Kept.{KeptString, HasRun}

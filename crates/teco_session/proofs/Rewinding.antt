@@ -3,9 +3,9 @@ use Rattle.std.proofs.Common.{◌≡◌, ℕ, ◌+◌, ◌-◌, ◌≤◌, List,
 use Rattle.std.proofs.lemmas.List.{take-set}
 use Rattle.teco_store.specs.State.{State, Full, state_at, state_of, with_body}
 use Rattle.teco_store.specs.Turn.{Note as Change}
-use Rattle.teco_store.specs.Entry.{body_back, before, since}
-use Rattle.teco_store.specs.Follows.{HasCome, LeadsBack}
-use Rattle.teco_store.specs.RecordLaws.{BackThenForth, ComesSoExtended, ComesSoFarCut}
+use Rattle.teco_record.specs.Entry.{body_back, before, since}
+use Rattle.teco_record.specs.Follows.{HasCome, LeadsBack}
+use Rattle.teco_record.specs.RecordLaws.{BackThenForth, ComesSoExtended, ComesSoFarCut}
 use Rattle.teco_exec.specs.Runs.{trail_of}
 use Rattle.teco_exec.specs.StringMeaning.{string_meaning}
 use Rattle.teco_session.specs.History.{History, NotedString, note_at, present, undone, appended, with_steps}

@@ -2,9 +2,9 @@
 use Rattle.std.proofs.Common.{◌≡◌, ℕ, ◌+◌, ◌≤◌, Option, List, [], ◌∷◌, ◌++◌, length, take, drop, reverse, ◌⊎◌, inl, inr, true, false, refl, sym, ◌∙◌, ap, subst, arith, append_assoc, length-append}
 use Rattle.std.proofs.lemmas.List.{reverse-append, length-reverse, length-take-le, drop_all, take_all, take_at, take-take, take-append-drop}
 use Rattle.teco_store.specs.State.{State, Body, IsSound, Extends, state_at, state_of}
-use Rattle.teco_store.specs.Entry.{body_back}
-use Rattle.teco_store.specs.Follows.{HasCome, LeadsBack}
-use Rattle.teco_store.specs.RecordLaws.{BackThenForth, ComesSoExtended}
+use Rattle.teco_record.specs.Entry.{body_back}
+use Rattle.teco_record.specs.Follows.{HasCome, LeadsBack}
+use Rattle.teco_record.specs.RecordLaws.{BackThenForth, ComesSoExtended}
 use Rattle.teco_exec.specs.Runs.{IsBrokenOff, RunsWithin, trail_of}
 use Rattle.teco_exec.specs.StringMeaning.{string_meaning}
 use Rattle.teco_exec.specs.declared.outcome.Outcome.{Outcome}

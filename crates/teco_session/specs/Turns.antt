@@ -1,7 +1,7 @@
 -- How a string is turned: back, forth, or back to the state after its first steps.
 use Rattle.std.specs.Prelude.{ℕ, List}
-use Rattle.teco_store.specs.Entry.{FitsBack, FitsForth, body_back, body_forth, since}
-use Rattle.teco_store.specs.Follows.{IsInOrder}
+use Rattle.teco_record.specs.Entry.{FitsBack, FitsForth, body_back, body_forth, since}
+use Rattle.teco_record.specs.Follows.{IsInOrder}
 use Rattle.teco_store.specs.State.{Body}
 use Rattle.teco_store.specs.Turn.{Note as Change}
 use Rattle.teco_session.specs.Kept.{KeptString, string_back, string_cut, string_forth}

@@ -1,16 +1,15 @@
 //! The changes of a string, of which a single one lies in its entry.
 ghost use Rattle.std.specs.Prelude.{◌≡◌, ◌<◌, length, slice_index_or};
-ghost use Rattle.teco_store.specs.Entry.{body_back, body_forth, notes_back, notes_forth, before, held_by, since, FitsBack, FitsForth};
-ghost use Rattle.teco_store.specs.Follows.{IsInOrder};
+ghost use Rattle.teco_record.specs.Entry.{body_back, body_forth, notes_back, notes_forth, before, since, FitsBack, FitsForth};
+ghost use Rattle.teco_record.specs.Follows.{IsInOrder};
 ghost use Rattle.teco_store.specs.Kinds.{kind_of, way_back, ChangesOnly};
-ghost use Rattle.teco_store.specs.Listing.{no_note};
+ghost use Rattle.teco_record.specs.Listing.{no_note};
 ghost use Rattle.teco_store.specs.State.{with_body, Body};
-ghost use Rattle.teco_store.specs.Turn.{body_after, turn_after, Stands};
+ghost use Rattle.teco_store.specs.Turn.{body_after, turn_after, held_by, Stands};
 
 use std::marker::Model;
-use teco_store::{
-    Change, ChangeKind, ChangeList, Editor, apply, apply_all, revert, revert_all, rewind,
-};
+use teco_record::{ChangeList, apply, apply_all, revert, revert_all, rewind};
+use teco_store::{Change, ChangeKind, Editor};
 
 /// Where the changes of a string lie: a single one in the entry, more of them in memory of their own.
 #[derive(Drop)]

@@ -21,7 +21,8 @@ use std::alloc::Global;
 use std::marker::Model;
 use teco_core::{DEPTH_LIMIT, FILE_LIMIT, NoMemory};
 use teco_exec::{Never, Stop};
-use teco_store::{Desk, Editor, Recorder, editor_laws, record_laws};
+use teco_record::{Recorder, record_laws};
+use teco_store::{Desk, Editor, editor_laws};
 use teco_terminal::Terminal;
 
 /// Command strings one after another, each of which can be undone and redone.

@@ -1,35 +1,19 @@
 -- Parts of the input that a text is, and that are lent to it.
-use Rattle.std.proofs.Common.{◌≡◌, ◌∙◌, ℕ, ◌+◌, ◌-◌, ◌≤◌, slice_range, List, ◌++◌, length, take, drop, replicate, ap, refl, sym, subst, arith, append_assoc, length-append, length-drop}
-use Rattle.std.proofs.lemmas.List.{length-take-le, length-replicate, take-append-le, take-append-drop, drop-append-le, take_all, take_at}
-use Rattle.teco_store.specs.Page.{page, is_ended, page_span, form_feed_if, left_of, IsAsRead}
+use Rattle.std.proofs.Common.{◌≡◌, ◌∙◌, ℕ, Bool, if◌then◌else◌, ◌+◌, ◌-◌, ◌≤◌, slice_range, List, ◌++◌, length, take, drop, replicate, ap, refl, sym, arith, length-append, length-drop}
+use Rattle.std.proofs.lemmas.List.{length-take-le, length-replicate, take-append-le, take_all, take_at}
+use Rattle.teco_store.specs.Page.{page, page_of, is_ended, page_span, form_feed_if, left_of}
 use Rattle.teco_store.specs.PageSpan.{IsPageSpan}
 use Rattle.teco_store.specs.State.{Body}
-use Rattle.teco_store.specs.Turn.{lent, IsLent}
-use Rattle.teco_store.specs.declared.pages.PageSpan.{PageSpan}
+use Rattle.teco_store.specs.Turn.{lent}
 use Rattle.teco_store.proofs.Joining.{joins}
 
 pub length-lent : (input : List ℕ) (from count : ℕ) → length (lent input from count) ≡ count
 length-lent input from count =
     length-take-le count (drop from input ++ replicate count 0) (omega (arith, length-append (drop from input) (replicate count 0), length-replicate {A = ℕ} count 0))
 
--- such a text is all of itself
-pub lent_text : (text input : List ℕ) (from count : ℕ) → text ≡ lent input from count → lent input from count ≡ take count text
-lent_text text input from count is = sym is ∙ sym (take_all count text (omega (arith, ap length is, length-lent input from count)))
-
 -- within the input no byte is made up
 lent_within : (input : List ℕ) (from count : ℕ) → from + count ≤ length input → lent input from count ≡ take count (drop from input)
 lent_within input from count within = take-append-le count (drop from input) (replicate count 0) (omega (arith, length-drop from input))
-
--- a text that stands in what was read
-pub read_is_lent : (input read text flag : List ℕ) (place at : ℕ) → read ≡ take place input → (at ≤ length read) × (drop at read ≡ text ++ flag) → IsLent text input at (length text)
-read_is_lent input read text flag place at front h =
-    let rest : List ℕ = drop place input in
-    let whole : read ++ rest ≡ input = ap (λ (l : List ℕ). l ++ rest) front ∙ take-append-drop place input in
-    let after : drop at input ≡ text ++ (flag ++ rest) =
-    ap (drop at) (sym whole) ∙ drop-append-le at read rest h.0 ∙ ap (λ (l : List ℕ). l ++ rest) h.1 ∙ append_assoc text flag rest in
-    let within : at + length text ≤ length input =
-    omega (arith, ap length after, length-drop at input, length-append text (flag ++ rest), ap length whole, length-append read rest, h.0) in
-    (within, sym (lent_within input at (length text) within ∙ ap (take (length text)) after ∙ take_at text (flag ++ rest) (length text) refl))
 
 -- the next page, which stands in the input at the place
 pub page_is_lent : (b : Body) → b.place + length (page b) ≤ length b.input → lent b.input b.place (length (page b)) ≡ page b
@@ -37,10 +21,6 @@ page_is_lent b within =
     let left = left_of b in
     lent_within b.input b.place (length (page b)) within ∙ ap (take (length (page b))) (sym (joins b.page_lines left))
     ∙ take_at (page b) (form_feed_if (is_ended b.page_lines left) ++ drop (page_span b.page_lines left) left) (length (page b)) refl
-
--- the page in the buffer, where it stands as it was read
-pub as_read_is_lent : (b : Body) (from : ℕ) → IsAsRead b from → IsLent b.text b.input from (length b.text)
-as_read_is_lent b from h = read_is_lent b.input (take b.place b.input) b.text (form_feed_if b.form_feed) b.place from refl h
 
 -- The next page is within the input, at the place.
 pub page_within : (b : Body) → b.place ≤ length b.input → b.place + length (page b) ≤ length b.input
@@ -54,12 +34,20 @@ page_at b len is here =
     let n : b.place + len - b.place ≡ length (page b) = omega (arith, is) in
     ap (λ (k : ℕ). take k (drop b.place b.input)) n ∙ sym (lent_within b.input b.place (length (page b)) (page_within b here)) ∙ page_is_lent b (page_within b here)
 
--- the bytes of the input that a span names
-pub span_is_lent : (b : Body) (from : ℕ) (span : PageSpan) → from ≡ b.place → IsPageSpan span b → lent b.input from span.len ≡ page b
-span_is_lent b from span here is =
-    let within : b.place + length (page b) ≤ length b.input = omega (arith, is.within) in
-    ap (λ (k : ℕ). lent b.input k span.len) here ∙ ap (λ (k : ℕ). lent b.input b.place k) is.len ∙ page_is_lent b within
-
--- The input holds a whole page.
-pub held_is_lent : (b : Body) (from there : ℕ) → there ≡ length b.text → IsAsRead b from → IsLent b.text b.input from there
-held_is_lent b from there is h = subst (λ (n : ℕ). IsLent b.text b.input from n) (sym is) (as_read_is_lent b from h)
+-- What is read of the page that comes next is its span.
+pub span_is : (b : Body) (input bytes : List ℕ) (flag : Bool) → input ≡ b.input → b.place ≤ length b.input
+    → (let left = take (length input - b.place) (drop b.place input) in
+    (bytes ≡ page_of b.page_lines left) × (flag ≡ is_ended b.page_lines left) × (length bytes + (if flag then 1 else 0) ≤ length left))
+    → IsPageSpan (record { len = length bytes; form_feed = flag }) b
+span_is b input bytes flag same here page_is =
+    let left = take (length input - b.place) (drop b.place input) in
+    let is : left ≡ left_of b = take_all (length input - b.place) (drop b.place input) (omega (arith, length-drop b.place input)) ∙ ap (drop b.place) same in
+    let bytes_is : bytes ≡ page b = page_is.0 ∙ ap (page_of b.page_lines) is in
+    let flag_is : flag ≡ is_ended b.page_lines (left_of b) = page_is.1 ∙ ap (is_ended b.page_lines) is in
+    let long : length bytes + (if flag then 1 else 0) ≡ page_span b.page_lines (left_of b) = rw (bytes_is, flag_is) refl in
+    record {
+      len = ap length bytes_is;
+      form_feed = flag_is;
+      within = omega (arith, long, page_is.2, ap length is, length-drop b.place b.input);
+      read = ap (λ (k : ℕ). lent b.input b.place k) (ap length bytes_is) ∙ page_is_lent b (page_within b here);
+    }

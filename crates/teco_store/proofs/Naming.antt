@@ -4,11 +4,11 @@ use Rattle.std.proofs.lemmas.List.{length-take-le}
 use Rattle.teco_store.specs.State.{Body}
 use Rattle.teco_store.specs.Turn.{Turn, Splice, Lend, Point, Number, Text, Push, TakeOff, PopInto, PutBack, Pages, Search, Found, Done, Mode, lent, top_of, body_after, turn_after, Stands}
 use Rattle.teco_store.proofs.Loans.{length-lent}
-use Rattle.teco_store.specs.Kinds.{kind_of, ChangesOnly, way_back}
+use Rattle.teco_store.specs.Kinds.{kind_of, way_back, ChangesOnly, TellsItsTurn}
 use Rattle.teco_store.specs.declared.change_kind.ChangeKind.{ChangeKind}
 use Rattle.teco_store.specs.declared.change_kind.ChangeKind.TheVariants as kind
 
-pub changes_only : (t : Turn) (b : Body) → ChangesOnly (kind_of t) b (body_after t b)
+changes_only : (t : Turn) (b : Body) → ChangesOnly (kind_of t) b (body_after t b)
 changes_only (Splice at there pointer held) b = (held, refl, refl)
 changes_only (Lend from count there_from there pointer) b = (lent b.input from count, length-lent b.input from count, refl)
 changes_only (Point pointer) b = refl
@@ -24,7 +24,7 @@ changes_only (Found found) b = refl
 changes_only (Done done) b = refl
 changes_only (Mode mode) b = refl
 
-pub kind_back : (t : Turn) (b : Body) → Stands t b → kind_of (turn_after t b) ≡ way_back (kind_of t)
+kind_back : (t : Turn) (b : Body) → Stands t b → kind_of (turn_after t b) ≡ way_back (kind_of t)
 kind_back (Splice at there pointer held) b within =
     ap (λ n. kind.Splice at (length held) n) (length-take-le there (drop at b.text) (omega (arith, length-drop at b.text, within)))
 kind_back (Lend from count there_from there pointer) b s = refl
@@ -41,17 +41,7 @@ kind_back (Found found) b s = refl
 kind_back (Done done) b s = refl
 kind_back (Mode mode) b s = refl
 
--- The same where a turn is known to be another.
-pub changes_only_as : (t u : Turn) (b : Body) → t ≡ u → ChangesOnly (kind_of u) b (body_after t b)
-changes_only_as t u b e = subst (λ (x : Turn). ChangesOnly (kind_of u) b (body_after x b)) (sym e) (changes_only u b)
-
--- What a kind tells, where it is known to be that of a turn.
-pub record Tells (kind : ChangeKind) (t : Turn) : Type 0 where
-  pub kind_is : kind ≡ kind_of t
-  pub only : (b : Body) → ChangesOnly kind b (body_after t b)
-  pub back : (b : Body) → Stands t b → kind_of (turn_after t b) ≡ way_back kind
-
-pub tells_kind : (kind : ChangeKind) (t : Turn) → kind ≡ kind_of t → Tells kind t
+pub tells_kind : TellsItsTurn
 tells_kind kind t e = record {
   kind_is = e;
   only = λ b. subst (λ (k : ChangeKind). ChangesOnly k b (body_after t b)) (sym e) (changes_only t b);

@@ -3,7 +3,7 @@ use Rattle.std.specs.Prelude.{◌≡◌, ℕ, ◌+◌, List, length, ℤ}
 use Rattle.teco_core.specs.Register.{Content, with_content}
 use Rattle.teco_store.specs.State.{Body, replaced, with_register_number, with_register_text}
 use Rattle.teco_store.specs.Turn as turn
-use Rattle.teco_store.specs.Turn.{Turn}
+use Rattle.teco_store.specs.Turn.{Turn, Stands, body_after, turn_after}
 use Rattle.teco_store.specs.declared.change_kind.ChangeKind.{ChangeKind}
 use Rattle.teco_store.specs.declared.change_kind.ChangeKind.TheVariants.{Splice, Point, Number, Text, Push, Pop, Pages, Search, Found, Done, Mode}
 
@@ -54,3 +54,12 @@ way_back Search = Search
 way_back Found = Found
 way_back Done = Done
 way_back Mode = Mode
+
+-- What a kind tells of a turn: what that changes at most, and that it leaves a change of the kind that goes back.
+pub record Tells (kind : ChangeKind) (t : Turn) : Type 0 where
+  pub kind_is : kind ≡ kind_of t
+  pub only : (b : Body) → ChangesOnly kind b (body_after t b)
+  pub back : (b : Body) → Stands t b → kind_of (turn_after t b) ≡ way_back kind
+
+abbrev pub TellsItsTurn : Type 0
+TellsItsTurn = (kind : ChangeKind) (t : Turn) → kind ≡ kind_of t → Tells kind t

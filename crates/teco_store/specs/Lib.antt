@@ -1,14 +1,9 @@
 pub mod ChangeView
-pub mod Entry
-pub mod Follows
 pub mod Kinds
-pub mod Lending
-pub mod Listing
 pub mod Output
 pub mod Page
 pub mod PageLaws
 pub mod PageSpan
-pub mod RecordLaws
 pub mod Refused
 pub mod Search
 pub mod ShortText

@@ -2,6 +2,7 @@
 use Rattle.std.specs.Prelude.{◌≡◌, ℕ, ◌+◌, ◌<◌, ◌≤◌, Bool, List, ◌∷◌, ◌++◌, length, take, drop, replicate, Option, Some, ℤ, slice_index_or}
 use Rattle.teco_core.specs.declared.case_mode.CaseMode.{CaseMode}
 use Rattle.teco_core.specs.Register.{Content, blank, content, with_content}
+use Rattle.teco_store.specs.Search.{length_of}
 use Rattle.teco_store.specs.State.{Body, Full, IsSound, spliced, pointed, with_register_number, with_register_text, with_case}
 
 pub data Turn : Type 0 where
@@ -126,3 +127,20 @@ IsRevertible t f = Fits f.room f.body.output t f.body
 -- and forth: it does not fall
 abbrev pub IsApplicable : Turn → Full → Type 0
 IsApplicable t f = Fits f.room (length f.stored) t f.body × (f.body.output ≤ (body_after t f.body).output)
+
+-- the bytes that a change holds
+abbrev pub held_by : Turn → ℕ
+held_by (Splice at there pointer held) = length held
+held_by (Lend from count there_from there pointer) = 0
+held_by (Point pointer) = 0
+held_by (Number q number) = 0
+held_by (Text q held) = length held
+held_by (Push held) = length held.text
+held_by TakeOff = 0
+held_by (PopInto q) = 0
+held_by (PutBack q held) = length held.text
+held_by (Pages place output form_feed) = 0
+held_by (Search held) = length_of held
+held_by (Found found) = 0
+held_by (Done done) = 0
+held_by (Mode mode) = 0

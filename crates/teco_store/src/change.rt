@@ -1,10 +1,9 @@
 //! Changes: a part of the state, and the value that is to be put there.
 ghost use Rattle.std.specs.Prelude.{◌≡◌, ◌≤◌};
-ghost use Rattle.teco_store.specs.ChangeView.{small_turn, turn_of, place_of, HasRoom, IsHere};
-ghost use Rattle.teco_store.specs.Entry.{held_by};
+ghost use Rattle.teco_store.specs.ChangeView.{small_turn, turn_of, HasRoom, IsHere};
 ghost use Rattle.teco_store.specs.Kinds.{kind_of, way_back, ChangesOnly};
 ghost use Rattle.teco_store.specs.State.{Body};
-ghost use Rattle.teco_store.specs.Turn.{body_after, turn_after, note_after, full_after, Stands, FitsFull};
+ghost use Rattle.teco_store.specs.Turn.{body_after, turn_after, note_after, full_after, held_by, Stands, FitsFull};
 
 use crate::change_kind::ChangeKind;
 use crate::editor::Editor;
@@ -15,10 +14,10 @@ use teco_core::{CaseMode, Reg, Value};
 
 /// So many bytes of the text from a place on, and a place for the pointer.
 #[derive(Clone, Copy)]
-pub(crate) struct Place {
-    pub(crate) at: u32,
-    pub(crate) there: u32,
-    pub(crate) pointer: u32,
+pub struct Place {
+    pub at: u32,
+    pub there: u32,
+    pub pointer: u32,
 }
 
 impl Place {
@@ -34,26 +33,14 @@ impl Place {
     }
 }
 
-impl Held {
-    // The place in the input, if that holds it.
-    pub(crate) fn place(&self) -> Option<usize>
-        ensures { result ≡ place_of self.now }
-    {
-        match self {
-            Held::Input(from) => Some(*from),
-            Held::Memory(_) => None,
-        }
-    }
-}
-
 /// So many bytes of the input from a place on for the whole text, which is others of them, and a place for the pointer.
 #[derive(Clone, Copy)]
-pub(crate) struct Loan {
-    pub(crate) from: u32,
-    pub(crate) count: u32,
-    pub(crate) there_from: u32,
-    pub(crate) there: u32,
-    pub(crate) pointer: u32,
+pub struct Loan {
+    pub from: u32,
+    pub count: u32,
+    pub there_from: u32,
+    pub there: u32,
+    pub pointer: u32,
 }
 
 impl Loan {
@@ -66,18 +53,11 @@ impl Loan {
     }
 }
 
-/// What holds a text that goes: the input, where the text stands at a place, or memory that was found for it.
-#[derive(Drop)]
-pub(crate) enum Held {
-    Input(usize),
-    Memory(Vec<u8>),
-}
-
 /// A part of the state with a value for it that lies in the change itself; or the place of a change that is held apart.
 ///
 /// A byte goes in, or out, at the first place, and the pointer goes to the second.
 #[derive(Clone, Copy)]
-pub(crate) enum Small {
+pub enum Small {
     ByteIn(u32, u32, u8),
     ByteOut(u32, u32),
     Point(u32),
@@ -91,7 +71,7 @@ pub(crate) enum Small {
 
 impl Small {
     /// What it is for.
-    pub(crate) fn kind(self) -> ChangeKind
+    pub fn kind(self) -> ChangeKind
         requires { IsHere self }
         ensures { result ≡ kind_of (small_turn self) }
     {
@@ -120,7 +100,7 @@ impl Small {
 
 /// The part of the state that a change is for, with the value.
 #[derive(Drop)]
-pub(crate) enum Kind {
+pub enum Kind {
     Plain(Small),
     Splice(Place, Vec<u8>),
     Short(Place, ShortText),
@@ -138,7 +118,7 @@ pub(crate) enum Kind {
 /// It holds the text that it takes the place of, and no other. Turned, it holds what stood there. A page that stands in the input as it
 /// was read is not held: the change names its place.
 #[derive(Drop)]
-pub(crate) struct Part {
+pub struct Part {
     kind: Kind,
 }
 
@@ -155,7 +135,7 @@ impl Model for Part {
 
 impl Part {
     /// A value for a part of the state.
-    pub(crate) fn new(kind: Kind) -> Part
+    pub fn new(kind: Kind) -> Part
         requires { HasRoom kind }
         ensures { result ≡ turn_of kind }
     {
@@ -163,7 +143,7 @@ impl Part {
     }
 
     /// The bytes of its text, if it has one.
-    pub(crate) fn held(&self) -> usize
+    pub fn held(&self) -> usize
         ensures { result ≡ held_by self.now }
     {
         match &self.kind {
@@ -180,7 +160,7 @@ impl Part {
     }
 
     /// What it is for.
-    pub(crate) fn kind(&self) -> ChangeKind
+    pub fn kind(&self) -> ChangeKind
         ensures { result ≡ kind_of self.now }
     {
         match &self.kind {
@@ -197,7 +177,7 @@ impl Part {
     }
 
     /// Swaps what it holds with what stands in its place. Takes no memory.
-    pub(crate) fn turn(&mut self, editor: &mut Editor)
+    pub fn turn(&mut self, editor: &mut Editor)
         requires { FitsFull self.old editor.old }
         ensures editor { editor.new ≡ full_after self.old editor.old }
         ensures part { self.new ≡ turn_after self.old editor.old.body }
@@ -226,14 +206,14 @@ impl Model for Change {
 
 impl Change {
     /// A value for a part of the state.
-    pub(crate) fn new(step: u64, part: Part) -> Change
+    pub fn new(step: u64, part: Part) -> Change
         ensures { result ≡ record { step = step; turn = part } }
     {
         Change { step, part }
     }
 
     /// One whose value lies in it.
-    pub(crate) fn small(step: u64, small: Small) -> Change
+    pub fn small(step: u64, small: Small) -> Change
         requires { IsHere small }
         ensures { result ≡ record { step = step; turn = small_turn small } }
     {
@@ -267,7 +247,7 @@ impl Change {
     }
 
     /// Swaps what it holds with what stands in its place. Takes no memory.
-    pub(crate) fn turn(&mut self, editor: &mut Editor)
+    pub fn turn(&mut self, editor: &mut Editor)
         requires { FitsFull self.old.turn editor.old }
         ensures editor { editor.new ≡ full_after self.old.turn editor.old }
         ensures change { self.new ≡ note_after self.old editor.old.body }

@@ -1,7 +1,7 @@
-//! What always holds of editors, of changes that are turned, and of pages.
+//! What always holds of editors, of changes, and of pages.
 ghost use Rattle.std.specs.Prelude.{length};
+ghost use Rattle.teco_store.specs.Kinds.{TellsItsTurn};
 ghost use Rattle.teco_store.specs.PageLaws.{EndsAtFormFeedsAlone, EndsAtItsLastLine, FinishingWritesAll, HasAtMostItsLines, PagesJoin, TurningKeepsAll};
-ghost use Rattle.teco_store.specs.RecordLaws.{BackThenForth, ComesSoExtended, ComesSoFarCut, FitsWithMoreCapacity, ForthThenBack, HoldsAtMostItsLoad, LeadsToItsBeginning};
 ghost use Rattle.teco_store.specs.State.{IsSound};
 
 use crate::editor::Editor;
@@ -13,15 +13,9 @@ pub fn editor_laws(editor: &Editor)
     let _shown = editor.shown();
 }
 
-/// What entries do when they are turned, and what a recorder leaves. It does nothing: its clauses are laws.
-pub fn record_laws()
-    ensures back { BackThenForth }
-    ensures forth { ForthThenBack }
-    ensures more { FitsWithMoreCapacity }
-    ensures held { HoldsAtMostItsLoad }
-    ensures leads { LeadsToItsBeginning }
-    ensures extended { ComesSoExtended }
-    ensures cut { ComesSoFarCut }
+/// What the kind of a change tells of its turn. It does nothing: its clause is a law.
+pub fn change_laws()
+    ensures { TellsItsTurn }
 {}
 
 /// What pages come to. It does nothing: its clauses are laws.

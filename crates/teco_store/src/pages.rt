@@ -24,9 +24,9 @@ pub(crate) struct Page<'a> {
 
 /// How many bytes the next page has, and whether a form feed ends it.
 #[derive(Clone, Copy)]
-pub(crate) struct PageSpan {
-    pub(crate) len: usize,
-    pub(crate) form_feed: bool,
+pub struct PageSpan {
+    pub len: usize,
+    pub form_feed: bool,
 }
 
 // The next page of what is left of the input. No more than the page is looked at, and the byte after it.
@@ -101,7 +101,7 @@ pub(crate) fn replace_text(buffer: &mut GapBuffer, page: &[u8])
 }
 
 // Whether so many more bytes would pass a limit.
-pub(crate) fn is_past(limit: usize, there: usize, more: usize) -> bool
+pub fn is_past(limit: usize, there: usize, more: usize) -> bool
     requires { there ≤ limit }
     ensures { IsTrue result ↔ (limit < there + more) }
 {

@@ -6,13 +6,13 @@ use std::marker::Model;
 use teco_gap::GapBuffer;
 
 /// The most bytes of a short text: so many that a change which holds one is no larger than one that holds a text in memory.
-pub(crate) const SHORT_LIMIT: usize = 23;
+pub const SHORT_LIMIT: usize = 23;
 
 /// A text of at most [`SHORT_LIMIT`] bytes, which lie in it.
 ///
 /// A clause sees it as its bytes.
 #[derive(Drop)]
-pub(crate) struct ShortText {
+pub struct ShortText {
     bytes: [u8; SHORT_LIMIT],
     len: u8,
 }

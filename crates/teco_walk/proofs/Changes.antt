@@ -3,8 +3,8 @@ use Rattle.std.proofs.Common.{◌≡◌, ℕ, ◌+◌, ◌<◌, List, [], length
 use Rattle.std.specs.Prelude.{IfSome, IfNone}
 use Rattle.std.proofs.lemmas.Option.{none-some}
 use Rattle.teco_store.specs.State.{beginning, state_at}
-use Rattle.teco_store.specs.Entry.{body_back}
-use Rattle.teco_store.specs.Follows.{HasCome}
+use Rattle.teco_record.specs.Entry.{body_back}
+use Rattle.teco_record.specs.Follows.{HasCome}
 use Rattle.teco_exec.specs.Runs.{trail_of}
 use Rattle.teco_session.specs.History.{NotedString, note_at}
 use Rattle.teco_session.specs.Kept.{KeptSession, KeptString, IsSession, HasRun, history_of, string_at, first_body}

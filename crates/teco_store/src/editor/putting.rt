@@ -18,7 +18,7 @@ impl Editor {
     //
     // In line, since a caller's value is mostly known: then nothing is matched, and nothing goes through memory.
     #[inline(always)]
-    pub(crate) fn put_small(&mut self, small: Small) -> Small
+    pub fn put_small(&mut self, small: Small) -> Small
         requires fits { FitsFull (small_turn small) self.old }
         requires here { IsHere small }
         ensures editor { self.new ≡ full_after (small_turn small) self.old }
@@ -60,7 +60,7 @@ impl Editor {
     }
 
     // Puts a value in its place, and gives what stood there. Takes no memory.
-    pub(crate) fn put(&mut self, kind: Kind) -> Kind
+    pub fn put(&mut self, kind: Kind) -> Kind
         requires fits { FitsFull (turn_of kind) self.old }
         requires room { HasRoom kind }
         ensures editor { self.new ≡ full_after (turn_of kind) self.old }
@@ -137,7 +137,7 @@ impl Editor {
     }
 
     // Puts `ins` for the `there` bytes at `at`, and gives those that stood there in `held`, which is empty.
-    pub(crate) fn exchange(
+    pub fn exchange(
         &mut self,
         at: usize,
         there: usize,
@@ -163,13 +163,7 @@ impl Editor {
     }
 
     // Puts `ins` for the `there` bytes at `at`, and gives those that stood there, as a short text.
-    pub(crate) fn exchange_short(
-        &mut self,
-        at: usize,
-        there: usize,
-        ins: &[u8],
-        pointer: usize,
-    ) -> Kind
+    pub fn exchange_short(&mut self, at: usize, there: usize, ins: &[u8], pointer: usize) -> Kind
         requires short { there + length ins.now ≤ SHORT_LIMIT }
         requires fits { FitsFull (turn.Splice at there pointer ins.now) self.old }
         ensures editor { self.new ≡ full_after (turn.Splice at there pointer ins.now) self.old }
@@ -188,7 +182,7 @@ impl Editor {
 
     // Puts `count` bytes of the input from `from` on for the `there` bytes at `at`, and gives those that stood there in `held`, which is
     // empty.
-    pub(crate) fn exchange_input(
+    pub fn exchange_input(
         &mut self,
         from: usize,
         count: usize,

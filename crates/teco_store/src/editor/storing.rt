@@ -19,7 +19,7 @@ impl Editor {
     }
 
     // How many bytes of the output there are.
-    pub(crate) fn shown(&self) -> usize
+    pub fn shown(&self) -> usize
         ensures value { result ≡ self.now.body.output }
         ensures sound { IsSound self.now.room (length self.now.stored) self.now.body }
     {
@@ -27,7 +27,7 @@ impl Editor {
     }
 
     // How many bytes the text has.
-    pub(crate) fn len(&self) -> usize
+    pub fn len(&self) -> usize
         ensures value { result ≡ length self.now.body.text }
         ensures sound { IsSound self.now.room (length self.now.stored) self.now.body }
     {
@@ -35,7 +35,7 @@ impl Editor {
     }
 
     // How many bytes the next page of the input has, and whether a form feed ends it.
-    pub(crate) fn span(&self) -> PageSpan
+    pub fn span(&self) -> PageSpan
         ensures span { IsPageSpan result self.now.body }
         ensures sound { IsSound self.now.room (length self.now.stored) self.now.body }
     {
@@ -47,7 +47,7 @@ impl Editor {
     }
 
     // Where in the input the page in the buffer stands as it was read, if it stands there.
-    pub(crate) fn place_of_page(&self) -> Option<usize>
+    pub fn place_of_page(&self) -> Option<usize>
         ensures { IfSome result (IsAsRead self.now.body) }
     {
         let (before, after) = self.text.halves();
@@ -55,7 +55,7 @@ impl Editor {
     }
 
     // Drops what is stored beyond the output's end.
-    pub(crate) fn forget_beyond(&mut self)
+    pub fn forget_beyond(&mut self)
         ensures editor { self.new ≡ record self.old { stored = take self.old.body.output self.old.stored } }
         ensures extends { Extends self.old self.new }
     {
@@ -63,7 +63,7 @@ impl Editor {
     }
 
     // Makes room for a text of `len` bytes.
-    pub(crate) fn reserve(&mut self, len: usize) -> Result<(), NoMemory>
+    pub fn reserve(&mut self, len: usize) -> Result<(), NoMemory>
         ensures body { self.new.body ≡ self.old.body }
         ensures stored { self.new.stored ≡ self.old.stored }
         ensures room { OnOk result (len ≤ self.new.room) }
@@ -73,12 +73,12 @@ impl Editor {
     }
 
     // The allocator of its parts.
-    pub(crate) fn allocator(&self) -> Global {
+    pub fn allocator(&self) -> Global {
         *self.input.allocator()
     }
 
     // Where the output ends once what is between two places of the text is written; none where that is past the limit.
-    pub(crate) fn end_after_part(&self, from: usize, to: usize, form_feed: bool) -> Option<usize>
+    pub fn end_after_part(&self, from: usize, to: usize, form_feed: bool) -> Option<usize>
         requires ordered { from ≤ to }
         requires there { to ≤ length self.now.body.text }
         ensures { IsEnd result (length (with_range_written (state_of self.now) from to form_feed).output) }
@@ -88,14 +88,14 @@ impl Editor {
     }
 
     // Where it ends once the page is written.
-    pub(crate) fn end_after_page(&self) -> Option<usize>
+    pub fn end_after_page(&self) -> Option<usize>
         ensures { IsEnd result (length (with_next_page (state_of self.now)).output) }
     {
         end_after(self.shown, self.text.len() + usize::from(self.form_feed))
     }
 
     // Where it ends once the page and the rest of the input are written.
-    pub(crate) fn end_after_rest(&self) -> Option<usize>
+    pub fn end_after_rest(&self) -> Option<usize>
         ensures { IsEnd result (length (finished (state_of self.now)).output) }
     {
         let left = self.input.len() - self.place;
@@ -106,12 +106,7 @@ impl Editor {
     }
 
     // Stores what is between two places of the text after the output, with a form feed where one is asked for.
-    pub(crate) fn store_part(
-        &mut self,
-        from: usize,
-        to: usize,
-        form_feed: bool,
-    ) -> Result<(), NoMemory>
+    pub fn store_part(&mut self, from: usize, to: usize, form_feed: bool) -> Result<(), NoMemory>
         requires ordered { from ≤ to }
         requires there { to ≤ length self.old.body.text }
         ensures ok { OnOk result (self.new
@@ -126,7 +121,7 @@ impl Editor {
     }
 
     // Stores the page after the output, and the input from its place up to another. A page that stands in the input isn't copied.
-    pub(crate) fn store_upto(&mut self, from: Option<usize>, upto: usize) -> Result<(), NoMemory>
+    pub fn store_upto(&mut self, from: Option<usize>, upto: usize) -> Result<(), NoMemory>
         requires from { IfSome from (IsAsRead self.old.body) }
         requires order { self.old.body.place ≤ upto }
         requires within { upto ≤ length self.old.body.input }

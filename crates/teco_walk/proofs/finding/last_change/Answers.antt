@@ -1,7 +1,7 @@
 use Rattle.std.proofs.Common.{◌≡◌, ◌∙◌, ◌+◌, ◌-◌, ◌<◌, Some, ap, false, get_or, length, sym, true, arith}
 use Rattle.std.proofs.lemmas.List.{get_or_default}
 use Rattle.teco_store.specs.Kinds.{kind_of}
-use Rattle.teco_store.specs.Listing.{no_note}
+use Rattle.teco_record.specs.Listing.{no_note}
 use Rattle.teco_store.specs.Turn.{Note}
 use Rattle.teco_walk.specs.Finding.{is_for}
 use Rattle.teco_walk.proofs.Findings.{found_here, last_change-none, none_here}

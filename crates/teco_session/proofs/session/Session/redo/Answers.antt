@@ -1,6 +1,6 @@
 use Rattle.std.proofs.Common.{◌≡◌, ◌≤◌, ◌+◌, length, refl, sym, ◌∙◌, ap, set, subst, arith}
 use Rattle.teco_store.specs.State.{Full, with_body}
-use Rattle.teco_store.specs.Entry.{FitsForth, body_forth}
+use Rattle.teco_record.specs.Entry.{FitsForth, body_forth}
 use Rattle.teco_session.specs.History.{redone}
 use Rattle.teco_session.specs.Kept.{KeptSession, history_of, applied, string_at, string_forth}
 use Rattle.teco_session.specs.Entries.{depth_of, kept_session, strings_of}

@@ -1,6 +1,6 @@
 use Rattle.std.proofs.Common.{◌-◌, take, min, set, ◌∙◌, ap, subst, sym, arith}
 use Rattle.teco_store.specs.State.{Full, with_body}
-use Rattle.teco_store.specs.Entry.{FitsBack, body_back, since}
+use Rattle.teco_record.specs.Entry.{FitsBack, body_back, since}
 use Rattle.teco_session.specs.History.{rewound}
 use Rattle.teco_session.specs.Kept.{KeptString, KeptSession, HasRun, history_of, cut_to, string_at, string_cut}
 use Rattle.teco_session.specs.Entries.{strings_of, depth_of, kept_session}

@@ -3,7 +3,7 @@ use Rattle.std.proofs.lemmas.Bool.{false≢true}
 use Rattle.teco_exec.specs.StringMeaning.{string_meaning}
 use Rattle.teco_exec.specs.Runs.{Answers, Runs, RunsWithin}
 use Rattle.teco_exec.specs.declared.outcome.Outcome.{Outcome}
-use Rattle.teco_store.specs.Follows.{LeadsBack}
+use Rattle.teco_record.specs.Follows.{LeadsBack}
 use Rattle.teco_store.specs.State.{State, Full, state_of}
 use Rattle.teco_store.specs.Turn.{Note as Change}
 use Rattle.teco_session.specs.History.{History, NotedString, present, noted}

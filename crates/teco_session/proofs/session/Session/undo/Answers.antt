@@ -1,6 +1,6 @@
 use Rattle.std.proofs.Common.{◌-◌, ◌∙◌, ap, set, subst, sym, arith}
 use Rattle.teco_store.specs.State.{Full, with_body}
-use Rattle.teco_store.specs.Entry.{FitsBack, body_back}
+use Rattle.teco_record.specs.Entry.{FitsBack, body_back}
 use Rattle.teco_session.specs.History.{undone}
 use Rattle.teco_session.specs.Kept.{KeptSession, history_of, reverted, string_at, string_back}
 use Rattle.teco_session.specs.Entries.{depth_of, kept_session, strings_of}

@@ -3,7 +3,7 @@ use Rattle.teco_store.specs.Output.{bytes_of}
 use Rattle.teco_store.specs.Page.{form_feed_if}
 use Rattle.teco_store.specs.State.{Extends, Full}
 use Rattle.teco_store.specs.View.{body_in}
-use Rattle.teco_store.proofs.Entries.{sound_within}
+use Rattle.teco_store.proofs.Sound.{sound_within}
 use Rattle.teco_store.proofs.Outputs.{shows}
 use Rattle.teco_store.proofs.editor.Editor.store_part.Goals as goal
 

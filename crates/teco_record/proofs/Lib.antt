@@ -1,0 +1,12 @@
+pub mod Bounds
+pub mod Cuts
+pub mod Entries
+pub mod Fitting
+pub mod Leading
+pub mod Listing
+pub mod Loans
+pub mod OneByte
+pub mod Recordings
+pub mod Searches
+pub mod Turned
+pub mod Turns

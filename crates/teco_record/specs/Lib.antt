@@ -1,0 +1,6 @@
+pub mod Entry
+pub mod Follows
+pub mod Holding
+pub mod Lending
+pub mod Listing
+pub mod RecordLaws
