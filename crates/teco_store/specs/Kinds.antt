@@ -56,10 +56,10 @@ way_back Done = Done
 way_back Mode = Mode
 
 -- What a kind tells of a turn: what that changes at most, and that it leaves a change of the kind that goes back.
-pub record Tells (kind : ChangeKind) (t : Turn) : Type 0 where
+pub record TellsTurn (kind : ChangeKind) (t : Turn) : Type 0 where
   pub kind_is : kind ≡ kind_of t
   pub only : (b : Body) → ChangesOnly kind b (body_after t b)
   pub back : (b : Body) → Stands t b → kind_of (turn_after t b) ≡ way_back kind
 
 abbrev pub TellsItsTurn : Type 0
-TellsItsTurn = (kind : ChangeKind) (t : Turn) → kind ≡ kind_of t → Tells kind t
+TellsItsTurn = (kind : ChangeKind) (t : Turn) → kind ≡ kind_of t → TellsTurn kind t

@@ -100,7 +100,7 @@ pub(crate) fn replace_text(buffer: &mut GapBuffer, page: &[u8])
     buffer.splice(0, len, page);
 }
 
-// Whether so many more bytes would pass a limit.
+/// Whether so many more bytes would pass a limit.
 pub fn is_past(limit: usize, there: usize, more: usize) -> bool
     requires { there ≤ limit }
     ensures { IsTrue result ↔ (limit < there + more) }

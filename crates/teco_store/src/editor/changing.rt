@@ -37,7 +37,7 @@ impl Editor {
         self.form_feed = form_feed;
     }
 
-    // A copy of a text to be noted; none where it is the last one again.
+    /// A copy of a text to be noted; none where it is the last one again.
     pub fn fresh_text(&self, text: Option<&[u8]>) -> Result<Option<Vec<u8>>, NoMemory>
         ensures copy { IfOk result (λ f. option_map (λ v. v.items) f
             ≡ fresh self.now.body.last_search (option_copied text.entry)) }

@@ -14,9 +14,9 @@ use std::mem;
 use teco_core::{Reg, Value};
 
 impl Editor {
-    // Puts a value that lies in its change in its place, and gives what stood there. Takes no memory.
-    //
-    // In line, since a caller's value is mostly known: then nothing is matched, and nothing goes through memory.
+    /// Puts a value that lies in its change in its place, and gives what stood there. Takes no memory.
+    ///
+    /// In line, since a caller's value is mostly known: then nothing is matched, and nothing goes through memory.
     #[inline(always)]
     pub fn put_small(&mut self, small: Small) -> Small
         requires fits { FitsFull (small_turn small) self.old }
@@ -59,7 +59,7 @@ impl Editor {
         }
     }
 
-    // Puts a value in its place, and gives what stood there. Takes no memory.
+    /// Puts a value in its place, and gives what stood there. Takes no memory.
     pub fn put(&mut self, kind: Kind) -> Kind
         requires fits { FitsFull (turn_of kind) self.old }
         requires room { HasRoom kind }
@@ -136,7 +136,7 @@ impl Editor {
         })
     }
 
-    // Puts `ins` for the `there` bytes at `at`, and gives those that stood there in `held`, which is empty.
+    /// Puts `ins` for the `there` bytes at `at`, and gives those that stood there in `held`, which is empty.
     pub fn exchange(
         &mut self,
         at: usize,
@@ -162,7 +162,7 @@ impl Editor {
         Kind::Splice(place, held)
     }
 
-    // Puts `ins` for the `there` bytes at `at`, and gives those that stood there, as a short text.
+    /// Puts `ins` for the `there` bytes at `at`, and gives those that stood there, as a short text.
     pub fn exchange_short(&mut self, at: usize, there: usize, ins: &[u8], pointer: usize) -> Kind
         requires short { there + length ins.now ≤ SHORT_LIMIT }
         requires fits { FitsFull (turn.Splice at there pointer ins.now) self.old }
@@ -180,8 +180,8 @@ impl Editor {
         Kind::Short(place, held)
     }
 
-    // Puts `count` bytes of the input from `from` on for the `there` bytes at `at`, and gives those that stood there in `held`, which is
-    // empty.
+    /// Puts `count` bytes of the input from `from` on for the `there` bytes at `at`, and gives those that stood there in `held`, which is
+    /// empty.
     pub fn exchange_input(
         &mut self,
         from: usize,

@@ -18,7 +18,7 @@ impl Editor {
         self.input.as_slice()
     }
 
-    // How many bytes of the output there are.
+    /// How many bytes of the output there are.
     pub fn shown(&self) -> usize
         ensures value { result ≡ self.now.body.output }
         ensures sound { IsSound self.now.room (length self.now.stored) self.now.body }
@@ -26,7 +26,7 @@ impl Editor {
         self.shown
     }
 
-    // How many bytes the text has.
+    /// How many bytes the text has.
     pub fn len(&self) -> usize
         ensures value { result ≡ length self.now.body.text }
         ensures sound { IsSound self.now.room (length self.now.stored) self.now.body }
@@ -34,7 +34,7 @@ impl Editor {
         self.text.len()
     }
 
-    // How many bytes the next page of the input has, and whether a form feed ends it.
+    /// How many bytes the next page of the input has, and whether a form feed ends it.
     pub fn span(&self) -> PageSpan
         ensures span { IsPageSpan result self.now.body }
         ensures sound { IsSound self.now.room (length self.now.stored) self.now.body }
@@ -46,7 +46,7 @@ impl Editor {
         }
     }
 
-    // Where in the input the page in the buffer stands as it was read, if it stands there.
+    /// Where in the input the page in the buffer stands as it was read, if it stands there.
     pub fn place_of_page(&self) -> Option<usize>
         ensures { IfSome result (IsAsRead self.now.body) }
     {
@@ -54,7 +54,7 @@ impl Editor {
         place_read(&self.input[..self.place], before, after, self.form_feed)
     }
 
-    // Drops what is stored beyond the output's end.
+    /// Drops what is stored beyond the output's end.
     pub fn forget_beyond(&mut self)
         ensures editor { self.new ≡ record self.old { stored = take self.old.body.output self.old.stored } }
         ensures extends { Extends self.old self.new }
@@ -62,7 +62,7 @@ impl Editor {
         self.output.cut(self.shown);
     }
 
-    // Makes room for a text of `len` bytes.
+    /// Makes room for a text of `len` bytes.
     pub fn reserve(&mut self, len: usize) -> Result<(), NoMemory>
         ensures body { self.new.body ≡ self.old.body }
         ensures stored { self.new.stored ≡ self.old.stored }
@@ -72,12 +72,12 @@ impl Editor {
         self.text.reserve(*self.input.allocator(), len)
     }
 
-    // The allocator of its parts.
+    /// The allocator of its parts.
     pub fn allocator(&self) -> Global {
         *self.input.allocator()
     }
 
-    // Where the output ends once what is between two places of the text is written; none where that is past the limit.
+    /// Where the output ends once what is between two places of the text is written; none where that is past the limit.
     pub fn end_after_part(&self, from: usize, to: usize, form_feed: bool) -> Option<usize>
         requires ordered { from ≤ to }
         requires there { to ≤ length self.now.body.text }
@@ -87,14 +87,14 @@ impl Editor {
         end_after(self.shown, to - from + usize::from(form_feed))
     }
 
-    // Where it ends once the page is written.
+    /// Where it ends once the page is written.
     pub fn end_after_page(&self) -> Option<usize>
         ensures { IsEnd result (length (with_next_page (state_of self.now)).output) }
     {
         end_after(self.shown, self.text.len() + usize::from(self.form_feed))
     }
 
-    // Where it ends once the page and the rest of the input are written.
+    /// Where it ends once the page and the rest of the input are written.
     pub fn end_after_rest(&self) -> Option<usize>
         ensures { IsEnd result (length (finished (state_of self.now)).output) }
     {
@@ -105,7 +105,7 @@ impl Editor {
         )
     }
 
-    // Stores what is between two places of the text after the output, with a form feed where one is asked for.
+    /// Stores what is between two places of the text after the output, with a form feed where one is asked for.
     pub fn store_part(&mut self, from: usize, to: usize, form_feed: bool) -> Result<(), NoMemory>
         requires ordered { from ≤ to }
         requires there { to ≤ length self.old.body.text }
@@ -120,7 +120,7 @@ impl Editor {
         self.output.copy(&self.input, self.shown, halves, form_feed)
     }
 
-    // Stores the page after the output, and the input from its place up to another. A page that stands in the input isn't copied.
+    /// Stores the page after the output, and the input from its place up to another. A page that stands in the input isn't copied.
     pub fn store_upto(&mut self, from: Option<usize>, upto: usize) -> Result<(), NoMemory>
         requires from { IfSome from (IsAsRead self.old.body) }
         requires order { self.old.body.place ≤ upto }
