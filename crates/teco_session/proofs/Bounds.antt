@@ -7,7 +7,8 @@ use Rattle.teco_record.specs.Entry.{body_back, body_forth, notes_forth, held_in,
 use Rattle.teco_record.specs.RecordLaws.{ForthThenBack, HoldsAtMostItsLoad}
 use Rattle.teco_exec.specs.StringMeaning.{string_meaning}
 use Rattle.teco_session.specs.History.{NotedString, state_after}
-use Rattle.teco_session.specs.Kept.{KeptString, KeptSession, done_strings, undone_strings, noted_as, first_body, done_notes, undone_notes, history_of, LeadBack, LeadForth, IsSession, IsSmall}
+use Rattle.teco_entries.specs.Strings.{KeptString}
+use Rattle.teco_session.specs.Kept.{KeptSession, done_strings, undone_strings, noted_as, first_body, done_notes, undone_notes, history_of, LeadBack, LeadForth, IsSession, IsSmall}
 
 -- each string's entry is small against what the string does in the state before it
 AreSmallFrom : State → List KeptString → List NotedString → Type 0

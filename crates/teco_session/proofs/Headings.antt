@@ -4,7 +4,8 @@ use Rattle.std.proofs.lemmas.List.{get_or-map, map-append, reverse-append, rever
 use Rattle.teco_store.specs.State.{State, Body, state_at}
 use Rattle.teco_record.specs.Entry.{body_back, body_forth}
 use Rattle.teco_session.specs.History.{NotedString}
-use Rattle.teco_session.specs.Kept.{KeptString, KeptSession, done_strings, undone_strings, noted_as, done_notes, undone_notes, history_of}
+use Rattle.teco_entries.specs.Strings.{KeptString}
+use Rattle.teco_session.specs.Kept.{KeptSession, done_strings, undone_strings, noted_as, done_notes, undone_notes, history_of}
 use Rattle.teco_session.proofs.Turning.{length-notes}
 
 -- what a note has of its string, whatever the state

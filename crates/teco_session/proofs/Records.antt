@@ -8,7 +8,8 @@ use Rattle.teco_record.specs.Follows.{Recording, HasCome, Follows, LeadsBack}
 use Rattle.teco_record.specs.RecordLaws.{LeadsToItsBeginning}
 use Rattle.teco_exec.specs.Laws.{ZeroLimitChangesNothing}
 use Rattle.teco_exec.specs.Runs.{trail_of}
-use Rattle.teco_session.specs.Kept.{KeptString, HasRun}
+use Rattle.teco_entries.specs.Strings.{KeptString}
+use Rattle.teco_session.specs.Kept.{HasRun}
 
 -- a string that was run, as it is kept
 abbrev pub kept_run : (text : List ℕ) (steps : ℕ) (changes : List Change) → KeptString

@@ -9,7 +9,8 @@ use Rattle.teco_record.specs.RecordLaws.{BackThenForth, ComesSoExtended, ComesSo
 use Rattle.teco_exec.specs.Runs.{trail_of}
 use Rattle.teco_exec.specs.StringMeaning.{string_meaning}
 use Rattle.teco_session.specs.History.{History, NotedString, note_at, present, undone, appended, with_steps}
-use Rattle.teco_session.specs.Kept.{KeptString, KeptSession, string_back, string_cut, noted_as, history_of, HasRun, LeadBack, IsSession, turned_back, cut_back}
+use Rattle.teco_entries.specs.Strings.{KeptString, string_back, string_cut}
+use Rattle.teco_session.specs.Kept.{KeptSession, noted_as, history_of, HasRun, LeadBack, IsSession, turned_back, cut_back}
 use Rattle.teco_session.proofs.Headings.{has_text}
 use Rattle.teco_session.proofs.Turning.{Turned, cursor_at, last_done, present_is, session_back}
 use Rattle.teco_session.proofs.Running.{Appended, session_appended}

@@ -9,7 +9,8 @@ use Rattle.teco_exec.specs.Runs.{IsBrokenOff, RunsWithin, trail_of}
 use Rattle.teco_exec.specs.StringMeaning.{string_meaning}
 use Rattle.teco_exec.specs.declared.outcome.Outcome.{Outcome}
 use Rattle.teco_session.specs.History.{History, NotedString, IsHistory, appended}
-use Rattle.teco_session.specs.Kept.{KeptString, KeptSession, done_strings, undone_strings, noted_as, first_body, done_notes, undone_notes, history_of, HasRun, editor_at, LeadBack, LeadForth, IsSession}
+use Rattle.teco_entries.specs.Strings.{KeptString}
+use Rattle.teco_session.specs.Kept.{KeptSession, done_strings, undone_strings, noted_as, first_body, done_notes, undone_notes, history_of, HasRun, editor_at, LeadBack, LeadForth, IsSession}
 use Rattle.teco_session.proofs.Histories.{IsHistory-appended}
 use Rattle.teco_session.proofs.Turning.{history_is, length-done_notes, present_is}
 

@@ -6,7 +6,8 @@ use Rattle.teco_store.specs.Turn.{Note as Change}
 use Rattle.teco_record.specs.Entry.{body_back, notes_back, body_forth, FitsBack, FitsForth}
 use Rattle.teco_record.specs.RecordLaws.{BackThenForth, ForthThenBack}
 use Rattle.teco_session.specs.History.{History, NotedString, state_after, present, IsHistory}
-use Rattle.teco_session.specs.Kept.{KeptString, KeptSession, done_strings, undone_strings, string_back, string_forth, noted_as, first_body, done_notes, undone_notes, history_of, HasRun, editor_at, LeadBack, LeadForth, IsSession, turned_back, turned_forth}
+use Rattle.teco_entries.specs.Strings.{KeptString, string_back, string_forth}
+use Rattle.teco_session.specs.Kept.{KeptSession, done_strings, undone_strings, noted_as, first_body, done_notes, undone_notes, history_of, HasRun, editor_at, LeadBack, LeadForth, IsSession, turned_back, turned_forth}
 
 pub length-done_notes : (stored : List ℕ) (xs : List KeptString) (b : Body) (ns : List NotedString) → length (done_notes stored xs b ns) ≡ length xs + length ns
 length-done_notes stored [] b ns = omega arith

@@ -9,14 +9,8 @@ use Rattle.teco_store.specs.Turn.{Note as Change}
 use Rattle.teco_record.specs.Entry.{body_back, notes_back, body_forth, notes_forth, FitsForth, before, since, held_in}
 use Rattle.teco_exec.specs.Runs.{trail_of}
 use Rattle.teco_exec.specs.StringMeaning.{string_meaning}
-use Rattle.teco_session.specs.History.{History, NotedString, IsHistory, beyond}
-
--- A string that has begun: its text, the steps that it took, and its changes. They are to be turned back
--- where the string is done, and forth where it is undone.
-pub record KeptString : Type 0 where
-  pub text : List ℕ
-  pub steps : ℕ
-  pub changes : List Change
+use Rattle.teco_entries.specs.Strings.{KeptString, string_back, string_forth, string_cut, entry_at}
+use Rattle.teco_session.specs.History.{History, NotedString, IsHistory}
 
 -- one editor, the strings in order, how many of them are done, and how many are kept, if there is a bound
 pub record KeptSession : Type 0 where
@@ -43,13 +37,6 @@ done_strings s = reverse (take s.cursor s.strings)
 
 abbrev pub undone_strings : KeptSession → List KeptString
 undone_strings s = drop s.cursor s.strings
-
--- a string with its changes turned back, and forth
-abbrev pub string_back : KeptString → Body → KeptString
-string_back x b = record { text = x.text; steps = x.steps; changes = notes_back x.changes b }
-
-abbrev pub string_forth : KeptString → Body → KeptString
-string_forth x b = record { text = x.text; steps = x.steps; changes = notes_forth x.changes b }
 
 -- a string as the history has it, with the state after it
 abbrev pub noted_as : KeptString → State → NotedString
@@ -116,15 +103,8 @@ pub record IsSession (s : KeptSession) : Type 0 where
   pub history : IsHistory (history_of s)
 
 -- the string at a place
-abbrev pub entry_at : List KeptString → ℕ → KeptString
-entry_at strings i = slice_index_or strings i (record { text = []; steps = 0; changes = [] })
-
 abbrev pub string_at : KeptSession → ℕ → KeptString
 string_at s i = entry_at s.strings i
-
--- the last strings, as many as a depth
-abbrev pub newest : Option ℕ → List KeptString → List KeptString
-newest depth strings = drop (beyond depth (length strings)) strings
 
 -- An undo turns the last string that is done back, and keeps what would do it again. A redo turns the first
 -- undone one forth.
@@ -153,10 +133,6 @@ applied s = turned_forth s (string_at s s.cursor) s.cursor
 -- The undone strings are dropped, and the editor stays.
 abbrev pub forgotten : KeptSession → KeptSession
 forgotten s = record s { strings = take s.cursor s.strings }
-
--- a string with its first `n` steps alone
-abbrev pub string_cut : ℕ → KeptString → KeptString
-string_cut n x = record { text = x.text; steps = n; changes = before n x.changes }
 
 -- A rewind turns the changes after the first steps of the last string that is done back, and drops them and
 -- the undone strings.

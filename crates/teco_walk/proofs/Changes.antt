@@ -7,7 +7,7 @@ use Rattle.teco_record.specs.Entry.{body_back}
 use Rattle.teco_record.specs.Follows.{HasCome}
 use Rattle.teco_exec.specs.Runs.{trail_of}
 use Rattle.teco_session.specs.History.{NotedString, note_at}
-use Rattle.teco_session.specs.Kept.{KeptSession, KeptString, IsSession, HasRun, history_of, string_at, first_body}
+use Rattle.teco_session.specs.Kept.{KeptSession, IsSession, HasRun, history_of, string_at, first_body}
 use Rattle.teco_session.proofs.Headings.{has_text, has_steps}
 use Rattle.teco_session.proofs.Rewinding.{has_run}
 use Rattle.teco_session.proofs.Sessions.{at_self}
@@ -24,7 +24,7 @@ has_come : (s : KeptSession) (input text : List ℕ) (n : ℕ) → IsSession s �
 has_come s input text n ok came =
     let at : s.cursor ≡ 1 = ap (λ h. h.cursor) came in
     let lt : 0 < length s.strings = omega (arith, at, ok.within) in
-    let x : KeptString = string_at s 0 in
+    let x = string_at s 0 in
     let is : x ≡ get_or s.strings 0 x = at_self s 0 lt in
     let run : HasRun s.editor x = has_run s x 0 at ok is in
     let first : state_at s.editor.stored (body_back x.changes s.editor.body) ≡ beginning input =

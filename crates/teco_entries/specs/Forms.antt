@@ -1,11 +1,11 @@
 -- What contracts see of what an entry holds.
 use Rattle.std.specs.Prelude.{ℕ, ◌∷◌, ◌≤◌, List, [], take}
 use Rattle.teco_store.specs.Turn.{Note as Change}
-use Rattle.teco_session.specs.declared.text.TextForm.{TextForm}
-use Rattle.teco_session.specs.declared.text.TextForm.TheVariants.{Short, Long}
-use Rattle.teco_session.specs.declared.text.TheConstants.{SHORT_LIMIT}
-use Rattle.teco_session.specs.declared.changes.ChangesForm.{ChangesForm}
-use Rattle.teco_session.specs.declared.changes.ChangesForm.TheVariants.{Empty, One, Many}
+use Rattle.teco_entries.specs.declared.text.TextForm.{TextForm}
+use Rattle.teco_entries.specs.declared.text.TextForm.TheVariants.{Short, Long}
+use Rattle.teco_entries.specs.declared.text.TheConstants.{SHORT_LIMIT}
+use Rattle.teco_entries.specs.declared.changes.ChangesForm.{ChangesForm}
+use Rattle.teco_entries.specs.declared.changes.ChangesForm.TheVariants.{Empty, One, Many}
 
 -- The bytes of a short text are so many of its places as its count says, from the first on. What lies in the
 -- others means nothing.

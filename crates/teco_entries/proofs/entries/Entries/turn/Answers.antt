@@ -2,11 +2,11 @@ use Rattle.std.proofs.Common.{sym, ◌∙◌, ap, arith}
 use Rattle.std.proofs.lemmas.Grind.{common_steps}
 use Rattle.std.proofs.lemmas.Option.{get_or_from_slice_get}
 use Rattle.teco_store.specs.State.{with_body}
-use Rattle.teco_session.specs.Kept.{KeptString}
-use Rattle.teco_session.specs.Turns.{body_turned, string_turned}
-use Rattle.teco_session.specs.Entries.{strings_of}
-use Rattle.teco_session.proofs.Places.{string_read, string_set}
-use Rattle.teco_session.proofs.entries.Entries.turn.Goals as goal
+use Rattle.teco_entries.specs.Strings.{KeptString}
+use Rattle.teco_entries.specs.Turns.{body_turned, string_turned}
+use Rattle.teco_entries.specs.Entries.{strings_of}
+use Rattle.teco_entries.proofs.Places.{string_read, string_set}
+use Rattle.teco_entries.proofs.entries.Entries.turn.Goals as goal
 
 pub returns-in-All-clause-editor : goal.returns-in-All-clause-editor
 returns-in-All-clause-editor c =

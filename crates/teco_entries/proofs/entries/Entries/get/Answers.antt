@@ -1,9 +1,9 @@
 use Rattle.std.proofs.Common.{sym, ap, arith}
 use Rattle.std.proofs.lemmas.Grind.{common_steps}
 use Rattle.std.proofs.lemmas.Option.{get_or_from_slice_get}
-use Rattle.teco_session.specs.Entries.{strings_of}
-use Rattle.teco_session.proofs.Places.{string_read}
-use Rattle.teco_session.proofs.entries.Entries.get.Goals as goal
+use Rattle.teco_entries.specs.Entries.{strings_of}
+use Rattle.teco_entries.proofs.Places.{string_read}
+use Rattle.teco_entries.proofs.entries.Entries.get.Goals as goal
 
 pub index-requires : goal.index-requires
 index-requires c = grind (arith, common_steps)

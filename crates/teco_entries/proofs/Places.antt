@@ -2,9 +2,9 @@
 use Rattle.std.proofs.Common.{◌≡◌, ℕ, ◌-◌, ◌<◌, List, [], ◌∷◌, ◌++◌, Option, Some, None, length, take, drop, map, get_or, set, sym, ◌∙◌, ap, arith}
 use Rattle.std.proofs.lemmas.List.{get_or-map, map-set, map-append, take-map, drop-map, length-map}
 use Rattle.circular_buffer.specs.Buffer.{keep_last}
-use Rattle.teco_session.specs.Kept.{KeptString, entry_at, newest}
-use Rattle.teco_session.specs.Entries.{kept_string}
-use Rattle.teco_session.specs.declared.entry.Entry.{Entry}
+use Rattle.teco_entries.specs.Strings.{KeptString, entry_at, newest}
+use Rattle.teco_entries.specs.Entries.{kept_string}
+use Rattle.teco_entries.specs.declared.entry.Entry.{Entry}
 
 -- what is read at a place
 pub string_read : (xs : List KeptString) (vs : List Entry) (v : Entry) (i : ℕ) → xs ≡ map kept_string vs → i < length xs → v ≡ get_or vs i v → entry_at xs i ≡ kept_string v

@@ -1,6 +1,6 @@
 //! What a session keeps of a string, and how it is turned.
 ghost use Rattle.std.specs.Prelude.{◌≡◌, length};
-ghost use Rattle.teco_session.specs.Turns.{FitsTurn, body_turned, string_turned};
+ghost use Rattle.teco_entries.specs.Turns.{FitsTurn, body_turned, string_turned};
 ghost use Rattle.teco_store.specs.State.{with_body};
 
 use crate::changes::Changes;
@@ -29,7 +29,7 @@ pub enum Turn {
 const _: () = prove!(size_of::<Entry>() <= 96);
 
 impl Entry {
-    ghost use Rattle.teco_session.specs.Entries.{kept_string};
+    ghost use Rattle.teco_entries.specs.Entries.{kept_string};
 
     /// Turns the string so. Takes no memory.
     pub fn turn(&mut self, editor: &mut Editor, way: Turn)

@@ -4,9 +4,9 @@ use Rattle.teco_record.specs.Entry.{FitsBack, FitsForth, body_back, body_forth, 
 use Rattle.teco_record.specs.Follows.{IsInOrder}
 use Rattle.teco_store.specs.State.{Body}
 use Rattle.teco_store.specs.Turn.{Note as Change}
-use Rattle.teco_session.specs.Kept.{KeptString, string_back, string_cut, string_forth}
-use Rattle.teco_session.specs.declared.entry.Turn.{Turn}
-use Rattle.teco_session.specs.declared.entry.Turn.TheVariants.{Back, Forth, Cut}
+use Rattle.teco_entries.specs.Strings.{KeptString, string_back, string_cut, string_forth}
+use Rattle.teco_entries.specs.declared.entry.Turn.{Turn}
+use Rattle.teco_entries.specs.declared.entry.Turn.TheVariants.{Back, Forth, Cut}
 
 -- These changes can be turned so, in a text with this room and so many bytes of stored output.
 abbrev pub FitsTurn : Turn → ℕ → ℕ → List Change → Body → Type 0

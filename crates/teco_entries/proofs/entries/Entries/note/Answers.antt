@@ -1,9 +1,9 @@
 use Rattle.std.proofs.Common.{ap}
 use Rattle.circular_buffer.specs.Buffer.{Buffer}
-use Rattle.teco_session.specs.Entries.{strings_of, depth_of}
-use Rattle.teco_session.specs.declared.entry.Entry.{Entry}
-use Rattle.teco_session.proofs.Places.{strings_grown, strings_kept}
-use Rattle.teco_session.proofs.entries.Entries.note.Goals as goal
+use Rattle.teco_entries.specs.Entries.{strings_of, depth_of}
+use Rattle.teco_entries.specs.declared.entry.Entry.{Entry}
+use Rattle.teco_entries.proofs.Places.{strings_grown, strings_kept}
+use Rattle.teco_entries.proofs.entries.Entries.note.Goals as goal
 
 pub returns-in-Last-clause-strings : goal.returns-in-Last-clause-strings
 returns-in-Last-clause-strings c =

@@ -30,7 +30,7 @@ pub struct Changes {
 impl Model for Changes {
     ghost use Rattle.std.specs.Prelude.{List};
     ghost use Rattle.teco_store.specs.Turn.{Note};
-    ghost use Rattle.teco_session.specs.Forms.{changes_of};
+    ghost use Rattle.teco_entries.specs.Forms.{changes_of};
 
     ghost Value = { List Note };
 
@@ -39,7 +39,7 @@ impl Model for Changes {
 
 impl Changes {
     /// These changes. What memory they do not need is given back.
-    pub(crate) fn of(mut changes: ChangeList) -> Changes
+    pub fn of(mut changes: ChangeList) -> Changes
         ensures { result ≡ changes.items }
     {
         if changes.len() > 1 {
@@ -116,7 +116,7 @@ impl Changes {
     }
 
     /// Reverts all of them, the last first. Takes no memory.
-    pub(crate) fn revert(&mut self, editor: &mut Editor)
+    pub fn revert(&mut self, editor: &mut Editor)
         requires { FitsBack editor.old.room self.old editor.old.body }
         ensures editor { editor.new ≡ with_body editor.old (body_back self.old editor.old.body) }
         ensures changes { self.new ≡ notes_back self.old editor.old.body }
@@ -129,7 +129,7 @@ impl Changes {
     }
 
     /// Applies all of them, the first first. Takes no memory.
-    pub(crate) fn apply(&mut self, editor: &mut Editor)
+    pub fn apply(&mut self, editor: &mut Editor)
         requires { FitsForth editor.old.room (length editor.old.stored) self.old editor.old.body }
         ensures editor { editor.new ≡ with_body editor.old (body_forth self.old editor.old.body) }
         ensures changes { self.new ≡ notes_forth self.old editor.old.body }
@@ -142,7 +142,7 @@ impl Changes {
     }
 
     /// Reverts those that were made after so many steps, the last first, and drops them. Takes no memory.
-    pub(crate) fn rewind(&mut self, editor: &mut Editor, steps: u64)
+    pub fn rewind(&mut self, editor: &mut Editor, steps: u64)
         requires fits { FitsBack editor.old.room self.old editor.old.body }
         requires order { IsInOrder self.old }
         ensures editor { editor.new

@@ -18,16 +18,22 @@ pub(crate) enum TextForm {
 /// The text of a string. One of at most [`SHORT_LIMIT`] bytes takes no memory.
 ///
 /// A clause sees it as its bytes.
-#[derive(Drop)]
 pub struct Text {
     form: TextForm,
+}
+
+// Its bytes go here, and a crate that lets a text go calls this.
+impl Drop for Text {
+    fn drop(self) {
+        let Text { form: _ } = self;
+    }
 }
 
 const _: () = prove!(size_of::<Text>() <= 32);
 
 impl Model for Text {
     ghost use Rattle.std.specs.Prelude.{ℕ, List};
-    ghost use Rattle.teco_session.specs.Forms.{bytes_of, HasPlaces};
+    ghost use Rattle.teco_entries.specs.Forms.{bytes_of, HasPlaces};
 
     ghost Value = { List ℕ };
 

@@ -2,10 +2,9 @@
 ghost use Rattle.std.specs.Prelude.{◌≡◌, [], ◌∷◌, ◌++◌, ◌<◌, ◌≤◌, true, length, take, None, Some, IfOk, IsOk, OnOk};
 ghost use Rattle.std.proofs.Common.{set};
 ghost use Rattle.teco_store.specs.State.{with_body};
-ghost use Rattle.teco_session.specs.History.{IsWithinDepth, keeps_none};
-ghost use Rattle.teco_session.specs.Kept.{entry_at, newest};
-ghost use Rattle.teco_session.specs.Turns.{FitsTurn, body_turned, string_turned};
-ghost use Rattle.teco_session.specs.Entries.{kept_string, strings_of, depth_of, HasPlace};
+ghost use Rattle.teco_entries.specs.Strings.{IsWithinDepth, entry_at, keeps_none, newest};
+ghost use Rattle.teco_entries.specs.Turns.{FitsTurn, body_turned, string_turned};
+ghost use Rattle.teco_entries.specs.Entries.{kept_string, strings_of, depth_of, HasPlace};
 
 use crate::entry::{Entry, Turn};
 use circular_buffer::HeapCircularBuffer;
@@ -14,12 +13,21 @@ use teco_core::NoMemory;
 use teco_store::Editor;
 
 /// The entries of the strings of a session, the oldest first.
-#[derive(Drop)]
 pub enum Entries {
     /// Every string that has begun.
     All(Vec<Entry>),
     /// The last strings, as many as the depth.
     Last(HeapCircularBuffer<Entry>),
+}
+
+// They go here, and a crate that lets entries go calls this.
+impl Drop for Entries {
+    fn drop(self) {
+        match self {
+            Entries::All(_) => {}
+            Entries::Last(_) => {}
+        }
+    }
 }
 
 impl Entries {

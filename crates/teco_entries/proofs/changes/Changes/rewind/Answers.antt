@@ -1,5 +1,5 @@
 use Rattle.std.proofs.Common.{rules}
-use Rattle.teco_session.proofs.changes.Changes.rewind.Goals as goal
+use Rattle.teco_entries.proofs.changes.Changes.rewind.Goals as goal
 
 pub returns-in-Many-clause-editor : goal.returns-in-Many-clause-editor
 returns-in-Many-clause-editor c = search rules

@@ -1,0 +1,4 @@
+pub mod Strings
+pub mod Turns
+pub mod Forms
+pub mod Entries
