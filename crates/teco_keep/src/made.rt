@@ -4,8 +4,9 @@ ghost use Rattle.teco_keep.specs.Made.{IsMade, IsMadeOf, IsMadeOfSource, IsVerdi
 
 use crate::line::{Line, Mode};
 use std::alloc::Global;
-use teco_advice::{check, report};
+use teco_advice::check;
 use teco_core::NoMemory;
+use teco_remarks::report;
 use teco_source::{SourceFault, beginnings, commands, listing};
 
 /// What was made.
@@ -31,7 +32,7 @@ fn check_in(
     ensures { IfOk result (IsVerdict bytes.now) }
 {
     let advice = check(alloc, bytes)?;
-    let lines = report(alloc, name, source, places, bytes, &advice)?.into_bytes();
+    let lines = report(alloc, name, source, places, bytes, &advice.remarks)?.into_bytes();
     if advice.is_faulty {
         return Ok(Made::Faulty(lines));
     }

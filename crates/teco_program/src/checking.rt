@@ -11,10 +11,11 @@ ghost use Rattle.teco_program.specs.Seen.{disk_seen, source_view};
 use crate::running::no_memory;
 use crate::sources::{Parts, commands_given, decline, source_name};
 use std::alloc::Global;
-use teco_advice::{Advice, check, report, report_part};
+use teco_advice::{Advice, check};
 use teco_core::NoMemory;
 use teco_files::{Disk, Source};
 use teco_line::{Commands, Line};
+use teco_remarks::{report, report_part};
 use teco_scan::Span;
 use teco_source::beginnings;
 use teco_terminal::{Terminal, TerminalFault};
@@ -67,7 +68,7 @@ fn lines_of_parts(
             Some(places.as_slice()),
             bytes,
             Span { from, to },
-            advice,
+            &advice.remarks,
         )?;
         from = part.to;
     }
@@ -83,7 +84,7 @@ fn lines_of(
     advice: &Advice,
 ) -> Result<String, NoMemory> {
     match commands {
-        Commands::Bytes(name) => report(alloc, name.as_str(), bytes, None, bytes, advice),
+        Commands::Bytes(name) => report(alloc, name.as_str(), bytes, None, bytes, &advice.remarks),
         _ => lines_of_parts(alloc, commands, parts, bytes, advice),
     }
 }

@@ -3,9 +3,10 @@ use crate::tests::assert_of;
 use crate::tests::bytes::{has, is};
 use std::alloc::Global;
 use std::test::*;
-use teco_advice::{FaultIn, Remark, What, check, report, show_remark};
+use teco_advice::check;
 use teco_core::NoMemory;
 use teco_fault::Wrong;
+use teco_remarks::{FaultIn, Remark, What, report, show_remark};
 use teco_scan::Span;
 
 /// Commands that begin with a token, what is wrong with it, and the sentence.
@@ -53,7 +54,7 @@ fn ends_there(alloc: Global) -> Result<bool, NoMemory> {
     let mut commands = Vec::new(alloc);
     commands.resize(1001, b';')?;
     let advice = check(alloc, &commands)?;
-    let lines = report(alloc, "-", &commands, None, &commands, &advice)?;
+    let lines = report(alloc, "-", &commands, None, &commands, &advice.remarks)?;
     Ok(has(&lines, END))
 }
 

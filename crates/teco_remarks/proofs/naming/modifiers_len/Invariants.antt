@@ -1,5 +1,5 @@
 use Rattle.std.proofs.Common.{length, ◌-◌, ◌≤◌}
-use Rattle.teco_advice.proofs.naming.modifiers_len.Given as goal
+use Rattle.teco_remarks.proofs.naming.modifiers_len.Given as goal
 
 abbrev pub invariant-loop-len : goal.invariant-loop-len
 invariant-loop-len l = l.len ≤ length l.bytes

@@ -2,7 +2,6 @@
 ghost use Rattle.std.specs.Prelude.{◌≡◌, ◌≤◌, length};
 ghost use Rattle.teco_telling.specs.Spot.{spot_of};
 
-use crate::checking::Advice;
 use crate::remarks::Remark;
 use crate::sentences::{opening_of, show_remark};
 use std::alloc::Global;
@@ -70,11 +69,11 @@ pub fn report_part(
     places: Option<&[usize]>,
     commands: &[u8],
     part: Span,
-    advice: &Advice,
+    remarks: &[Remark],
 ) -> Result<(), NoMemory> {
     let mut walker = Walker::new();
     let mut openings = Walker::new();
-    for remark in &advice.remarks {
+    for remark in remarks {
         if remark.at < part.from || remark.at >= part.to {
             continue;
         }
@@ -102,13 +101,13 @@ pub fn report(
     source: &[u8],
     places: Option<&[usize]>,
     commands: &[u8],
-    advice: &Advice,
+    remarks: &[Remark],
 ) -> Result<String, NoMemory> {
     let mut out = String::new(alloc);
     let whole = Span {
         from: 0,
         to: usize::MAX,
     };
-    report_part(&mut out, name, source, places, commands, whole, advice)?;
+    report_part(&mut out, name, source, places, commands, whole, remarks)?;
     Ok(out)
 }

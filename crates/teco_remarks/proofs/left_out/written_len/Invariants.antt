@@ -1,5 +1,5 @@
 use Rattle.std.proofs.Common.{length, ◌≤◌}
-use Rattle.teco_advice.proofs.left_out.written_len.Given as goal
+use Rattle.teco_remarks.proofs.left_out.written_len.Given as goal
 
 abbrev pub invariant-loop-rest : goal.invariant-loop-rest
 invariant-loop-rest l = l.to ≤ length l.bytes

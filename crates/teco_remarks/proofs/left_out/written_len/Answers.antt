@@ -1,6 +1,6 @@
 use Rattle.std.proofs.Common.{arith}
 use Rattle.std.proofs.lemmas.Grind.{common_steps}
-use Rattle.teco_advice.proofs.left_out.written_len.Goals as goal
+use Rattle.teco_remarks.proofs.left_out.written_len.Goals as goal
 
 pub loop-rest-smaller : goal.loop-rest-smaller
 loop-rest-smaller c = grind (arith, common_steps)

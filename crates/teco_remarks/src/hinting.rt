@@ -1,14 +1,13 @@
 //! Hints: what may be meant otherwise.
 ghost use Rattle.std.specs.Prelude.{◌<◌, IfSome};
 
-use crate::calling::Registers;
 use crate::passing::part;
 use crate::remarks::{Hint, Remark, What};
 use teco_core::NoMemory;
 use teco_fault::REGISTERS;
 use teco_scan::{
     Bare, BlockMark, Command, Found, Item, LevelCommand, RegisterCommand, Span, TextCommand, Token,
-    TokenKind, token_at,
+    TokenKind, filler_end, token_at,
 };
 
 /// What has been seen of the commands.
@@ -20,8 +19,8 @@ pub struct Hinting {
     after_exit: bool,
     /// Whether a number comes before.
     has_number: bool,
-    pub has_exit: bool,
-    pub has_page: bool,
+    has_exit: bool,
+    has_page: bool,
     /// Whether the last pair of ESC has come.
     pub in_rest: bool,
     /// The registers that were told of.
@@ -42,7 +41,7 @@ impl Hinting {
     }
 
     /// A command string begins.
-    pub fn begin(&mut self) {
+    fn begin(&mut self) {
         self.iterations = 0;
         self.after_exit = false;
         self.has_number = false;
@@ -71,10 +70,10 @@ impl Hinting {
         has_caret(text).then_some(Hint::Caret)
     }
 
-    fn of_call(&mut self, index: usize, registers: &Registers) -> Option<Hint>
+    fn of_call(&mut self, index: usize, given: &[bool; REGISTERS]) -> Option<Hint>
         requires { index < 36 }
     {
-        if registers.given[index] || self.told[index] {
+        if given[index] || self.told[index] {
             return None;
         }
         self.told[index] = true;
@@ -95,7 +94,7 @@ impl Hinting {
     }
 
     /// The hint at a token, if there is one.
-    fn of_token(&mut self, text: &[u8], token: &Token, registers: &Registers) -> Option<Hint> {
+    fn of_token(&mut self, text: &[u8], token: &Token, given: &[bool; REGISTERS]) -> Option<Hint> {
         let is_after = self.after_exit;
         match token.kind {
             TokenKind::Escape | TokenKind::Tag(_) => return None,
@@ -115,7 +114,7 @@ impl Hinting {
         }
         self.after_exit = false;
         let hint = match (called(token), token.kind) {
-            (Some(register), _) => self.of_call(register, registers),
+            (Some(register), _) => self.of_call(register, given),
             (None, TokenKind::Item(item)) => self.of_item(text, item),
             _ => None,
         };
@@ -177,13 +176,22 @@ fn is_number(token: &Token) -> bool {
     }
 }
 
-/// Puts the hints of a command string that begins at a place, up to its first fault.
+/// Puts a hint at the end.
+fn push_hint(remarks: &mut Vec<Remark>, at: usize, hint: Hint) -> Result<(), NoMemory> {
+    remarks.push(Remark {
+        at,
+        what: What::Hint(hint),
+    })?;
+    Ok(())
+}
+
+/// Puts the hints of a command string that begins at a place, up to its first fault. `given` says which registers are given a text.
 pub fn push_hints(
     remarks: &mut Vec<Remark>,
     hinting: &mut Hinting,
     text: &[u8],
     from: usize,
-    registers: &Registers,
+    given: &[bool; REGISTERS],
 ) -> Result<(), NoMemory> {
     hinting.begin();
     let mut at = 0;
@@ -192,13 +200,35 @@ pub fn push_hints(
             return Ok(());
         };
         at = token.span.to;
-        if let Some(hint) = hinting.of_token(text, &token, registers) {
-            remarks.push(Remark {
-                at: from.saturating_add(token.span.from),
-                what: What::Hint(hint),
-            })?;
+        if let Some(hint) = hinting.of_token(text, &token, given) {
+            push_hint(remarks, from.saturating_add(token.span.from), hint)?;
         }
         hinting.has_number = is_number(&token);
+    }
+    Ok(())
+}
+
+/// Puts the hints on the whole at the end, that on its rest first. Past a fault nothing was looked for, so what lacks is told of no
+/// faulty text.
+pub fn push_last_hints(
+    remarks: &mut Vec<Remark>,
+    hinting: &Hinting,
+    commands: &[u8],
+    rest: Option<Hint>,
+    faulty: bool,
+) -> Result<(), NoMemory> {
+    let end = commands.len();
+    if let Some(hint) = rest {
+        push_hint(remarks, end, hint)?;
+    }
+    if faulty || filler_end(commands, 0) == end {
+        return Ok(());
+    }
+    if !hinting.has_page {
+        push_hint(remarks, end, Hint::NoPage)?;
+    }
+    if !hinting.has_exit {
+        push_hint(remarks, end, Hint::NoExit)?;
     }
     Ok(())
 }
