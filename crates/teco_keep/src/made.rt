@@ -6,7 +6,8 @@ use crate::line::{Line, Mode};
 use std::alloc::Global;
 use teco_advice::{check, report};
 use teco_core::NoMemory;
-use teco_source::{SourceFault, beginnings, commands, listing};
+use teco_listing::listing;
+use teco_source::{SourceFault, beginnings, commands};
 
 /// What was made.
 #[derive(Drop)]
