@@ -6,8 +6,9 @@ use crate::line::{Line, Mode};
 use std::alloc::Global;
 use teco_advice::check;
 use teco_core::NoMemory;
+use teco_listing::listing;
 use teco_remarks::report;
-use teco_source::{SourceFault, beginnings, commands, listing};
+use teco_source::{SourceFault, beginnings, commands};
 
 /// What was made.
 #[derive(Drop)]

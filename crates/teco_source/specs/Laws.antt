@@ -4,6 +4,7 @@ use Rattle.std.specs.List.{list_all}
 use Rattle.teco_source.specs.declared.reader.Mode.TheVariants.{Text}
 use Rattle.teco_source.specs.Source.{is_blank, ends_line, start, run, commands_of}
 use Rattle.teco_source.specs.Places.{places_of}
+use Rattle.teco_source.specs.Listing.{between}
 
 -- the bytes, if the source is read
 abbrev pub bytes_in : Result (List ℕ) ℕ → Option (List ℕ)
@@ -66,3 +67,7 @@ pub record PlacesRise (source : List ℕ) : Type 0 where
 
 abbrev pub PlacesGrow : Type 0
 PlacesGrow = (source : List ℕ) → PlacesRise source
+
+-- A source whose lines say a text stands for that text.
+abbrev pub WholeLinesAreRead : Type 0
+WholeLinesAreRead = (source text : List ℕ) → run start source ≡ between text → commands_of source ≡ Ok text

@@ -2,17 +2,11 @@
 #![tactic(auto)]
 
 mod laws;
-mod layout;
-mod lines;
-mod notes;
 mod placing;
 mod reader;
-mod words;
 mod writer;
 
 pub use laws::source_laws;
-pub use lines::listing;
 pub use placing::beginnings;
-pub use reader::{SourceFault, commands};
-pub use words::words_of;
+pub use reader::{Mode, SourceFault, commands, ends_line};
 pub use writer::{Note, push_line};

@@ -1,7 +1,7 @@
 use Rattle.std.proofs.Common.{◌≡◌, ◌≤◌, ◌-◌, length, take}
 use Rattle.teco_source.specs.Source.{start, run}
 use Rattle.teco_source.specs.Listing.{between}
-use Rattle.teco_source.proofs.lines.listing.Given as goal
+use Rattle.teco_listing.proofs.lines.listing.Given as goal
 
 abbrev pub invariant-loop-at : goal.invariant-loop-at
 invariant-loop-at l = (run start l.out.items ≡ between (take l.at l.text)) × (l.at ≤ length l.text)

@@ -5,10 +5,9 @@ ghost use Rattle.teco_source.specs.Listing.{line_mode, between};
 
 use crate::layout::{Layout, Line};
 use crate::notes::push_words;
-use crate::reader::{Mode, ends_line};
-use crate::writer::{Note, push_line};
 use std::alloc::Global;
 use teco_core::NoMemory;
+use teco_source::{Mode, Note, ends_line, push_line, source_laws};
 
 /// Where a reader is before the next line, when it has read the text up to a place.
 fn line_mode(text: &[u8], at: usize) -> Mode
@@ -81,6 +80,7 @@ fn push_part(
 pub fn listing(alloc: Global, text: &[u8], with_words: bool) -> Result<Vec<u8>, NoMemory>
     ensures { IfOk result (λ v. commands_of v.items ≡ Ok text.now) }
 {
+    source_laws();
     let mut out = Vec::new(alloc);
     let mut layout = Layout::new(if with_words { 0 } else { WIDTH });
     let mut at = 0;

@@ -1,8 +1,8 @@
 use Rattle.std.proofs.Common.{◌≡◌, ℕ, List, OnOk, subst, take, arith}
 use Rattle.teco_source.specs.Source.{start, run}
 use Rattle.teco_source.specs.Listing.{between}
-use Rattle.teco_source.proofs.Written.{joined}
-use Rattle.teco_source.proofs.lines.push_part.Goals as goal
+use Rattle.teco_listing.proofs.Parts.{joined}
+use Rattle.teco_listing.proofs.lines.push_part.Goals as goal
 
 pub returns : goal.returns
 returns c before =
