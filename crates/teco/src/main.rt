@@ -8,7 +8,8 @@ use std::process;
 use std::process::ExitCode;
 use teco_files::{FileDisk, ReaderSource};
 use teco_line::{LineFault, fault_of_words, not_text};
-use teco_program::{ClockAlarm, program};
+use teco_program::program;
+use teco_serve::ClockAlarm;
 use teco_terminal::WriterTerminal;
 
 // The theorem ends here: that these are the program's words, streams, clock and files is told by no contract.

@@ -2,9 +2,9 @@
 use Rattle.std.proofs.Common.{◌≡◌, ◌≢◌, ◌⊎◌, inl, inr, ℕ, List, Bool, true, false, Result, Ok, Err, Vec, Global, refl, sym, subst}
 use Rattle.std.specs.declared.io.Error.{Error}
 use Rattle.teco_line.specs.StreamNames.{is_standard_output}
-use Rattle.teco_program.specs.Refusing.{Tells}
-use Rattle.teco_program.specs.Run.{WritesOutput}
-use Rattle.teco_program.specs.Seen.{DiskSeen}
+use Rattle.teco_host.specs.Refusing.{Tells}
+use Rattle.teco_host.specs.Writing.{WritesOutput}
+use Rattle.teco_host.specs.Seen.{DiskSeen}
 use Rattle.teco_terminal.specs.Terminal.{Puts, Screen}
 use Rattle.teco_keep.specs.Keeping.{FailsToWrite, MakesAndPuts, Output, output_to}
 use Rattle.teco_keep.specs.declared.fate.Fate.{Fate}

@@ -10,11 +10,10 @@ use Rattle.teco_files.specs.Input.{IsFaultOf}
 use Rattle.teco_files.specs.Source.{Gives}
 use Rattle.teco_files.specs.declared.input.InputFault.{InputFault}
 use Rattle.teco_line.specs.StreamNames.{is_standard_input, is_standard_output}
-use Rattle.teco_program.specs.Refusing.{Tells}
-use Rattle.teco_program.specs.Run.{IsInput, IsStreamed, KeepsDisk, WritesOutput}
-use Rattle.teco_program.specs.Runs.{Host, KeepsStream}
-use Rattle.teco_program.specs.Seen.{DiskSeen, SourceView}
-use Rattle.teco_program.specs.Writing.{AddsDrafts, IsWriteError, IsWriting}
+use Rattle.teco_host.specs.Refusing.{Tells}
+use Rattle.teco_host.specs.Reading.{IsInput, IsStreamed}
+use Rattle.teco_host.specs.Seen.{KeepsDisk, Host, KeepsStream, DiskSeen, SourceView}
+use Rattle.teco_host.specs.Writing.{WritesOutput, AddsDrafts, IsWriteError, IsWriting}
 use Rattle.teco_terminal.specs.Terminal.{IsFrontOf, Screen, Shows}
 use Rattle.teco_keep.specs.Ending.{IsFateOf, fate_without_input, is_told, said, spot_in, status_of, text_of}
 use Rattle.teco_keep.specs.Made.{IsMade}

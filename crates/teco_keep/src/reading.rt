@@ -1,8 +1,8 @@
 //! Reading the input.
 ghost use Rattle.std.specs.Prelude.{IfErr, IfOk};
 ghost use Rattle.teco_keep.specs.Keeping.{FailsToStream, LacksInput};
-ghost use Rattle.teco_program.specs.Run.{IsInput, IsStreamed, KeepsDisk};
-ghost use Rattle.teco_program.specs.Seen.{disk_seen, source_view};
+ghost use Rattle.teco_host.specs.Reading.{IsInput, IsStreamed};
+ghost use Rattle.teco_host.specs.Seen.{KeepsDisk, disk_seen, source_view};
 
 use crate::fate::{Fate, fate_of};
 use std::alloc::Global;

@@ -7,10 +7,8 @@ ghost use Rattle.teco_keep.specs.Keeping.{Concludes, Keeps, MakesAndPuts, PutsOu
 ghost use Rattle.teco_keep.specs.Made.{IsMade};
 ghost use Rattle.teco_line.specs.StreamNames.{is_standard_input};
 ghost use Rattle.teco_keep.specs.Program.{KeepsBy};
-ghost use Rattle.teco_program.specs.Refusing.{Tells};
-ghost use Rattle.teco_program.specs.Run.{KeepsDisk};
-ghost use Rattle.teco_program.specs.Runs.{host};
-ghost use Rattle.teco_program.specs.Seen.{disk_seen, source_view};
+ghost use Rattle.teco_host.specs.Refusing.{Tells};
+ghost use Rattle.teco_host.specs.Seen.{KeepsDisk, host, disk_seen, source_view};
 
 use crate::fate::{Fate, fate_of, status};
 use crate::line::Line;
@@ -22,8 +20,8 @@ use std::alloc::Global;
 use std::process::ExitCode;
 use teco_core::NoMemory;
 use teco_files::{Disk, Source};
+use teco_host::{refuse, write_output};
 use teco_line::{LineFault, is_standard_input, is_standard_output};
-use teco_program::{refuse, write_output};
 use teco_terminal::{Terminal, TerminalFault};
 
 /// What is told where memory is refused to the program.

@@ -3,8 +3,7 @@ use Rattle.std.proofs.Common.{◌≡◌, ◌++◌, inl, inr, ℕ, List, [], ◌�
 use Rattle.std.proofs.lemmas.Bool.{cases_Bool}
 use Rattle.teco_line.specs.declared.line.Line.{Line}
 use Rattle.teco_line.specs.declared.line.LineFault.{LineFault}
-use Rattle.teco_program.specs.Ending.{worse, worst}
-use Rattle.teco_program.specs.Run.{IsLineIn}
+use Rattle.teco_program.specs.Lines.{worse, worst, IsLineIn}
 use Rattle.teco_program.specs.Runs.{Chain}
 
 -- One run more, after those in order.

@@ -1,8 +1,8 @@
 -- A check of commands, which are not run: what is told of them, and with which status.
 use Rattle.std.specs.Prelude.{◌≡◌, ◌⊎◌, ℕ, List, Bool, codes, false, true, if◌then◌else◌}
 use Rattle.teco_advice.specs.Strings.{is_faulty}
-use Rattle.teco_program.specs.Ending.{said}
-use Rattle.teco_program.specs.Refusing.{Tells}
+use Rattle.teco_serve.specs.Ending.{said}
+use Rattle.teco_host.specs.Refusing.{Tells}
 use Rattle.teco_terminal.specs.Terminal.{Screen, Shows}
 
 -- It says whether one of the strings of these commands has a fault, where some registers hold code.

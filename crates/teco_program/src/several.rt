@@ -2,20 +2,17 @@
 ghost use Rattle.std.specs.Prelude.{◌≡◌, true, false, IfSome};
 ghost use Rattle.teco_line.specs.CommandLine.{IsDepth};
 ghost use Rattle.teco_line.specs.Conflict.{are_awaited, has_conflict};
-ghost use Rattle.teco_program.specs.Ending.{worse};
-ghost use Rattle.teco_program.specs.Exchange.{HasRung};
-ghost use Rattle.teco_program.specs.Runs.{EditsGiven, LinkGiven, RunsInOrder, RunsOverAll, host, host_view, inputs_of, is_streamed};
-ghost use Rattle.teco_program.specs.Seen.{disk_seen, source_view};
+ghost use Rattle.teco_program.specs.Lines.{worse};
+ghost use Rattle.teco_serve.specs.Exchange.{HasRung};
+ghost use Rattle.teco_edit.specs.Given.{host_view, is_streamed};
+ghost use Rattle.teco_program.specs.Runs.{LinkGiven, RunsInOrder, RunsOverAll, inputs_of};
+ghost use Rattle.teco_host.specs.Seen.{disk_seen, host, source_view};
 
-use crate::alarm::Alarm;
-use crate::editing::edit_input;
-use crate::fate::Fate;
-use crate::listener::{Explainer, Listens, Silent};
-use crate::running::{conclude, edit_by_line, is_streamed};
-use crate::sources::{Parts, commands_given, decline};
 use std::alloc::Global;
+use teco_edit::{Parts, commands_given, conclude, decline, edit_given};
 use teco_files::{Disk, Source, WordSource};
 use teco_line::Line;
+use teco_serve::{Alarm, Explainer, Silent};
 use teco_terminal::Terminal;
 
 /// The worse of two statuses: 1, if a file or memory failed; else 2, if there was no exit; else 0.
@@ -29,42 +26,6 @@ fn worse(a: u8, b: u8) -> u8
     } else {
         0
     }
-}
-
-/// Edits this input of the line by commands as they come, if the line is one of those; else by these bytes as commands, if there is
-/// memory for a copy of them.
-fn edit_given<S: Source, A: Alarm, T: Terminal, L: Listens, D: Disk>(
-    alloc: Global,
-    line: &Line,
-    name: &str,
-    number: u32,
-    bytes: &[u8],
-    commands: &mut S,
-    alarm: &mut A,
-    term: &mut T,
-    listener: &mut L,
-    disk: &mut D,
-) -> Fate
-    requires depth { IfSome line.now.undo IsDepth }
-    requires come { is_streamed line.now ≡ true → has_conflict line.now ≡ false }
-    ensures { let view = host_view (disk_seen D.files D.streams D.left D.gave D.changed
-        (source_view D.Input.coming D.Input.bound D.Input.failures D.Input.ended))
-        (source_view S.coming S.bound S.failures S.ended) T.screen
-        (source_view ⟦<WordSource as Source>⟧.coming ⟦<WordSource as Source>⟧.bound
-        ⟦<WordSource as Source>⟧.failures ⟦<WordSource as Source>⟧.ended) (HasRung A.answered) in
-        EditsGiven (is_streamed line.now) view line.now bytes.now name.now (host disk.old commands.old term.old)
-        (host disk.new commands.new term.new) result }
-{
-    if is_streamed(line) {
-        return edit_by_line(alloc, line, number, commands, alarm, term, listener, disk);
-    }
-    let Ok(bytes) = Vec::from_slice(alloc, bytes) else {
-        return Fate::NoMemory;
-    };
-    let mut given = WordSource::new(bytes);
-    edit_input(
-        alloc, line, name, number, &mut given, commands, alarm, term, listener, disk,
-    )
 }
 
 /// Runs over this input of the line, and tells how that ends. Where the line asks for it what is done is explained in notes. Gives the

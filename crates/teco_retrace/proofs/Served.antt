@@ -2,7 +2,7 @@
 use Rattle.std.proofs.Common.{◌≡◌, ◌∙◌, ◌++◌, List, [], ◌∷◌, ℕ, Option, Some, None, Result, Ok, Err, refl, ap, subst, inl, inr}
 use Rattle.std.specs.Prelude.{IfSome}
 use Rattle.std.specs.Io.BufRead.{DropsThrough, take_through}
-use Rattle.teco_program.specs.Refusing.{Tells}
+use Rattle.teco_host.specs.Refusing.{Tells}
 use Rattle.teco_terminal.specs.Terminal.{Puts, Screen}
 use Rattle.teco_retrace.specs.Serving.{AnswersLines, Obeys, Stage, TakesLine}
 

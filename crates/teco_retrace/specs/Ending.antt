@@ -5,7 +5,7 @@ use Rattle.std.specs.declared.alloc.Global.{Global}
 use Rattle.std.specs.declared.string.String.{String}
 use Rattle.teco_files.specs.declared.input.InputFault.{InputFault}
 use Rattle.teco_files.specs.declared.input.InputFault.TheVariants as input
-use Rattle.teco_program.specs.Refusing.{Tells}
+use Rattle.teco_host.specs.Refusing.{Tells}
 use Rattle.teco_terminal.specs.Terminal.{Screen}
 use Rattle.teco_retrace.specs.declared.ending.Ending.{Ending}
 use Rattle.teco_retrace.specs.declared.ending.Ending.TheVariants.{Done, NoText, NoInput, NoMemory, ReadFault, ShowFault}

@@ -4,10 +4,8 @@ use Rattle.std.specs.declared.alloc.Global.{Global}
 use Rattle.std.specs.declared.string.String.{String}
 use Rattle.std.specs.declared.vec.Vec.{Vec}
 use Rattle.teco_line.specs.declared.line.LineFault.{LineFault}
-use Rattle.teco_program.specs.Refusing.{IsRefusedBy}
-use Rattle.teco_program.specs.Run.{KeepsDisk}
-use Rattle.teco_program.specs.Runs.{Host}
-use Rattle.teco_program.specs.Seen.{DiskSeen}
+use Rattle.teco_host.specs.Refusing.{IsRefusedBy}
+use Rattle.teco_host.specs.Seen.{KeepsDisk, Host, DiskSeen}
 use Rattle.teco_terminal.specs.Terminal.{Screen}
 use Rattle.teco_retrace.specs.CommandLine.{WordsGivenSay, WordsGivenSayNone}
 use Rattle.teco_retrace.specs.Ending.{TellsEnding, told_line}

@@ -12,8 +12,8 @@ use Rattle.teco_files.specs.Input.{IsFaultOf}
 use Rattle.teco_files.specs.Source.{Gives}
 use Rattle.teco_files.specs.declared.input.InputFault.{InputFault}
 use Rattle.teco_files.specs.declared.input.InputFault.TheVariants as input
-use Rattle.teco_program.specs.Run.{IsInput}
-use Rattle.teco_program.specs.Seen.{DiskSeen}
+use Rattle.teco_host.specs.Reading.{IsInput}
+use Rattle.teco_host.specs.Seen.{DiskSeen}
 use Rattle.teco_retrace.specs.Spelling.{escaped}
 use Rattle.teco_retrace.specs.declared.debugger.Debugger.{Debugger}
 use Rattle.teco_retrace.specs.declared.ending.Ending.{Ending}

@@ -1,7 +1,7 @@
 //! How a run ends, and what is told of it.
 ghost use Rattle.std.specs.Prelude.{◌≡◌, ◌++◌, IfOk, OnErr};
 ghost use Rattle.std.specs.String.{string_bytes};
-ghost use Rattle.teco_program.specs.Refusing.{Tells};
+ghost use Rattle.teco_host.specs.Refusing.{Tells};
 ghost use Rattle.teco_retrace.specs.Ending.{TellsEnding, ending_line, fault_words, input_name, status_of_ending, told_line};
 
 use crate::line::Line;

@@ -1,8 +1,8 @@
 //! Reading files.
 ghost use Rattle.std.specs.Prelude.{◌≡◌, ◌≤◌, IfErr, IfOk, vec_len, map};
 ghost use Rattle.teco_core.specs.declared.limits.TheConstants.{FILE_LIMIT};
-ghost use Rattle.teco_program.specs.Run.{IsInput, KeepsDisk};
-ghost use Rattle.teco_program.specs.Seen.{disk_seen, source_view};
+ghost use Rattle.teco_host.specs.Reading.{IsInput};
+ghost use Rattle.teco_host.specs.Seen.{KeepsDisk, disk_seen, source_view};
 ghost use Rattle.teco_retrace.specs.Reading.{IsFaultOfError, IsNotRead};
 ghost use Rattle.teco_retrace.specs.Spelling.{escaped};
 

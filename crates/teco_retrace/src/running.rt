@@ -2,9 +2,7 @@
 ghost use Rattle.std.specs.Prelude.{◌≡◌, ◌≤◌, IfErr, IfOk, vec_len};
 ghost use Rattle.std.specs.Process.{exit_status};
 ghost use Rattle.teco_core.specs.declared.limits.TheConstants.{FILE_LIMIT};
-ghost use Rattle.teco_program.specs.Run.{KeepsDisk};
-ghost use Rattle.teco_program.specs.Runs.{host};
-ghost use Rattle.teco_program.specs.Seen.{disk_seen, source_view};
+ghost use Rattle.teco_host.specs.Seen.{KeepsDisk, host, disk_seen, source_view};
 ghost use Rattle.teco_retrace.specs.CommandLine.{WordsGivenSay, WordsGivenSayNone};
 ghost use Rattle.teco_retrace.specs.Program.{HasNoFiles, RetracesBy, ServesFiles, retrace_view};
 ghost use Rattle.teco_retrace.specs.Reading.{IsInputOf, IsTextOf, CannotRead};
@@ -19,8 +17,8 @@ use std::io::BufRead;
 use std::process::ExitCode;
 use teco_core::NoMemory;
 use teco_files::Disk;
+use teco_host::refuse;
 use teco_line::LineFault;
-use teco_program::refuse;
 use teco_terminal::Terminal;
 use teco_walk::Walk;
 

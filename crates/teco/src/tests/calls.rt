@@ -8,9 +8,9 @@ use teco_exec::run;
 use teco_files::{MemorySource, read_input};
 use teco_gap::GapBuffer;
 use teco_line::line_of;
-use teco_program::{Asked, Splitter};
 use teco_scan::{Found, first_fault, token_at};
 use teco_search::{Pattern, find};
+use teco_serve::{Asked, Splitter};
 use teco_session::Session;
 use teco_step::line_place;
 use teco_store::{Desk, Editor};
@@ -104,7 +104,7 @@ fn a_source_is_read(alloc: Global) -> bool {
     }
 }
 
-/// teco_program: a stream is cut at its pairs of ESC.
+/// teco_serve: a stream is cut at its pairs of ESC.
 fn a_stream_is_cut(alloc: Global) -> bool {
     let mut splitter = Splitter::new(alloc);
     splitter.feed(b"1=\x1b\x1b2{\x1b\x1b").is_ok()

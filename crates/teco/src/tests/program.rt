@@ -11,7 +11,8 @@ use std::test::*;
 use std::time::{Clock, Duration};
 use teco_files::{MemoryDisk, MemorySource, Refused, Source};
 use teco_line::LineFault;
-use teco_program::{ClockAlarm, program};
+use teco_program::program;
+use teco_serve::ClockAlarm;
 
 mod disk;
 mod ending;

@@ -10,7 +10,7 @@ use std::os::fd::AsRawFd;
 use std::os::unix::fs::{MetadataExt, PermissionsExt};
 use std::{fs, io};
 use teco_files::{Disk, FileDisk, MemoryDisk, Refused};
-use teco_program::write_output;
+use teco_host::write_output;
 
 /// Whether an output of these bytes is written, in two parts.
 fn writes<D: Disk>(alloc: Global, disk: &mut D, name: &str, bytes: &str) -> bool {

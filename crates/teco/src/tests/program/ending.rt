@@ -4,7 +4,7 @@ use crate::tests::rows::{Cells, number_or};
 use std::alloc::Global;
 use teco_core::NoMemory;
 use teco_line::Line;
-use teco_program::{Fate, Served, ending, ending_of};
+use teco_serve::{Fate, Served, ending, ending_of};
 
 /// How the program ends, by the first letter of what a row says.
 fn fate_of(said: &str) -> Fate {

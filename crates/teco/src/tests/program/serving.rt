@@ -7,7 +7,7 @@ use crate::tests::step::failed_searches;
 use std::alloc::Global;
 use std::test::*;
 use teco_files::MemorySource;
-use teco_program::{Bounds, ClockAlarm, Served, Silent, serve};
+use teco_serve::{Bounds, ClockAlarm, Served, Silent, serve};
 use teco_session::Session;
 use teco_store::Desk;
 

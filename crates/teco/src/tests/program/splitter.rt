@@ -1,5 +1,5 @@
 //! Pieces of a stream, which memory is refused for.
-use teco_program::{Asked, Splitter};
+use teco_serve::{Asked, Splitter};
 
 /// Whether the next text is this; where memory was refused, at the second time.
 fn gives(splitter: &mut Splitter, text: &[u8]) -> bool {

@@ -1,8 +1,8 @@
 use Rattle.std.proofs.Common.{List, ℕ, append-nil, rules, sym, subst, ◌∙◌}
 use Rattle.teco_files.specs.Disk.{Changes, Passes}
 use Rattle.teco_line.specs.StreamNames.{is_standard_output}
-use Rattle.teco_program.specs.Seen.{disk_seen, source_view}
-use Rattle.teco_program.specs.Writing.{IsPut, IsWriting}
+use Rattle.teco_host.specs.Seen.{disk_seen, source_view}
+use Rattle.teco_host.specs.Writing.{IsPut, IsWriting}
 use Rattle.teco_keep.specs.Keeping.{output_to}
 use Rattle.teco_keep.proofs.Outputs.{fails_in, writes_in}
 use Rattle.teco_keep.proofs.running.put.Goals as goal

@@ -1,8 +1,9 @@
 use Rattle.std.proofs.Common.{ℕ, inr, subst, sym}
 use Rattle.teco_files.specs.contracts.word_source.WordSourceSource.TheImpl as word
-use Rattle.teco_program.specs.Exchange.{HasRung}
-use Rattle.teco_program.specs.Runs.{RunsOrChecks, host, host_view}
-use Rattle.teco_program.specs.Seen.{disk_seen, source_view}
+use Rattle.teco_serve.specs.Exchange.{HasRung}
+use Rattle.teco_program.specs.Runs.{RunsOrChecks}
+use Rattle.teco_host.specs.Seen.{host, disk_seen, source_view}
+use Rattle.teco_edit.specs.Given.{host_view}
 use Rattle.teco_program.proofs.Runs.{same_explain}
 use Rattle.teco_program.proofs.running.program.Goals as goal
 

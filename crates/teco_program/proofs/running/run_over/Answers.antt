@@ -1,5 +1,5 @@
 use Rattle.std.proofs.Common.{◌∙◌, ℕ, List, inl, rules, subst, sym}
-use Rattle.teco_program.specs.Run.{Concludes}
+use Rattle.teco_edit.specs.Run.{Concludes}
 use Rattle.teco_program.proofs.running.run_over.Goals as goal
 
 pub returns-then-is_streamed-clause-runs : goal.returns-then-is_streamed-clause-runs

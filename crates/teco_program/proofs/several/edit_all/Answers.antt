@@ -1,8 +1,9 @@
 use Rattle.std.proofs.Common.{ℕ, List, inl, inr, refl, subst}
 use Rattle.teco_files.specs.contracts.word_source.WordSourceSource.TheImpl as word
-use Rattle.teco_program.specs.Exchange.{HasRung}
-use Rattle.teco_program.specs.Runs.{RunsInOrder, host, host_view, inputs_of}
-use Rattle.teco_program.specs.Seen.{disk_seen, source_view}
+use Rattle.teco_serve.specs.Exchange.{HasRung}
+use Rattle.teco_program.specs.Runs.{RunsInOrder, inputs_of}
+use Rattle.teco_host.specs.Seen.{host, disk_seen, source_view}
+use Rattle.teco_edit.specs.Given.{host_view}
 use Rattle.teco_program.proofs.several.edit_all.Goals as goal
 
 pub returns-in-Ok-clause-runs : goal.returns-in-Ok-clause-runs

@@ -2,10 +2,11 @@ use Rattle.std.proofs.Common.{◌≡◌, ◌∙◌, ◌++◌, ◌+◌, ◌≤◌
 use Rattle.std.proofs.lemmas.List.{take_all, take_more, map-append}
 use Rattle.std.specs.String.{string_bytes}
 use Rattle.teco_files.specs.contracts.word_source.WordSourceSource.TheImpl as word
-use Rattle.teco_program.specs.Ending.{worse}
-use Rattle.teco_program.specs.Exchange.{HasRung}
-use Rattle.teco_program.specs.Runs.{Chain, Host, LinkOver, host, host_view}
-use Rattle.teco_program.specs.Seen.{disk_seen, source_view}
+use Rattle.teco_program.specs.Lines.{worse}
+use Rattle.teco_serve.specs.Exchange.{HasRung}
+use Rattle.teco_program.specs.Runs.{Chain, LinkOver}
+use Rattle.teco_host.specs.Seen.{Host, host, disk_seen, source_view}
+use Rattle.teco_edit.specs.Given.{host_view}
 use Rattle.teco_program.proofs.Runs.{chain_more, worst_more}
 use Rattle.teco_program.proofs.several.edit_each.Goals as goal
 

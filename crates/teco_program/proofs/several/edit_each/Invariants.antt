@@ -1,10 +1,11 @@
 use Rattle.std.proofs.Common.{◌≡◌, ℕ, List, ◌∷◌, false, map, take}
 use Rattle.std.specs.String.{string_bytes}
 use Rattle.teco_files.specs.contracts.word_source.WordSourceSource.TheImpl as word
-use Rattle.teco_program.specs.Ending.{worst}
-use Rattle.teco_program.specs.Exchange.{HasRung}
-use Rattle.teco_program.specs.Runs.{Chain, LinkOver, host, host_view}
-use Rattle.teco_program.specs.Seen.{disk_seen, source_view}
+use Rattle.teco_program.specs.Lines.{worst}
+use Rattle.teco_serve.specs.Exchange.{HasRung}
+use Rattle.teco_program.specs.Runs.{Chain, LinkOver}
+use Rattle.teco_host.specs.Seen.{host, disk_seen, source_view}
+use Rattle.teco_edit.specs.Given.{host_view}
 use Rattle.teco_program.proofs.several.edit_each.Given as goal
 
 abbrev pub invariant-loop-name : goal.invariant-loop-name

@@ -1,5 +1,5 @@
 use Rattle.std.proofs.Common.{List, ℕ, subst}
-use Rattle.teco_program.specs.Seen.{disk_seen, source_view}
+use Rattle.teco_host.specs.Seen.{disk_seen, source_view}
 use Rattle.teco_retrace.specs.Reading.{IsNotRead}
 use Rattle.teco_retrace.proofs.running.text_of.Goals as goal
 

@@ -7,7 +7,7 @@ use crate::tests::store::states::{is_seen, seen};
 use std::alloc::Global;
 use std::test::*;
 use teco_files::{MemorySource, Source};
-use teco_program::Served;
+use teco_serve::Served;
 use teco_session::Session;
 
 /// Three pages.

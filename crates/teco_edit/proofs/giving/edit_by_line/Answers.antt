@@ -1,0 +1,39 @@
+use Rattle.std.proofs.lemmas.Grind.{common_steps}
+use Rattle.std.proofs.Common.{arith, rules, ◌≡◌, ◌∙◌, ℕ, List, ap, false, inr, subst, sym}
+use Rattle.std.specs.String.{string_bytes}
+use Rattle.teco_line.specs.StreamNames.{is_standard_input}
+use Rattle.teco_serve.specs.Exchange.{HasRung}
+use Rattle.teco_edit.specs.Run.{Edits, input_from, named_input, standard_input}
+use Rattle.teco_host.specs.Seen.{KeepsDisk, disk_seen, source_view}
+use Rattle.teco_edit.specs.Seen.{commands_seen, run_seen}
+use Rattle.teco_edit.proofs.Doings.{edits_from}
+use Rattle.teco_edit.proofs.running.edit_by_line.Goals as goal
+
+pub returns : goal.returns
+returns g c =
+    let seen = disk_seen g.D.Disk.files g.D.Disk.streams g.D.Disk.left g.D.Disk.gave g.D.Disk.changed
+    (source_view g.D.Input.Source.coming g.D.Input.Source.bound g.D.Input.Source.failures g.D.Input.Source.ended) in
+    let stream = standard_input (source_view g.S.Source.coming g.S.Source.bound g.S.Source.failures g.S.Source.ended) c.args.commands.now c.edit_input.new.stream in
+    let old = seen c.args.disk.now in
+    let mid = seen c.open.new.self in
+    let new = seen c.edit_input.new.disk in
+    let given = commands_seen (source_view g.D.Input.Source.coming g.D.Input.Source.bound g.D.Input.Source.failures g.D.Input.Source.ended) c.in-Ok.given c.edit_input.new.commands (HasRung g.A.Stop.answered) in
+    let kept : KeepsDisk old mid = record {
+      files = c.open.ensures.files;
+      streams = c.open.ensures.streams;
+      moments = c.open.ensures.moments;
+    } in
+    let name = c.as_str-name.result.now in
+    let named = c.as_str-name.ensures.value in
+    let off : c.is_standard_input.result ≡ false = first_of (cc, search rules, grind (arith, common_steps)) in
+    let apart : is_standard_input (string_bytes c.in-Bytes.file) ≡ false = ap is_standard_input (sym c.as_str.ensures.value) ∙ (sym c.is_standard_input.ensures ∙ off) in
+    rw (c.in-Bytes.is, apart) (record {
+      kept = λ other. c.edit_input.ensures.still (ap is_standard_input named ∙ other);
+      edits = inr (
+        c.in-Ok.given,
+        c.edit_input.new.commands,
+        rw c.as_str-file.ensures.value at c.in-Ok.ensures.input,
+        subst (λ (n : List ℕ). Edits c.args.line.now n (run_seen (input_from (is_standard_input n) stream (named_input old new n)) given old new g.T.Terminal.screen c.args.term.now c.edit_input.new.term) c.edit_input.result) named
+            (edits_from old mid new kept stream name (is_standard_input name) c.args.line.now given g.T.Terminal.screen c.args.term.now c.edit_input.new.term c.edit_input.result c.edit_input.ensures.edits),
+      );
+    })

@@ -1,0 +1,101 @@
+-- A run over one input of the line: by commands as they come, or by bytes that are had already.
+use Rattle.std.specs.Prelude.{◌≡◌, ◌≢◌, ◌⊎◌, ◌&&◌, not, ℕ, List, Some, Bool, true, false}
+use Rattle.std.specs.String.{string_bytes}
+use Rattle.std.specs.declared.io.Error.{Error}
+use Rattle.teco_files.specs.Disk.{Opens}
+use Rattle.teco_terminal.specs.Terminal.{Screen}
+use Rattle.teco_line.specs.Conflict.{has_more}
+use Rattle.teco_line.specs.StreamNames.{is_standard_input}
+use Rattle.teco_line.specs.declared.line.Commands.{Commands}
+use Rattle.teco_line.specs.declared.line.Commands.TheVariants.{StandardInput, Sources, Pages, Bytes}
+use Rattle.teco_line.specs.declared.line.Line.{Line}
+use Rattle.teco_edit.specs.Run.{Edits, IsFateOf, input_from, named_input, standard_input}
+use Rattle.teco_host.specs.Seen.{DiskSeen, Host, KeepsDisk, KeepsStream, SourceView}
+use Rattle.teco_edit.specs.Seen.{CommandsSeen, commands_seen, run_seen}
+use Rattle.teco_serve.specs.declared.fate.Fate.{Fate}
+use Rattle.teco_serve.specs.declared.fate.Fate.TheVariants.{NoCommands, NoMemory, Ended}
+use Rattle.teco_serve.specs.declared.served.Served.TheVariants as served
+
+-- how these are seen, and how a source over the bytes of a word is
+pub record HostView (D I S T W : Type 0) : Type 1 where
+  pub disk : D → DiskSeen I
+  pub stream : SourceView S
+  pub screen : T → Screen
+  pub word : SourceView W
+  -- after so many steps a command string was asked to stop
+  pub asked : ℕ → Type 0
+
+abbrev pub host_view : {D I S T W : Type 0} → (D → DiskSeen I) → SourceView S → (T → Screen) → SourceView W
+    → (ℕ → Type 0) → HostView D I S T W
+host_view disk stream screen word asked =
+    record { disk = disk; stream = stream; screen = screen; word = word; asked = asked }
+
+-- A run over this input of the line, a file or standard input, by the commands that were given.
+abbrev pub EditsInput : {D I S T W : Type 0} → HostView D I S T W → Line → List ℕ → CommandsSeen → Host D S T
+    → Host D S T → Fate → Type 0
+EditsInput view line input given old new fate = Edits line input
+    (run_seen
+    (input_from (is_standard_input input) (standard_input view.stream old.stream new.stream)
+    (named_input (view.disk old.disk) (view.disk new.disk) input))
+    given (view.disk old.disk) (view.disk new.disk) view.screen old.term new.term) fate
+
+-- Nothing was done.
+abbrev pub IsIdle : {D I S T W : Type 0} → HostView D I S T W → Host D S T → Host D S T → Type 0
+IsIdle view old new = (new.term ≡ old.term) × KeepsDisk (view.disk old.disk) (view.disk new.disk)
+
+-- By commands in memory: nothing is done if memory is refused for them; else the run is over these bytes, of
+-- which no read fails.
+pub record EditsByBytes {D I S T W : Type 0} (view : HostView D I S T W) (line : Line) (input bytes : List ℕ)
+    (old new : Host D S T) (fate : Fate) : Type 0 where
+  pub kept : KeepsStream input old new
+  pub edits : ((fate ≡ NoMemory) × IsIdle view old new)
+      ⊎ ((first : W) × (last : W) × (view.word.coming first ≡ Some bytes)
+      × EditsInput view line input (commands_seen view.word first last view.asked) old new fate
+      × (fate ≢ Ended served.ReadFault))
+
+-- By the commands of a file: nothing is done if the disk refuses to open it; else the run is over what it opened.
+pub record EditsByFile {D I S T W : Type 0} (view : HostView D I S T W) (line : Line) (input name : List ℕ)
+    (old new : Host D S T) (fate : Fate) : Type 0 where
+  pub kept : KeepsStream input old new
+  pub edits : ((error : Error) × (view.disk new.disk).gave error × IsFateOf error NoCommands fate
+      × IsIdle view old new)
+      ⊎ ((first : I) × (last : I) × Opens (view.disk old.disk).files name ((view.disk old.disk).input.coming first)
+      × EditsInput view line input (commands_seen (view.disk old.disk).input first last view.asked) old new fate)
+
+-- By the commands of standard input, which come as they are wanted.
+abbrev pub EditsByStream : {D I S T W : Type 0} → HostView D I S T W → Line → List ℕ → Host D S T → Host D S T → Fate
+    → Type 0
+EditsByStream view line input old new fate =
+    EditsInput view line input (commands_seen view.stream old.stream new.stream view.asked) old new fate
+
+-- A file of commands that has a name of standard input is that.
+abbrev pub EditsByNamed : {D I S T W : Type 0} → Bool → HostView D I S T W → Line → List ℕ → List ℕ → Host D S T
+    → Host D S T → Fate → Type 0
+EditsByNamed true view line input name old new fate = EditsByStream view line input old new fate
+EditsByNamed false view line input name old new fate = EditsByFile view line input name old new fate
+
+-- These commands come as they are wanted: from standard input, or from a file as they are.
+abbrev pub EditsBy : {D I S T W : Type 0} → HostView D I S T W → Line → List ℕ → Commands → Host D S T → Host D S T
+    → Fate → Type 0
+EditsBy view line input StandardInput old new fate = EditsByStream view line input old new fate
+EditsBy view line input (Sources names word) old new fate = ⊥
+EditsBy view line input (Pages word) old new fate = ⊥
+EditsBy view line input (Bytes name) old new fate =
+    EditsByNamed (is_standard_input (string_bytes name)) view line input (string_bytes name) old new fate
+
+abbrev pub come_as_wanted : Commands → Bool
+come_as_wanted StandardInput = true
+come_as_wanted (Sources names word) = false
+come_as_wanted (Pages word) = false
+come_as_wanted (Bytes name) = true
+
+-- The commands of the line are served to one input as they come. Else they are had at once, before any input is read.
+abbrev pub is_streamed : Line → Bool
+is_streamed line = come_as_wanted line.commands && not (has_more line)
+
+-- A run over the line's own input by commands as they come, if the line is streamed; else one over this input by these
+-- bytes as commands.
+abbrev pub EditsGiven : {D I S T W : Type 0} → Bool → HostView D I S T W → Line → List ℕ → List ℕ → Host D S T
+    → Host D S T → Fate → Type 0
+EditsGiven true view line bytes input old new fate = EditsBy view line (string_bytes line.input) line.commands old new fate
+EditsGiven false view line bytes input old new fate = EditsByBytes view line input bytes old new fate

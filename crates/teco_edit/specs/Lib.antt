@@ -1,0 +1,4 @@
+pub mod Seen
+pub mod Run
+pub mod Sources
+pub mod Given

@@ -1,0 +1,297 @@
+//! One run of the program: an input is read, commands are served over it, and the output is written.
+ghost use Rattle.std.specs.Prelude.{◌≡◌, ◌≤◌, IfErr, IfOk, IfSome, IsTrue, false, vec_len};
+ghost use Rattle.std.specs.Option.{ForSome};
+ghost use Rattle.teco_core.specs.declared.limits.TheConstants.{DEPTH_LIMIT, FILE_LIMIT};
+ghost use Rattle.teco_line.specs.CommandLine.{IsDepth};
+ghost use Rattle.teco_line.specs.StreamNames.{is_standard_input, is_standard_output};
+ghost use Rattle.teco_serve.specs.Exchange.{HasRung};
+ghost use Rattle.teco_edit.specs.Run.{Edits, EndsBy, FinishesIn, FailsToStream, IsFateOf, LacksInput, depth_of, doings_after, given_input, history_over, input_from, named_input, named_output, standard_input, standard_output};
+ghost use Rattle.teco_host.specs.Reading.{IsInput, IsStreamed};
+ghost use Rattle.teco_host.specs.Seen.{KeepsDisk, disk_seen, source_view};
+ghost use Rattle.teco_edit.specs.Seen.{commands_seen, run_seen};
+ghost use Rattle.teco_host.specs.Writing.{both};
+ghost use Rattle.teco_session.specs.Kept.{history_of};
+
+use std::alloc::Global;
+use std::io;
+use std::io::ErrorKind;
+use std::mem::ManuallyDrop;
+use teco_core::{FILE_LIMIT, NoMemory};
+use teco_files::{Disk, Source, read_input};
+use teco_host::{has_bytes, write_output};
+use teco_line::{Commands, Line, is_standard_input, is_standard_output};
+use teco_serve::{Alarm, Bounds, Fate, Listens, Served, output_name, serve};
+use teco_session::Session;
+use teco_store::Desk;
+use teco_terminal::{Terminal, TerminalFault};
+
+/// How the program ends at an error of the system: by want of memory where the error is that, otherwise as given.
+pub fn fate_of(error: io::Error, other: Fate) -> Fate
+    ensures { IsFateOf error other result }
+{
+    match error.kind() {
+        ErrorKind::OutOfMemory => Fate::NoMemory,
+        _ => other,
+    }
+}
+
+/// Reads a file whole.
+pub fn input_of_file<D: Disk>(alloc: Global, name: &str, disk: &mut D) -> Result<Vec<u8>, Fate>
+    ensures input { IfOk result (λ input. IsInput (D.files disk.old) name.now input.items) }
+    ensures small { IfOk result (λ input. vec_len input ≤ FILE_LIMIT) }
+    ensures fault { let seen = disk_seen D.files D.streams D.left D.gave D.changed
+        (source_view D.Input.coming D.Input.bound D.Input.failures D.Input.ended) in
+        IfErr result (LacksInput (seen disk.old) (seen disk.new) name.now) }
+    ensures keeps { let seen = disk_seen D.files D.streams D.left D.gave D.changed
+        (source_view D.Input.coming D.Input.bound D.Input.failures D.Input.ended) in
+        KeepsDisk (seen disk.old) (seen disk.new) }
+{
+    let mut source = match disk.open(name) {
+        Ok(source) => source,
+        Err(error) => return Err(fate_of(error, Fate::NoInput)),
+    };
+    match read_input(alloc, &mut source, FILE_LIMIT) {
+        Ok(input) => Ok(input),
+        Err(fault) => Err(Fate::from(fault)),
+    }
+}
+
+/// Reads standard input to its end.
+pub fn input_of_stream<S: Source>(alloc: Global, source: &mut S) -> Result<Vec<u8>, Fate>
+    ensures input { IfOk result (λ input. IsStreamed (source_view S.coming S.bound S.failures S.ended)
+        source.old source.new input.items) }
+    ensures small { IfOk result (λ input. vec_len input ≤ FILE_LIMIT) }
+    ensures fault { IfErr result (FailsToStream (source_view S.coming S.bound S.failures S.ended)
+        source.old source.new) }
+{
+    match read_input(alloc, source, FILE_LIMIT) {
+        Ok(input) => Ok(input),
+        Err(fault) => Err(Fate::from(fault)),
+    }
+}
+
+/// How many strings the history keeps: as many as the line says, all if it says none, and none of the strings for every page.
+fn depth_of(line: &Line) -> Option<usize>
+    requires { IfSome line.now.undo IsDepth }
+    ensures depth { result ≡ depth_of line.now }
+    ensures most { ForSome result (λ depth. depth ≤ DEPTH_LIMIT) }
+{
+    match (line.undo, &line.commands) {
+        (Some(depth), _) => Some(depth as usize),
+        (None, Commands::Pages(_)) => Some(0),
+        (None, _) => None,
+    }
+}
+
+/// A session over the input, with pages of as many lines as the line says, and with its depth.
+fn session_over(line: &Line, input: Vec<u8>) -> Result<Session, NoMemory>
+    requires small { vec_len input ≤ FILE_LIMIT }
+    requires depth { IfSome line.now.undo IsDepth }
+    ensures { IfOk result (λ session. history_of session ≡ history_over line.now input.items) }
+{
+    let lines = line.page_lines.unwrap_or(0) as usize;
+    Session::with_pages(input, lines, depth_of(line))
+}
+
+/// How a run ends that is to write its output over the file that was read, where that has changed since, or has these bytes already.
+fn found_in_place<D: Disk>(
+    in_place: bool,
+    name: &str,
+    output: (&[u8], &[u8]),
+    disk: &mut D,
+) -> Option<Fate>
+    ensures found { let seen = disk_seen D.files D.streams D.left D.gave D.changed
+        (source_view D.Input.coming D.Input.bound D.Input.failures D.Input.ended) in
+        IfSome result (EndsBy (doings_after Served.Exit (both output.entry) (IsTrue in_place)
+        (named_output (seen disk.old) (seen disk.new) name.now))) }
+    ensures keeps { let seen = disk_seen D.files D.streams D.left D.gave D.changed
+        (source_view D.Input.coming D.Input.bound D.Input.failures D.Input.ended) in
+        KeepsDisk (seen disk.old) (seen disk.new) }
+{
+    if !in_place {
+        return None;
+    }
+    match disk.is_as_read(name) {
+        Ok(true) => {}
+        Ok(false) => return Some(Fate::Changed),
+        Err(error) => return Some(fate_of(error, Fate::NoOutput)),
+    }
+    if has_bytes(name, output, disk) {
+        return Some(Fate::Unchanged);
+    }
+    None
+}
+
+/// Shows the output after an exit, after all that was typed.
+fn put_on_terminal<T: Terminal>(output: (&[u8], &[u8]), term: &mut T) -> Fate
+    ensures { EndsBy (doings_after Served.Exit (both output.entry) ⊥
+        (standard_output T.screen term.old term.new)) result }
+{
+    if let Err(TerminalFault) = term.put(output.0) {
+        return Fate::NoOutput;
+    }
+    match term.put(output.1) {
+        Ok(()) => Fate::Ended(Served::Exit),
+        Err(TerminalFault) => Fate::NoOutput,
+    }
+}
+
+/// What is done after a serving: after an exit the output is written to where the line says.
+fn finish<T: Terminal, D: Disk>(
+    alloc: Global,
+    in_place: bool,
+    name: &str,
+    number: u32,
+    served: Served,
+    output: (&[u8], &[u8]),
+    term: &mut T,
+    disk: &mut D,
+) -> Fate
+    ensures { let seen = disk_seen D.files D.streams D.left D.gave D.changed
+        (source_view D.Input.coming D.Input.bound D.Input.failures D.Input.ended) in
+        FinishesIn (is_standard_output name.now) served (both output.entry) in_place name.now
+        (seen disk.old) (seen disk.new) T.screen term.old term.new result }
+{
+    match served {
+        Served::Exit => {}
+        other => return Fate::Ended(other),
+    }
+    if is_standard_output(name) {
+        return put_on_terminal(output, term);
+    }
+    if let Some(fate) = found_in_place(in_place, name, output, disk) {
+        return fate;
+    }
+    match write_output(alloc, disk, name, number, output) {
+        Ok(()) => Fate::Ended(Served::Exit),
+        Err(error) => fate_of(error, Fate::NoOutput),
+    }
+}
+
+/// Gives up a session that is over.
+fn leave(line: &Line, session: Session) {
+    if line.more.is_empty() {
+        // The process ends next, and the system takes back at once what the session would free change by change.
+        let _kept = ManuallyDrop::new(session);
+    }
+}
+
+/// Serves the commands over an input that was read, and after an exit writes the output. The number is for the name of a draft.
+fn edit_over<S: Source, A: Alarm, T: Terminal, L: Listens, D: Disk>(
+    alloc: Global,
+    line: &Line,
+    name: &str,
+    number: u32,
+    input: Vec<u8>,
+    commands: &mut S,
+    alarm: &mut A,
+    term: &mut T,
+    listener: &mut L,
+    disk: &mut D,
+) -> Fate
+    requires small { vec_len input ≤ FILE_LIMIT }
+    requires depth { IfSome line.now.undo IsDepth }
+    ensures { let seen = disk_seen D.files D.streams D.left D.gave D.changed
+        (source_view D.Input.coming D.Input.bound D.Input.failures D.Input.ended) in
+        Edits line.now name.now (run_seen (given_input input.items)
+        (commands_seen (source_view S.coming S.bound S.failures S.ended) commands.old commands.new
+        (HasRung A.answered))
+        (seen disk.old) (seen disk.new) T.screen term.old term.new) result }
+{
+    let Ok(to) = output_name(alloc, line, name) else {
+        return Fate::NoMemory;
+    };
+    let Ok(mut session) = session_over(line, input) else {
+        return Fate::NoMemory;
+    };
+    let served = serve(
+        alloc,
+        commands,
+        &mut session,
+        Bounds {
+            steps: line.limit,
+            seconds: line.seconds,
+        },
+        line.prompt,
+        alarm,
+        term,
+        listener,
+    );
+    let fate = finish(
+        alloc,
+        line.in_place,
+        to.as_str(),
+        number,
+        served,
+        session.editor().output(),
+        term,
+        disk,
+    );
+    leave(line, session);
+    fate
+}
+
+/// Reads an input that is a file, and edits it by these commands.
+pub fn edit_file<S: Source, A: Alarm, T: Terminal, L: Listens, D: Disk>(
+    alloc: Global,
+    line: &Line,
+    name: &str,
+    number: u32,
+    commands: &mut S,
+    alarm: &mut A,
+    term: &mut T,
+    listener: &mut L,
+    disk: &mut D,
+) -> Fate
+    requires depth { IfSome line.now.undo IsDepth }
+    ensures { let seen = disk_seen D.files D.streams D.left D.gave D.changed
+        (source_view D.Input.coming D.Input.bound D.Input.failures D.Input.ended) in
+        Edits line.now name.now (run_seen (named_input (seen disk.old) (seen disk.new) name.now)
+        (commands_seen (source_view S.coming S.bound S.failures S.ended) commands.old commands.new
+        (HasRung A.answered))
+        (seen disk.old) (seen disk.new) T.screen term.old term.new) result }
+{
+    match input_of_file(alloc, name, disk) {
+        Ok(input) => edit_over(
+            alloc, line, name, number, input, commands, alarm, term, listener, disk,
+        ),
+        Err(fate) => fate,
+    }
+}
+
+/// Reads an input, standard input or a file, and edits it by these commands.
+pub fn edit_input<C: Source, S: Source, A: Alarm, T: Terminal, L: Listens, D: Disk>(
+    alloc: Global,
+    line: &Line,
+    name: &str,
+    number: u32,
+    commands: &mut C,
+    stream: &mut S,
+    alarm: &mut A,
+    term: &mut T,
+    listener: &mut L,
+    disk: &mut D,
+) -> Fate
+    requires depth { IfSome line.now.undo IsDepth }
+    ensures edits { let seen = disk_seen D.files D.streams D.left D.gave D.changed
+        (source_view D.Input.coming D.Input.bound D.Input.failures D.Input.ended) in
+        Edits line.now name.now (run_seen (input_from (is_standard_input name.now)
+        (standard_input (source_view S.coming S.bound S.failures S.ended) stream.old stream.new)
+        (named_input (seen disk.old) (seen disk.new) name.now))
+        (commands_seen (source_view C.coming C.bound C.failures C.ended) commands.old commands.new
+        (HasRung A.answered))
+        (seen disk.old) (seen disk.new) T.screen term.old term.new) result }
+    ensures still { is_standard_input name.now ≡ false → stream.new ≡ stream.old }
+{
+    if is_standard_input(name) {
+        return match input_of_stream(alloc, stream) {
+            Ok(input) => edit_over(
+                alloc, line, name, number, input, commands, alarm, term, listener, disk,
+            ),
+            Err(fate) => fate,
+        };
+    }
+    edit_file(
+        alloc, line, name, number, commands, alarm, term, listener, disk,
+    )
+}

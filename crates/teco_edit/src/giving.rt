@@ -1,0 +1,99 @@
+//! A run over one input of the line: by commands as they come, or by bytes that are had already.
+ghost use Rattle.std.specs.Prelude.{◌≡◌, true, false, IfSome};
+ghost use Rattle.std.specs.String.{string_bytes};
+ghost use Rattle.teco_line.specs.CommandLine.{IsDepth};
+ghost use Rattle.teco_line.specs.Conflict.{has_conflict};
+ghost use Rattle.teco_serve.specs.Exchange.{HasRung};
+ghost use Rattle.teco_edit.specs.Given.{EditsBy, EditsGiven, host_view, is_streamed};
+ghost use Rattle.teco_host.specs.Seen.{disk_seen, host, source_view};
+
+use crate::editing::{edit_file, edit_input, fate_of};
+use std::alloc::Global;
+use teco_files::{Disk, Source, WordSource};
+use teco_line::{Commands, Line, is_standard_input};
+use teco_serve::{Alarm, Fate, Listens};
+use teco_terminal::Terminal;
+
+/// Whether the commands of the line are served to one input as they come.
+pub fn is_streamed(line: &Line) -> bool
+    ensures { result ≡ is_streamed line.now }
+{
+    let as_wanted = matches!(line.commands, Commands::StandardInput | Commands::Bytes(_));
+    as_wanted && line.more.is_empty()
+}
+
+/// Edits the input of the line by commands as they come: those on standard input, or those of a file.
+fn edit_by_line<S: Source, A: Alarm, T: Terminal, L: Listens, D: Disk>(
+    alloc: Global,
+    line: &Line,
+    number: u32,
+    commands: &mut S,
+    alarm: &mut A,
+    term: &mut T,
+    listener: &mut L,
+    disk: &mut D,
+) -> Fate
+    requires depth { IfSome line.now.undo IsDepth }
+    requires fits { has_conflict line.now ≡ false }
+    requires streamed { is_streamed line.now ≡ true }
+    ensures { let view = host_view (disk_seen D.files D.streams D.left D.gave D.changed
+        (source_view D.Input.coming D.Input.bound D.Input.failures D.Input.ended))
+        (source_view S.coming S.bound S.failures S.ended) T.screen
+        (source_view ⟦<WordSource as Source>⟧.coming ⟦<WordSource as Source>⟧.bound
+        ⟦<WordSource as Source>⟧.failures ⟦<WordSource as Source>⟧.ended) (HasRung A.answered) in
+        EditsBy view line.now (string_bytes line.now.input) line.now.commands (host disk.old commands.old term.old)
+        (host disk.new commands.new term.new) result }
+{
+    let name = line.input.as_str();
+    let file = match &line.commands {
+        Commands::Bytes(file) if !is_standard_input(file.as_str()) => file.as_str(),
+        _ => {
+            return edit_file(
+                alloc, line, name, number, commands, alarm, term, listener, disk,
+            );
+        }
+    };
+    let mut given = match disk.open(file) {
+        Ok(given) => given,
+        Err(error) => return fate_of(error, Fate::NoCommands),
+    };
+    edit_input(
+        alloc, line, name, number, &mut given, commands, alarm, term, listener, disk,
+    )
+}
+
+/// Edits this input of the line by commands as they come, if the line is one of those; else by these bytes as commands, if there is
+/// memory for a copy of them.
+pub fn edit_given<S: Source, A: Alarm, T: Terminal, L: Listens, D: Disk>(
+    alloc: Global,
+    line: &Line,
+    name: &str,
+    number: u32,
+    bytes: &[u8],
+    commands: &mut S,
+    alarm: &mut A,
+    term: &mut T,
+    listener: &mut L,
+    disk: &mut D,
+) -> Fate
+    requires depth { IfSome line.now.undo IsDepth }
+    requires come { is_streamed line.now ≡ true → has_conflict line.now ≡ false }
+    ensures { let view = host_view (disk_seen D.files D.streams D.left D.gave D.changed
+        (source_view D.Input.coming D.Input.bound D.Input.failures D.Input.ended))
+        (source_view S.coming S.bound S.failures S.ended) T.screen
+        (source_view ⟦<WordSource as Source>⟧.coming ⟦<WordSource as Source>⟧.bound
+        ⟦<WordSource as Source>⟧.failures ⟦<WordSource as Source>⟧.ended) (HasRung A.answered) in
+        EditsGiven (is_streamed line.now) view line.now bytes.now name.now (host disk.old commands.old term.old)
+        (host disk.new commands.new term.new) result }
+{
+    if is_streamed(line) {
+        return edit_by_line(alloc, line, number, commands, alarm, term, listener, disk);
+    }
+    let Ok(bytes) = Vec::from_slice(alloc, bytes) else {
+        return Fate::NoMemory;
+    };
+    let mut given = WordSource::new(bytes);
+    edit_input(
+        alloc, line, name, number, &mut given, commands, alarm, term, listener, disk,
+    )
+}

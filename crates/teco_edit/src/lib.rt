@@ -1,0 +1,11 @@
+//! A run over one input: its commands are had, the input is read and served, the output is written, and that is told.
+#![tactic(auto)]
+
+mod concluding;
+mod editing;
+mod giving;
+mod sources;
+
+pub use concluding::{NO_MEMORY, conclude, no_memory};
+pub use giving::{edit_given, is_streamed};
+pub use sources::{CommandsFault, Part, Parts, commands_given, decline, source_name};

@@ -1,0 +1,5 @@
+pub mod Seen
+pub mod Reading
+pub mod Draft
+pub mod Writing
+pub mod Refusing

@@ -1,0 +1,21 @@
+//! Whether a file has the bytes that are to be written to it.
+ghost use Rattle.std.specs.Prelude.{◌≡◌, Some, true};
+ghost use Rattle.teco_files.specs.Disk.{Files};
+ghost use Rattle.teco_host.specs.Seen.{KeepsDisk, disk_seen, source_view};
+ghost use Rattle.teco_host.specs.Writing.{both};
+
+use teco_files::{Disk, gives_just};
+
+/// Whether a file has these bytes, in two parts one after the other.
+pub fn has_bytes<D: Disk>(name: &str, bytes: (&[u8], &[u8]), disk: &mut D) -> bool
+    ensures same { result ≡ true → (before : Files) → D.files disk.old ≡ Some before
+        → before name.now ≡ Some (both bytes.entry) }
+    ensures keeps { let seen = disk_seen D.files D.streams D.left D.gave D.changed
+        (source_view D.Input.coming D.Input.bound D.Input.failures D.Input.ended) in
+        KeepsDisk (seen disk.old) (seen disk.new) }
+{
+    match disk.open(name) {
+        Ok(mut source) => gives_just(&mut source, bytes),
+        Err(_) => false,
+    }
+}

@@ -1,0 +1,10 @@
+//! What the programs share of their host: its files, its standard input and its terminals.
+#![tactic(auto)]
+
+mod comparing;
+mod output;
+mod refusing;
+
+pub use comparing::has_bytes;
+pub use output::write_output;
+pub use refusing::refuse;

@@ -1,7 +1,0 @@
-use Rattle.teco_program.proofs.exchange.show_ending.Goals as goal
-
-pub returns-in-Err : goal.returns-in-Err
-returns-in-Err g c = record { heard = tt; puts = c.in-Err.ensures.puts; some = c.in-Err.ensures.some }
-
-pub returns : goal.returns
-returns g c = record { heard = c.ran.ensures.told; puts = c.in_default.ensures.puts; some = tt }

@@ -1,9 +1,0 @@
-use Rattle.std.proofs.Common.{◌∙◌, inl}
-use Rattle.teco_program.proofs.Showing.{told_by}
-use Rattle.teco_program.proofs.running.conclude.Goals as goal
-
-pub returns-in-Ok : goal.returns-in-Ok
-returns-in-Ok g c = record {
-  status_is = c.in-Ok.ensures.ok.0;
-  told = inl (told_by c.put.result (c.as_bytes.ensures.value ∙ c.in-Ok.ensures.ok.1) c.put.ensures);
-}

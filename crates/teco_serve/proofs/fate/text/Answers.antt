@@ -1,0 +1,54 @@
+use Rattle.std.proofs.lemmas.Grind.{common_steps}
+use Rattle.std.proofs.Common.{◌≡◌, ◌∙◌, ◌++◌, [], ℕ, List, Result, Ok, Err, String, Global, ap, append-nil, codes, refl, arith}
+use Rattle.std.specs.Prelude.{IfOk}
+use Rattle.std.specs.String.{string_bytes}
+use Rattle.std.proofs.lemmas.Result.{IfOk-from_err}
+use Rattle.teco_serve.specs.Ending.{commands_name, output_of, said}
+use Rattle.teco_serve.proofs.Showing.{on_err_by}
+use Rattle.teco_serve.proofs.fate.text.Goals as goal
+
+-- a line that ends by a name
+ends : {E : Type 0} (result : Result (String Global) E) (before name is : List ℕ) → name ≡ is → IfOk result (λ text. string_bytes text ≡ said (before ++ (name ++ [])))
+    → IfOk result (λ text. string_bytes text ≡ said (before ++ is))
+ends (Ok text) before name is same told = told ∙ ap (λ (l : List ℕ). said (before ++ l)) (append-nil name ∙ same)
+ends (Err fault) before name is same told = tt
+
+pub returns-in-LargeInput : goal.returns-in-LargeInput
+returns-in-LargeInput c = record { ok = rw c.in-LargeInput.is c.said_of-in-LargeInput.ensures; err = rw c.in-LargeInput.is (on_err_by c.said_of-in-LargeInput.result refl) }
+
+pub returns-in-Changed : goal.returns-in-Changed
+returns-in-Changed c = record { ok = rw c.in-Changed.is c.said_of-in-Changed.ensures; err = rw c.in-Changed.is (on_err_by c.said_of-in-Changed.result refl) }
+
+pub returns-in-Ended-ReadFault : goal.returns-in-Ended-ReadFault
+returns-in-Ended-ReadFault c =
+    let fault = rw c.in-Ended-ReadFault.is at c.in-Ended-ReadFault.field-0-is in
+    record { ok = rw (c.in-Ended-ReadFault.is, fault) c.said_about.ensures; err = rw (c.in-Ended-ReadFault.is, fault) (on_err_by c.said_about.result refl) }
+
+pub returns-in-Ended-ShowFault : goal.returns-in-Ended-ShowFault
+returns-in-Ended-ShowFault c =
+    let fault = rw c.in-Ended-ShowFault.is at c.in-Ended-ShowFault.field-0-is in
+    record { ok = rw (c.in-Ended-ShowFault.is, fault) c.said_about-in-Ended-ShowFault.ensures; err = rw (c.in-Ended-ShowFault.is, fault) (on_err_by c.said_about-in-Ended-ShowFault.result refl) }
+
+pub returns-in_err-name-in-NoOutput : goal.returns-in_err-name-in-NoOutput
+returns-in_err-name-in-NoOutput c = record {
+  ok = IfOk-from_err c.from_residual.result _ c.from_residual.ensures.0;
+  err = rw c.in-NoOutput.is (on_err_by c.from_residual.result refl);
+}
+
+pub returns-in-NoCommands : goal.returns-in-NoCommands
+returns-in-NoCommands c = record { ok = rw c.in-NoCommands.is (ends c.said_of.result (codes "cannot read ") c.commands_name.result.now (commands_name c.args.line.now) c.commands_name.ensures c.said_of.ensures); err = rw c.in-NoCommands.is (on_err_by c.said_of.result refl) }
+
+pub returns-in-NoInput : goal.returns-in-NoInput
+returns-in-NoInput c = record { ok = rw c.in-NoInput.is (ends c.said_of-in-NoInput.result (codes "cannot read ") c.args.input.now c.args.input.now refl c.said_of-in-NoInput.ensures); err = rw c.in-NoInput.is (on_err_by c.said_of-in-NoInput.result refl) }
+
+pub returns-in_ok-name-in-NoOutput : goal.returns-in_ok-name-in-NoOutput
+returns-in_ok-name-in-NoOutput c = record {
+  ok = rw c.in-NoOutput.is (ends c.said_of-in-NoOutput.result (codes "cannot write ") c.as_str.result.now (output_of c.args.line.now c.args.input.now) (c.as_str.ensures.value ∙ c.in_ok-name-in-NoOutput.ensures) c.said_of-in-NoOutput.ensures);
+  err = rw c.in-NoOutput.is (on_err_by c.said_of-in-NoOutput.result refl);
+}
+
+pub returns-in-Unchanged : goal.returns-in-Unchanged
+returns-in-Unchanged c = record { ok = grind (arith, common_steps); err = grind (arith, common_steps) }
+
+pub returns-in-NoMemory : goal.returns-in-NoMemory
+returns-in-NoMemory c = record { ok = grind (arith, common_steps); err = grind (arith, common_steps) }

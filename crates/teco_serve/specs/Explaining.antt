@@ -1,0 +1,205 @@
+-- What `--explain` tells, and when.
+use Rattle.std.specs.Prelude.{◌≡◌, ◌⊎◌, ℕ, ◌+◌, ◌-◌, ◌^◌, ◌==◌, List, [], ◌∷◌, ◌++◌, length, min, codes, nat_lt, count_by, if◌then◌else◌, Option, Some, None, option_map, Result, Ok, Err, Bool, true, false, ◌&&◌}
+use Rattle.std.specs.Fmt.{decimal}
+use Rattle.std.specs.List.{list_all}
+use Rattle.std.specs.String.{string_bytes}
+use Rattle.std.specs.declared.alloc.AllocError.{AllocError}
+use Rattle.std.specs.declared.alloc.Global.{Global}
+use Rattle.std.specs.declared.io.ErrorKind.{ErrorKind}
+use Rattle.std.specs.declared.io.ErrorKind.TheVariants as kind
+use Rattle.std.specs.declared.string.String.{String}
+use Rattle.teco_core.specs.Ascii.{is_filler}
+use Rattle.teco_core.specs.declared.code.Code.{Code}
+use Rattle.teco_core.specs.declared.limits.TheConstants.{TEXT_LIMIT}
+use Rattle.teco_exec.specs.declared.place.Place.{Place}
+use Rattle.teco_line.specs.declared.line.Line.{Line}
+use Rattle.teco_host.specs.Refusing.{Tells}
+use Rattle.teco_serve.specs.declared.fate.Fate.{Fate}
+use Rattle.teco_serve.specs.declared.fate.Fate.TheVariants.{NoCommands, NoInput, LargeInput, NoMemory, NoOutput, Changed, Unchanged}
+use Rattle.teco_serve.specs.declared.fate.Fate.TheVariants.{Ended}
+use Rattle.teco_serve.specs.declared.explaining.Telling.{Telling}
+use Rattle.teco_serve.specs.declared.served.Served.TheVariants as served
+use Rattle.teco_session.specs.Answers.{answer_code, outcome_of}
+use Rattle.teco_session.specs.Kept.{KeptSession, string_at}
+use Rattle.teco_session.specs.declared.request.Answered.{Answered}
+use Rattle.teco_exec.specs.declared.outcome.Outcome.{Outcome}
+use Rattle.teco_store.specs.Kinds.{kind_of}
+use Rattle.teco_store.specs.State.{state_of}
+use Rattle.teco_store.specs.Turn.{Note as Change}
+use Rattle.teco_store.specs.declared.change_kind.ChangeKind.{ChangeKind}
+use Rattle.teco_store.specs.declared.change_kind.ChangeKind.TheVariants as change
+use Rattle.teco_telling.specs.Shown.{code_shown}
+use Rattle.teco_telling.specs.Stop.{stop_shown}
+use Rattle.teco_telling.specs.declared.sentence.Limits.{Limits}
+use Rattle.teco_terminal.specs.Terminal.{Screen}
+
+-- each line of a text begins with its number
+abbrev pub of_string : ℕ → List ℕ
+of_string n = codes "string " ++ decimal n
+
+-- The seconds are told only of a string that was broken off, since it had steps left.
+abbrev pub limits_after : Limits → Option Outcome → Limits
+limits_after limits None = record limits { seconds = None }
+limits_after limits (Some outcome) =
+    if nat_lt outcome.steps limits.steps then limits else record limits { seconds = None }
+
+-- where the run last stood, unless memory lacked for that
+abbrev pub place_had : Result (Option Place) AllocError → Option Place
+place_had (Ok place) = place
+place_had (Err lacking) = None
+
+-- why a text that was run stopped, if it has a code
+abbrev pub stop_line : ℕ → Limits → List ℕ → Answered → KeptSession → Option Code → List ℕ
+stop_line n limits text answered session None = []
+stop_line n limits text answered session (Some code) =
+    of_string n ++ stop_shown (place_had answered.place) (state_of session.editor).registers text code
+    (Some (limits_after limits (outcome_of answered.answer))) ++ 10 ∷ []
+
+-- how many steps it took
+abbrev pub steps_line : ℕ → ℕ → List ℕ
+steps_line n steps = of_string n ++ (codes ": steps taken " ++ decimal steps ++ 10 ∷ [])
+
+-- the same, if that is wanted and it was begun
+abbrev pub steps_told : ℕ → Bool → Option Outcome → List ℕ
+steps_told n false ended = []
+steps_told n true None = []
+steps_told n true (Some outcome) = steps_line n outcome.steps
+
+-- a change of the place in the input
+abbrev pub is_turn : ChangeKind → Bool
+is_turn change.Pages = true
+is_turn _ = false
+
+-- A string that exited has read no page if its exit alone moved the place in the input.
+abbrev pub is_bare_exit : List Change → Bool
+is_bare_exit changes = nat_lt (count_by (λ c. is_turn (kind_of c.turn)) changes) 2
+
+-- The last string has made the session done, and no page was read before and in it.
+abbrev pub exits_first : ℕ → KeptSession → Option Outcome → Bool
+exits_first place session None = false
+exits_first place session (Some outcome) =
+    (state_of session.editor).is_done && (place == 0) && nat_lt (session.cursor - 1) (length session.strings)
+    && is_bare_exit (string_at session (session.cursor - 1)).changes
+
+-- an exit before any page was read, since most of them were meant to come after one
+abbrev pub exit_line : ℕ → KeptSession → Option Outcome → List ℕ
+exit_line place session ended = if exits_first place session ended
+    then codes "EX came before any page was read: the input is copied" ++ 10 ∷ [] else []
+
+-- the number of the next text, which stops at the highest one
+abbrev pub next_number : Telling → ℕ
+next_number t = min (t.texts + 1) (2 ^ 64 - 1)
+
+-- before the first text: what the line wants told, and its limits
+abbrev pub beginning_of : Line → Telling
+beginning_of line = record {
+  counts = line.prompt;
+  limits = record { steps = line.limit; seconds = line.seconds; bytes = TEXT_LIMIT };
+  texts = 0;
+  place = 0;
+}
+
+-- What is told of a text that was run: why it stopped; how many steps it took, if that is wanted; and an exit that
+-- came first.
+abbrev pub run_lines : Telling → List ℕ → Answered → KeptSession → List ℕ
+run_lines t text answered session =
+    stop_line (next_number t) t.limits text answered session (answer_code answered.answer)
+    ++ steps_told (next_number t) t.counts (outcome_of answered.answer)
+    ++ exit_line t.place session (outcome_of answered.answer)
+
+-- why undos, redos or a rewind were refused, if they were
+abbrev pub refusal_line : ℕ → Option Code → List ℕ
+refusal_line n None = []
+refusal_line n (Some code) = of_string n ++ code_shown code ++ 10 ∷ []
+
+-- how many strings can be undone and redone, if that is wanted
+abbrev pub history_line : ℕ → Bool → KeptSession → List ℕ
+history_line n false session = []
+history_line n true session =
+    of_string n ++ codes ": strings to undo " ++ decimal session.cursor
+    ++ codes ", to redo " ++ decimal (length session.strings - session.cursor) ++ 10 ∷ []
+
+-- What is told of a text that asked for undos, redos or a rewind.
+abbrev pub move_lines : Telling → Option Code → KeptSession → List ℕ
+move_lines t code session = refusal_line (next_number t) code
+    ++ history_line (next_number t) t.counts session
+
+-- what bytes come after that were not run
+abbrev pub after_what : Bool → List ℕ
+after_what true = codes "the last string that ran"
+after_what false = codes "the last ESC ESC"
+
+-- What is told of bytes that were not run: how many they are, unless they are fillers alone.
+abbrev pub left_line : List ℕ → Bool → List ℕ
+left_line bytes broken_off =
+    if list_all is_filler bytes then []
+    else if length bytes == 1 then codes "1 byte after " ++ after_what broken_off ++ codes " was not run" ++ 10 ∷ []
+    else decimal (length bytes) ++ codes " bytes after " ++ after_what broken_off ++ codes " were not run" ++ 10 ∷ []
+
+-- why a file cannot be read or written, in words
+abbrev pub reason_of : ErrorKind → List ℕ
+reason_of kind.NotFound = codes "there is no such file or folder"
+reason_of kind.PermissionDenied = codes "permission is denied"
+reason_of kind.IsADirectory = codes "it is a folder"
+reason_of kind.NotADirectory = codes "a part of its path is no folder"
+reason_of kind.StorageFull = codes "there is no room on the disk"
+reason_of kind.QuotaExceeded = codes "there is no room on the disk"
+reason_of kind.ReadOnlyFilesystem = codes "the file system is read only"
+reason_of kind.FilesystemLoop = codes "its links lead in a circle"
+reason_of kind.InvalidFilename = codes "its name is too long"
+reason_of kind.ResourceBusy = codes "it is the program's own standard output"
+reason_of _ = codes "the system refused it"
+
+-- a file that failed, if the disk told why
+abbrev pub fault_line : List ℕ → Option ErrorKind → List ℕ
+fault_line name None = []
+fault_line name (Some why) = name ++ codes ": " ++ reason_of why ++ 10 ∷ []
+
+-- an output that is not written
+abbrev pub unwritten_line : List ℕ → List ℕ
+unwritten_line name = name ++ codes " is not written" ++ 10 ∷ []
+
+-- What is told of how the run over an input ended, by the name of its output.
+abbrev pub end_line : List ℕ → List ℕ → Fate → Option ErrorKind → List ℕ
+end_line input output NoCommands why = []
+end_line input output NoInput why = fault_line input why
+end_line input output NoOutput why = fault_line output why
+end_line input output LargeInput why = unwritten_line output
+end_line input output NoMemory why = unwritten_line output
+end_line input output Changed why = unwritten_line output
+end_line input output Unchanged why = output ++ codes " is unchanged" ++ 10 ∷ []
+end_line input output (Ended served.Exit) why = output ++ codes " is written" ++ 10 ∷ []
+end_line input output (Ended served.EndOfCommands) why =
+    codes "the commands ended without EX: " ++ unwritten_line output
+end_line input output (Ended served.ReadFault) why = unwritten_line output
+end_line input output (Ended served.ShowFault) why = unwritten_line output
+end_line input output (Ended served.NoMemory) why = unwritten_line output
+
+-- Lines are told at once: all of them are shown, or a beginning and then the terminal fails. If memory lacked for
+-- them, that is told.
+abbrev pub TellsLines : Screen → Screen → List ℕ → Type 0
+TellsLines old new lines = Tells old new lines ⊎ Tells old new (codes "no memory to explain" ++ 10 ∷ [])
+
+-- the lines, where there was memory for them
+abbrev pub told : Result (String Global) AllocError → List ℕ
+told (Ok lines) = string_bytes lines
+told (Err lacking) = codes "no memory to explain" ++ 10 ∷ []
+
+-- What a listener tells of, if it tells anything; and what is seen of the notes that it tells it on.
+pub record Hearing : Type 0 where
+  pub telling : Option Telling
+  pub notes : Screen
+
+-- one more text was done, and so much of the input is read now
+abbrev pub counted : KeptSession → Telling → Telling
+counted session t = record t { texts = next_number t; place = (state_of session.editor).place }
+
+-- the lines of a listener that tells any
+abbrev pub lines_by : (Telling → List ℕ) → Option Telling → List ℕ
+lines_by lines None = []
+lines_by lines (Some t) = lines t
+
+-- A listener that tells has told these lines before the call ends, and one that doesn't tells nothing.
+abbrev pub HasTold : Hearing → Hearing → (Telling → List ℕ) → (Telling → Telling) → Type 0
+HasTold old new lines after =
+    (new.telling ≡ option_map after old.telling) × TellsLines old.notes new.notes (lines_by lines old.telling)

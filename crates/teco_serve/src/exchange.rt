@@ -1,0 +1,235 @@
+//! One text of the stream: what it asks is done, and the answers are shown.
+ghost use Rattle.std.specs.Prelude.{◌≡◌, ◌≢◌, ℕ, List, [], ◌&&◌, not, None, true, false, OnErr, OnOk};
+ghost use Rattle.teco_serve.specs.Cut.{value_of};
+ghost use Rattle.teco_serve.specs.Exchange.{Does, Exchange, HasRung, MovesInHistory, Repeats, RunsAllowed, allowance, is_exit, is_run};
+ghost use Rattle.teco_serve.specs.Explaining.{HasTold, counted, move_lines, run_lines};
+ghost use Rattle.teco_serve.specs.Held.{ExchangeEnds, IsExchange};
+ghost use Rattle.teco_serve.specs.Message.{code_line, message, replies_shown, star};
+ghost use Rattle.teco_serve.specs.Stream.Asks.{Run};
+ghost use Rattle.teco_session.specs.Answers.{answer_code, string_outcome};
+ghost use Rattle.teco_session.specs.History.{present};
+ghost use Rattle.teco_session.specs.Kept.{history_of};
+ghost use Rattle.teco_session.specs.Step.{Reply, RunStep, is_terminal_failure};
+ghost use Rattle.teco_terminal.specs.Terminal.{Puts, Shows};
+
+use crate::alarm::{Alarm, Bounds};
+use crate::listener::Listens;
+use crate::served::Served;
+use crate::splitter::Asked;
+use teco_core::Code;
+use teco_session::{Answer, Answered, Request, Session};
+use teco_store::Desk;
+use teco_terminal::{Terminal, TerminalFault};
+
+/// The line that is shown of a code.
+fn code_line(code: Code) -> [u8; 6]
+    ensures { result ≡ code_line code }
+{
+    let [first, second, third] = code.letters();
+    [b'?', first, second, third, b'\r', b'\n']
+}
+
+/// Shows the message of an answer, if it has one.
+#[tactic(auto, unfolding(crate::specs::Message::message))]
+fn show_message<T: Terminal>(answer: Answer, term: &mut T) -> Result<(), TerminalFault>
+    ensures puts { Puts (T.screen term.old) (T.screen term.new) (message answer) result }
+    ensures some { OnErr result (message answer ≢ []) }
+{
+    match answer.code() {
+        None => Ok(()),
+        Some(code) => term.put(&code_line(code)),
+    }
+}
+
+/// Shows the message of what a string was answered, and lets the listener hear of the string.
+fn show_ending<T: Terminal, L: Listens>(
+    text: &[u8],
+    answered: &Answered,
+    session: &Session,
+    term: &mut T,
+    listener: &mut L,
+) -> Result<(), TerminalFault>
+    ensures heard { OnOk result (HasTold (L.hearing listener.old) (L.hearing listener.new)
+        (λ telling. run_lines telling text.now answered.now session.now) (counted session.now)) }
+    ensures puts { Puts (T.screen term.old) (T.screen term.new) (message answered.now.answer) result }
+    ensures some { OnErr result (message answered.now.answer ≢ []) }
+{
+    if let Err(TerminalFault) = show_message(answered.answer, term) {
+        return Err(TerminalFault);
+    }
+    listener.ran(text, answered, session);
+    Ok(())
+}
+
+/// Shows the message of a refusal, and lets the listener hear of it.
+fn show_refusal<T: Terminal, L: Listens>(
+    answer: Answer,
+    session: &Session,
+    term: &mut T,
+    listener: &mut L,
+) -> Result<(), TerminalFault>
+    ensures heard { OnOk result (HasTold (L.hearing listener.old) (L.hearing listener.new)
+        (λ telling. move_lines telling (answer_code answer) session.now) (counted session.now)) }
+    ensures puts { Puts (T.screen term.old) (T.screen term.new) (message answer) result }
+    ensures some { OnErr result (message answer ≢ []) }
+{
+    if let Err(TerminalFault) = show_message(answer, term) {
+        return Err(TerminalFault);
+    }
+    listener.moved(answer.code(), session);
+    Ok(())
+}
+
+/// Shows a star, if one is wanted.
+pub fn show_prompt<T: Terminal>(prompt: bool, term: &mut T) -> Result<(), TerminalFault>
+    ensures puts { Puts (T.screen term.old) (T.screen term.new) (star prompt) result }
+    ensures some { OnErr result (star prompt ≢ []) }
+{
+    if prompt { term.put(b"*") } else { Ok(()) }
+}
+
+/// Asks for an undo, a redo or a rewind `n` times. It stops after the first that is refused, and shows its message.
+fn repeat<T: Terminal, L: Listens>(
+    request: &Request,
+    n: u32,
+    session: &mut Session,
+    limit: u64,
+    term: &mut T,
+    listener: &mut L,
+) -> Result<(), TerminalFault>
+    requires { MovesInHistory request.now }
+    ensures { (replies : List Reply)
+        × Repeats limit request.now n (history_of session.old) replies (history_of session.new)
+        × Puts (T.screen term.old) (T.screen term.new) (replies_shown replies) result
+        × OnErr result (replies_shown replies ≢ []) }
+{
+    'moves: for _i in 0..n {
+        let answer = session.answer(request, limit, term);
+        if answer.is_refused() {
+            return show_refusal(answer, session, term, listener);
+        }
+    }
+    listener.moved(None, session);
+    Ok(())
+}
+
+/// Runs a text. With seconds the alarm is set, and may break it off. Tells where its run last stood where that is wanted.
+fn run_heard<A: Alarm, T: Terminal>(
+    text: &[u8],
+    session: &mut Session,
+    bounds: Bounds,
+    alarm: &mut A,
+    term: &mut T,
+    wants_place: bool,
+) -> Answered
+    ensures step { (typed : List ℕ)
+        × RunsAllowed (allowance bounds (HasRung A.answered)) (string_outcome result.answer)
+        (λ limit. RunStep limit (history_of session.old) text.now result.answer typed (history_of session.new))
+        × Shows (T.screen term.old) (T.screen term.new) typed (is_terminal_failure result.answer) }
+    ensures exit { (present (history_of session.old)).is_done ≡ false
+        → (present (history_of session.new)).is_done ≡ true → answer_code result.answer ≡ None }
+{
+    if let Some(seconds) = bounds.seconds {
+        alarm.set(seconds);
+        return session.run_where_until(text, bounds.steps, alarm, term);
+    }
+    if wants_place {
+        return session.run_where(text, bounds.steps, term);
+    }
+    Answered {
+        answer: session.run(text, bounds.steps, term),
+        place: Ok(None),
+    }
+}
+
+/// Runs a text, and shows the message of the answer.
+fn run_text<A: Alarm, T: Terminal, L: Listens>(
+    text: &[u8],
+    session: &mut Session,
+    bounds: Bounds,
+    alarm: &mut A,
+    term: &mut T,
+    listener: &mut L,
+) -> Result<(), TerminalFault>
+    ensures done { (replies : List Reply)
+        × Does (allowance bounds (HasRung A.answered)) (Run text.now) (history_of session.old) replies (history_of session.new)
+        × Puts (T.screen term.old) (T.screen term.new) (replies_shown replies) result
+        × OnErr result (replies_shown replies ≢ []) }
+    ensures err { OnErr result
+        (is_exit (Run text.now) (history_of session.old) (history_of session.new) ≡ false) }
+{
+    let wants_place = listener.wants_place();
+    let answered = run_heard(text, session, bounds, alarm, term, wants_place);
+    if answered.answer.is_terminal_failure() {
+        return Err(TerminalFault);
+    }
+    show_ending(text, &answered, session, term, listener)
+}
+
+/// Does what a text asks, and shows the messages of the answers. No put follows one that failed. Where a run made the session done,
+/// none fails.
+fn do_asked<A: Alarm, T: Terminal, L: Listens>(
+    asked: &Asked,
+    session: &mut Session,
+    bounds: Bounds,
+    alarm: &mut A,
+    term: &mut T,
+    listener: &mut L,
+) -> Result<(), TerminalFault>
+    ensures done { (replies : List Reply)
+        × Does (allowance bounds (HasRung A.answered)) (value_of asked.now) (history_of session.old) replies (history_of session.new)
+        × Puts (T.screen term.old) (T.screen term.new) (replies_shown replies) result
+        × OnErr result (replies_shown replies ≢ []) }
+    ensures err { OnErr result
+        (is_exit (value_of asked.now) (history_of session.old) (history_of session.new) ≡ false) }
+{
+    match asked {
+        Asked::Run(text) => run_text(text.as_slice(), session, bounds, alarm, term, listener),
+        Asked::Undo(n) => repeat(&Request::Undo, *n, session, bounds.steps, term, listener),
+        Asked::Redo(n) => repeat(&Request::Redo, *n, session, bounds.steps, term, listener),
+        Asked::Rewind(n) => repeat(
+            &Request::Rewind(u64::from(*n)),
+            1,
+            session,
+            bounds.steps,
+            term,
+            listener,
+        ),
+    }
+}
+
+/// Whether it was a run that made the session done.
+fn exits(asked: &Asked, was_done: bool, is_done: bool) -> bool
+    ensures { result ≡ (is_run (value_of asked.now) && (not was_done && is_done)) }
+{
+    matches!(asked, Asked::Run(_)) && !was_done && is_done
+}
+
+/// Does what a text asks and shows its answers, and then a star unless a run has made the session done. Says how the serving ends,
+/// if it does.
+pub fn do_exchange<A: Alarm, T: Terminal, L: Listens>(
+    asked: &Asked,
+    session: &mut Session,
+    bounds: Bounds,
+    prompt: bool,
+    alarm: &mut A,
+    term: &mut T,
+    listener: &mut L,
+) -> Option<Served>
+    ensures { (exchange : Exchange)
+        × IsExchange (allowance bounds (HasRung A.answered)) (value_of asked.now) (history_of session.old)
+        (history_of session.new) exchange
+        × ExchangeEnds (Shows (T.screen term.old) (T.screen term.new)) prompt exchange result }
+{
+    let was_done = session.editor().done();
+    if let Err(TerminalFault) = do_asked(asked, session, bounds, alarm, term, listener) {
+        return Some(Served::ShowFault);
+    }
+    if exits(asked, was_done, session.editor().done()) {
+        return Some(Served::Exit);
+    }
+    if let Err(TerminalFault) = show_prompt(prompt, term) {
+        return Some(Served::ShowFault);
+    }
+    None
+}

@@ -1,0 +1,338 @@
+//! The lines of `--explain`: what is told of each text of the stream, and of how a run ended.
+ghost use Rattle.std.specs.Prelude.{◌≡◌, ◌++◌, ◌∷◌, [], IfOk, OnOk};
+ghost use Rattle.std.specs.List.{list_all};
+ghost use Rattle.std.specs.String.{string_bytes};
+ghost use Rattle.teco_core.specs.Ascii.{is_filler};
+ghost use Rattle.teco_serve.specs.Ending.{output_of};
+ghost use Rattle.teco_serve.specs.Explaining.{after_what, end_line, exit_line, exits_first, fault_line, history_line, is_bare_exit, is_turn, left_line, limits_after, move_lines, next_number, place_had, reason_of, refusal_line, run_lines, steps_line, steps_told, stop_line};
+ghost use Rattle.teco_session.specs.Answers.{answer_code, outcome_of};
+
+use crate::fate::{Fate, output_name};
+use crate::served::Served;
+use std::alloc::Global;
+use std::fmt::Write;
+use std::io::ErrorKind;
+use teco_core::{Code, NoMemory, is_filler};
+use teco_exec::Outcome;
+use teco_line::Line;
+use teco_session::{Answer, Answered, Changes, Session};
+use teco_store::{ChangeKind, Desk};
+use teco_telling::{Limits, show_code, show_stop};
+
+/// What is told of an exit before any page was read.
+const COPIED: &str = "EX came before any page was read: the input is copied\n";
+
+/// What is told besides the codes, and of how much it was told.
+#[derive(Clone, Copy)]
+pub struct Telling {
+    /// Whether what was done for each text is told too.
+    pub counts: bool,
+    /// How large the limits are.
+    pub limits: Limits,
+    /// How many texts were done.
+    pub texts: u64,
+    /// How much of the input was read when the last one was done.
+    pub place: usize,
+}
+
+/// The number of the next text.
+pub fn next_number(telling: Telling) -> u64
+    ensures { result ≡ next_number telling }
+{
+    telling.texts.saturating_add(1)
+}
+
+/// How a string ended, if one was run.
+fn outcome_of(answer: Answer) -> Option<Outcome>
+    ensures { result ≡ outcome_of answer }
+{
+    match answer {
+        Answer::Ended(outcome) => Some(outcome),
+        _ => None,
+    }
+}
+
+/// The limits that are told of a string: seconds only if it was broken off, since it had steps left.
+fn limits_after(limits: Limits, ended: Option<Outcome>) -> Limits
+    ensures { result ≡ limits_after limits ended }
+{
+    match ended {
+        Some(outcome) if outcome.steps < limits.steps => limits,
+        _ => Limits {
+            seconds: None,
+            ..limits
+        },
+    }
+}
+
+/// Tells why the text of number `n` that was run stopped, if it has a code.
+fn tell_stop(
+    out: &mut String,
+    n: u64,
+    limits: Limits,
+    text: &[u8],
+    answered: &Answered,
+    session: &Session,
+) -> Result<(), NoMemory>
+    ensures { OnOk result (string_bytes out.new ≡ string_bytes out.old
+        ++ stop_line n limits text.now answered.now session.now (answer_code answered.now.answer)) }
+{
+    let Some(code) = answered.answer.code() else {
+        return Ok(());
+    };
+    let place = match &answered.place {
+        Ok(place) => place.as_ref(),
+        Err(NoMemory) => None,
+    };
+    let limits = limits_after(limits, outcome_of(answered.answer));
+    let registers = session.editor().registers();
+    write!(out, "string {n}")?;
+    show_stop(out, place, registers, text, code, Some(limits))?;
+    out.push_str("\n")
+}
+
+fn tell_steps_taken(out: &mut String, n: u64, steps: u64) -> Result<(), NoMemory>
+    ensures { OnOk result (string_bytes out.new ≡ string_bytes out.old ++ steps_line n steps) }
+{
+    writeln!(out, "string {n}: steps taken {steps}")
+}
+
+/// Tells how many steps the text of number `n` took, if that is wanted and it was begun.
+fn tell_steps(
+    out: &mut String,
+    n: u64,
+    wanted: bool,
+    ended: Option<Outcome>,
+) -> Result<(), NoMemory>
+    ensures { OnOk result (string_bytes out.new ≡ string_bytes out.old ++ steps_told n wanted ended) }
+{
+    if !wanted {
+        return Ok(());
+    }
+    match ended {
+        None => Ok(()),
+        Some(outcome) => tell_steps_taken(out, n, outcome.steps),
+    }
+}
+
+fn is_turn(kind: ChangeKind) -> bool
+    ensures { result ≡ is_turn kind }
+{
+    matches!(kind, ChangeKind::Pages)
+}
+
+/// Whether a string that exited has read no page: its exit alone moved the place in the input.
+fn is_bare_exit(changes: &Changes) -> bool
+    ensures { result ≡ is_bare_exit changes.now }
+{
+    let mut turns: usize = 0;
+    for k in 0..changes.len() {
+        if is_turn(changes.kind(k)) {
+            turns += 1;
+        }
+    }
+    turns < 2
+}
+
+/// Whether the last string has made the session done, and no page was read before and in it.
+fn exits_first(place: usize, session: &Session, ended: Option<Outcome>) -> bool
+    ensures { result ≡ exits_first place session.now ended }
+{
+    if ended.is_none() {
+        return false;
+    }
+    let last = session.cursor().saturating_sub(1);
+    session.editor().done()
+        && place == 0
+        && last < session.strings()
+        && is_bare_exit(session.entry(last))
+}
+
+/// Tells of an exit before any page was read, since most of them were meant to come after one.
+fn tell_exit(
+    out: &mut String,
+    place: usize,
+    session: &Session,
+    ended: Option<Outcome>,
+) -> Result<(), NoMemory>
+    ensures { OnOk result (string_bytes out.new ≡ string_bytes out.old ++ exit_line place session.now ended) }
+{
+    if exits_first(place, session, ended) {
+        return out.push_str(COPIED);
+    }
+    Ok(())
+}
+
+/// What is told of the next text, which was run.
+pub fn lines_of_run(
+    alloc: Global,
+    telling: Telling,
+    text: &[u8],
+    answered: &Answered,
+    session: &Session,
+) -> Result<String, NoMemory>
+    ensures { IfOk result (λ lines. string_bytes lines ≡ run_lines telling text.now answered.now session.now) }
+{
+    let n = next_number(telling);
+    let ended = outcome_of(answered.answer);
+    let mut lines = String::new(alloc);
+    tell_stop(&mut lines, n, telling.limits, text, answered, session)?;
+    tell_steps(&mut lines, n, telling.counts, ended)?;
+    tell_exit(&mut lines, telling.place, session, ended)?;
+    Ok(lines)
+}
+
+/// Tells why undos, redos or a rewind were refused, if they were.
+fn tell_refusal(out: &mut String, n: u64, code: Option<Code>) -> Result<(), NoMemory>
+    ensures { OnOk result (string_bytes out.new ≡ string_bytes out.old ++ refusal_line n code) }
+{
+    let Some(code) = code else {
+        return Ok(());
+    };
+    write!(out, "string {n}")?;
+    show_code(out, code)?;
+    out.push_str("\n")
+}
+
+/// Tells how many strings can be undone and redone, if that is wanted.
+fn tell_history(out: &mut String, n: u64, wanted: bool, session: &Session) -> Result<(), NoMemory>
+    ensures { OnOk result (string_bytes out.new ≡ string_bytes out.old ++ history_line n wanted session.now) }
+{
+    if !wanted {
+        return Ok(());
+    }
+    let before = session.cursor();
+    let after = session.strings().saturating_sub(before);
+    writeln!(out, "string {n}: strings to undo {before}, to redo {after}")
+}
+
+/// What is told of the next text, which asked for undos, redos or a rewind.
+pub fn lines_of_move(
+    alloc: Global,
+    telling: Telling,
+    code: Option<Code>,
+    session: &Session,
+) -> Result<String, NoMemory>
+    ensures { IfOk result (λ lines. string_bytes lines ≡ move_lines telling code session.now) }
+{
+    let n = next_number(telling);
+    let mut lines = String::new(alloc);
+    tell_refusal(&mut lines, n, code)?;
+    tell_history(&mut lines, n, telling.counts, session)?;
+    Ok(lines)
+}
+
+/// After what the bytes come that were not run.
+fn after_what(broken_off: bool) -> &'static str
+    ensures { result.now ≡ after_what broken_off }
+{
+    if broken_off {
+        "the last string that ran"
+    } else {
+        "the last ESC ESC"
+    }
+}
+
+/// Whether bytes are fillers alone.
+fn are_fillers(bytes: &[u8]) -> bool
+    ensures { result ≡ list_all is_filler bytes.now }
+{
+    bytes.iter().all(|byte| is_filler(*byte))
+}
+
+/// What is told of bytes that were not run, if they are not fillers alone.
+pub fn line_of_left(alloc: Global, bytes: &[u8], broken_off: bool) -> Result<String, NoMemory>
+    ensures { IfOk result (λ line. string_bytes line ≡ left_line bytes.now broken_off) }
+{
+    if are_fillers(bytes) {
+        return Ok(String::new(alloc));
+    }
+    let n = bytes.len();
+    let after = after_what(broken_off);
+    if n == 1 {
+        return format!(in alloc; "1 byte after {after} was not run\n");
+    }
+    format!(in alloc; "{n} bytes after {after} were not run\n")
+}
+
+/// Why a file cannot be read or written, in words.
+fn reason(kind: ErrorKind) -> &'static str
+    ensures { result.now ≡ reason_of kind }
+{
+    match kind {
+        ErrorKind::NotFound => "there is no such file or folder",
+        ErrorKind::PermissionDenied => "permission is denied",
+        ErrorKind::IsADirectory => "it is a folder",
+        ErrorKind::NotADirectory => "a part of its path is no folder",
+        ErrorKind::StorageFull | ErrorKind::QuotaExceeded => "there is no room on the disk",
+        ErrorKind::ReadOnlyFilesystem => "the file system is read only",
+        ErrorKind::FilesystemLoop => "its links lead in a circle",
+        ErrorKind::InvalidFilename => "its name is too long",
+        ErrorKind::ResourceBusy => "it is the program's own standard output",
+        _ => "the system refused it",
+    }
+}
+
+/// What is told of a file that failed: its name, and why, if the disk told that.
+fn line_of_fault(alloc: Global, name: &str, why: Option<ErrorKind>) -> Result<String, NoMemory>
+    ensures { IfOk result (λ line. string_bytes line ≡ fault_line name.now why) }
+{
+    let Some(kind) = why else {
+        return Ok(String::new(alloc));
+    };
+    let reason = reason(kind);
+    format!(in alloc; "{name}: {reason}\n")
+}
+
+/// A line about a file, whose name comes between two texts.
+fn line_about(alloc: Global, before: &str, name: &str, after: &str) -> Result<String, NoMemory>
+    ensures { IfOk result (λ line. string_bytes line ≡ before.now ++ name.now ++ after.now ++ 10 ∷ []) }
+{
+    format!(in alloc; "{before}{name}{after}\n")
+}
+
+/// What is told of how the run over an input ended, by the name of its output. `why` is the error that the disk gave last, if it gave
+/// one.
+fn line_by_name(
+    alloc: Global,
+    input: &str,
+    output: &str,
+    fate: Fate,
+    why: Option<ErrorKind>,
+) -> Result<String, NoMemory>
+    ensures { IfOk result (λ line. string_bytes line ≡ end_line input.now output.now fate why) }
+{
+    match fate {
+        Fate::NoCommands => Ok(String::new(alloc)),
+        Fate::NoInput => line_of_fault(alloc, input, why),
+        Fate::NoOutput => line_of_fault(alloc, output, why),
+        Fate::Unchanged => line_about(alloc, "", output, " is unchanged"),
+        Fate::Ended(Served::Exit) => line_about(alloc, "", output, " is written"),
+        Fate::Ended(Served::EndOfCommands) => line_about(
+            alloc,
+            "the commands ended without EX: ",
+            output,
+            " is not written",
+        ),
+        Fate::LargeInput
+        | Fate::NoMemory
+        | Fate::Changed
+        | Fate::Ended(Served::ReadFault)
+        | Fate::Ended(Served::ShowFault)
+        | Fate::Ended(Served::NoMemory) => line_about(alloc, "", output, " is not written"),
+    }
+}
+
+/// What is told of how the run over this input of the line ended. `why` is the error that the disk gave last, if it gave one.
+pub fn line_of_end(
+    alloc: Global,
+    line: &Line,
+    input: &str,
+    fate: Fate,
+    why: Option<ErrorKind>,
+) -> Result<String, NoMemory>
+    ensures { IfOk result (λ text. string_bytes text ≡ end_line input.now (output_of line.now input.now) fate why) }
+{
+    let output = output_name(alloc, line, input)?;
+    line_by_name(alloc, input, output.as_str(), fate, why)
+}

@@ -1,0 +1,157 @@
+//! How the program ends.
+ghost use Rattle.std.specs.Prelude.{◌≡◌, ◌++◌, codes, IfOk, OnErr};
+ghost use Rattle.std.specs.String.{string_bytes};
+ghost use Rattle.teco_serve.specs.Ending.{about, commands_name, output_beside, output_of, said, status_of, text_of};
+
+use crate::served::Served;
+use std::alloc::Global;
+use teco_core::NoMemory;
+use teco_files::InputFault;
+use teco_line::{Commands, Line, is_standard_input};
+
+/// How the program ends, once its command line is read.
+#[derive(Clone, Copy)]
+pub enum Fate {
+    /// The file of the commands cannot be opened.
+    NoCommands,
+    /// The input cannot be read.
+    NoInput,
+    /// The input has more bytes than it may have.
+    LargeInput,
+    /// Memory was refused before the serving, or after it.
+    NoMemory,
+    /// The output cannot be written.
+    NoOutput,
+    /// The file that was to be edited in place has changed since it was read.
+    Changed,
+    /// The file that was to be edited in place has the output already.
+    Unchanged,
+    /// The serving ended; after [`Served::Exit`] the output is written.
+    Ended(Served),
+}
+
+impl From<InputFault> for Fate {
+    ghost use Rattle.teco_serve.specs.Ending.{fate_without_input};
+
+    ghost from_gives = { λ fault fate. fate ≡ fate_without_input fault };
+
+    fn from(fault: InputFault) -> Fate {
+        match fault {
+            InputFault::Read => Fate::NoInput,
+            InputFault::TooLarge => Fate::LargeInput,
+            InputFault::Memory => Fate::NoMemory,
+        }
+    }
+}
+
+fn status(fate: Fate) -> u8
+    ensures { result ≡ status_of fate }
+{
+    match fate {
+        Fate::Unchanged | Fate::Ended(Served::Exit) => 0,
+        Fate::Ended(Served::EndOfCommands) => 2,
+        _ => 1,
+    }
+}
+
+/// A line about a file, whose name comes between two texts.
+pub fn said_of(alloc: Global, before: &str, name: &str, after: &str) -> Result<String, NoMemory>
+    ensures { IfOk result (λ text. string_bytes text ≡ said (before.now ++ name.now ++ after.now)) }
+{
+    format!(in alloc; "teco: {before}{name}{after}\n")
+}
+
+/// The name of the output where the line names none: standard output if the input is standard input, else the input's followed by `.out`.
+fn output_beside(alloc: Global, input: &str) -> Result<String, NoMemory>
+    ensures { IfOk result (λ name. string_bytes name ≡ output_beside input.now) }
+{
+    if is_standard_input(input) {
+        return String::from_str(alloc, "-");
+    }
+    let mut name = String::from_str(alloc, input)?;
+    name.push_str(".out")?;
+    Ok(name)
+}
+
+/// The name of the output of this input: its own if it is edited in place, else the one given, or one beside it.
+pub fn output_name(alloc: Global, line: &Line, input: &str) -> Result<String, NoMemory>
+    ensures { IfOk result (λ name. string_bytes name ≡ output_of line.now input.now) }
+{
+    if line.in_place {
+        return String::from_str(alloc, input);
+    }
+    match &line.output {
+        Some(name) => String::from_str(alloc, name.as_str()),
+        None => output_beside(alloc, input),
+    }
+}
+
+/// The name of the file that the commands are read from as they are; nothing where they come from elsewhere.
+fn commands_name(line: &Line) -> &str
+    ensures { result.now ≡ commands_name line.now }
+{
+    match &line.commands {
+        Commands::Bytes(name) => name.as_str(),
+        Commands::StandardInput | Commands::Sources(..) | Commands::Pages(_) => "",
+    }
+}
+
+/// A line about no file, which names the input if the line has several.
+fn said_about(alloc: Global, line: &Line, input: &str, words: &str) -> Result<String, NoMemory>
+    ensures { IfOk result (λ text. string_bytes text ≡ said (about line.now input.now words.now)) }
+{
+    if line.more.is_empty() {
+        return said_of(alloc, words, "", "");
+    }
+    said_of(alloc, input, ": ", words)
+}
+
+fn text(alloc: Global, line: &Line, input: &str, fate: Fate) -> Result<String, NoMemory>
+    ensures ok { IfOk result (λ text. string_bytes text ≡ text_of line.now input.now fate) }
+    ensures err { OnErr result (status_of fate ≡ 1) }
+{
+    match fate {
+        Fate::NoCommands => said_of(alloc, "cannot read ", commands_name(line), ""),
+        Fate::NoInput => said_of(alloc, "cannot read ", input, ""),
+        Fate::LargeInput => said_of(alloc, "", input, " is too large"),
+        Fate::NoMemory | Fate::Ended(Served::NoMemory) => said_about(
+            alloc,
+            line,
+            input,
+            "no memory",
+        ),
+        Fate::NoOutput => {
+            let name = output_name(alloc, line, input)?;
+            said_of(alloc, "cannot write ", name.as_str(), "")
+        }
+        Fate::Changed => said_of(alloc, "", input, " has changed"),
+        Fate::Ended(Served::ReadFault) => said_about(alloc, line, input, "cannot read commands"),
+        Fate::Ended(Served::ShowFault) => said_about(alloc, line, input, "cannot show"),
+        Fate::Unchanged | Fate::Ended(Served::Exit) | Fate::Ended(Served::EndOfCommands) => Ok(
+            String::new(alloc),
+        ),
+    }
+}
+
+/// The status of a run over this input of the line, and what it prints on standard error, which may be nothing.
+pub fn ending_of(
+    alloc: Global,
+    line: &Line,
+    input: &str,
+    fate: Fate,
+) -> Result<(u8, String), NoMemory>
+    ensures ok { IfOk result (λ ending. (ending.0 ≡ status_of fate)
+        × (string_bytes ending.1 ≡ text_of line.now input.now fate)) }
+    ensures err { OnErr result (status_of fate ≡ 1) }
+{
+    Ok((status(fate), text(alloc, line, input, fate)?))
+}
+
+/// The status of a run over the first input of the line, and what it prints on standard error, which may be nothing.
+pub fn ending(alloc: Global, line: &Line, fate: Fate) -> Result<(u8, String), NoMemory>
+    ensures ok { IfOk result (λ ending. (ending.0 ≡ status_of fate)
+        × (string_bytes ending.1 ≡ text_of line.now (string_bytes line.now.input) fate)) }
+    ensures err { OnErr result (status_of fate ≡ 1) }
+{
+    ending_of(alloc, line, line.input.as_str(), fate)
+}

@@ -1,0 +1,105 @@
+//! Serving a stream of commands.
+ghost use Rattle.std.specs.Prelude.{List};
+ghost use Rattle.teco_session.specs.Kept.{history_of};
+ghost use Rattle.teco_serve.specs.Exchange.{Exchange, HasRung, allowance};
+ghost use Rattle.teco_serve.specs.Held.{CutsOff, Emptied, HeldEnds};
+ghost use Rattle.teco_serve.specs.Serving.{Exchanges, Serves};
+ghost use Rattle.teco_files.specs.Source.{Gives, HasEnded};
+ghost use Rattle.teco_terminal.specs.Terminal.{Shows};
+
+use crate::alarm::{Alarm, Bounds};
+use crate::exchange::{do_exchange, show_prompt};
+use crate::listener::Listens;
+use crate::served::Served;
+use crate::splitter::Splitter;
+use std::alloc::Global;
+use teco_files::Source;
+use teco_session::Session;
+use teco_terminal::{Terminal, TerminalFault};
+
+/// The most bytes of a piece.
+const PIECE: usize = 4096;
+
+/// Does what each held text asks, unless that ends the serving; says how the serving ends, if it does.
+fn serve_held<A: Alarm, T: Terminal, L: Listens>(
+    splitter: &mut Splitter,
+    session: &mut Session,
+    bounds: Bounds,
+    prompt: bool,
+    alarm: &mut A,
+    term: &mut T,
+    listener: &mut L,
+) -> Option<Served>
+    ensures { (exchanges : List Exchange)
+        × Exchanges (allowance bounds (HasRung A.answered)) (history_of session.old) exchanges (history_of session.new)
+        × CutsOff splitter.old exchanges splitter.new
+        × Emptied result splitter.new
+        × HeldEnds (Shows (T.screen term.old) (T.screen term.new)) prompt exchanges result }
+{
+    'held: loop {
+        let Ok(next) = splitter.next() else {
+            return Some(Served::NoMemory);
+        };
+        let Some(asked) = next else {
+            return None;
+        };
+        let ended = do_exchange(&asked, session, bounds, prompt, alarm, term, listener);
+        if let Some(served) = ended {
+            return Some(served);
+        }
+    }
+}
+
+/// Reads pieces of the stream, cuts them into texts, and does what each asks before it reads again. Each command string may run as far
+/// as `bounds` say, and the alarm is set for each anew. With `prompt` a star asks for commands. The listener hears what is done for each
+/// text.
+///
+/// However the source cuts its bytes, what is done is a beginning of what they ask, and all of it at the end of the stream and where
+/// a read fails. It ends where a run makes the session done, and at the first put that fails; nothing is done after that.
+pub fn serve<S: Source, A: Alarm, T: Terminal, L: Listens>(
+    alloc: Global,
+    source: &mut S,
+    session: &mut Session,
+    bounds: Bounds,
+    prompt: bool,
+    alarm: &mut A,
+    term: &mut T,
+    listener: &mut L,
+) -> Served
+    ensures { Serves (allowance bounds (HasRung A.answered)) prompt
+        (Gives S.coming S.bound S.failures source.old source.new)
+        (HasEnded (S.coming source.new) (S.ended source.new))
+        (Shows (T.screen term.old) (T.screen term.new))
+        (history_of session.old) (history_of session.new) result }
+{
+    if let Err(TerminalFault) = show_prompt(prompt, term) {
+        return Served::ShowFault;
+    }
+    let mut splitter = Splitter::new(alloc);
+    let mut piece = [0; PIECE];
+    'pieces: loop {
+        let Ok(n) = source.read(&mut piece) else {
+            return Served::ReadFault;
+        };
+        if n == 0 {
+            listener.left(splitter.held(), false);
+            return Served::EndOfCommands;
+        }
+        if splitter.feed(&piece[..n]).is_err() {
+            return Served::NoMemory;
+        }
+        let ended = serve_held(
+            &mut splitter,
+            session,
+            bounds,
+            prompt,
+            alarm,
+            term,
+            listener,
+        );
+        if let Some(served) = ended {
+            listener.left(splitter.held(), true);
+            return served;
+        }
+    }
+}
