@@ -7,8 +7,9 @@ use Rattle.teco_core.specs.Number.{IsNumber}
 use Rattle.teco_core.specs.Register.{Content, blank}
 use Rattle.teco_core.specs.declared.limits.TheConstants.{TEXT_LIMIT}
 use Rattle.teco_store.specs.State.{Body, Full, IsSound, replaced, spliced, pointer_after}
-use Rattle.teco_store.specs.Turn.{PopInto, Splice, FitsFull, top_of}
+use Rattle.teco_store.specs.Turn.{PopInto, Splice, FitsFull, lent, top_of}
 use Rattle.teco_record.proofs.Entries.{sound_more, sound_within}
+use Rattle.teco_record.proofs.Loans.{length-lent}
 use Rattle.teco_record.proofs.Turns.{length-replaced}
 
 -- where the pointer comes to stand
@@ -58,6 +59,15 @@ splice_fits_seen e f at del pointer ins same sound within lands small room =
     let s = subst (λ (x : Full). IsSound x.room (length x.stored) x.body) same sound in
     let fits : FitsFull (Splice at del pointer ins) f = splice_fits f at del pointer ins s within lands small room in
     (subst (λ (x : Full). FitsFull (Splice at del pointer ins) x) (sym same) fits, fits)
+
+-- The same of bytes of the input.
+pub input_fits_seen : (e f : Full) (at del pointer from count : ℕ) → e ≡ f → IsSound e.room (length e.stored) e.body
+    → at + del ≤ length f.body.text → pointer + del ≤ length f.body.text + count → length f.body.text + count ≤ TEXT_LIMIT + del
+    → length f.body.text + count ≤ f.room + del
+    → FitsFull (Splice at del pointer (lent e.body.input from count)) e × FitsFull (Splice at del pointer (lent e.body.input from count)) f
+input_fits_seen e f at del pointer from count same sound within lands small room =
+    let len = length-lent e.body.input from count in
+    splice_fits_seen e f at del pointer (lent e.body.input from count) same sound within (omega (arith, len)) (omega (arith, len)) (omega (arith, len))
 
 abbrev IsSmall : Content → Type 0
 IsSmall c = length c.text ≤ TEXT_LIMIT

@@ -232,26 +232,6 @@ impl Recorder {
         self.entry.push_apart(self.done, Part::new(held));
     }
 
-    // Puts `ins` for the `there` bytes at `at`, and notes those that stood there, as a short text.
-    fn exchange_short(&mut self, at: usize, there: usize, ins: &[u8], pointer: usize)
-        requires spare { 0 < self.old.spare }
-        requires apart { 0 < self.old.apart }
-        requires short { there + length ins.now ≤ SHORT_LIMIT }
-        requires there { at + there ≤ length self.old.full.body.text }
-        requires lands { pointer + there ≤ length self.old.full.body.text + length ins.now }
-        requires small { length self.old.full.body.text + length ins.now ≤ TEXT_LIMIT + there }
-        requires room { length self.old.full.body.text + length ins.now ≤ self.old.full.room + there }
-        ensures full { self.new.full ≡ full_after (Splice at there pointer ins.now) self.old.full }
-        ensures sound { IsSound self.new.full.room (length self.new.full.stored) self.new.full.body }
-        ensures spare { self.new.spare + 1 ≡ self.old.spare }
-        ensures apart { self.new.apart + 1 ≡ self.old.apart }
-        ensures goes { FollowsAfterChanges (there + length ins.now) 1 self.old self.new }
-    {
-        let _shown = self.editor.shown();
-        let held = self.editor.exchange_short(at, there, ins, pointer);
-        self.entry.push_apart(self.done, Part::new(held));
-    }
-
     // Puts a byte in at `at`, or takes it out there, and notes that in the change itself.
     fn exchange_byte(&mut self, at: usize, there: usize, ins: &[u8], pointer: usize)
         requires spare { 0 < self.old.spare }
@@ -273,7 +253,7 @@ impl Recorder {
         }
     }
 
-    // Puts `ins` for the `there` bytes at `at`, and notes those that stood there, which are few.
+    // Puts `ins` for the `there` bytes at `at`, and notes those that stood there, which are few: as a short text, or in the change itself.
     fn replace_few(&mut self, at: usize, there: usize, ins: &[u8], pointer: usize)
         requires spare { 0 < self.old.spare }
         requires apart { held_apart (there + length ins.now) ≤ self.old.apart }
@@ -287,10 +267,12 @@ impl Recorder {
         ensures spare { self.new.spare + 1 ≡ self.old.spare }
         ensures goes { FollowsAfterChanges (there + length ins.now) 1 self.old self.new }
     {
+        let _shown = self.editor.shown();
         if there + ins.len() == 1 {
             self.exchange_byte(at, there, ins, pointer);
         } else {
-            self.exchange_short(at, there, ins, pointer);
+            let held = self.editor.exchange_short(at, there, ins, pointer);
+            self.entry.push_apart(self.done, Part::new(held));
         }
     }
 

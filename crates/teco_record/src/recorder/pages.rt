@@ -83,68 +83,8 @@ impl Recorder {
         Ok(Held::Memory(held))
     }
 
-    // Puts `count` bytes of the input from `from` on for the `there` bytes at `at`, and notes those that stood there in `held`, which
-    // is empty.
-    fn exchange_input(
-        &mut self,
-        from: usize,
-        count: usize,
-        at: usize,
-        there: usize,
-        pointer: usize,
-        held: Vec<u8>,
-    )
-        requires spare { 0 < self.old.spare }
-        requires apart { 0 < self.old.apart }
-        requires within { from + count ≤ length self.old.full.body.input }
-        requires empty { held.items ≡ [] }
-        requires memory { there + count ≤ vec_capacity held }
-        requires there { at + there ≤ length self.old.full.body.text }
-        requires lands { pointer + there ≤ length self.old.full.body.text + count }
-        requires small { length self.old.full.body.text + count ≤ TEXT_LIMIT + there }
-        requires room { length self.old.full.body.text + count ≤ self.old.full.room + there }
-        ensures full { self.new.full ≡ full_after (Splice at there pointer
-            (lent self.old.full.body.input from count)) self.old.full }
-        ensures sound { IsSound self.new.full.room (length self.new.full.stored) self.new.full.body }
-        ensures spare { self.new.spare + 1 ≡ self.old.spare }
-        ensures apart { self.new.apart + 1 ≡ self.old.apart }
-        ensures goes { FollowsAfterChanges (there + count) 1 self.old self.new }
-    {
-        let _shown = self.editor.shown();
-        let held = self
-            .editor
-            .exchange_input(from, count, at, there, pointer, held);
-        self.entry.push_apart(self.done, Part::new(held));
-    }
-
-    // Lends `count` bytes of the input from `from` on to the text, which stands there at a place of its own, and notes that place.
-    fn lend(&mut self, from: usize, count: usize, there_from: usize, there: usize, pointer: usize)
-        requires spare { 0 < self.old.spare }
-        requires apart { 0 < self.old.apart }
-        requires there { IsLent self.old.full.body.text self.old.full.body.input there_from there }
-        requires within { from + count ≤ length self.old.full.body.input }
-        requires lands { pointer ≤ count }
-        requires small { count ≤ TEXT_LIMIT }
-        requires room { count ≤ self.old.full.room }
-        ensures full { self.new.full ≡ full_after (Splice 0 there pointer
-            (lent self.old.full.body.input from count)) self.old.full }
-        ensures sound { IsSound self.new.full.room (length self.new.full.stored) self.new.full.body }
-        ensures spare { self.new.spare + 1 ≡ self.old.spare }
-        ensures apart { self.new.apart + 1 ≡ self.old.apart }
-        ensures goes { FollowsAfterChanges (there + count) 1 self.old self.new }
-    {
-        let _shown = self.editor.shown();
-        self.note_apart(Kind::Lend(Loan {
-            from: from as u32,
-            count: count as u32,
-            there_from: there_from as u32,
-            there: there as u32,
-            pointer: pointer as u32,
-        }));
-    }
-
-    // Puts `count` bytes of the input from `from` on for the `there` bytes at `at`, and notes where those stand, or them in memory that
-    // was found.
+    // Puts `count` bytes of the input from `from` on for the `there` bytes at `at`. It notes those that stood there in memory that was
+    // found, or lends the bytes to a text that stands in the input too, and notes where.
     pub(super) fn put_input(
         &mut self,
         from: usize,
@@ -169,9 +109,21 @@ impl Recorder {
         ensures apart { self.new.apart + 1 ≡ self.old.apart }
         ensures goes { FollowsAfterChanges (there + count) 1 self.old self.new }
     {
+        let _shown = self.editor.shown();
         match held {
-            Held::Memory(held) => self.exchange_input(from, count, at, there, pointer, held),
-            Held::Input(there_from) => self.lend(from, count, there_from, there, pointer),
+            Held::Memory(held) => {
+                let held = self
+                    .editor
+                    .exchange_input(from, count, at, there, pointer, held);
+                self.entry.push_apart(self.done, Part::new(held));
+            }
+            Held::Input(there_from) => self.note_apart(Kind::Lend(Loan {
+                from: from as u32,
+                count: count as u32,
+                there_from: there_from as u32,
+                there: there as u32,
+                pointer: pointer as u32,
+            })),
         }
     }
 

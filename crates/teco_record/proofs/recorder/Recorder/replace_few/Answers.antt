@@ -3,14 +3,14 @@ use Rattle.teco_record.specs.Follows.{Recording}
 use Rattle.teco_store.specs.Turn.{Splice}
 use Rattle.teco_record.proofs.Fitting.{splice_fits_seen}
 use Rattle.teco_record.proofs.Recordings.{goes_noted}
-use Rattle.teco_record.proofs.recorder.Recorder.exchange_short.Goals as goal
+use Rattle.teco_record.proofs.recorder.Recorder.replace_few.Goals as goal
 
 pub exchange_short-held-requires-clause-fits : goal.exchange_short-held-requires-clause-fits
 exchange_short-held-requires-clause-fits c = (splice_fits_seen c.self.inside.editor c.args.self.now.full c.args.at c.args.there c.args.pointer c.args.ins.now (ap (λ (r : Recording). r.full) c.self.view_is)
     c.shown-shown.ensures.sound c.requires.there c.requires.lands c.requires.small c.requires.room).0
 
-pub returns-clause-goes : goal.returns-clause-goes
-returns-clause-goes c =
+pub returns-else-there-ins-eq1-clause-goes : goal.returns-else-there-ins-eq1-clause-goes
+returns-else-there-ins-eq1-clause-goes c =
     let fits = (splice_fits_seen c.self.inside.editor c.args.self.now.full c.args.at c.args.there c.args.pointer c.args.ins.now (ap (λ (r : Recording). r.full) c.self.view_is)
     c.shown-shown.ensures.sound c.requires.there c.requires.lands c.requires.small c.requires.room).1 in
     goes_noted c.args.self.now c.self.inside.editor c.exchange_short-held.new.self c.self.inside.entry.items c.push_apart.new.self.items c.self.inside.done _ _
