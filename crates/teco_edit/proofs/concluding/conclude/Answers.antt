@@ -1,6 +1,6 @@
 use Rattle.std.proofs.Common.{◌∙◌, inl}
 use Rattle.teco_edit.proofs.Showing.{told_by}
-use Rattle.teco_edit.proofs.running.conclude.Goals as goal
+use Rattle.teco_edit.proofs.concluding.conclude.Goals as goal
 
 pub returns-in-Ok : goal.returns-in-Ok
 returns-in-Ok g c = record {

@@ -7,7 +7,7 @@ use Rattle.teco_edit.specs.Run.{Edits, input_from, named_input, standard_input}
 use Rattle.teco_host.specs.Seen.{KeepsDisk, disk_seen, source_view}
 use Rattle.teco_edit.specs.Seen.{commands_seen, run_seen}
 use Rattle.teco_edit.proofs.Doings.{edits_from}
-use Rattle.teco_edit.proofs.running.edit_by_line.Goals as goal
+use Rattle.teco_edit.proofs.giving.edit_by_line.Goals as goal
 
 pub returns : goal.returns
 returns g c =

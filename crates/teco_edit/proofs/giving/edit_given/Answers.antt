@@ -1,6 +1,6 @@
 use Rattle.std.proofs.Common.{◌∙◌, ap, arith, inr, sym, Some}
 use Rattle.teco_edit.proofs.Doings.{reads_all}
-use Rattle.teco_edit.proofs.several.edit_given.Goals as goal
+use Rattle.teco_edit.proofs.giving.edit_given.Goals as goal
 
 pub returns : goal.returns
 returns g c = rw (sym c.is_streamed.ensures ∙ c.if-is_streamed.false) (record {
