@@ -8,7 +8,7 @@ use Rattle.teco_store.specs.State.{State, Full, state_of}
 use Rattle.teco_store.specs.Turn.{Note as Change}
 use Rattle.teco_session.specs.History.{History, NotedString, present, noted}
 use Rattle.teco_entries.specs.Strings.{KeptString, newest}
-use Rattle.teco_session.specs.Kept.{KeptSession, HasRun, history_of, noted_as}
+use Rattle.teco_session.specs.Kept.{KeptSession, HasRun, IsSession, history_of, noted_as}
 use Rattle.teco_entries.specs.Entries.{kept_string, strings_of, depth_of}
 use Rattle.teco_session.specs.Entries.{kept_session}
 use Rattle.teco_entries.specs.declared.entry.Entry.{Entry}
@@ -34,6 +34,11 @@ same_session f xs ys c d e s same depth view = ap (λ (zs : List KeptString). se
 pub returns-then-is_err-clause-same : goal.returns-then-is_err-clause-same
 returns-then-is_err-clause-same g c unbegun =
     same_session c.self.inside.recorder.full _ _ c.self.inside.cursor _ _ c.args.self.now c.reserve.ensures.strings c.reserve.ensures.depth c.self.view_is
+
+pub invariant_of-self-then-is_err : goal.invariant_of-self-then-is_err
+invariant_of-self-then-is_err g c =
+    let same = same_session c.self.inside.recorder.full _ _ c.self.inside.cursor _ _ (kept_session c.self.inside) c.reserve.ensures.strings c.reserve.ensures.depth refl in
+    subst IsSession (sym same) c.self.invariant
 
 -- What is not begun leaves the session and the runner as they were, and what ends was begun.
 pub returns-then-done-clause-same : goal.returns-then-done-clause-same
