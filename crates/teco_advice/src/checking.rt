@@ -9,9 +9,7 @@ use std::alloc::Global;
 use teco_check::fault_of;
 use teco_core::NoMemory;
 use teco_fault::REGISTERS;
-use teco_remarks::{
-    Hint, Hinting, Remark, push_both, push_faults, push_hints, push_last_hints,
-};
+use teco_remarks::{Hint, Hinting, Remark, push_both, push_faults, push_hints, push_last_hints};
 use teco_scan::filler_end;
 
 /// What is told of commands.
