@@ -1,8 +1,8 @@
 -- What commands show.
 use Rattle.std.proofs.Common.{◌≡◌, ◌∙◌, ◌++◌, ◌∷◌, List, [], ℕ, Result, Ok, Err, refl, ap, map, subst}
 use Rattle.std.specs.Prelude.{OnOk}
-use Rattle.teco_walk.specs.Verb.{verb_by, verbs}
-use Rattle.teco_walk.specs.declared.verb.VerbRow.{VerbRow}
+use Rattle.teco_verb.specs.Verb.{verb_by, verbs}
+use Rattle.teco_verb.specs.declared.verb.VerbRow.{VerbRow}
 use Rattle.teco_retrace.specs.Answering.{OnlyShows, ShowsHelp}
 use Rattle.teco_retrace.specs.Help.{help_shown}
 use Rattle.teco_retrace.specs.Moving.{Arrives, Goes, MovesTo}

@@ -4,16 +4,16 @@ use Rattle.std.specs.Fmt.{decimal}
 use Rattle.teco_telling.specs.Spelling.{spelled}
 use Rattle.teco_telling.specs.declared.spot.Spot.{Spot}
 use Rattle.teco_walk.specs.Finding.{last_change}
-use Rattle.teco_walk.specs.Verb.{verb_by, verbs, words_of}
+use Rattle.teco_verb.specs.Verb.{verb_by, verbs, words_of}
 use Rattle.teco_walk.specs.Walk.{KeptWalk, meant, state_there}
-use Rattle.teco_walk.specs.declared.command.Command.{Command}
-use Rattle.teco_walk.specs.declared.command.Command.TheVariants as command
-use Rattle.teco_walk.specs.declared.command.Fault.{Fault}
-use Rattle.teco_walk.specs.declared.verb.Counted.{Counted}
-use Rattle.teco_walk.specs.declared.verb.Counted.TheVariants.{Next, Back, Goto, Text, Undo}
-use Rattle.teco_walk.specs.declared.verb.Plain.{Plain}
-use Rattle.teco_walk.specs.declared.verb.Plain.TheVariants.{End, Start, Where, Registers, State, Continue, Typed, Help, Quit}
-use Rattle.teco_walk.specs.declared.verb.VerbRow.{VerbRow}
+use Rattle.teco_verb.specs.declared.command.Command.{Command}
+use Rattle.teco_verb.specs.declared.command.Command.TheVariants as command
+use Rattle.teco_verb.specs.declared.command.Fault.{Fault}
+use Rattle.teco_verb.specs.declared.verb.Counted.{Counted}
+use Rattle.teco_verb.specs.declared.verb.Counted.TheVariants.{Next, Back, Goto, Text, Undo}
+use Rattle.teco_verb.specs.declared.verb.Plain.{Plain}
+use Rattle.teco_verb.specs.declared.verb.Plain.TheVariants.{End, Start, Where, Registers, State, Continue, Typed, Help, Quit}
+use Rattle.teco_verb.specs.declared.verb.VerbRow.{VerbRow}
 use Rattle.teco_walk.specs.declared.walk.Seen.{Seen}
 use Rattle.teco_retrace.specs.Help.{help_shown}
 use Rattle.teco_retrace.specs.Listing.{lines_there_shown, registers_shown, state_shown, whole_register}

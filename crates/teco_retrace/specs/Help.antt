@@ -1,7 +1,7 @@
 -- The list of the commands, as `help` shows it.
 use Rattle.std.specs.Prelude.{ℕ, ◌+◌, ◌-◌, List, [], ◌∷◌, ◌++◌, length, replicate, codes}
 use Rattle.std.specs.List.{flat_map}
-use Rattle.teco_walk.specs.declared.verb.VerbRow.{VerbRow}
+use Rattle.teco_verb.specs.declared.verb.VerbRow.{VerbRow}
 use Rattle.teco_retrace.specs.declared.help.TheConstants.{LETTER_COLUMN}
 
 -- a word and what it takes, with blanks up to the column of the letters

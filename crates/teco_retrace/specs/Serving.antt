@@ -3,7 +3,7 @@ use Rattle.std.specs.Prelude.{◌≡◌, ◌⊎◌, ℕ, List, [], ◌∷◌, tr
 use Rattle.std.specs.Io.BufRead.{DropsThrough, take_through}
 use Rattle.std.specs.Io.KnownBytes.{IsAtEnd}
 use Rattle.teco_terminal.specs.Terminal.{IsFrontOf, Screen, Shows}
-use Rattle.teco_walk.specs.Verb.{command_of}
+use Rattle.teco_verb.specs.Verb.{command_of}
 use Rattle.teco_retrace.specs.Answering.{IsAnswerTo, is_leaving}
 use Rattle.teco_retrace.specs.Moving.{SameRun}
 use Rattle.teco_retrace.specs.declared.debugger.Debugger.{Debugger}

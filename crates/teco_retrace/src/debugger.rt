@@ -4,7 +4,7 @@ ghost use Rattle.std.specs.String.{string_bytes};
 ghost use Rattle.teco_retrace.specs.Answering.{IsAnswerTo, AnswersCommand, AnswersCounted, AnswersPlain, GoesOnToStop, GoesOrSays, ShowsSeen, TakesBack, answer_line};
 ghost use Rattle.teco_retrace.specs.Moving.{Arrives, HasNoStop, IsNextStop, MovesTo, SameRun};
 ghost use Rattle.teco_telling.specs.Spelling.{spelled};
-ghost use Rattle.teco_walk.specs.Verb.{command_of, words_of};
+ghost use Rattle.teco_verb.specs.Verb.{command_of, words_of};
 
 use crate::help::{show_help, verb_rows};
 use crate::listing::{show_register, show_registers, show_state, show_text};
@@ -15,7 +15,8 @@ use std::alloc::Global;
 use teco_core::NoMemory;
 use teco_store::Desk;
 use teco_telling::{Spot, spell};
-use teco_walk::{Command, Counted, Plain, Walk};
+use teco_verb::{Command, Counted, Plain};
+use teco_walk::Walk;
 
 /// A walk, with what the commands need beside it.
 #[derive(Drop)]

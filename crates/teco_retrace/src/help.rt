@@ -2,12 +2,12 @@
 ghost use Rattle.std.specs.Prelude.{◌≡◌, ◌++◌, OnOk, map};
 ghost use Rattle.std.specs.String.{string_bytes};
 ghost use Rattle.teco_retrace.specs.Help.{help_shown, verb_line};
-ghost use Rattle.teco_walk.specs.Verb.{verb_by, verbs};
+ghost use Rattle.teco_verb.specs.Verb.{verb_by, verbs};
 
 use crate::showing::push_many;
 use std::fmt::Write;
 use teco_core::NoMemory;
-use teco_walk::{VERBS, VerbRow};
+use teco_verb::{VERBS, VerbRow};
 
 /// Where the letters stand in a line of the help, and the texts after them.
 const LETTER_COLUMN: usize = 17;

@@ -2,7 +2,7 @@
 ghost use Rattle.std.specs.Prelude.{◌≡◌, ◌⊎◌};
 ghost use Rattle.teco_retrace.specs.Answering.{is_leaving};
 ghost use Rattle.teco_retrace.specs.Serving.{EndsUnread, Obeys, ServesLines, ServesNext, stage};
-ghost use Rattle.teco_walk.specs.Verb.{command_of};
+ghost use Rattle.teco_verb.specs.Verb.{command_of};
 
 use crate::debugger::Debugger;
 use crate::ending::Ending;
@@ -10,7 +10,7 @@ use std::alloc::Global;
 use std::io::BufRead;
 use teco_core::NoMemory;
 use teco_terminal::{Terminal, TerminalFault};
-use teco_walk::{Command, Plain};
+use teco_verb::{Command, Plain};
 
 /// Whether a line asks to leave.
 fn is_leaving(line: &[u8]) -> bool

@@ -14,7 +14,7 @@ use Rattle.teco_session.proofs.Sessions.{at_self}
 use Rattle.teco_session.proofs.Turning.{last_done}
 use Rattle.teco_walk.specs.Finding.{IsAsNowFrom, last_change}
 use Rattle.teco_walk.specs.Walk.{IsWalk, kept_walk, walked}
-use Rattle.teco_walk.specs.declared.finding.Part.{Part}
+use Rattle.teco_verb.specs.declared.part.Part.{Part}
 use Rattle.teco_walk.specs.declared.walk.Walk.TheInside.{Inside}
 use Rattle.teco_walk.proofs.Staying.{stays, was_made}
 

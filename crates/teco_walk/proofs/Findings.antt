@@ -3,7 +3,7 @@ use Rattle.std.proofs.Common.{◌≡◌, ℕ, ◌+◌, ◌<◌, ◌≤◌, zero,
 use Rattle.std.proofs.lemmas.List.{at_drop_more, at_drop_all}
 use Rattle.teco_store.specs.Turn.{Note}
 use Rattle.teco_walk.specs.Finding.{last_change, or_else, step_before}
-use Rattle.teco_walk.specs.declared.finding.Part.{Part}
+use Rattle.teco_verb.specs.declared.part.Part.{Part}
 
 -- of changes from a place on, by the first of them and the others
 pub last_change-drop : (part : Part) (notes : List Note) (i : ℕ) (note : Note) → i < length notes → get_or notes i note ≡ note

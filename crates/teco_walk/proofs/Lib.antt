@@ -1,4 +1,3 @@
-pub mod Digits
 pub mod Findings
 pub mod Staying
 pub mod Changes

@@ -1,9 +1,10 @@
--- A session that was undone, and whose string did not run, is redone to where it was.
-use Rattle.std.proofs.Common.{◌≡◌, ℕ, ◌<◌, List, length, Ok, Err, refl, sym, ◌∙◌, ap, subst, arith}
+-- A session that was undone, and whose string did not run, is redone to where it was; and one that is rewound.
+use Rattle.std.proofs.Common.{◌≡◌, ℕ, ◌<◌, ◌≤◌, List, length, Ok, Err, refl, sym, ◌∙◌, ap, subst, arith}
 use Rattle.std.specs.Prelude.{Result, IsOk, OnOk}
+use Rattle.std.proofs.Math.Nat.{min-eq_left}
 use Rattle.std.proofs.lemmas.Bool.{false≢true}
 use Rattle.teco_exec.specs.declared.outcome.Outcome.{Outcome}
-use Rattle.teco_session.specs.History.{History, redone, undone}
+use Rattle.teco_session.specs.History.{History, redone, rewound, undone}
 use Rattle.teco_session.specs.Step.{RunStep}
 use Rattle.teco_session.specs.declared.request.Answer.{Answer}
 use Rattle.teco_session.specs.declared.request.Answer.TheVariants.{Ended, NotBegun, AfterExit, Undone, NothingToUndo, Redone, NothingToRedo, Rewound}
@@ -38,3 +39,10 @@ came_again undo redo input text steps before there still after came can_undo is_
     let here : still ≡ undone (walked input text steps) = same ∙ gone_back undo input text steps before there came can_undo is_undone in
     let again : after ≡ redone still = on_ok redo (can_redo (subst (λ (h : History). h.cursor < length h.notes) (sym here) (omega arith))) is_redone in
     again ∙ ap redone here
+
+-- A rewind of the only string leaves its first steps.
+pub cut_back : {T E : Type 0} (rewind : Result T E) (n : ℕ) (input text : List ℕ) (steps : ℕ) (before there : History) → before ≡ walked input text steps → n ≤ steps
+    → (0 < before.cursor → IsOk rewind) → OnOk rewind (there ≡ rewound n before) → there ≡ walked input text n
+cut_back rewind n input text steps before there came within can_rewind is_rewound =
+    on_ok rewind (can_rewind (subst (λ (h : History). 0 < h.cursor) (sym came) (omega arith))) is_rewound ∙ ap (rewound n) came
+    ∙ ap (walked input text) (min-eq_left within)

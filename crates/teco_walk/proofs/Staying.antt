@@ -11,8 +11,8 @@ use Rattle.teco_record.specs.Entry.{body_back, since}
 use Rattle.teco_record.specs.Follows.{AreMarked, HasCome}
 use Rattle.teco_store.proofs.Recordings.{since_low, since_high}
 use Rattle.teco_walk.specs.Finding.{SamePart, is_for, last_change, or_else, step_before}
-use Rattle.teco_walk.specs.declared.finding.Part.{Part}
-use Rattle.teco_walk.specs.declared.finding.Part.TheVariants.{Buffer, Register}
+use Rattle.teco_verb.specs.declared.part.Part.{Part}
+use Rattle.teco_verb.specs.declared.part.Part.TheVariants.{Buffer, Register}
 
 same_refl : {O : Type 0} (part : Part) (s : StateOver O) → SamePart part s s
 same_refl Buffer s = refl

@@ -7,8 +7,8 @@ use Rattle.teco_store.specs.Turn.{Note}
 use Rattle.teco_store.specs.declared.change_kind.ChangeKind.{ChangeKind}
 use Rattle.teco_store.specs.declared.change_kind.ChangeKind.TheVariants.{Splice, Point, Number, Text, Push, Pop, Pages, Search, Found, Done, Mode}
 use Rattle.teco_walk.specs.Walk.{KeptWalk, meant, state_there}
-use Rattle.teco_walk.specs.declared.finding.Part.{Part}
-use Rattle.teco_walk.specs.declared.finding.Part.TheVariants.{Buffer, Register}
+use Rattle.teco_verb.specs.declared.part.Part.{Part}
+use Rattle.teco_verb.specs.declared.part.Part.TheVariants.{Buffer, Register}
 
 -- A change of this kind is for the part: a splice for the text; for a register its number, its text, or both
 -- where a value is popped into it.

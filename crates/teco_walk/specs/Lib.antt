@@ -1,4 +1,2 @@
 pub mod Walk
 pub mod Finding
-pub mod Verb
-pub mod Number

@@ -2,17 +2,9 @@
 ghost use Rattle.std.specs.Prelude.{◌≡◌};
 ghost use Rattle.teco_walk.specs.Finding.{is_for, last_change};
 
-use teco_core::Reg;
 use teco_session::Changes;
 use teco_store::ChangeKind;
-
-/// A part of the state that is asked for.
-#[derive(Clone, Copy)]
-pub enum Part {
-    /// The text of the buffer.
-    Buffer,
-    Register(Reg),
-}
+use teco_verb::Part;
 
 /// Whether a change of this kind is for the part.
 fn is_for(part: &Part, kind: ChangeKind) -> bool

@@ -6,7 +6,7 @@ ghost use Rattle.teco_store.specs.State.{beginning, state_of};
 ghost use Rattle.teco_walk.specs.Finding.{IsAsNowFrom, last_change};
 ghost use Rattle.teco_walk.specs.Walk.{SameString, lacks_memory, meant, state_there};
 
-use crate::finding::{Part, last_change};
+use crate::finding::last_change;
 use std::alloc::Global;
 use std::marker::Model;
 use teco_core::{Code, NoMemory};
@@ -14,6 +14,7 @@ use teco_exec::{Outcome, Place, meaning_laws, run_where};
 use teco_session::{Answer, Changes, Session};
 use teco_store::Editor;
 use teco_terminal::MemoryTerminal;
+use teco_verb::Part;
 
 /// A command string over an input, of which some steps are done.
 ///

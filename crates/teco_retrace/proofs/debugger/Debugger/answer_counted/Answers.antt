@@ -1,7 +1,7 @@
 use Rattle.std.proofs.Common.{◌∙◌, ◌+◌, ◌-◌, ℕ, ap, min, subst, sym}
 use Rattle.std.specs.Prelude.{OnOk}
 use Rattle.std.specs.String.{string_bytes}
-use Rattle.teco_walk.specs.declared.verb.Counted.{Counted}
+use Rattle.teco_verb.specs.declared.verb.Counted.{Counted}
 use Rattle.teco_retrace.specs.Answering.{AnswersCounted}
 use Rattle.teco_retrace.specs.Moving.{MovesTo}
 use Rattle.teco_retrace.proofs.debugger.Debugger.answer_counted.Goals as goal

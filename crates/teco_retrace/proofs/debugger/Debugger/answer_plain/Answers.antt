@@ -3,7 +3,7 @@ use Rattle.std.proofs.lemmas.Result.{on_ok_weaker}
 use Rattle.std.specs.Prelude.{OnOk}
 use Rattle.std.specs.String.{string_bytes}
 use Rattle.teco_telling.specs.Spelling.{spelled}
-use Rattle.teco_walk.specs.declared.verb.Plain.{Plain}
+use Rattle.teco_verb.specs.declared.verb.Plain.{Plain}
 use Rattle.teco_retrace.specs.Answering.{AnswersPlain, answer_line}
 use Rattle.teco_retrace.specs.Showing.{where_shown}
 use Rattle.teco_retrace.proofs.Answered.{shows_help}

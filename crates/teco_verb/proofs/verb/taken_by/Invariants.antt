@@ -1,6 +1,6 @@
 use Rattle.std.proofs.Common.{◌≡◌, drop, map}
-use Rattle.teco_walk.specs.Verb.{taken, verb_by}
-use Rattle.teco_walk.proofs.verb.taken_by.Given as goal
+use Rattle.teco_verb.specs.Verb.{taken, verb_by}
+use Rattle.teco_verb.proofs.verb.taken_by.Given as goal
 
 -- no row so far is spelled so
 abbrev pub invariant-loop-row : goal.invariant-loop-row

@@ -3,8 +3,8 @@ use Rattle.std.specs.Prelude.{ℕ, List, length, Bool, ◌&&◌, nat_lt, if◌th
 use Rattle.std.specs.List.{list_all}
 use Rattle.teco_core.specs.Ascii.{is_digit}
 use Rattle.teco_core.specs.Number.{digits_value}
-use Rattle.teco_walk.specs.declared.command.Fault.{Fault}
-use Rattle.teco_walk.specs.declared.command.Fault.TheVariants.{NoNumber}
+use Rattle.teco_verb.specs.declared.command.Fault.{Fault}
+use Rattle.teco_verb.specs.declared.command.Fault.TheVariants.{NoNumber}
 
 -- 1 to 18 digits
 abbrev pub is_number : List ℕ → Bool

@@ -1,6 +1,6 @@
 //! The table of commands.
 ghost use Rattle.std.specs.Prelude.{◌≡◌, map};
-ghost use Rattle.teco_walk.specs.Verb.{taken, verb_by, verbs};
+ghost use Rattle.teco_verb.specs.Verb.{taken, verb_by, verbs};
 
 /// A command that takes nothing.
 #[derive(Clone, Copy)]

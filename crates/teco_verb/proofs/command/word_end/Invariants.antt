@@ -1,8 +1,8 @@
 use Rattle.std.proofs.Common.{◌≡◌, ◌+◌, ◌-◌, ◌≤◌, length, drop}
 use Rattle.std.specs.Prelude.{not}
 use Rattle.std.specs.List.{prefix_len}
-use Rattle.teco_walk.specs.Verb.{is_blank}
-use Rattle.teco_walk.proofs.command.word_end.Given as goal
+use Rattle.teco_verb.specs.Verb.{is_blank}
+use Rattle.teco_verb.proofs.command.word_end.Given as goal
 
 abbrev pub invariant-loop-end : goal.invariant-loop-end
 invariant-loop-end l = record {

@@ -1,6 +1,6 @@
 use Rattle.std.proofs.Common.{◌≡◌, ◌+◌, ◌-◌, ◌≤◌, length, drop}
-use Rattle.teco_walk.specs.Verb.{colon_in}
-use Rattle.teco_walk.proofs.command.colon.Given as goal
+use Rattle.teco_verb.specs.Verb.{colon_in}
+use Rattle.teco_verb.proofs.command.colon.Given as goal
 
 abbrev pub invariant-loop-at : goal.invariant-loop-at
 invariant-loop-at l = record {

@@ -3,19 +3,19 @@ use Rattle.std.specs.Prelude.{ℕ, ◌+◌, ◌-◌, Bool, ◌||◌, ◌==◌, n
 use Rattle.std.specs.List.{prefix_len, suffix_len}
 use lib.Pointwise.{pointwise}
 use Rattle.teco_core.specs.Register.{register_of}
-use Rattle.teco_walk.specs.Number.{number_in}
-use Rattle.teco_walk.specs.declared.command.Command.{Command}
-use Rattle.teco_walk.specs.declared.command.Command.TheVariants as command
-use Rattle.teco_walk.specs.declared.command.Fault.{Fault}
-use Rattle.teco_walk.specs.declared.command.Fault.TheVariants.{NoCommand, NoNumber, NoRegister, NoPlace, TooMuch}
-use Rattle.teco_walk.specs.declared.finding.Part.{Part}
-use Rattle.teco_walk.specs.declared.finding.Part.TheVariants as part
+use Rattle.teco_verb.specs.Number.{number_in}
+use Rattle.teco_verb.specs.declared.command.Command.{Command}
+use Rattle.teco_verb.specs.declared.command.Command.TheVariants as command
+use Rattle.teco_verb.specs.declared.command.Fault.{Fault}
+use Rattle.teco_verb.specs.declared.command.Fault.TheVariants.{NoCommand, NoNumber, NoRegister, NoPlace, TooMuch}
+use Rattle.teco_verb.specs.declared.part.Part.{Part}
+use Rattle.teco_verb.specs.declared.part.Part.TheVariants as part
 use Rattle.teco_telling.specs.declared.spot.Spot.{Spot}
-use Rattle.teco_walk.specs.declared.verb.Takes.{Takes}
-use Rattle.teco_walk.specs.declared.verb.Takes.TheVariants.{Nothing, Number, NumberOr, Register, Part as ThePart, Spot as TheSpot}
-use Rattle.teco_walk.specs.declared.verb.Counted.TheVariants as counted
-use Rattle.teco_walk.specs.declared.verb.Plain.TheVariants as plain
-use Rattle.teco_walk.specs.declared.verb.VerbRow.{VerbRow}
+use Rattle.teco_verb.specs.declared.verb.Takes.{Takes}
+use Rattle.teco_verb.specs.declared.verb.Takes.TheVariants.{Nothing, Number, NumberOr, Register, Part as ThePart, Spot as TheSpot}
+use Rattle.teco_verb.specs.declared.verb.Counted.TheVariants as counted
+use Rattle.teco_verb.specs.declared.verb.Plain.TheVariants as plain
+use Rattle.teco_verb.specs.declared.verb.VerbRow.{VerbRow}
 
 -- a command: its word, the letter that stands for it, and what it takes
 pub record Verb : Type 0 where

@@ -1,8 +1,8 @@
 use Rattle.std.proofs.Common.{◌≡◌, ◌∙◌, ◌+◌, ◌*◌, ◌^◌, ◌≤◌, arith, ap, sym, drop, add-one, pow-suc}
 use Rattle.std.proofs.Math.Nat.{pow-le-pow_right}
 use Rattle.teco_core.specs.Number.{digits_value}
-use Rattle.teco_walk.proofs.Digits.{digits-more, digits_value-more, number_is}
-use Rattle.teco_walk.proofs.number.number_in.Goals as goal
+use Rattle.teco_verb.proofs.Digits.{digits-more, digits_value-more, number_is}
+use Rattle.teco_verb.proofs.number.number_in.Goals as goal
 
 pub overflow_mul-number : goal.overflow_mul-number
 overflow_mul-number c =

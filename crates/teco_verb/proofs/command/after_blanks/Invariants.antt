@@ -1,7 +1,7 @@
 use Rattle.std.proofs.Common.{◌≡◌, ◌+◌, ◌-◌, ◌≤◌, length, drop}
 use Rattle.std.specs.List.{prefix_len}
-use Rattle.teco_walk.specs.Verb.{is_blank}
-use Rattle.teco_walk.proofs.command.after_blanks.Given as goal
+use Rattle.teco_verb.specs.Verb.{is_blank}
+use Rattle.teco_verb.proofs.command.after_blanks.Given as goal
 
 abbrev pub invariant-loop-start : goal.invariant-loop-start
 invariant-loop-start l = record {

@@ -1,7 +1,7 @@
 use Rattle.std.proofs.Common.{◌≡◌, ◌+◌, ◌≤◌, length, take}
 use Rattle.std.specs.List.{suffix_len}
-use Rattle.teco_walk.specs.Verb.{is_blank}
-use Rattle.teco_walk.proofs.command.before_blanks.Given as goal
+use Rattle.teco_verb.specs.Verb.{is_blank}
+use Rattle.teco_verb.proofs.command.before_blanks.Given as goal
 
 abbrev pub invariant-loop-end : goal.invariant-loop-end
 invariant-loop-end l = record {

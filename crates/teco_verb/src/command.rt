@@ -1,10 +1,10 @@
 //! The commands, a line each.
 ghost use Rattle.std.specs.List.{prefix_len, suffix_len};
 ghost use Rattle.std.specs.Prelude.{◌≡◌, ℕ, ◌≤◌, length, not, Result, Some};
-ghost use Rattle.teco_walk.specs.Verb.{break_at, colon_in, command_in, command_of, find, given, is_blank, part_in, register_in, spot_in, without_blanks_after, without_blanks_before, words_of};
+ghost use Rattle.teco_verb.specs.Verb.{break_at, colon_in, command_in, command_of, find, given, is_blank, part_in, register_in, spot_in, without_blanks_after, without_blanks_before, words_of};
 
-use crate::finding::Part;
 use crate::number::number_in;
+use crate::part::Part;
 use crate::verb::{Counted, Plain, Takes, takes_of};
 use std::error::Error;
 use std::fmt;

@@ -6,7 +6,7 @@ use Rattle.std.proofs.lemmas.List.{at_drop_more, drop_all}
 use Rattle.std.specs.List.{list_all}
 use Rattle.teco_core.specs.Ascii.{is_digit}
 use Rattle.teco_core.specs.Number.{digits_value}
-use Rattle.teco_walk.specs.Number.{number_in}
+use Rattle.teco_verb.specs.Number.{number_in}
 
 -- one digit on
 pub digits-more : (bytes : List ℕ) (i : ℕ) → i < length bytes → true ≡ is_digit (get_or bytes i 0) → list_all is_digit (drop i bytes) ≡ list_all is_digit (drop (i + 1) bytes)

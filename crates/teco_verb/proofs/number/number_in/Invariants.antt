@@ -2,7 +2,7 @@ use Rattle.std.proofs.Common.{◌≡◌, ◌<◌, ◌^◌, drop}
 use Rattle.std.specs.List.{list_all}
 use Rattle.teco_core.specs.Ascii.{is_digit}
 use Rattle.teco_core.specs.Number.{digits_value}
-use Rattle.teco_walk.proofs.number.number_in.Given as goal
+use Rattle.teco_verb.proofs.number.number_in.Given as goal
 
 -- digits so far, with this value
 abbrev pub invariant-loop-byte : goal.invariant-loop-byte

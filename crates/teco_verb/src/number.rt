@@ -1,6 +1,6 @@
 //! Numbers in commands.
 ghost use Rattle.std.specs.Prelude.{◌≡◌};
-ghost use Rattle.teco_walk.specs.Number.{number_in};
+ghost use Rattle.teco_verb.specs.Number.{number_in};
 
 use crate::command::Fault;
 
