@@ -9,7 +9,7 @@ use Rattle.teco_store.specs.Turn.{Turn, Note, Splice, Lend, Point, Number, Text,
 use Rattle.teco_store.specs.Kinds.{kind_of}
 use Rattle.teco_record.specs.Entry.{body_back, since}
 use Rattle.teco_record.specs.Follows.{AreMarked, HasCome}
-use Rattle.teco_store.proofs.Recordings.{since_low, since_high}
+use Rattle.teco_record.proofs.Recordings.{since_low, since_high}
 use Rattle.teco_walk.specs.Finding.{SamePart, is_for, last_change, or_else, step_before}
 use Rattle.teco_walk.specs.declared.finding.Part.{Part}
 use Rattle.teco_walk.specs.declared.finding.Part.TheVariants.{Buffer, Register}
