@@ -3,6 +3,10 @@ use Rattle.teco_host.specs.Seen.{disk_seen, source_view}
 use Rattle.teco_retrace.specs.Reading.{IsNotRead}
 use Rattle.teco_retrace.proofs.running.input_of.Goals as goal
 
+-- no input is given there
+pub returns-in-Err-clause-input : goal.returns-in-Err-clause-input
+returns-in-Err-clause-input g c = tt
+
 pub returns-in-Err-clause-lacks : goal.returns-in-Err-clause-lacks
 returns-in-Err-clause-lacks g c =
     let seen = disk_seen g.D.Disk.files g.D.Disk.streams g.D.Disk.left g.D.Disk.gave g.D.Disk.changed
