@@ -13,7 +13,6 @@ use Rattle.teco_edit.specs.Run.{Concludes}
 use Rattle.teco_edit.specs.Given.{EditsBy, EditsByBytes, EditsGiven, HostView, IsIdle, is_streamed}
 use Rattle.teco_host.specs.Seen.{DiskSeen, Host, KeepsDisk, SourceView}
 use Rattle.teco_serve.specs.declared.fate.Fate.{Fate}
-use Rattle.teco_serve.specs.declared.served.Served.TheVariants as served
 use Rattle.teco_edit.specs.declared.sources.CommandsFault.{CommandsFault}
 use Rattle.teco_edit.specs.Sources.{Declines, IsGivenBy, LacksCommands}
 
