@@ -24,10 +24,16 @@ use teco_core::{CaseMode, Code};
 /// A search text that has been read, in a case mode.
 ///
 /// A clause sees its mode and its elements, of which there is at least one.
-#[derive(Drop)]
 pub struct Pattern {
     mode: CaseMode,
     form: Form,
+}
+
+// Its parts go here, and a crate that lets a pattern go calls this.
+impl Drop for Pattern {
+    fn drop(self) {
+        let Pattern { mode: _, form: _ } = self;
+    }
 }
 
 #[derive(Drop)]
