@@ -6,7 +6,6 @@ use teco_scan::Fault;
 ///
 /// Places count the bytes before them, each in its own text. What a caller needs besides, he reads there himself: where the token
 /// ends, by `token_at` of teco_scan; and the text of a register that is called, as long as nothing has changed it since the call.
-#[derive(Drop)]
 pub struct Place {
     /// The steps that were done when it stood there.
     pub steps: u64,
@@ -19,6 +18,19 @@ pub struct Place {
     /// The first fault of the innermost text, if it has one. A run that ends by its code has met it: at the place, or in what the
     /// token there skips. A jump finds no tag after it.
     pub fault: Option<Fault>,
+}
+
+// Its calls go here, and a crate that lets a place go calls this.
+impl Drop for Place {
+    fn drop(self) {
+        let Place {
+            steps: _,
+            at: _,
+            turns: _,
+            calls: _,
+            fault: _,
+        } = self;
+    }
 }
 
 /// A call that is open.

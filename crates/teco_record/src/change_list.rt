@@ -26,10 +26,16 @@ const _: () = prove!(size_of::<Slot>() <= 24);
 ///
 /// One of a number, of the pointer, of a flag or of a byte takes 24 bytes. What is larger is held apart. A clause sees them as the changes, and how
 /// many more have room.
-#[derive(Drop)]
 pub struct ChangeList {
     slots: Vec<Slot>,
     apart: Vec<Part>,
+}
+
+// Its parts go here, and a crate that lets changes go calls this.
+impl Drop for ChangeList {
+    fn drop(self) {
+        let ChangeList { slots: _, apart: _ } = self;
+    }
 }
 
 impl Model for ChangeList {

@@ -20,7 +20,6 @@ use teco_gap::GapBuffer;
 /// A clause sees it as its body, the output that is stored, and the capacity of the buffer. The output ends after its first `shown`
 /// bytes: what is stored beyond them was written and taken back, and the next write drops it. A page ends at a form feed, and after
 /// `page_lines` lines where that is not 0.
-#[derive(Drop)]
 pub struct Editor {
     text: GapBuffer,
     pointer: usize,
@@ -36,6 +35,28 @@ pub struct Editor {
     last_found: bool,
     done: bool,
     case_mode: CaseMode,
+}
+
+// Its parts go here, and a crate that lets an editor go calls this.
+impl Drop for Editor {
+    fn drop(self) {
+        let Editor {
+            text: _,
+            pointer: _,
+            registers: _,
+            pushed: _,
+            input: _,
+            place: _,
+            page_lines: _,
+            output: _,
+            shown: _,
+            form_feed: _,
+            last_search: _,
+            last_found: _,
+            done: _,
+            case_mode: _,
+        } = self;
+    }
 }
 
 impl Model for Editor {
