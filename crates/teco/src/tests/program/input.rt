@@ -1,6 +1,6 @@
 //! What is read of sources that end, fail, or give too much.
 use crate::tests::bytes::{are, is, joined};
-use crate::tests::rows::{Cells, Rule, all_hold, cells_of, number_or};
+use crate::tests::rows::{Rule, all_hold, cells_of, number_or};
 use std::alloc::Global;
 use std::test::*;
 use teco_files::{InputFault, MemorySource, ReaderSource, Source, read_input};
@@ -16,29 +16,24 @@ fn reads<S: Source>(alloc: Global, source: &mut S, most: usize, wanted: &str) ->
     }
 }
 
-/// Whether a row holds of a reader that fails after its bytes, or of a source in memory that gives them in three pieces, and then ends or
-/// fails.
-fn reads_so(alloc: Global, cells: &Cells) -> bool {
-    let [bytes, most, wanted, end, ..] = *cells;
-    let bytes = joined(alloc, &[bytes.as_bytes()]);
-    let most = number_or(most, 0) as usize;
-    if is(end, "reader") {
-        let reader = FailAfter::new(bytes);
-        return reads(alloc, &mut ReaderSource::new(reader), most, wanted);
-    }
-    let mut cuts = Vec::new(alloc);
-    let _ = cuts.push(3).is_ok() && cuts.push(5).is_ok();
-    let mut source = MemorySource::new(bytes, cuts, is(end, "fails"));
-    reads(alloc, &mut source, most, wanted)
-}
-
 /// The bytes of a source, the most that may be, what reading it gives, and how it ends.
 #[derive(Clone, Copy)]
 struct Inputs;
 
 impl Rule for Inputs {
+    /// A reader fails after its bytes; a source in memory gives them in three pieces, and then ends or fails.
     fn holds(&self, alloc: Global, row: &str) -> bool {
-        reads_so(alloc, &cells_of(row))
+        let [bytes, most, wanted, end, ..] = cells_of(row);
+        let bytes = joined(alloc, &[bytes.as_bytes()]);
+        let most = number_or(most, 0) as usize;
+        if is(end, "reader") {
+            let reader = FailAfter::new(bytes);
+            return reads(alloc, &mut ReaderSource::new(reader), most, wanted);
+        }
+        let mut cuts = Vec::new(alloc);
+        let _ = cuts.push(3).is_ok() && cuts.push(5).is_ok();
+        let mut source = MemorySource::new(bytes, cuts, is(end, "fails"));
+        reads(alloc, &mut source, most, wanted)
     }
 }
 

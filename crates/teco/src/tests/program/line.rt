@@ -68,21 +68,14 @@ enum Lines {
     End,
 }
 
-impl Lines {
-    /// Whether a row holds of its line.
-    fn hold_of(self, alloc: Global, line: &Line, cells: &Cells) -> bool {
-        match self {
-            Lines::Say => says(alloc, line, cells),
-            Lines::End => ends_so(alloc, line, cells),
-        }
-    }
-}
-
 impl Rule for Lines {
     fn holds(&self, alloc: Global, row: &str) -> bool {
         let cells = cells_of(row);
         match line_of(alloc, words_of(alloc, cells[0]).as_slice()) {
-            Ok(line) => self.hold_of(alloc, &line, &cells),
+            Ok(line) => match self {
+                Lines::Say => says(alloc, &line, &cells),
+                Lines::End => ends_so(alloc, &line, &cells),
+            },
             Err(fault) => is_refused(&fault, cells[3]),
         }
     }

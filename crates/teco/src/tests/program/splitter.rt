@@ -17,18 +17,15 @@ fn feeds(splitter: &mut Splitter, piece: &[u8]) -> bool {
 }
 
 /// A piece that is refused leaves what is held, and is taken once when it is fed again.
-fn takes_each_piece(splitter: &mut Splitter) -> bool {
-    feeds(splitter, b"1=\x1b")
+#[test]
+fn takes_each_piece_once(rt: HostRuntime) {
+    let splitter = &mut Splitter::new(rt.alloc());
+    let held = feeds(splitter, b"1=\x1b")
         && feeds(splitter, b"\x1bIa\x1b\x1bIbcdefghijklmnop")
         && gives(splitter, b"1=\x1b")
         && feeds(splitter, b"qrst\x1b\x1bZ")
         && gives(splitter, b"Ia\x1b")
         && gives(splitter, b"Ibcdefghijklmnopqrst\x1b")
-        && matches!(splitter.next(), Ok(None))
-}
-
-#[test]
-fn takes_each_piece_once(rt: HostRuntime) {
-    let mut splitter = Splitter::new(rt.alloc());
-    assert!(rt; takes_each_piece(&mut splitter));
+        && matches!(splitter.next(), Ok(None));
+    assert!(rt; held);
 }

@@ -6,20 +6,6 @@ use std::test::*;
 use teco_core::CaseMode;
 use teco_search::Pattern;
 
-/// Whether the pattern of a text is shown so.
-fn shows(alloc: Global, text: &[u8], wanted: &str) -> bool {
-    if text.is_empty() {
-        return false;
-    }
-    let Ok(pattern) = Pattern::read(alloc, text, CaseMode::Exact) else {
-        return false;
-    };
-    match format!(in alloc; "{pattern}") {
-        Ok(shown) => is(&shown, wanted),
-        Err(_) => false,
-    }
-}
-
 /// A search text, and how it is shown.
 #[derive(Clone, Copy)]
 struct Shown;
@@ -27,7 +13,16 @@ struct Shown;
 impl Rule for Shown {
     fn holds(&self, alloc: Global, row: &str) -> bool {
         let [text, wanted, ..] = cells_of(row);
-        shows(alloc, text.as_bytes(), wanted)
+        if text.is_empty() {
+            return false;
+        }
+        let Ok(pattern) = Pattern::read(alloc, text.as_bytes(), CaseMode::Exact) else {
+            return false;
+        };
+        match format!(in alloc; "{pattern}") {
+            Ok(shown) => is(&shown, wanted),
+            Err(_) => false,
+        }
     }
 }
 
