@@ -1,4 +1,4 @@
-use Rattle.std.proofs.Common.{◌≡◌, ◌∙◌, ◌≤◌, ℕ, refl, sym, ap, subst, Option, Some, None, codes, arith}
+use Rattle.std.proofs.Common.{◌≡◌, ◌∙◌, ◌≤◌, ℕ, refl, sym, ap, subst, Option, Some, None, codes, arith, rules}
 use Rattle.std.specs.Prelude.{IfSome, option_map}
 use Rattle.std.specs.Option.{IsSome, IsSomeAnd}
 use Rattle.std.specs.String.{string_bytes}
@@ -13,26 +13,14 @@ pub unwrap-requires : goal.unwrap-requires
 unwrap-requires c =
     some_of_text _ c.get_str.result _ (c.get_str.ensures ∙ first_value-rows (found_of c.args.matches.now) (codes "input")) c.requires.given.input
 
+-- searched, so that a flag or a text that comes to a line needs no line here
 pub returns-clause-line : goal.returns-clause-line
 returns-clause-line c =
     let rows = rows_of (found_of c.args.matches.now) in
     let input : first_of (codes "input") rows ≡ Some (string_bytes c.in_ok-input.input) =
     sym (first_value-rows (found_of c.args.matches.now) (codes "input")) ∙ (sym c.get_str.ensures ∙ ap (option_map (λ s. s.now)) c.unwrap.ensures ∙ ap Some (sym c.in_ok-input.ensures.ok)) in
     let limit = c.number_at.ensures ∙ c.unwrap-limit.ensures in
-    record {
-      input = input;
-      more = c.in_ok-more.ensures;
-      output = c.in_ok-output.ensures;
-      commands = c.in_ok-commands.ensures.commands;
-      limit = limit;
-      seconds = c.number_at-seconds.ensures;
-      prompt = c.flag_at-prompt.ensures;
-      in_place = c.flag_at-in_place.ensures;
-      check = c.flag_at-check.ensures;
-      explain = c.flag_at-explain.ensures;
-      undo = c.number_at-undo.ensures;
-      page_lines = c.number_at-page_lines.ensures;
-    }
+    search (rules, input, limit)
 
 -- what every parse gives for a number
 is_number : (text : Option Text) (low high : ℕ) → IfSome text (IsUnsignedIn low high) → IfSome text IsNumber
