@@ -124,6 +124,20 @@ impl Recorder {
         self.editor.reserve(len)
     }
 
+    // Finds room for so many more changes, for so many of them that are held apart, and for a text of `len` bytes.
+    fn find_room(&mut self, changes: usize, apart: usize, len: usize) -> Result<(), NoMemory>
+        ensures body { self.new.full.body ≡ self.old.full.body }
+        ensures stored { self.new.full.stored ≡ self.old.full.stored }
+        ensures sound { IsSound self.new.full.room (length self.new.full.stored) self.new.full.body }
+        ensures spare { OnOk result (changes ≤ self.new.spare) }
+        ensures apart { OnOk result (apart ≤ self.new.apart) }
+        ensures room { OnOk result (len ≤ self.new.full.room) }
+        ensures keeps { StillFollows self.old self.new }
+    {
+        self.reserve(changes, apart)?;
+        self.reserve_text(len)
+    }
+
     // Finds memory for so many changes, for so many of them that are held apart, for `bytes` bytes that are to be noted, and for a text
     // of `len` bytes.
     fn find_memory(
@@ -142,8 +156,7 @@ impl Recorder {
         ensures room { OnOk result (len ≤ self.new.full.room) }
         ensures keeps { StillFollows self.old self.new }
     {
-        self.reserve(changes, apart)?;
-        self.reserve_text(len)?;
+        self.find_room(changes, apart, len)?;
         Vec::with_capacity(self.editor.allocator(), bytes)
     }
 
@@ -169,8 +182,7 @@ impl Recorder {
     {
         let apart = apart + usize::from(bytes != 1);
         if bytes <= SHORT_LIMIT {
-            self.reserve(changes, apart)?;
-            self.reserve_text(len)?;
+            self.find_room(changes, apart, len)?;
             return Ok(None);
         }
         let held = self.find_memory(changes, apart, bytes, len)?;

@@ -75,8 +75,7 @@ impl Recorder {
         ensures keeps { StillFollows self.old self.new }
     {
         if let Some(from) = self.editor.place_of_page() {
-            self.reserve(changes, 1)?;
-            self.reserve_text(len)?;
+            self.find_room(changes, 1, len)?;
             return Ok(Held::Input(from));
         }
         let held = self.find_memory(changes, 1, there + len, len)?;
