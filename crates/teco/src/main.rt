@@ -6,8 +6,10 @@ mod tests;
 
 use std::process;
 use std::process::ExitCode;
-use teco_files::{FileDisk, ReaderSource};
-use teco_line::{LineFault, fault_of_words, not_text};
+use teco_bytes::ReaderSource;
+use teco_files::FileDisk;
+use teco_line::not_text;
+use teco_option::{LineFault, fault_of_words};
 use teco_program::program;
 use teco_serve::ClockAlarm;
 use teco_terminal::WriterTerminal;

@@ -4,7 +4,7 @@
 use std::env;
 use std::process::ExitCode;
 use teco_files::FileDisk;
-use teco_line::{LineFault, fault_of_words};
+use teco_option::{LineFault, fault_of_words};
 use teco_retrace::{not_text, program};
 use teco_terminal::WriterTerminal;
 

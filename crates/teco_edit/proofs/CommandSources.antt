@@ -5,7 +5,7 @@ use Rattle.std.proofs.lemmas.List.{append-nil}
 use Rattle.std.specs.List.{slice_index_or}
 use Rattle.std.specs.String.{string_bytes}
 use Rattle.teco_files.specs.Disk.{Files}
-use Rattle.teco_line.specs.StreamNames.{is_standard_input}
+use Rattle.teco_option.specs.StreamNames.{is_standard_input}
 use Rattle.teco_edit.proofs.Doings.{lacks_after}
 use Rattle.teco_host.specs.Seen.{KeepsDisk, DiskSeen, SourceView}
 use Rattle.teco_edit.specs.Sources.{AreCommandsIn, FailsToGive, IsFaultOf, IsFaultyFile, IsUnread, IsUnreadFile, IsWholeOf, LacksFiles}

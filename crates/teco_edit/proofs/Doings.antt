@@ -2,10 +2,10 @@
 use Rattle.std.proofs.Common.{◌≡◌, ◌≢◌, inl, inr, ℕ, List, Bool, IsTrue, Option, true, false, refl, ap, sym, ◌∙◌, subst}
 use Rattle.std.specs.declared.io.Error.{Error}
 use Rattle.teco_files.specs.Disk.{Changes, Files}
-use Rattle.teco_files.specs.declared.input.InputFault.{InputFault}
-use Rattle.teco_files.specs.declared.input.InputFault.TheVariants as input
+use Rattle.teco_bytes.specs.declared.input.InputFault.{InputFault}
+use Rattle.teco_bytes.specs.declared.input.InputFault.TheVariants as input
 use Rattle.teco_line.specs.declared.line.Line.{Line}
-use Rattle.teco_line.specs.StreamNames.{is_standard_output}
+use Rattle.teco_option.specs.StreamNames.{is_standard_output}
 use Rattle.teco_terminal.specs.Terminal.{Screen}
 use Rattle.teco_host.specs.Writing.{AddsDrafts, IsPut, WritesOutput}
 use Rattle.teco_serve.specs.Ending.{fate_without_input, output_of}

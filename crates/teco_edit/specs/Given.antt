@@ -5,7 +5,7 @@ use Rattle.std.specs.declared.io.Error.{Error}
 use Rattle.teco_files.specs.Disk.{Opens}
 use Rattle.teco_terminal.specs.Terminal.{Screen}
 use Rattle.teco_line.specs.Conflict.{has_more}
-use Rattle.teco_line.specs.StreamNames.{is_standard_input}
+use Rattle.teco_option.specs.StreamNames.{is_standard_input}
 use Rattle.teco_line.specs.declared.line.Commands.{Commands}
 use Rattle.teco_line.specs.declared.line.Commands.TheVariants.{StandardInput, Sources, Pages, Bytes}
 use Rattle.teco_line.specs.declared.line.Line.{Line}

@@ -1,7 +1,7 @@
 -- A run over one input of the line: what it reads, serves and writes, and how it ends.
 use Rattle.std.specs.Prelude.{◌≡◌, ◌≢◌, ◌⊎◌, ℕ, List, codes, Option, Some, None, unwrap_or, Bool, IsTrue, true, false}
 use Rattle.teco_terminal.specs.Terminal.{IsFrontOf, Screen, Shows}
-use Rattle.teco_line.specs.StreamNames.{is_standard_output}
+use Rattle.teco_option.specs.StreamNames.{is_standard_output}
 use Rattle.std.specs.IoError.{error_kind}
 use Rattle.std.specs.declared.io.Error.{Error}
 use Rattle.std.specs.declared.io.ErrorKind.TheVariants.{OutOfMemory}
@@ -9,21 +9,21 @@ use Rattle.teco_core.specs.declared.limits.TheConstants.{FILE_LIMIT}
 use Rattle.teco_session.specs.History.{History, new_paged_history, present}
 use Rattle.teco_files.specs.Disk.{Changes, Files, Opens, Passes, SameBut}
 use Rattle.teco_serve.specs.Ending.{fate_without_input, output_of, said, status_of, text_of}
-use Rattle.teco_files.specs.Input.{IsFaultOf}
+use Rattle.teco_bytes.specs.Input.{IsFaultOf}
 use Rattle.teco_host.specs.Refusing.{Tells}
 use Rattle.teco_serve.specs.Exchange.{allowance}
 use Rattle.teco_serve.specs.Serving.{Serves}
 use Rattle.teco_edit.specs.Seen.{CommandsSeen, InputSeen, OutputSeen, RunSeen, TerminalSeen, terminal_seen}
 use Rattle.teco_host.specs.Reading.{IsInput, IsStreamed}
 use Rattle.teco_host.specs.Seen.{DiskSeen, KeepsDisk, SourceView}
-use Rattle.teco_files.specs.Source.{Gives}
+use Rattle.teco_bytes.specs.Source.{Gives}
 use Rattle.teco_host.specs.Writing.{AddsDrafts, IsWriteError, IsWriting, WritesOutput}
 use Rattle.teco_serve.specs.declared.alarm.Bounds.{Bounds}
 use Rattle.teco_serve.specs.declared.fate.Fate.{Fate}
 use Rattle.teco_serve.specs.declared.fate.Fate.TheVariants.{NoCommands, NoInput, LargeInput, NoMemory, NoOutput}
 use Rattle.teco_serve.specs.declared.fate.Fate.TheVariants.{Changed, Unchanged}
 use Rattle.teco_serve.specs.declared.fate.Fate.TheVariants.{Ended}
-use Rattle.teco_files.specs.declared.input.InputFault.{InputFault}
+use Rattle.teco_bytes.specs.declared.input.InputFault.{InputFault}
 use Rattle.teco_line.specs.declared.line.Commands.{Commands}
 use Rattle.teco_line.specs.declared.line.Commands.TheVariants.{StandardInput, Sources, Pages, Bytes}
 use Rattle.teco_line.specs.declared.line.Line.{Line}

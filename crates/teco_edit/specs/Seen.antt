@@ -1,6 +1,6 @@
 -- What is seen of the commands, the input and the output of one run.
 use Rattle.std.specs.Prelude.{◌≡◌, ℕ, List, Bool}
-use Rattle.teco_files.specs.Source.{Gives, HasEnded}
+use Rattle.teco_bytes.specs.Source.{Gives, HasEnded}
 use Rattle.teco_host.specs.Seen.{DiskSeen, SourceView}
 use Rattle.teco_serve.specs.declared.fate.Fate.{Fate}
 use Rattle.teco_terminal.specs.Terminal.{Screen, Shows}

@@ -9,8 +9,10 @@ ghost use Rattle.teco_host.specs.Seen.{disk_seen, host, source_view};
 
 use crate::editing::{edit_file, edit_input, fate_of};
 use std::alloc::Global;
-use teco_files::{Disk, Source, WordSource};
-use teco_line::{Commands, Line, is_standard_input};
+use teco_bytes::{Source, WordSource};
+use teco_files::Disk;
+use teco_line::{Commands, Line};
+use teco_option::is_standard_input;
 use teco_serve::{Alarm, Fate, Listens};
 use teco_terminal::Terminal;
 

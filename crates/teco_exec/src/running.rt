@@ -1,7 +1,7 @@
 //! The run of a command string.
 ghost use Rattle.std.specs.Prelude.{◌≡◌, ℕ, List, ◌↔◌, IfOk, IfSome, MatchOption, Ok, Some, true, false, None};
 ghost use Rattle.teco_core.specs.declared.code.Code.TheVariants.{Lim, Mem};
-ghost use Rattle.teco_scan.specs.Lists.{nodes};
+ghost use Rattle.teco_blocks.specs.Lists.{nodes};
 ghost use Rattle.teco_exec.specs.Places.{IsPlaceAfter, Told};
 ghost use Rattle.teco_exec.specs.Telling.{IsLastPlace};
 ghost use Rattle.teco_terminal.specs.Terminal.{Shows};

@@ -4,8 +4,8 @@ use Rattle.std.specs.Prelude.{not, ◌&&◌, ◌||◌}
 use Rattle.teco_scan.specs.declared.command.TextCommand.TheVariants as texts
 use Rattle.teco_scan.specs.declared.command.RegisterCommand.TheVariants as registers
 use Rattle.teco_scan.specs.Scan.{Item, digits, bare, register, byte, text, set_text, replace}
-use Rattle.teco_scan.specs.Tree.{Nodes, done, item, escape, iter, cond, tag, faulty}
-use Rattle.teco_scan.specs.Lists.{nodes}
+use Rattle.teco_blocks.specs.Tree.{Nodes, done, item, escape, iter, cond, tag, faulty}
+use Rattle.teco_blocks.specs.Lists.{nodes}
 use Rattle.teco_fault.specs.Clean.{is_fine, is_clean, clean_within, IsClean}
 use Rattle.teco_fault.specs.declared.faults.Fault.{Fault}
 

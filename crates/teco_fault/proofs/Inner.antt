@@ -19,7 +19,7 @@ use Rattle.teco_fault.specs.Checked.{item_length, inner_length, held, may_hold}
 use Rattle.teco_fault.specs.Clean.{is_fine, clean_within}
 use Rattle.teco_fault.specs.Walk.{OpenList, wrong_with, rule}
 use Rattle.teco_fault.specs.declared.faults.Wrong.TheVariants as wrongs
-use Rattle.teco_scan.specs.Tree.{Nodes}
+use Rattle.teco_blocks.specs.Tree.{Nodes}
 use Rattle.std.specs.Prelude.{not, ◌||◌, if◌then◌else◌}
 use Rattle.teco_fault.proofs.Places.{none_more}
 

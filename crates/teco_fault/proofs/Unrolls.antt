@@ -4,12 +4,12 @@ use Rattle.std.specs.Prelude.{◌||◌, slice_index, ◌==◌}
 use Rattle.std.proofs.lemmas.List.{get_or-set_same}
 use Rattle.teco_scan.specs.declared.command.BlockMark.{BlockMark}
 use Rattle.teco_scan.specs.declared.command.BlockMark.TheVariants.{Iterate, EndIteration, Otherwise, EndTest}
-use Rattle.teco_scan.specs.declared.blocks.Kind.{Kind}
-use Rattle.teco_scan.specs.declared.blocks.Kind.TheVariants.{Iter, Then, Else}
+use Rattle.teco_blocks.specs.declared.blocks.Kind.{Kind}
+use Rattle.teco_blocks.specs.declared.blocks.Kind.TheVariants.{Iter, Then, Else}
 use Rattle.teco_scan.specs.Scan.{Instruction, Item, Scanned, TokenMeaning, found, ended, fault, scan, after_fillers}
 use Rattle.teco_scan.specs.Scan as token
-use Rattle.teco_scan.specs.Lists.{tag_at}
-use Rattle.teco_scan.specs.ListLaws.{BlockLaws}
+use Rattle.teco_blocks.specs.Lists.{tag_at}
+use Rattle.teco_blocks.specs.ListLaws.{BlockLaws}
 use Rattle.teco_fault.specs.declared.faults.Fault.{Fault}
 use Rattle.teco_fault.specs.declared.faults.Wrong.{Wrong}
 use Rattle.teco_fault.specs.declared.faults.Wrong.TheVariants as wrongs

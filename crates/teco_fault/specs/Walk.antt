@@ -6,11 +6,11 @@ use Rattle.teco_scan.specs.declared.command.BlockMark.{BlockMark}
 use Rattle.teco_scan.specs.declared.command.BlockMark.TheVariants.{Iterate, EndIteration, Otherwise, EndTest}
 use Rattle.teco_scan.specs.declared.command.TextCommand.TheVariants as texts
 use Rattle.teco_scan.specs.declared.command.RegisterCommand.TheVariants as registers
-use Rattle.teco_scan.specs.declared.blocks.Kind.{Kind}
-use Rattle.teco_scan.specs.declared.blocks.Kind.TheVariants.{Iter, Then, Else}
+use Rattle.teco_blocks.specs.declared.blocks.Kind.{Kind}
+use Rattle.teco_blocks.specs.declared.blocks.Kind.TheVariants.{Iter, Then, Else}
 use Rattle.teco_scan.specs.Scan.{Item, Instruction, Scanned, found, ended, fault, scan, after_fillers}
 use Rattle.teco_scan.specs.Scan as token
-use Rattle.teco_scan.specs.Lists.{tag_at}
+use Rattle.teco_blocks.specs.Lists.{tag_at}
 use Rattle.teco_fault.specs.Checked.{held, may_hold}
 use Rattle.teco_fault.specs.declared.faults.Fault.{Fault}
 use Rattle.teco_fault.specs.declared.faults.Wrong.{Wrong}

@@ -1,8 +1,8 @@
 -- What a check of a part of a text says of the walk.
 use Rattle.std.specs.Prelude.{◌≡◌, ℕ, List, length, drop, Option, Some, None, Result, Ok, Err, if◌then◌else◌}
-use Rattle.teco_scan.specs.declared.blocks.Kind.{Kind}
-use Rattle.teco_scan.specs.declared.blocks.Kind.TheVariants.{Iter, Then, Else}
-use Rattle.teco_scan.specs.declared.blocks.Stop.{Stop}
+use Rattle.teco_blocks.specs.declared.blocks.Kind.{Kind}
+use Rattle.teco_blocks.specs.declared.blocks.Kind.TheVariants.{Iter, Then, Else}
+use Rattle.teco_blocks.specs.declared.blocks.Stop.{Stop}
 use Rattle.teco_fault.specs.declared.faults.Fault.{Fault}
 use Rattle.teco_fault.specs.Checked.{lands_below}
 use Rattle.teco_fault.specs.Walk.{CodeRule, OpenList, lands_in, out_of, walk}

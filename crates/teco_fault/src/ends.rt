@@ -2,9 +2,9 @@
 ghost use Rattle.std.specs.Prelude.{◌≡◌, ◌≢◌, ◌≤◌, ℕ, true, false, Bool, List, length, drop, IfOk, IfErr, Option, Some, None, Ok, is_ok};
 ghost use Rattle.teco_core.specs.declared.code.Code.{Code};
 ghost use Rattle.teco_scan.specs.Scan.{ended};
-ghost use Rattle.teco_scan.specs.Tree.{Nodes};
-ghost use Rattle.teco_scan.specs.Seen.{close_of};
-ghost use Rattle.teco_scan.specs.Lists.{at_mark, at_scan, broken, list_at};
+ghost use Rattle.teco_blocks.specs.Tree.{Nodes};
+ghost use Rattle.teco_blocks.specs.Closes.{close_of};
+ghost use Rattle.teco_blocks.specs.Lists.{at_mark, at_scan, broken, list_at};
 ghost use Rattle.teco_fault.specs.Clean.{is_clean};
 ghost use Rattle.teco_fault.specs.Checked.{is_stray, code_of};
 ghost use Rattle.teco_fault.specs.Walk.{CodeRule, OpenList, opened_at, at_end, walk};
@@ -12,8 +12,9 @@ ghost use Rattle.teco_fault.specs.Walk as walked;
 ghost use Rattle.teco_fault.specs.Walked.{after_list};
 
 use crate::faults::{Fault, Wrong};
+use teco_blocks::{Kind, Stop};
 use teco_core::Code;
-use teco_scan::{BlockMark, Kind, Stop};
+use teco_scan::BlockMark;
 
 /// The place at which the innermost list was opened, if it is a block's.
 fn opened_at(kind: Option<Kind>, opening: usize) -> Option<usize>

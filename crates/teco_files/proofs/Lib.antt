@@ -1,4 +1,2 @@
-pub mod Pieces
-pub mod Sources
 pub mod Disks
 pub mod FileLogs

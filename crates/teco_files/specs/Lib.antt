@@ -1,5 +1,2 @@
-pub mod Source
-pub mod Input
-pub mod Pieces
 pub mod Disk
 pub mod FileLog

@@ -6,10 +6,10 @@ ghost use Rattle.std.specs.declared.io.ErrorKind.{ErrorKind};
 ghost use Rattle.std.specs.Prelude.{[], None, Some, IfOk, IsSome, true, false};
 ghost use Rattle.teco_files.specs.Disk.{Appends, Changes, Counts, Creates, Files, IsTargetOf, Opens, Passes, Removes, Renames, Same, SameBut};
 
-use crate::source::Source;
 use crate::target::Target;
 use std::io;
 use std::io::ErrorKind;
+use teco_bytes::Source;
 
 /// Where files are, by their names. Each call is one of the system's.
 pub trait Disk {

@@ -4,13 +4,13 @@ ghost use Rattle.std.specs.Prelude.{◌≡◌, ⊤, true, None, Some};
 use crate::disk::Disk;
 use crate::draft::{give_mode, make_like, open_new};
 use crate::failures::Failures;
-use crate::reader_source::ReaderSource;
 use crate::target::{Target, append, is_same_file, known, target_of};
 use std::fs::{Files, Metadata, OpenFile};
 use std::io::{ErrorKind, Write};
 use std::os::fd::AsFd;
 use std::os::unix::fs::MetadataExt;
 use std::{fs, io};
+use teco_bytes::ReaderSource;
 
 /// The files of the system, of which no clause tells what they hold.
 #[derive(Drop)]

@@ -6,11 +6,11 @@ ghost use Rattle.teco_files.specs.FileLog.{WereOnce, files_of};
 
 use crate::disk::Disk;
 use crate::failures::Failures;
-use crate::memory_source::MemorySource;
 use crate::target::Target;
 use std::alloc::Global;
 use std::io;
 use std::io::ErrorKind;
+use teco_bytes::MemorySource;
 use teco_core::NoMemory;
 
 mod log;

@@ -2,7 +2,7 @@
 use Rattle.std.specs.Prelude.{◌≡◌, ◌≤◌, ℕ, List, length, Option, Some, false}
 use Rattle.teco_core.specs.declared.limits.TheConstants.{FILE_LIMIT}
 use Rattle.teco_files.specs.Disk.{Files}
-use Rattle.teco_files.specs.Source.{Gives, HasEnded}
+use Rattle.teco_bytes.specs.Source.{Gives, HasEnded}
 use Rattle.teco_host.specs.Seen.{SourceView}
 
 -- The bytes are the input of this name: all that the file has, where the files are told, and no more than a

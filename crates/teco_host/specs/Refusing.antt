@@ -4,10 +4,10 @@ use Rattle.std.specs.String.{string_bytes}
 use Rattle.std.specs.declared.string.String.{String}
 use Rattle.std.specs.declared.alloc.Global.{Global}
 use Rattle.teco_terminal.specs.Terminal.{IsFrontOf, Screen, Shows}
-use Rattle.teco_line.specs.declared.line.LineFault.{LineFault}
-use Rattle.teco_line.specs.declared.line.LineFault.TheVariants as line_fault
-use Rattle.teco_line.specs.declared.line.refusal.RefusedAs.{RefusedAs}
-use Rattle.teco_line.specs.declared.line.refusal.RefusedAs.TheVariants.{Help, Version, Faulty, NoMemory}
+use Rattle.teco_option.specs.declared.fault.LineFault.{LineFault}
+use Rattle.teco_option.specs.declared.fault.LineFault.TheVariants as line_fault
+use Rattle.teco_option.specs.declared.refusal.RefusedAs.{RefusedAs}
+use Rattle.teco_option.specs.declared.refusal.RefusedAs.TheVariants.{Help, Version, Faulty, NoMemory}
 
 -- All of the text is shown, or a beginning of it and then the terminal fails.
 abbrev pub Tells : Screen → Screen → List ℕ → Type 0

@@ -4,7 +4,8 @@ ghost use Rattle.teco_files.specs.Disk.{Files};
 ghost use Rattle.teco_host.specs.Seen.{KeepsDisk, disk_seen, source_view};
 ghost use Rattle.teco_host.specs.Writing.{both};
 
-use teco_files::{Disk, gives_just};
+use teco_bytes::gives_just;
+use teco_files::Disk;
 
 /// Whether a file has these bytes, in two parts one after the other.
 pub fn has_bytes<D: Disk>(name: &str, bytes: (&[u8], &[u8]), disk: &mut D) -> bool

@@ -2,7 +2,7 @@
 ghost use Rattle.std.specs.Prelude.{◌≡◌};
 ghost use Rattle.teco_host.specs.Refusing.{IsRefusedBy, ShowsAsked, TellsText};
 
-use teco_line::{LineFault, Refusal, RefusedAs, refused_status};
+use teco_option::{LineFault, Refusal, RefusedAs, refused_status};
 use teco_terminal::{Terminal, TerminalFault};
 
 /// Tells the text of a refusal, or, where memory was refused for it, the text for that.

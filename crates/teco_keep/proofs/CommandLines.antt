@@ -5,10 +5,10 @@ use Rattle.clap.specs.Words.{App, HasMatchesOf, Text, fault_of, found_of, is_sim
 use Rattle.clap.specs.declared.error.kind.ErrorKind.{ErrorKind}
 use Rattle.clap.specs.declared.error.kind.ErrorKind.TheVariants as kind
 use Rattle.clap.specs.declared.parser.matches.ArgMatches.{ArgMatches}
-use Rattle.teco_line.specs.Parsing.{IsErrorOf, IsUnparsed}
-use Rattle.teco_line.specs.declared.line.LineFault.{LineFault}
-use Rattle.teco_line.specs.declared.line.LineFault.TheVariants.{NoMemory, Refused}
-use Rattle.teco_line.proofs.CommandLines.{told_faulty}
+use Rattle.teco_option.specs.Parsing.{IsErrorOf, IsUnparsed}
+use Rattle.teco_option.specs.declared.fault.LineFault.{LineFault}
+use Rattle.teco_option.specs.declared.fault.LineFault.TheVariants.{NoMemory, Refused}
+use Rattle.teco_option.proofs.Parses.{told_faulty}
 use Rattle.teco_keep.specs.CommandLine.{GivesLine, IsTecolError, SayLine, SayNoLine, GivesNoLine, tecol_app}
 use Rattle.teco_keep.specs.declared.line.Line.{Line}
 

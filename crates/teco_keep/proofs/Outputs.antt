@@ -1,7 +1,7 @@
 -- Where the output goes, and what is told.
 use Rattle.std.proofs.Common.{◌≡◌, ◌≢◌, ◌⊎◌, inl, inr, ℕ, List, Bool, true, false, Result, Ok, Err, Vec, Global, refl, sym, subst}
 use Rattle.std.specs.declared.io.Error.{Error}
-use Rattle.teco_line.specs.StreamNames.{is_standard_output}
+use Rattle.teco_option.specs.StreamNames.{is_standard_output}
 use Rattle.teco_host.specs.Refusing.{Tells}
 use Rattle.teco_host.specs.Writing.{WritesOutput}
 use Rattle.teco_host.specs.Seen.{DiskSeen}

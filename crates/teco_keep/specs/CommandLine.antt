@@ -8,13 +8,13 @@ use Rattle.clap.specs.Words.{App, IsAmong, Row, Rule, Text, fault_of, first_of, 
 use Rattle.clap.specs.declared.builder.action.ArgAction.TheVariants.{Set}
 use Rattle.clap.specs.declared.error.kind.ErrorKind.{ErrorKind}
 use Rattle.clap.specs.declared.error.kind.ErrorKind.TheVariants as kind
-use Rattle.teco_line.specs.CommandLine.{with_version}
-use Rattle.teco_line.specs.OptionTable.{flag, with_rules, with_text}
-use Rattle.teco_line.specs.Refusals.{IsToldAs}
-use Rattle.teco_line.specs.declared.line.LineFault.{LineFault}
-use Rattle.teco_line.specs.declared.line.LineFault.TheVariants as line_fault
-use Rattle.teco_line.specs.declared.line.refusal.Refusal.{Refusal}
-use Rattle.teco_line.specs.declared.line.refusal.RefusedAs.TheVariants.{Faulty}
+use Rattle.teco_option.specs.Parsing.{with_version}
+use Rattle.teco_option.specs.OptionTable.{flag, with_rules, with_text}
+use Rattle.teco_option.specs.Refusals.{IsToldAs}
+use Rattle.teco_option.specs.declared.fault.LineFault.{LineFault}
+use Rattle.teco_option.specs.declared.fault.LineFault.TheVariants as line_fault
+use Rattle.teco_option.specs.declared.refusal.Refusal.{Refusal}
+use Rattle.teco_option.specs.declared.refusal.RefusedAs.TheVariants.{Faulty}
 use Rattle.teco_keep.specs.declared.line.Line.{Line}
 use Rattle.teco_keep.specs.declared.line.Mode.{Mode}
 use Rattle.teco_keep.specs.declared.line.Mode.TheVariants.{Bytes, Listing, Again, CheckSource, CheckBytes}

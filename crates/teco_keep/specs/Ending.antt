@@ -4,8 +4,8 @@ use Rattle.std.specs.IoError.{error_kind}
 use Rattle.std.specs.String.{string_bytes}
 use Rattle.std.specs.declared.io.Error.{Error}
 use Rattle.std.specs.declared.io.ErrorKind.TheVariants.{OutOfMemory}
-use Rattle.teco_files.specs.declared.input.InputFault.{InputFault}
-use Rattle.teco_files.specs.declared.input.InputFault.TheVariants as input
+use Rattle.teco_bytes.specs.declared.input.InputFault.{InputFault}
+use Rattle.teco_bytes.specs.declared.input.InputFault.TheVariants as input
 use Rattle.teco_telling.specs.Shown.{spot_shown}
 use Rattle.teco_telling.specs.Spot.{spot_of}
 use Rattle.teco_telling.specs.declared.spot.Spot.{Spot}

@@ -6,10 +6,10 @@ use Rattle.std.specs.declared.io.Error.{Error}
 use Rattle.std.specs.declared.vec.Vec.{Vec}
 use Rattle.teco_core.specs.declared.limits.TheConstants.{FILE_LIMIT}
 use Rattle.teco_files.specs.Disk.{Changes, Files, Opens, Passes, SameBut}
-use Rattle.teco_files.specs.Input.{IsFaultOf}
-use Rattle.teco_files.specs.Source.{Gives}
-use Rattle.teco_files.specs.declared.input.InputFault.{InputFault}
-use Rattle.teco_line.specs.StreamNames.{is_standard_input, is_standard_output}
+use Rattle.teco_bytes.specs.Input.{IsFaultOf}
+use Rattle.teco_bytes.specs.Source.{Gives}
+use Rattle.teco_bytes.specs.declared.input.InputFault.{InputFault}
+use Rattle.teco_option.specs.StreamNames.{is_standard_input, is_standard_output}
 use Rattle.teco_host.specs.Refusing.{Tells}
 use Rattle.teco_host.specs.Reading.{IsInput, IsStreamed}
 use Rattle.teco_host.specs.Seen.{KeepsDisk, Host, KeepsStream, DiskSeen, SourceView}

@@ -4,7 +4,7 @@ ghost use Rattle.teco_keep.specs.Ending.{IsFateOf, status_of};
 
 use std::io;
 use std::io::ErrorKind;
-use teco_files::InputFault;
+use teco_bytes::InputFault;
 use teco_telling::Spot;
 
 /// How a run ends, once its command line is read.

@@ -3,14 +3,14 @@ ghost use Rattle.clap.specs.Words.{first_of, found_of, rows_of};
 ghost use Rattle.std.specs.Prelude.{◌≡◌, IfErr, IfOk, codes, map, unwrap_or};
 ghost use Rattle.std.specs.String.{string_bytes};
 ghost use Rattle.teco_keep.specs.CommandLine.{GivesLine, SayLine, SayNoLine, GivesNoLine, mode_by, tecol_rules};
-ghost use Rattle.teco_line.specs.OptionTable.{rule_by};
-ghost use Rattle.teco_line.specs.Refusals.{IsFaulty};
+ghost use Rattle.teco_option.specs.OptionTable.{rule_by};
+ghost use Rattle.teco_option.specs.Refusals.{IsFaulty};
 
 use crate::line::{Line, Mode};
 use clap::ArgMatches;
 use std::alloc::Global;
 use teco_core::NoMemory;
-use teco_line::{LineFault, OptionRow, Program, Refusal, Takes, faulty, flag_at, parsed};
+use teco_option::{LineFault, OptionRow, Program, Refusal, Takes, faulty, flag_at, parsed};
 
 /// What the help says after the options.
 const AFTER_HELP: &str =

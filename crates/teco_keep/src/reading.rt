@@ -6,8 +6,9 @@ ghost use Rattle.teco_host.specs.Seen.{KeepsDisk, disk_seen, source_view};
 
 use crate::fate::{Fate, fate_of};
 use std::alloc::Global;
+use teco_bytes::{Source, read_input};
 use teco_core::FILE_LIMIT;
-use teco_files::{Disk, Source, read_input};
+use teco_files::Disk;
 
 /// Reads a file whole.
 pub fn input_of_file<D: Disk>(alloc: Global, name: &str, disk: &mut D) -> Result<Vec<u8>, Fate>

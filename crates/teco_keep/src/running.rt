@@ -5,7 +5,7 @@ ghost use Rattle.teco_keep.specs.CommandLine.{SayNoLineIn, SayLineIn};
 ghost use Rattle.teco_keep.specs.Ending.{said};
 ghost use Rattle.teco_keep.specs.Keeping.{Concludes, Keeps, MakesAndPuts, PutsOut, ReadsInput, RunsOver, output_of, view_of};
 ghost use Rattle.teco_keep.specs.Made.{IsMade};
-ghost use Rattle.teco_line.specs.StreamNames.{is_standard_input};
+ghost use Rattle.teco_option.specs.StreamNames.{is_standard_input};
 ghost use Rattle.teco_keep.specs.Program.{KeepsBy};
 ghost use Rattle.teco_host.specs.Refusing.{Tells};
 ghost use Rattle.teco_host.specs.Seen.{KeepsDisk, host, disk_seen, source_view};
@@ -18,10 +18,11 @@ use crate::reading::{input_of_file, input_of_stream};
 use crate::telling::{spot_in, text_of};
 use std::alloc::Global;
 use std::process::ExitCode;
+use teco_bytes::Source;
 use teco_core::NoMemory;
-use teco_files::{Disk, Source};
+use teco_files::Disk;
 use teco_host::{refuse, write_output};
-use teco_line::{LineFault, is_standard_input, is_standard_output};
+use teco_option::{LineFault, is_standard_input, is_standard_output};
 use teco_terminal::{Terminal, TerminalFault};
 
 /// What is told where memory is refused to the program.

@@ -5,7 +5,7 @@ use Rattle.clap.specs.declared.error.kind.ErrorKind.TheVariants.{ArgumentConflic
 use Rattle.clap.proofs.OnLiterals.{clap_on_literals}
 use Rattle.teco_line.specs.CommandLine.{on_pages, teco_app}
 use Rattle.teco_line.specs.Joining.{joined, joined_after}
-use Rattle.teco_line.specs.StreamNames.{is_standard_input, is_standard_output}
+use Rattle.teco_option.specs.StreamNames.{is_standard_input, is_standard_output}
 
 -- what the words give for the inputs, the output, the flags and the numbers
 pub record Row : Type 0 where

@@ -1,5 +1,3 @@
-mod CommandEntries
 mod CommandRows
 mod Joinings
-mod OptionRows
-pub mod CommandLines
+mod CommandLines

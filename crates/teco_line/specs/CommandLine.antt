@@ -1,11 +1,8 @@
 -- What the command line says: teco [OPTIONS] INPUT...
-use Rattle.std.specs.Prelude.{Bool, ◌-◌, ◌||◌, nat_lt, length, take, map, unwrap_or, ◌++◌, IfSome, IsSomeAnd, ◌<◌, ◌^◌, ◌≡◌, ◌≤◌, ◌==◌, ℕ, List, [], ◌∷◌, Option, Some, None, IsTrue, ◌↔◌, codes, true}
-use Rattle.std.specs.Prelude.{false, option_map, is_some, ⊤, ◌⊎◌, Result, Ok, Err}
-use Rattle.std.specs.Borrow.{Bor}
+use Rattle.std.specs.Prelude.{Bool, ◌-◌, ◌||◌, nat_lt, length, take, map, unwrap_or, ◌++◌, IfSome, IsSomeAnd, ◌≡◌, ◌≤◌, ◌==◌, ℕ, List, [], ◌∷◌, Option, Some, None, IsTrue, ◌↔◌, codes, true}
+use Rattle.std.specs.Prelude.{false, option_map, is_some, ⊤, ◌⊎◌}
 use Rattle.std.specs.List.{count_by, suffix_len}
 use Rattle.std.specs.String.{string_bytes}
-use Rattle.std.specs.Str.Parse.{IsNumeral, digits_value, without_leading_plus}
-use Rattle.clap.specs.Simple.{on_top}
 use Rattle.clap.specs.Words.{all_of, App, IsAmong, IsUnsignedIn, Row, Rule, Text, fault_of, first_of, matches_of, new_app}
 use Rattle.clap.specs.Words.{new_rule, one_of, takes}
 use Rattle.clap.specs.declared.builder.action.ArgAction.TheVariants.{Append, Set}
@@ -15,15 +12,18 @@ use Rattle.teco_core.specs.declared.ascii.TheConstants.{ESC}
 use Rattle.teco_core.specs.declared.limits.TheConstants.{DEPTH_LIMIT}
 use Rattle.teco_line.specs.Conflict.{has_conflict}
 use Rattle.teco_line.specs.Joining.{joined}
-use Rattle.teco_line.specs.OptionTable.{option_rules, with_rules}
-use Rattle.teco_line.specs.Refusals.{IsFaulty, IsToldAs}
+use Rattle.teco_line.specs.OptionRules.{option_rules}
+use Rattle.teco_option.specs.OptionTable.{with_rules}
+use Rattle.teco_option.specs.Parsing.{with_version}
+use Rattle.teco_option.specs.Refusals.{IsFaulty, IsToldAs}
+use Rattle.teco_option.specs.Values.{number_of}
 use Rattle.teco_line.specs.declared.line.Commands.{Commands}
 use Rattle.teco_line.specs.declared.line.Commands.TheVariants.{StandardInput, Sources, Pages, Bytes}
 use Rattle.teco_line.specs.declared.line.Line.{Line}
-use Rattle.teco_line.specs.declared.line.LineFault.{LineFault}
-use Rattle.teco_line.specs.declared.line.LineFault.TheVariants.{Refused, NoMemory}
-use Rattle.teco_line.specs.declared.line.refusal.Refusal.{Refusal}
-use Rattle.teco_line.specs.declared.line.refusal.RefusedAs.TheVariants.{Faulty}
+use Rattle.teco_option.specs.declared.fault.LineFault.{LineFault}
+use Rattle.teco_option.specs.declared.fault.LineFault.TheVariants.{Refused, NoMemory}
+use Rattle.teco_option.specs.declared.refusal.Refusal.{Refusal}
+use Rattle.teco_option.specs.declared.refusal.RefusedAs.TheVariants.{Faulty}
 
 -- a depth that a session can be asked for
 abbrev pub IsDepth : ℕ → Type 0
@@ -45,10 +45,6 @@ input_rule = record (new_rule (codes "input")) {
 abbrev pub more_rule : Rule
 more_rule = record (new_rule (codes "more")) { value_names = 1; action = Some Append }
 
--- the command tells its version, and so has the parser's argument --version
-abbrev pub with_version : App → App
-with_version app = on_top (λ shape. record shape { has_version = true }) app
-
 -- the options, and then the inputs
 abbrev pub teco_rules : List Rule
 teco_rules = option_rules ++ input_rule ∷ more_rule ∷ []
@@ -57,10 +53,6 @@ teco_rules = option_rules ++ input_rule ∷ more_rule ∷ []
 -- of its own.
 abbrev pub teco_app : App
 teco_app = with_rules (with_version (new_app (codes "teco"))) teco_rules
-
--- the number that a text spells in decimal digits, after a plus sign or none
-abbrev pub number_of : Text → ℕ
-number_of text = digits_value 10 (without_leading_plus text)
 
 abbrev pub is_escape : ℕ → Bool
 is_escape byte = byte == ESC
@@ -76,14 +68,6 @@ without_last_escapes bytes = take (length bytes - suffix_len is_escape bytes) by
 -- last command gave.
 abbrev pub on_pages : List ℕ → List ℕ
 on_pages strings = codes "Y<" ++ without_last_escapes strings ++ (ESC ∷ 32 ∷ ESC ∷ codes "-1-^N;P>EX" ++ (ESC ∷ ESC ∷ []))
-
--- the text behind a reference, where there is one
-abbrev pub text_behind : Option (Bor Text) → Option Text
-text_behind = option_map (λ text. text.now)
-
--- the texts behind references, of which there may be none
-abbrev pub texts_behind : Option (Bor (List (Bor Text))) → List Text
-texts_behind texts = unwrap_or (option_map (λ all. map (λ text. text.now) all.now) texts) []
 
 -- --execute or --file gives a source
 abbrev pub has_sources : Option Text → List Text → Bool
@@ -154,10 +138,6 @@ pub record IsLineBy (words : List Text) (line : Line) : Type 0 where
 abbrev pub IsLine : List Text → Line → Type 0
 IsLine words = IsLineBy (joined words)
 
--- a text that is read as a number
-abbrev pub IsNumber : Text → Type 0
-IsNumber text = IsNumeral 10 (without_leading_plus text) × (number_of text < 2 ^ 64)
-
 -- what every parse gives
 pub record IsGiven (rows : List Row) : Type 0 where
   pub input : is_some (first_of (codes "input") rows) ≡ true
@@ -210,8 +190,3 @@ IsLineFault words (Refused refusal) = IsRefusal (joined words) refusal
 abbrev pub IsFaultOnceMade : List Text → LineFault → Type 0
 IsFaultOnceMade words NoMemory = fault_of teco_app words ≡ []
 IsFaultOnceMade words (Refused refusal) = IsRefusal words refusal
-
--- A refusal is told as it is, and want of memory for it as that.
-abbrev pub fault_for : {E : Type 0} → Result Refusal E → LineFault
-fault_for (Ok refusal) = Refused refusal
-fault_for (Err refused) = NoMemory

@@ -2,7 +2,7 @@
 use Rattle.std.specs.Prelude.{Bool, true, false, ◌&&◌, ◌||◌, ◌∷◌, length, is_some, nat_lt}
 use Rattle.std.specs.List.{list_any}
 use Rattle.std.specs.String.{string_bytes}
-use Rattle.teco_line.specs.StreamNames.{is_standard_input}
+use Rattle.teco_option.specs.StreamNames.{is_standard_input}
 use Rattle.teco_line.specs.declared.line.Commands.{Commands}
 use Rattle.teco_line.specs.declared.line.Commands.TheVariants.{StandardInput, Sources, Pages, Bytes}
 use Rattle.teco_line.specs.declared.line.Line.{Line}

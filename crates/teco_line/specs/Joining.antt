@@ -4,7 +4,7 @@ use Rattle.std.specs.Prelude.{ℕ, Bool, false, ◌&&◌, ◌||◌, ◌==◌, �
 use Rattle.std.specs.List.{list_any}
 use Rattle.std.specs.Str.{bytes_eq}
 use Rattle.clap.specs.Words.{Rule, Text}
-use Rattle.teco_line.specs.OptionTable.{option_rules}
+use Rattle.teco_line.specs.OptionRules.{option_rules}
 
 -- the word is --name, with nothing after it
 abbrev pub is_long : Text → Option Text → Bool

@@ -1,35 +1,28 @@
 //! The program's command line.
 ghost use Rattle.clap.specs.Words.{app_of, found_of, rows_of};
-ghost use Rattle.std.specs.IoError.{error_kind};
-ghost use Rattle.std.specs.Prelude.{◌≡◌, ◌≢◌, ◌≤◌, IfErr, IfOk, IfSome, codes, false, map};
+ghost use Rattle.std.specs.Prelude.{◌≡◌, ◌≤◌, IfErr, IfOk, IfSome, codes, false, map};
 ghost use Rattle.std.specs.String.{string_bytes};
-ghost use Rattle.std.specs.declared.io.ErrorKind.TheVariants as io_kind;
-ghost use Rattle.teco_line.specs.CommandLine.{HasLine, IsCommands, IsCommandsFault, IsDepth, IsFaultOnceMade, IsFaultSaid, IsGiven, IsLine, IsLineBy, IsLineFault, IsMisfit, IsPageLength, IsReadFault, SaysCommands, fault_for, teco_app, text_behind, texts_behind};
+ghost use Rattle.teco_line.specs.CommandLine.{HasLine, IsCommands, IsCommandsFault, IsDepth, IsFaultOnceMade, IsFaultSaid, IsGiven, IsLine, IsLineBy, IsLineFault, IsMisfit, IsPageLength, IsReadFault, SaysCommands, teco_app};
+ghost use Rattle.teco_option.specs.Values.{text_behind, texts_behind};
 ghost use Rattle.teco_line.specs.Conflict.{has_conflict};
-ghost use Rattle.teco_line.specs.Refusals.{IsFaulty};
+ghost use Rattle.teco_option.specs.Refusals.{IsFaulty};
 
 use clap::{ArgMatches, Command};
 use conflict::conflict_in;
 use joining::joined;
-use options::options;
-use parsing::command_of;
-use refusal::refusal_of;
 use std::alloc::Global;
-use std::io;
+use table::options;
 use teco_core::NoMemory;
-use values::{are_given, number_at, texts_at, texts_given};
-
-/// The most steps that a command string may be given.
-pub const MOST_STEPS: u64 = 1_000_000_000_000;
+use teco_option::{
+    LineFault, Program, Refusal, are_given, command_of, faulty, flag_at, number_at, refusal_of,
+    text_at, text_given, texts_at, texts_given,
+};
 
 /// The most seconds that a command string may be given.
 pub const MOST_SECONDS: u64 = 1_000_000_000_000;
 
 /// The most line ends that a page may be asked to end after.
 pub const MOST_PAGE_LINES: u64 = 1_000_000_000;
-
-/// The version of all programs.
-pub const VERSION: &str = "0.2.0";
 
 /// What the help says of the commands, after the options.
 const AFTER_HELP: &str =
@@ -69,7 +62,7 @@ pub struct Line {
     pub output: Option<String>,
     /// Where the commands come from.
     pub commands: Commands,
-    /// The most steps that each command string may take, at most [`MOST_STEPS`].
+    /// The most steps that each command string may take, at most [`teco_option::MOST_STEPS`].
     pub limit: u64,
     /// The most seconds that each command string may run, from 1 to [`MOST_SECONDS`]; without it none is broken off.
     pub seconds: Option<u64>,
@@ -85,25 +78,6 @@ pub struct Line {
     pub undo: Option<u64>,
     /// The line ends after which a page ends, from 1 to [`MOST_PAGE_LINES`]; without it form feeds alone end pages.
     pub page_lines: Option<u64>,
-}
-
-/// Why there is no [`Line`].
-#[derive(Drop)]
-pub enum LineFault {
-    /// The line is faulty, asks for the help or the version, or the parser was refused memory.
-    Refused(Refusal),
-    /// Memory was refused to the program itself.
-    NoMemory,
-}
-
-impl From<NoMemory> for LineFault {
-    ghost use Rattle.teco_line.specs.declared.line.LineFault.TheVariants.{NoMemory as no_memory};
-
-    ghost from_gives = { λ _ fault. fault ≡ no_memory };
-
-    fn from(_: NoMemory) -> LineFault {
-        LineFault::NoMemory
-    }
 }
 
 /// What the help tells.
@@ -263,32 +237,9 @@ pub fn not_text(alloc: Global) -> Result<Refusal, NoMemory>
     faulty(alloc, "an argument is not UTF-8 text", USAGE)
 }
 
-/// Why the program's words were not given: memory was refused to copy them, or one of them is not UTF-8 and the line is faulty.
-pub fn fault_of_words(error: io::Error, not_text: Result<Refusal, NoMemory>) -> LineFault
-    ensures memory { error_kind error ≡ io_kind.OutOfMemory → result ≡ LineFault.NoMemory }
-    ensures other { error_kind error ≢ io_kind.OutOfMemory → result ≡ fault_for not_text }
-{
-    if error.kind() == io::ErrorKind::OutOfMemory {
-        return LineFault::NoMemory;
-    }
-    match not_text {
-        Ok(refusal) => LineFault::Refused(refusal),
-        Err(NoMemory) => LineFault::NoMemory,
-    }
-}
-
 mod conflict;
 mod joining;
-mod options;
 mod pages;
-mod parsing;
-mod refusal;
-mod streams;
-mod values;
+mod table;
 
-pub use options::{OptionRow, Takes};
 pub use pages::commands_on_pages;
-pub use parsing::{Program, parsed};
-pub use refusal::{Refusal, RefusedAs, faulty, refused_by, refused_status};
-pub use streams::{is_standard_input, is_standard_output};
-pub use values::{flag_at, text_at, text_given};

@@ -1,11 +1,9 @@
 //! Where a listing breaks its lines.
 ghost use Rattle.std.specs.Prelude.{◌≡◌, ◌<◌, ◌≤◌, length, IfSome, IsTrue};
 
+use teco_blocks::{Kind, skip_whole_block};
 use teco_core::ESC;
-use teco_scan::{
-    Bare, BlockMark, Found, Item, Kind, LevelCommand, RegisterCommand, TokenKind, skip_whole_block,
-    token_at,
-};
+use teco_scan::{Bare, BlockMark, Found, Item, LevelCommand, RegisterCommand, TokenKind, token_at};
 
 /// What a token is for a layout.
 #[derive(Clone, Copy)]

@@ -2,7 +2,7 @@
 use Rattle.std.proofs.Common.{◌≡◌, ◌++◌, inl, inr, ℕ, List, [], ◌∷◌, Result, Ok, Err, String, Vec, Global, refl, sym, ◌∙◌, ap, subst, false, true≢false}
 use Rattle.std.proofs.lemmas.Bool.{cases_Bool}
 use Rattle.teco_line.specs.declared.line.Line.{Line}
-use Rattle.teco_line.specs.declared.line.LineFault.{LineFault}
+use Rattle.teco_option.specs.declared.fault.LineFault.{LineFault}
 use Rattle.teco_program.specs.Lines.{worse, worst, IsLineIn}
 use Rattle.teco_program.specs.Runs.{Chain}
 

@@ -7,7 +7,7 @@ use Rattle.std.specs.declared.alloc.Global.{Global}
 use Rattle.teco_host.specs.Refusing.{IsRefusedBy}
 use Rattle.teco_line.specs.CommandLine.{IsLine, IsLineFault}
 use Rattle.teco_line.specs.declared.line.Line.{Line}
-use Rattle.teco_line.specs.declared.line.LineFault.{LineFault}
+use Rattle.teco_option.specs.declared.fault.LineFault.{LineFault}
 use Rattle.teco_serve.specs.Ending.{said}
 use Rattle.teco_terminal.specs.Terminal.{Screen}
 

@@ -6,7 +6,7 @@ use Rattle.std.specs.declared.vec.Vec.{Vec}
 use Rattle.std.specs.declared.alloc.Global.{Global}
 use Rattle.teco_terminal.specs.Terminal.{Screen}
 use Rattle.teco_line.specs.declared.line.Line.{Line}
-use Rattle.teco_line.specs.declared.line.LineFault.{LineFault}
+use Rattle.teco_option.specs.declared.fault.LineFault.{LineFault}
 use Rattle.teco_program.specs.Checks.{TellsVerdict}
 use Rattle.teco_program.specs.Lines.{IsLineIn, Refuses, worst}
 use Rattle.teco_edit.specs.Run.{Concludes}

@@ -10,9 +10,10 @@ ghost use Rattle.teco_host.specs.Seen.{disk_seen, host, source_view};
 
 use std::alloc::Global;
 use teco_advice::{Advice, check};
+use teco_bytes::Source;
 use teco_core::NoMemory;
 use teco_edit::{Parts, commands_given, decline, no_memory, source_name};
-use teco_files::{Disk, Source};
+use teco_files::Disk;
 use teco_line::{Commands, Line};
 use teco_remarks::{report, report_part};
 use teco_scan::Span;

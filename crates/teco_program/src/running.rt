@@ -13,10 +13,12 @@ use crate::checking::check_line;
 use crate::several::{edit_all, edit_told};
 use std::alloc::Global;
 use std::process::ExitCode;
+use teco_bytes::{Source, WordSource};
 use teco_edit::{NO_MEMORY, is_streamed};
-use teco_files::{Disk, Source, WordSource};
+use teco_files::Disk;
 use teco_host::refuse;
-use teco_line::{Line, LineFault, line_of};
+use teco_line::{Line, line_of};
+use teco_option::LineFault;
 use teco_serve::Alarm;
 use teco_terminal::Terminal;
 

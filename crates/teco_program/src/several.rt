@@ -9,8 +9,9 @@ ghost use Rattle.teco_program.specs.Runs.{LinkGiven, RunsInOrder, RunsOverAll, i
 ghost use Rattle.teco_host.specs.Seen.{disk_seen, host, source_view};
 
 use std::alloc::Global;
+use teco_bytes::{Source, WordSource};
 use teco_edit::{Parts, commands_given, conclude, decline, edit_given};
-use teco_files::{Disk, Source, WordSource};
+use teco_files::Disk;
 use teco_line::Line;
 use teco_serve::{Alarm, Explainer, Silent};
 use teco_terminal::Terminal;

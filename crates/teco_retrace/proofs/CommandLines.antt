@@ -4,9 +4,9 @@ use Rattle.std.specs.Prelude.{unwrap_or, IfErr, IfOk}
 use Rattle.std.specs.Str.Parse.{ParsesUnsigned}
 use Rattle.clap.specs.Words.{App, HasMatchesOf, ReadsOne, Text, fault_of, found_of, is_simple, is_simple_and_free, matches_of, rows_of}
 use Rattle.clap.specs.declared.parser.matches.ArgMatches.{ArgMatches}
-use Rattle.teco_line.specs.Parsing.{IsUnparsed}
-use Rattle.teco_line.specs.declared.line.LineFault.{LineFault}
-use Rattle.teco_line.specs.declared.line.LineFault.TheVariants.{NoMemory, Refused}
+use Rattle.teco_option.specs.Parsing.{IsUnparsed}
+use Rattle.teco_option.specs.declared.fault.LineFault.{LineFault}
+use Rattle.teco_option.specs.declared.fault.LineFault.TheVariants.{NoMemory, Refused}
 use Rattle.teco_retrace.specs.CommandLine.{IsLimit, LineHas, WordsSay, WordsSayNone, debug_app}
 use Rattle.teco_retrace.specs.declared.line.Line.{Line}
 

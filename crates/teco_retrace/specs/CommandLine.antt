@@ -8,11 +8,12 @@ use Rattle.clap.specs.Words.{App, IsAmong, Row, Rule, Text, fault_of, first_of, 
 use Rattle.clap.specs.declared.builder.action.ArgAction.TheVariants.{Set}
 use Rattle.clap.specs.declared.error.kind.ErrorKind.{ErrorKind}
 use Rattle.clap.specs.declared.error.kind.ErrorKind.TheVariants as kind
-use Rattle.teco_line.specs.CommandLine.{IsNumber, number_of, with_version}
-use Rattle.teco_line.specs.OptionTable.{flag, with_number, with_rules, with_text}
-use Rattle.teco_line.specs.Refusals.{IsToldAs}
-use Rattle.teco_line.specs.declared.line.LineFault.{LineFault}
-use Rattle.teco_line.specs.declared.line.LineFault.TheVariants as line_fault
+use Rattle.teco_option.specs.Values.{IsNumber, number_of}
+use Rattle.teco_option.specs.Parsing.{with_version}
+use Rattle.teco_option.specs.OptionTable.{flag, with_number, with_rules, with_text}
+use Rattle.teco_option.specs.Refusals.{IsToldAs}
+use Rattle.teco_option.specs.declared.fault.LineFault.{LineFault}
+use Rattle.teco_option.specs.declared.fault.LineFault.TheVariants as line_fault
 use Rattle.teco_retrace.specs.declared.line.Line.{Line}
 
 -- MACRO: any text, and it has to be there

@@ -3,8 +3,8 @@ use Rattle.std.specs.Prelude.{◌≡◌, ◌⊎◌, ℕ, List, [], ◌∷◌, �
 use Rattle.std.specs.String.{string_bytes}
 use Rattle.std.specs.declared.alloc.Global.{Global}
 use Rattle.std.specs.declared.string.String.{String}
-use Rattle.teco_files.specs.declared.input.InputFault.{InputFault}
-use Rattle.teco_files.specs.declared.input.InputFault.TheVariants as input
+use Rattle.teco_bytes.specs.declared.input.InputFault.{InputFault}
+use Rattle.teco_bytes.specs.declared.input.InputFault.TheVariants as input
 use Rattle.teco_host.specs.Refusing.{Tells}
 use Rattle.teco_terminal.specs.Terminal.{Screen}
 use Rattle.teco_retrace.specs.declared.ending.Ending.{Ending}

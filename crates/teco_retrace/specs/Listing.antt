@@ -5,7 +5,7 @@ use Rattle.std.specs.List.{flat_map}
 use Rattle.teco_core.specs.Register.{Content, content, register_of}
 use Rattle.teco_core.specs.declared.case_mode.CaseMode.{CaseMode}
 use Rattle.teco_core.specs.declared.case_mode.CaseMode.TheVariants.{Either, Exact}
-use Rattle.teco_step.specs.Line.{line}
+use Rattle.teco_command.specs.Line.{line}
 use Rattle.teco_store.specs.State.{State}
 use Rattle.teco_telling.specs.Placed.{letter_of}
 use Rattle.teco_telling.specs.Spelling.{spelled, spelling}

@@ -3,7 +3,7 @@ use Rattle.std.specs.Prelude.{◌≡◌, ◌⊎◌, ℕ, List, Option, Result, c
 use Rattle.std.specs.declared.alloc.Global.{Global}
 use Rattle.std.specs.declared.string.String.{String}
 use Rattle.std.specs.declared.vec.Vec.{Vec}
-use Rattle.teco_line.specs.declared.line.LineFault.{LineFault}
+use Rattle.teco_option.specs.declared.fault.LineFault.{LineFault}
 use Rattle.teco_host.specs.Refusing.{IsRefusedBy}
 use Rattle.teco_host.specs.Seen.{KeepsDisk, Host, DiskSeen}
 use Rattle.teco_terminal.specs.Terminal.{Screen}

@@ -8,10 +8,10 @@ use Rattle.std.specs.declared.io.ErrorKind.TheVariants.{OutOfMemory}
 use Rattle.std.specs.declared.string.String.{String}
 use Rattle.teco_core.specs.declared.limits.TheConstants.{FILE_LIMIT}
 use Rattle.teco_files.specs.Disk.{Files, Opens}
-use Rattle.teco_files.specs.Input.{IsFaultOf}
-use Rattle.teco_files.specs.Source.{Gives}
-use Rattle.teco_files.specs.declared.input.InputFault.{InputFault}
-use Rattle.teco_files.specs.declared.input.InputFault.TheVariants as input
+use Rattle.teco_bytes.specs.Input.{IsFaultOf}
+use Rattle.teco_bytes.specs.Source.{Gives}
+use Rattle.teco_bytes.specs.declared.input.InputFault.{InputFault}
+use Rattle.teco_bytes.specs.declared.input.InputFault.TheVariants as input
 use Rattle.teco_host.specs.Reading.{IsInput}
 use Rattle.teco_host.specs.Seen.{DiskSeen}
 use Rattle.teco_retrace.specs.Spelling.{escaped}

@@ -6,8 +6,8 @@ ghost use Rattle.teco_retrace.specs.Ending.{TellsEnding, ending_line, fault_word
 
 use crate::line::Line;
 use std::alloc::Global;
+use teco_bytes::InputFault;
 use teco_core::NoMemory;
-use teco_files::InputFault;
 use teco_terminal::Terminal;
 
 /// What is told if memory is refused to the program.

@@ -2,14 +2,14 @@
 ghost use Rattle.clap.specs.Words.{found_of, one_of, rows_of};
 ghost use Rattle.std.specs.Prelude.{[], ◌≡◌, ◌≤◌, IfErr, IfOk, codes, map, option_map, unwrap_or};
 ghost use Rattle.std.specs.String.{string_bytes};
-ghost use Rattle.teco_line.specs.OptionTable.{rule_by};
-ghost use Rattle.teco_line.specs.Refusals.{IsFaulty};
+ghost use Rattle.teco_option.specs.OptionTable.{rule_by};
+ghost use Rattle.teco_option.specs.Refusals.{IsFaulty};
 ghost use Rattle.teco_retrace.specs.CommandLine.{IsLimit, LineHas, WordsSay, WordsSayNone, debug_rules};
 
 use clap::ArgMatches;
 use std::alloc::Global;
 use teco_core::NoMemory;
-use teco_line::{
+use teco_option::{
     LineFault, MOST_STEPS, OptionRow, Program, Refusal, Takes, faulty, flag_at, parsed, text_at,
 };
 

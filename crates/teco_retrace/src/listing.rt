@@ -8,8 +8,8 @@ ghost use Rattle.teco_retrace.specs.Listing.{flags_shown, held_shown, if_held_sh
 ghost use Rattle.teco_store.specs.State.{state_of};
 
 use std::fmt::Write;
+use teco_command::line_place;
 use teco_core::{CaseMode, NoMemory, Reg, Registers};
-use teco_step::line_place;
 use teco_store::{Desk, Editor, part};
 use teco_telling::{letter, spell, spell_byte};
 

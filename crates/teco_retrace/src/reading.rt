@@ -9,8 +9,9 @@ ghost use Rattle.teco_retrace.specs.Spelling.{escaped};
 use std::alloc::Global;
 use std::io;
 use std::io::ErrorKind;
+use teco_bytes::{InputFault, read_input};
 use teco_core::{ESC, FILE_LIMIT, NoMemory};
-use teco_files::{Disk, InputFault, read_input};
+use teco_files::Disk;
 
 /// Why a file is not read that could not be opened.
 fn fault_of(error: io::Error) -> InputFault

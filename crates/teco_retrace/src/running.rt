@@ -18,7 +18,7 @@ use std::process::ExitCode;
 use teco_core::NoMemory;
 use teco_files::Disk;
 use teco_host::refuse;
-use teco_line::LineFault;
+use teco_option::LineFault;
 use teco_terminal::Terminal;
 use teco_walk::Walk;
 

@@ -21,12 +21,10 @@ use Rattle.teco_scan.specs.declared.table.TheConstants.{ROWS}
 use Rattle.teco_scan.specs.Table.{is_alone}
 use Rattle.teco_scan.specs.Scan.{digits, bare, register, text, set_text, Instruction, step, mark, decide, tag, Scanned, found, ended, fault, no_modifiers, test_of, byte_at, register_at, test_at, delimiter_at, text_at, operand_at, modifiers_at, after_letter, after_name, ends_inside, row_at, is_cut, command_at, run_of, after_run, token_from, after_fillers, scan}
 use Rattle.teco_scan.specs.Scan as token
-use Rattle.teco_scan.specs.Tree.{done, item, escape, faulty}
-use Rattle.teco_scan.specs.Lists.{list_within, list_at, nodes, tag_within, tag_at}
 
 -- all that reading computes with
 unfoldable pub computing : ℕ
-unfolding test_of byte_at register_at test_at delimiter_at text_at operand_at modifiers_at after_letter after_name ends_inside row_at is_cut command_at run_of after_run token_from after_fillers scan list_within list_at tag_within tag_at
+unfolding test_of byte_at register_at test_at delimiter_at text_at operand_at modifiers_at after_letter after_name ends_inside row_at is_cut command_at run_of after_run token_from after_fillers scan
 computing = 0
 
 -- the bytes of a text, where $ is ESC
@@ -334,11 +332,3 @@ is_lone_name b _ = false
 single_bytes : filter (λ b. is_token (scan (b ∷ []))) (up_to 256) ≡ filter (λ b. is_digit b || list_any (λ r. is_lone_name b r.name && is_alone r.form) ROWS) (up_to 256)
 unfolding computing up_to is_token is_lone_name
 single_bytes = refl
-
--- the tree of a text: without blocks a list, to its end or to its first fault
-trees : (nodes (keys "") ≡ done)
-    × (nodes (keys "2J $") ≡ item no_modifiers (digits (codes "2")) (item no_modifiers (bare (group.Command Jump)) (escape done)))
-    × (nodes (keys "Ia>b$?=") ≡ item no_modifiers (text Insert (codes "a>b")) (faulty Ill))
-    × (nodes (keys "1Ix") ≡ item no_modifiers (digits (codes "1")) (faulty Utc))
-unfolding computing
-trees = (refl, refl, refl, refl)

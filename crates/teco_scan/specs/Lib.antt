@@ -4,10 +4,4 @@ pub mod FirstRow
 pub mod Spelling
 pub mod Seen
 pub mod Led
-pub mod Tree
-pub mod Skip
-pub mod Lists
-pub mod Nesting
-pub mod ListLaws
 pub mod Written
-pub mod Breaks

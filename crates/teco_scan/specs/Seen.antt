@@ -9,8 +9,6 @@ use Rattle.teco_scan.specs.declared.token.TokenKind.{TokenKind}
 use Rattle.teco_scan.specs.declared.token.TokenKind.TheVariants as kinds
 use Rattle.teco_scan.specs.declared.token.Found.{Found}
 use Rattle.teco_scan.specs.declared.token.Found.TheVariants as finds
-use Rattle.teco_scan.specs.declared.blocks.Stop.{Stop}
-use Rattle.teco_scan.specs.Lists.{Close, closed, broken, Past}
 use Rattle.teco_scan.specs.Scan.{Item, digits, bare, register, byte, text, set_text, replace, Instruction, step, mark, decide, tag, escape, TokenMeaning, Scanned, found, ended, fault, after_fillers}
 
 -- what a function returned, seen by view, is what reading gives
@@ -107,18 +105,3 @@ IsFoundAt bs at (finds.Fault e) = Unit {0}
 abbrev pub IsDetermined : Type 0
 IsDetermined = (bs : List ℕ) (at : ℕ) (f g : Found) → IsFoundAt bs at f → IsFoundAt bs at g
     → found_in bs f ≡ found_in bs g → f ≡ g
-
--- how a skip closed
-abbrev pub close_of : List ℕ → Result Stop Code → Close
-close_of bs (Ok stop) = closed stop.divided (drop stop.to bs)
-close_of bs (Err c) = broken c
-
--- the bytes after what was passed up to a place
-abbrev pub past_of : List ℕ → Result ℕ Code → Past
-past_of bs (Ok to) = Ok (drop to bs)
-past_of bs (Err c) = Err c
-
--- the bytes after a tag that was found
-abbrev pub tag_of : List ℕ → Option ℕ → Option (List ℕ)
-tag_of bs (Some to) = Some (drop to bs)
-tag_of bs None = None

@@ -1,8 +1,6 @@
-//! The spelling of tokens, and the tree of blocks that they make of a text.
+//! The spelling of tokens.
 #![tactic(auto)]
 
-mod blocks;
-mod breaks;
 mod command;
 mod leads;
 mod names;
@@ -11,10 +9,6 @@ mod scan;
 mod table;
 mod token;
 
-pub use blocks::{
-    Kind, Stop, block_laws, closing_mark, find_tag, nesting, skip_block, skip_whole_block,
-};
-pub use breaks::{Fault, OpenList, break_laws, first_fault};
 pub use command::{
     Arithmetic, Bare, BlockMark, Command, Form, LevelCommand, Modifiers, Name, Quantity,
     RegisterCommand, Row, Test, TextCommand,
@@ -23,6 +17,7 @@ pub use leads::{
     bare_token, digits_token, end_found, escape_token, lead, mark_token, register_token, tag_token,
     test_token, text_token,
 };
+pub use names::lone_form;
 pub use scan::{filler_end, spelling, token_at};
 pub use table::ROWS;
 pub use token::{Found, Item, Span, Token, TokenKind};

@@ -172,7 +172,7 @@ fn first_row(b: u8) -> usize
 
 /// The form of the command that this byte alone names, whatever follows it.
 #[inline(always)]
-pub(crate) fn lone_form(b: u8) -> Option<Form>
+pub fn lone_form(b: u8) -> Option<Form>
     ensures { IfSome result (λ form. (bs : List ℕ) → named_at ROWS (b ∷ bs) ≡ Ok ((no_modifiers, form), bs)) }
 {
     let rows: &[Row] = &ROWS;

@@ -1,10 +1,10 @@
 -- How the program ends: its status, and what it prints on standard error.
 use Rattle.std.specs.Prelude.{ℕ, List, [], ◌∷◌, ◌++◌, Some, None, codes, if◌then◌else◌}
 use Rattle.std.specs.String.{string_bytes}
-use Rattle.teco_files.specs.declared.input.InputFault.{InputFault}
-use Rattle.teco_files.specs.declared.input.InputFault.TheVariants as input
+use Rattle.teco_bytes.specs.declared.input.InputFault.{InputFault}
+use Rattle.teco_bytes.specs.declared.input.InputFault.TheVariants as input
 use Rattle.teco_line.specs.Conflict.{has_more}
-use Rattle.teco_line.specs.StreamNames.{is_standard_input}
+use Rattle.teco_option.specs.StreamNames.{is_standard_input}
 use Rattle.teco_line.specs.declared.line.Commands.TheVariants.{StandardInput, Sources, Pages, Bytes}
 use Rattle.teco_line.specs.declared.line.Line.{Line}
 use Rattle.teco_serve.specs.declared.fate.Fate.{Fate}

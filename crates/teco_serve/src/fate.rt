@@ -5,9 +5,10 @@ ghost use Rattle.teco_serve.specs.Ending.{about, commands_name, output_beside, o
 
 use crate::served::Served;
 use std::alloc::Global;
+use teco_bytes::InputFault;
 use teco_core::NoMemory;
-use teco_files::InputFault;
-use teco_line::{Commands, Line, is_standard_input};
+use teco_line::{Commands, Line};
+use teco_option::is_standard_input;
 
 /// How the program ends, once its command line is read.
 #[derive(Clone, Copy)]

@@ -4,7 +4,7 @@ ghost use Rattle.teco_session.specs.Kept.{history_of};
 ghost use Rattle.teco_serve.specs.Exchange.{Exchange, HasRung, allowance};
 ghost use Rattle.teco_serve.specs.Held.{CutsOff, Emptied, HeldEnds};
 ghost use Rattle.teco_serve.specs.Serving.{Exchanges, Serves};
-ghost use Rattle.teco_files.specs.Source.{Gives, HasEnded};
+ghost use Rattle.teco_bytes.specs.Source.{Gives, HasEnded};
 ghost use Rattle.teco_terminal.specs.Terminal.{Shows};
 
 use crate::alarm::{Alarm, Bounds};
@@ -13,7 +13,7 @@ use crate::listener::Listens;
 use crate::served::Served;
 use crate::splitter::Splitter;
 use std::alloc::Global;
-use teco_files::Source;
+use teco_bytes::Source;
 use teco_session::Session;
 use teco_terminal::{Terminal, TerminalFault};
 

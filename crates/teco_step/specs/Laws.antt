@@ -1,18 +1,16 @@
 -- What the effect of a token always says.
-use Rattle.std.specs.Prelude.{◌≡◌, ◌≢◌, ◌≤◌, List, [], ◌++◌, length, ℕ, true, false, ◌⊎◌, ℤ, int_le}
+use Rattle.std.specs.Prelude.{◌≡◌, ◌≢◌, ◌≤◌, List, [], length, ℕ, true, ◌⊎◌}
 use Rattle.teco_core.specs.declared.code.Code.{Code}
 use Rattle.teco_core.specs.declared.code.Code.TheVariants.{Srh}
 use Rattle.teco_core.specs.Arguments.{Arguments}
-use Rattle.teco_core.specs.Number.{lowest, highest}
-use Rattle.teco_scan.specs.Scan.{Item, begins_run}
+use Rattle.teco_scan.specs.Scan.{Item}
 use Rattle.teco_store.specs.State.{State}
-use Rattle.std.specs.Fmt.{signed_decimal}
-use Rattle.teco_step.specs.Decimal.{numeral_at}
 use Rattle.teco_step.specs.Effect.{effect}
 use Rattle.teco_step.specs.Load.{Moves}
-use Rattle.teco_step.specs.Step.{Setting, on, leave, go, call, again, out, stop}
+use Rattle.teco_command.specs.declared.next.Setting.{Setting}
+use Rattle.teco_command.specs.Step.{on, leave, go, call, again, out, stop}
 use Rattle.teco_step.specs.Stepping.{is_call, may_go_further, name_of, takes_nothing}
-use Rattle.teco_step.specs.declared.next.Work.{Work}
+use Rattle.teco_command.specs.declared.next.Work.{Work}
 
 -- An iteration is left only inside one.
 abbrev pub LeavesInside : Type 0
@@ -59,9 +57,3 @@ ChangesOrTypes = (i : Item) (w : Setting) (s : State) (a : Arguments) → ((effe
 abbrev pub LoadIsWhatMoves : Type 0
 LoadIsWhatMoves = (i : Item) (w : Setting) (s : State) (a : Arguments) → s.pointer ≤ length s.text
     → Moves s (effect i w s a).state (effect i w s a).load
-
--- What n\ inserts is read back by \ as n, where no digit comes after it.
-abbrev pub ReadsWhatItInserts : Type 0
-ReadsWhatItInserts = (n : ℤ) (rest : List ℕ) → int_le lowest n ≡ true → int_le n highest ≡ true
-    → begins_run rest ≡ false
-    → numeral_at (signed_decimal n ++ rest) ≡ record { value = n; size = length (signed_decimal n) }

@@ -1,9 +1,7 @@
 -- What a step may do on a desk and a terminal: what its effect says; or, with nothing changed, want of memory; or a failed put.
 use Rattle.std.specs.Prelude.{◌≡◌, ◌≢◌, ℕ, List, [], Option, length, Bool, true, false, ◌⊎◌}
-use Rattle.teco_core.specs.declared.code.Code.{Code}
 use Rattle.teco_core.specs.declared.code.Code.TheVariants.{Mem, Tty}
 use Rattle.teco_core.specs.Arguments.{Arguments}
-use Rattle.teco_core.specs.Register.{content}
 use Rattle.teco_scan.specs.Scan.{Item}
 use Rattle.teco_scan.specs.Scan as token
 use Rattle.teco_scan.specs.declared.command.Bare.TheVariants as bare
@@ -17,31 +15,13 @@ use Rattle.teco_scan.specs.declared.token.Token.{Token}
 use Rattle.teco_scan.specs.declared.token.TokenKind.{TokenKind}
 use Rattle.teco_scan.specs.declared.token.TokenKind.TheVariants as kind
 use Rattle.teco_scan.specs.Seen.{item_in, IsItemIn}
-use Rattle.teco_step.specs.declared.next.Work.{Work}
+use Rattle.teco_command.specs.declared.next.Work.{Work}
 use Rattle.teco_step.specs.Effect.{effect}
-use Rattle.teco_step.specs.Step.{Step, Moment, Setting, settled, unbuilt, End, on, leave, go, call, out, again, stop}
-use Rattle.teco_step.specs.declared.next.Next.{Next}
-use Rattle.teco_step.specs.declared.next.Next.TheVariants as next
-
--- how a step that left this state ends, as what it leads to says; a jump's name is the token's, and a call's text the register's
-abbrev pub end_of : State → List ℕ → Next → End
-end_of s name next.On = on
-end_of s name next.Leave = leave
-end_of s name next.Go = go name
-end_of s name (next.Call q) = call (content s.registers q).text
-end_of s name next.Out = out
-end_of s name (next.Again work) = again work
-end_of s name (next.Error c) = stop c
-
--- the code says that a step was begun and not done
-abbrev pub is_unfinished_code : Code → Bool
-is_unfinished_code Mem = true
-is_unfinished_code Tty = true
-is_unfinished_code c = false
-
-abbrev pub is_unfinished : Next → Bool
-is_unfinished (next.Error c) = is_unfinished_code c
-is_unfinished n = false
+use Rattle.teco_command.specs.Ending.{end_of, is_unfinished}
+use Rattle.teco_command.specs.declared.next.Setting.{Setting}
+use Rattle.teco_command.specs.Step.{Step, Moment, settled, unbuilt}
+use Rattle.teco_command.specs.declared.next.Next.{Next}
+use Rattle.teco_command.specs.declared.next.Next.TheVariants as next
 
 -- the step was done, or refused as it means
 pub record IsDone (e : Step) (name : List ℕ) (old new : Moment) (n : Next) : Type 0 where

@@ -1,5 +1,5 @@
 //! What the effect of a token always says.
-ghost use Rattle.teco_step.specs.Laws.{CallsByCalls, ChangesOrTypes, ErrorsChangeNothing, GoesFurtherIfItMay, JumpsToItsName, LeavesInside, LoadIsWhatMoves, OnlyExits, ReadsWhatItInserts, ValueGoesOn};
+ghost use Rattle.teco_step.specs.Laws.{CallsByCalls, ChangesOrTypes, ErrorsChangeNothing, GoesFurtherIfItMay, JumpsToItsName, LeavesInside, LoadIsWhatMoves, OnlyExits, ValueGoesOn};
 
 use teco_search::{occurrences, search_texts};
 
@@ -18,8 +18,3 @@ pub fn effect_laws()
     occurrences();
     search_texts();
 }
-
-/// Numbers in the buffer. It does nothing: its clause is a law.
-pub fn decimal_laws()
-    ensures back { ReadsWhatItInserts }
-{}

@@ -1,25 +1,8 @@
-//! One step of a token, and line places.
+//! One step of a token.
 #![tactic(auto)]
 
-mod case;
-mod control;
-mod decimal;
-mod edit;
-mod failure;
-mod joining;
 mod laws;
-mod line;
-mod next;
-mod page_searching;
-mod pages;
-mod registers;
-mod searching;
 mod step;
-mod taking;
-mod typing;
-mod value;
 
-pub use laws::{decimal_laws, effect_laws};
-pub use line::line_place;
-pub use next::{Next, Setting, Work};
+pub use laws::effect_laws;
 pub use step::step_token;

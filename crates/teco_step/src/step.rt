@@ -6,23 +6,19 @@ ghost use Rattle.teco_scan.specs.Scan as token;
 ghost use Rattle.teco_scan.specs.Seen.{IsItemIn, IsSpanIn, bytes_in, item_in};
 ghost use Rattle.teco_store.specs.Trail.{Trail};
 ghost use Rattle.teco_step.specs.Effect.{bare_effect, command_effect, item_effect, register_effect, text_effect};
-ghost use Rattle.teco_step.specs.Families.{Does};
-ghost use Rattle.teco_step.specs.Step.{at};
+ghost use Rattle.teco_command.specs.Families.{Does};
+ghost use Rattle.teco_command.specs.Step.{at};
 ghost use Rattle.teco_step.specs.Stepping.{IsStepIn, Steps, name_in, takes_nothing, takes_nothing_in, token_effect, trail_after};
-ghost use Rattle.teco_step.specs.declared.failure.Failure.TheVariants.{Memory};
-ghost use Rattle.teco_step.specs.declared.next.Next.TheVariants.{Error};
+ghost use Rattle.teco_command.specs.declared.failure.Failure.TheVariants.{Memory};
+ghost use Rattle.teco_command.specs.declared.next.Next.TheVariants.{Error};
 
-use crate::case::set_case;
-use crate::control::{jump_to, leave_or_not, run_register};
-use crate::edit::{back, delete, forward, insert, insert_tab, jump, kill, to_line};
-use crate::failure::{Failure, next_of};
-use crate::next::{Next, Setting, Work};
-use crate::page_searching::search_pages;
-use crate::pages::{exit, next_page, turn_pages, write_page};
-use crate::registers::{extract, get, increment, pop, push, register_value, set_number, set_text};
-use crate::searching::{search_and_replace, search_or_compare};
-use crate::typing::{print, type_byte, type_out, type_text, view};
-use crate::value::{arithmetic, at_level, byte, number, quantity};
+use teco_command::{
+    Failure, Next, Setting, Work, arithmetic, at_level, back, byte, delete, exit, extract, forward,
+    get, increment, insert, insert_tab, jump, jump_to, kill, leave_or_not, next_of, next_page,
+    number, pop, print, push, quantity, register_value, run_register, search_and_replace,
+    search_or_compare, search_pages, set_case, set_number, set_text, to_line, turn_pages,
+    type_byte, type_out, type_text, view, write_page,
+};
 use teco_core::{Args, Code, Reg};
 use teco_scan::{Bare, Command, Item, RegisterCommand, Span, TextCommand, Token, TokenKind};
 use teco_store::Desk;

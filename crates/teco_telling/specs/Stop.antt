@@ -7,7 +7,7 @@ use Rattle.teco_core.specs.declared.code.Code.{Code}
 use Rattle.teco_core.specs.declared.code.Code.TheVariants.{Pdo, Tag}
 use Rattle.teco_scan.specs.Scan.{Scanned, found, scan}
 use Rattle.teco_scan.specs.Scan as token
-use Rattle.teco_scan.specs.declared.breaks.Fault.{Fault}
+use Rattle.teco_blocks.specs.declared.breaks.Fault.{Fault}
 use Rattle.teco_exec.specs.declared.place.Place.{Place}
 use Rattle.teco_telling.specs.Placed.{call_shown, standing_shown, text_under}
 use Rattle.teco_telling.specs.Shown.{code_shown, code_shown_with, place_shown}

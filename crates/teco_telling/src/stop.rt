@@ -12,9 +12,10 @@ use crate::sentence::{Limits, show_code, show_code_with_limits};
 use crate::spelling::spell_token;
 use crate::tokens::token;
 use std::fmt::Write;
+use teco_blocks::Fault;
 use teco_core::{Code, NoMemory, Registers};
 use teco_exec::Place;
-use teco_scan::{Fault, Found, TokenKind, token_at};
+use teco_scan::{Found, TokenKind, token_at};
 
 /// The most bytes that are shown where no token is.
 pub(crate) const MOST_FAULTY: usize = 16;

@@ -3,9 +3,10 @@
 
 use std::process;
 use std::process::ExitCode;
-use teco_files::{FileDisk, ReaderSource};
+use teco_bytes::ReaderSource;
+use teco_files::FileDisk;
 use teco_keep::{not_text, program};
-use teco_line::{LineFault, fault_of_words};
+use teco_option::{LineFault, fault_of_words};
 use teco_terminal::WriterTerminal;
 
 // That these are the program's words, streams and files is told by no contract.

@@ -3,16 +3,17 @@ use crate::tests::bytes::{are, are_both, is, joined, wide_screen};
 use crate::tests::program::words_of;
 use std::alloc::Global;
 use std::test::*;
+use teco_blocks::first_fault;
+use teco_bytes::{MemorySource, read_input};
+use teco_command::line_place;
 use teco_core::{Args, CaseMode, Op, Taken};
 use teco_exec::run;
-use teco_files::{MemorySource, read_input};
 use teco_gap::GapBuffer;
 use teco_line::line_of;
-use teco_scan::{Found, first_fault, token_at};
+use teco_scan::{Found, token_at};
 use teco_search::{Pattern, find};
 use teco_serve::{Asked, Splitter};
 use teco_session::Session;
-use teco_step::line_place;
 use teco_store::{Desk, Editor};
 use teco_terminal::{MemoryTerminal, Terminal};
 
@@ -44,13 +45,17 @@ fn an_occurrence_is_found(alloc: Global) -> bool {
     }
 }
 
-/// teco_scan: a token ends where its text ends, and a block without its end is a fault.
+/// teco_scan: a token ends where its text ends.
 fn a_token_is_read() -> bool {
-    let read = match token_at(b"Iab\x1bT", 0) {
+    match token_at(b"Iab\x1bT", 0) {
         Found::Token(token) => token.span.to == 4,
         _ => false,
-    };
-    read && first_fault(b"3<D").is_some()
+    }
+}
+
+/// teco_blocks: a block without its end is a fault.
+fn a_fault_is_found() -> bool {
+    first_fault(b"3<D").is_some()
 }
 
 /// teco_store: a text is put in, and the pointer goes after it.
@@ -67,7 +72,7 @@ fn a_put_is_shown(alloc: Global) -> bool {
     terminal.put(b"2\r\n").is_ok() && are(terminal.bytes(), b"2\r\n")
 }
 
-/// teco_step: the next line begins after the line end that comes, across the place where the halves meet.
+/// teco_command: the next line begins after the line end that comes, across the place where the halves meet.
 fn a_line_is_placed() -> bool {
     line_place(b"one\ntw", b"o\nthree", 5, 1) == 8
 }
@@ -95,7 +100,7 @@ fn a_line_is_read(alloc: Global) -> bool {
     }
 }
 
-/// teco_files: a source is read whole.
+/// teco_bytes: a source is read whole.
 fn a_source_is_read(alloc: Global) -> bool {
     let mut source = MemorySource::new(joined(alloc, &[b"one"]), Vec::new(alloc), false);
     match read_input(alloc, &mut source, 3) {
@@ -118,6 +123,7 @@ fn all_hold(alloc: Global) -> bool {
         && a_text_is_edited(alloc)
         && an_occurrence_is_found(alloc)
         && a_token_is_read()
+        && a_fault_is_found()
         && an_edit_is_made(alloc)
         && a_put_is_shown(alloc)
         && a_line_is_placed()

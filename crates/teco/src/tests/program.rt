@@ -9,8 +9,9 @@ use std::io;
 use std::process::ExitCode;
 use std::test::*;
 use std::time::{Clock, Duration};
-use teco_files::{MemoryDisk, MemorySource, Refused, Source};
-use teco_line::LineFault;
+use teco_bytes::{MemorySource, Source};
+use teco_files::{MemoryDisk, Refused};
+use teco_option::LineFault;
 use teco_program::program;
 use teco_serve::ClockAlarm;
 

@@ -5,12 +5,11 @@ ghost use Rattle.teco_files.specs.Disk.{Appends, Creates, Opens, Removes, Rename
 ghost use Rattle.teco_files.specs.FileLog.{GrowsByOne, files_of};
 
 use super::Refused;
-use crate::memory_source::MemorySource;
-use crate::source::Source;
 use std::alloc::Global;
 use std::io;
 use std::io::ErrorKind;
 use std::marker::Model;
+use teco_bytes::{MemorySource, Source};
 use teco_core::NoMemory;
 
 /// What a call made of the files.

@@ -3,10 +3,10 @@ ghost use Rattle.std.specs.Prelude.{◌≡◌, is_some};
 ghost use Rattle.std.specs.List.{list_any};
 ghost use Rattle.std.specs.String.{string_bytes};
 ghost use Rattle.teco_line.specs.Conflict.{are_awaited as awaited, are_on_standard_input as on_standard_input, has_conflict, has_more as many, has_standard_input as on_a_stream};
-ghost use Rattle.teco_line.specs.StreamNames.{is_standard_input as names_standard_input};
+ghost use Rattle.teco_option.specs.StreamNames.{is_standard_input as names_standard_input};
 
-use super::streams::is_standard_input;
 use super::{Commands, Line};
+use teco_option::is_standard_input;
 
 /// Whether no option gives the commands.
 fn are_awaited(commands: &Commands) -> bool

@@ -4,11 +4,13 @@ ghost use Rattle.std.specs.Prelude.{[], ◌∷◌, ◌++◌, ◌≡◌, ◌||◌
 ghost use Rattle.std.specs.Str.{bytes_eq};
 ghost use Rattle.std.specs.String.{string_bytes};
 ghost use Rattle.teco_line.specs.Joining.{begins_with_hyphen as begins, joined as joined_words, joined_after, is_long as has_name, is_short as has_letter, is_joined as makes_one, wants_value, with_value as one_word};
-ghost use Rattle.teco_line.specs.OptionTable.{option_rules, rule_by};
+ghost use Rattle.teco_line.specs.OptionRules.{option_rules};
+ghost use Rattle.teco_option.specs.OptionTable.{rule_by};
 
-use super::options::{OptionRow, Takes, options};
+use super::table::options;
 use std::alloc::Global;
 use teco_core::NoMemory;
+use teco_option::{OptionRow, Takes};
 
 /// Whether the word is this name after two hyphens, and nothing else.
 fn is_long(word: &str, name: &str) -> bool

@@ -3,7 +3,7 @@ use crate::tests::bytes::{are, is, joined};
 use crate::tests::rows::{Rule, all_hold, cells_of, number_or};
 use std::alloc::Global;
 use std::test::*;
-use teco_files::{InputFault, MemorySource, ReaderSource, Source, read_input};
+use teco_bytes::{InputFault, MemorySource, ReaderSource, Source, read_input};
 use teco_terminal::FailAfter;
 
 /// Whether reading a source ends so: with all eight bytes, or by a fault.

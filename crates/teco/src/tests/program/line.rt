@@ -8,9 +8,9 @@ use std::alloc::Global;
 use std::io;
 use std::test::*;
 use teco_core::NoMemory;
-use teco_line::{
-    Commands, Line, LineFault, fault_of_words, is_standard_input, is_standard_output, line_of,
-    not_text, refused_status,
+use teco_line::{Commands, Line, line_of, not_text};
+use teco_option::{
+    LineFault, fault_of_words, is_standard_input, is_standard_output, refused_status,
 };
 
 /// Where the commands come from: standard input, the sources of files and of a word, a word that is run on every page, or the bytes of a

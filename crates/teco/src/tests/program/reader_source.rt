@@ -1,7 +1,7 @@
 //! Readers that fail, and what their source gives.
 use std::io;
 use std::io::Read;
-use teco_files::{ReaderSource, Source};
+use teco_bytes::{ReaderSource, Source};
 
 /// Gives one byte a read, but fails at its second read, and ends after its fourth.
 #[derive(Drop)]

@@ -6,7 +6,7 @@ use crate::tests::session::requests::{Over, Trial, holds_once};
 use crate::tests::step::failed_searches;
 use std::alloc::Global;
 use std::test::*;
-use teco_files::MemorySource;
+use teco_bytes::MemorySource;
 use teco_serve::{Bounds, ClockAlarm, Served, Silent, serve};
 use teco_session::Session;
 use teco_store::Desk;

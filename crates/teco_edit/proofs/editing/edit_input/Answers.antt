@@ -1,5 +1,5 @@
 use Rattle.std.proofs.Common.{◌≡◌, ◌∙◌, true, refl, sym, true≢false}
-use Rattle.teco_line.specs.StreamNames.{is_standard_input}
+use Rattle.teco_option.specs.StreamNames.{is_standard_input}
 use Rattle.teco_edit.proofs.Doings.{kept_same, lacks_streamed, over_read}
 use Rattle.teco_edit.proofs.editing.edit_input.Goals as goal
 

@@ -1,5 +1,5 @@
 use Rattle.std.proofs.Common.{◌∙◌, inl, ap, refl, subst}
-use Rattle.teco_files.specs.Source.{Gives, HasEnded}
+use Rattle.teco_bytes.specs.Source.{Gives, HasEnded}
 use Rattle.teco_session.specs.History.{History}
 use Rattle.teco_session.specs.Kept.{history_of}
 use Rattle.teco_terminal.specs.Terminal.{Shows}

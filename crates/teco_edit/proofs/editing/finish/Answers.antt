@@ -1,5 +1,5 @@
 use Rattle.std.proofs.Common.{◌∙◌, sym, refl, IsTrue}
-use Rattle.teco_line.specs.StreamNames.{is_standard_output}
+use Rattle.teco_option.specs.StreamNames.{is_standard_output}
 use Rattle.teco_host.specs.Seen.{disk_seen, source_view}
 use Rattle.teco_host.specs.Writing.{both}
 use Rattle.teco_edit.specs.Run.{doings_after, named_output}

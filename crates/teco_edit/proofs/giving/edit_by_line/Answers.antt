@@ -1,7 +1,7 @@
 use Rattle.std.proofs.lemmas.Grind.{common_steps}
 use Rattle.std.proofs.Common.{arith, rules, ◌≡◌, ◌∙◌, ℕ, List, ap, false, inr, subst, sym}
 use Rattle.std.specs.String.{string_bytes}
-use Rattle.teco_line.specs.StreamNames.{is_standard_input}
+use Rattle.teco_option.specs.StreamNames.{is_standard_input}
 use Rattle.teco_serve.specs.Exchange.{HasRung}
 use Rattle.teco_edit.specs.Run.{Edits, input_from, named_input, standard_input}
 use Rattle.teco_host.specs.Seen.{KeepsDisk, disk_seen, source_view}

@@ -1,7 +1,7 @@
 use Rattle.std.proofs.Common.{◌≡◌, ◌∙◌, ◌++◌, ◌+◌, ℕ, List, String, Global, [], ◌∷◌, Ok, ap, sym, subst, take}
 use Rattle.std.proofs.lemmas.List.{take_all, take_more}
 use Rattle.std.specs.String.{string_bytes}
-use Rattle.teco_line.specs.StreamNames.{is_standard_input}
+use Rattle.teco_option.specs.StreamNames.{is_standard_input}
 use Rattle.teco_host.specs.Seen.{disk_seen, source_view}
 use Rattle.teco_edit.specs.Sources.{AreCommandsIn, IsFaultOf, IsUnread, IsWholeOf, LacksFiles}
 use Rattle.teco_source.specs.Source.{commands_of}

@@ -1,7 +1,7 @@
 use Rattle.std.proofs.Common.{codes, map}
 use Rattle.std.specs.String.{string_bytes}
-use Rattle.teco_line.specs.Parsing.{app_by}
-use Rattle.teco_line.proofs.CommandLines.{app_is}
+use Rattle.teco_option.specs.Parsing.{app_by}
+use Rattle.teco_option.proofs.Parses.{app_is}
 use Rattle.teco_keep.specs.CommandLine.{tecol_rules}
 use Rattle.teco_keep.proofs.CommandLines.{line_is, refused_is, unparsed_is}
 use Rattle.teco_keep.proofs.parsing.line_of.Goals as goal

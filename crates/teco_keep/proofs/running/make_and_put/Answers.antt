@@ -1,6 +1,6 @@
 use Rattle.std.proofs.Common.{List, ℕ, rules, inl, inr, refl, subst, sym}
 use Rattle.std.specs.String.{string_bytes}
-use Rattle.teco_line.specs.StreamNames.{is_standard_output}
+use Rattle.teco_option.specs.StreamNames.{is_standard_output}
 use Rattle.teco_host.specs.Seen.{disk_seen, source_view}
 use Rattle.teco_keep.specs.Keeping.{output_of}
 use Rattle.teco_keep.specs.Made.{IsMade}

@@ -1,6 +1,6 @@
 use Rattle.std.proofs.Common.{List, ℕ, append-nil, rules, sym, subst, ◌∙◌}
 use Rattle.teco_files.specs.Disk.{Changes, Passes}
-use Rattle.teco_line.specs.StreamNames.{is_standard_output}
+use Rattle.teco_option.specs.StreamNames.{is_standard_output}
 use Rattle.teco_host.specs.Seen.{disk_seen, source_view}
 use Rattle.teco_host.specs.Writing.{IsPut, IsWriting}
 use Rattle.teco_keep.specs.Keeping.{output_to}

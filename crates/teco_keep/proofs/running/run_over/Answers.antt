@@ -1,5 +1,5 @@
 use Rattle.std.proofs.Common.{List, ℕ, ap, sym, subst, ◌∙◌}
-use Rattle.teco_line.specs.StreamNames.{is_standard_input}
+use Rattle.teco_option.specs.StreamNames.{is_standard_input}
 use Rattle.teco_host.specs.Seen.{disk_seen, source_view}
 use Rattle.teco_keep.specs.Keeping.{EndsAfter, MakesAndPuts, ReadsInput, output_of}
 use Rattle.teco_keep.specs.Made.{IsMade}

@@ -1,5 +1,5 @@
 use Rattle.std.proofs.Common.{rules}
-use Rattle.teco_line.specs.CommandLine.{text_behind, texts_behind}
+use Rattle.teco_option.specs.Values.{text_behind, texts_behind}
 use Rattle.teco_line.proofs.CommandLines.{said_many}
 use Rattle.teco_line.proofs.line.commands_of.Goals as goal
 

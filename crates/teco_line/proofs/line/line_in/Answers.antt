@@ -5,7 +5,7 @@ use Rattle.std.specs.String.{string_bytes}
 use Rattle.clap.proofs.CallerLemmas.{some_of_text}
 use Rattle.clap.proofs.WalkLemmas.{first_value-rows}
 use Rattle.clap.specs.Words.{IsUnsignedIn, Text, first_of, found_of, rows_of}
-use Rattle.teco_line.specs.CommandLine.{IsNumber, number_of}
+use Rattle.teco_option.specs.Values.{IsNumber, number_of}
 use Rattle.teco_line.proofs.line.line_in.Goals as goal
 
 -- the input is required

@@ -5,7 +5,8 @@ use Rattle.std.specs.String.{string_bytes}
 use Rattle.std.proofs.lemmas.Result.{IfErr-weaker}
 use Rattle.teco_line.specs.CommandLine.{IsFaultOnceMade, teco_rules}
 use Rattle.teco_line.specs.Joining.{joined}
-use Rattle.teco_line.proofs.CommandLines.{app_is, fault_at_all}
+use Rattle.teco_option.proofs.Parses.{app_is}
+use Rattle.teco_line.proofs.CommandLines.{fault_at_all}
 use Rattle.teco_line.proofs.line.line_of.Goals as goal
 
 pub returns-clause-refused : goal.returns-clause-refused

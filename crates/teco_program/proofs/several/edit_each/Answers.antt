@@ -1,7 +1,7 @@
 use Rattle.std.proofs.Common.{◌≡◌, ◌∙◌, ◌++◌, ◌+◌, ◌≤◌, ℕ, List, String, Global, [], ◌∷◌, map, take, length, refl, sym, ap, subst}
 use Rattle.std.proofs.lemmas.List.{take_all, take_more, map-append}
 use Rattle.std.specs.String.{string_bytes}
-use Rattle.teco_files.specs.contracts.word_source.WordSourceSource.TheImpl as word
+use Rattle.teco_bytes.specs.contracts.word_source.WordSourceSource.TheImpl as word
 use Rattle.teco_program.specs.Lines.{worse}
 use Rattle.teco_serve.specs.Exchange.{HasRung}
 use Rattle.teco_program.specs.Runs.{Chain, LinkOver}

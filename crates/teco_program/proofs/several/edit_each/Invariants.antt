@@ -1,6 +1,6 @@
 use Rattle.std.proofs.Common.{◌≡◌, ℕ, List, ◌∷◌, false, map, take}
 use Rattle.std.specs.String.{string_bytes}
-use Rattle.teco_files.specs.contracts.word_source.WordSourceSource.TheImpl as word
+use Rattle.teco_bytes.specs.contracts.word_source.WordSourceSource.TheImpl as word
 use Rattle.teco_program.specs.Lines.{worst}
 use Rattle.teco_serve.specs.Exchange.{HasRung}
 use Rattle.teco_program.specs.Runs.{Chain, LinkOver}

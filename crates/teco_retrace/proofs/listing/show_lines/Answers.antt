@@ -2,7 +2,7 @@ use Rattle.std.proofs.Common.{◌≡◌, ◌∙◌, ◌++◌, ap, drop, rules, t
 use Rattle.std.proofs.lemmas.Result.{on_ok_weaker}
 use Rattle.std.specs.Prelude.{codes, pos, ◌-ℤ◌}
 use Rattle.std.specs.String.{string_bytes}
-use Rattle.teco_step.specs.Line.{line}
+use Rattle.teco_command.specs.Line.{line}
 use Rattle.teco_store.specs.State.{state_of}
 use Rattle.teco_retrace.specs.Listing.{lines_shown}
 use Rattle.teco_retrace.proofs.Texts.{three_texts}

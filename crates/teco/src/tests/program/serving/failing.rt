@@ -6,7 +6,7 @@ use crate::tests::session::requests::{Over, Trial, holds_in, holds_once, ran, tu
 use crate::tests::store::states::{is_seen, seen};
 use std::alloc::Global;
 use std::test::*;
-use teco_files::{MemorySource, Source};
+use teco_bytes::{MemorySource, Source};
 use teco_serve::Served;
 use teco_session::Session;
 

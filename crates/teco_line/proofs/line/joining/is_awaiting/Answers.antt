@@ -3,7 +3,8 @@ use Rattle.std.specs.List.{list_any}
 use Rattle.clap.proofs.WalkLemmas.{list_any-map}
 use Rattle.teco_line.specs.CommandLine.{input_rule, more_rule}
 use Rattle.teco_line.specs.Joining.{wants_value}
-use Rattle.teco_line.specs.OptionTable.{option_rules, rule_by}
+use Rattle.teco_line.specs.OptionRules.{option_rules}
+use Rattle.teco_option.specs.OptionTable.{rule_by}
 use Rattle.teco_line.proofs.Joinings.{any_front}
 use Rattle.teco_line.proofs.line.joining.is_awaiting.Goals as goal
 

@@ -1,0 +1,13 @@
+pub mod ScanFaults
+pub mod LastBytes
+pub mod BlockRows
+pub mod ListUnrolls
+pub mod SearchUnrolls
+pub mod SearchFinds
+pub mod SkipSteps
+pub mod Passing
+pub mod ListFaults
+pub mod TokensNest
+pub mod Breaking
+pub mod BreaksIsBroken
+pub mod TreeRows

@@ -1,0 +1,3 @@
+pub mod Source
+pub mod Input
+pub mod Pieces

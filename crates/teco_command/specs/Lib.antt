@@ -1,0 +1,15 @@
+pub mod Line
+pub mod Step
+pub mod Values
+pub mod Editing
+pub mod Typing
+pub mod Registers
+pub mod Searching
+pub mod Control
+pub mod Pages
+pub mod PageSearching
+pub mod Decimal
+pub mod Case
+pub mod Ending
+pub mod Families
+pub mod DecimalLaws

@@ -1,0 +1,33 @@
+//! What each command does to a desk, to the arguments and to a terminal; and line places.
+#![tactic(auto)]
+
+mod case;
+mod control;
+mod decimal;
+mod edit;
+mod failure;
+mod joining;
+mod laws;
+mod line;
+mod next;
+mod page_searching;
+mod pages;
+mod registers;
+mod searching;
+mod taking;
+mod typing;
+mod value;
+
+pub use case::set_case;
+pub use control::{jump_to, leave_or_not, run_register};
+pub use edit::{back, delete, forward, insert, insert_tab, jump, kill, to_line};
+pub use failure::{Failure, next_of};
+pub use laws::decimal_laws;
+pub use line::line_place;
+pub use next::{Next, Setting, Work};
+pub use page_searching::search_pages;
+pub use pages::{exit, next_page, turn_pages, write_page};
+pub use registers::{extract, get, increment, pop, push, register_value, set_number, set_text};
+pub use searching::{search_and_replace, search_or_compare};
+pub use typing::{print, type_byte, type_out, type_text, view};
+pub use value::{arithmetic, at_level, byte, number, quantity};

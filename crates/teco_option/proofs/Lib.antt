@@ -1,0 +1,3 @@
+pub mod CommandEntries
+pub mod OptionRows
+pub mod Parses

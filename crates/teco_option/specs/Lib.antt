@@ -1,0 +1,5 @@
+pub mod OptionTable
+pub mod Values
+pub mod Parsing
+pub mod Refusals
+pub mod StreamNames
