@@ -12,12 +12,19 @@ want_tools() {
 }
 
 # Builds the program, or takes the one that TECO names.
+# Whether a program is not there, or a source is newer than it.
+is_stale() {
+    [ ! -x "$1" ] || [ -n "$(find "$BENCH/../crates.txt" "$BENCH"/../crates/*/src "$BENCH"/../crates/*/specs -type f -newer "$1" -print -quit)" ]
+}
+
 build() {
     if [ -z "${TECO:-}" ]; then
         TECO=$BENCH/../crates/teco/out/teco
-        say 'building the program'
-        (cd "$BENCH/../crates/teco" && printf 'EX\033\033' | ${RT:-rt} run -- --output /dev/null /dev/null) > "$work/build" 2>&1 ||
-            { cat "$work/build" >&2; exit 2; }
+        if is_stale "$TECO"; then
+            say 'building the program'
+            (cd "$BENCH/../crates/teco" && printf 'EX\033\033' | ${RT:-rt} run -- --output /dev/null /dev/null) > "$work/build" 2>&1 ||
+                { cat "$work/build" >&2; exit 2; }
+        fi
     fi
     export TECO
     export TECOL="${TECOL:-$BENCH/../crates/tecol/out/tecol}"
