@@ -11,12 +11,12 @@ want_tools() {
     done
 }
 
-# Builds the program, or takes the one that TECO names.
 # Whether a program is not there, or a source is newer than it.
 is_stale() {
     [ ! -x "$1" ] || [ -n "$(find "$BENCH/../crates.txt" "$BENCH"/../crates/*/src "$BENCH"/../crates/*/specs -type f -newer "$1" -print -quit)" ]
 }
 
+# Builds the program, unless it is there and no source is newer; or takes the one that TECO names.
 build() {
     if [ -z "${TECO:-}" ]; then
         TECO=$BENCH/../crates/teco/out/teco
