@@ -24,6 +24,10 @@ CFLAGS = -O2
 INSTALL = install
 
 NAMES = teco teco-debug tecol teco-term teco-screen
+# What is installed below DOCDIR: these, and the pages and programs in folders of their own.
+TOP_PAGES = README.md CHANGELOG.md SECURITY.md
+PAGES = docs/*.md
+EXAMPLES = examples/*.md examples/*.tec examples/*.in examples/*.out examples/*.typed
 PROGRAMS = out/teco out/teco-debug out/tecol out/teco-term out/teco-screen
 LIBRARY = out/libteco_c.a out/teco.pc
 VERSION != sed -n 's/^pub const VERSION: &str = "\(.*\)";$$/\1/p' crates/teco_option/src/*.rt
@@ -146,18 +150,21 @@ install: all
 	$(INSTALL) -m 644 out/libteco_c.a '$(DESTDIR)$(LIBDIR)/libteco_c.a'
 	$(INSTALL) -m 644 doors/c/teco.h '$(DESTDIR)$(INCLUDEDIR)/teco.h'
 	$(INSTALL) -m 644 out/teco.pc '$(DESTDIR)$(PCDIR)/teco.pc'
-	$(INSTALL) -m 644 README.md CHANGELOG.md SECURITY.md '$(DESTDIR)$(DOCDIR)'
-	$(INSTALL) -m 644 docs/*.md '$(DESTDIR)$(DOCDIR)/docs'
-	$(INSTALL) -m 644 examples/*.md examples/*.tec examples/*.in examples/*.out examples/*.typed '$(DESTDIR)$(DOCDIR)/examples'
+	$(INSTALL) -m 644 $(TOP_PAGES) '$(DESTDIR)$(DOCDIR)'
+	$(INSTALL) -m 644 $(PAGES) '$(DESTDIR)$(DOCDIR)/docs'
+	$(INSTALL) -m 644 $(EXAMPLES) '$(DESTDIR)$(DOCDIR)/examples'
 
-## make uninstall     takes away what make install put there; PREFIX and DESTDIR as there
+# A folder may have files of others: so each file goes by its name, and a folder only if it is empty then.
+## make uninstall     removes the files that make install put there, and then its folders for docs, if nothing else is in them;
+##                    PREFIX, DESTDIR and what else was given to make install as there
 uninstall:
 	for name in $(NAMES); do \
 	    rm -f '$(DESTDIR)$(BINDIR)'/$$name '$(DESTDIR)$(MANDIR)'/$$name.1 '$(DESTDIR)$(BASHDIR)'/$$name \
-	        '$(DESTDIR)$(ZSHDIR)'/_$$name '$(DESTDIR)$(FISHDIR)'/$$name.fish; \
+	        '$(DESTDIR)$(ZSHDIR)'/_$$name '$(DESTDIR)$(FISHDIR)'/$$name.fish || exit 1; \
 	done
 	rm -f '$(DESTDIR)$(LIBDIR)/libteco_c.a' '$(DESTDIR)$(INCLUDEDIR)/teco.h' '$(DESTDIR)$(PCDIR)/teco.pc'
-	rm -rf '$(DESTDIR)$(DOCDIR)'
+	for file in $(TOP_PAGES) $(PAGES) $(EXAMPLES); do rm -f '$(DESTDIR)$(DOCDIR)'/$$file || exit 1; done
+	for folder in docs examples ''; do rmdir '$(DESTDIR)$(DOCDIR)'/$$folder 2> /dev/null || true; done
 
 ## make clean         removes out/; what the crates keep of their proofs stays
 clean:
