@@ -3,10 +3,14 @@
 # A block ```teco, perhaps with options after it, has commands as tecol reads them, and then parts that begin with a line of their own:
 #   -- before   the input; empty where it isn't there      -- after   the output; none is written where it isn't there
 #   -- typed    what is typed                              -- status N   where it isn't 0 with an output, and 2 without one
+#   -- as LINE  a line for the shell that gives the same of the same file, on its standard input
+#   -- match TEXT   what the commands look for; ^J is a line end in it, and ^. at its end keeps a blank before it
 # A block ```sh has lines for the shell, which are run in a folder of its own, and then parts:
 #   -- file NAME   a file that is there before                 -- left NAME   a file as it is after; others may be there too
 #   -- typed       what comes on standard output               -- told        what comes on standard error; nothing where it isn't there
 #   -- status N    where it isn't 0                            -- needs TOOL  the example is left out where this isn't installed
+#   -- as LINE     other lines that type and leave the same    -- match TEXT  what is looked for, as above
+# After a block with LINE a paragraph may say "*Trap (CASE, CASE):*": over a file of that case, LINE gives something else.
 # A block ```session has lines that begin with "* ", each a command string, with what it types after it. The parts are the same.
 # A row of a table with four columns has commands in the third, and in the fourth the words that they type, perhaps over INPUT of `one`,
 # `two` and `three`, a page each, where its first column has a star after it.
@@ -29,6 +33,8 @@ function begin(options) {
     put("table", page == "COOKBOOK.md" ? "cookbook_" part_name : page == "teco.1" ? "man_page" : tolower(substr(page, 1, length(page) - 3)))
     put("before", "")
     put("typed", "")
+    block = folder
+    traps = ""
     has_after = status = 0
 }
 
@@ -58,6 +64,17 @@ function end_block(    name) {
     for (name in parts) put(name, parts[name])
     split("", parts)
     finish()
+}
+
+# The cases of the traps of a paragraph, for the block above it.
+function trapped(    line, cases, k) {
+    for (line = $0; match(line, /\*Trap \([^)]*\):\*/); line = substr(line, RSTART + RLENGTH)) {
+        cases = substr(line, RSTART + 7, RLENGTH - 10)
+        gsub(/, /, "\n", cases)
+        traps = traps cases "\n"
+    }
+    printf "%s", traps > (block "/traps")
+    close(block "/traps")
 }
 
 # What is inside the backquotes of a column of a table.
@@ -118,6 +135,7 @@ function display(    name) {
 # The heading above, and for docs/rows the name of the part of the page.
 folder == "" && /^##/ {
     heading = $0
+    block = ""
     sub(/^#* */, "", heading)
     if (/^## /) { part_name = tolower(heading); gsub(/[^a-z]+/, "_", part_name) }
 }
@@ -135,6 +153,7 @@ folder && /^```$/ { end_block(); next }
 folder && /^-- status / { status = $3 + 1; next }
 folder && kind == "sh" && /^-- (file|left) / { part = $2 "/" substr($0, 9); parts[part] = ""; next }
 folder && kind == "sh" && /^-- needs / { put("needs", $3); next }
+folder && /^-- (as|match) / { put($2, substr($0, length($2) + 5) "\n"); next }
 folder && /^-- / { part = $2; parts[part] = ""; if (part == "after") has_after = 1; next }
 folder && /^\* / && kind == "session" {
     if ($0 ~ /EX\$\$$/) has_exit = 1
@@ -144,6 +163,7 @@ folder && /^\* / && kind == "session" {
     next
 }
 folder { append($0); next }
+block && /\*Trap \([^)]*\):\*/ { trapped() }
 /^\|/ { row() }
 /^\.\\" (before|after|typed|file|left) / { printf_text($2) }
 /^\.\\" status / { held_status = $3 }

@@ -6,7 +6,7 @@ pub(super) const EXAMPLES: &str = "
     // Something after each line?
     Y<FS\n$;\n$;>EX$$ => => one;\ntwo;\n => one\ntwo\n => exit
     // A line end at the end of the file, if there is none?
-    YZJ-A-10\"NI\n$'EX$$ => => one\n => one => exit
+    YZ\"GZJ-A-10\"NI\n$''EX$$ => => one\n => one => exit
     // The number of each line before it?
     Y<.-Z;%N\\I: $L>EX$$ => => 1: one\n2: two\n => one\ntwo\n => exit
     // How many lines are there?
@@ -20,7 +20,7 @@ pub(super) const EXAMPLES: &str = "
     // Only the lines that have a text?
     Y<.UBSan$;0LQB,.KL>QB,ZKEX$$ => => banana\nmango\n => cherry\nbanana\nplum\nmango\nfig\n => exit
     // The value of a key in a configuration?
-    Y<.-Z;::Sport = $\"LKI8080\n$|L'>EX$$ => => name = a\nport = 8080\nexport = 1\n => name = a\nport = 80\nexport = 1\n => exit
+    Y<.-Z;::Sport = $\"L.UBL-A-10\"ER'QB,.KI8080$'L>EX$$ => => name = a\nport = 8080\nexport = 1\n => name = a\nport = 80\nexport = 1\n => exit
     // Only the lines m to n?
     YLB,.K3L.,ZKEX$$ => => 2\n3\n4\n => 1\n2\n3\n4\n5\n => exit
     // The n-th in each line?
@@ -30,17 +30,17 @@ pub(super) const EXAMPLES: &str = "
     // The lines of blocks between marks?
     Y<Sbegin\n$;<.-Z;::Send\n$\"L0;'I> $L>>EX$$ => => a\nbegin\n> b\n> c\nend\nd\nbegin\n> e\n => a\nbegin\nb\nc\nend\nd\nbegin\ne\n => exit
     // Without empty lines?
-    Y<FS\n\n$\n$;R>EX$$ => => one\ntwo\n => one\n\n\ntwo\n => exit
+    Y<.-Z;0A-10\"ED|L'>EX$$ => => one\ntwo\n => one\n\n\ntwo\n => exit
     // Without the first byte of each line?
     Y<.-Z;0A-10\"ND'L>EX$$ => => ne\n\nwo\n => one\n\ntwo\n => exit
     // Without the last byte of each line?
-    Y<.-Z;LR.UE0LQE-.\"GQEJ-D'L>EX$$ => => one\n\ntwo\n => one;\n\ntwo;\n => exit
+    Y<.-Z;.UBL-A-10\"ER'.-QB\"G-D'L>EX$$ => => one\n\ntwo\n => one;\n\ntwo;\n => exit
     // Without the first three lines, or the last one?
-    Y3KZJ-KEX$$ => => 4\n => 1\n2\n3\n4\n5\n => exit
+    Y3KZ\"GZJR0LK'EX$$ => => 4\n => 1\n2\n3\n4\n5\n => exit
     // Something before line 3?
-    Y2LInew\n$EX$$ => => 1\n2\nnew\n3\n => 1\n2\n3\n => exit
+    Y2L.-Z\"LInew\n$'EX$$ => => 1\n2\nnew\n3\n => 1\n2\n3\n => exit
     // A first line and a last line?
-    YIhead\n$ZJItail\n$EX$$ => => head\none\ntail\n => one\n => exit
+    YIhead\n$ZJ-A-10\"NI\n$'Itail\n$EX$$ => => head\none\ntail\n => one\n => exit
     // Each line twice?
     Y<.-Z;XALGA>EX$$ => => one\none\ntwo\ntwo\n => one\ntwo\n => exit
     // The first line to the end?

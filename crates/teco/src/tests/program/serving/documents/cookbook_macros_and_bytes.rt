@@ -2,7 +2,7 @@
 
 pub(super) const EXAMPLES: &str = "
     // A macro that is used more than once?
-    @\x15U/0A\"V0A-32UXDQXI$|C'/Y<.-Z;MUL>EX$$ => => One\nTwo\n => one\ntwo\n => exit
+    @\x15U/0A\"V0A-32UXDQXI$'/Y<.-Z;MUL>EX$$ => => One\nTwo\n => one\ntwo\n => exit
     // All letters as capitals?
     Y<.-Z;0A\"V0A-32UXDQXI$|C'>EX$$ => => ONE TWO\n => one Two\n => exit
     // A byte by its number?

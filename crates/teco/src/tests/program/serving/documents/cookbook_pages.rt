@@ -8,7 +8,7 @@ pub(super) const EXAMPLES: &str = "
     // Without the second page?
     YPHKYEX$$ => => one\n\x0cthree\n => one\n\x0ctwo\n\x0cthree\n => exit
     // The page that has a text?
-    YNtwo$HT$$ => two\n => ? => one\n\x0ctwo\n\x0cthree\n
+    Y:Ntwo$\"LHT'$$ => two\n => ? => one\n\x0ctwo\n\x0cthree\n
     // A form feed after each second line?
     Y<.-Z;2L.-Z;12I$>EX$$ => => 1\n2\n\x0c3\n => 1\n2\n3\n => exit
     ";

@@ -4,11 +4,11 @@ pub(super) const EXAMPLES: &str = "
     // The lines of a paragraph as one line?
     Y<S\x0e\n\n\x0e\n$;R-DI $>EX$$ => => one two\n\nthree four\n => one\ntwo\n\nthree\nfour\n => exit
     // All lines as one, with commas?
-    Y<FS\n$, $;>ZJ-2DI\n$EX$$ => => one, two, three\n => one\ntwo\nthree\n => exit
+    Y<S\n$;.-Z\"L-DI, $'>EX$$ => => one, two, three\n => one\ntwo\nthree\n => exit
     // One line into several?
     Y<FS, $\n$;>EX$$ => => one\ntwo\nthree\n => one, two, three\n => exit
     // Without what is between two marks?
     Y<S(*$;-2C.UBS*)$;QB,.K>EX$$ => => a c\n => a (* b *)c(* d *)\n => exit
     // Only what is between two lines?
-    YSbegin$L.UASend$0LQA,.PWHKYEX$$ => => one\ntwo\n => x\nbegin\none\ntwo\nend\ny\n => exit
+    Y:Sbegin$\"LL.UA:Send$\"L0L|ZJ'QA,.PW'HKYEX$$ => => one\ntwo\n => x\nbegin\none\ntwo\nend\ny\n => exit
     ";

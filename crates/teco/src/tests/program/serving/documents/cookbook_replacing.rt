@@ -8,7 +8,7 @@ pub(super) const EXAMPLES: &str = "
     // Only the first in each line?
     Y<FSa$4$;L>EX$$ => => b4nana\nxx\n4nanas\n => banana\nxx\nananas\n => exit
     // Only the second in the file?
-    Y2FSone$two$EX$$ => => one two one\n => one one one\n => exit
+    Y2:Sone$\"L-3DItwo$'EX$$ => => one two one\n => one one one\n => exit
     // With nothing in its place?
     Y<@FS/, please//;>EX$$ => => stop, now\n => stop, please, now\n => exit
     // In either case?
