@@ -1,5 +1,5 @@
 /* The strings of a session, kept beside it, so that they can be left in a file where the program is ended: by a signal too, while the
-   library is in a call. The file is a source for tecol, and `teco -f` makes the text again from the strings in it. */
+   library is in a call. The file is a source with an exit at its end, from which `teco` makes the text again. */
 #include "terminal.h"
 #include <fcntl.h>
 #include <signal.h>
@@ -139,7 +139,7 @@ static void put_number(struct pen *pen, uint64_t number)
     put(pen, at);
 }
 
-/* A byte as `tecol -r` writes it. */
+/* A byte as `tecol -r` writes it, but for a line end, after which the source goes on in a new line too. */
 static void put_byte(struct pen *pen, uint8_t byte, uint8_t before)
 {
     if (byte == ESCAPE)
@@ -149,7 +149,7 @@ static void put_byte(struct pen *pen, uint8_t byte, uint8_t before)
     else if (byte == '$')
         put(pen, "^$");
     else if (byte == '^')
-        put(pen, "^=");
+        put(pen, "^~");
     else if (byte < 32 || byte == DELETE)
         put(pen, (char[]){'^', (char)(byte ^ 64), '\0'});
     else if (byte == '!' && before == '!')
@@ -162,6 +162,9 @@ static void put_string(struct pen *pen, const struct journal *journal, size_t i)
 {
     size_t n;
     const uint8_t *text = journal_text(journal, i, &n);
+    /* A blank at the beginning of the line would be its margin. After a line end of a text it is text. */
+    if (n > 0 && text[0] == ' ')
+        put(pen, "^.");
     for (size_t at = 0; at < n; at++)
         put_byte(pen, text[at], at > 0 ? text[at - 1] : 0);
     put(pen, n > 0 && text[n - 1] == ESCAPE ? "$\n" : "$$\n");
@@ -183,6 +186,16 @@ static uint64_t limit_of(const struct journal *journal)
         is_broken_off |= kept->is_broken_off;
     }
     return is_broken_off ? most + 1 : journal->limit;
+}
+
+/* Whether a string ended by an error or was cut off, and so may be misspelt. `teco -f` runs no source with such a string. But it runs commands
+   that come as they are typed, and each string of them up to where it failed, as it ran here. */
+static bool has_failed(const struct journal *journal)
+{
+    bool has = false;
+    for (size_t i = 0; i < journal->cursor; i++)
+        has |= journal->strings[i].code != 0 || journal->strings[i].is_cut;
+    return has;
 }
 
 /* A new file of the name, or of the name and a digit where there are such files. */
@@ -208,11 +221,14 @@ void journal_leave(void)
     pen.file = make_file();
     if (pen.file < 0)
         return;
-    put(&pen, "!! The strings of a session that was ended. To make its text again: tecol < THIS > STRINGS; teco --limit ");
+    bool are_typed = has_failed(journal);
+    put(&pen, "!! The strings of a session that was ended. To make its text again, in INPUT.out: ");
+    put(&pen, are_typed ? "tecol THIS | teco --limit " : "teco --limit ");
     put_number(&pen, limit_of(journal));
-    put(&pen, " -f STRINGS INPUT\n");
+    put(&pen, are_typed ? " INPUT\n" : " -f THIS INPUT\n");
     for (size_t i = 0; i < journal->cursor; i++)
         put_string(&pen, journal, i);
+    put(&pen, "EX$$\n");
     flush(&pen);
     (void)close(pen.file);
 }

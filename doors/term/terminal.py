@@ -6,8 +6,11 @@ import os
 import pty
 import re
 import select
+import shlex
 import signal
 import struct
+import subprocess
+import tempfile
 import termios
 import time
 import unicodedata
@@ -16,13 +19,38 @@ from pathlib import Path
 PATIENCE = float(os.environ.get("PATIENCE", "20"))  # seconds to wait for what has to come
 QUIET = 0.05  # and for what must not
 
+# What a source takes for something else where it is not marked: dollars, carets, two exclamation marks, and blanks at both ends of lines.
+HARD_LINES = (
+    b"line one", b"costs 5$ each", b"x^2 ^up ^^ ^", b"!! no comment", b" !! nor this", b"a!!b !!!! ! !!", b"   three blanks before",
+    b"two behind  ", b" ", b"", b"\ta tab before", b"#! no script", b"THIS INPUT", b"a\x00\x01\x1f\x7f\x80\xff", "\u00e9\u65e5".encode(), b"  ",
+)
 
-def tecol_built():
-    """The program that reads sources: the one that TECOL names, one that is built here, or the script that benchmarks keep."""
+
+def built(name):
+    """A program of ours: the one that the environment names, as by TECO=FILE, or one that is built here."""
     top = Path(__file__).resolve().parent.parent.parent
-    named = os.environ.get("TECOL")
-    built = [Path(named)] if named else [top / "out" / "tecol", top / "crates" / "tecol" / "out" / "tecol"]
-    return next((it for it in built if it.exists()), top / "bench" / "peers" / "tecol")
+    named = os.environ.get(name.upper())
+    files = [Path(named)] if named else [top / "out" / name, top / "crates" / name / "out" / name]
+    found = next((it.resolve() for it in files if it.exists()), None)
+    assert found is not None, f"the program {name} is not there: {name.upper()}=FILE names it"
+    return found
+
+
+def made_again(name="in.teco-strings"):
+    """The text and what is typed where a shell runs the line that the file of this name has in its first line, with its two names put in.
+    INPUT is `in`."""
+    said = re.match(rb"!! .*: (tecol? .*)\n", Path(name).read_bytes())
+    assert said is not None, Path(name).read_bytes()
+    line = re.sub(r"\bTHIS\b", shlex.quote(name), re.sub(r"\bINPUT\b", "in", said.group(1).decode()))
+    with tempfile.TemporaryDirectory() as programs:
+        for program in "teco", "tecol":
+            Path(programs, program).symlink_to(built(program))
+        path = programs + os.pathsep + os.environ["PATH"]
+        done = subprocess.run(["sh", "-c", line], env={**os.environ, "PATH": path}, stdin=subprocess.DEVNULL, capture_output=True)
+    assert (done.returncode, done.stderr) == (0, b""), (line, done)
+    made = Path("in.out").read_bytes()
+    os.remove("in.out")
+    return made, done.stdout
 
 
 class Screen:
