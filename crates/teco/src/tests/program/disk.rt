@@ -4,10 +4,11 @@ use crate::tests::assert_of;
 use crate::tests::bytes::{are, are_there, first_of, is};
 use crate::tests::rows::{LINE, halves_at, is_row};
 use std::alloc::Global;
-use std::fs::{Files, Permissions};
+use std::fs::{FileTimes, Files, OpenFile, Permissions};
 use std::io::{ErrorKind, Read};
 use std::os::fd::AsRawFd;
 use std::os::unix::fs::{MetadataExt, PermissionsExt};
+use std::time::SystemTime;
 use std::{fs, io};
 use teco_files::{Disk, FileDisk, MemoryDisk, Refused};
 use teco_host::write_output;
@@ -86,6 +87,15 @@ where
     }
 }
 
+/// Gives a file a time that is long past, so that whatever is written to it then has another one.
+fn ages<R: Files>(rt: &R, name: &str) -> bool {
+    let past = FileTimes::new().set_modified(SystemTime::UNIX_EPOCH);
+    match fs::open(rt, name) {
+        Ok(file) => file.set_times(past).is_ok(),
+        Err(_) => false,
+    }
+}
+
 /// Whether the last call of a disk that failed did so by this.
 fn failed_by(why: Option<ErrorKind>, kind: &str) -> bool {
     let told = match why {
@@ -159,6 +169,7 @@ where
         b'i' => is_a(rt, name, value),
         b'p' => leads_to_a_pipe(rt, disk, name),
         b'd' => is_replaced_by_its_descriptor(rt, disk, name),
+        b'a' => ages(rt, name),
         b'b' => is_standard_output(rt, disk, name),
         verb @ (b'o' | b't' | b'w' | b's' | b'e') => asked(rt.alloc(), disk, verb, name, value),
         verb if wanted => done(rt, verb, name, value).is_ok() || value.starts_with("if "),
@@ -306,6 +317,13 @@ const SCRIPT: &str = "
     open teco_test/in
     same teco_test/in
     other write teco_test/in not as read
+    same teco_test/in no
+    // A change that keeps the size is one.
+    make teco_test/in as read
+    age teco_test/in
+    open teco_test/in
+    same teco_test/in
+    make teco_test/in AS READ
     same teco_test/in no
     open teco_test/in
     remove teco_test/in
