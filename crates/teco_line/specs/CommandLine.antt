@@ -33,6 +33,10 @@ IsDepth depth = (1 ≤ depth) × (depth ≤ DEPTH_LIMIT)
 abbrev pub IsPageLength : ℕ → Type 0
 IsPageLength lines = (1 ≤ lines) × (lines ≤ 1000000000)
 
+-- the seconds that a string can be given
+abbrev pub IsTime : ℕ → Type 0
+IsTime seconds = (1 ≤ seconds) × (seconds ≤ 1000000000000)
+
 -- INPUT: any text, and it has to be there
 abbrev pub input_rule : Rule
 input_rule = record (new_rule (codes "input")) {

@@ -2,7 +2,7 @@
 ghost use Rattle.clap.specs.Words.{app_of, found_of, rows_of};
 ghost use Rattle.std.specs.Prelude.{◌≡◌, ◌≤◌, IfErr, IfOk, IfSome, codes, false, map};
 ghost use Rattle.std.specs.String.{string_bytes};
-ghost use Rattle.teco_line.specs.CommandLine.{HasLine, IsCommands, IsCommandsFault, IsDepth, IsFaultOnceMade, IsFaultSaid, IsGiven, IsLine, IsLineBy, IsLineFault, IsMisfit, IsPageLength, IsReadFault, SaysCommands, teco_app};
+ghost use Rattle.teco_line.specs.CommandLine.{HasLine, IsCommands, IsCommandsFault, IsDepth, IsFaultOnceMade, IsFaultSaid, IsGiven, IsLine, IsLineBy, IsLineFault, IsMisfit, IsPageLength, IsTime, IsReadFault, SaysCommands, teco_app};
 ghost use Rattle.teco_option.specs.Values.{text_behind, texts_behind};
 ghost use Rattle.teco_line.specs.Conflict.{has_conflict};
 ghost use Rattle.teco_option.specs.Refusals.{IsFaulty};
@@ -148,6 +148,7 @@ fn line_in<'a>(alloc: Global, matches: &ArgMatches<'a>) -> Result<Line, LineFaul
     requires given { IsGiven (rows_of (found_of matches.now)) }
     ensures line { IfOk result (HasLine (rows_of (found_of matches.now))) }
     ensures range { IfOk result (λ line. (line.limit ≤ 1000000000000) × IfSome line.undo IsDepth) }
+    ensures seconds { IfOk result (λ line. IfSome line.seconds IsTime) }
     ensures page_lines { IfOk result (λ line. IfSome line.page_lines IsPageLength) }
     ensures refused { IfErr result (IsReadFault (rows_of (found_of matches.now))) }
 {
@@ -196,6 +197,7 @@ fn fitting_line_in<'a>(alloc: Global, matches: &ArgMatches<'a>) -> Result<Line, 
     requires given { IsGiven (rows_of (found_of matches.now)) }
     ensures line { IfOk result (HasLine (rows_of (found_of matches.now))) }
     ensures range { IfOk result (λ line. (line.limit ≤ 1000000000000) × IfSome line.undo IsDepth) }
+    ensures seconds { IfOk result (λ line. IfSome line.seconds IsTime) }
     ensures page_lines { IfOk result (λ line. IfSome line.page_lines IsPageLength) }
     ensures fits { IfOk result (λ line. has_conflict line ≡ false) }
     ensures refused { IfErr result (IsReadFault (rows_of (found_of matches.now))) }
@@ -209,6 +211,7 @@ fn line_by<'a>(alloc: Global, command: Command<'a>, words: &'a [String]) -> Resu
     requires command { app_of command ≡ teco_app }
     ensures line { IfOk result (IsLineBy (map string_bytes words.now)) }
     ensures range { IfOk result (λ line. (line.limit ≤ 1000000000000) × IfSome line.undo IsDepth) }
+    ensures seconds { IfOk result (λ line. IfSome line.seconds IsTime) }
     ensures page_lines { IfOk result (λ line. IfSome line.page_lines IsPageLength) }
     ensures refused { IfErr result (IsFaultOnceMade (map string_bytes words.now)) }
 {
@@ -222,6 +225,7 @@ fn line_by<'a>(alloc: Global, command: Command<'a>, words: &'a [String]) -> Resu
 pub fn line_of(alloc: Global, words: &[String]) -> Result<Line, LineFault>
     ensures line { IfOk result (IsLine (map string_bytes words.now)) }
     ensures range { IfOk result (λ line. (line.limit ≤ 1000000000000) × IfSome line.undo IsDepth) }
+    ensures seconds { IfOk result (λ line. IfSome line.seconds IsTime) }
     ensures page_lines { IfOk result (λ line. IfSome line.page_lines IsPageLength) }
     ensures refused { IfErr result (IsLineFault (map string_bytes words.now)) }
 {

@@ -1,15 +1,16 @@
 -- Each byte of the commands has its place in the source, and places grow.
-use Rattle.std.proofs.Common.{◌≡◌, ℕ, zero, suc, ◌+◌, ◌-◌, ◌<◌, ◌≤◌, Bool, true, false, ◌&&◌, List, [], ◌∷◌, ◌++◌, Option, Some, None, Result, Ok, Err, length, take, refl, sym, ap, subst, ◌∙◌, arith, eqb, nat_le, nat_lt, ltb-true, ltb-false}
+use Rattle.std.proofs.Common.{◌≡◌, ℕ, zero, suc, ◌+◌, ◌-◌, ◌<◌, ◌≤◌, Bool, true, false, ◌&&◌, List, [], ◌∷◌, ◌++◌, Option, Some, None, Result, Ok, Err, length, take, refl, sym, ap, subst, ◌∙◌, arith, eqb, nat_le, nat_lt, ltb-true, ltb-false, append_assoc}
 use Rattle.std.specs.Prelude.{if◌then◌else◌}
 use Rattle.std.specs.List.{list_all}
 use Rattle.std.proofs.lemmas.Bool.{le-leb, lt-ltb}
 use Rattle.std.proofs.lemmas.List.{append-nil, length-append, length-take-le, take_all}
+use Rattle.std.proofs.Math.Seq.{take-append_seam, take-append-add}
 use Rattle.teco_source.specs.declared.reader.Mode.{Mode}
 use Rattle.teco_source.specs.declared.reader.Mode.TheVariants.{First, Margin, Blank, Text, Hash, Mark, Caret, Comment, Wrong}
-use Rattle.teco_source.specs.Laws.{PlacesGrow, bytes_in, is_rising}
+use Rattle.teco_source.specs.Laws.{PlacesGrow, begin_there, bytes_in, is_rising}
 use Rattle.teco_source.specs.Source.{State, start, is_blank, ends_line, marked, put, put_marked, mark_in, blank_in, plain, step, run, ended}
 use Rattle.teco_source.specs.Places.{bytes_begun, fitted, places_from, places_of}
-use Rattle.teco_source.proofs.Bytes.{split, at, mark_step, sharp_step}
+use Rattle.teco_source.proofs.Bytes.{run-append, split, at, mark_step, sharp_step}
 use Rattle.teco_source.proofs.Reading.{bytes_of_run}
 
 -- how many bytes are there, with the blanks
@@ -177,6 +178,19 @@ fit_rises count k ps h r a =
       inside = all_more k (take count ps) (all_take count k ps a);
     }))
 
+-- as many as have begun
+fit_many : (count k : ℕ) (ps : List ℕ) → count ≤ suc (length ps) → length (fitted count k ps) ≡ count
+fit_many count k ps h =
+    split (nat_lt (length ps) count) (λ e.
+    let lots : length ps < count = ltb-true (length ps) count e in
+    let is : count ≡ suc (length ps) = omega (arith, h, lots) in
+    let one : count - length ps ≡ 1 = omega (arith, is) in
+    let whole : take count ps ≡ ps = take_all count ps (omega (arith, is)) in
+    rw (one, whole) (length-append ps (k ∷ []) ∙ omega (arith, is))) (λ e.
+    let few : count ≤ length ps = ltb-false (length ps) count e in
+    let none : count - length ps ≡ 0 = omega (arith, few) in
+    rw (none, append-nil (take count ps)) (length-take-le count ps few))
+
 goes : (xs : List ℕ) (s : State) (k : ℕ) (ps : List ℕ) → Rises (bytes_begun s) k ps → Rises (bytes_begun (run s xs)) (k + length xs) (places_from s k ps xs)
 unfolding places_from run
 goes [] s k ps r = subst (λ (n : ℕ). Rises (bytes_begun s) n ps) (omega arith) r
@@ -185,6 +199,66 @@ goes (b ∷ bs) s k ps r =
     let next = fit_rises (bytes_begun (step s b)) k ps (rw r.many h) r.rises r.inside in
     subst (λ (n : ℕ). Rises (bytes_begun (run (step s b) bs)) n (places_from (step s b) (suc k) (fitted (bytes_begun (step s b)) k ps) bs)) (omega arith)
     (goes bs (step s b) (suc k) (fitted (bytes_begun (step s b)) k ps) next)
+
+-- ---- each place is that of its byte
+
+there_push : (source : List ℕ) (n k : ℕ) (ps : List ℕ) → begin_there source n ps ≡ true
+    → bytes_begun (run start (take k source)) ≤ n + length ps → n + length ps < bytes_begun (run start (take (suc k) source))
+    → begin_there source n (ps ++ k ∷ []) ≡ true
+unfolding begin_there
+there_push source n k [] t low high =
+    let l : bytes_begun (run start (take k source)) ≤ n = omega (arith, low) in
+    let h : n < bytes_begun (run start (take (suc k) source)) = omega (arith, high) in
+    rw (le-leb (bytes_begun (run start (take k source))) n l, lt-ltb n (bytes_begun (run start (take (suc k) source))) h) refl
+there_push source n k (p ∷ ps) t low high =
+    let one = both (nat_le (bytes_begun (run start (take p source))) n && nat_lt n (bytes_begun (run start (take (suc p) source)))) (begin_there source (suc n) ps) t in
+    let l : bytes_begun (run start (take k source)) ≤ suc n + length ps = omega (arith, low) in
+    let h : suc n + length ps < bytes_begun (run start (take (suc k) source)) = omega (arith, high) in
+    rw (one.0, there_push source (suc n) k ps one.1 l h) refl
+
+there_take : (source : List ℕ) (m n : ℕ) (ps : List ℕ) → begin_there source n ps ≡ true → begin_there source n (take m ps) ≡ true
+unfolding begin_there
+there_take source zero n ps t = refl
+there_take source (suc m) n [] t = refl
+there_take source (suc m) n (p ∷ ps) t =
+    let one = both (nat_le (bytes_begun (run start (take p source))) n && nat_lt n (bytes_begun (run start (take (suc p) source)))) (begin_there source (suc n) ps) t in
+    rw (one.0, there_take source m (suc n) ps one.1) refl
+
+there_fits : (source : List ℕ) (count k : ℕ) (ps : List ℕ) → count ≤ suc (length ps) → begin_there source 0 ps ≡ true
+    → bytes_begun (run start (take k source)) ≡ length ps → bytes_begun (run start (take (suc k) source)) ≡ count
+    → begin_there source 0 (fitted count k ps) ≡ true
+there_fits source count k ps h t before after =
+    split (nat_lt (length ps) count) (λ e.
+    let lots : length ps < count = ltb-true (length ps) count e in
+    let is : count ≡ suc (length ps) = omega (arith, h, lots) in
+    let one : count - length ps ≡ 1 = omega (arith, is) in
+    let whole : take count ps ≡ ps = take_all count ps (omega (arith, is)) in
+    rw (one, whole) (there_push source 0 k ps t (omega (arith, before)) (omega (arith, after, lots)))) (λ e.
+    let few : count ≤ length ps = ltb-false (length ps) count e in
+    let none : count - length ps ≡ 0 = omega (arith, few) in
+    rw (none, append-nil (take count ps)) (there_take source count 0 ps t))
+
+goes_there : (source front xs : List ℕ) (ps : List ℕ) → source ≡ front ++ xs → begin_there source 0 ps ≡ true
+    → length ps ≡ bytes_begun (run start front)
+    → begin_there source 0 (places_from (run start front) (length front) ps xs) ≡ true
+unfolding places_from run
+goes_there source front [] ps is t many = t
+goes_there source front (b ∷ bs) ps is t many =
+    let s = run start front in
+    let next : run start (front ++ b ∷ []) ≡ step s b = run-append start front (b ∷ []) in
+    let long : length (front ++ b ∷ []) ≡ suc (length front) = length-append front (b ∷ []) ∙ omega arith in
+    let h : bytes_begun (step s b) ≤ suc (bytes_begun s) = step_begun s.mode s.bytes s.blanks b in
+    let cut : take (length front) source ≡ front = ap (take (length front)) is ∙ take-append_seam front (b ∷ bs) in
+    let one_more_byte : suc (length front) ≡ length front + 1 = omega arith in
+    let more : take (suc (length front)) source ≡ front ++ b ∷ [] =
+    ap (λ (n : ℕ). take n source) one_more_byte ∙ ap (take (length front + 1)) is ∙ take-append-add front (b ∷ bs) 1 in
+    let before : bytes_begun (run start (take (length front) source)) ≡ length ps = ap (λ w. bytes_begun (run start w)) cut ∙ sym many in
+    let after : bytes_begun (run start (take (suc (length front)) source)) ≡ bytes_begun (step s b) = ap (λ w. bytes_begun (run start w)) more ∙ ap bytes_begun next in
+    let fits = there_fits source (bytes_begun (step s b)) (length front) ps (rw many h) t before after in
+    let lengths : length (fitted (bytes_begun (step s b)) (length front) ps) ≡ bytes_begun (step s b) = fit_many (bytes_begun (step s b)) (length front) ps (rw many h) in
+    subst (λ (u : State). begin_there source 0 (places_from u (suc (length front)) (fitted (bytes_begun (step s b)) (length front) ps) bs) ≡ true) next
+    (subst (λ (n : ℕ). begin_there source 0 (places_from (run start (front ++ b ∷ [])) n (fitted (bytes_begun (step s b)) (length front) ps) bs) ≡ true) long
+    (goes_there source (front ++ b ∷ []) bs (fitted (bytes_begun (step s b)) (length front) ps) (is ∙ sym (append_assoc front (b ∷ []) bs)) fits (lengths ∙ ap bytes_begun (sym next))))
 
 -- at the end no more bytes are there than have begun
 ends_few : (mode : Mode) (bytes blanks commands : List ℕ) (n : ℕ) → ended (at mode bytes blanks) n ≡ Ok commands → length commands ≤ bytes_begun (at mode bytes blanks)
@@ -209,6 +283,7 @@ same_bytes (Ok bytes) commands e = cc
 same_bytes (Err at) commands e = cc
 
 pub places_grow : PlacesGrow
+unfolding begin_there run
 places_grow source =
     let none : 0 + length source ≡ length source = omega arith in
     let r : Rises (bytes_begun (run start source)) (length source) (places_of source) =
@@ -218,6 +293,7 @@ places_grow source =
     record {
       rises = r.rises;
       inside = r.inside;
+      there = goes_there source [] source [] refl refl refl;
       each = λ commands e.
           let is : Some commands ≡ bytes_in (ended s 0) = sym (ap bytes_in e) ∙ bytes_of_run start 0 source refl in
           let few = ends_few s.mode s.bytes s.blanks commands 0 (same_bytes (ended s 0) commands is) in

@@ -3,7 +3,7 @@ use Rattle.std.specs.Prelude.{◌≡◌, ℕ, suc, ◌≤◌, Bool, true, false,
 use Rattle.std.specs.List.{list_all}
 use Rattle.teco_source.specs.declared.reader.Mode.TheVariants.{Text}
 use Rattle.teco_source.specs.Source.{is_blank, ends_line, start, run, commands_of}
-use Rattle.teco_source.specs.Places.{places_of}
+use Rattle.teco_source.specs.Places.{bytes_begun, places_of}
 use Rattle.teco_source.specs.Listing.{between}
 
 -- the bytes, if the source is read
@@ -59,10 +59,18 @@ abbrev pub is_rising : ℕ → List ℕ → Bool
 is_rising low [] = true
 is_rising low (p ∷ ps) = nat_le low p && is_rising (suc p) ps
 
+-- Where these places are those of the bytes from number `n` on: the source before a place begins no byte of that number, and with the
+-- byte at the place it does.
+unfoldable pub begin_there : List ℕ → ℕ → List ℕ → Bool
+begin_there source n [] = true
+begin_there source n (p ∷ ps) = (nat_le (bytes_begun (run start (take p source))) n
+    && nat_lt n (bytes_begun (run start (take (suc p) source)))) && begin_there source (suc n) ps
+
 -- Each byte of the commands has its place, which is one of the source, and a later byte has a later place.
 pub record PlacesRise (source : List ℕ) : Type 0 where
   pub rises : is_rising 0 (places_of source) ≡ true
   pub inside : list_all (λ p. nat_lt p (length source)) (places_of source) ≡ true
+  pub there : begin_there source 0 (places_of source) ≡ true
   pub each : (commands : List ℕ) → commands_of source ≡ Ok commands → length commands ≤ length (places_of source)
 
 abbrev pub PlacesGrow : Type 0

@@ -1,7 +1,7 @@
 use Rattle.std.specs.Prelude.{IfSome, ◌≤◌}
 use Rattle.std.proofs.lemmas.Result.{IfErr-weaker}
 use Rattle.clap.specs.Words.{found_of, rows_of}
-use Rattle.teco_line.specs.CommandLine.{HasLine, IsDepth, IsPageLength}
+use Rattle.teco_line.specs.CommandLine.{HasLine, IsDepth, IsPageLength, IsTime}
 use Rattle.teco_line.proofs.CommandLines.{misfit_is, same_line}
 use Rattle.teco_line.proofs.line.fitting_line_in.Goals as goal
 
@@ -13,6 +13,9 @@ returns-clause-range c = same_line (λ line. (line.limit ≤ 1000000000000) × I
 
 pub returns-clause-page_lines : goal.returns-clause-page_lines
 returns-clause-page_lines c = same_line (λ line. IfSome line.page_lines IsPageLength) c.fitting.result c.in_ok-line.line c.fitting.ensures.same c.in_ok-line.ensures.page_lines
+
+pub returns-clause-seconds : goal.returns-clause-seconds
+returns-clause-seconds c = same_line (λ line. IfSome line.seconds IsTime) c.fitting.result c.in_ok-line.line c.fitting.ensures.same c.in_ok-line.ensures.seconds
 
 pub returns-clause-refused : goal.returns-clause-refused
 returns-clause-refused c =

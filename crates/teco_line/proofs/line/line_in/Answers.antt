@@ -71,3 +71,6 @@ returns-clause-range c =
 
 pub returns-clause-page_lines : goal.returns-clause-page_lines
 returns-clause-page_lines c = within _ _ _ _ c.number_at-page_lines.ensures c.requires.given.page_lines
+
+pub returns-clause-seconds : goal.returns-clause-seconds
+returns-clause-seconds c = within _ _ _ _ c.number_at-seconds.ensures c.requires.given.seconds
