@@ -21,7 +21,8 @@ pub trait Alarm: Stop {
 
     /// A command string begins, which may run so many seconds.
     fn set(&mut self, seconds: u64)
-        ensures { span self.new ≡ seconds };
+        ensures span { span self.new ≡ seconds }
+        ensures fresh { (k : ℕ) → Self.answered self.new k true → ⊥ };
 }
 
 /// The steps from one look at the clock to the next.
