@@ -5,8 +5,11 @@ use Rattle.teco_core.specs.Code.{letters_of, number_of}
 use Rattle.teco_core.specs.Register.{Content}
 use Rattle.teco_core.specs.declared.code.Code.{Code}
 use Rattle.teco_core.specs.declared.code.Code.TheVariants.{Pdo, Tag}
-use Rattle.teco_scan.specs.Scan.{Scanned, found, scan}
+use Rattle.teco_scan.specs.Scan.{Item, Scanned, found, scan}
 use Rattle.teco_scan.specs.Scan as token
+use Rattle.teco_scan.specs.declared.command.Arithmetic.TheVariants as arithmetic
+use Rattle.teco_scan.specs.declared.command.Bare.TheVariants as bare
+use Rattle.teco_scan.specs.declared.command.RegisterCommand.TheVariants as commands
 use Rattle.teco_blocks.specs.declared.breaks.Fault.{Fault}
 use Rattle.teco_exec.specs.declared.place.Place.{Place}
 use Rattle.teco_telling.specs.Placed.{call_shown, standing_shown, text_under}
@@ -16,16 +19,24 @@ use Rattle.teco_telling.specs.Token.{token_in}
 use Rattle.teco_telling.specs.declared.sentence.Limits.{Limits}
 use Rattle.teco_telling.specs.declared.stop.TheConstants.{MOST_FAULTY}
 
--- a step of a token is read
-abbrev pub is_step : Scanned → Bool
-is_step (found t rest) = elim t.instruction [ token.step i ↦ true | _ ↦ false ]
-is_step s = false
+-- `(`, `[` and `M` open or push. Past its limit such a step ends by PDO itself.
+abbrev pub opens : Item → Bool
+opens (token.bare (bare.Arithmetic arithmetic.Open)) = true
+opens (token.register commands.Push q) = true
+opens (token.register commands.Macro q) = true
+opens _ = false
+
+-- a step that opens or pushes is read
+abbrev pub is_opening : Scanned → Bool
+is_opening (found t rest) = elim t.instruction [ token.step i ↦ opens i | _ ↦ false ]
+is_opening s = false
 
 -- A run that ended by this code at a place of a text has met a fault of the text that has this code: by the same
--- code, or by TAG, since a jump finds no tag after a fault. A `(`, `[` or `M` ends by PDO too, and meets none.
+-- code, or by TAG, since a jump finds no tag after a fault. A step that opens or pushes ends by PDO itself, and meets none.
+-- A `;` that ends so has met it in the rest that it skips.
 abbrev pub meets : List ℕ → ℕ → Code → Code → Bool
 meets text at fault Tag = true
-meets text at fault Pdo = (number_of fault == number_of Pdo) && not (is_step (scan (drop at text)))
+meets text at fault Pdo = (number_of fault == number_of Pdo) && not (is_opening (scan (drop at text)))
 meets text at fault code = number_of fault == number_of code
 
 -- the code of a fault, where it isn't the one that is told

@@ -2,8 +2,9 @@
 ghost use Rattle.std.specs.Prelude.{◌≡◌, ◌++◌, List, ℕ, Option, Some, None, OnOk, codes, drop, length, option_copied};
 ghost use Rattle.std.specs.String.{string_bytes};
 ghost use Rattle.teco_scan.specs.Scan.{scan};
+ghost use Rattle.teco_scan.specs.Seen.{item_in};
 ghost use Rattle.teco_exec.specs.declared.place.Place.{Place};
-ghost use Rattle.teco_telling.specs.Stop.{calls_shown, code_of_fault, code_part, fault_here_shown, open_block_shown, fault_at_shown, fault_shown, is_step, meets, stand_shown, stop_shown, token_part};
+ghost use Rattle.teco_telling.specs.Stop.{calls_shown, code_of_fault, code_part, fault_here_shown, open_block_shown, fault_at_shown, fault_shown, is_opening, meets, opens, stand_shown, stop_shown, token_part};
 ghost use Rattle.teco_telling.specs.Spelling.{token_shown};
 ghost use Rattle.teco_telling.specs.Token.{token_in};
 
@@ -15,21 +16,32 @@ use std::fmt::Write;
 use teco_blocks::Fault;
 use teco_core::{Code, NoMemory, Registers};
 use teco_exec::Place;
-use teco_scan::{Found, TokenKind, token_at};
+use teco_scan::{Arithmetic, Bare, Found, Item, RegisterCommand, TokenKind, token_at};
 
 /// The most bytes that are shown where no token is.
 pub(crate) const MOST_FAULTY: usize = 16;
 
-/// Whether a step of a token comes at a place.
-fn is_step(text: &[u8], at: usize) -> bool
-    ensures { result ≡ is_step (scan (drop at text.now)) }
+/// Whether a step opens or pushes: `(`, `[` or `M`.
+fn opens(item: Item) -> bool
+    ensures { (bs : List ℕ) → result ≡ opens (item_in bs item) }
+{
+    matches!(
+        item,
+        Item::Bare(Bare::Arithmetic(Arithmetic::Open))
+            | Item::Register(RegisterCommand::Push | RegisterCommand::Macro, _)
+    )
+}
+
+/// Whether a step that opens or pushes comes at a place. Past its limit it ends by PDO itself.
+fn is_opening(text: &[u8], at: usize) -> bool
+    ensures { result ≡ is_opening (scan (drop at text.now)) }
 {
     if at > text.len() {
         return false;
     }
     match token_at(text, at) {
         Found::Token(token) => match token.kind {
-            TokenKind::Item(_) => true,
+            TokenKind::Item(item) => opens(item),
             _ => false,
         },
         Found::End | Found::Fault(_) => false,
@@ -42,7 +54,7 @@ fn meets(text: &[u8], at: usize, fault: Code, code: Code) -> bool
 {
     match code {
         Code::Tag => true,
-        Code::Pdo => fault.number() == Code::Pdo.number() && !is_step(text, at),
+        Code::Pdo => fault.number() == Code::Pdo.number() && !is_opening(text, at),
         _ => fault.number() == code.number(),
     }
 }
