@@ -74,12 +74,13 @@ is_turn _ = false
 abbrev pub is_bare_exit : List Change → Bool
 is_bare_exit changes = nat_lt (count_by (λ c. is_turn (kind_of c.turn)) changes) 2
 
--- The last string has made the session done, and no page was read before and in it.
+-- The last string has made the session done, and its exit was the first to read of the input. Nothing is read of an empty
+-- one, so there it isn't seen whether a page came first.
 abbrev pub exits_first : ℕ → KeptSession → Option Outcome → Bool
 exits_first place session None = false
 exits_first place session (Some outcome) =
-    (state_of session.editor).is_done && (place == 0) && nat_lt (session.cursor - 1) (length session.strings)
-    && is_bare_exit (string_at session (session.cursor - 1)).changes
+    (state_of session.editor).is_done && (place == 0) && nat_lt 0 (state_of session.editor).place
+    && nat_lt (session.cursor - 1) (length session.strings) && is_bare_exit (string_at session (session.cursor - 1)).changes
 
 -- an exit before any page was read, since most of them were meant to come after one
 abbrev pub exit_line : ℕ → KeptSession → Option Outcome → List ℕ

@@ -134,7 +134,8 @@ fn is_bare_exit(changes: &Changes) -> bool
     turns < 2
 }
 
-/// Whether the last string has made the session done, and no page was read before and in it.
+/// Whether the last string has made the session done, and its exit was the first to read of the input. Nothing is read of an empty one,
+/// so there it isn't seen whether a page came first.
 fn exits_first(place: usize, session: &Session, ended: Option<Outcome>) -> bool
     ensures { result ≡ exits_first place session.now ended }
 {
@@ -144,6 +145,7 @@ fn exits_first(place: usize, session: &Session, ended: Option<Outcome>) -> bool
     let last = session.cursor().saturating_sub(1);
     session.editor().done()
         && place == 0
+        && session.editor().place() > 0
         && last < session.strings()
         && is_bare_exit(session.entry(last))
 }

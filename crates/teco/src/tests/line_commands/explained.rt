@@ -15,6 +15,12 @@ pub(crate) const ROWS: &str = "
     - teco --explain -e YEX$$x in => => => => 1 byte after the last string that ran was not run\nin.out is written\n => => in == hi\n => in == hi\n ++ in.out == hi\n
     - teco --explain -e EX$$ in => => => => EX came before any page was read: the input is copied\nin.out is written\n => => in == hi\n => in == hi\n ++ in.out == hi\n
     - teco --explain -e YEX$$ in => => => => in.out is written\n => => in == hi\n => in == hi\n ++ in.out == hi\n
+    - // An input of no bytes is copied before and after its page is read.
+    - teco --explain -e Y$$EX$$ in => => => => in.out is written\n => => in => in ++ in.out
+    - teco --explain -e EX$$ in => => => => in.out is written\n => => in => in ++ in.out
+    - // Where the page that was read is taken back, none was read.
+    - teco --explain -e Y$${$$EX$$ in => => => => EX came before any page was read: the input is copied\nin.out is written\n => => in == hi\n => in == hi\n ++ in.out == hi\n
+    - teco --explain -e Y$$EX$$ in => => => => in.out is written\n => => in == \x0c => in == \x0c ++ in.out == \x0c
     - teco --explain -e EX$$ none => => => teco: cannot read none\n => none: there is no such file or folder\n => 1 => in == hi\n
     - teco --explain --limit 2 -e YJJ$$ in => => ?LIM\r\n => => string 1, step 2, 1:3, J: LIM, 2 steps are done: --limit N allows more\nthe commands ended without EX: in.out is not written\n => 2 => in == hi\n
     - // The clock of a test tells a second more each time.
