@@ -10,6 +10,8 @@ pub(crate) const ROWS: &str = "
     - teco --explain -e 1<0;<<<<<<<<<<<<<<<<<<<<<<<<<<<<<<<<<<<<<<<<<<<<<<<<<<<<<<<<<<<<<<<<$$ in => => ?PDO\r\n => => string 1, step 3, 1:4, ;, fault at 1:68, <: PDO, too many open or pushed\nthe commands ended without EX: in.out is not written\n => 2 => in == hi\n
     - teco --explain -e (((((((((((((((((<<<<<<<<<<<<<<<<<<<<<<<<<<<<<<<<<<<<<<<<<<<<<<<<<<<<<<<<<<<<<<<<<$$ in => => ?PDO\r\n => => string 1, step 16, 1:17, (: PDO, too many open or pushed\nthe commands ended without EX: in.out is not written\n => 2 => in == hi\n
     - teco --explain -e 65<[A><<<<<<<<<<<<<<<<<<<<<<<<<<<<<<<<<<<<<<<<<<<<<<<<<<<<<<<<<<<<<<<<<$$ in => => ?PDO\r\n => => string 1, step 130, 1:4, [A: PDO, too many open or pushed\nthe commands ended without EX: in.out is not written\n => 2 => in == hi\n
+    - // With `-p` the places are those of the string that has the loop over the pages.
+    - teco --explain -p 9D -o out in => => ?DTB\r\n => => string 1, step 3, 1:4, D: DTB, delete past the buffer\nthe commands ended without EX: out is not written\n => 2 => in == hi\n
     - // How the commands ended is told too: what was not run of them, an exit that nothing came before, why a file can't be had, and which limit a string came to.
     - teco --explain -e Y$$HK$$EX in => => => => 2 bytes after the last ESC ESC were not run\nthe commands ended without EX: in.out is not written\n => 2 => in == hi\n
     - teco --explain -e YEX$$x in => => => => 1 byte after the last string that ran was not run\nin.out is written\n => => in == hi\n => in == hi\n ++ in.out == hi\n
