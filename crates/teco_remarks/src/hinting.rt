@@ -15,8 +15,10 @@ use teco_scan::{
 pub struct Hinting {
     /// How many iterations are open.
     iterations: usize,
-    /// Whether `EX` is the command before in its list.
+    /// Whether `EX` is the command before in its list, and no jump can have gone past it.
     after_exit: bool,
+    /// Whether the string has a jump, which may go to any of its tags.
+    has_jump: bool,
     /// Whether a number comes before.
     has_number: bool,
     has_exit: bool,
@@ -32,6 +34,7 @@ impl Hinting {
         Self {
             iterations: 0,
             after_exit: false,
+            has_jump: false,
             has_number: false,
             has_exit: false,
             has_page: false,
@@ -41,9 +44,10 @@ impl Hinting {
     }
 
     /// A command string begins.
-    fn begin(&mut self) {
+    fn begin(&mut self, text: &[u8]) {
         self.iterations = 0;
         self.after_exit = false;
+        self.has_jump = has_jump(text);
         self.has_number = false;
     }
 
@@ -97,7 +101,11 @@ impl Hinting {
     fn of_token(&mut self, text: &[u8], token: &Token, given: &[bool; REGISTERS]) -> Option<Hint> {
         let is_after = self.after_exit;
         match token.kind {
-            TokenKind::Escape | TokenKind::Tag(_) => return None,
+            TokenKind::Escape => return None,
+            TokenKind::Tag(_) => {
+                self.after_exit = is_after && !self.has_jump;
+                return None;
+            }
             TokenKind::Mark(BlockMark::Iterate) => self.iterations = self
                 .iterations
                 .saturating_add(1),
@@ -126,6 +134,21 @@ impl Hinting {
         }
         hint
     }
+}
+
+/// Whether a text has a jump before its first fault.
+fn has_jump(text: &[u8]) -> bool {
+    let mut at = 0;
+    while at < text.len() {
+        let Found::Token(token) = token_at(text, at) else {
+            return false;
+        };
+        if let TokenKind::Item(Item::Text(TextCommand::Go, _)) = token.kind {
+            return true;
+        }
+        at = token.span.to;
+    }
+    false
 }
 
 /// Whether a token at the end of a text has an empty text. In a command string its ESC is the first of the pair.
@@ -193,7 +216,7 @@ pub fn push_hints(
     from: usize,
     given: &[bool; REGISTERS],
 ) -> Result<(), NoMemory> {
-    hinting.begin();
+    hinting.begin(text);
     let mut at = 0;
     while at < text.len() {
         let Found::Token(token) = token_at(text, at) else {

@@ -33,27 +33,28 @@ macro_rules! rows {
 static ON_FILES: [LeftOut; 12] = rows! {
     Text "ER" "opens an input file" "give it as INPUT on the command line";
     Text "EW" "opens an output file" "give it by --output on the command line";
-    Text "EB" "opens a file to edit it" "give it as INPUT with --in-place";
+    Text "EB" "opens a file to edit it" "give it as INPUT with --in-place, which keeps no .BAK";
     Text "EI" "takes commands from a file" "give it by --file, or paste it with cat";
     Text "EG" "ends, and gives the system a command" "EX, and let the shell go on";
     Text "EN" "looks for files by a pattern" "let the shell give the files as INPUT";
-    Text "E_" "looks on and drops the pages" "_text$";
-    Nothing "EC" "ends after it has copied the rest" "EX";
-    Nothing "EF" "closes the output file" "EX";
+    Text "E_" "looks on and drops the pages" "<:Stext$\"S0;' HK ^N\"NStext$' Y>";
+    Nothing "EC" "copies the rest, closes the output, and goes on" "EX, and a run of its own for each file";
+    Nothing "EF" "closes the output as it is" "HK <-1-^N; YHK> EX";
     Nothing "EK" "drops the output file" "leave EX out";
     Nothing "EP" "reads from the second input" "two runs";
     Nothing "EA" "writes to the second output" "two runs";
 };
 
 /// The other commands with `E`.
-static WITH_E: [LeftOut; 12] = rows! {
+static WITH_E: [LeftOut; 13] = rows! {
     Nothing "EY" "reads a page and drops the last" "HKY";
     Nothing "EM" "moves a tape" "nothing";
-    Nothing "ED" "sets how much is done by itself" "leave it out";
+    Nothing "ED" "sets how searches and Y work" "HKY for Y, and .Uq :Stext$\"UQqJ' where a search may fail";
     Nothing "EE" "sets the byte that stands for ESC" "leave it out";
     Nothing "EH" "sets how much a message tells" "--explain on the command line";
     Nothing "EO" "gives the version" "leave it out";
-    Nothing "EQ" "sets the terminal" "leave it out";
+    RegisterAndText "EQ" "reads a file into a register" "its text by @^Uq/../";
+    RegisterAndText "E%" "writes a register to a file" "type it by :Gq";
     Nothing "ES" "shows the text after a search" "V after the search";
     Nothing "ET" "sets how bytes are typed" "leave it out";
     Nothing "EU" "shows the case of letters" "leave it out";
@@ -63,55 +64,56 @@ static WITH_E: [LeftOut; 12] = rows! {
 
 /// The commands with `F`.
 static WITH_F: [LeftOut; 12] = rows! {
-    TwoTexts "::FS" "replaces the text at the pointer" "::Sone$ and then -nD Itwo$";
+    TwoTexts "::FS" "replaces the text at the pointer" "::Sone$\"S -nD Itwo$'";
     TwoTexts "FN" "replaces on this page or a later one" "None$ and then -nD Itwo$";
-    TwoTexts "F_" "replaces, and drops the pages" "_one$ and then -nD Itwo$";
-    TwoTexts "FC" "replaces between two places" "FSone$two$ and a test of .";
-    Text "FR" "replaces what was found last" "FSone$two$ at the search itself";
+    TwoTexts "F_" "replaces, and drops the pages" "<:Sone$\"S0;' HK ^N\"NSone$' Y> and then -nD Itwo$";
+    TwoTexts "FC" "replaces between two places" ":Sone$, a test of ., and then -nD Itwo$";
+    Text "FR" "replaces what was found or put in last" "FSone$two$ at the search itself";
     Text "FB" "looks between two places" ":Stext$ and a test of .";
-    Text "FK" "deletes up to a text" ".U1 Stext$ Q1,.K";
+    Text "FK" "deletes up to a text" "[1 .U1 Stext$ Q1,.K ]1";
     Text "FD" "deletes the next text" "@FS/text//";
-    Nothing "F<" "goes to the beginning of the iteration" "a tag there, and Oname$";
-    Nothing "F>" "goes to the end of the iteration" "a tag there, and Oname$";
-    Nothing "F'" "goes to the end of the conditional" "a tag there, and Oname$";
-    Nothing "F|" "goes to the second part" "a tag there, and Oname$";
+    Nothing "F<" "goes to the beginning of the iteration" "a tag after <, and Oname$";
+    Nothing "F>" "goes to the end of the iteration" "a tag before >, and Oname$";
+    Nothing "F'" "goes to the end of the conditional" "a tag after ', and Oname$";
+    Nothing "F|" "goes to the second part" "Otwo$, and Oend$' !two! .. !end! in the place of | .. '";
 };
 
 /// The commands with a colon.
-static WITH_COLON: [LeftOut; 14] = rows! {
+static WITH_COLON: [LeftOut; 13] = rows! {
     Register ":X" "appends lines to a register" "Gq and Xq over both";
     RegisterAndText ":^U" "appends a text to a register" "Gq, the text by I, and Xq over both";
-    Nothing ":;" "leaves where the last search was a hit" "\"E 0; ' after a search with a colon";
+    Nothing ":;" "leaves where the last search was a hit" "\"S0;' after a search with a colon";
     Register ":]" "pops, and gives whether it could" "]q where something was pushed";
-    Register ":M" "runs a text that gives a value" "Mq, which keeps the numbers";
-    Nothing ":L" "goes by lines, and gives whether it could" "L and a test of .";
+    Register ":M" "runs a text with the registers of its caller" "Mq, which does so";
     Nothing ":C" "goes on, and gives whether it could" "a test of .-Z before C";
     Nothing ":R" "goes back, and gives whether it could" "a test of . before R";
     Nothing ":J" "goes to a place, and gives whether it could" "a test before J";
     Nothing ":D" "deletes, and gives whether it could" "a test of .-Z before D";
-    Nothing ":T" "types without a case mark" "T";
     Nothing ":Y" "reads a page, and gives whether it could" "^N before Y";
     Nothing ":P" "turns pages, and gives whether it could" "^N before P";
-    Nothing ":^T" "reads a byte of the terminal" "nothing: commands can't ask";
+    Nothing ":^T" "types a byte as it is" "n^T, which does so";
+    Nothing ":A" "appends a page, and gives whether it could" "^N before A";
 };
 
 /// The others.
-static OTHERS: [LeftOut; 18] = rows! {
+static OTHERS: [LeftOut; 20] = rows! {
     Nothing "\"=" "tests for 0" "\"E";
     Nothing "\"<" "tests for less than 0" "\"L";
     Nothing "\">" "tests for more than 0" "\"G";
     Nothing "\"C" "tests for a byte of a name" "\"R, and tests of the other bytes";
     Nothing "===" "types in hexadecimal" "== types in octal";
     Nothing "^B" "gives the date" "leave it out";
-    Nothing "^C" "ends" "EX, or leave it out";
+    Nothing "^C" "ends, and writes nothing" "Oend$, with !end! after the last EX";
     Nothing "^D" "sets numbers to decimal" "leave it out";
     Nothing "^F" "gives the switches" "leave it out";
     Nothing "^H" "gives the time of day" "leave it out";
     Nothing "^L" "types a form feed" "12^T";
     Nothing "^O" "sets numbers to octal" "write them in decimal";
     Nothing "^R" "sets the base of numbers" "write them in decimal";
-    Nothing "^S" "gives minus the length of the last hit" "note . before and after the search";
-    Nothing "^Y" "gives the pair of the last hit" "note . before and after the search";
+    Nothing "^Q" "gives how many bytes n lines have" "nL for n^QC, and nK for n^QD";
+    Nothing "^S" "gives minus the length of what was found or put in last" "note . before and after it";
+    Nothing "^Y" "gives the pair of what was found or put in last" "note . before and after it";
+    Nothing "^Z" "gives the room of the registers" "leave it out";
     Nothing "^_" "turns every bit of a number" "-1-n";
     Nothing "?" "shows each command as it runs" "teco-debug";
     Nothing "W" "shows the screen" "nT, or teco-term";
@@ -159,8 +161,8 @@ fn row_in(rows: &'static [LeftOut], bytes: &[u8]) -> Option<(&'static LeftOut, u
     None
 }
 
-/// The row of the command that the bytes begin with, if it is left out, and the length of its name.
-pub fn row_of(bytes: &[u8]) -> Option<(&'static LeftOut, usize)>
+/// The row of the command that the bytes begin with as it is written there, if it has one, and the length of its name.
+fn row_as_written(bytes: &[u8]) -> Option<(&'static LeftOut, usize)>
     ensures { IfSome result (λ found. found.1 ≤ length bytes.now) }
 {
     if let Some(found) = row_in(&ON_FILES, bytes) {
@@ -176,4 +178,19 @@ pub fn row_of(bytes: &[u8]) -> Option<(&'static LeftOut, usize)>
         return Some(found);
     }
     row_in(&OTHERS, bytes)
+}
+
+/// The row of the command that the bytes begin with, if it is left out, and the length of its name. Where no row has the colon of a
+/// command, its row is that of the name alone: in TECO-11 most commands take one, and give whether they could.
+pub fn row_of(bytes: &[u8]) -> Option<(&'static LeftOut, usize)>
+    ensures { IfSome result (λ found. found.1 ≤ length bytes.now) }
+{
+    if let Some(found) = row_as_written(bytes) {
+        return Some(found);
+    }
+    let [b':', after @ ..] = bytes else {
+        return None;
+    };
+    let (row, len) = row_as_written(after)?;
+    Some((row, len + 1))
 }

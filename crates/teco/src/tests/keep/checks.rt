@@ -61,8 +61,11 @@ pub(super) const FAULTS: &str = "
     - Y 1\"=J' {$$ => -:1:4: IQC: \"= of TECO-11 is left out: it tests for 0; here: \"E\n-:1:9: ILL: no command begins with {\n
     - :XA {$$ => -:1:1: ILL: :X of TECO-11 is left out: it appends lines to a register; here: Gq and Xq over both\n-:1:5: ILL: no command begins with {\n
     - ERfile>$ {$$ => -:1:1: ILL: ER of TECO-11 is left out: it opens an input file; here: give it as INPUT on the command line\n-:1:10: ILL: no command begins with {\n
-    - f_a>$b>$ {$$ => -:1:1: ILL: F_ of TECO-11 is left out: it replaces, and drops the pages; here: _one$ and then -nD Itwo$\n-:1:10: ILL: no command begins with {\n
+    - f_a>$b>$ {$$ => -:1:1: ILL: F_ of TECO-11 is left out: it replaces, and drops the pages; here: <:Sone$\"S0;' HK ^N\"NSone$' Y> and then -nD Itwo$\n-:1:10: ILL: no command begins with {\n
     - :^UAa>$ {$$ => -:1:1: ILL: :^U of TECO-11 is left out: it appends a text to a register; here: Gq, the text by I, and Xq over both\n-:1:9: ILL: no command begins with {\n
+    - ::FSa>$b>$ {$$ => -:1:1: ILL: ::FS of TECO-11 is left out: it replaces the text at the pointer; here: ::Sone$\"S -nD Itwo$'\n-:1:12: ILL: no command begins with {\n
+    - Y :EBfile>$\"U1=' {$$ => -:1:3: ILL: EB of TECO-11 is left out: it opens a file to edit it; here: give it as INPUT with --in-place, which keeps no .BAK\n-:1:18: ILL: no command begins with {\n
+    - EQAfile>$ {$$ => -:1:1: ILL: EQ of TECO-11 is left out: it reads a file into a register; here: its text by @^Uq/../\n-:1:11: ILL: no command begins with {\n
     - ^B {$$ => -:1:1: ILL: ^B of TECO-11 is left out: it gives the date; here: leave it out\n-:1:4: ILL: no command begins with {\n
     - ^~b {$$ => -:1:1: ILL: ^B of TECO-11 is left out: it gives the date; here: leave it out\n-:1:5: ILL: no command begins with {\n";
 
@@ -73,6 +76,11 @@ pub(super) const HINTS: &str = "
     -  =>\x20
     - Y<<<<<<<<<<<<<<<<<<<<<<<<<<<<<<<<<<<<<<<<<<<<<<<<<<<<<<<<<<<<<<<<>>>>>>>>>>>>>>>>>>>>>>>>>>>>>>>>>>>>>>>>>>>>>>>>>>>>>>>>>>>>>>>>EX$$ =>\x20
     - YEX;$$ => -:1:4: hint: EX ends the run before this\n
+    - YEX!a!J$$ => -:1:7: hint: EX ends the run before this\n
+    - // A jump may have gone past the exit.
+    - Y0\"EOa$'EX!a!HTEX$$ =>\x20
+    - Y0\"EOb$'EX!a!HTEX!b!Oa$ $$ =>\x20
+    - Y0\"EOa$'EXJ!a!HTEX$$ => -:1:11: hint: EX ends the run before this\n
     - Y1;<1;>EX$$ => -:1:3: hint: ; is in no iteration of this text, which is SNI\n
     - YJS^~ED$EX$$ => -:1:3: hint: a caret in a search text is a caret, and no control byte\n
     - Y@FS/^~Q+/x/EX$$ => -:1:2: hint: a caret in a search text is a caret, and no control byte\n

@@ -26,6 +26,12 @@ pub(super) const ROWS: &str = "
     _two$$ => ?YCA\r\n => => one\n\x0ctwo\n\x0cthree\n
     YNthree$${$$HT$$ => => => one\n\x0ctwo\n\x0cthree\n
     YNthree$${$$}$$HT$$ => three\n => one\n\x0ctwo\n\x0c => one\n\x0ctwo\n\x0cthree\n
+    // What is written in the place of commands that TECO-11 has besides: `E_` to no page, `^C`, `EC` and `EF`.
+    Y<:Sfour$\"S0;'HK^N\"NSfour$'Y>.=$$Z=$$ => ?SRH\r\n0\r\n => => one\n\x0ctwo\n\x0cthree\n
+    YZJ:Sx$\"U^Ano\x01Oend$'EX!end!$$HT$$ => noone\n => => one\n\x0ctwo\n\x0cthree\n
+    YJ:So$\"U^Ano\x01Oend$'EX!end!$$ => => one\n\x0ctwo\n\x0cthree\n => one\n\x0ctwo\n\x0cthree\n => exit
+    YFSone$1$EX$$ => => 1\n\x0ctwo\n\x0cthree\n => one\n\x0ctwo\n\x0cthree\n => exit
+    YHPWHK<-1-^N;YHK>EX$$ => => one\n => one\n\x0ctwo\n\x0cthree\n => exit
     // To an exit.
     EX$$1=$$ => => one\n\x0ctwo\n\x0cthree\n => one\n\x0ctwo\n\x0cthree\n => exit
     YHT$$PI2: $$EX$$ => one\n => one\n\x0c2: two\n\x0cthree\n => one\n\x0ctwo\n\x0cthree\n => exit

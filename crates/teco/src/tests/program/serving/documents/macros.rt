@@ -21,8 +21,6 @@ pub(super) const EXAMPLES: &str = "
     @\x15A/1=$$ => ?UTC => ?
     // What runs on, and does something else
     @\x15A/1=Oend$2=!end!/MA$$ => 1 => ?
-    // What runs on, and does something else
-    \x01hi\x01@\x01/ you/$$ => hiyou => ?
     // What to write in its place
     Ione\ntwo\n$JXAL .U9 :QAU8 GA L Q9,.XA Q9,Q9+Q8K :GA$$ => onetwo => ?
     // What to write in its place
@@ -36,7 +34,31 @@ pub(super) const EXAMPLES: &str = "
     // What to write in its place
     Iabc$J2UE :Sb$\"S .-QE\"G \x1en\x14 | \x1ey\x14 '' $$ => y => ?
     // What to write in its place
+    Y <:Sthree$\"S0;' HK \x0e\"NSthree$' Y> .=$$ => 5 => ? => one\n\x0ctwo\n\x0cthree\n
+    // What to write in its place
+    Y <:Stwo$\"S0;' HK \x0e\"NStwo$' Y> -3DI2$HT$$ => 2 => ? => one\n\x0ctwo\n\x0cthree\n
+    // What to write in its place
+    Ixone$1J ::Sone$\"S -3DItwo$' HT$$ => xtwo => ?
+    // What to write in its place
+    Iabcb$J3UE :Sb$\"S .-QE\"G \x1en\x14 | -DIy$ '' HT$$ => aycb => ?
+    // What to write in its place
+    Iabcd$1J [1 .U1 Sc$ Q1,.K ]1 HT$$ => ad => ?
+    // What to write in its place
+    Iabc$J @FS/b// HT$$ => ac => ?
+    // What to write in its place
+    3< !top! %A-2\"EOtop$' QA= >$$ => 134 => ?
+    // What to write in its place
     3<%A-2\"EOnext$' QA= !next!>$$ => 13 => ?
+    // What to write in its place
+    0\"E 1= Oend$ 2= ' !end! 3=$$ => 13 => ?
+    // What to write in its place
+    I12$J 0A\"D 1A\"DOtwo$' \x01one\x01 Oend$' !two! \x01another\x01 !end!$$ => another => ?
+    // What to write in its place
+    J:Sx$\"U\x01none\x01 Oend$' EX !end!$$ => none => ?
+    // What to write in its place
+    @\x15A/1= 0; 2=/ MA 3=$$ => 1?SNI => ?
+    // What to write in its place
+    Iabc$2J .UP :Sx$\"UQPJ' .=$$ => 2 => ?
     // What to write in its place
     \x15Acat$ .U9 GA Q9+1J0AUB Q9,Q9+:QAK QB=Z=$$ => 970 => ?
     // What to write in its place
