@@ -1,10 +1,12 @@
 -- Commands as command strings, and whether one of them has a fault.
-use Rattle.std.specs.Prelude.{◌≡◌, ℕ, Bool, true, false, ◌&&◌, ◌||◌, List, [], ◌∷◌, ◌++◌, drop, nat_le, is_some, ◌==◌, if◌then◌else◌}
+use Rattle.std.specs.Prelude.{◌≡◌, ◌+◌, ℕ, length, Bool, false, ◌&&◌, ◌||◌, List, [], ◌∷◌, ◌++◌, drop, nat_le, is_some, ◌==◌, if◌then◌else◌}
 use Rattle.std.specs.List.{list_any, prefix_len}
 use Rattle.teco_core.specs.Ascii.{is_digit}
 use Rattle.teco_core.specs.declared.ascii.TheConstants.{ESC}
 use Rattle.teco_scan.specs.Scan.{after_fillers}
 use Rattle.teco_fault.specs.Walk.{first_of}
+use Rattle.teco_remarks.specs.declared.remarks.Remark.{Remark}
+use Rattle.teco_remarks.specs.Told.{TellsFirst}
 
 abbrev pub ends_in_escape : List ℕ → Bool
 ends_in_escape [] = false
@@ -44,3 +46,9 @@ is_faulty_string code string = if is_request string then false else is_some (fir
 
 abbrev pub is_faulty : List Bool → List ℕ → Bool
 is_faulty code commands = list_any (is_faulty_string code) (strings_of commands)
+
+-- Of each string that is no request, the first of which begins at this place, the first fault is told. The next string begins after the
+-- second ESC of the pair that ends one.
+abbrev pub AreTold : List Bool → List Remark → ℕ → List (List ℕ) → Type 0
+AreTold code remarks from [] = Unit {0}
+AreTold code remarks from (s ∷ ss) = (is_request s ≡ false → TellsFirst code remarks from s) × AreTold code remarks (from + length s + 1) ss

@@ -2,11 +2,8 @@
 ghost use Rattle.std.specs.Prelude.{◌<◌};
 
 use crate::cutting::string_end;
-use teco_fault::REGISTERS;
+use teco_fault::{MOST_TEXTS, REGISTERS};
 use teco_scan::{Found, Item, RegisterCommand, Token, TokenKind, filler_end, token_at};
-
-/// The most texts in one another that are looked into.
-const MOST_TEXTS: u32 = 64;
 
 /// Which registers are called, and which are given a text.
 #[derive(Clone, Copy)]
@@ -28,7 +25,7 @@ impl Registers {
 
     /// Notes what a token does, and what the tokens do of a text that it puts where code is.
     #[cycle(noting)]
-    fn note_token(&mut self, text: &[u8], token: &Token, texts: u32) {
+    fn note_token(&mut self, text: &[u8], token: &Token, texts: usize) {
         match token.kind {
             TokenKind::Item(Item::Register(command, register)) => {
                 self.note(command, register.index());
@@ -50,7 +47,7 @@ impl Registers {
 
     /// Notes what the tokens of a text do. Where none can be read it goes on after a byte.
     #[cycle(noting)]
-    fn note_text(&mut self, text: &[u8], texts: u32) {
+    fn note_text(&mut self, text: &[u8], texts: usize) {
         let mut at = 0;
         while at < text.len() {
             match token_at(text, at) {

@@ -1,6 +1,7 @@
 //! Checking commands: their faults and hints, in order.
-ghost use Rattle.std.specs.Prelude.{◌≡◌, IfOk};
-ghost use Rattle.teco_advice.specs.Strings.{is_faulty, is_faulty_string};
+ghost use Rattle.std.specs.Prelude.{◌≡◌, false, Bool, IfOk};
+ghost use Rattle.teco_remarks.specs.Told.{IsTold, TellsFirst};
+ghost use Rattle.teco_advice.specs.Strings.{AreTold, is_faulty, is_faulty_string, is_request, strings_of};
 
 use crate::calling::{Registers, registers_in};
 use crate::cutting::string_end;
@@ -32,18 +33,20 @@ fn check_string(
     string: &[u8],
     from: usize,
 ) -> Result<bool, NoMemory>
-    ensures { IfOk result (λ faulty. faulty ≡ is_faulty_string registers.now.called string.now) }
+    ensures found { IfOk result (λ faulty. faulty ≡ is_faulty_string registers.now.called string.now) }
+    ensures told { is_request string.now ≡ false → IfOk result (λ _. TellsFirst registers.now.called remarks.new.items from string.now) }
+    ensures kept { (test : Remark → Bool) → IsTold test remarks.old.items → IfOk result (λ _. IsTold test remarks.new.items) }
 {
     if is_request(string) {
         return Ok(false);
     }
     let mut hints = Vec::new(alloc);
     push_hints(&mut hints, hinting, string, from, &registers.given)?;
-    let mut faults = Vec::new(alloc);
     let Some(first) = fault_of(string, &registers.called) else {
-        push_both(remarks, &faults, &hints)?;
+        push_both(remarks, &[], &hints)?;
         return Ok(false);
     };
+    let mut faults = Vec::new(alloc);
     push_faults(&mut faults, alloc, string, from, &registers.called, first)?;
     push_both(remarks, &faults, &hints)?;
     Ok(true)
@@ -65,7 +68,8 @@ fn hint_on_rest(rest: &[u8]) -> Option<Hint> {
 ///
 /// The code registers are those that the commands call. A string is faulty exactly where its first fault is found.
 pub fn check(alloc: Global, commands: &[u8]) -> Result<Advice, NoMemory>
-    ensures { IfOk result (λ advice. advice.is_faulty ≡ is_faulty advice.code commands.now) }
+    ensures found { IfOk result (λ advice. advice.is_faulty ≡ is_faulty advice.code commands.now) }
+    ensures told { IfOk result (λ advice. AreTold advice.code advice.remarks.items 0 (strings_of commands.now)) }
 {
     let registers = registers_in(commands);
     let mut remarks = Vec::new(alloc);

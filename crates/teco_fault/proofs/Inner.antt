@@ -1,5 +1,5 @@
 -- A text that a token puts into a register is shorter than the token.
-use Rattle.std.proofs.Common.{◌≡◌, ℕ, zero, suc, Bool, true, Some, None, ◌+◌, ◌-◌, ◌<◌, ◌≤◌, List, [], ◌∷◌, ◌++◌, length, length-append, length-drop, drop, Result, Ok, Err, refl, sym, ap, subst, ◌∙◌, arith}
+use Rattle.std.proofs.Common.{◌≡◌, ℕ, zero, suc, Bool, true, false, Some, None, ◌+◌, ◌-◌, ◌<◌, ◌≤◌, List, [], ◌∷◌, ◌++◌, length, length-append, length-drop, drop, Result, Ok, Err, refl, sym, ap, subst, ◌∙◌, arith}
 use Rattle.std.proofs.lemmas.List.{length-take-le}
 use Rattle.teco_core.specs.declared.code.Code.{Code}
 use Rattle.teco_scan.specs.declared.command.Form.{Form}
@@ -13,9 +13,9 @@ use Rattle.teco_scan.specs.declared.token.Item.TheVariants as items
 use Rattle.teco_scan.specs.declared.token.TokenKind.{TokenKind}
 use Rattle.teco_scan.specs.declared.token.TokenKind.TheVariants as kinds
 use Rattle.teco_scan.specs.Scan.{Instruction, TokenMeaning, step, set_text, found, scan, scan_here, scanned, token_from, after_fillers}
-use Rattle.teco_scan.specs.Seen.{IsTokenAt, IsSpanIn, IsItemIn, IsKindIn, item_in, meaning_in, bytes_in, instruction_in}
+use Rattle.teco_scan.specs.Seen.{IsTokenAt, IsSpanIn, IsKindIn, item_in, meaning_in, bytes_in, instruction_in}
 use Rattle.teco_scan.specs.Spelling.{Spells, run_spelled, command_spelled, SpellsOperand, bare_spelled, mark_spelled, escape_spelled, register_spelled, byte_spelled, test_spelled, text_spelled, tag_spelled, set_text_spelled, replace_spelled, IsSpelled}
-use Rattle.teco_fault.specs.Checked.{item_length, inner_length, held, may_hold}
+use Rattle.teco_fault.specs.Checked.{inner_length, held, may_hold}
 use Rattle.teco_fault.specs.Clean.{is_fine, clean_within}
 use Rattle.teco_fault.specs.Walk.{OpenList, wrong_with, rule}
 use Rattle.teco_fault.specs.declared.faults.Wrong.TheVariants as wrongs
@@ -93,11 +93,6 @@ token_long spelled bs next t at e = of_kind t.kind refl
     of_kind (kinds.Tag s) is = omega (arith, at.long)
     of_kind kinds.Escape is = omega (arith, at.long)
 
--- A shorter text may be put there if it is clean.
-pub may_is : (n : ℕ) (code : List Bool) (t : List ℕ) (v : Bool) → ((m : ℕ) → length t ≤ m → clean_within (suc m) (held code) t ≡ v) → length t < n → may_hold n code t ≡ v
-may_is zero code t v h lt = absurd (omega (arith, lt))
-may_is (suc m) code t v h lt = h m (omega (arith, lt))
-
 abbrev pub a_text : ℕ → Span → SpannedItem
 a_text q s = items.SetText q s
 
@@ -114,10 +109,15 @@ wrong_text n code text lists item q s v is h m =
     ∙ ap (λ (b : Bool). if b then (if may_hold n code (bytes_in text s) then None else Some wrongs.InText) else None) h
     ∙ ap (λ (b : Bool). if b then None else Some wrongs.InText) m
 
--- the text of an item, looked into
-pub text_may : (n : ℕ) (code : List Bool) (text : List ℕ) (item : SpannedItem) (q : ℕ) (s : Span) (v : Bool) → item ≡ a_text q s → IsItemIn (length text) item → item_length item < length text → length text ≤ n
-    → ((m : ℕ) → length (bytes_in text s) ≤ m → clean_within (suc m) (held code) (bytes_in text s) ≡ v) → may_hold n code (bytes_in text s) ≡ v
-text_may n code text item q s v is inside short deep h =
-    let spans : IsSpanIn (length text) s = subst (λ (x : SpannedItem). IsItemIn (length text) x) is inside in
-    let long : item_length item ≡ s.to - s.from = ap item_length is in
-    may_is n code (bytes_in text s) v h (omega (arith, short, deep, long, length_taken text s spans))
+one_fewer : (n : ℕ) → (n ≡ 0 → ⊥) → n ≡ suc (n - 1)
+one_fewer n some = omega (arith, some)
+
+-- A text that is looked into may be put there if it is clean, looked into one text less deep.
+pub text_may : (n : ℕ) (code : List Bool) (t : List ℕ) (v : Bool) → (n ≡ 0 → ⊥) → clean_within (suc (n - 1)) (held code) t ≡ v → may_hold n code t ≡ v
+text_may n code t v some e = subst (λ (m : ℕ). clean_within m (held code) t ≡ v) (sym (one_fewer n some)) e
+
+-- where no text is looked into any more
+pub none_may : (n : ℕ) (code : List Bool) (t : List ℕ) → n ≡ 0 → may_hold n code t ≡ false
+unfolding clean_within
+none_may zero code t e = refl
+none_may (suc n) code t e = absurd cc

@@ -13,6 +13,7 @@ use Rattle.teco_scan.specs.Scan as token
 use Rattle.teco_blocks.specs.Lists.{tag_at}
 use Rattle.teco_fault.specs.Checked.{held, may_hold}
 use Rattle.teco_fault.specs.declared.faults.Fault.{Fault}
+use Rattle.teco_fault.specs.declared.faults.TheConstants.{MOST_TEXTS}
 use Rattle.teco_fault.specs.declared.faults.Wrong.{Wrong}
 use Rattle.teco_fault.specs.declared.faults.Wrong.TheVariants as wrongs
 
@@ -118,9 +119,9 @@ own_list = record { kind = None; opening = 0; start = 0 }
 abbrev pub rule : ℕ → List Bool → CodeRule
 rule n code = record { holds = held code; may = may_hold n code }
 
--- The first fault of a text, if it has one. No text is deeper in another than that has bytes.
+-- The first fault of a text, if it has one, where so many texts in one another are looked into.
 abbrev pub first_within : ℕ → List Bool → List ℕ → Option Fault
 first_within n code bytes = walk (rule n code) bytes own_list [] bytes
 
 abbrev pub first_of : List Bool → List ℕ → Option Fault
-first_of code bytes = first_within (length bytes) code bytes
+first_of code bytes = first_within MOST_TEXTS code bytes

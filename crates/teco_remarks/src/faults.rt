@@ -1,15 +1,15 @@
 //! The faults of a text, from the first on.
-use crate::listing::push_remark;
+ghost use Rattle.std.specs.Prelude.{◌≡◌, true, false, Bool, length, OnOk};
+ghost use Rattle.std.specs.List.{list_any};
+ghost use Rattle.teco_remarks.specs.Told.{is_fault, is_in_text, moved, own_fault};
+
 use crate::passing::{part, pass_over};
 use crate::remarks::{FaultIn, Remark, What};
 use std::alloc::Global;
 use teco_check::fault_of;
 use teco_core::NoMemory;
-use teco_fault::{Fault, REGISTERS, Wrong};
+use teco_fault::{Fault, MOST_TEXTS, REGISTERS, Wrong, first_fault_within};
 use teco_scan::{Found, Item, Span, TokenKind, token_at};
-
-/// The most texts in one another in which a fault is looked for.
-const MOST_TEXTS: u32 = 64;
 
 /// The most faults of a command string that are told.
 const MOST_FAULTS: u32 = 20;
@@ -33,8 +33,17 @@ fn text_put(text: &[u8], fault: &FaultIn) -> Option<Span> {
     }
 }
 
-/// The fault itself, where a fault says that it is in a text which is put where code is.
-fn innermost(text: &[u8], code: &[bool; REGISTERS], fault: Fault) -> FaultIn {
+fn is_in_text(wrong: Wrong) -> bool
+    ensures { result ≡ is_in_text wrong }
+{
+    matches!(wrong, Wrong::InText)
+}
+
+/// The fault itself, where a fault says that it is in a text which is put where code is. Each text inside is looked into one text less
+/// deep, as the check did.
+fn innermost(text: &[u8], code: &[bool; REGISTERS], fault: Fault) -> FaultIn
+    ensures own { is_in_text fault.wrong ≡ false → result ≡ own_fault (length text.now) fault }
+{
     let mut found = FaultIn {
         at: fault.at,
         wrong: fault.wrong,
@@ -43,14 +52,13 @@ fn innermost(text: &[u8], code: &[bool; REGISTERS], fault: Fault) -> FaultIn {
             to: text.len(),
         },
     };
-    for _ in 0..MOST_TEXTS {
-        if !matches!(found.wrong, Wrong::InText) {
-            return found;
-        }
+    let mut texts = MOST_TEXTS;
+    while texts > 0 && is_in_text(found.wrong) {
+        texts -= 1;
         let Some(inside) = text_put(text, &found) else {
             return found;
         };
-        let Some(fault) = fault_of(part(text, inside), code) else {
+        let Some(fault) = first_fault_within(part(text, inside), code, texts) else {
             return found;
         };
         found = FaultIn {
@@ -63,7 +71,9 @@ fn innermost(text: &[u8], code: &[bool; REGISTERS], fault: Fault) -> FaultIn {
 }
 
 /// A fault of a command string that begins at a place of the commands.
-fn moved(fault: &FaultIn, from: usize) -> Remark {
+fn moved(fault: &FaultIn, from: usize) -> Remark
+    ensures { result ≡ moved fault.now from }
+{
     let at = from.saturating_add(fault.at);
     Remark {
         at,
@@ -86,11 +96,16 @@ pub fn push_faults(
     from: usize,
     code: &[bool; REGISTERS],
     first: Fault,
-) -> Result<(), NoMemory> {
+) -> Result<(), NoMemory>
+    ensures own { (test : Remark → Bool) → is_in_text first.wrong ≡ false → test (moved (own_fault (length string.now) first) from) ≡ true
+        → OnOk result (list_any test faults.new.items ≡ true) }
+    ensures some { OnOk result (list_any is_fault faults.new.items ≡ true) }
+{
     let mut text = Vec::from_slice(alloc, string)?;
     let mut fault = innermost(&text, code, first);
-    for _ in 0..MOST_FAULTS {
-        push_remark(faults, moved(&fault, from))?;
+    let told = moved(&fault, from);
+    faults.push(told)?;
+    for _ in 1..MOST_FAULTS {
         if !pass_over(&mut text, &fault) {
             return Ok(());
         }
@@ -102,6 +117,7 @@ pub fn push_faults(
             return Ok(());
         }
         fault = later;
+        faults.push(moved(&fault, from))?;
     }
     Ok(())
 }

@@ -1,5 +1,6 @@
 //! Hints: what may be meant otherwise.
-ghost use Rattle.std.specs.Prelude.{◌<◌, IfSome};
+ghost use Rattle.std.specs.Prelude.{◌<◌, Bool, IfSome, OnOk};
+ghost use Rattle.teco_remarks.specs.Told.{IsTold};
 
 use crate::passing::part;
 use crate::remarks::{Hint, Remark, What};
@@ -200,7 +201,9 @@ fn is_number(token: &Token) -> bool {
 }
 
 /// Puts a hint at the end.
-fn push_hint(remarks: &mut Vec<Remark>, at: usize, hint: Hint) -> Result<(), NoMemory> {
+fn push_hint(remarks: &mut Vec<Remark>, at: usize, hint: Hint) -> Result<(), NoMemory>
+    ensures kept { (test : Remark → Bool) → IsTold test remarks.old.items → OnOk result (IsTold test remarks.new.items) }
+{
     remarks.push(Remark {
         at,
         what: What::Hint(hint),
@@ -239,7 +242,9 @@ pub fn push_last_hints(
     commands: &[u8],
     rest: Option<Hint>,
     faulty: bool,
-) -> Result<(), NoMemory> {
+) -> Result<(), NoMemory>
+    ensures kept { (test : Remark → Bool) → IsTold test remarks.old.items → OnOk result (IsTold test remarks.new.items) }
+{
     let end = commands.len();
     if let Some(hint) = rest {
         push_hint(remarks, end, hint)?;

@@ -14,7 +14,7 @@ mod sentences;
 pub use faults::push_faults;
 pub use hinting::{Hinting, push_hints, push_last_hints};
 pub use left_out::{LeftOut, Takes, row_of};
-pub use listing::push_both;
+pub use listing::{MOST_REMARKS, push_both};
 pub use remarks::{FaultIn, Hint, Remark, What};
 pub use reporting::{report, report_part};
 pub use sentences::show_remark;

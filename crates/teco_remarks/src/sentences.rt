@@ -6,7 +6,7 @@ use crate::remarks::{FaultIn, Hint, Remark, What};
 use memchr::memchr;
 use std::fmt::Write;
 use teco_core::{BLOCK_LIMIT, Code, ESC, NoMemory};
-use teco_fault::Wrong;
+use teco_fault::{MOST_TEXTS, Wrong};
 use teco_scan::{Found, Item, TokenKind, token_at};
 use teco_telling::{Spot, spell_token, token};
 
@@ -203,7 +203,10 @@ fn show_wrong(
             token,
             " puts what no check can see into a register that is called",
         ),
-        Wrong::InText => show_around(out, "", token, " has a fault in its text"),
+        Wrong::InText => {
+            show_around(out, "", token, " has a text inside ")?;
+            write!(out, "{MOST_TEXTS} others")
+        }
     }
 }
 

@@ -19,7 +19,7 @@ static SENTENCES: [(&str, Wrong, &str); 2] = [
     (
         "@^UA/<J/J",
         Wrong::InText,
-        "not checked: @^UA/<J/ has a fault in its text",
+        "not checked: @^UA/<J/ has a text inside 8 others",
     ),
 ];
 
