@@ -1,2 +1,2 @@
 pub mod Cuts
-pub mod Told
+pub mod Misspelt

@@ -5,5 +5,7 @@ mod calling;
 mod checking;
 mod cutting;
 mod requests;
+mod spelling;
 
 pub use checking::{Advice, check};
+pub use spelling::is_misspelt;

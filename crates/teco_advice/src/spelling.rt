@@ -1,0 +1,73 @@
+//! Commands by which a run ends where it comes to a fault of them.
+ghost use Rattle.std.specs.Prelude.{◌≡◌, ◌≤◌, length, drop};
+ghost use Rattle.teco_scan.specs.Scan.{scan};
+ghost use Rattle.teco_advice.specs.Spelling.{is_misspelt, is_misspelt_string, misspelt_within, put_first};
+
+use crate::cutting::string_end;
+use crate::requests::is_request;
+use teco_check::fault_of;
+use teco_fault::{REGISTERS, Wrong};
+use teco_scan::{Found, Item, TokenKind, token_at};
+
+/// The most texts in one another in which a fault is looked for.
+const MOST_TEXTS: usize = 64;
+
+/// The text that the token at a place puts into a register; nothing where it puts none.
+fn text_put(text: &[u8], at: usize) -> &[u8]
+    ensures { result.now ≡ put_first (scan (drop at text.now)) }
+{
+    if at > text.len() {
+        return &[];
+    }
+    match token_at(text, at) {
+        Found::Token(token) => match token.kind {
+            TokenKind::Item(Item::SetText(_, span)) => &text[span.from..span.to],
+            _ => &[],
+        },
+        _ => &[],
+    }
+}
+
+/// Whether the first fault of a text is one by which a run ends, also where it is in a text that is put where code is.
+fn is_misspelt_text(text: &[u8], code: &[bool; REGISTERS]) -> bool
+    ensures { result ≡ misspelt_within 64 code.now text.now }
+{
+    let mut inside = text;
+    let mut texts = MOST_TEXTS;
+    while texts > 0 {
+        texts -= 1;
+        let Some(fault) = fault_of(inside, code) else {
+            return false;
+        };
+        match fault.wrong {
+            Wrong::InText => inside = text_put(inside, fault.at),
+            Wrong::Calls | Wrong::Loads => return false,
+            _ => return true,
+        }
+    }
+    false
+}
+
+/// Whether a command string is misspelt.
+fn is_misspelt_string(string: &[u8], code: &[bool; REGISTERS]) -> bool
+    ensures { result ≡ is_misspelt_string code.now string.now }
+{
+    if is_request(string) {
+        return false;
+    }
+    is_misspelt_text(string, code)
+}
+
+/// Whether one of the command strings has a fault by which a run ends, before any that a check says it doesn't look into. The registers
+/// that hold code are those of [`crate::Advice`].
+pub fn is_misspelt(commands: &[u8], code: &[bool; REGISTERS]) -> bool
+    ensures { result ≡ is_misspelt code.now commands.now }
+{
+    let mut misspelt = false;
+    let mut start = 0;
+    while let Some(end) = string_end(commands, start) {
+        misspelt |= is_misspelt_string(&commands[start..end], code);
+        start = end + 1;
+    }
+    misspelt | is_misspelt_string(&commands[start..], code)
+}
