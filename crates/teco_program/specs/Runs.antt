@@ -7,7 +7,7 @@ use Rattle.std.specs.declared.alloc.Global.{Global}
 use Rattle.teco_terminal.specs.Terminal.{Screen}
 use Rattle.teco_line.specs.declared.line.Line.{Line}
 use Rattle.teco_option.specs.declared.fault.LineFault.{LineFault}
-use Rattle.teco_program.specs.Checks.{TellsVerdict}
+use Rattle.teco_program.specs.Checks.{AreRejected, MayRun, TellsVerdict}
 use Rattle.teco_program.specs.Lines.{IsLineIn, Refuses, worst}
 use Rattle.teco_edit.specs.Run.{Concludes}
 use Rattle.teco_edit.specs.Given.{EditsBy, EditsByBytes, EditsGiven, HostView, IsIdle, is_streamed}
@@ -62,8 +62,16 @@ pub record RunsInOrder {D I S T W E : Type 0} (view : HostView D I S T W) (error
   pub runs : Chain (LinkOver view errors line bytes) inputs old new statuses
   pub status_is : status ≡ worst 0 statuses
 
+-- Commands that were had at once are looked at before any input is read. If a string is misspelt, that is told and no more is done;
+-- else each input of the line is run over.
+abbrev pub RunsIfSpelt : {D I S T W E : Type 0} → HostView D I S T W → (E → Screen) → Line → List ℕ → Host D S T × E
+    → Host D S T × E → ℕ → Type 0
+RunsIfSpelt view errors line bytes old new status =
+    ((new.0 ≡ old.0) × AreRejected line.commands bytes (errors old.1) (errors new.1) status)
+    ⊎ (MayRun line.commands bytes × RunsInOrder view errors line bytes (inputs_of line) old new status)
+
 -- Any other line: its commands are had once, before any input is read, and no file changes by that. If they can't be had,
--- no more is done, and that is told; else each of its inputs is run over.
+-- no more is done, and that is told; else each of its inputs is run over, unless they are misspelt.
 pub record RunsOverAll {D I S T W E : Type 0} (view : HostView D I S T W) (errors : E → Screen) (line : Line)
     (old new : Host D S T) (told telling : E) (status : ℕ) : Type 0 where
   pub whole : is_streamed line ≡ false
@@ -73,7 +81,7 @@ pub record RunsOverAll {D I S T W E : Type 0} (view : HostView D I S T W) (error
       × LacksCommands view.stream line.commands (view.disk old.disk) (view.disk mid.disk) old.stream mid.stream fault
       × Declines line.commands fault (errors told) (errors telling) status)
       ⊎ ((bytes : List ℕ) × IsGivenBy view.stream line.commands (view.disk old.disk).files old.stream mid.stream bytes
-      × RunsInOrder view errors line bytes (inputs_of line) (mid, told) (new, telling) status)
+      × RunsIfSpelt view errors line bytes (mid, told) (new, telling) status)
 
 -- A line that asks for a check: its commands are had as for a run, and what a check finds in them is told. No file changes by
 -- that, and nothing is served or put on the terminal but what is told. If the commands can't be had, that is told.
@@ -85,7 +93,7 @@ pub record ChecksLine {D I S T E : Type 0} (disk : D → DiskSeen I) (stream : S
       × LacksCommands stream line.commands (disk old.disk) (disk new.disk) old.stream new.stream fault
       × Declines line.commands fault (errors told) (errors telling) status)
       ⊎ ((bytes : List ℕ) × IsGivenBy stream line.commands (disk old.disk).files old.stream new.stream bytes
-      × TellsVerdict screen errors bytes old.term new.term told telling status)
+      × TellsVerdict screen errors line.commands bytes old.term new.term told telling status)
 
 -- A line that asks for no check is run over, and one that asks for it is checked alone.
 abbrev pub RunsOrChecks : {D I S T W E : Type 0} → HostView D I S T W → (E → Screen) → Line → Host D S T → Host D S T → E

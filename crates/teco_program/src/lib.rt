@@ -2,7 +2,9 @@
 #![tactic(auto)]
 
 mod checking;
+mod looking;
 mod running;
 mod several;
+mod verdict;
 
 pub use running::program;

@@ -5,9 +5,10 @@ ghost use Rattle.teco_line.specs.Conflict.{are_awaited, has_conflict};
 ghost use Rattle.teco_program.specs.Lines.{worse};
 ghost use Rattle.teco_serve.specs.Exchange.{HasRung};
 ghost use Rattle.teco_edit.specs.Given.{host_view, is_streamed};
-ghost use Rattle.teco_program.specs.Runs.{LinkGiven, RunsInOrder, RunsOverAll, inputs_of};
+ghost use Rattle.teco_program.specs.Runs.{LinkGiven, RunsIfSpelt, RunsInOrder, RunsOverAll, inputs_of};
 ghost use Rattle.teco_host.specs.Seen.{disk_seen, host, source_view};
 
+use crate::looking::status_if_misspelt;
 use std::alloc::Global;
 use teco_bytes::{Source, WordSource};
 use teco_edit::{Parts, commands_given, conclude, decline, edit_given};
@@ -127,6 +128,39 @@ fn edit_each<S: Source, A: Alarm, T: Terminal, E: Terminal, N: Terminal, D: Disk
     status
 }
 
+/// Runs over each input of the line by these bytes as commands, unless they are misspelt.
+fn edit_looked_at<S: Source, A: Alarm, T: Terminal, E: Terminal, N: Terminal, D: Disk>(
+    alloc: Global,
+    line: &Line,
+    number: u32,
+    parts: &Parts,
+    bytes: &[u8],
+    commands: &mut S,
+    alarm: &mut A,
+    term: &mut T,
+    errors: &mut E,
+    notes: &mut N,
+    disk: &mut D,
+) -> u8
+    requires whole { is_streamed line.now ≡ false }
+    requires depth { IfSome line.now.undo IsDepth }
+    ensures runs { let view = host_view (disk_seen D.files D.streams D.left D.gave D.changed
+        (source_view D.Input.coming D.Input.bound D.Input.failures D.Input.ended))
+        (source_view S.coming S.bound S.failures S.ended) T.screen
+        (source_view ⟦<WordSource as Source>⟧.coming ⟦<WordSource as Source>⟧.bound
+        ⟦<WordSource as Source>⟧.failures ⟦<WordSource as Source>⟧.ended) (HasRung A.answered) in
+        RunsIfSpelt view E.screen line.now bytes.now (host disk.old commands.old term.old, errors.old)
+        (host disk.new commands.new term.new, errors.new) result }
+    ensures silent { line.now.explain ≡ false → notes.new ≡ notes.old }
+{
+    if let Some(status) = status_if_misspelt(alloc, &line.commands, parts, bytes, errors) {
+        return status;
+    }
+    edit_each(
+        alloc, line, number, bytes, commands, alarm, term, errors, notes, disk,
+    )
+}
+
 /// Runs over each input of the line by commands that are had once, before. Gives the worst status.
 pub fn edit_all<S: Source, A: Alarm, T: Terminal, E: Terminal, N: Terminal, D: Disk>(
     alloc: Global,
@@ -151,12 +185,13 @@ pub fn edit_all<S: Source, A: Alarm, T: Terminal, E: Terminal, N: Terminal, D: D
         errors.old errors.new result }
     ensures silent { line.now.explain ≡ false → notes.new ≡ notes.old }
 {
-    let mut parts = Parts::unkept(alloc);
+    let mut parts = Parts::kept(alloc);
     match commands_given(alloc, &line.commands, commands, disk, &mut parts) {
-        Ok(bytes) => edit_each(
+        Ok(bytes) => edit_looked_at(
             alloc,
             line,
             number,
+            &parts,
             bytes.as_slice(),
             commands,
             alarm,

@@ -5,6 +5,7 @@ use Rattle.teco_bytes.specs.declared.input.InputFault.{InputFault}
 use Rattle.teco_bytes.specs.declared.input.InputFault.TheVariants as input
 use Rattle.teco_line.specs.Conflict.{has_more}
 use Rattle.teco_option.specs.StreamNames.{is_standard_input}
+use Rattle.teco_line.specs.declared.line.Commands.{Commands}
 use Rattle.teco_line.specs.declared.line.Commands.TheVariants.{StandardInput, Sources, Pages, Bytes}
 use Rattle.teco_line.specs.declared.line.Line.{Line}
 use Rattle.teco_serve.specs.declared.fate.Fate.{Fate}
@@ -13,16 +14,24 @@ use Rattle.teco_serve.specs.declared.fate.Fate.TheVariants.{Changed, Unchanged}
 use Rattle.teco_serve.specs.declared.fate.Fate.TheVariants.{Ended}
 use Rattle.teco_serve.specs.declared.served.Served.TheVariants as served
 
--- Where the output goes if the line names no output, by the name of the input: to standard output if the input
--- comes from standard input, else to the input's name followed by .out.
+-- The place of an output beside its input: standard output if the input comes from standard input, else the input's name followed
+-- by .out.
 abbrev pub output_beside : List ℕ → List ℕ
 output_beside input = if is_standard_input input then codes "-" else input ++ codes ".out"
+
+-- Where the output goes if the line names none, by where the commands come from: strings for every page make a filter, which
+-- writes to standard output.
+abbrev pub output_by : Commands → List ℕ → List ℕ
+output_by (Pages word) input = codes "-"
+output_by (Bytes name) input = output_beside input
+output_by (Sources names word) input = output_beside input
+output_by StandardInput input = output_beside input
 
 -- The name of the output of this input: the input's own if it is edited in place, else the one that the line
 -- names.
 abbrev pub output_of : Line → List ℕ → List ℕ
 output_of line input = if line.in_place then input
-    else (elim line.output [ Some name ↦ string_bytes name | None ↦ output_beside input ])
+    else (elim line.output [ Some name ↦ string_bytes name | None ↦ output_by line.commands input ])
 
 -- If the line has several inputs, each line that is told names its file.
 abbrev pub about : Line → List ℕ → List ℕ → List ℕ

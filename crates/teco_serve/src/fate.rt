@@ -1,7 +1,7 @@
 //! How the program ends.
 ghost use Rattle.std.specs.Prelude.{◌≡◌, ◌++◌, codes, IfOk, OnErr};
 ghost use Rattle.std.specs.String.{string_bytes};
-ghost use Rattle.teco_serve.specs.Ending.{about, commands_name, output_beside, output_of, said, status_of, text_of};
+ghost use Rattle.teco_serve.specs.Ending.{about, commands_name, output_beside, output_by, output_of, said, status_of, text_of};
 
 use crate::served::Served;
 use std::alloc::Global;
@@ -62,7 +62,7 @@ pub fn said_of(alloc: Global, before: &str, name: &str, after: &str) -> Result<S
     format!(in alloc; "teco: {before}{name}{after}\n")
 }
 
-/// The name of the output where the line names none: standard output if the input is standard input, else the input's followed by `.out`.
+/// The name of an output beside its input: standard output if the input is standard input, else the input's followed by `.out`.
 fn output_beside(alloc: Global, input: &str) -> Result<String, NoMemory>
     ensures { IfOk result (λ name. string_bytes name ≡ output_beside input.now) }
 {
@@ -74,7 +74,19 @@ fn output_beside(alloc: Global, input: &str) -> Result<String, NoMemory>
     Ok(name)
 }
 
-/// The name of the output of this input: its own if it is edited in place, else the one given, or one beside it.
+/// The name of the output where the line names none: standard output for strings for every page, else one beside the input.
+fn output_by(alloc: Global, commands: &Commands, input: &str) -> Result<String, NoMemory>
+    ensures { IfOk result (λ name. string_bytes name ≡ output_by commands.now input.now) }
+{
+    match commands {
+        Commands::Pages(_) => String::from_str(alloc, "-"),
+        Commands::StandardInput | Commands::Sources(..) | Commands::Bytes(_) => output_beside(
+            alloc, input,
+        ),
+    }
+}
+
+/// The name of the output of this input: its own if it is edited in place, else the one given, or one by its commands.
 pub fn output_name(alloc: Global, line: &Line, input: &str) -> Result<String, NoMemory>
     ensures { IfOk result (λ name. string_bytes name ≡ output_of line.now input.now) }
 {
@@ -83,7 +95,7 @@ pub fn output_name(alloc: Global, line: &Line, input: &str) -> Result<String, No
     }
     match &line.output {
         Some(name) => String::from_str(alloc, name.as_str()),
-        None => output_beside(alloc, input),
+        None => output_by(alloc, &line.commands, input),
     }
 }
 

@@ -16,8 +16,7 @@ fn before_escapes(bytes: &[u8]) -> &[u8]
     &bytes[..end]
 }
 
-/// The commands that run these strings on every page, and then exit. The first ESC after the strings closes a text that is still
-/// open, and the second one drops what the last command gave.
+/// The commands that run these strings on every page, and then exit. The space and the ESC after them drop what the last command gave.
 pub fn commands_on_pages(alloc: Global, strings: &[u8]) -> Result<Vec<u8>, NoMemory>
     ensures { IfOk result (λ commands. commands.items ≡ on_pages strings.now) }
 {

@@ -14,14 +14,14 @@ static OPTIONS: [OptionRow; 15] = [
         short: Some('e'),
         takes: Takes::Text,
         value: "STRINGS",
-        help: "The command strings: $ is ESC, ^J a line end, and !! begins a comment",
+        help: "The command strings, whose output replaces INPUT.out: $ is ESC, ^J a line end, and !! begins a comment",
     },
     OptionRow {
         name: "pages",
         short: Some('p'),
         takes: Takes::Text,
         value: "STRINGS",
-        help: "The same on each page, and then an exit: -e 'Y<STRINGS$ $-1-^N;P>EX$$'",
+        help: "The same, run on each page, and then an exit; the output goes to standard output",
     },
     OptionRow {
         name: "file",
@@ -42,7 +42,7 @@ static OPTIONS: [OptionRow; 15] = [
         short: Some('o'),
         takes: Takes::Text,
         value: "FILE",
-        help: "Where the output goes after an exit, - for standard output; without it INPUT.out, or - if INPUT is -",
+        help: "Where the output goes after an exit, - for standard output; without it INPUT.out, or - if INPUT is - or with --pages",
     },
     OptionRow {
         name: "in-place",

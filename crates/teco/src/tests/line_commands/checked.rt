@@ -13,6 +13,7 @@ pub(crate) const ROWS: &str = "
     - // A block that one source opens and the next one closes.
     - teco --check -f open -e >EX$$ none => => => => => => open == Y<J\n
     - teco --check -p 3M?$ none => => --pages:1:2: IQN: after M comes a register, A to Z or 0 to 9\n => => => 2
+    - teco --check -p J<FSi$o;> none => => --pages:1:3: UTC: the second text of FS has no ESC; two ESC end the command string\n => => => 2
     - teco --check -b bytes none => => bytes:2:1: IQN: after M comes a register, A to Z or 0 to 9\n => => => 2 => bytes == Y\nM?\x1b\x1bEX\x1b\x1b
     - // A hint is no fault.
     - teco --check -e Y$$EX$ none => => --execute:1:7: hint: this is not run: it ends with one ESC, and wants two\n

@@ -7,11 +7,11 @@ pub(crate) const ROWS: &str = "
         <INPUT>     The file to edit, or - for standard input; only --in-place, or --output with its name, changes it\n  \
         [INPUT]...  More files, each edited by itself, in their order\n\n\
         Options:\n  \
-        -e, --execute <STRINGS>  The command strings: $ is ESC, ^J a line end, and !! begins a comment\n  \
-        -p, --pages <STRINGS>    The same on each page, and then an exit: -e 'Y<STRINGS$ $-1-^N;P>EX$$'\n  \
+        -e, --execute <STRINGS>  The command strings, whose output replaces INPUT.out: $ is ESC, ^J a line end, and !! begins a comment\n  \
+        -p, --pages <STRINGS>    The same, run on each page, and then an exit; the output goes to standard output\n  \
         -f, --file <FILE>        A file of the same kind; the commands are those of each FILE in order, and then those of --execute\n  \
         -b, --bytes <FILE>       The file that the commands are read from, as they are\n  \
-        -o, --output <FILE>      Where the output goes after an exit, - for standard output; without it INPUT.out, or - if INPUT is -\n  \
+        -o, --output <FILE>      Where the output goes after an exit, - for standard output; without it INPUT.out, or - if INPUT is - or with --pages\n  \
         -i, --in-place           Writes the output over each INPUT\n      \
         --check              Tells the faults of the commands, with their places; runs nothing, and reads no INPUT\n      \
         --page-lines <N>     The most lines of a page, at most 1000000000; without it form feeds alone end pages\n      \

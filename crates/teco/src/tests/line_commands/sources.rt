@@ -33,5 +33,24 @@ pub(crate) const ROWS: &str = "
     - teco -b none in => => => teco: cannot read none\n => => 1 => in == hi\n
     - teco -e EX$$ none => => => teco: cannot read none\n => => 1 => in == hi\n
     - // The commands of a word for every page.
-    - teco -p FSi$o$ in => => => => => => in == hi\n\x0chi\n => in == hi\n\x0chi\n ++ in.out == ho\n\x0cho\n
-    - teco -p FSi$o$$ -i in => => => => => => in == hi\n => in == ho\n";
+    - teco -p FSi$o$ in => => ho\n\x0cho\n => => => => in == hi\n\x0chi\n
+    - teco -p FSi$o$$ -i in => => => => => => in == hi\n => in == ho\n
+    - // Commands that have a fault by which a run ends are not run: it is told as a check tells it, without hints, and no INPUT is read.
+    - teco -e YHKEX$$M?$$ in => => => --execute:1:8: IQN: after M comes a register, A to Z or 0 to 9\n => => 3 => in == hi\n
+    - teco -i -e Y<FSi$o;>EX$$ in none => => => --execute:1:2: UTC: < has no >\n => => 3 => in == hi\n
+    - teco -f faulty -e EX$$ -o out in => => => faulty:2:3: IQN: after M comes a register, A to Z or 0 to 9\n => => 3 => in == hi\n ++ faulty == Y\n  M? !!no register\n
+    - teco -f - in => YM?\x1b\x1bEX\x1b\x1b => => -:1:2: IQN: after M comes a register, A to Z or 0 to 9\n => => 3 => in == hi\n
+    - // A jump to no tag, and a fault in a text that is put where code is.
+    - teco -i -e YOa$EX$$ in => => => --execute:1:2: TAG: no tag !a! is in this list or one around it\n => => 3 => in == hi\n
+    - teco -i -e @^UA/YM?/MAEX$$ in => => => --execute:1:7: IQN: after M comes a register, A to Z or 0 to 9\n => => 3 => in == hi\n
+    - // Strings for every page are a text by themselves: what they leave open is a fault, and the loop around them is not theirs.
+    - teco -i -p J<FSi$o;> in => => => --pages:1:3: UTC: the second text of FS has no ESC; two ESC end the command string\n => => 3 => in == hi\n
+    - teco -i -p J<FSi$o$; in => => => --pages:1:2: UTC: < has no >\n => => 3 => in == hi\n
+    - teco -i -p J<FSi;> in => => => --pages:1:3: UTC: the text of FS has no ESC\n => => 3 => in == hi\n
+    - teco -i -p J<FSi$wow\n!!$;> in => => => --pages:1:3: UTC: the second text of FS has no ESC; two ESC end the command string\n => => 3 => in == hi\n
+    - teco -p J$-1;>Y<K in => => => --pages:1:6: BNI: > has no <\n--pages:1:8: UTC: < has no >\n => => 3 => in == hi\n
+    - teco -p FSi$o in => => => --pages:1:1: UTC: the second text of FS has no ESC; two ESC end the command string\n => => 3 => in == hi\n
+    - teco -p J$$K in => => => --pages:1:1: UTC: < has no >\n--pages:1:5: BNI: > has no <\n => => 3 => in == hi\n
+    - // What no check looks into is run: code that is made while it runs. So are the bytes of a file as they are.
+    - teco -i -e Y1XA0LMAEX$$ in => => ?ILL\r\n => => => 2 => in == ?\n
+    - teco -i -b strings in => => ?IQN\r\n => => => => in == hi\n ++ strings == YM?\x1b\x1bEX\x1b\x1b";

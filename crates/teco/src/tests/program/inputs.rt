@@ -21,7 +21,7 @@ pub(super) const ROWS: &str = "
     - teco -e YZ=$$ none in => unread => 3\r\n => teco: cannot read none\n => => 1 => in == hi\n
     - teco -e YZ-4\"EIA$EX'Z=$$ in two => unread => 3\r\n => => => 2 => in == hi\n ++ two == two\n => in == hi\n ++ two == two\n ++ two.out == Atwo\n
     - // The second run reads what the first one wrote.
-    - teco -i -p IA in in => unread => => => => => in == hi\n => in == AAhi\n
+    - teco -i -p IA$ in in => unread => => => => => in == hi\n => in == AAhi\n
     - // The file of commands is read once, so standard input serves all.
     - teco -f - in two => YZ=EX\x1b\x1b => 3\r\n4\r\n => => => => in == hi\n ++ two == two\n => in == hi\n ++ two == two\n ++ in.out == hi\n ++ two.out == two\n
     - teco -b - in two => YI$\x1bEX\x1b\x1b => => => => => in == hi\n ++ two == two\n => in == hi\n ++ two == two\n ++ in.out == $hi\n ++ two.out == $two\n
@@ -34,9 +34,16 @@ pub(super) const ROWS: &str = "
     - teco -i -e YIA$EX$$ in => unread => => teco: cannot write in\n => => 1 => in == hi\n => => write
     - // A file that another program changed is not replaced.
     - teco -i -e YIA$EX$$ in => unread => => teco: in has changed\n => => 1 => in == hi\n => => changed
-    - // A value that the strings leave is dropped at the end of each page, and an open text is closed there.
+    - // A value that the strings leave is dropped at the end of each page.
     - teco -i -p :FSi$o$ in => unread => => => => => in == hi\x0chi\x0cxx => in == ho\x0cho\x0cxx
     - // Pages end after so many lines, and no byte is lost.
-    - teco --page-lines 2 -p Z=J<FSx$y$;> in => unread => 4\r\n4\r\n2\r\n => => => => in == a\nx\nb\nc\nx\n => in == a\nx\nb\nc\nx\n ++ in.out == a\ny\nb\nc\ny\n
+    - teco --page-lines 2 -p Z=J<FSx$y$;> in => unread => 4\r\n4\r\n2\r\na\ny\nb\nc\ny\n => => => => in == a\nx\nb\nc\nx\n
     - // Nothing is kept to be undone of strings for every page, unless the line says so.
-    - teco --page-lines 2 -o - -p T in => unread => a\nc\na\nb\nc\n => => => => in == a\nb\nc\n";
+    - teco --page-lines 2 -p T in => unread => a\nc\na\nb\nc\n => => => => in == a\nb\nc\n
+    - // Strings for every page make a filter: the outputs come on standard output, one after another, and no file is written.
+    - teco -p IA$ in two => unread => Ahi\nAtwo\n => => => => in == hi\n ++ two == two\n ++ in.out == old\n
+    - teco -p IA$ none in => unread => Ahi\n => teco: cannot read none\n => => 1 => in == hi\n
+    - teco -p IA$ -o - in => unread => Ahi\n => => => => in == hi\n
+    - teco -p IA$ -o out in => unread => => => => => in == hi\n => in == hi\n ++ out == Ahi\n
+    - teco -p IA$ - => hi\n => Ahi\n
+    - teco --explain -p IA$ in => unread => Ahi\n => => - is written\n => => in == hi\n";

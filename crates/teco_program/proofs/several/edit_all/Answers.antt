@@ -1,7 +1,7 @@
 use Rattle.std.proofs.Common.{ℕ, List, inl, inr, refl, subst}
 use Rattle.teco_bytes.specs.contracts.word_source.WordSourceSource.TheImpl as word
 use Rattle.teco_serve.specs.Exchange.{HasRung}
-use Rattle.teco_program.specs.Runs.{RunsInOrder, inputs_of}
+use Rattle.teco_program.specs.Runs.{RunsIfSpelt}
 use Rattle.teco_host.specs.Seen.{host, disk_seen, source_view}
 use Rattle.teco_edit.specs.Given.{host_view}
 use Rattle.teco_program.proofs.several.edit_all.Goals as goal
@@ -13,7 +13,7 @@ returns-in-Ok-clause-runs g c =
     (source_view g.S.Source.coming g.S.Source.bound g.S.Source.failures g.S.Source.ended) g.T.Terminal.screen
     (source_view (word.coming-value).it (word.bound-value).it (word.failures-value).it (word.ended-value).it) (HasRung g.A.Stop.answered) in
     let mid = host c.commands_given.new.disk c.commands_given.new.stream c.args.term.now in
-    let new = host c.edit_each.new.disk c.edit_each.new.commands c.edit_each.new.term in
+    let new = host c.edit_looked_at.new.disk c.edit_looked_at.new.commands c.edit_looked_at.new.term in
     record {
       whole = c.requires.whole;
       mid = mid;
@@ -21,8 +21,8 @@ returns-in-Ok-clause-runs g c =
       runs = inr (
         c.in-Ok.bytes.items,
         c.in-Ok.ensures.given,
-        subst (λ (bytes : List ℕ). RunsInOrder view g.E.Terminal.screen c.args.line.now bytes (inputs_of c.args.line.now) (mid, c.args.errors.now) (new, c.edit_each.new.errors) c.edit_each.result)
-            c.as_slice.ensures.value c.edit_each.ensures.runs,
+        subst (λ (bytes : List ℕ). RunsIfSpelt view g.E.Terminal.screen c.args.line.now bytes (mid, c.args.errors.now) (new, c.edit_looked_at.new.errors) c.edit_looked_at.result)
+            c.as_slice.ensures.value c.edit_looked_at.ensures.runs,
       );
     }
 
