@@ -7,7 +7,7 @@ mod tests;
 use std::process;
 use std::process::ExitCode;
 use teco_bytes::ReaderSource;
-use teco_files::FileDisk;
+use teco_files::{FileDisk, hold_standard_streams};
 use teco_line::not_text;
 use teco_option::{LineFault, fault_of_words};
 use teco_program::program;
@@ -25,6 +25,7 @@ fn words_given(rt: &HostRuntime) -> Result<Vec<String>, LineFault> {
 }
 
 fn main(rt: HostRuntime) -> ExitCode {
+    hold_standard_streams(&rt);
     program(
         rt.alloc(),
         words_given(&rt),

@@ -2,8 +2,9 @@
 use Rattle.std.specs.Prelude.{ℕ, zero, suc, Bool, true, false, List, [], drop, Option, Some, None, if◌then◌else◌}
 use Rattle.std.specs.List.{list_any}
 use Rattle.teco_scan.specs.Scan.{Instruction, Scanned, step, set_text, found, scan}
-use Rattle.teco_fault.specs.Walk.{first_of}
+use Rattle.teco_fault.specs.Walk.{first_within}
 use Rattle.teco_fault.specs.declared.faults.Fault.{Fault}
+use Rattle.teco_fault.specs.declared.faults.TheConstants.{MOST_TEXTS}
 use Rattle.teco_fault.specs.declared.faults.Wrong.{Wrong}
 use Rattle.teco_fault.specs.declared.faults.Wrong.TheVariants as wrongs
 use Rattle.teco_advice.specs.Strings.{is_request, strings_of}
@@ -30,14 +31,14 @@ abbrev pub misspelt_at : (List ℕ → Bool) → List ℕ → Option Fault → B
 misspelt_at inside bytes None = false
 misspelt_at inside bytes (Some first) = misspelt_by inside bytes first.at first.wrong
 
--- The first fault of a text makes it misspelt, where texts are looked into so many deep.
+-- The first fault of a text makes it misspelt, where texts are looked into so many deep. What is deeper is not looked into.
 unfoldable pub misspelt_within : ℕ → List Bool → List ℕ → Bool
-misspelt_within zero code bytes = false
-misspelt_within (suc n) code bytes = misspelt_at (misspelt_within n code) bytes (first_of code bytes)
+misspelt_within zero code bytes = misspelt_at (λ inside. false) bytes (first_within zero code bytes)
+misspelt_within (suc n) code bytes = misspelt_at (misspelt_within n code) bytes (first_within (suc n) code bytes)
 
 -- The string is a misspelt text, where these registers hold code.
 abbrev pub is_misspelt_string : List Bool → List ℕ → Bool
-is_misspelt_string code string = if is_request string then false else misspelt_within 64 code string
+is_misspelt_string code string = if is_request string then false else misspelt_within MOST_TEXTS code string
 
 -- One of the command strings is.
 abbrev pub is_misspelt : List Bool → List ℕ → Bool

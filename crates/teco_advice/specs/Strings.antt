@@ -1,5 +1,5 @@
 -- Commands as command strings, and whether one of them has a fault.
-use Rattle.std.specs.Prelude.{ℕ, Bool, false, ◌&&◌, ◌||◌, List, [], ◌∷◌, ◌++◌, drop, nat_le, is_some, ◌==◌, if◌then◌else◌}
+use Rattle.std.specs.Prelude.{◌≡◌, ◌+◌, ℕ, length, Bool, false, ◌&&◌, ◌||◌, List, [], ◌∷◌, ◌++◌, drop, nat_le, is_some, ◌==◌, if◌then◌else◌}
 use Rattle.std.specs.List.{list_any, prefix_len}
 use Rattle.teco_core.specs.Ascii.{is_digit}
 use Rattle.teco_core.specs.declared.ascii.TheConstants.{ESC}

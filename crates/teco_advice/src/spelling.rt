@@ -1,16 +1,13 @@
 //! Commands by which a run ends where it comes to a fault of them.
 ghost use Rattle.std.specs.Prelude.{◌≡◌, ◌≤◌, length, drop};
+ghost use Rattle.teco_fault.specs.declared.faults.TheConstants.{MOST_TEXTS};
 ghost use Rattle.teco_scan.specs.Scan.{scan};
 ghost use Rattle.teco_advice.specs.Spelling.{is_misspelt, is_misspelt_string, misspelt_within, put_first};
 
 use crate::cutting::string_end;
 use crate::requests::is_request;
-use teco_check::fault_of;
-use teco_fault::{REGISTERS, Wrong};
+use teco_fault::{MOST_TEXTS, REGISTERS, Wrong, first_fault_within};
 use teco_scan::{Found, Item, TokenKind, token_at};
-
-/// The most texts in one another in which a fault is looked for.
-const MOST_TEXTS: usize = 64;
 
 /// The text that the token at a place puts into a register; nothing where it puts none.
 fn text_put(text: &[u8], at: usize) -> &[u8]
@@ -30,20 +27,20 @@ fn text_put(text: &[u8], at: usize) -> &[u8]
 
 /// Whether the first fault of a text is one by which a run ends, also where it is in a text that is put where code is.
 fn is_misspelt_text(text: &[u8], code: &[bool; REGISTERS]) -> bool
-    ensures { result ≡ misspelt_within 64 code.now text.now }
+    ensures { result ≡ misspelt_within MOST_TEXTS code.now text.now }
 {
     let mut inside = text;
     let mut texts = MOST_TEXTS;
-    while texts > 0 {
-        texts -= 1;
-        let Some(fault) = fault_of(inside, code) else {
-            return false;
-        };
+    while let Some(fault) = first_fault_within(inside, code, texts) {
         match fault.wrong {
             Wrong::InText => inside = text_put(inside, fault.at),
             Wrong::Calls | Wrong::Loads => return false,
             _ => return true,
         }
+        if texts == 0 {
+            return false;
+        }
+        texts -= 1;
     }
     false
 }

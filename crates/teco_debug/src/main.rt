@@ -3,7 +3,7 @@
 
 use std::env;
 use std::process::ExitCode;
-use teco_files::FileDisk;
+use teco_files::{FileDisk, hold_standard_streams};
 use teco_option::{LineFault, fault_of_words};
 use teco_retrace::{not_text, program};
 use teco_terminal::WriterTerminal;
@@ -19,6 +19,7 @@ fn words_given(rt: &HostRuntime) -> Result<Vec<String>, LineFault> {
 }
 
 fn main(rt: HostRuntime) -> ExitCode {
+    hold_standard_streams(&rt);
     program(
         rt.alloc(),
         words_given(&rt),

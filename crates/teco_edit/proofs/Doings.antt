@@ -1,25 +1,21 @@
 -- What a run has done leads to what it has done as seen from before, or over another input.
-use Rattle.std.proofs.Common.{◌≡◌, ◌≢◌, inl, inr, ℕ, List, Bool, IsTrue, Option, true, false, refl, ap, sym, ◌∙◌, subst}
+use Rattle.std.proofs.Common.{◌≡◌, ◌≢◌, inl, inr, ℕ, List, Bool, IsTrue, Option, None, true, false, refl, ap, sym, ◌∙◌, subst}
 use Rattle.std.specs.declared.io.Error.{Error}
-use Rattle.teco_files.specs.Disk.{Changes, Files}
+use Rattle.teco_files.specs.Disk.{Changes, Files, IsStream}
 use Rattle.teco_bytes.specs.declared.input.InputFault.{InputFault}
 use Rattle.teco_bytes.specs.declared.input.InputFault.TheVariants as input
 use Rattle.teco_line.specs.declared.line.Line.{Line}
 use Rattle.teco_option.specs.StreamNames.{is_standard_output}
 use Rattle.teco_terminal.specs.Terminal.{Screen}
-use Rattle.teco_host.specs.Writing.{AddsDrafts, IsPut, WritesOutput}
+use Rattle.teco_host.specs.Writing.{HasDraft, IsPut, WritesOutput}
 use Rattle.teco_serve.specs.Ending.{fate_without_input, output_of}
 use Rattle.teco_edit.specs.Seen.{CommandsSeen, InputSeen, OutputSeen, RunSeen, TerminalSeen, run_seen, terminal_seen}
 use Rattle.teco_host.specs.Seen.{DiskSeen, SourceView, KeepsDisk}
-use Rattle.teco_edit.specs.Run.{Doings, Edits, EndsBy, EndsIn, FinishesIn, FailsToStream, FailsToWrite, IsFateOf, LacksInput, ServesInput, doings, doings_after, given_input, input_from, named_input, named_output, standard_input, standard_output}
+use Rattle.teco_edit.specs.Run.{Doings, Edits, EndsBy, EndsIn, FindsChange, FinishesIn, FailsToStream, FailsToWrite, IsFateOf, LacksInPlace, LacksInput, ServesInput, doings, doings_after, given_input, input_from, named_input, named_output, replaces_input, standard_input, standard_output}
 use Rattle.teco_serve.specs.declared.fate.Fate.{Fate}
-use Rattle.teco_serve.specs.declared.fate.Fate.TheVariants.{NoCommands, NoInput, LargeInput, NoMemory, NoOutput, Changed, Unchanged, Ended}
+use Rattle.teco_serve.specs.declared.fate.Fate.TheVariants.{NoCommands, NoInput, NotRegular, LargeInput, NoMemory, NoOutput, Changed, Unchanged, Ended}
 use Rattle.teco_serve.specs.declared.served.Served.{Served}
 use Rattle.teco_serve.specs.declared.served.Served.TheVariants as served
-
--- files that are as they were have no draft
-adds_same : (file : List ℕ) {old new : Option Files} → new ≡ old → Changes old new (AddsDrafts file)
-adds_same file same before told = (before, same ∙ told, record { same = refl; files = λ other there. refl; others = λ other apart. refl })
 
 pub kept_same : {I : Type 0} {disk : DiskSeen I} → KeepsDisk disk disk
 kept_same = record { files = refl; streams = refl; moments = λ files left. left }
@@ -27,22 +23,24 @@ kept_same = record { files = refl; streams = refl; moments = λ files left. left
 -- each thing that the one may have done, the other has done too
 pub record Leads (a b : Doings) : Type 0 where
   pub lacks : (fate : Fate) → a.lacks fate → b.lacks fate
+  pub refuses : a.refuses → b.refuses
   pub idle : a.idle → b.idle
   pub keeps : a.keeps → b.keeps
   pub serves : (end : Served) (output : List ℕ) → a.serves end output → b.serves end output
   pub writes : (output : List ℕ) → a.writes output → b.writes output
   pub fails : (output : List ℕ) (fate : Fate) → a.fails output fate → b.fails output fate
   pub same : (output : List ℕ) → a.same output → b.same output
-  pub changed : a.changed → b.changed
+  pub changed : (output : List ℕ) → a.changed output → b.changed output
 
 pub ends_so : {a b : Doings} → Leads a b → (fate : Fate) → EndsBy a fate → EndsBy b fate
 ends_so l NoCommands e = e
 ends_so l NoInput e = (l.lacks NoInput e.0, l.idle e.1, l.keeps e.2)
+ends_so l NotRegular e = (l.refuses e.0, l.idle e.1, l.keeps e.2)
 ends_so l LargeInput e = (l.lacks LargeInput e.0, l.idle e.1, l.keeps e.2)
 ends_so l NoMemory (inl e) = inl (l.idle e.0, l.keeps e.1)
 ends_so l NoMemory (inr e) = inr (e.0, l.serves served.Exit e.0 e.1, l.fails e.0 NoMemory e.2)
 ends_so l NoOutput e = (e.0, l.serves served.Exit e.0 e.1, l.fails e.0 NoOutput e.2)
-ends_so l Changed e = (e.0, l.serves served.Exit e.0 e.1, l.changed e.2, l.keeps e.3)
+ends_so l Changed e = (e.0, l.serves served.Exit e.0 e.1, l.changed e.0 e.2)
 ends_so l Unchanged e = (e.0, l.serves served.Exit e.0 e.1, l.same e.0 e.2, l.keeps e.3)
 ends_so l (Ended served.Exit) e = (e.0, l.serves served.Exit e.0 e.1, l.writes e.0 e.2)
 ends_so l (Ended served.EndOfCommands) e = (e.0, l.serves served.EndOfCommands e.0 e.1, l.keeps e.2)
@@ -53,31 +51,33 @@ ends_so l (Ended served.NoMemory) e = (e.0, l.serves served.NoMemory e.0 e.1, l.
 -- after a serving
 pub after_serving : {line : Line} {input : InputSeen} {to : OutputSeen} {commands : CommandsSeen} {term : TerminalSeen} {end : Served} {output : List ℕ}
     → ServesInput line input.is_input commands term end output
-    → Leads (doings_after end output (IsTrue line.in_place) to) (doings line input to commands term)
+    → Leads (doings_after end output (IsTrue (replaces_input line)) to) (doings line input to commands term)
 after_serving {line} {input} {to} {commands} {term} {end} {output} s = record {
   lacks = λ fate none. absurd none;
+  refuses = λ none. absurd none;
   idle = λ none. absurd none;
   keeps = λ k. k;
   serves = λ e o is. subst (λ x. ServesInput line input.is_input commands term x o) (sym is.0) (subst (λ x. ServesInput line input.is_input commands term end x) (sym is.1) s);
   writes = λ o w. w;
   fails = λ o fate f. f;
   same = λ o h. h;
-  changed = λ h. h;
+  changed = λ o h. h;
 }
 
--- to a terminal nothing is written in place
+-- to a terminal nothing is written over a file
 pub on_terminal : {line : Line} {input : InputSeen} {to : OutputSeen} {commands : CommandsSeen} {term : TerminalSeen} {end : Served} {output : List ℕ}
     → ServesInput line input.is_input commands term end output
-    → Leads (doings_after end output ⊥ to) (doings line input to commands term)
-on_terminal {line} {input} {to} {commands} {term} {end} {output} s = record {
+    → ((bytes : List ℕ) → to.is_as_read bytes) → Leads (doings_after end output ⊥ to) (doings line input to commands term)
+on_terminal {line} {input} {to} {commands} {term} {end} {output} s free = record {
   lacks = λ fate none. absurd none;
+  refuses = λ none. absurd none;
   idle = λ none. absurd none;
   keeps = λ k. k;
   serves = λ e o is. subst (λ x. ServesInput line input.is_input commands term x o) (sym is.0) (subst (λ x. ServesInput line input.is_input commands term end x) (sym is.1) s);
-  writes = λ o w. w;
+  writes = λ o w. ((λ over. free o), w.1);
   fails = λ o fate f. f;
   same = λ o h. absurd h.0;
-  changed = λ h. absurd h.0;
+  changed = λ o h. absurd h.0;
 }
 
 -- any way but an exit
@@ -121,11 +121,25 @@ module _ {I : Type 0} {old mid : DiskSeen I} (kept : KeepsDisk old mid) where
     fate_is = f.fate_is;
   }
 
+  pub as_read_after : (new : DiskSeen I) (name output : List ℕ) → (named_output mid new name).is_as_read output → (named_output old new name).is_as_read output
+  as_read_after new name output r =
+      subst (λ (streams : Files). new.asked name old.files (λ before now. streams name ≡ None → HasDraft name output before now)) kept.streams
+      (subst (λ (files : Option Files). new.asked name files (λ before now. mid.streams name ≡ None → HasDraft name output before now)) kept.files r)
+
+  pub change_after : {new : DiskSeen I} {name output : List ℕ} → FindsChange mid new name output → FindsChange old new name output
+  change_after f = record {
+    changed = f.changed;
+    files = λ before told. f.files before (kept.files ∙ told);
+    streams = λ other apart. f.streams other apart ∙ ap (λ (streams : Files). streams other) kept.streams;
+    moments = λ before told files left. elim (f.moments before (kept.files ∙ told) files left) [ inl was ↦ inl (kept.moments files was) | inr now ↦ inr now ];
+  }
+
   -- a run over an input that was read is one over where it was read from
   pub to_file : {line : Line} {bytes : List ℕ} {input : InputSeen} {commands : CommandsSeen} {term : TerminalSeen} (new : DiskSeen I) (to : List ℕ) → input.is_input bytes
       → Leads (doings line (given_input bytes) (named_output mid new to) commands term) (doings line input (named_output old new to) commands term)
   to_file {line} {bytes} {input} {commands} {term} new to given = record {
     lacks = λ fate none. absurd none;
+    refuses = λ none. absurd none.1;
     idle = λ i. i;
     keeps = keeps_after;
     serves = λ end output s. record {
@@ -135,16 +149,17 @@ module _ {I : Type 0} {old mid : DiskSeen I} (kept : KeepsDisk old mid) where
       serves = s.serves;
       output_is = s.output_is;
     };
-    writes = λ output w. writes_after w;
+    writes = λ output w. ((λ over. as_read_after new to output (w.0 over)), writes_after w.1);
     fails = λ output fate f. fails_after f;
     same = λ output h. (h.0, λ before told. h.1 before (kept.files ∙ told));
-    changed = λ h. h;
+    changed = λ output h. (h.0, change_after h.1);
   }
 
 pub to_terminal : {line : Line} {bytes : List ℕ} {input : InputSeen} {to : OutputSeen} {commands : CommandsSeen} {term : TerminalSeen} → input.is_input bytes
     → Leads (doings line (given_input bytes) to commands term) (doings line input to commands term)
 to_terminal {line} {bytes} {input} {to} {commands} {term} given = record {
   lacks = λ fate none. absurd none;
+  refuses = λ none. absurd none.1;
   idle = λ i. i;
   keeps = λ k. k;
   serves = λ end output s. record {
@@ -157,7 +172,7 @@ to_terminal {line} {bytes} {input} {to} {commands} {term} given = record {
   writes = λ output w. w;
   fails = λ output fate f. f;
   same = λ output h. h;
-  changed = λ h. h;
+  changed = λ output h. h;
 }
 
 -- an error's fate is want of memory or the other one
@@ -179,6 +194,11 @@ lacks_commands input.Read e = cc
 lacks_commands input.TooLarge e = cc
 lacks_commands input.Memory e = cc
 
+lacks_irregular : (fault : InputFault) → NotRegular ≡ fate_without_input fault → ⊥
+lacks_irregular input.Read e = cc
+lacks_irregular input.TooLarge e = cc
+lacks_irregular input.Memory e = cc
+
 lacks_change : (fault : InputFault) → Changed ≡ fate_without_input fault → ⊥
 lacks_change input.Read e = cc
 lacks_change input.TooLarge e = cc
@@ -195,6 +215,8 @@ module _ {I : Type 0} (old new : DiskSeen I) (name : List ℕ) where
   lacks_by run NoCommands (inl opens) l i k = absurd (no_other opens.fate_is (λ e. cc) (λ e. cc))
   lacks_by run NoCommands (inr reads) l i k = absurd (lacks_commands reads.fault reads.fate_is)
   lacks_by run NoInput why l i k = (l, i, k)
+  lacks_by run NotRegular (inl opens) l i k = absurd (no_other opens.fate_is (λ e. cc) (λ e. cc))
+  lacks_by run NotRegular (inr reads) l i k = absurd (lacks_irregular reads.fault reads.fate_is)
   lacks_by run LargeInput why l i k = (l, i, k)
   lacks_by run NoMemory why l i k = inl (i, k)
   lacks_by run NoOutput (inl opens) l i k = absurd (no_other opens.fate_is (λ e. cc) (λ e. cc))
@@ -232,18 +254,19 @@ module _ {I T : Type 0} (line : Line) (name : List ℕ) (input : InputSeen) (com
   -- After a serving that ended so, from where nothing was written.
   served_to : (output : List ℕ) (between : T) (end : Served) (place : List ℕ) (b : Bool)
       → ServesInput line input.is_input commands (terminal_seen screen before between) end output
-      → FinishesIn b end output line.in_place place old new screen between after fate
+      → FinishesIn b end output (replaces_input line) place old new screen between after fate
       → EndsIn b line place (run_seen input commands old new screen before after) fate
-  served_to output between end place true s f = record { between = between; ends = ends_so (on_terminal {line = line} {input = input} {to = standard_output screen between after} {commands = commands} {term = terminal_seen screen before between} {end = end} {output = output} s) fate f.0; files = f.1 }
+  served_to output between end place true s f = record { between = between; ends = ends_so (on_terminal {line = line} {input = input} {to = standard_output screen between after} {commands = commands} {term = terminal_seen screen before between} {end = end} {output = output} s (λ bytes. tt)) fate f.0; files = f.1 }
   served_to output between end place false s f =
       ends_so (after_serving {line = line} {input = input} {to = named_output old new place} {commands = commands} {term = terminal_seen screen before after} {end = end} {output = output} (subst (λ t. ServesInput line input.is_input commands (terminal_seen screen before t) end output) (sym f.1) s)) fate f.0
 
-  pub over_served : {output : List ℕ} {between : T} {end : Served} {place : List ℕ} → place ≡ output_of line name
+  pub over_served : {output : List ℕ} {between : T} {end : Served} {place : List ℕ} {over : Bool} → place ≡ output_of line name → over ≡ replaces_input line
       → ServesInput line input.is_input commands (terminal_seen screen before between) end output
-      → FinishesIn (is_standard_output place) end output line.in_place place old new screen between after fate
+      → FinishesIn (is_standard_output place) end output over place old new screen between after fate
       → Edits line name (run_seen input commands old new screen before after) fate
-  over_served {output} {between} {end} {place} named s f =
-      record { ends = subst (λ to. EndsIn (is_standard_output to) line to (run_seen input commands old new screen before after) fate) named (served_to output between end place (is_standard_output place) s f) }
+  over_served {output} {between} {end} {place} named goes s f =
+      let finishes = subst (λ (b : Bool). FinishesIn (is_standard_output place) end output b place old new screen between after fate) goes f in
+      record { ends = subst (λ to. EndsIn (is_standard_output to) line to (run_seen input commands old new screen before after) fate) named (served_to output between end place (is_standard_output place) s finishes) }
 
   -- The input was read, and then the run was over it.
   pub over_read : {mid : DiskSeen I} {bytes : List ℕ} → KeepsDisk old mid → input.is_input bytes
@@ -258,10 +281,13 @@ finishes_otherwise output name in_place disk screen term false end other = (ende
 
 -- without the input
 pub lacks_file : {I T : Type 0} {line : Line} {name : List ℕ} {commands : CommandsSeen} {old new : DiskSeen I} {screen : T → Screen} {term : T} {fate : Fate}
-    → LacksInput old new name fate → commands.still → KeepsDisk old new
+    → LacksInPlace line.in_place old new name fate → commands.still → KeepsDisk old new
     → Edits line name (run_seen (named_input old new name) commands old new screen term term) fate
-lacks_file {line} {name} {commands} {old} {new} {screen} {term} {fate} l still kept =
+lacks_file {line} {name} {commands} {old} {new} {screen} {term} {fate} (inl l) still kept =
     idle_ends line name (named_input old new name) commands old new screen term term fate (λ seen place quiet keeps. lacks_by old new name (doings line (named_input old new name) place commands seen) fate l l (still, quiet) keeps) refl kept
+lacks_file {line} {name} {commands} {old} {new} {screen} {term} {fate} (inr irregular) still kept =
+    idle_ends line name (named_input old new name) commands old new screen term term fate
+    (λ seen place quiet keeps. subst (EndsBy (doings line (named_input old new name) place commands seen)) (sym irregular.0) ((irregular.1, irregular.2), (still, quiet), keeps)) refl kept
 
 pub lacks_streamed : {I S T : Type 0} {line : Line} {name : List ℕ} {source : SourceView S} {first last : S} {commands : CommandsSeen} {disk : DiskSeen I} {screen : T → Screen} {term : T} {fate : Fate}
     → FailsToStream source first last fate → commands.still
@@ -275,22 +301,11 @@ failed_write run output NoOutput is s f = (output, s, f)
 failed_write run output NoMemory is s f = inr (output, s, f)
 failed_write run output NoCommands is s f = absurd (no_other is (λ e. cc) (λ e. cc))
 failed_write run output NoInput is s f = absurd (no_other is (λ e. cc) (λ e. cc))
+failed_write run output NotRegular is s f = absurd (no_other is (λ e. cc) (λ e. cc))
 failed_write run output LargeInput is s f = absurd (no_other is (λ e. cc) (λ e. cc))
 failed_write run output Changed is s f = absurd (no_other is (λ e. cc) (λ e. cc))
 failed_write run output Unchanged is s f = absurd (no_other is (λ e. cc) (λ e. cc))
 failed_write run output (Ended end) is s f = absurd (no_other is (λ e. cc) (λ e. cc))
-
--- A look at the disk that failed after an exit.
-pub failed_look : {I : Type 0} {old mid : DiskSeen I} → KeepsDisk old mid → (name output : List ℕ) (fate : Fate) {error : Error} → IsFateOf error NoOutput fate → mid.gave error
-    → FailsToWrite old mid name output fate
-failed_look kept name output fate {error} is gave = record {
-  files = adds_same name kept.files;
-  streams = λ other apart. ap (λ (streams : Files). streams other) kept.streams;
-  moments = λ before told files left. inl (kept.moments files left);
-  error = error;
-  given = inl gave;
-  fate_is = is;
-}
 
 -- Where no read of the commands can fail, no run ends by a failed read.
 reads_to : {I T : Type 0} (line : Line) (to : List ℕ) (run : RunSeen I T) (b : Bool) → ((bytes : List ℕ) → run.commands.gave bytes true → ⊥)
@@ -328,6 +343,12 @@ module _ {I : Type 0} (old mid new : DiskSeen I) (kept : KeepsDisk old mid) (str
   is_input_from true bytes i = i
   is_input_from false bytes i = record { small = i.small; whole = λ before told. i.whole before (kept.files ∙ told) }
 
+  irregular_from : (b : Bool) → (input_from b stream (named_input mid new name)).is_irregular → (input_from b stream (named_input old new name)).is_irregular
+  irregular_from true i = i
+  irregular_from false i = λ there.
+      let given = i (λ none. there (sym kept.files ∙ none)) in
+      (given.0, ap (λ (streams : Files). streams name) (sym kept.streams) ∙ given.1)
+
   serves_from : (b : Bool) (line : Line) (commands : CommandsSeen) (term : TerminalSeen) (end : Served) (output : List ℕ)
       → ServesInput line (input_from b stream (named_input mid new name)).is_input commands term end output → ServesInput line (input_from b stream (named_input old new name)).is_input commands term end output
   serves_from b line commands term end output s = record {
@@ -342,26 +363,28 @@ module _ {I : Type 0} (old mid new : DiskSeen I) (kept : KeepsDisk old mid) (str
       → Leads (doings line (input_from b stream (named_input mid new name)) (named_output mid new to) commands term) (doings line (input_from b stream (named_input old new name)) (named_output old new to) commands term)
   in_file_from b line to commands term = record {
     lacks = lacks_from b;
+    refuses = λ r. (r.0, irregular_from b r.1);
     idle = λ i. i;
     keeps = keeps_after kept;
     serves = serves_from b line commands term;
-    writes = λ output w. writes_after kept w;
+    writes = λ output w. ((λ over. as_read_after kept new to output (w.0 over)), writes_after kept w.1);
     fails = λ output fate f. fails_after kept f;
     same = λ output h. (h.0, λ before told. h.1 before (kept.files ∙ told));
-    changed = λ h. h;
+    changed = λ output h. (h.0, change_after kept h.1);
   }
 
   on_terminal_from : (b : Bool) (line : Line) (to : OutputSeen) (commands : CommandsSeen) (term : TerminalSeen)
       → Leads (doings line (input_from b stream (named_input mid new name)) to commands term) (doings line (input_from b stream (named_input old new name)) to commands term)
   on_terminal_from b line to commands term = record {
     lacks = lacks_from b;
+    refuses = λ r. (r.0, irregular_from b r.1);
     idle = λ i. i;
     keeps = λ k. k;
     serves = serves_from b line commands term;
     writes = λ output w. w;
     fails = λ output fate f. f;
     same = λ output h. h;
-    changed = λ h. h;
+    changed = λ output h. h;
   }
 
   ends_from : {T : Type 0} (place b : Bool) (line : Line) (to : List ℕ) (commands : CommandsSeen) (screen : T → Screen) (before after : T) (fate : Fate)

@@ -1,3 +1,4 @@
 pub mod Showing
+pub mod Streamed
 pub mod Doings
 pub mod CommandSources

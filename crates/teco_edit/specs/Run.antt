@@ -1,5 +1,7 @@
 -- A run over one input of the line: what it reads, serves and writes, and how it ends.
-use Rattle.std.specs.Prelude.{◌≡◌, ◌≢◌, ◌⊎◌, ℕ, List, codes, Option, Some, None, unwrap_or, Bool, IsTrue, true, false}
+use Rattle.std.specs.Prelude.{◌≡◌, ◌≢◌, ◌⊎◌, ◌||◌, ⊤, ℕ, List, codes, Option, Some, None, unwrap_or, Bool, IsTrue, true, false}
+use Rattle.std.specs.Str.{bytes_eq}
+use Rattle.std.specs.String.{string_bytes}
 use Rattle.teco_terminal.specs.Terminal.{IsFrontOf, Screen, Shows}
 use Rattle.teco_option.specs.StreamNames.{is_standard_output}
 use Rattle.std.specs.IoError.{error_kind}
@@ -7,7 +9,7 @@ use Rattle.std.specs.declared.io.Error.{Error}
 use Rattle.std.specs.declared.io.ErrorKind.TheVariants.{OutOfMemory}
 use Rattle.teco_core.specs.declared.limits.TheConstants.{FILE_LIMIT}
 use Rattle.teco_session.specs.History.{History, new_paged_history, present}
-use Rattle.teco_files.specs.Disk.{Changes, Files, Opens, Passes, SameBut}
+use Rattle.teco_files.specs.Disk.{Changes, Files, IsStream, Opens, Passes, SameBut}
 use Rattle.teco_serve.specs.Ending.{fate_without_input, output_of, said, status_of, text_of}
 use Rattle.teco_bytes.specs.Input.{IsFaultOf}
 use Rattle.teco_host.specs.Refusing.{Tells}
@@ -17,10 +19,10 @@ use Rattle.teco_edit.specs.Seen.{CommandsSeen, InputSeen, OutputSeen, RunSeen, T
 use Rattle.teco_host.specs.Reading.{IsInput, IsStreamed}
 use Rattle.teco_host.specs.Seen.{DiskSeen, KeepsDisk, SourceView}
 use Rattle.teco_bytes.specs.Source.{Gives}
-use Rattle.teco_host.specs.Writing.{AddsDrafts, IsWriteError, IsWriting, WritesOutput}
+use Rattle.teco_host.specs.Writing.{AddsDrafts, HasDraft, IsWriteError, IsWriting, WritesOutput}
 use Rattle.teco_serve.specs.declared.alarm.Bounds.{Bounds}
 use Rattle.teco_serve.specs.declared.fate.Fate.{Fate}
-use Rattle.teco_serve.specs.declared.fate.Fate.TheVariants.{NoCommands, NoInput, LargeInput, NoMemory, NoOutput}
+use Rattle.teco_serve.specs.declared.fate.Fate.TheVariants.{NoCommands, NoInput, NotRegular, LargeInput, NoMemory, NoOutput}
 use Rattle.teco_serve.specs.declared.fate.Fate.TheVariants.{Changed, Unchanged}
 use Rattle.teco_serve.specs.declared.fate.Fate.TheVariants.{Ended}
 use Rattle.teco_bytes.specs.declared.input.InputFault.{InputFault}
@@ -55,6 +57,11 @@ pub record FailsToOpen (gave : Error → Type 0) (fate : Fate) : Type 0 where
 abbrev pub LacksInput : {I : Type 0} → DiskSeen I → DiskSeen I → List ℕ → Fate → Type 0
 LacksInput old new name fate = FailsToOpen new.gave fate ⊎ FailsToRead new.input old.files name fate
 
+-- Why there is no input, which may be to be edited in place: then it may be no regular file.
+abbrev pub LacksInPlace : {I : Type 0} → Bool → DiskSeen I → DiskSeen I → List ℕ → Fate → Type 0
+LacksInPlace in_place old new name fate = LacksInput old new name fate
+    ⊎ ((fate ≡ NotRegular) × IsTrue in_place × IsStream old.files old.streams name)
+
 -- The output file is as it was; and at each moment it was so, or had these bytes. The fate is that of the
 -- error.
 pub record FailsToWrite {I : Type 0} (old new : DiskSeen I) (name bytes : List ℕ) (fate : Fate) : Type 0 where
@@ -64,6 +71,18 @@ pub record FailsToWrite {I : Type 0} (old new : DiskSeen I) (name bytes : List �
   pub error : Error
   pub given : IsWriteError new.gave error
   pub fate_is : IsFateOf error NoOutput fate
+
+-- The file has changed since it was read. It is as it was before the writing, and at each moment it was so.
+pub record FindsChange {I : Type 0} (old new : DiskSeen I) (name bytes : List ℕ) : Type 0 where
+  pub changed : new.changed name
+  pub files : Changes old.files new.files (AddsDrafts name)
+  pub streams : SameBut name old.streams new.streams
+  pub moments : Passes old.files old.left new.left (IsWriting name bytes)
+
+-- The output goes over the file that is read: by --in-place, or by the name of --output.
+abbrev pub replaces_input : Line → Bool
+replaces_input line = line.in_place
+    || (elim line.output [ Some name ↦ bytes_eq (string_bytes name) (string_bytes line.input) | None ↦ false ])
 
 -- how many strings are kept of commands that come from there, if the line says no number: none of those for every
 -- page, which nothing could undo, and all of others
@@ -99,6 +118,8 @@ pub record ServesInput (line : Line) (is_input : List ℕ → Type 0) (commands 
 pub record Doings : Type 1 where
   -- there was no input: why, by the fate
   pub lacks : Fate → Type 0
+  -- the input was to be edited in place, and is no regular file
+  pub refuses : Type 0
   -- nothing was read of the commands or shown
   pub idle : Type 0
   -- nothing was written
@@ -112,20 +133,21 @@ pub record Doings : Type 1 where
   -- the output was to be written over a file that has these bytes already
   pub same : List ℕ → Type 0
   -- the output was to be written over a file that has changed since it was read
-  pub changed : Type 0
+  pub changed : List ℕ → Type 0
 
 -- How a run ends, and what it has done then.
 abbrev pub EndsBy : Doings → Fate → Type 0
 -- the file of the commands is opened before
 EndsBy run NoCommands = ⊥
 EndsBy run NoInput = run.lacks NoInput × run.idle × run.keeps
+EndsBy run NotRegular = run.refuses × run.idle × run.keeps
 EndsBy run LargeInput = run.lacks LargeInput × run.idle × run.keeps
 -- memory was refused before the serving, or to the writing
 EndsBy run NoMemory = (run.idle × run.keeps)
     ⊎ ((output : List ℕ) × run.serves served.Exit output × run.fails output NoMemory)
 EndsBy run NoOutput = (output : List ℕ) × run.serves served.Exit output × run.fails output NoOutput
 -- what was to be written over stays as it is
-EndsBy run Changed = (output : List ℕ) × run.serves served.Exit output × run.changed × run.keeps
+EndsBy run Changed = (output : List ℕ) × run.serves served.Exit output × run.changed output
 EndsBy run Unchanged = (output : List ℕ) × run.serves served.Exit output × run.same output × run.keeps
 -- after an exit the output is written
 EndsBy run (Ended served.Exit) = (output : List ℕ) × run.serves served.Exit output × run.writes output
@@ -140,31 +162,37 @@ EndsBy run (Ended served.NoMemory) = (output : List ℕ) × run.serves served.No
 abbrev pub doings : Line → InputSeen → OutputSeen → CommandsSeen → TerminalSeen → Doings
 doings line input output commands term = record {
   lacks = input.lacks;
+  refuses = IsTrue line.in_place × input.is_irregular;
   idle = commands.still × term.still;
   keeps = output.keeps;
   serves = ServesInput line input.is_input commands term;
-  writes = output.writes;
+  writes = λ bytes. (IsTrue (replaces_input line) → output.is_as_read bytes) × output.writes bytes;
   fails = output.fails;
-  same = λ bytes. IsTrue line.in_place × output.has bytes;
-  changed = IsTrue line.in_place × output.changed;
+  same = λ bytes. IsTrue (replaces_input line) × output.has bytes;
+  changed = λ bytes. IsTrue (replaces_input line) × output.changed bytes;
 }
 
 -- what may be done after a serving that ended so, with this output
 abbrev pub doings_after : Served → List ℕ → Type 0 → OutputSeen → Doings
-doings_after served output in_place to = record {
+doings_after served output over to = record {
   lacks = λ fate. ⊥;
+  refuses = ⊥;
   idle = ⊥;
   keeps = to.keeps;
   serves = λ end bytes. (end ≡ served) × (bytes ≡ output);
-  writes = to.writes;
+  writes = λ bytes. (over → to.is_as_read bytes) × to.writes bytes;
   fails = to.fails;
-  same = λ bytes. in_place × to.has bytes;
-  changed = in_place × to.changed;
+  same = λ bytes. over × to.has bytes;
+  changed = λ bytes. over × to.changed bytes;
 }
 
 -- A file as the input, and a file as the output.
 abbrev pub named_input : {I : Type 0} → DiskSeen I → DiskSeen I → List ℕ → InputSeen
-named_input old new name = record { lacks = LacksInput old new name; is_input = IsInput old.files name }
+named_input old new name = record {
+  lacks = LacksInput old new name;
+  is_irregular = IsStream old.files old.streams name;
+  is_input = IsInput old.files name;
+}
 
 abbrev pub named_output : {I : Type 0} → DiskSeen I → DiskSeen I → List ℕ → OutputSeen
 named_output old new name = record {
@@ -172,12 +200,13 @@ named_output old new name = record {
   writes = WritesOutput old new name;
   fails = FailsToWrite old new name;
   has = λ bytes. (before : Files) → old.files ≡ Some before → before name ≡ Some bytes;
-  changed = new.changed name;
+  is_as_read = λ bytes. new.asked name old.files (λ before now. old.streams name ≡ None → HasDraft name bytes before now);
+  changed = FindsChange old new name;
 }
 
 -- The input was read already, and is this.
 abbrev pub given_input : List ℕ → InputSeen
-given_input bytes = record { lacks = λ fate. ⊥; is_input = λ input. input ≡ bytes }
+given_input bytes = record { lacks = λ fate. ⊥; is_irregular = ⊥; is_input = λ input. input ≡ bytes }
 
 -- The source was read, and that ended by a fault.
 pub record FailsToStream {S : Type 0} (source : SourceView S) (old new : S) (fate : Fate) : Type 0 where
@@ -188,7 +217,7 @@ pub record FailsToStream {S : Type 0} (source : SourceView S) (old new : S) (fat
 -- the program's own standard input
 abbrev pub standard_input : {S : Type 0} → SourceView S → S → S → InputSeen
 standard_input source old new =
-    record { lacks = FailsToStream source old new; is_input = IsStreamed source old new }
+    record { lacks = FailsToStream source old new; is_irregular = ⊥; is_input = IsStreamed source old new }
 
 -- a stream, or a file
 abbrev pub input_from : Bool → InputSeen → InputSeen → InputSeen
@@ -210,7 +239,8 @@ standard_output screen between new = record {
   writes = λ bytes. Shows (screen between) (screen new) bytes false;
   fails = FailsToPut (screen between) (screen new);
   has = λ bytes. ⊥;
-  changed = ⊥;
+  is_as_read = λ bytes. ⊤;
+  changed = λ bytes. ⊥;
 }
 
 -- A run ends so, with its output in the file of this name, or on the terminal; then no file changes.
@@ -232,10 +262,10 @@ EndsIn false line name run fate = EndsInFile line name run fate
 -- After a serving a run ends so, with its output on the terminal, or in the file of this name.
 abbrev pub FinishesIn : {I T : Type 0} → Bool → Served → List ℕ → Bool → List ℕ → DiskSeen I → DiskSeen I → (T → Screen)
     → T → T → Fate → Type 0
-FinishesIn true served output in_place name before after screen old new fate =
+FinishesIn true served output over name before after screen old new fate =
     EndsBy (doings_after served output ⊥ (standard_output screen old new)) fate × KeepsDisk before after
-FinishesIn false served output in_place name before after screen old new fate =
-    EndsBy (doings_after served output (IsTrue in_place) (named_output before after name)) fate × (new ≡ old)
+FinishesIn false served output over name before after screen old new fate =
+    EndsBy (doings_after served output (IsTrue over) (named_output before after name)) fate × (new ≡ old)
 
 -- A run of the program over this input of its line ends so.
 pub record Edits {I T : Type 0} (line : Line) (input : List ℕ) (run : RunSeen I T) (fate : Fate) : Type 0 where

@@ -38,6 +38,8 @@ terminal_seen screen old new = record { still = new ≡ old; showed = Shows (scr
 pub record InputSeen : Type 1 where
   -- why there is no input: by how the run ends
   pub lacks : Fate → Type 0
+  -- it is no regular file
+  pub is_irregular : Type 0
   -- these bytes are the input
   pub is_input : List ℕ → Type 0
 
@@ -51,8 +53,10 @@ pub record OutputSeen : Type 1 where
   pub fails : List ℕ → Fate → Type 0
   -- these bytes are there already
   pub has : List ℕ → Type 0
-  -- what is there has changed since it was read
-  pub changed : Type 0
+  -- with these bytes whole in a draft, what is there was seen to be as it was read
+  pub is_as_read : List ℕ → Type 0
+  -- what is there has changed since it was read, and these bytes were not written
+  pub changed : List ℕ → Type 0
 
 -- What is seen of one run: where its input comes from, its commands, and its disk and terminal before and after it.
 pub record RunSeen (I T : Type 0) : Type 1 where

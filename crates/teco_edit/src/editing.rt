@@ -1,17 +1,18 @@
 //! One run of the program: an input is read, commands are served over it, and the output is written.
-ghost use Rattle.std.specs.Prelude.{◌≡◌, ◌≤◌, IfErr, IfOk, IfSome, IsTrue, false, vec_len};
+ghost use Rattle.std.specs.Prelude.{◌≡◌, ◌≤◌, IfErr, IfOk, IfSome, IsTrue, false, true, vec_len};
 ghost use Rattle.std.specs.Option.{ForSome};
 ghost use Rattle.teco_core.specs.declared.limits.TheConstants.{DEPTH_LIMIT, FILE_LIMIT};
 ghost use Rattle.teco_line.specs.CommandLine.{IsDepth};
 ghost use Rattle.teco_option.specs.StreamNames.{is_standard_input, is_standard_output};
 ghost use Rattle.teco_serve.specs.Exchange.{HasRung};
-ghost use Rattle.teco_edit.specs.Run.{Edits, EndsBy, FinishesIn, FailsToStream, IsFateOf, LacksInput, depth_of, doings_after, given_input, history_over, input_from, named_input, named_output, standard_input, standard_output};
+ghost use Rattle.teco_edit.specs.Run.{Edits, EndsBy, FinishesIn, FailsToStream, IsFateOf, LacksInPlace, LacksInput, depth_of, doings_after, given_input, history_over, input_from, named_input, named_output, replaces_input, standard_input, standard_output};
 ghost use Rattle.teco_host.specs.Reading.{IsInput, IsStreamed};
 ghost use Rattle.teco_host.specs.Seen.{KeepsDisk, disk_seen, source_view};
 ghost use Rattle.teco_edit.specs.Seen.{commands_seen, run_seen};
 ghost use Rattle.teco_host.specs.Writing.{both};
 ghost use Rattle.teco_session.specs.Kept.{history_of};
 
+use crate::giving::is_streamed;
 use std::alloc::Global;
 use std::io;
 use std::io::ErrorKind;
@@ -19,7 +20,7 @@ use std::mem::ManuallyDrop;
 use teco_bytes::{Source, read_input};
 use teco_core::{FILE_LIMIT, NoMemory};
 use teco_files::Disk;
-use teco_host::{has_bytes, write_output};
+use teco_host::{Written, has_bytes, write_output};
 use teco_line::{Commands, Line};
 use teco_option::{is_standard_input, is_standard_output};
 use teco_serve::{Alarm, Bounds, Fate, Listens, Served, output_name, serve};
@@ -56,6 +57,51 @@ pub fn input_of_file<D: Disk>(alloc: Global, name: &str, disk: &mut D) -> Result
         Ok(input) => Ok(input),
         Err(fault) => Err(Fate::from(fault)),
     }
+}
+
+/// Reads a regular file whole, which is to be edited in place. If it `waits`, it first waits for other runs that do so with the file.
+fn input_in_place<D: Disk>(
+    alloc: Global,
+    name: &str,
+    waits: bool,
+    disk: &mut D,
+) -> Result<Vec<u8>, Fate>
+    ensures input { IfOk result (λ input. IsInput (D.files disk.old) name.now input.items) }
+    ensures small { IfOk result (λ input. vec_len input ≤ FILE_LIMIT) }
+    ensures fault { let seen = disk_seen D.files D.streams D.left D.gave D.changed
+        (source_view D.Input.coming D.Input.bound D.Input.failures D.Input.ended) in
+        IfErr result (LacksInPlace true (seen disk.old) (seen disk.new) name.now) }
+    ensures keeps { let seen = disk_seen D.files D.streams D.left D.gave D.changed
+        (source_view D.Input.coming D.Input.bound D.Input.failures D.Input.ended) in
+        KeepsDisk (seen disk.old) (seen disk.new) }
+{
+    let mut source = match disk.open_to_replace(name, waits) {
+        Ok(Some(source)) => source,
+        Ok(None) => return Err(Fate::NotRegular),
+        Err(error) => return Err(fate_of(error, Fate::NoInput)),
+    };
+    match read_input(alloc, &mut source, FILE_LIMIT) {
+        Ok(input) => Ok(input),
+        Err(fault) => Err(Fate::from(fault)),
+    }
+}
+
+/// Reads an input of the line whole, which is a file. A run waits for others that edit the file in place only if it has its commands
+/// already: one that awaits them may take hours.
+fn input_of<D: Disk>(alloc: Global, line: &Line, name: &str, disk: &mut D) -> Result<Vec<u8>, Fate>
+    ensures input { IfOk result (λ input. IsInput (D.files disk.old) name.now input.items) }
+    ensures small { IfOk result (λ input. vec_len input ≤ FILE_LIMIT) }
+    ensures fault { let seen = disk_seen D.files D.streams D.left D.gave D.changed
+        (source_view D.Input.coming D.Input.bound D.Input.failures D.Input.ended) in
+        IfErr result (LacksInPlace line.now.in_place (seen disk.old) (seen disk.new) name.now) }
+    ensures keeps { let seen = disk_seen D.files D.streams D.left D.gave D.changed
+        (source_view D.Input.coming D.Input.bound D.Input.failures D.Input.ended) in
+        KeepsDisk (seen disk.old) (seen disk.new) }
+{
+    if line.in_place {
+        return input_in_place(alloc, name, !is_streamed(line), disk);
+    }
+    input_of_file(alloc, name, disk)
 }
 
 /// Reads standard input to its end.
@@ -95,33 +141,17 @@ fn session_over(line: &Line, input: Vec<u8>) -> Result<Session, NoMemory>
     Session::with_pages(input, lines, depth_of(line))
 }
 
-/// How a run ends that is to write its output over the file that was read, where that has changed since, or has these bytes already.
-fn found_in_place<D: Disk>(
-    in_place: bool,
-    name: &str,
-    output: (&[u8], &[u8]),
-    disk: &mut D,
-) -> Option<Fate>
-    ensures found { let seen = disk_seen D.files D.streams D.left D.gave D.changed
-        (source_view D.Input.coming D.Input.bound D.Input.failures D.Input.ended) in
-        IfSome result (EndsBy (doings_after Served.Exit (both output.entry) (IsTrue in_place)
-        (named_output (seen disk.old) (seen disk.new) name.now))) }
-    ensures keeps { let seen = disk_seen D.files D.streams D.left D.gave D.changed
-        (source_view D.Input.coming D.Input.bound D.Input.failures D.Input.ended) in
-        KeepsDisk (seen disk.old) (seen disk.new) }
+/// Whether the output goes over the file that is read: the line says so, or its output has the name of its input.
+fn replaces_input(line: &Line) -> bool
+    ensures { result ≡ replaces_input line.now }
 {
-    if !in_place {
-        return None;
+    if line.in_place {
+        return true;
     }
-    match disk.is_as_read(name) {
-        Ok(true) => {}
-        Ok(false) => return Some(Fate::Changed),
-        Err(error) => return Some(fate_of(error, Fate::NoOutput)),
+    match &line.output {
+        Some(name) => name.as_str() == line.input.as_str(),
+        None => false,
     }
-    if has_bytes(name, output, disk) {
-        return Some(Fate::Unchanged);
-    }
-    None
 }
 
 /// Shows the output after an exit, after all that was typed.
@@ -138,10 +168,58 @@ fn put_on_terminal<T: Terminal>(output: (&[u8], &[u8]), term: &mut T) -> Fate
     }
 }
 
+/// Writes the output over the file that was read, under its name. That has to be what it was, and stays as it is if it has these bytes.
+fn put_over_input<D: Disk>(
+    alloc: Global,
+    name: &str,
+    number: u32,
+    output: (&[u8], &[u8]),
+    disk: &mut D,
+) -> Fate
+    ensures { let seen = disk_seen D.files D.streams D.left D.gave D.changed
+        (source_view D.Input.coming D.Input.bound D.Input.failures D.Input.ended) in
+        EndsBy (doings_after Served.Exit (both output.entry) (IsTrue true)
+        (named_output (seen disk.old) (seen disk.new) name.now)) result }
+{
+    if has_bytes(name, output, disk) {
+        return Fate::Unchanged;
+    }
+    match write_output(alloc, disk, name, number, Some(name), output) {
+        Ok(Written::Whole) => Fate::Ended(Served::Exit),
+        Ok(Written::Changed) => Fate::Changed,
+        Err(error) => fate_of(error, Fate::NoOutput),
+    }
+}
+
+/// Writes the output to a file, which is the one that was read if it goes `over` that.
+fn put_in_file<D: Disk>(
+    alloc: Global,
+    over: bool,
+    name: &str,
+    number: u32,
+    output: (&[u8], &[u8]),
+    disk: &mut D,
+) -> Fate
+    ensures { let seen = disk_seen D.files D.streams D.left D.gave D.changed
+        (source_view D.Input.coming D.Input.bound D.Input.failures D.Input.ended) in
+        EndsBy (doings_after Served.Exit (both output.entry) (IsTrue over)
+        (named_output (seen disk.old) (seen disk.new) name.now)) result }
+{
+    if over {
+        return put_over_input(alloc, name, number, output, disk);
+    }
+    match write_output(alloc, disk, name, number, None, output) {
+        Ok(Written::Whole) => Fate::Ended(Served::Exit),
+        // no file is named that was read, so none has changed
+        Ok(Written::Changed) => unreachable!(),
+        Err(error) => fate_of(error, Fate::NoOutput),
+    }
+}
+
 /// What is done after a serving: after an exit the output is written to where the line says.
 fn finish<T: Terminal, D: Disk>(
     alloc: Global,
-    in_place: bool,
+    over: bool,
     name: &str,
     number: u32,
     served: Served,
@@ -151,7 +229,7 @@ fn finish<T: Terminal, D: Disk>(
 ) -> Fate
     ensures { let seen = disk_seen D.files D.streams D.left D.gave D.changed
         (source_view D.Input.coming D.Input.bound D.Input.failures D.Input.ended) in
-        FinishesIn (is_standard_output name.now) served (both output.entry) in_place name.now
+        FinishesIn (is_standard_output name.now) served (both output.entry) over name.now
         (seen disk.old) (seen disk.new) T.screen term.old term.new result }
 {
     match served {
@@ -161,13 +239,7 @@ fn finish<T: Terminal, D: Disk>(
     if is_standard_output(name) {
         return put_on_terminal(output, term);
     }
-    if let Some(fate) = found_in_place(in_place, name, output, disk) {
-        return fate;
-    }
-    match write_output(alloc, disk, name, number, output) {
-        Ok(()) => Fate::Ended(Served::Exit),
-        Err(error) => fate_of(error, Fate::NoOutput),
-    }
+    put_in_file(alloc, over, name, number, output, disk)
 }
 
 /// Gives up a session that is over.
@@ -221,7 +293,7 @@ fn edit_over<S: Source, A: Alarm, T: Terminal, L: Listens, D: Disk>(
     );
     let fate = finish(
         alloc,
-        line.in_place,
+        replaces_input(line),
         to.as_str(),
         number,
         served,
@@ -253,7 +325,7 @@ pub fn edit_file<S: Source, A: Alarm, T: Terminal, L: Listens, D: Disk>(
         (HasRung A.answered))
         (seen disk.old) (seen disk.new) T.screen term.old term.new) result }
 {
-    match input_of_file(alloc, name, disk) {
+    match input_of(alloc, line, name, disk) {
         Ok(input) => edit_over(
             alloc, line, name, number, input, commands, alarm, term, listener, disk,
         ),

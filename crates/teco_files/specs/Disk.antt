@@ -74,6 +74,10 @@ abbrev pub Opens : Option Files → List ℕ → Option (List ℕ) → Type 0
 Opens files name coming = (before : Files) → files ≡ Some before
     → (bytes : List ℕ) × (before name ≡ Some bytes) × (coming ≡ Some bytes)
 
+-- Where the files are told, this is the name of a stream.
+abbrev pub IsStream : Option Files → Files → List ℕ → Type 0
+IsStream files streams name = files ≢ None → (given : List ℕ) × (streams name ≡ Some given)
+
 -- The target is the file of this name, which is no stream's; or it is a stream.
 abbrev pub IsTargetOf : Files → List ℕ → Target → Type 0
 IsTargetOf streams name (target.File to) = (string_bytes to ≡ name) × (streams name ≡ None)

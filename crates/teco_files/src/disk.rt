@@ -3,8 +3,8 @@ ghost use Rattle.std.specs.IoError.{error_kind};
 ghost use Rattle.std.specs.Prelude.{◌≡◌, ◌≢◌, ◌⊎◌, ◌++◌, ℕ, List, Option, IfErr, OnErr, OnOk};
 ghost use Rattle.std.specs.declared.io.Error.{Error};
 ghost use Rattle.std.specs.declared.io.ErrorKind.{ErrorKind};
-ghost use Rattle.std.specs.Prelude.{[], None, Some, IfOk, IsSome, true, false};
-ghost use Rattle.teco_files.specs.Disk.{Appends, Changes, Counts, Creates, Files, IsTargetOf, Opens, Passes, Removes, Renames, Same, SameBut};
+ghost use Rattle.std.specs.Prelude.{[], None, Some, IfOk, IfSome, IsNone, IsSome, true, false};
+ghost use Rattle.teco_files.specs.Disk.{Appends, Changes, Counts, Creates, Files, IsStream, IsTargetOf, Opens, Passes, Removes, Renames, Same, SameBut};
 
 use crate::target::Target;
 use std::io;
@@ -55,10 +55,31 @@ pub trait Disk {
         ensures count { Counts result (failures self.old) (failures self.new) }
         ensures error { IfErr result (gave self.new) };
 
+    /// Opens a regular file that is to be replaced once it was read. What is no regular file is not opened: there is nothing to replace,
+    /// and a pipe would wait for its writer. If it `waits`, it first waits for each other run that opened the file so and waited.
+    fn open_to_replace(&mut self, name: &str, waits: bool) -> io::Result<Option<Self::Input>>
+        ensures input { IfOk result (λ found. IfSome found (λ input. Opens (files self.old) name.now (Self.Input.coming input))) }
+        ensures other { IfOk result (λ found. IsNone found → IsStream (files self.old) (streams self.old) name.now) }
+        ensures files { files self.new ≡ files self.old }
+        ensures streams { streams self.new ≡ streams self.old }
+        ensures moments { (files : Files) → left self.new files → left self.old files }
+        ensures count { Counts result (failures self.old) (failures self.new) }
+        ensures error { IfErr result (gave self.new) };
+
+    /// Opens a file once more, to be compared. [`Disk::is_as_read`] still speaks of the one that was opened to be read.
+    fn reopen(&mut self, name: &str) -> io::Result<Self::Input>
+        ensures input { IfOk result (λ input. Opens (files self.old) name.now (Self.Input.coming input)) }
+        ensures files { files self.new ≡ files self.old }
+        ensures streams { streams self.new ≡ streams self.old }
+        ensures moments { (files : Files) → left self.new files → left self.old files }
+        ensures count { Counts result (failures self.old) (failures self.new) }
+        ensures error { IfErr result (gave self.new) };
+
     /// Whether the file of this name is still what it was when it was opened, if it is the one that was opened last.
     fn is_as_read(&mut self, name: &str) -> io::Result<bool>
         ensures told { IfOk result (λ same. same ≡ false → changed self.new name.now) }
         ensures right { IfOk result (λ same. same ≡ true → changed self.new name.now → ⊥) }
+        ensures kept { (file : List ℕ) → kept self.old file → kept self.new file }
         ensures files { files self.new ≡ files self.old }
         ensures streams { streams self.new ≡ streams self.old }
         ensures moments { (files : Files) → left self.new files → left self.old files }
@@ -144,6 +165,7 @@ pub trait Disk {
         ensures streams { streams self.new ≡ streams self.old }
         ensures moments { Passes (files self.old) (left self.old) (left self.new) (SameBut name.now) }
         ensures count { failures self.new ≡ failures self.old }
+        ensures changed { (file : List ℕ) → changed self.old file → changed self.new file }
         ensures errors { (error : Error) → gave self.old error → gave self.new error };
 
     /// What the last call failed by, of those whose failures are counted. None has failed if there is nothing.

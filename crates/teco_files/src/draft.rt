@@ -4,10 +4,9 @@ use std::io;
 use std::os::fd::AsFd;
 use std::os::unix::fs::{MetadataExt, OpenOptionsExt, PermissionsExt, fchown};
 
-/// Opens a new file. What has the name already, a link too, is left as it is, and the call fails.
-/// If other permissions are to follow, it is for its owner alone at first; else it has those of each new file.
-pub fn open_new<R: Files>(rt: &R, name: &str, is_private: bool) -> io::Result<R::File> {
-    let mode = if is_private { 0o600 } else { 0o666 };
+/// Opens a new file with these permissions, as far as the process gives them to new files. What has the name already, a link too, is left
+/// as it is, and the call fails.
+pub fn open_new<R: Files>(rt: &R, name: &str, mode: u32) -> io::Result<R::File> {
     OpenOptions::new()
         .write(true)
         .create_new(true)
@@ -20,11 +19,6 @@ fn without_group(mode: u32) -> u32 {
     (mode & 0o707) | ((mode & 0o7) << 3)
 }
 
-/// Gives a file these permissions, if the system lets us.
-pub fn give_mode<F: OpenFile>(file: &F, mode: u32) {
-    let _ = file.set_permissions(Permissions::from_mode(mode));
-}
-
 /// Gives a file the group, the owner and the permissions of another, as far as the system lets us. The permissions come last, so
 /// that nobody may meanwhile do more than in the end.
 pub fn make_like<F: OpenFile + AsFd>(file: &F, old: &Metadata) {
@@ -35,5 +29,5 @@ pub fn make_like<F: OpenFile + AsFd>(file: &F, old: &Metadata) {
         (false, true) => old.mode() & 0o777,
         (_, false) => without_group(old.mode()),
     };
-    give_mode(file, mode);
+    let _ = file.set_permissions(Permissions::from_mode(mode));
 }

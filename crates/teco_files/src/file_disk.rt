@@ -2,8 +2,9 @@
 ghost use Rattle.std.specs.Prelude.{◌≡◌, ⊤, true, None, Some};
 
 use crate::disk::Disk;
-use crate::draft::{give_mode, make_like, open_new};
+use crate::draft::{make_like, open_new};
 use crate::failures::Failures;
+use crate::lock::{Lock, hold};
 use crate::target::{Target, append, is_same_file, known, target_of};
 use std::fs::{Files, Metadata, OpenFile};
 use std::io::{ErrorKind, Write};
@@ -12,12 +13,20 @@ use std::os::unix::fs::MetadataExt;
 use std::{fs, io};
 use teco_bytes::ReaderSource;
 
+/// The permissions of a new file that takes the place of no other, if the file that was opened last has none for it.
+const NEW_FILE: u32 = 0o666;
+
+/// The permissions of a draft until it has those of the file whose place it is to take: it is for its owner alone.
+const PRIVATE: u32 = 0o600;
+
 /// The files of the system, of which no clause tells what they hold.
 #[derive(Drop)]
 pub struct FileDisk<'a, R: Files> {
     rt: &'a R,
     // the file that was opened last, as it was then
     opened: Option<Metadata>,
+    // the file that was opened to be replaced, if other runs have to wait for this one
+    held: Option<R::File>,
     // the file whose place a new one is to take
     replaced: Option<Metadata>,
     // whether the file that was last asked about was not as it was when it was opened
@@ -40,7 +49,30 @@ fn open_noted<R: Files>(
     Ok(ReaderSource::new(file))
 }
 
-/// Whether both are there, and are the same file, of the same size, which nobody has written to since.
+/// Opens a regular file, and notes what it is. It is looked at before it is opened, since a pipe would wait for its writer. The file that
+/// was held before is let go first: whoever waits for it must not wait for this one too.
+fn open_regular<R: Files>(
+    rt: &R,
+    name: &str,
+    waits: bool,
+    opened: &mut Option<Metadata>,
+    held: &mut Option<R::File>,
+) -> io::Result<Option<ReaderSource<R::File>>>
+where
+    R::File: Lock,
+{
+    *held = None;
+    if !fs::metadata(rt, name)?.is_file() {
+        return Ok(None);
+    }
+    if waits {
+        *held = hold(rt, name)?;
+    }
+    Ok(Some(open_noted(rt, name, opened)?))
+}
+
+/// Whether both are there, and are the same file, of the same size, which nobody has written to since. A time that was put back shows by
+/// the time at which what is known of the file changed, which nobody can put back.
 fn is_unchanged(was: &Option<Metadata>, now: &Option<Metadata>) -> bool {
     match (was, now) {
         (Some(was), Some(now)) => {
@@ -48,17 +80,21 @@ fn is_unchanged(was: &Option<Metadata>, now: &Option<Metadata>) -> bool {
                 && was.size() == now.size()
                 && was.mtime() == now.mtime()
                 && was.mtime_nsec() == now.mtime_nsec()
+                && was.ctime() == now.ctime()
+                && was.ctime_nsec() == now.ctime_nsec()
         }
         _ => false,
     }
 }
 
 impl<'a, R: Files> FileDisk<'a, R> {
-    /// The files of the system. A new one is made like the one that it is to replace, if there is one, and else has the permissions of the file that was opened last.
+    /// The files of the system. A new one is made like the one that it is to replace, if there is one, and else has the permissions of the
+    /// file that was opened last, as far as the process gives them to new files.
     pub fn new(rt: &'a R) -> FileDisk<'a, R> {
         FileDisk {
             rt,
             opened: None,
+            held: None,
             replaced: None,
             changed: false,
             failures: Failures {
@@ -68,18 +104,29 @@ impl<'a, R: Files> FileDisk<'a, R> {
         }
     }
 
-    /// The permissions that a new file is to have: those of the file that was opened last, if that was no device and no pipe.
-    fn mode_of_new(&self) -> Option<u32> {
-        match &self.opened {
-            Some(input) if input.is_file() => Some(input.mode() & 0o777),
-            _ => None,
+    /// The permissions with which a draft is made.
+    fn mode_of_draft(&self) -> u32 {
+        match (&self.replaced, &self.opened) {
+            (Some(_), _) => PRIVATE,
+            (None, Some(input)) if input.is_file() => input.mode() & 0o777,
+            (None, _) => NEW_FILE,
+        }
+    }
+
+    /// Whether a new file would take the place of the file that was opened last, though that has changed since.
+    fn would_lose(&self, name: &str) -> io::Result<bool> {
+        match (&self.opened, &self.replaced) {
+            (Some(opened), Some(replaced)) if is_same_file(opened, replaced) => {
+                Ok(!is_unchanged(&self.opened, &known(self.rt, name)?))
+            }
+            _ => Ok(false),
         }
     }
 }
 
 impl<'a, R: Files + AllocGlobal> Disk for FileDisk<'a, R>
 where
-    R::File: AsFd,
+    R::File: AsFd + Lock,
 {
     type Input = ReaderSource<R::File>;
 
@@ -108,6 +155,20 @@ where
         self.failures.counted(opened)
     }
 
+    fn open_to_replace(
+        &mut self,
+        name: &str,
+        waits: bool,
+    ) -> io::Result<Option<ReaderSource<R::File>>> {
+        let opened = open_regular(self.rt, name, waits, &mut self.opened, &mut self.held);
+        self.failures.counted(opened)
+    }
+
+    fn reopen(&mut self, name: &str) -> io::Result<ReaderSource<R::File>> {
+        let opened = open_noted(self.rt, name, &mut None);
+        self.failures.counted(opened)
+    }
+
     fn is_as_read(&mut self, name: &str) -> io::Result<bool> {
         let now = known(self.rt, name);
         match self.failures.counted(now) {
@@ -131,8 +192,7 @@ where
     }
 
     fn make(&mut self, name: &str) -> io::Result<R::File> {
-        let is_private = self.replaced.is_some() || self.mode_of_new().is_some();
-        let made = open_new(self.rt, name, is_private);
+        let made = open_new(self.rt, name, self.mode_of_draft());
         self.failures.counted(made)
     }
 
@@ -144,8 +204,6 @@ where
     fn make_like(&mut self, draft: &R::File, _name: &str) {
         if let Some(old) = &self.replaced {
             make_like(draft, old);
-        } else if let Some(mode) = self.mode_of_new() {
-            give_mode(draft, mode);
         }
     }
 
@@ -155,7 +213,11 @@ where
     }
 
     fn rename(&mut self, from: &str, to: &str) -> io::Result<()> {
-        let renamed = fs::rename(self.rt, from, to);
+        let renamed = match self.would_lose(to) {
+            Ok(false) => fs::rename(self.rt, from, to),
+            Ok(true) => Err(io::Error::from(ErrorKind::ResourceBusy)),
+            Err(error) => Err(error),
+        };
         self.failures.counted(renamed)
     }
 

@@ -5,10 +5,13 @@ mod disk;
 mod draft;
 mod failures;
 mod file_disk;
+mod lock;
 mod memory_disk;
+mod standard;
 mod target;
 
 pub use disk::Disk;
 pub use file_disk::FileDisk;
 pub use memory_disk::{MemoryDisk, Refused};
+pub use standard::hold_standard_streams;
 pub use target::Target;

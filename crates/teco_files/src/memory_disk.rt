@@ -1,7 +1,7 @@
 //! Files in memory.
-ghost use Rattle.std.specs.Prelude.{◌≡◌, ⊤, true, IfOk, Some};
+ghost use Rattle.std.specs.Prelude.{◌≡◌, ⊤, true, IfOk, IfSome, IsNone, Some};
 ghost use Rattle.teco_files.specs.declared.memory_disk.Refused.TheVariants.{Changed};
-ghost use Rattle.teco_files.specs.Disk.{IsTargetOf};
+ghost use Rattle.teco_files.specs.Disk.{IsStream, IsTargetOf, Opens};
 ghost use Rattle.teco_files.specs.FileLog.{WereOnce, files_of};
 
 use crate::disk::Disk;
@@ -10,7 +10,7 @@ use crate::target::Target;
 use std::alloc::Global;
 use std::io;
 use std::io::ErrorKind;
-use teco_bytes::MemorySource;
+use teco_bytes::{MemorySource, Source};
 use teco_core::NoMemory;
 
 mod log;
@@ -98,6 +98,23 @@ fn target_among(devices: &Log, alloc: Global, name: &str) -> io::Result<Target>
     }
 }
 
+/// The file of this name, opened, unless a device has the name.
+fn regular_in(
+    log: &Log,
+    devices: &Log,
+    refused: Refused,
+    name: &str,
+) -> io::Result<Option<MemorySource>>
+    ensures input { IfOk result (λ found. IfSome found
+        (λ input. Opens (Some (files_of log.now)) name.now (⟦<MemorySource as Source>⟧.coming input))) }
+    ensures other { IfOk result (λ found. IsNone found → IsStream (Some (files_of log.now)) (files_of devices.now) name.now) }
+{
+    match devices.bytes(name) {
+        Some(_) => Ok(None),
+        None => Ok(Some(log.opened(refused, name)?)),
+    }
+}
+
 impl Disk for MemoryDisk {
     type Input = MemorySource;
 
@@ -126,6 +143,15 @@ impl Disk for MemoryDisk {
     fn open(&mut self, name: &str) -> io::Result<MemorySource> {
         let opened = self.log.opened(self.refused, name);
         self.failures.counted(opened)
+    }
+
+    fn open_to_replace(&mut self, name: &str, _waits: bool) -> io::Result<Option<MemorySource>> {
+        let opened = regular_in(&self.log, &self.devices, self.refused, name);
+        self.failures.counted(opened)
+    }
+
+    fn reopen(&mut self, name: &str) -> io::Result<MemorySource> {
+        self.open(name)
     }
 
     fn is_as_read(&mut self, _name: &str) -> io::Result<bool> {

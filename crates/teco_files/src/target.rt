@@ -1,7 +1,7 @@
 //! What has the name of the output file.
 use std::fs::{Files, Metadata, OpenFile, OpenOptions};
 use std::io::{ErrorKind, Write};
-use std::os::unix::fs::MetadataExt;
+use std::os::unix::fs::{FileTypeExt, MetadataExt};
 use std::path::Path;
 use std::{fs, io};
 
@@ -10,6 +10,9 @@ const LINKS: u32 = 40;
 
 /// The names of the program's own standard output.
 const STANDARD_OUTPUT: [&str; 2] = ["/dev/fd/1", "/proc/self/fd/1"];
+
+/// The folder of the process's own descriptors, each a link to what it leads to.
+const DESCRIPTORS: &str = "/proc/self/fd";
 
 /// Where the output goes.
 #[derive(Drop)]
@@ -35,12 +38,24 @@ fn is_standard_output<R: Files>(rt: &R, file: &Metadata) -> bool {
     false
 }
 
-/// The name at the end of the links that begin at this one; the name itself, if it is no link. There may be no file of it.
+/// Whether a link is one that the system makes for a descriptor of a process: all of these lie on one file system.
+fn is_descriptor<R: Files>(rt: &R, link: &str) -> io::Result<bool> {
+    match known(rt, DESCRIPTORS)? {
+        Some(folder) => Ok(fs::symlink_metadata(rt, link)?.dev() == folder.dev()),
+        None => Ok(false),
+    }
+}
+
+/// The name at the end of the links that begin at this one; the name itself, if it is no link. There may be no file of it. A name that
+/// leads to a descriptor is refused: a file that replaced the descriptor's would not be the one that its other holders write to.
 fn end_of_links<R: Files + AllocGlobal>(rt: &R, name: &str) -> io::Result<String> {
     let mut end = String::from_str(rt.alloc(), name)?;
     for _ in 0..LINKS {
         match fs::read_link(rt, end.as_str()) {
             Ok(next) => {
+                if is_descriptor(rt, end.as_str())? {
+                    return Err(io::Error::from(ErrorKind::ResourceBusy));
+                }
                 let path = Path::new(end.as_str()).with_file_name(rt.alloc(), next.as_str())?;
                 end = path.into_string();
             }
@@ -79,7 +94,8 @@ fn file_to_write<R: Files>(rt: &R, name: &str) -> io::Result<Metadata> {
 }
 
 /// Where the output of this name goes. What the file is tells that, and not where its name lies. A file has to be one that may be
-/// written; what is known of it is put into `replaced`, which is nothing where no file is there.
+/// written; what is known of it is put into `replaced`, which is nothing where no file is there. A disk is refused: it has no end after
+/// which something could be put.
 ///
 /// Links are followed to their end, so that they stay what they are. A link that leads to nothing makes the file that it leads
 /// to, as `> link` does in a shell. The links are those that the system followed just before: one that it doesn't follow, as
@@ -93,6 +109,9 @@ pub fn target_of<R: Files + AllocGlobal>(
     if let Some(about) = &there {
         if about.is_dir() {
             return Err(io::Error::from(ErrorKind::IsADirectory));
+        }
+        if about.file_type().is_block_device() {
+            return Err(io::Error::from(ErrorKind::Unsupported));
         }
         if !about.is_file() {
             *replaced = None;

@@ -1,7 +1,7 @@
 -- What is seen of what a run changes: its disk, its standard input and its terminal.
 use Rattle.std.specs.Prelude.{◌≡◌, ℕ, List, Option, Bool, false}
 use Rattle.std.specs.declared.io.Error.{Error}
-use Rattle.teco_files.specs.Disk.{Files}
+use Rattle.teco_files.specs.Disk.{Changes, Files}
 use Rattle.teco_option.specs.StreamNames.{is_standard_input}
 
 -- how a source is seen at each of its states
@@ -19,6 +19,14 @@ abbrev pub source_view : {S : Type 0} → (S → Option (List ℕ)) → (S → �
 source_view coming bound failures ended =
     record { coming = coming; bound = bound; failures = failures; ended = ended }
 
+-- A disk was asked whether the file of this name is what it was when it was opened, and said so. Then its files were related so to those
+-- from before.
+pub record IsAsked {D : Type 0} (files : D → Option Files) (changed : D → List ℕ → Type 0) (name : List ℕ) (before : Option Files)
+    (change : Files → Files → Type 0) : Type 0 where
+  pub disk : D
+  pub then : Changes before (files disk) change
+  pub as_read : changed disk name → ⊥
+
 -- what is seen of a disk at a moment; `I` is what its files are read from
 pub record DiskSeen (I : Type 0) : Type 1 where
   -- the files, where the disk tells them
@@ -31,6 +39,8 @@ pub record DiskSeen (I : Type 0) : Type 1 where
   pub gave : Error → Type 0
   -- the file of this name isn't what it was when it was opened
   pub changed : List ℕ → Type 0
+  -- with files that are related so to those from before, it was asked and said that the file of this name is what it was
+  pub asked : List ℕ → Option Files → (Files → Files → Type 0) → Type 0
   -- how a file that it has opened is seen
   pub input : SourceView I
 
@@ -42,6 +52,7 @@ disk_seen files streams left gave changed input disk = record {
   left = left disk;
   gave = gave disk;
   changed = changed disk;
+  asked = IsAsked files changed;
   input = input;
 }
 

@@ -1,11 +1,13 @@
 -- Writing the output: what it leaves of the files, and what it may fail by.
-use Rattle.std.specs.Prelude.{◌≡◌, ◌≢◌, ◌⊎◌, ◌++◌, ℕ, List, Option, Some, None}
+use Rattle.std.specs.Prelude.{◌≡◌, ◌≢◌, ◌⊎◌, ◌++◌, ⊤, ℕ, List, Option, Some, None, Result, Ok, Err}
 use Rattle.std.specs.Borrow.{Bor}
 use Rattle.std.specs.IoError.{error_kind}
 use Rattle.std.specs.declared.io.Error.{Error}
 use Rattle.std.specs.declared.io.ErrorKind.TheVariants.{AlreadyExists, OutOfMemory}
-use Rattle.teco_files.specs.Disk.{Changes, Files, Passes, Same, SameBut}
+use Rattle.teco_files.specs.Disk.{Changes, Files, Passes, Renames, Same, SameBut}
 use Rattle.teco_host.specs.Draft.{draft_beside}
+use Rattle.teco_host.specs.declared.output.Written.{Written}
+use Rattle.teco_host.specs.declared.output.Written.TheVariants.{Whole, Changed}
 use Rattle.teco_host.specs.Seen.{DiskSeen}
 
 -- the bytes of two parts, one after the other
@@ -15,6 +17,37 @@ both parts = parts.0.now ++ parts.1.now
 -- The name is that of a draft of the file.
 abbrev pub IsDraftOf : List ℕ → List ℕ → Type 0
 IsDraftOf file name = (number : ℕ) × (name ≡ draft_beside file number)
+
+-- A draft of the file has all of these bytes.
+abbrev pub HasDraft : List ℕ → List ℕ → Files → Files → Type 0
+HasDraft file bytes before now = (draft : List ℕ) × IsDraftOf file draft × (now draft ≡ Some bytes)
+
+-- At a moment while a draft takes the file's name, or is removed.
+abbrev pub IsTaking : List ℕ → List ℕ → Files → Files → Type 0
+IsTaking draft file before now = Renames draft file before now ⊎ SameBut draft before now
+
+-- what holds if all of an output was written
+abbrev pub IfWhole : Result Written Error → Type 0 → Type 0
+IfWhole (Ok Whole) fact = fact
+IfWhole (Ok Changed) fact = ⊤
+IfWhole (Err error) fact = ⊤
+
+-- what holds if nothing was written, since the file has changed
+abbrev pub IfChanged : Result Written Error → Type 0 → Type 0
+IfChanged (Ok Whole) fact = ⊤
+IfChanged (Ok Changed) fact = fact
+IfChanged (Err error) fact = ⊤
+
+-- what holds if not all was written: the file has changed, or a call failed
+abbrev pub UnlessWhole : Result Written Error → Type 0 → Type 0
+UnlessWhole (Ok Whole) fact = ⊤
+UnlessWhole (Ok Changed) fact = fact
+UnlessWhole (Err error) fact = fact
+
+-- The file that was read, if one was, isn't what it was then.
+abbrev pub HasChanged : {D : Type 0} → (D → List ℕ → Type 0) → D → Option (Bor (List ℕ)) → Type 0
+HasChanged changed disk None = ⊥
+HasChanged changed disk (Some read) = changed disk read.now
 
 -- Each file that was there is as it was, and the file too if it was not there. There may be drafts more.
 pub record AddsDrafts (file : List ℕ) (before after : Files) : Type 0 where

@@ -15,7 +15,7 @@ pub fn has_bytes<D: Disk>(name: &str, bytes: (&[u8], &[u8]), disk: &mut D) -> bo
         (source_view D.Input.coming D.Input.bound D.Input.failures D.Input.ended) in
         KeepsDisk (seen disk.old) (seen disk.new) }
 {
-    match disk.open(name) {
+    match disk.reopen(name) {
         Ok(mut source) => gives_just(&mut source, bytes),
         Err(_) => false,
     }

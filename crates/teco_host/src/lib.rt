@@ -6,5 +6,5 @@ mod output;
 mod refusing;
 
 pub use comparing::has_bytes;
-pub use output::write_output;
+pub use output::{Written, write_output};
 pub use refusing::refuse;

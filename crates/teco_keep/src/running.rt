@@ -21,7 +21,7 @@ use std::process::ExitCode;
 use teco_bytes::Source;
 use teco_core::NoMemory;
 use teco_files::Disk;
-use teco_host::{refuse, write_output};
+use teco_host::{Written, refuse, write_output};
 use teco_option::{LineFault, is_standard_input, is_standard_output};
 use teco_terminal::{Terminal, TerminalFault};
 
@@ -71,8 +71,10 @@ fn put<T: Terminal, D: Disk>(
             Err(TerminalFault) => Err(Fate::NoOutput),
         };
     }
-    match write_output(alloc, disk, name, number, (bytes, &[])) {
-        Ok(()) => Ok(()),
+    match write_output(alloc, disk, name, number, None, (bytes, &[])) {
+        Ok(Written::Whole) => Ok(()),
+        // no file is named that was read, so none has changed
+        Ok(Written::Changed) => unreachable!(),
         Err(error) => Err(fate_of(error, Fate::NoOutput)),
     }
 }

@@ -9,7 +9,7 @@ use Rattle.teco_line.specs.declared.line.Commands.{Commands}
 use Rattle.teco_line.specs.declared.line.Commands.TheVariants.{StandardInput, Sources, Pages, Bytes}
 use Rattle.teco_line.specs.declared.line.Line.{Line}
 use Rattle.teco_serve.specs.declared.fate.Fate.{Fate}
-use Rattle.teco_serve.specs.declared.fate.Fate.TheVariants.{NoCommands, NoInput, LargeInput, NoMemory, NoOutput}
+use Rattle.teco_serve.specs.declared.fate.Fate.TheVariants.{NoCommands, NoInput, NotRegular, LargeInput, NoMemory, NoOutput}
 use Rattle.teco_serve.specs.declared.fate.Fate.TheVariants.{Changed, Unchanged}
 use Rattle.teco_serve.specs.declared.fate.Fate.TheVariants.{Ended}
 use Rattle.teco_serve.specs.declared.served.Served.TheVariants as served
@@ -51,6 +51,7 @@ commands_name line =
 abbrev pub status_of : Fate → ℕ
 status_of NoCommands = 1
 status_of NoInput = 1
+status_of NotRegular = 1
 status_of LargeInput = 1
 status_of NoMemory = 1
 status_of NoOutput = 1
@@ -70,6 +71,7 @@ said words = codes "teco: " ++ words ++ 10 ∷ []
 abbrev pub text_of : Line → List ℕ → Fate → List ℕ
 text_of line input NoCommands = said (codes "cannot read " ++ commands_name line)
 text_of line input NoInput = said (codes "cannot read " ++ input)
+text_of line input NotRegular = said (input ++ codes " is not a regular file")
 text_of line input LargeInput = said (input ++ codes " is too large")
 text_of line input NoMemory = said (about line input (codes "no memory"))
 text_of line input NoOutput = said (codes "cannot write " ++ output_of line input)

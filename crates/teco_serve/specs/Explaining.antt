@@ -15,7 +15,7 @@ use Rattle.teco_exec.specs.declared.place.Place.{Place}
 use Rattle.teco_line.specs.declared.line.Line.{Line}
 use Rattle.teco_host.specs.Refusing.{Tells}
 use Rattle.teco_serve.specs.declared.fate.Fate.{Fate}
-use Rattle.teco_serve.specs.declared.fate.Fate.TheVariants.{NoCommands, NoInput, LargeInput, NoMemory, NoOutput, Changed, Unchanged}
+use Rattle.teco_serve.specs.declared.fate.Fate.TheVariants.{NoCommands, NoInput, NotRegular, LargeInput, NoMemory, NoOutput, Changed, Unchanged}
 use Rattle.teco_serve.specs.declared.fate.Fate.TheVariants.{Ended}
 use Rattle.teco_serve.specs.declared.explaining.Telling.{Telling}
 use Rattle.teco_serve.specs.declared.served.Served.TheVariants as served
@@ -148,7 +148,7 @@ reason_of kind.QuotaExceeded = codes "there is no room on the disk"
 reason_of kind.ReadOnlyFilesystem = codes "the file system is read only"
 reason_of kind.FilesystemLoop = codes "its links lead in a circle"
 reason_of kind.InvalidFilename = codes "its name is too long"
-reason_of kind.ResourceBusy = codes "it is the program's own standard output"
+reason_of kind.ResourceBusy = codes "it is in use"
 reason_of _ = codes "the system refused it"
 
 -- a file that failed, if the disk told why
@@ -165,6 +165,7 @@ abbrev pub end_line : List ℕ → List ℕ → Fate → Option ErrorKind → Li
 end_line input output NoCommands why = []
 end_line input output NoInput why = fault_line input why
 end_line input output NoOutput why = fault_line output why
+end_line input output NotRegular why = unwritten_line output
 end_line input output LargeInput why = unwritten_line output
 end_line input output NoMemory why = unwritten_line output
 end_line input output Changed why = unwritten_line output

@@ -270,7 +270,7 @@ fn reason(kind: ErrorKind) -> &'static str
         ErrorKind::ReadOnlyFilesystem => "the file system is read only",
         ErrorKind::FilesystemLoop => "its links lead in a circle",
         ErrorKind::InvalidFilename => "its name is too long",
-        ErrorKind::ResourceBusy => "it is the program's own standard output",
+        ErrorKind::ResourceBusy => "it is in use",
         _ => "the system refused it",
     }
 }
@@ -316,7 +316,8 @@ fn line_by_name(
             output,
             " is not written",
         ),
-        Fate::LargeInput
+        Fate::NotRegular
+        | Fate::LargeInput
         | Fate::NoMemory
         | Fate::Changed
         | Fate::Ended(Served::ReadFault)

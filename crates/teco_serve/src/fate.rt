@@ -17,15 +17,17 @@ pub enum Fate {
     NoCommands,
     /// The input cannot be read.
     NoInput,
+    /// The input was to be edited in place, and is no regular file.
+    NotRegular,
     /// The input has more bytes than it may have.
     LargeInput,
     /// Memory was refused before the serving, or after it.
     NoMemory,
     /// The output cannot be written.
     NoOutput,
-    /// The file that was to be edited in place has changed since it was read.
+    /// The output was to be written over the file that was read, and that has changed since.
     Changed,
-    /// The file that was to be edited in place has the output already.
+    /// The output was to be written over the file that was read, and that has it already.
     Unchanged,
     /// The serving ended; after [`Served::Exit`] the output is written.
     Ended(Served),
@@ -126,6 +128,7 @@ fn text(alloc: Global, line: &Line, input: &str, fate: Fate) -> Result<String, N
     match fate {
         Fate::NoCommands => said_of(alloc, "cannot read ", commands_name(line), ""),
         Fate::NoInput => said_of(alloc, "cannot read ", input, ""),
+        Fate::NotRegular => said_of(alloc, "", input, " is not a regular file"),
         Fate::LargeInput => said_of(alloc, "", input, " is too large"),
         Fate::NoMemory | Fate::Ended(Served::NoMemory) => said_about(
             alloc,

@@ -4,7 +4,7 @@
 use std::process;
 use std::process::ExitCode;
 use teco_bytes::ReaderSource;
-use teco_files::FileDisk;
+use teco_files::{FileDisk, hold_standard_streams};
 use teco_keep::{not_text, program};
 use teco_option::{LineFault, fault_of_words};
 use teco_terminal::WriterTerminal;
@@ -20,6 +20,7 @@ fn words_given(rt: &HostRuntime) -> Result<Vec<String>, LineFault> {
 }
 
 fn main(rt: HostRuntime) -> ExitCode {
+    hold_standard_streams(&rt);
     program(
         rt.alloc(),
         words_given(&rt),

@@ -11,12 +11,30 @@ use std::os::unix::fs::{MetadataExt, PermissionsExt};
 use std::time::SystemTime;
 use std::{fs, io};
 use teco_files::{Disk, FileDisk, MemoryDisk, Refused};
-use teco_host::write_output;
+use teco_host::{Written, write_output};
 
-/// Whether an output of these bytes is written, in two parts.
-fn writes<D: Disk>(alloc: Global, disk: &mut D, name: &str, bytes: &str) -> bool {
+/// Whether an output of these bytes is written, in two parts. What was read under this name, if a name is given, has to be what it was.
+fn writes_over<D: Disk>(
+    alloc: Global,
+    disk: &mut D,
+    name: &str,
+    read: Option<&str>,
+    bytes: &str,
+) -> bool {
     let parts = bytes.as_bytes().split_at(bytes.len() / 2);
-    write_output(alloc, disk, name, 7, parts).is_ok()
+    matches!(
+        write_output(alloc, disk, name, 7, read, parts),
+        Ok(Written::Whole),
+    )
+}
+
+fn writes<D: Disk>(alloc: Global, disk: &mut D, name: &str, bytes: &str) -> bool {
+    writes_over(alloc, disk, name, None, bytes)
+}
+
+/// Whether this is a regular file, which can be opened to be replaced.
+fn can_be_replaced<D: Disk>(disk: &mut D, name: &str) -> bool {
+    matches!(disk.open_to_replace(name, true), Ok(Some(_)))
 }
 
 /// Whether a file is told to be as it was read, or not to be so.
@@ -72,8 +90,8 @@ fn leads_to_a_pipe<R: Files + AllocGlobal, D: Disk>(rt: &R, disk: &mut D, link: 
         && are(&read, b"abcdefgh")
 }
 
-/// A name among the descriptors that leads to a file is that file: it has the new text alone.
-fn is_replaced_by_its_descriptor<R: Files + AllocGlobal, D: Disk>(
+/// A name among the descriptors that leads to a file is refused, and the file stays as it is.
+fn is_refused_by_its_descriptor<R: Files + AllocGlobal, D: Disk>(
     rt: &R,
     disk: &mut D,
     name: &str,
@@ -82,7 +100,10 @@ where
     R::File: AsRawFd,
 {
     match fs::open(rt, name) {
-        Ok(file) => puts_there(rt, disk, file.as_raw_fd(), "teco_test/descriptor", "new"),
+        Ok(file) => {
+            !puts_there(rt, disk, file.as_raw_fd(), "teco_test/descriptor", "new")
+                && failed_by(disk.why(), "ResourceBusy")
+        }
         Err(_) => false,
     }
 }
@@ -126,6 +147,8 @@ fn asked<D: Disk>(alloc: Global, disk: &mut D, verb: u8, name: &str, value: &str
         b't' => disk.target_of(name).is_ok(),
         b'w' => writes(alloc, disk, name, value),
         b's' => is_as_read(disk, name, value.is_empty()),
+        b'f' => writes_over(alloc, disk, name, Some(name), value),
+        b'v' => can_be_replaced(disk, name),
         _ => failed_by(disk.why(), name),
     }
 }
@@ -168,10 +191,16 @@ where
         b'h' => reads_so(rt, name, value),
         b'i' => is_a(rt, name, value),
         b'p' => leads_to_a_pipe(rt, disk, name),
-        b'd' => is_replaced_by_its_descriptor(rt, disk, name),
+        b'd' => is_refused_by_its_descriptor(rt, disk, name),
         b'a' => ages(rt, name),
         b'b' => is_standard_output(rt, disk, name),
-        verb @ (b'o' | b't' | b'w' | b's' | b'e') => asked(rt.alloc(), disk, verb, name, value),
+        verb @ (b'o' | b't' | b'w' | b's' | b'f' | b'v' | b'e') => asked(
+            rt.alloc(),
+            disk,
+            verb,
+            name,
+            value,
+        ),
         verb if wanted => done(rt, verb, name, value).is_ok() || value.starts_with("if "),
         _ => true,
     };
@@ -253,7 +282,7 @@ const SCRIPT: &str = "
     unmake teco_test
     new teco_test
     // Whose it is.
-    // A new file has the permissions of the file that was opened last, whatever others may be usual.
+    // A new file has the permissions of the file that was opened last, but for those that the process gives to no new file.
     make teco_test/in private
     chmod teco_test/in 600
     open teco_test/in
@@ -262,11 +291,11 @@ const SCRIPT: &str = "
     is teco_test/out 600
     remove teco_test/out
     make teco_test/in private
-    chmod teco_test/in 664
+    chmod teco_test/in 666
     open teco_test/in
     write teco_test/out too
     has teco_test/out too
-    is teco_test/out 664
+    is teco_test/out 644
     // A file that is replaced keeps its own permissions, whatever those of the input are.
     make teco_test/in public
     chmod teco_test/in 644
@@ -293,7 +322,7 @@ const SCRIPT: &str = "
     other pipe teco_test/link
     remove teco_test/link
     other descriptor teco_test/out
-    has teco_test/out new
+    has teco_test/out old
     // A link to a link to nothing makes the file at their end; a link to itself is an error.
     remove teco_test/out
     link teco_test/end out
@@ -328,6 +357,34 @@ const SCRIPT: &str = "
     open teco_test/in
     remove teco_test/in
     same teco_test/in no
+    unmake teco_test
+    new teco_test
+    // What is edited in place: a regular file, also behind a link. Nothing else is opened, so that a pipe doesn't wait for its writer.
+    make teco_test/in as read
+    link teco_test/link in
+    vet teco_test/in
+    vet teco_test/link
+    not vet teco_test
+    not vet teco_test/none
+    not vet /dev/null
+    // The file is what it was when the draft takes its name; then it isn't. No draft is left.
+    vet teco_test/in
+    finish teco_test/in first
+    has teco_test/in first
+    not finish teco_test/in second
+    has teco_test/in first
+    is teco_test/.teco-7 gone
+    // A change of what is known of the file shows too, as one of the permissions, or of the text with its time put back.
+    vet teco_test/in
+    chmod teco_test/in 600
+    not finish teco_test/in second
+    has teco_test/in first
+    // An output under another name of the file that was read.
+    vet teco_test/in
+    make teco_test/in theirs
+    not write teco_test/link ours
+    has teco_test/in theirs
+    is teco_test/.teco-7 gone
     unmake teco_test
     ";
 

@@ -34,4 +34,4 @@ returns g c =
           c.in-Ok-session_over.ensures c.serve-served.ensures;
       output_is = c.output.ensures.joined ∙ ap (λ s. s.output) c.editor.ensures.present;
     } in
-    over_served _ _ _ _ _ _ _ _ _ _ (c.as_str.ensures.value ∙ c.in-Ok.ensures) serves c.finish-fate.ensures
+    over_served _ _ _ _ _ _ _ _ _ _ (c.as_str.ensures.value ∙ c.in-Ok.ensures) c.replaces_input.ensures serves c.finish-fate.ensures

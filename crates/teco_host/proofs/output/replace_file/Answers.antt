@@ -1,9 +1,8 @@
 use Rattle.std.proofs.Common.{◌≡◌, ◌≢◌, ◌∙◌, inl, inr, refl, sym}
-use Rattle.std.proofs.lemmas.Result.{IfErr-weaker, err_from_is_err_and, on_err_weaker, on_ok_weaker}
-use Rattle.teco_files.specs.Disk.{Changes, LeavesFiles, Replaces}
-use Rattle.teco_host.specs.Writing.{AddsDrafts, IsWriting, Writes, both}
+use Rattle.std.proofs.lemmas.Result.{IfErr-weaker, err_from_is_err_and}
+use Rattle.teco_host.specs.Writing.{IsWriting, both}
 use Rattle.teco_host.specs.Draft.{draft_beside}
-use Rattle.teco_host.proofs.Writings.{adds_more, adds_none, on_err_by, passes_more, passes_none, writes_after}
+use Rattle.teco_host.proofs.Writings.{adds_more, adds_none, asked_later, passes_more, passes_none, some_weaker, unless_weaker, whole_weaker, writes_after}
 use Rattle.teco_host.proofs.output.replace_file.Goals as goal
 use Rattle.teco_host.proofs.output.replace_file.Goals.{in_default-via-in-Err+else-eq, in_default-via-in-Ok-1}
 
@@ -12,7 +11,9 @@ returns-in_err-draft g c =
     let failed = err_from_is_err_and c.from_residual.result c.from_residual.ensures.1 in
     record {
       ok = rw failed.1 tt;
-      err = on_err_by c.from_residual.result c.drafts.invariant.adds;
+      asked = rw failed.1 tt;
+      changed = rw failed.1 tt;
+      err = rw failed.1 c.drafts.invariant.adds;
       streams = c.drafts.invariant.streams;
       moments = c.drafts.invariant.moments;
       error = rw failed.1 (inr (inl failed.2));
@@ -25,15 +26,19 @@ returns-in_default g c =
     record {
       ok = elim c.in_default-1.branch [
         | in_default-via-in-Err+else-eq w ↦ rw w.done-is tt
-        | in_default-via-in-Ok-1 w ↦ rw w.done-is (on_ok_weaker {P = Changes (g.D.Disk.files c.drafts.disk) (g.D.Disk.files c.replace.new.disk) (Replaces c.args.file.now (both c.args.bytes))}
-            {Q = Changes (g.D.Disk.files c.args.disk.now) (g.D.Disk.files c.replace.new.disk) (Writes c.args.file.now (both c.args.bytes))}
-            c.replace.result (writes_after c.drafts.draft_number named differ c.drafts.invariant.adds) c.replace.ensures.ok)
+        | in_default-via-in-Ok-1 w ↦ rw w.done-is (whole_weaker c.replace.result (writes_after c.drafts.draft_number named differ c.drafts.invariant.adds) c.replace.ensures.ok)
+      ];
+      asked = elim c.in_default-1.branch [
+        | in_default-via-in-Err+else-eq w ↦ rw w.done-is tt
+        | in_default-via-in-Ok-1 w ↦ rw w.done-is (whole_weaker c.replace.result (some_weaker c.args.read (λ read. asked_later c.drafts.draft_number named c.drafts.invariant.adds)) c.replace.ensures.asked)
+      ];
+      changed = elim c.in_default-1.branch [
+        | in_default-via-in-Err+else-eq w ↦ rw w.done-is tt
+        | in_default-via-in-Ok-1 w ↦ rw w.done-is c.replace.ensures.changed
       ];
       err = elim c.in_default-1.branch [
         | in_default-via-in-Err+else-eq w ↦ rw w.done-is (adds_more c.drafts.draft_number named differ c.drafts.invariant.adds w.in-Err.ensures.err)
-        | in_default-via-in-Ok-1 w ↦ rw w.done-is (on_err_weaker {P = Changes (g.D.Disk.files c.drafts.disk) (g.D.Disk.files c.replace.new.disk) (LeavesFiles c.as_str.result.now)}
-            {Q = Changes (g.D.Disk.files c.args.disk.now) (g.D.Disk.files c.replace.new.disk) (AddsDrafts c.args.file.now)}
-            c.replace.result (adds_more c.drafts.draft_number named differ c.drafts.invariant.adds) c.replace.ensures.err)
+        | in_default-via-in-Ok-1 w ↦ rw w.done-is (unless_weaker c.replace.result (adds_more c.drafts.draft_number named differ c.drafts.invariant.adds) c.replace.ensures.err)
       ];
       streams = c.replace.ensures.streams ∙ c.drafts.invariant.streams;
       moments = passes_more c.drafts.draft_number named differ c.drafts.invariant.adds c.drafts.invariant.moments c.replace.ensures.moments;
@@ -46,6 +51,8 @@ returns-in_default g c =
 pub returns : goal.returns
 returns g c = record {
   ok = tt;
+  asked = tt;
+  changed = tt;
   err = c.drafts.invariant.adds;
   streams = c.drafts.invariant.streams;
   moments = c.drafts.invariant.moments;

@@ -24,5 +24,5 @@ returns-in-Ended-EndOfCommands c =
     let end = rw c.in-Ended-EndOfCommands.is at c.in-Ended-EndOfCommands.field-0-is in
     rw (c.in-Ended-EndOfCommands.is, end) c.line_about-in-Ended-EndOfCommands.ensures
 
-pub returns-in-LargeInput : goal.returns-in-LargeInput
-returns-in-LargeInput c = grind (arith, common_steps)
+pub returns-in-NotRegular : goal.returns-in-NotRegular
+returns-in-NotRegular c = grind (arith, common_steps)
