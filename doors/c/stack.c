@@ -1,37 +1,76 @@
-/* Runs macros as deep as they go, in a thread with so many KB of stack, without and with their place. Prints the code by which both end. */
+/* Runs macros as deep as they go, in a thread with so many KB of stack, without and with their place. Prints the codes by which they end:
+ * of a macro that calls itself, and of one that does so 32 times within 60 blocks each, and then passes over 60 blocks. */
 #include "teco.h"
 #include <pthread.h>
 #include <stdio.h>
 #include <stdlib.h>
 #include <string.h>
 
-static void *deep(void *answer)
+struct deep {
+    char string[512];
+    size_t size;
+    size_t calls;
+    int code;
+};
+
+static void put(struct deep *deep, const char *mark, int times)
 {
-    static const char string[] = "@^UA/Ix\033MA/MA";
+    for (; times > 0; times--) {
+        memcpy(deep->string + deep->size, mark, strlen(mark));
+        deep->size += strlen(mark);
+    }
+}
+
+static void *run(void *answer)
+{
+    struct deep *deep = answer;
+    const uint8_t *string = (const uint8_t *)deep->string;
     struct teco t = {0};
     uint8_t room[16];
-    size_t made, at, calls;
+    size_t made, at, calls = 0;
     uint64_t steps;
     teco_open(&t, (const uint8_t *)"", 0, 0);
-    int code = teco_run(&t, (const uint8_t *)string, sizeof string - 1, 1000000, room, sizeof room, &made, &steps);
-    int again = teco_where(&t, (const uint8_t *)string, sizeof string - 1, 1000000, room, sizeof room, &made, &steps, &at, &calls);
-    if (again == code && at == sizeof string - 3 && calls == 32)
-        *(int *)answer = code;
+    int code = teco_run(&t, string, deep->size, 1000000, room, sizeof room, &made, &steps);
+    teco_undo(&t);
+    int again = teco_where(&t, string, deep->size, 1000000, room, sizeof room, &made, &steps, &at, &calls);
+    if (again == code && calls == deep->calls)
+        deep->code = code;
     teco_undo(&t);
     teco_close(&t);
     return NULL;
 }
 
-int main(int count, char **words)
+static int ends_by(struct deep *deep, size_t stack)
 {
     pthread_attr_t attr;
     pthread_t thread;
-    int answer = -1;
     pthread_attr_init(&attr);
-    if (count != 2 || pthread_attr_setstacksize(&attr, (size_t)atoi(words[1]) * 1024) != 0)
+    if (pthread_attr_setstacksize(&attr, stack) != 0 || pthread_create(&thread, &attr, run, deep) != 0 || pthread_join(thread, NULL) != 0)
+        return -1;
+    return deep->code;
+}
+
+int main(int count, char **words)
+{
+    if (count != 2)
         return 2;
-    if (pthread_create(&thread, &attr, deep, &answer) != 0 || pthread_join(thread, NULL) != 0)
-        return 2;
-    printf("%d\n", answer);
+    size_t stack = (size_t)atoi(words[1]) * 1024;
+    struct deep itself = {.calls = 32, .code = -1};
+    put(&itself, "@^UA/Ix\033MA/MA", 1);
+    printf("%d\n", ends_by(&itself, stack));
+    struct deep blocks = {.code = -1};
+    put(&blocks, "0UB@^UA/%B-31\"G", 1);
+    put(&blocks, "(", 16);
+    put(&blocks, "1", 1);
+    put(&blocks, ")", 16);
+    put(&blocks, "UCJ:@S+h+UC1<0;", 1);
+    put(&blocks, "<", 60);
+    put(&blocks, ">", 60);
+    put(&blocks, ">|", 1);
+    put(&blocks, "1<", 60);
+    put(&blocks, "MA", 1);
+    put(&blocks, ">", 60);
+    put(&blocks, "'/MA", 1);
+    printf("%d\n", ends_by(&blocks, stack));
     return 0;
 }
