@@ -51,7 +51,7 @@ help:
 try:
 	@mkdir -p out
 	printf 'one\n\ftwo\n\fthree\n' > out/in
-	cd crates/teco && $(RT) try --data in=../../out/in -- -e 'YHT$$$$PHT$$$$HK$$$${$$$$HT$$$$EX$$$$' in
+	cd crates/teco && $(RT) try --seconds 600 --data in=../../out/in -- -e 'YHT$$$$PHT$$$$HK$$$${$$$$HT$$$$EX$$$$' in
 
 ## make quick         looks at the layout and the pages, and checks what differs from HEAD: seconds, and what the checks of the crates take
 quick:
