@@ -109,7 +109,7 @@ impl Desk for Editor {
 
     ghost follows = { λ _ _. Unit {0} };
 
-    ghost has_places = { λ _ _. Unit {0} };
+    ghost has_places = { λ _ _ _. Unit {0} };
 
     ghost eases = { λ _ _ h. h };
 

@@ -63,7 +63,7 @@ impl Desk for Recorder {
 
     ghost follows = { Follows };
 
-    ghost has_places = { λ r changes. (changes ≤ r.spare) × (changes ≤ r.apart) };
+    ghost has_places = { λ r changes apart. (changes ≤ r.spare) × (apart ≤ r.apart) };
 
     ghost eases = { follows_eases };
 
