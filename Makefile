@@ -1,7 +1,7 @@
 # Builds, installs and checks what is here. `make help` lists what can be made.
 #
-# The programs and the library are proved as they are built, by the kit's rt: some half an hour from nothing on four cores. A program
-# that stands in its crate's out/ and is newer than every source, as rt ci leaves it, is taken as it is.
+# The programs and the library are proved as they are built, by bin/build. A program that stands in its crate's out/ and is newer than
+# every source, as rt ci leaves it, is taken as it is.
 .POSIX:
 
 PREFIX = /usr/local
@@ -41,7 +41,11 @@ NCURSES != pkg-config --cflags --libs ncursesw 2> /dev/null || echo -lncursesw
 
 ## make               builds the programs teco, teco-debug, tecol, teco-term and teco-screen, the library and the completions, into out/;
 ##                    it wants ncursesw, which is libncurses-dev in Debian
-all: $(PROGRAMS) $(LIBRARY) out/completions
+all:
+	bin/build
+	$(MAKE) built
+
+built: $(PROGRAMS) $(LIBRARY) out/completions
 
 ## make help          lists these lines
 help:
@@ -74,24 +78,16 @@ bench: out/teco
 	TECO=$$PWD/out/teco bench/run
 
 crates/teco/out/teco: $(SOURCES)
-	@echo 'make: proving and building teco, which takes some 25 minutes from nothing'
-	cd crates/teco && printf 'EX\033\033' | $(RT) run -- --output /dev/null /dev/null
-	@touch $@
+	bin/build teco
 
 crates/teco_debug/out/teco_debug: $(SOURCES)
-	@echo 'make: proving and building teco-debug, which takes some minutes after teco'
-	cd crates/teco_debug && $(RT) run -- /dev/null < /dev/null
-	@touch $@
+	bin/build teco_debug
 
 crates/tecol/out/tecol: $(SOURCES)
-	@echo 'make: proving and building tecol, which takes some minutes after teco'
-	cd crates/tecol && $(RT) run -- /dev/null
-	@touch $@
+	bin/build tecol
 
 crates/teco_c/out/libteco_c.a: $(SOURCES)
-	@echo 'make: proving and building the library, which takes some minutes after teco, and some 20 from nothing'
-	cd crates/teco_c && $(RT) lib
-	@touch $@
+	bin/build teco_c
 
 out/teco: crates/teco/out/teco
 	@mkdir -p out
@@ -170,5 +166,5 @@ uninstall:
 clean:
 	rm -rf out
 
-.PHONY: all help try quick test gate pages bench install uninstall clean always
+.PHONY: all built help try quick test gate pages bench install uninstall clean always
 always:
