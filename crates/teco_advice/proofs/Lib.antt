@@ -1,3 +1,4 @@
 pub mod Cuts
 pub mod Misspelt
+pub mod Noted
 pub mod Told

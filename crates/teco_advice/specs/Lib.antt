@@ -1,2 +1,3 @@
+pub mod Calls
 pub mod Spelling
 pub mod Strings

@@ -1,6 +1,7 @@
 //! Checking commands: their faults and hints, in order.
 ghost use Rattle.std.specs.Prelude.{◌≡◌, false, Bool, IfOk};
 ghost use Rattle.teco_remarks.specs.Told.{IsTold, TellsFirst};
+ghost use Rattle.teco_advice.specs.Calls.{AreCalled};
 ghost use Rattle.teco_advice.specs.Strings.{AreTold, is_faulty, is_faulty_string, is_request, strings_of};
 
 use crate::calling::{Registers, registers_in};
@@ -69,6 +70,7 @@ fn hint_on_rest(rest: &[u8]) -> Option<Hint> {
 /// The code registers are those that the commands call. A string is faulty exactly where its first fault is found.
 pub fn check(alloc: Global, commands: &[u8]) -> Result<Advice, NoMemory>
     ensures found { IfOk result (λ advice. advice.is_faulty ≡ is_faulty advice.code commands.now) }
+    ensures code { IfOk result (λ advice. AreCalled advice.code commands.now) }
     ensures told { IfOk result (λ advice. AreTold advice.code advice.remarks.items 0 (strings_of commands.now)) }
 {
     let registers = registers_in(commands);

@@ -5,6 +5,7 @@ use Rattle.teco_keep.specs.declared.line.Mode.TheVariants.{Listing, Again, Check
 use Rattle.teco_keep.specs.declared.made.Made.{Made}
 use Rattle.teco_keep.specs.declared.made.Made.TheVariants.{Fine, Faulty, Unreadable}
 use Rattle.teco_source.specs.Source.{commands_of}
+use Rattle.teco_advice.specs.Calls.{AreCalled}
 use Rattle.teco_advice.specs.Strings.{is_faulty}
 
 -- What was made says whether there is a fault.
@@ -13,9 +14,9 @@ TellsWhether faulty (Fine lines) = faulty ≡ false
 TellsWhether faulty (Faulty lines) = faulty ≡ true
 TellsWhether faulty (Unreadable at) = ⊥
 
--- It says whether one of the strings of these commands has a fault, where some registers hold code.
+-- It says whether one of the strings of these commands has a fault, where the registers hold code that the commands call.
 abbrev pub IsVerdict : List ℕ → Made → Type 0
-IsVerdict commands made = (code : List Bool) × TellsWhether (is_faulty code commands) made
+IsVerdict commands made = (code : List Bool) × AreCalled code commands × TellsWhether (is_faulty code commands) made
 
 -- These bytes were made.
 abbrev pub IsBytes : List ℕ → Made → Type 0

@@ -1,6 +1,7 @@
 -- A check of commands, which are not run: what is told of them, and with which status. And a look at commands before they are run.
 use Rattle.std.specs.Prelude.{◌≡◌, ◌⊎◌, ◌||◌, ℕ, List, Bool, codes, false, true, Result, Ok, Err, if◌then◌else◌}
 use Rattle.std.specs.String.{string_bytes}
+use Rattle.teco_advice.specs.Calls.{AreCalled}
 use Rattle.teco_advice.specs.Spelling.{is_misspelt}
 use Rattle.teco_advice.specs.Strings.{is_faulty}
 use Rattle.teco_edit.specs.Given.{come_as_wanted}
@@ -11,9 +12,9 @@ use Rattle.teco_source.specs.Source.{commands_of}
 use Rattle.teco_host.specs.Refusing.{Tells}
 use Rattle.teco_terminal.specs.Terminal.{Screen, Shows}
 
--- It says whether a text of commands is wrong in this way, where some registers hold code.
+-- It says whether a text of commands is wrong in this way, where the registers hold code that the commands call.
 abbrev pub SaysOf : (List Bool → List ℕ → Bool) → List ℕ → Bool → Type 0
-SaysOf wrong text says = (code : List Bool) × (says ≡ wrong code text)
+SaysOf wrong text says = (code : List Bool) × AreCalled code text × (says ≡ wrong code text)
 
 -- the same of what a source stands for; of one that can't be read it says nothing
 abbrev pub SaysOfSource : (List Bool → List ℕ → Bool) → Result (List ℕ) ℕ → Bool → Type 0
