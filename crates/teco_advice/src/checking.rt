@@ -43,7 +43,7 @@ fn check_string(
     }
     let mut hints = Vec::new(alloc);
     push_hints(&mut hints, hinting, string, from, &registers.given)?;
-    let Some(first) = fault_of(string, &registers.called) else {
+    let Some(first) = fault_of(alloc, string, &registers.called) else {
         push_both(remarks, &[], &hints)?;
         return Ok(false);
     };

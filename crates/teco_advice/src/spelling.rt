@@ -6,7 +6,8 @@ ghost use Rattle.teco_advice.specs.Spelling.{is_misspelt, is_misspelt_string, mi
 
 use crate::cutting::string_end;
 use crate::requests::is_request;
-use teco_fault::{MOST_TEXTS, REGISTERS, Wrong, first_fault_within};
+use std::alloc::Global;
+use teco_fault::{MOST_TEXTS, REGISTERS, Wrong, first_fault_by_tags};
 use teco_scan::{Found, Item, TokenKind, token_at};
 
 /// The text that the token at a place puts into a register; nothing where it puts none.
@@ -26,12 +27,12 @@ fn text_put(text: &[u8], at: usize) -> &[u8]
 }
 
 /// Whether the first fault of a text is one by which a run ends, also where it is in a text that is put where code is.
-fn is_misspelt_text(text: &[u8], code: &[bool; REGISTERS]) -> bool
+fn is_misspelt_text(alloc: Global, text: &[u8], code: &[bool; REGISTERS]) -> bool
     ensures { result ≡ misspelt_within MOST_TEXTS code.now text.now }
 {
     let mut inside = text;
     let mut texts = MOST_TEXTS;
-    while let Some(fault) = first_fault_within(inside, code, texts) {
+    while let Some(fault) = first_fault_by_tags(alloc, inside, code, texts) {
         match fault.wrong {
             Wrong::InText => inside = text_put(inside, fault.at),
             Wrong::Calls | Wrong::Loads => return false,
@@ -46,25 +47,25 @@ fn is_misspelt_text(text: &[u8], code: &[bool; REGISTERS]) -> bool
 }
 
 /// Whether a command string is misspelt.
-fn is_misspelt_string(string: &[u8], code: &[bool; REGISTERS]) -> bool
+fn is_misspelt_string(alloc: Global, string: &[u8], code: &[bool; REGISTERS]) -> bool
     ensures { result ≡ is_misspelt_string code.now string.now }
 {
     if is_request(string) {
         return false;
     }
-    is_misspelt_text(string, code)
+    is_misspelt_text(alloc, string, code)
 }
 
 /// Whether one of the command strings has a fault by which a run ends, before any that a check says it doesn't look into. The registers
 /// that hold code are those of [`crate::Advice`].
-pub fn is_misspelt(commands: &[u8], code: &[bool; REGISTERS]) -> bool
+pub fn is_misspelt(alloc: Global, commands: &[u8], code: &[bool; REGISTERS]) -> bool
     ensures { result ≡ is_misspelt code.now commands.now }
 {
     let mut misspelt = false;
     let mut start = 0;
     while let Some(end) = string_end(commands, start) {
-        misspelt |= is_misspelt_string(&commands[start..end], code);
+        misspelt |= is_misspelt_string(alloc, &commands[start..end], code);
         start = end + 1;
     }
-    misspelt | is_misspelt_string(&commands[start..], code)
+    misspelt | is_misspelt_string(alloc, &commands[start..], code)
 }

@@ -11,3 +11,4 @@ pub mod TokensNest
 pub mod Breaking
 pub mod BreaksIsBroken
 pub mod TreeRows
+pub mod FirstPlaces

@@ -5,3 +5,5 @@ pub mod Lists
 pub mod Nesting
 pub mod ListLaws
 pub mod Breaks
+pub mod Gathered
+pub mod GatheredLists

@@ -101,7 +101,7 @@ fn is_passed(b: u8) -> bool
 
 /// The place after the bytes that are passed by themselves.
 #[inline]
-fn passed_end(text: &[u8], at: usize) -> usize
+pub(crate) fn passed_end(text: &[u8], at: usize) -> usize
     requires { at ≤ length text.now }
     ensures alike { AreAlike (drop at text.now) (drop result text.now) }
     ensures within { (at ≤ result) × (result ≤ length text.now) }
@@ -115,7 +115,7 @@ fn passed_end(text: &[u8], at: usize) -> usize
 
 /// The place after a token and, where it opens a block, after the whole of that.
 #[cycle(skip)]
-fn skip_node(text: &[u8], token: Token, depth: usize) -> Result<usize, Code>
+pub(crate) fn skip_node(text: &[u8], token: Token, depth: usize) -> Result<usize, Code>
     requires inside { token.span.to ≤ length text.now }
     requires few { depth ≤ BLOCK_LIMIT }
     requires node { closing_mark (instruction_in text.now token.kind) ≡ None }

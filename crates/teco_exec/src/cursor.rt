@@ -6,6 +6,7 @@ ghost use Rattle.teco_exec.specs.CursorMoves as machine;
 
 use crate::blocks::{Block, Blocks};
 use crate::remembered::Remembered;
+use std::alloc::Global;
 use teco_core::{Args, BLOCK_LIMIT, is_filler};
 use teco_scan::spelling;
 
@@ -28,8 +29,13 @@ impl<'t> Cursor<'t> {
     ghost use Rattle.teco_scan.specs.Scan.{scan};
     ghost use Rattle.teco_exec.specs.View.{cursor_at_start, cursor};
 
-    /// The beginning of a text, with these arguments and this room for its open blocks.
-    pub fn begin(text: &'t [u8], args: Args, room: &'t mut [Block; BLOCK_LIMIT]) -> Cursor<'t>
+    /// The beginning of a text, with these arguments, this room for its open blocks, and memory for its tags.
+    pub fn begin(
+        text: &'t [u8],
+        args: Args,
+        room: &'t mut [Block; BLOCK_LIMIT],
+        memory: Option<Global>,
+    ) -> Cursor<'t>
         ensures text { result.text.now ≡ text.now }
         ensures begins { cursor result ≡ cursor_at_start (arguments args) text.now }
     {
@@ -38,7 +44,7 @@ impl<'t> Cursor<'t> {
             at: 0,
             args,
             blocks: Blocks::new(room),
-            remembered: Remembered::new(text),
+            remembered: Remembered::new(text, memory),
         }
     }
 

@@ -6,8 +6,9 @@ ghost use Rattle.teco_blocks.specs.Closes.{close_of, past_of, tag_of};
 ghost use Rattle.teco_blocks.specs.Tree.{is_fault};
 ghost use Rattle.teco_blocks.specs.declared.blocks.Kind.TheVariants.{Then};
 
+use std::alloc::Global;
 use std::marker::Model;
-use teco_blocks::{Kind, Stop, find_tag, skip_block};
+use teco_blocks::{Kind, Stop, Tags, find_tag, skip_block};
 use teco_core::{BLOCK_LIMIT, Code};
 use teco_scan::Span;
 
@@ -16,6 +17,12 @@ const SKIPS: usize = 8;
 
 /// The most searches that are remembered of a text.
 const SEARCHES: usize = 4;
+
+/// The most bytes that searches walk before tags are gathered, however short the text is.
+const WALKED_LEAST: usize = 4096;
+
+/// How many times the length of a text searches walk before its tags are gathered.
+const WALKS: usize = 8;
 
 /// A skip that was made, from a place in a block of this kind and at this depth, and where it stopped.
 #[derive(Clone, Copy)]
@@ -60,10 +67,14 @@ pub(crate) struct Remembered<'t> {
     skips: [Option<Skip>; SKIPS],
     /// By the place of the name and the depth, modulo [`SEARCHES`].
     searches: [Option<Search>; SEARCHES],
+    /// How many bytes searches have walked, at most.
+    walked: usize,
+    /// The tags of the lists that were searched since that was much.
+    tags: Tags<'t>,
 }
 
 impl<'t> Model for Remembered<'t> {
-    ghost use Rattle.std.specs.Prelude.{All, List, ℕ};
+    ghost use Rattle.std.specs.Prelude.{◌≡◌, All, List, ℕ};
     ghost use Rattle.teco_exec.specs.Remembered.{IsSearchIfAny, IsSkipIfAny};
 
     ghost Value = { List ℕ };
@@ -71,7 +82,8 @@ impl<'t> Model for Remembered<'t> {
     ghost view = { λ r. r.text.now };
 
     ghost invariant = { λ r. (All (IsSkipIfAny r.text.now) r.skips)
-        × (All (IsSearchIfAny r.text.now) r.searches) };
+        × (All (IsSearchIfAny r.text.now) r.searches)
+        × (r.tags ≡ r.text.now) };
 }
 
 impl<'t> Remembered<'t> {
@@ -79,13 +91,15 @@ impl<'t> Remembered<'t> {
     ghost use Rattle.teco_exec.specs.Remembered.{IsSearchOf};
 
     /// Nothing is remembered of this text.
-    pub fn new(text: &'t [u8]) -> Remembered<'t>
+    pub fn new(text: &'t [u8], memory: Option<Global>) -> Remembered<'t>
         ensures { result ≡ text.now }
     {
         Remembered {
             text,
             skips: [None; SKIPS],
             searches: [None; SEARCHES],
+            walked: 0,
+            tags: Tags::new(text, memory),
         }
     }
 
@@ -209,7 +223,7 @@ impl<'t> Remembered<'t> {
         ensures within { IfSome result (λ to. to ≤ length self.old) }
     {
         let text = self.text;
-        let found = find_tag(text, start, depth, &text[name.from..name.to]);
+        let found = self.search_text(start, depth, &text[name.from..name.to]);
         if text.len() <= u32::MAX as usize {
             self.searches[search_place(depth, name)] = Some(Search {
                 start: start as u32,
@@ -223,6 +237,27 @@ impl<'t> Remembered<'t> {
             });
         }
         found
+    }
+
+    /// Searches the text for a tag, in what was gathered once much was walked.
+    fn search_text(&mut self, start: usize, depth: usize, name: &[u8]) -> Option<usize>
+        requires inside { start ≤ length self.old }
+        requires few { depth ≤ BLOCK_LIMIT }
+        ensures text { self.new ≡ self.old }
+        ensures finds { tag_of self.old result ≡ tag_at name.now depth (drop start self.old) }
+        ensures within { IfSome result (λ to. to ≤ length self.old) }
+    {
+        let len = self.text.len();
+        if self.walked < WALKED_LEAST || self.walked / WALKS < len {
+            let found = find_tag(self.text, start, depth, name);
+            let end = found.unwrap_or(len);
+            self.walked = self.walked.saturating_add(end.saturating_sub(start));
+            return found;
+        }
+        if self.tags.gather(start, depth).is_err() {
+            self.walked = 0;
+        }
+        self.tags.find(start, depth, name)
     }
 }
 

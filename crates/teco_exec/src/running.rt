@@ -18,7 +18,7 @@ use crate::stop::{Never, Stop};
 use crate::texts::{EMPTY_ROOM, ROOMS, run_text};
 use crate::watch::{Unwatched, Watch, Watched};
 use std::alloc::Global;
-use teco_core::Args;
+use teco_core::{Args, Reg};
 use teco_store::Desk;
 use teco_terminal::Terminal;
 
@@ -132,6 +132,12 @@ pub fn run_where_until<D: Desk, S: Stop, T: Terminal>(
     }
 }
 
+/// The memory that the texts of the registers are in.
+fn memory_of<D: Desk>(desk: &D) -> Option<Global> {
+    let register = Reg::of(b'A')?;
+    Some(*desk.registers().value(register).text.allocator())
+}
+
 /// Runs a command string as `run_until` does, and tells a watch where it last stood.
 fn run_watched<D: Desk, S: Stop, T: Terminal, W: Watch>(
     desk: &mut D,
@@ -158,7 +164,7 @@ fn run_watched<D: Desk, S: Stop, T: Terminal, W: Watch>(
     meaning_laws();
     let mut args = Args::new();
     let mut steps = Steps { done: 0, limit };
-    let mut spare = Spare::new();
+    let mut spare = Spare::new(memory_of(desk));
     let mut rooms = [EMPTY_ROOM; ROOMS];
     let exit = run_text(
         desk, text, 0, &mut args, &mut rooms, &mut steps, &mut spare, stop, term, watch,

@@ -128,7 +128,7 @@ fn run_in<D: Desk, S: Stop, T: Terminal, W: Watch>(
         (StandsFrom D.Desk T.Terminal depth (desk.old, term.old, steps.old)
         (at_beginning (arguments args.old) text.now)) }
 {
-    let mut cursor = Cursor::begin(text, *args, room);
+    let mut cursor = Cursor::begin(text, *args, room, spare.memory);
     'running: loop {
         let at = cursor.at;
         match step::<D, S, T, W>(desk, &mut cursor, steps, stop, term) {

@@ -114,7 +114,7 @@ fn verdict_on_all(
     Ok(Verdict {
         lines,
         is_faulty: advice.is_faulty,
-        is_misspelt: is_misspelt(bytes, &advice.code),
+        is_misspelt: is_misspelt(alloc, bytes, &advice.code),
     })
 }
 
@@ -141,7 +141,7 @@ fn verdict_on_strings(
             &faults,
         )?,
         is_faulty: advice.is_faulty,
-        is_misspelt: is_misspelt(strings, &advice.code),
+        is_misspelt: is_misspelt(alloc, strings, &advice.code),
     })
 }
 

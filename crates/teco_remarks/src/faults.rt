@@ -8,7 +8,7 @@ use crate::remarks::{FaultIn, Remark, What};
 use std::alloc::Global;
 use teco_check::fault_of;
 use teco_core::NoMemory;
-use teco_fault::{Fault, MOST_TEXTS, REGISTERS, Wrong, first_fault_within};
+use teco_fault::{Fault, MOST_TEXTS, REGISTERS, Wrong, first_fault_by_tags};
 use teco_scan::{Found, Item, Span, TokenKind, token_at};
 
 /// The most faults of a command string that are told.
@@ -41,7 +41,7 @@ fn is_in_text(wrong: Wrong) -> bool
 
 /// The fault itself, where a fault says that it is in a text which is put where code is. Each text inside is looked into one text less
 /// deep, as the check did.
-fn innermost(text: &[u8], code: &[bool; REGISTERS], fault: Fault) -> FaultIn
+fn innermost(alloc: Global, text: &[u8], code: &[bool; REGISTERS], fault: Fault) -> FaultIn
     ensures own { is_in_text fault.wrong ≡ false → result ≡ own_fault (length text.now) fault }
 {
     let mut found = FaultIn {
@@ -58,7 +58,7 @@ fn innermost(text: &[u8], code: &[bool; REGISTERS], fault: Fault) -> FaultIn
         let Some(inside) = text_put(text, &found) else {
             return found;
         };
-        let Some(fault) = first_fault_within(part(text, inside), code, texts) else {
+        let Some(fault) = first_fault_by_tags(alloc, part(text, inside), code, texts) else {
             return found;
         };
         found = FaultIn {
@@ -102,17 +102,17 @@ pub fn push_faults(
     ensures some { OnOk result (list_any is_fault faults.new.items ≡ true) }
 {
     let mut text = Vec::from_slice(alloc, string)?;
-    let mut fault = innermost(&text, code, first);
+    let mut fault = innermost(alloc, &text, code, first);
     let told = moved(&fault, from);
     faults.push(told)?;
     for _ in 1..MOST_FAULTS {
         if !pass_over(&mut text, &fault) {
             return Ok(());
         }
-        let Some(next) = fault_of(&text, code) else {
+        let Some(next) = fault_of(alloc, &text, code) else {
             return Ok(());
         };
-        let later = innermost(&text, code, next);
+        let later = innermost(alloc, &text, code, next);
         if later.at <= fault.at {
             return Ok(());
         }

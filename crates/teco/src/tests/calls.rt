@@ -163,8 +163,8 @@ fn an_unknown_command_is_found() -> bool {
 }
 
 /// teco_check: a text without a fault.
-fn a_clean_text_is_told() -> bool {
-    fault_of(b"3<%A>", &[false; REGISTERS]).is_none()
+fn a_clean_text_is_told(alloc: Global) -> bool {
+    fault_of(alloc, b"3<%A>", &[false; REGISTERS]).is_none()
 }
 
 /// teco_advice: the second of two command strings has a fault.
@@ -240,7 +240,7 @@ fn programs_are_called_so(alloc: Global) -> bool {
         && a_source_is_understood(alloc)
         && a_text_is_listed(alloc)
         && an_unknown_command_is_found()
-        && a_clean_text_is_told()
+        && a_clean_text_is_told(alloc)
         && a_fault_is_told(alloc)
         && a_stream_is_named()
         && a_line_is_read(alloc)

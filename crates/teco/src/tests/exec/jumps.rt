@@ -10,6 +10,8 @@ pub(super) const ROWS: &str = "
     Ox\x1b1\"E2|3|4'!x! => => TAG => 1
     Ox\x1b!xx!!!!X! => => TAG => 1
     O\x1b!x!!!2= => 2\r\n => => 3
+    Ox\x1b0<!x!1=>!x!2= => 2\r\n => => 3
+    Ox\x1b?!x!1= => => TAG => 1
     @^UA/Ox\x1b/MA!x!1=\x1b => => TAG => 3
     // Macros end as they mean.
     @^UA/;/<MA>\x1b => => SNI => 4
