@@ -1,4 +1,6 @@
 //! The flag of a stopper, which two handles share.
+ghost use Rattle.teco_door.specs.Stops.{flag_answers};
+
 use std::alloc::Global;
 use std::sync::Arc;
 use std::sync::atomic::{AtomicBool, Ordering};
@@ -39,7 +41,7 @@ pub struct Asking<'a> {
 }
 
 impl<'a> Stop for Asking<'a> {
-    ghost answered = { λ _ _ _. Unit {0} };
+    ghost answered = { λ _. flag_answers };
 
     #[inline(always)]
     fn asks(&mut self, _done: u64) -> bool {

@@ -22,11 +22,11 @@ pub record HostView (D I S T W : Type 0) : Type 1 where
   pub stream : SourceView S
   pub screen : T → Screen
   pub word : SourceView W
-  -- after so many steps a command string was asked to stop
-  pub asked : ℕ → Type 0
+  -- an alarm of so many seconds asked a command string to stop after so many steps
+  pub asked : ℕ → ℕ → Type 0
 
 abbrev pub host_view : {D I S T W : Type 0} → (D → DiskSeen I) → SourceView S → (T → Screen) → SourceView W
-    → (ℕ → Type 0) → HostView D I S T W
+    → (ℕ → ℕ → Type 0) → HostView D I S T W
 host_view disk stream screen word asked =
     record { disk = disk; stream = stream; screen = screen; word = word; asked = asked }
 

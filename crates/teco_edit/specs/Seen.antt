@@ -13,10 +13,10 @@ pub record CommandsSeen : Type 1 where
   pub gave : List ℕ → Bool → Type 0
   -- their source has ended
   pub ended : Type 0
-  -- after so many steps one of them was asked to stop
-  pub asked : ℕ → Type 0
+  -- an alarm of so many seconds asked one of them to stop after so many steps
+  pub asked : ℕ → ℕ → Type 0
 
-abbrev pub commands_seen : {S : Type 0} → SourceView S → S → S → (ℕ → Type 0) → CommandsSeen
+abbrev pub commands_seen : {S : Type 0} → SourceView S → S → S → (ℕ → ℕ → Type 0) → CommandsSeen
 commands_seen source old new asked = record {
   still = new ≡ old;
   gave = Gives source.coming source.bound source.failures old new;

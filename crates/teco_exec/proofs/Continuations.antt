@@ -9,7 +9,7 @@ use Rattle.teco_exec.specs.CursorMoves.{Cursor as MachineCursor, pass}
 use Rattle.teco_exec.specs.Machine.{Caller, Config, block, Now, runs, halts, ready_where_comes, ready_of, after_text_end, step, faulty, run_within}
 use Rattle.teco_exec.specs.View.{cursor_at_start, coming_of, cursor, item_of_kind, block_step_of}
 use Rattle.teco_exec.specs.Running.{goes, over, stops, config, ready_run, at_cursor, at_token, at_block_step, at_return, Origin, Host, Continuation, RunGoesOn, Alike, sight, ReachesContinuation, ReachesEnd, at_beginning, at_call, cursor_after_call, Reaches, code_left, reached_by_exit, reached_after_call, now_at, whole_run, ended_by}
-use Rattle.teco_exec.specs.Runs.{Answers, IsBrokenOff, RunsWithin}
+use Rattle.teco_exec.specs.Runs.{Answers, IsBrokenOff, RunsWithin, never_asks}
 use Rattle.teco_exec.specs.declared.cursor.Cursor.{Cursor}
 use Rattle.teco_exec.specs.declared.moves.BlockStep.{BlockStep}
 use Rattle.teco_exec.specs.declared.moves.Coming.{Coming}
@@ -167,15 +167,15 @@ whole_ends limit o before after a (ending.Fail left) code is le r = subst (Reach
 whole_ends limit o before after a (ending.Stop left) code is le r = subst (ReachesEnd limit o before after) (sym is) r
 
 -- A run of a whole string whose limit doesn't stay was broken off.
-pub broken_off : (answered : Answers) (limit before done : ℕ) (exit : Exit) (code : Option Code) → code ≡ code_left exit → (limit ≡ before) ⊎ ((exit ≡ ending.Stop Lim) × answered done true × (limit ≡ done))
+pub broken_off : (answered : Answers) (limit before done : ℕ) (exit : Exit) (code : Option Code) → code ≡ code_left exit → (limit ≡ before) ⊎ ((exit ≡ ending.Stop Lim) × answered.said done true × (limit ≡ done))
     → (limit ≡ before) ⊎ IsBrokenOff answered limit (ended_by code done)
 broken_off answered limit before done exit code is (inl same) = inl same
 broken_off answered limit before done exit code is (inr broken) = inr (record { asked = broken.1; steps = broken.2; code = is ∙ ap code_left broken.0 })
 
 -- A run that nobody asks to stop has the limit that it was given.
-pub unbroken : (limit : ℕ) (outcome : Outcome) (P : ℕ → Type 0) → RunsWithin (λ k b. b ≡ false) limit outcome P → P limit
+pub unbroken : (limit : ℕ) (outcome : Outcome) (P : ℕ → Type 0) → RunsWithin never_asks limit outcome P → P limit
 unbroken limit outcome P r = under_it r.under r.stays r.so
   where
-    under_it : (l : ℕ) → (l ≡ limit) ⊎ IsBrokenOff (λ k b. b ≡ false) l outcome → P l → P limit
+    under_it : (l : ℕ) → (l ≡ limit) ⊎ IsBrokenOff never_asks l outcome → P l → P limit
     under_it l (inl same) so = subst P same so
     under_it l (inr broken) so = let never : true ≡ false = broken.asked in absurd cc

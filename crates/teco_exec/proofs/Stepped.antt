@@ -17,7 +17,7 @@ use Rattle.teco_step.specs.Stepping.{IsStepIn, IsStepKind, is_call, kind_effect,
 use Rattle.teco_command.specs.Ending.{end_of, is_unfinished, is_unfinished_code}
 use Rattle.teco_exec.specs.CursorMoves.{inside_iteration, leave_is_next, CursorOrError, after_block_step}
 use Rattle.teco_exec.specs.Machine.{step, in_called_text, setting_of, Caller, Config, Now, halts, runs, runs_or_halts, after_step_end, after_token_step, ready_of, ready_within}
-use Rattle.teco_exec.specs.Runs.{Answers}
+use Rattle.teco_exec.specs.Runs.{Answers, StillSays}
 use Rattle.teco_exec.specs.Tokens.{call_of, calls_text, looks_around, CountsSteps, ProgressFinishes, reached_by_progress}
 use Rattle.teco_exec.specs.View.{cursor, item_of_kind, ResultFinishes as MovesWell, cursor_or_error, block_step_of}
 use Rattle.teco_exec.specs.declared.cursor.Cursor.{Cursor}
@@ -208,9 +208,6 @@ module _ (c : Cursor) (b : BlockStep) (to : ℕ) (callers : List Caller) where
       since limit o h later later d there.follows (settles o later after_block there.going limit d fin (omega arith) leads)
 
 -- Steps of tokens: what is counted, and a further step.
-abbrev Keeps : Answers → Answers → Type 0
-Keeps p q = (k : ℕ) (b : Bool) → p k b → q k b
-
 stays_on : {P Q : Type 0} (k j i : ℕ) → (P → ⊥) → (j ≡ k) ⊎ P → (i ≡ j) ⊎ Q → (i ≡ k) ⊎ Q
 stays_on k j i none p (inr asked) = inr asked
 stays_on k j i none (inr asked) (inl same) = absurd (none asked)
@@ -225,9 +222,9 @@ pub counts_on : {p q r : Answers} {R : Type 0} {a b c : StepCount} → CountsSte
 counts_on {a = a} {b = b} {c = c} x y = record {
   limit = omega (arith, x.limit, y.limit);
   more = omega (arith, x.more, y.more);
-  heard = λ k from to. up_to k b.done (ltb k b.done) refl (λ low. y.still k false (x.heard k from low)) (λ high. y.heard k high to);
+  heard = λ k from to. up_to k b.done (ltb k b.done) refl (λ low. y.still.said k false (x.heard k from low)) (λ high. y.heard k high to);
   stays = stays_on a.limit b.limit c.limit (λ h. h.0) x.stays y.stays;
-  still = λ k is h. y.still k is (x.still k is h);
+  still = record { span = y.still.span ∙ x.still.span; said = λ k is h. y.still.said k is (x.still.said k is h) };
 }
 
 -- The limit stays, or the run is broken off, also as seen from around.
@@ -238,24 +235,28 @@ stays_so so (inr broken) = inr (so broken)
 pub counts_so : {p q : Answers} {P Q : Type 0} {a b : StepCount} → (P → Q) → CountsSteps p q P a b → CountsSteps p q Q a b
 counts_so so x = record { limit = x.limit; more = x.more; heard = x.heard; stays = stays_so (λ h. (so h.0, h.1, h.2)) x.stays; still = x.still }
 
+-- The stop is not asked.
+pub says_on : {said : Answers} → StillSays said said
+says_on = record { span = refl; said = λ k is h. h }
+
 -- Nothing is counted; a step is counted; and the run is over, since no step is left or it is asked to stop.
-pub counts_none : {p q : Answers} {P : Type 0} {a : StepCount} → Keeps p q → CountsSteps p q P a a
+pub counts_none : {p q : Answers} {P : Type 0} {a : StepCount} → StillSays p q → CountsSteps p q P a a
 counts_none on = record { limit = omega arith; more = omega arith; heard = λ k from to. absurd (omega arith); stays = inl refl; still = on }
 
-pub counts_one : {p q : Answers} {P : Type 0} {a b : StepCount} → Keeps p q → q a.done false → b.limit ≡ a.limit → b.done ≡ a.done + 1 → CountsSteps p q P a b
+pub counts_one : {p q : Answers} {P : Type 0} {a b : StepCount} → StillSays p q → q.said a.done false → b.limit ≡ a.limit → b.done ≡ a.done + 1 → CountsSteps p q P a b
 counts_one {q = q} {a = a} on lets same one = record {
   limit = omega (arith, same);
   more = omega (arith, one);
-  heard = λ k from to. (let here : a.done ≡ k = omega (arith, one) in subst (λ i. q i false) here lets);
+  heard = λ k from to. (let here : a.done ≡ k = omega (arith, one) in subst (λ i. q.said i false) here lets);
   stays = inl same;
   still = on;
 }
 
-over_by : (q : Answers) {P : Type 0} (limit done more new : ℕ) → (done ≡ limit) ⊎ q done true → more ≡ done → new ≡ done → P → (new ≡ limit) ⊎ (P × q more true × (new ≡ more))
+over_by : (q : Answers) {P : Type 0} (limit done more new : ℕ) → (done ≡ limit) ⊎ q.said done true → more ≡ done → new ≡ done → P → (new ≡ limit) ⊎ (P × q.said more true × (new ≡ more))
 over_by q limit done more new (inl none) same low broken = inl (low ∙ none)
-over_by q limit done more new (inr asked) same low broken = inr (broken, subst (λ k. q k true) (sym same) asked, low ∙ sym same)
+over_by q limit done more new (inr asked) same low broken = inr (broken, subst (λ k. q.said k true) (sym same) asked, low ∙ sym same)
 
-pub counts_over : {p q : Answers} {P : Type 0} {a b : StepCount} → Keeps p q → (a.done ≡ a.limit) ⊎ q a.done true → b.done ≡ a.done → b.limit ≡ a.done → P → CountsSteps p q P a b
+pub counts_over : {p q : Answers} {P : Type 0} {a b : StepCount} → StillSays p q → (a.done ≡ a.limit) ⊎ q.said a.done true → b.done ≡ a.done → b.limit ≡ a.done → P → CountsSteps p q P a b
 counts_over {q = q} {a = a} {b = b} on is same low broken = record {
   limit = omega (arith, low, a.within);
   more = omega (arith, same);

@@ -39,14 +39,25 @@ Runs s text limit outcome typed new = elim outcome.code [
   | _ ↦ EndsWell s text limit outcome typed new
 ]
 
--- what one who may stop a run has answered, and after how many steps: that it is to stop, or not
-abbrev pub Answers : Type 1
-Answers = ℕ → Bool → Type 0
+-- What is seen of one who may stop a run: the time that it gives to a run, as a number, and what it has answered,
+-- and after how many steps: that the run is to stop, or not.
+pub record Answers : Type 1 where
+  pub span : ℕ
+  pub said : ℕ → Bool → Type 0
+
+-- It gives the same time after as before, and what it had answered before it has answered still.
+pub record StillSays (before after : Answers) : Type 0 where
+  pub span : after.span ≡ before.span
+  pub said : (k : ℕ) (b : Bool) → before.said k b → after.said k b
+
+-- what is seen of one who never asks a run to stop
+abbrev pub never_asks : Answers
+never_asks = record { span = 0; said = λ k b. b ≡ false }
 
 -- A string was broken off: it was asked to stop after the steps that are done, its limit is just these, and
 -- it ended by LIM.
 pub record IsBrokenOff (answered : Answers) (limit : ℕ) (outcome : Outcome) : Type 0 where
-  pub asked : answered outcome.steps true
+  pub asked : answered.said outcome.steps true
   pub steps : limit ≡ outcome.steps
   pub code : outcome.code ≡ Some Lim
 
@@ -56,7 +67,7 @@ pub record RunsWithin (answered : Answers) (limit : ℕ) (outcome : Outcome) (P 
   pub under : ℕ
   pub within : under ≤ limit
   pub stays : (under ≡ limit) ⊎ IsBrokenOff answered under outcome
-  pub heard : (k : ℕ) → k < outcome.steps → answered k false
+  pub heard : (k : ℕ) → k < outcome.steps → answered.said k false
   pub so : P under
 
 -- the outcome says that the terminal failed

@@ -10,7 +10,7 @@ use Rattle.teco_scan.specs.declared.token.TokenKind.{TokenKind}
 use Rattle.teco_scan.specs.declared.token.TokenKind.TheVariants.{Item}
 use Rattle.teco_exec.specs.Machine.{Caller}
 use Rattle.teco_exec.specs.Running.{FlowFinishes, FlowStays, GoesOn, GoesQuietly, Reached, at_token, reached_by_flow, goes}
-use Rattle.teco_exec.specs.Runs.{Answers}
+use Rattle.teco_exec.specs.Runs.{Answers, StillSays}
 use Rattle.teco_exec.specs.View.{Stays}
 use Rattle.teco_exec.specs.declared.cursor.Cursor.{Cursor}
 use Rattle.teco_exec.specs.declared.flow.Flow.{Flow}
@@ -23,9 +23,9 @@ use Rattle.teco_exec.specs.declared.flow.Steps.{Steps}
 pub record CountsSteps (before after : Answers) (broken : Type 0) (old new : Steps) : Type 0 where
   pub limit : new.limit ≤ old.limit
   pub more : old.done ≤ new.done
-  pub heard : (k : ℕ) → old.done ≤ k → k < new.done → after k false
-  pub stays : (new.limit ≡ old.limit) ⊎ (broken × after new.done true × (new.limit ≡ new.done))
-  pub still : (k : ℕ) (b : Bool) → before k b → after k b
+  pub heard : (k : ℕ) → old.done ≤ k → k < new.done → after.said k false
+  pub stays : (new.limit ≡ old.limit) ⊎ (broken × after.said new.done true × (new.limit ≡ new.done))
+  pub still : StillSays before after
 
 -- Tokens whose step looks around: whether an iteration is open, or a plain `;` comes next.
 abbrev pub looks_around : TokenKind → Bool

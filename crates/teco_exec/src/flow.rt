@@ -67,7 +67,8 @@ pub(crate) struct Steps {
 }
 
 impl Steps {
-    ghost use Rattle.std.specs.Prelude.{◌≡◌, ℕ, Bool, ◌+◌, ◌<◌, ◌⊎◌, true, false};
+    ghost use Rattle.std.specs.Prelude.{◌≡◌, ◌+◌, ◌<◌, ◌⊎◌, true, false};
+    ghost use Rattle.teco_exec.specs.Runs.{StillSays};
 
     /// One step more is done.
     pub fn count(&mut self)
@@ -82,10 +83,10 @@ impl Steps {
     #[inline(always)]
     pub fn are_over<S: Stop>(&self, stop: &mut S) -> bool
         ensures over { result ≡ true
-            → (self.now.done ≡ self.now.limit) ⊎ S.answered stop.new self.now.done true }
+            → (self.now.done ≡ self.now.limit) ⊎ (S.answered stop.new).said self.now.done true }
         ensures left { result ≡ false → self.now.done < self.now.limit }
-        ensures lets { result ≡ false → S.answered stop.new self.now.done false }
-        ensures still { (k : ℕ) (b : Bool) → S.answered stop.old k b → S.answered stop.new k b }
+        ensures lets { result ≡ false → (S.answered stop.new).said self.now.done false }
+        ensures still { StillSays (S.answered stop.old) (S.answered stop.new) }
     {
         self.done == self.limit || stop.asks(self.done)
     }

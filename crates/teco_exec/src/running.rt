@@ -6,7 +6,7 @@ ghost use Rattle.teco_exec.specs.Places.{IsPlaceAfter, Told};
 ghost use Rattle.teco_exec.specs.Telling.{IsLastPlace};
 ghost use Rattle.teco_terminal.specs.Terminal.{Shows};
 ghost use Rattle.teco_exec.specs.Quiet.{takes_no_memory};
-ghost use Rattle.teco_exec.specs.Runs.{Runs, RunsWithin, is_tty, trail_of};
+ghost use Rattle.teco_exec.specs.Runs.{Runs, RunsWithin, StillSays, is_tty, trail_of};
 ghost use Rattle.teco_exec.specs.StringMeaning.{string_meaning};
 ghost use Rattle.teco_exec.specs.declared.flow.Exit.TheVariants as exit;
 
@@ -54,6 +54,7 @@ pub fn run_until<D: Desk, S: Stop, T: Terminal>(
     ensures run { RunsWithin (S.answered stop.new) limit result (λ l. (typed : List ℕ)
         × Runs (D.state desk.old) text.now l result typed (D.state desk.new)
         × Shows (T.screen term.old) (T.screen term.new) typed (is_tty result)) }
+    ensures still { StillSays (S.answered stop.old) (S.answered stop.new) }
     ensures again { D.state desk.new ≡ (string_meaning (D.state desk.old) text.now result.steps).state }
     ensures follows { (floor : ℕ) → D.follows desk.old (trail_of (D.state desk.old) text.now floor 0)
         → D.follows desk.new (trail_of (D.state desk.old) text.now floor result.steps) }
@@ -116,6 +117,7 @@ pub fn run_where_until<D: Desk, S: Stop, T: Terminal>(
     ensures run { RunsWithin (S.answered stop.new) limit result.outcome (λ l. (typed : List ℕ)
         × Runs (D.state desk.old) text.now l result.outcome typed (D.state desk.new)
         × Shows (T.screen term.old) (T.screen term.new) typed (is_tty result.outcome)) }
+    ensures still { StillSays (S.answered stop.old) (S.answered stop.new) }
     ensures again { D.state desk.new
         ≡ (string_meaning (D.state desk.old) text.now result.outcome.steps).state }
     ensures follows { (floor : ℕ) → D.follows desk.old (trail_of (D.state desk.old) text.now floor 0)
@@ -150,6 +152,7 @@ fn run_watched<D: Desk, S: Stop, T: Terminal, W: Watch>(
     ensures run { RunsWithin (S.answered stop.new) limit result (λ l. (typed : List ℕ)
         × Runs (D.state desk.old) text.now l result typed (D.state desk.new)
         × Shows (T.screen term.old) (T.screen term.new) typed (is_tty result)) }
+    ensures still { StillSays (S.answered stop.old) (S.answered stop.new) }
     ensures again { D.state desk.new ≡ (string_meaning (D.state desk.old) text.now result.steps).state }
     ensures follows { (floor : ℕ) → D.follows desk.old (trail_of (D.state desk.old) text.now floor 0)
         → D.follows desk.new (trail_of (D.state desk.old) text.now floor result.steps) }

@@ -1,17 +1,17 @@
 //! Who may ask a run to stop.
-ghost use Rattle.std.specs.Prelude.{◌≡◌, ℕ, Bool, false};
+ghost use Rattle.teco_exec.specs.Runs.{Answers, StillSays, never_asks};
 
 /// Who may ask a run to stop, before each of its steps.
 pub trait Stop {
-    // what it has answered, and after how many steps
-    ghost answered: { Self → ℕ → Bool → Type 0 };
+    // the time that it gives, which stays, and what it has answered, and after how many steps
+    ghost answered: { Self → Answers };
 
     /// Whether the run is to stop now, after so many steps.
     ///
     /// The steps are told so that a clock need not be read before each one.
     fn asks(&mut self, done: u64) -> bool
-        ensures answers { answered self.new done result }
-        ensures still { (k : ℕ) (b : Bool) → answered self.old k b → answered self.new k b };
+        ensures answers { (answered self.new).said done result }
+        ensures still { StillSays (answered self.old) (answered self.new) };
 }
 
 /// Nobody asks.
@@ -19,7 +19,7 @@ pub trait Stop {
 pub struct Never;
 
 impl Stop for Never {
-    ghost answered = { λ _ _ b. b ≡ false };
+    ghost answered = { λ _. never_asks };
 
     #[inline(always)]
     fn asks(&mut self, _done: u64) -> bool {

@@ -264,7 +264,7 @@ fn run_copy<D: Desk, S: Stop, T: Terminal, W: Watch>(
     requires within { at ≤ length cursor.old.text.now }
     requires copy { called.now ≡ (content (D.state desk.old).registers q).text }
     requires fuel { steps.old.done < steps.old.limit }
-    requires lets { S.answered stop.old steps.old.done false }
+    requires lets { (S.answered stop.old).said steps.old.done false }
     ensures text { cursor.new.text ≡ cursor.old.text }
     ensures left { (cursor_of cursor.new).left ≡ (cursor_of cursor.old).left }
     ensures counts { CountsSteps (S.answered stop.old) (S.answered stop.new) (result ≡ exit.Stop Lim)

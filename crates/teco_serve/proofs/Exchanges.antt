@@ -1,10 +1,10 @@
 -- Lemmas on one exchange.
 use Rattle.std.proofs.Common.{◌≡◌, ℕ, suc, ◌+◌, ◌-◌, ◌<◌, List, [], ◌∷◌, ◌++◌, Bool, true, false, ◌&&◌, not, if◌then◌else◌, Option, Some, None, refl, sym, ap, ◌∙◌, arith, subst, append-nil, append_assoc, inl, inr, true≢false}
-use Rattle.std.specs.Prelude.{◌≢◌, ◌≤◌, ◌⊎◌, IsSome}
+use Rattle.std.specs.Prelude.{◌≢◌, ◌≤◌, ◌⊎◌, IsSomeAnd}
 use Rattle.std.specs.Bool.{MatchBool}
 use Rattle.teco_core.specs.declared.code.Code.{Code}
 use Rattle.teco_core.specs.declared.code.Code.TheVariants.{Tty}
-use Rattle.teco_exec.specs.Runs.{Answers, IsBrokenOff}
+use Rattle.teco_exec.specs.Runs.{Answers, IsBrokenOff, StillSays}
 use Rattle.teco_exec.specs.declared.outcome.Outcome.{Outcome}
 use Rattle.teco_session.specs.Answers.{answer_code, is_refused}
 use Rattle.teco_session.specs.History.{History, present}
@@ -13,6 +13,7 @@ use Rattle.teco_session.specs.declared.request.Answer.{Answer}
 use Rattle.teco_session.specs.declared.request.Answer.TheVariants.{Ended, NotBegun, AfterExit, Undone, NothingToUndo, Redone, NothingToRedo, Rewound}
 use Rattle.teco_session.specs.declared.request.Request.{Request}
 use Rattle.teco_session.specs.declared.request.Request.TheVariants as request
+use Rattle.teco_serve.specs.Alarm.{IsSet}
 use Rattle.teco_serve.specs.Exchange.{Exchange, HasRung, MovesInHistory, Repeats, RunsAllowed, allowance, exchange_shown, exits, is_exit, is_run}
 use Rattle.teco_serve.specs.Message.{lines_of, message, replies_shown, star}
 use Rattle.teco_serve.specs.Stream.Asks.{Run}
@@ -20,12 +21,14 @@ use Rattle.teco_serve.specs.declared.alarm.Bounds.{Bounds}
 use Rattle.teco_serve.proofs.Showing.{some-left, some-right}
 
 -- a run that an alarm may have broken off is allowed where seconds are given
-pub runs_allowed : {A : Type 0} (answered : A → Answers) (alarm : A) (bounds : Bounds) (outcome : Outcome) (RanUnder : ℕ → Type 0) (under : ℕ)
-    → IsSome bounds.seconds → under ≤ bounds.steps → (under ≡ bounds.steps) ⊎ IsBrokenOff (answered alarm) under outcome → RanUnder under
+pub runs_allowed : {A : Type 0} (answered : A → Answers) (before after : A) (bounds : Bounds) (seconds : ℕ) (outcome : Outcome) (RanUnder : ℕ → Type 0) (under : ℕ)
+    → bounds.seconds ≡ Some seconds → StillSays (answered before) (answered after) → IsSet (answered before) seconds
+    → under ≤ bounds.steps → (under ≡ bounds.steps) ⊎ IsBrokenOff (answered after) under outcome → RanUnder under
     → RunsAllowed (allowance bounds (HasRung answered)) outcome RanUnder
-runs_allowed answered alarm bounds outcome RanUnder under some within (inl e) ran = inl (subst RanUnder e ran)
-runs_allowed answered alarm bounds outcome RanUnder under some within (inr b) ran = inr (record {
-  asked = (some, (alarm, b.asked));
+runs_allowed answered before after bounds seconds outcome RanUnder under some still begins within (inl e) ran = inl (subst RanUnder e ran)
+runs_allowed answered before after bounds seconds outcome RanUnder under some still begins within (inr b) ran = inr (record {
+  asked = subst (λ (given : Option ℕ). IsSomeAnd given (λ s. HasRung answered s outcome.steps)) (sym some)
+      (record { before = before; after = after; begins = begins; still = still; rings = b.asked });
   within = subst (λ k. k ≤ bounds.steps) b.steps within;
   code = b.code;
   ran = subst RanUnder b.steps ran;

@@ -1,16 +1,17 @@
 -- One exchange: what is done for one text of the stream, and what is shown of it.
-use Rattle.std.specs.Prelude.{◌≡◌, ◌≢◌, ◌≤◌, ◌⊎◌, ℕ, zero, suc, IsSome, Some, List, [], ◌∷◌, ◌++◌, Bool, true, false, ◌&&◌, not}
+use Rattle.std.specs.Prelude.{◌≡◌, ◌≢◌, ◌≤◌, ◌⊎◌, ℕ, zero, suc, IsSomeAnd, Some, List, [], ◌∷◌, ◌++◌, Bool, true, false, ◌&&◌, not}
 use Rattle.std.specs.Prelude.{if◌then◌else◌}
 use Rattle.std.specs.Bool.{MatchBool}
 use Rattle.teco_core.specs.declared.code.Code.TheVariants.{Lim}
 use Rattle.teco_terminal.specs.Terminal.{IsFrontOf}
-use Rattle.teco_exec.specs.Runs.{Answers}
+use Rattle.teco_exec.specs.Runs.{Answers, StillSays}
 use Rattle.teco_exec.specs.declared.outcome.Outcome.{Outcome}
 use Rattle.teco_session.specs.Answers.{is_refused, string_outcome}
 use Rattle.teco_session.specs.History.{History, present}
 use Rattle.teco_session.specs.Step.{Step, RunStep, Reply}
 use Rattle.teco_session.specs.declared.request.Request.{Request}
 use Rattle.teco_session.specs.declared.request.Request.TheVariants as request
+use Rattle.teco_serve.specs.Alarm.{IsSet}
 use Rattle.teco_serve.specs.Stream.{Asks}
 use Rattle.teco_serve.specs.Stream.Asks.{Run, Undo, Redo, Rewind}
 use Rattle.teco_serve.specs.Message.{replies_shown, star}
@@ -21,13 +22,18 @@ pub record Allowance : Type 1 where
   pub steps : ℕ
   pub asked : ℕ → Type 0
 
--- One with no bound of seconds is never asked to stop.
-abbrev pub allowance : Bounds → (ℕ → Type 0) → Allowance
-allowance bounds asked = record { steps = bounds.steps; asked = λ done. IsSome bounds.seconds × asked done }
+-- One with no bound of seconds is never asked to stop, and else by an alarm that was set for just these seconds.
+abbrev pub allowance : Bounds → (ℕ → ℕ → Type 0) → Allowance
+allowance bounds asked = record { steps = bounds.steps; asked = λ done. IsSomeAnd bounds.seconds (λ seconds. asked seconds done) }
 
--- An alarm that was asked after so many steps has answered that the string is to stop.
-abbrev pub HasRung : {A : Type 0} → (A → Answers) → ℕ → Type 0
-HasRung {A} answered done = (alarm : A) × answered alarm done true
+-- An alarm rang in a string. It was set for so many seconds before the string, and after that it was asked alone.
+-- After so many steps it has answered that the string is to stop.
+pub record HasRung {A : Type 0} (answered : A → Answers) (seconds done : ℕ) : Type 0 where
+  pub before : A
+  pub after : A
+  pub begins : IsSet (answered before) seconds
+  pub still : StillSays (answered before) (answered after)
+  pub rings : (answered after).said done true
 
 -- A string was broken off: it was asked to stop after the steps that it did, it ended by LIM, and it ran as under
 -- a limit of just these steps.

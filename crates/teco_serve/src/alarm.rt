@@ -1,6 +1,7 @@
 //! How far a command string may run, and what asks it to stop.
-ghost use Rattle.std.specs.Prelude.{◌≡◌, ◌↔◌, ℕ, IsTrue, true};
-ghost use Rattle.teco_serve.specs.Alarm.{AreApart};
+ghost use Rattle.std.specs.Prelude.{◌≡◌, ◌↔◌, ◌⊎◌, ℕ, Option, IsTrue, None, true};
+ghost use Rattle.std.specs.declared.time.Instant.{Instant};
+ghost use Rattle.teco_serve.specs.Alarm.{AreApart, clock_answers};
 
 use std::time::{Clock, Instant};
 use teco_exec::Stop;
@@ -16,13 +17,34 @@ pub struct Bounds {
 
 /// What asks a command string to stop when it has run long enough.
 pub trait Alarm: Stop {
-    // for how many seconds it was set last
-    ghost span: { Self → ℕ };
-
     /// A command string begins, which may run so many seconds.
     fn set(&mut self, seconds: u64)
-        ensures span { span self.new ≡ seconds }
-        ensures fresh { (k : ℕ) → Self.answered self.new k true → ⊥ };
+        ensures span { (Self.answered self.new).span ≡ seconds }
+        ensures fresh { (k : ℕ) → (Self.answered self.new).said k true → ⊥ };
+}
+
+/// What tells the time to an alarm.
+pub trait Timer: Drop {
+    // from what it was to what it is, a reading may have told this
+    ghost tells: { Self → Self → Option Instant → Type 0 };
+
+    /// Reads the time. It tells nothing if it can't be read.
+    fn read(&mut self) -> Option<Instant>
+        ensures { tells self.old self.new result };
+}
+
+/// The clock of the system. What it tells no contract says.
+#[derive(Drop)]
+pub struct SystemTimer<'a, C: Clock> {
+    clock: &'a C,
+}
+
+impl<'a, C: Clock> Timer for SystemTimer<'a, C> {
+    ghost tells = { λ _ _ _. Unit {0} };
+
+    fn read(&mut self) -> Option<Instant> {
+        Instant::now(self.clock).ok()
+    }
 }
 
 /// The steps from one look at the clock to the next.
@@ -33,8 +55,8 @@ const STEPS: u64 = 256;
 /// It reads the clock when it is set, and then before each 256th step. It asks a string to stop only after a reading that is so many
 /// seconds later than the first one. A clock that can't be read breaks off no string.
 #[derive(Drop)]
-pub struct ClockAlarm<'a, C: Clock> {
-    clock: &'a C,
+pub struct ClockAlarm<M: Timer> {
+    timer: M,
     seconds: u64,
     /// What the clock told when the alarm was set.
     first: Option<Instant>,
@@ -42,15 +64,28 @@ pub struct ClockAlarm<'a, C: Clock> {
     last: Option<Instant>,
 }
 
-impl<'a, C: Clock> ClockAlarm<'a, C> {
+impl<'a, C: Clock> ClockAlarm<SystemTimer<'a, C>> {
     /// It isn't set yet.
-    pub fn new(clock: &'a C) -> ClockAlarm<'a, C> {
+    pub fn new(clock: &'a C) -> ClockAlarm<SystemTimer<'a, C>> {
         ClockAlarm {
-            clock,
+            timer: SystemTimer { clock },
             seconds: 0,
             first: None,
             last: None,
         }
+    }
+}
+
+impl<M: Timer> ClockAlarm<M> {
+    /// It is set for so many seconds, which begin now.
+    fn begin(&mut self, seconds: u64)
+        ensures span { self.new.seconds ≡ seconds }
+        ensures reads { M.tells self.old.timer self.new.timer self.new.first }
+        ensures fresh { self.new.last ≡ None }
+    {
+        self.seconds = seconds;
+        self.first = self.timer.read();
+        self.last = None;
     }
 
     /// Whether the seconds are over. It reads the clock, unless they were over before.
@@ -58,9 +93,12 @@ impl<'a, C: Clock> ClockAlarm<'a, C> {
         ensures over { IsTrue result ↔ AreApart self.new.seconds self.new.first self.new.last }
         ensures still { AreApart self.old.seconds self.old.first self.old.last
             → AreApart self.new.seconds self.new.first self.new.last }
+        ensures span { self.new.seconds ≡ self.old.seconds }
+        ensures begun { self.new.first ≡ self.old.first }
+        ensures reads { (self.new.last ≡ self.old.last) ⊎ M.tells self.old.timer self.new.timer self.new.last }
     {
         if !are_apart(self.seconds, self.first, self.last) {
-            self.last = Instant::now(self.clock).ok();
+            self.last = self.timer.read();
         }
         are_apart(self.seconds, self.first, self.last)
     }
@@ -76,8 +114,8 @@ fn are_apart(seconds: u64, first: Option<Instant>, last: Option<Instant>) -> boo
     }
 }
 
-impl<'a, C: Clock> Stop for ClockAlarm<'a, C> {
-    ghost answered = { λ alarm _ b. b ≡ true → AreApart alarm.seconds alarm.first alarm.last };
+impl<M: Timer> Stop for ClockAlarm<M> {
+    ghost answered = { λ alarm. clock_answers alarm.seconds alarm.first alarm.last };
 
     #[inline(always)]
     fn asks(&mut self, done: u64) -> bool {
@@ -85,12 +123,8 @@ impl<'a, C: Clock> Stop for ClockAlarm<'a, C> {
     }
 }
 
-impl<'a, C: Clock> Alarm for ClockAlarm<'a, C> {
-    ghost span = { λ alarm. alarm.seconds };
-
+impl<M: Timer> Alarm for ClockAlarm<M> {
     fn set(&mut self, seconds: u64) {
-        self.seconds = seconds;
-        self.first = Instant::now(self.clock).ok();
-        self.last = None;
+        self.begin(seconds);
     }
 }

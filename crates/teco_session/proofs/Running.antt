@@ -5,7 +5,7 @@ use Rattle.teco_store.specs.State.{State, Body, IsSound, Extends, state_at, stat
 use Rattle.teco_record.specs.Entry.{body_back}
 use Rattle.teco_record.specs.Follows.{HasCome, LeadsBack}
 use Rattle.teco_record.specs.RecordLaws.{BackThenForth, ComesSoExtended}
-use Rattle.teco_exec.specs.Runs.{IsBrokenOff, RunsWithin, trail_of}
+use Rattle.teco_exec.specs.Runs.{IsBrokenOff, RunsWithin, never_asks, trail_of}
 use Rattle.teco_exec.specs.StringMeaning.{string_meaning}
 use Rattle.teco_exec.specs.declared.outcome.Outcome.{Outcome}
 use Rattle.teco_session.specs.History.{History, NotedString, IsHistory, appended}
@@ -119,9 +119,9 @@ session_appended law more s t x ok r run again strings at depth =
     }
 
 -- A run that nobody asks to stop has the limit that it was given.
-pub unbroken : (limit : ℕ) (outcome : Outcome) (P : ℕ → Type 0) → RunsWithin (λ k b. b ≡ false) limit outcome P → P limit
+pub unbroken : (limit : ℕ) (outcome : Outcome) (P : ℕ → Type 0) → RunsWithin never_asks limit outcome P → P limit
 unbroken limit outcome P r = under_it r.under r.stays r.so
   where
-    under_it : (l : ℕ) → (l ≡ limit) ⊎ IsBrokenOff (λ k b. b ≡ false) l outcome → P l → P limit
+    under_it : (l : ℕ) → (l ≡ limit) ⊎ IsBrokenOff never_asks l outcome → P l → P limit
     under_it l (inl same) so = subst P same so
     under_it l (inr broken) so = let never : true ≡ false = broken.asked in absurd cc

@@ -2,7 +2,7 @@
 ghost use Rattle.std.specs.Prelude.{◌≡◌, ℕ, List, length, None, Ok, true, false};
 ghost use Rattle.teco_store.specs.State.{IsSound, state_of};
 ghost use Rattle.teco_record.specs.Follows.{LeadsBack};
-ghost use Rattle.teco_exec.specs.Runs.{Runs, RunsWithin, is_tty, trail_of};
+ghost use Rattle.teco_exec.specs.Runs.{Runs, RunsWithin, StillSays, is_tty, trail_of};
 ghost use Rattle.teco_exec.specs.StringMeaning.{string_meaning};
 ghost use Rattle.teco_terminal.specs.Terminal.{Shows};
 ghost use Rattle.teco_session.specs.Kept.{HasRun};
@@ -34,6 +34,7 @@ pub(crate) trait Runner {
         ensures run { RunsWithin (S.answered stop.new) limit result (λ l. (typed : List ℕ)
             × Runs (D.state desk.old) text.now l result typed (D.state desk.new)
             × Shows (T.screen term.old) (T.screen term.new) typed (is_tty result)) }
+        ensures still { StillSays (S.answered stop.old) (S.answered stop.new) }
         ensures again { D.state desk.new ≡ (string_meaning (D.state desk.old) text.now result.steps).state }
         ensures follows { (floor : ℕ) → D.follows desk.old (trail_of (D.state desk.old) text.now floor 0)
             → D.follows desk.new (trail_of (D.state desk.old) text.now floor result.steps) }
@@ -101,6 +102,7 @@ pub(crate) fn record_run<S: Stop, T: Terminal, R: Runner>(
     ensures run { RunsWithin (S.answered stop.new) limit result.1 (λ l. (typed : List ℕ)
         × Runs (state_of recorder.old.full) text.now l result.1 typed (state_of recorder.new.full)
         × Shows (T.screen term.old) (T.screen term.new) typed (is_tty result.1)) }
+    ensures still { StillSays (S.answered stop.old) (S.answered stop.new) }
     ensures again { state_of recorder.new.full
         ≡ (string_meaning (state_of recorder.old.full) text.now result.1.steps).state }
     ensures exit { (state_of recorder.old.full).is_done ≡ false → (state_of recorder.new.full).is_done ≡ true

@@ -1,7 +1,7 @@
 //! A session: command strings, undo and redo, over one editor, with what leads from each whole state to the next.
 ghost use Rattle.std.specs.Prelude.{◌≡◌, ℕ, List, [], ◌<◌, ◌≤◌, length, vec_len, None, Some, IfOk, OnErr, OnOk, IsOk, ◌↔◌, IfSome, Ok, true, false};
 ghost use Rattle.std.specs.Option.{ForSome};
-ghost use Rattle.teco_exec.specs.Runs.{RunsWithin};
+ghost use Rattle.teco_exec.specs.Runs.{RunsWithin, StillSays};
 ghost use Rattle.teco_exec.specs.Telling.{TellsPlace};
 ghost use Rattle.teco_store.specs.State.{state_of};
 ghost use Rattle.teco_terminal.specs.Terminal.{Shows};
@@ -251,6 +251,7 @@ impl Session {
         ensures step { RunsWithin (S.answered stop.new) limit (string_outcome result) (λ l. (typed : List ℕ)
             × RunStep l (history_of self.old) text.now result typed (history_of self.new)
             × Shows (T.screen term.old) (T.screen term.new) typed (is_terminal_failure result)) }
+        ensures still { StillSays (S.answered stop.old) (S.answered stop.new) }
         ensures exit { (present (history_of self.old)).is_done ≡ false
             → (present (history_of self.new)).is_done ≡ true → answer_code result ≡ None }
         ensures same { is_unbegun result ≡ true → self.new ≡ self.old }
@@ -288,6 +289,7 @@ impl Session {
         ensures step { RunsWithin (S.answered stop.new) limit (string_outcome result.answer) (λ l. (typed : List ℕ)
             × RunStep l (history_of self.old) text.now result.answer typed (history_of self.new)
             × Shows (T.screen term.old) (T.screen term.new) typed (is_terminal_failure result.answer)) }
+        ensures still { StillSays (S.answered stop.old) (S.answered stop.new) }
         ensures exit { (present (history_of self.old)).is_done ≡ false
             → (present (history_of self.new)).is_done ≡ true → answer_code result.answer ≡ None }
         ensures same { is_unbegun result.answer ≡ true → self.new ≡ self.old }
@@ -319,6 +321,7 @@ impl Session {
         ensures step { RunsWithin (S.answered stop.new) limit (string_outcome result) (λ l. (typed : List ℕ)
             × RunStep l (history_of self.old) text.now result typed (history_of self.new)
             × Shows (T.screen term.old) (T.screen term.new) typed (is_terminal_failure result)) }
+        ensures still { StillSays (S.answered stop.old) (S.answered stop.new) }
         ensures exit { (present (history_of self.old)).is_done ≡ false
             → (present (history_of self.new)).is_done ≡ true → answer_code result ≡ None }
         ensures same { is_unbegun result ≡ true → self.new ≡ self.old }

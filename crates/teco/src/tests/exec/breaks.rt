@@ -11,7 +11,9 @@ pub(crate) enum Asking {
 }
 
 impl Stop for Asking {
-    ghost answered = { λ _ _ _. Unit {0} };
+    ghost use Rattle.teco_exec.specs.Runs.{Answers};
+
+    ghost answered = { λ _. record { span = 0; said = λ _ _. Unit {0} } };
 
     fn asks(&mut self, done: u64) -> bool {
         match self {

@@ -24,6 +24,7 @@ returns g c =
         heard = λ k before. counts.heard k (omega arith) before;
         so = (ends.typed, ends.runs, ends.shows);
       };
+      still = counts.still;
       again = ends.again;
       follows = ends.follows;
       no_memory = λ quiet. ends_quietly c.run_text-exit.result c.code.result c.code.ensures (c.run_text-exit.ensures.no_memory quiet);

@@ -5,7 +5,7 @@ use Rattle.teco_exec.specs.Quiet.{QuietComing}
 use Rattle.teco_exec.specs.View.{IsStepFound, coming_of_found, cursor}
 use Rattle.teco_exec.proofs.Going.{continues, settles}
 use Rattle.teco_exec.proofs.Continuations.{comes_block, comes_fault, comes_over, comes_token, passes_on, passes_short}
-use Rattle.teco_exec.proofs.Stepped.{counts_none}
+use Rattle.teco_exec.proofs.Stepped.{counts_none, says_on}
 use Rattle.teco_exec.proofs.NoMemory.{comes_quietly, kind_quietly}
 use Rattle.teco_exec.proofs.Standings.{block_stands, fault_stands, flow_read, last_blocks, on_call, on_last, token_blocks, token_is}
 use Rattle.teco_exec.specs.declared.cursor.Cursor.{Cursor}
@@ -17,7 +17,7 @@ use Rattle.teco_exec.proofs.stepping.step_found.Goals as goal
 pub returns-in-Passed : goal.returns-in-Passed
 returns-in-Passed g c = record {
   text = c.in-Passed.ensures.text;
-  counts = counts_none (λ k b h. h);
+  counts = counts_none says_on;
   advances = λ goes_on. inr (passes_short c.block_laws.ensures c.args.cursor.now c.pass.new.self c.args.found.now [] c.in-Passed.ensures.comes);
   leads = λ o callers at.
       continues o _ _ at (at_cursor c.pass.new.self callers)
@@ -90,7 +90,7 @@ returns-in-Block g c = record {
 pub returns-in-End : goal.returns-in-End
 returns-in-End g c = record {
   text = c.in-End.ensures.text;
-  counts = counts_none (λ k b h. h);
+  counts = counts_none says_on;
   advances = λ on. absurd on;
   leads = λ o callers at.
       continues o _ _ at (at_return (arguments c.pass.new.self.args) callers)
@@ -104,7 +104,7 @@ returns-in-End g c = record {
 pub returns-in-Fault : goal.returns-in-Fault
 returns-in-Fault g c = record {
   text = c.in-Fault.ensures.text;
-  counts = counts_none (λ k b h. h);
+  counts = counts_none says_on;
   advances = λ on. absurd on;
   leads = λ o callers at.
       settles o _ _ at c.args.steps.now.limit (stops c.in-Fault.code) c.in-Fault.ensures.told.0 (omega (arith, c.args.steps.now.within))

@@ -4,7 +4,7 @@ use Rattle.teco_step.specs.Stepping.{name_in}
 use Rattle.teco_exec.specs.Running.{at_register_call}
 use Rattle.teco_exec.specs.Tokens.{reached_by_progress}
 use Rattle.teco_exec.proofs.Going.{continues, limit_ends}
-use Rattle.teco_exec.proofs.Stepped.{calls_same, counts_none, counts_one, counts_over, never_calls, token_fails, token_goes, progress_finishes}
+use Rattle.teco_exec.proofs.Stepped.{calls_same, counts_none, counts_one, counts_over, never_calls, says_on, token_fails, token_goes, progress_finishes}
 use Rattle.teco_exec.proofs.Standings.{counted, no_call, progress_stays_on}
 use Rattle.teco_exec.proofs.stepping.token_step.Goals as goal
 
@@ -51,7 +51,7 @@ pub returns-clause-calls : goal.returns-clause-calls
 returns-clause-calls g c = no_call _ c.resume.result c.resume.ensures.finished
 
 pub returns-in-Some-clause-counts : goal.returns-in-Some-clause-counts
-returns-in-Some-clause-counts g c = counts_none (λ k b h. h)
+returns-in-Some-clause-counts g c = counts_none says_on
 
 pub returns-then-are_over-clause-counts : goal.returns-then-are_over-clause-counts
 returns-then-are_over-clause-counts g c = counts_over c.are_over.ensures.still (c.are_over.ensures.over c.if-are_over.true) refl refl refl

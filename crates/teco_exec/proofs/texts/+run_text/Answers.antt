@@ -9,14 +9,14 @@ use Rattle.teco_exec.proofs.Going.{since}
 use Rattle.teco_exec.proofs.NoMemory.{begins_quietly}
 use Rattle.teco_exec.specs.Places.{IsReadAt, call_token, told_here, with_call}
 use Rattle.teco_exec.proofs.Placings.{call_told_here, called_told, stood_told}
-use Rattle.teco_exec.proofs.Stepped.{call_fails, call_leads, call_unpaid, counts_none, counts_on, counts_one, counts_over, counts_so}
+use Rattle.teco_exec.proofs.Stepped.{call_fails, call_leads, call_unpaid, counts_none, counts_on, counts_one, counts_over, counts_so, says_on}
 use Rattle.teco_core.specs.declared.code.Code.TheVariants.{Pdo}
 use Rattle.teco_exec.proofs.texts.+run_text.Goals as goal
 
 pub run_in-running-init : goal.run_in-running-init
 run_in-running-init g t c = record {
   text = c.begin-cursor.ensures.text;
-  counts = counts_none (λ k b h. h);
+  counts = counts_none says_on;
   watch = λ knows. knows;
   quiet = begins_quietly (arguments c.args.args.now) c.args.text.now (cursor c.begin-cursor.result) c.begin-cursor.ensures.begins;
   going = λ o callers deep e. begins o _ (arguments c.args.args.now) c.args.text.now c.begin-cursor.result callers c.begin-cursor.ensures.text c.begin-cursor.ensures.begins e;
@@ -205,7 +205,7 @@ pub run_called-returns-in-Err-clause-counts : goal.run_called-returns-in-Err-cla
 run_called-returns-in-Err-clause-counts g t c = counts_none c.are_over.ensures.still
 
 pub run_copy-returns-then-depth-eq-CALL_LIMIT-clause-counts : goal.run_copy-returns-then-depth-eq-CALL_LIMIT-clause-counts
-run_copy-returns-then-depth-eq-CALL_LIMIT-clause-counts g t c = counts_one (λ k b h. h) c.requires.lets c.count.ensures.limit c.count.ensures.done
+run_copy-returns-then-depth-eq-CALL_LIMIT-clause-counts g t c = counts_one says_on c.requires.lets c.count.ensures.limit c.count.ensures.done
 
 pub run_in-returns-in_default-clause-leads : goal.run_in-returns-in_default-clause-leads
 run_in-returns-in_default-clause-leads g t c o callers deep e =
@@ -247,7 +247,7 @@ run_copy-returns-then-is_some-clause-leads g t c o callers deep e =
     (c.run_text-exit.ensures.leads o (caller from ∷ callers) deeper into.going))
 
 pub run_copy-returns-then-is_some-clause-counts : goal.run_copy-returns-then-is_some-clause-counts
-run_copy-returns-then-is_some-clause-counts g t c = counts_on (counts_one (λ k b h. h) c.requires.lets c.count.ensures.limit c.count.ensures.done) c.run_text-exit.ensures.counts
+run_copy-returns-then-is_some-clause-counts g t c = counts_on (counts_one says_on c.requires.lets c.count.ensures.limit c.count.ensures.done) c.run_text-exit.ensures.counts
 
 pub run_copy-returns-else-is_some-clause-leads : goal.run_copy-returns-else-is_some-clause-leads
 run_copy-returns-else-is_some-clause-leads g t c o callers deep e =
@@ -266,7 +266,7 @@ run_copy-returns-else-is_some-clause-leads g t c o callers deep e =
     (c.run_text-exit.ensures.leads o (caller from ∷ callers) deeper into.going))
 
 pub run_copy-returns-else-is_some-clause-counts : goal.run_copy-returns-else-is_some-clause-counts
-run_copy-returns-else-is_some-clause-counts g t c = counts_on (counts_one (λ k b h. h) c.requires.lets c.count.ensures.limit c.count.ensures.done) c.run_text-exit.ensures.counts
+run_copy-returns-else-is_some-clause-counts g t c = counts_on (counts_one says_on c.requires.lets c.count.ensures.limit c.count.ensures.done) c.run_text-exit.ensures.counts
 
 pub run_copy-returns-else-is_some-clause-told : goal.run_copy-returns-else-is_some-clause-told
 run_copy-returns-else-is_some-clause-told g t c knows =

@@ -1,7 +1,7 @@
 use Rattle.std.proofs.Common.{◌≡◌, ℕ, inl, arith, Option, List, [], ◌++◌, ◌∷◌, take, sym, ap, ◌∙◌, subst, refl, false}
 use Rattle.std.proofs.lemmas.Bool.{false≢true}
 use Rattle.teco_exec.specs.StringMeaning.{string_meaning}
-use Rattle.teco_exec.specs.Runs.{Answers, Runs, RunsWithin}
+use Rattle.teco_exec.specs.Runs.{Answers, Runs, RunsWithin, StillSays}
 use Rattle.teco_exec.specs.declared.outcome.Outcome.{Outcome}
 use Rattle.teco_record.specs.Follows.{LeadsBack}
 use Rattle.teco_store.specs.State.{State, Full, state_of}
@@ -67,6 +67,19 @@ returns-then-keeps_none-clause-unbegun g c begun = absurd (false≢true begun)
 
 pub returns-clause-unbegun : goal.returns-clause-unbegun
 returns-clause-unbegun g c begun = absurd (false≢true begun)
+
+-- Of a string that is not begun the stop is not asked.
+unasked : {answered : Answers} → StillSays answered answered
+unasked = record { span = refl; said = λ k b said. said }
+
+pub returns-then-done-clause-still : goal.returns-then-done-clause-still
+returns-then-done-clause-still g c = unasked
+
+pub returns-in_default-clause-still : goal.returns-in_default-clause-still
+returns-in_default-clause-still g c = unasked
+
+pub returns-then-is_err-clause-still : goal.returns-then-is_err-clause-still
+returns-then-is_err-clause-still g c = unasked
 
 -- A string that is not begun changes nothing.
 pub returns-then-done-clause-step : goal.returns-then-done-clause-step
