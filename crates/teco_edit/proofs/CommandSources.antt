@@ -8,10 +8,12 @@ use Rattle.teco_files.specs.Disk.{Files}
 use Rattle.teco_option.specs.StreamNames.{is_standard_input}
 use Rattle.teco_edit.proofs.Doings.{lacks_after}
 use Rattle.teco_host.specs.Seen.{KeepsDisk, DiskSeen, SourceView}
-use Rattle.teco_edit.specs.Sources.{AreCommandsIn, FailsToGive, IsFaultOf, IsFaultyFile, IsUnread, IsUnreadFile, IsWholeOf, LacksFiles}
+use Rattle.teco_serve.specs.declared.fate.Fate.{Fate}
+use Rattle.teco_serve.specs.declared.fate.Fate.TheVariants.{NoCommands, NoInput, NotRegular, LargeInput, NoMemory, NoOutput, Changed, Unchanged, Ended}
+use Rattle.teco_edit.specs.Sources.{AreCommandsIn, FailsToGive, IsFaultOf, IsFaultyFile, IsUnread, IsUnreadFile, IsWholeOf, LacksFiles, fault_by}
 use Rattle.teco_edit.specs.declared.sources.CommandsFault.{CommandsFault}
 use Rattle.teco_edit.specs.declared.sources.CommandsFault.TheVariants as fault
-use Rattle.teco_edit.specs.declared.sources.CommandsFault.TheVariants.{Memory, Unread}
+use Rattle.teco_edit.specs.declared.sources.CommandsFault.TheVariants.{Memory, TooLarge, Unread}
 use Rattle.teco_source.specs.Source.{State, commands_from, commands_of, ended_in, is_wrong, step}
 use Rattle.teco_source.specs.declared.reader.Mode.{Mode}
 use Rattle.teco_source.specs.declared.reader.Mode.TheVariants.{First, Margin, Blank, Text, Hash, Mark, Caret, Comment, Wrong}
@@ -95,7 +97,8 @@ pub faulty_file : {S I : Type 0} (source : SourceView S) (before after : DiskSee
     → IsWholeOf (is_standard_input (string_bytes name)) source before.files (string_bytes name) mid new text
     → (fault : CommandsFault) → IsFaultOf text at fault → LacksFiles source names before after old new fault
 faulty_file source before after names name at old mid new front text read within name_is whole Memory h = tt
-faulty_file source before after names name at old mid new front text read within name_is whole (Unread n) h = absurd h
+faulty_file source before after names name at old mid new front text read within name_is whole (Unread n reason) h = absurd h
+faulty_file source before after names name at old mid new front text read within name_is whole (TooLarge n) h = absurd h
 faulty_file source before after names name at old mid new front text read within name_is whole (fault.Caret n spot) h =
     subst (λ (k : ℕ). IsFaultyFile source before.files names k spot old new) (sym h.0) (record {
       mid = mid;
@@ -111,23 +114,44 @@ faulty_file source before after names name at old mid new front text read within
 
 -- What can't be read where the files are as they were before.
 unread_after : {S I : Type 0} (source : SourceView S) (before mid after : DiskSeen I) → KeepsDisk before mid
-    → (b : Bool) (name : List ℕ) (old new : S) → FailsToGive b source mid after name old new → FailsToGive b source before after name old new
-unread_after source before mid after kept true name old new h = h
-unread_after source before mid after kept false name old new h = (h.0, h.1, lacks_after kept after name h.0 h.2, h.3)
+    → (b : Bool) (name : List ℕ) (old new : S) (fate : Fate) → FailsToGive b source mid after name old new fate → FailsToGive b source before after name old new fate
+unread_after source before mid after kept true name old new fate h = h
+unread_after source before mid after kept false name old new fate h = (lacks_after kept after name fate h.0, h.1)
 
 -- A file that can't be read, after those that were.
 pub unread_file : {S I : Type 0} (source : SourceView S) (before mid after : DiskSeen I) (names : List (String Global)) (name : String Global) (at : ℕ) (old between new : S) (front : List ℕ)
     → KeepsDisk before mid → AreCommandsIn source before.files (take at names) old between front → at < length names → name ≡ slice_index_or names at name
     → (fault : CommandsFault) → IsUnread source mid after (string_bytes name) between new at fault → LacksFiles source names before after old new fault
-unread_file source before mid after names name at old between new front kept read within name_is Memory h = tt
-unread_file source before mid after names name at old between new front kept read within name_is (Unread n) h =
-    subst (λ (k : ℕ). IsUnreadFile source before after names k old new) (sym h.0) (record {
+unread_file {S} source before mid after names name at old between new front kept read within name_is = by_fault
+  where
+    unread : (n : ℕ) (fate : Fate) → n ≡ at → FailsToGive (is_standard_input (string_bytes name)) source mid after (string_bytes name) between new fate
+        → IsUnreadFile source before after names n old new fate
+    unread n fate is fails = subst (λ (k : ℕ). IsUnreadFile source before after names k old new fate) (sym is) (record {
       mid = between;
       front = front;
       read = read;
       within = within;
       name = name;
       name_is = name_is;
-      fails = unread_after source before mid after kept (is_standard_input (string_bytes name)) (string_bytes name) between new h.1;
+      fails = unread_after source before mid after kept (is_standard_input (string_bytes name)) (string_bytes name) between new fate fails;
     })
-unread_file source before mid after names name at old between new front kept read within name_is (fault.Caret n spot) h = absurd h
+
+    by_fault : (fault : CommandsFault) → IsUnread source mid after (string_bytes name) between new at fault → LacksFiles source names before after old new fault
+    by_fault Memory h = tt
+    by_fault (Unread n reason) h = unread n (NoInput reason) h.0 h.1
+    by_fault (TooLarge n) h = unread n LargeInput h.0 h.1
+    by_fault (fault.Caret n spot) h = absurd h
+
+-- Over what is not read a run would have one of these fates alone.
+module _ {S I : Type 0} (source : SourceView S) (before after : DiskSeen I) (name : List ℕ) (old new : S) (at : ℕ) where
+  pub unread_by : (b : Bool) (fate : Fate) → is_standard_input name ≡ b → FailsToGive b source before after name old new fate
+      → IsUnread source before after name old new at (fault_by at fate)
+  unread_by b (NoInput reason) is fails = (refl, rw is fails)
+  unread_by b LargeInput is fails = (refl, rw is fails)
+  unread_by b (NoCommands reason) is fails = tt
+  unread_by b NotRegular is fails = tt
+  unread_by b NoMemory is fails = tt
+  unread_by b (NoOutput reason) is fails = tt
+  unread_by b Changed is fails = tt
+  unread_by b Unchanged is fails = tt
+  unread_by b (Ended served) is fails = tt

@@ -7,6 +7,7 @@ use Rattle.teco_bytes.specs.declared.input.InputFault.TheVariants as input
 use Rattle.teco_line.specs.declared.line.Line.{Line}
 use Rattle.teco_option.specs.StreamNames.{is_standard_output}
 use Rattle.teco_terminal.specs.Terminal.{Screen}
+use Rattle.teco_host.specs.declared.reason.Reason.{Reason}
 use Rattle.teco_host.specs.Writing.{HasDraft, IsPut, WritesOutput}
 use Rattle.teco_serve.specs.Ending.{fate_without_input, output_of}
 use Rattle.teco_edit.specs.Seen.{CommandsSeen, InputSeen, OutputSeen, RunSeen, TerminalSeen, run_seen, terminal_seen}
@@ -33,13 +34,13 @@ pub record Leads (a b : Doings) : Type 0 where
   pub changed : (output : List ℕ) → a.changed output → b.changed output
 
 pub ends_so : {a b : Doings} → Leads a b → (fate : Fate) → EndsBy a fate → EndsBy b fate
-ends_so l NoCommands e = e
-ends_so l NoInput e = (l.lacks NoInput e.0, l.idle e.1, l.keeps e.2)
+ends_so l (NoCommands reason) e = e
+ends_so l (NoInput reason) e = (l.lacks (NoInput reason) e.0, l.idle e.1, l.keeps e.2)
 ends_so l NotRegular e = (l.refuses e.0, l.idle e.1, l.keeps e.2)
 ends_so l LargeInput e = (l.lacks LargeInput e.0, l.idle e.1, l.keeps e.2)
 ends_so l NoMemory (inl e) = inl (l.idle e.0, l.keeps e.1)
 ends_so l NoMemory (inr e) = inr (e.0, l.serves served.Exit e.0 e.1, l.fails e.0 NoMemory e.2)
-ends_so l NoOutput e = (e.0, l.serves served.Exit e.0 e.1, l.fails e.0 NoOutput e.2)
+ends_so l (NoOutput reason) e = (e.0, l.serves served.Exit e.0 e.1, l.fails e.0 (NoOutput reason) e.2)
 ends_so l Changed e = (e.0, l.serves served.Exit e.0 e.1, l.changed e.0 e.2)
 ends_so l Unchanged e = (e.0, l.serves served.Exit e.0 e.1, l.same e.0 e.2, l.keeps e.3)
 ends_so l (Ended served.Exit) e = (e.0, l.serves served.Exit e.0 e.1, l.writes e.0 e.2)
@@ -184,15 +185,15 @@ lacks_some served input.Read e = cc
 lacks_some served input.TooLarge e = cc
 lacks_some served input.Memory e = cc
 
-lacks_output : (fault : InputFault) → NoOutput ≡ fate_without_input fault → ⊥
-lacks_output input.Read e = cc
-lacks_output input.TooLarge e = cc
-lacks_output input.Memory e = cc
+lacks_output : (reason : Reason) (fault : InputFault) → NoOutput reason ≡ fate_without_input fault → ⊥
+lacks_output reason input.Read e = cc
+lacks_output reason input.TooLarge e = cc
+lacks_output reason input.Memory e = cc
 
-lacks_commands : (fault : InputFault) → NoCommands ≡ fate_without_input fault → ⊥
-lacks_commands input.Read e = cc
-lacks_commands input.TooLarge e = cc
-lacks_commands input.Memory e = cc
+lacks_commands : (reason : Reason) (fault : InputFault) → NoCommands reason ≡ fate_without_input fault → ⊥
+lacks_commands reason input.Read e = cc
+lacks_commands reason input.TooLarge e = cc
+lacks_commands reason input.Memory e = cc
 
 lacks_irregular : (fault : InputFault) → NotRegular ≡ fate_without_input fault → ⊥
 lacks_irregular input.Read e = cc
@@ -212,15 +213,15 @@ lacks_no_change input.Memory e = cc
 -- no run ends but for want of the input
 module _ {I : Type 0} (old new : DiskSeen I) (name : List ℕ) where
   lacks_by : (run : Doings) (fate : Fate) → LacksInput old new name fate → run.lacks fate → run.idle → run.keeps → EndsBy run fate
-  lacks_by run NoCommands (inl opens) l i k = absurd (no_other opens.fate_is (λ e. cc) (λ e. cc))
-  lacks_by run NoCommands (inr reads) l i k = absurd (lacks_commands reads.fault reads.fate_is)
-  lacks_by run NoInput why l i k = (l, i, k)
+  lacks_by run (NoCommands reason) (inl opens) l i k = absurd (no_other opens.fate_is (λ e. cc) (λ e. cc))
+  lacks_by run (NoCommands reason) (inr reads) l i k = absurd (lacks_commands reason reads.fault reads.fate_is)
+  lacks_by run (NoInput reason) why l i k = (l, i, k)
   lacks_by run NotRegular (inl opens) l i k = absurd (no_other opens.fate_is (λ e. cc) (λ e. cc))
   lacks_by run NotRegular (inr reads) l i k = absurd (lacks_irregular reads.fault reads.fate_is)
   lacks_by run LargeInput why l i k = (l, i, k)
   lacks_by run NoMemory why l i k = inl (i, k)
-  lacks_by run NoOutput (inl opens) l i k = absurd (no_other opens.fate_is (λ e. cc) (λ e. cc))
-  lacks_by run NoOutput (inr reads) l i k = absurd (lacks_output reads.fault reads.fate_is)
+  lacks_by run (NoOutput reason) (inl opens) l i k = absurd (no_other opens.fate_is (λ e. cc) (λ e. cc))
+  lacks_by run (NoOutput reason) (inr reads) l i k = absurd (lacks_output reason reads.fault reads.fate_is)
   lacks_by run Changed (inl opens) l i k = absurd (no_other opens.fate_is (λ e. cc) (λ e. cc))
   lacks_by run Changed (inr reads) l i k = absurd (lacks_change reads.fault reads.fate_is)
   lacks_by run Unchanged (inl opens) l i k = absurd (no_other opens.fate_is (λ e. cc) (λ e. cc))
@@ -296,11 +297,11 @@ lacks_streamed {line} {name} {source} {first} {last} {commands} {disk} {screen} 
     idle_ends line name (standard_input source first last) commands disk disk screen term term fate (λ seen place quiet keeps. lacks_stream (doings line (standard_input source first last) place commands seen) l.fault fate l.fate_is l (still, quiet) keeps) refl kept_same
 
 -- A failed write after an exit, and one that was done.
-pub failed_write : (run : Doings) (output : List ℕ) (fate : Fate) {error : Error} → IsFateOf error NoOutput fate → run.serves served.Exit output → run.fails output fate → EndsBy run fate
-failed_write run output NoOutput is s f = (output, s, f)
+pub failed_write : (run : Doings) (output : List ℕ) (fate : Fate) {error : Error} {reason : Reason} → IsFateOf error (NoOutput reason) fate → run.serves served.Exit output → run.fails output fate → EndsBy run fate
+failed_write run output (NoOutput other) is s f = (output, s, f)
 failed_write run output NoMemory is s f = inr (output, s, f)
-failed_write run output NoCommands is s f = absurd (no_other is (λ e. cc) (λ e. cc))
-failed_write run output NoInput is s f = absurd (no_other is (λ e. cc) (λ e. cc))
+failed_write run output (NoCommands other) is s f = absurd (no_other is (λ e. cc) (λ e. cc))
+failed_write run output (NoInput other) is s f = absurd (no_other is (λ e. cc) (λ e. cc))
 failed_write run output NotRegular is s f = absurd (no_other is (λ e. cc) (λ e. cc))
 failed_write run output LargeInput is s f = absurd (no_other is (λ e. cc) (λ e. cc))
 failed_write run output Changed is s f = absurd (no_other is (λ e. cc) (λ e. cc))

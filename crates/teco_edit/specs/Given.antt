@@ -1,6 +1,7 @@
 -- A run over one input of the line: by commands as they come, or by bytes that are had already.
 use Rattle.std.specs.Prelude.{◌≡◌, ◌≢◌, ◌⊎◌, ◌&&◌, not, ℕ, List, Some, Bool, true, false}
 use Rattle.std.specs.String.{string_bytes}
+use Rattle.std.specs.IoError.{error_kind}
 use Rattle.std.specs.declared.io.Error.{Error}
 use Rattle.teco_files.specs.Disk.{Opens}
 use Rattle.teco_terminal.specs.Terminal.{Screen}
@@ -10,6 +11,7 @@ use Rattle.teco_line.specs.declared.line.Commands.{Commands}
 use Rattle.teco_line.specs.declared.line.Commands.TheVariants.{StandardInput, Sources, Pages, Bytes}
 use Rattle.teco_line.specs.declared.line.Line.{Line}
 use Rattle.teco_edit.specs.Run.{Edits, IsFateOf, input_from, named_input, standard_input}
+use Rattle.teco_host.specs.Reasons.{reason_of}
 use Rattle.teco_host.specs.Seen.{DiskSeen, Host, KeepsDisk, KeepsStream, SourceView}
 use Rattle.teco_edit.specs.Seen.{CommandsSeen, commands_seen, run_seen}
 use Rattle.teco_serve.specs.declared.fate.Fate.{Fate}
@@ -53,11 +55,13 @@ pub record EditsByBytes {D I S T W : Type 0} (view : HostView D I S T W) (line :
       × EditsInput view line input (commands_seen view.word first last view.asked) old new fate
       × (fate ≢ Ended served.ReadFault))
 
--- By the commands of a file: nothing is done if the disk refuses to open it; else the run is over what it opened.
+-- By the commands of a file: nothing is done if the disk refuses to open it, and the fate has the reason; else the run is over
+-- what it opened.
 pub record EditsByFile {D I S T W : Type 0} (view : HostView D I S T W) (line : Line) (input name : List ℕ)
     (old new : Host D S T) (fate : Fate) : Type 0 where
   pub kept : KeepsStream input old new
-  pub edits : ((error : Error) × (view.disk new.disk).gave error × IsFateOf error NoCommands fate
+  pub edits : ((error : Error) × (view.disk new.disk).gave error
+      × IsFateOf error (NoCommands (reason_of (error_kind error))) fate
       × IsIdle view old new)
       ⊎ ((first : I) × (last : I) × Opens (view.disk old.disk).files name ((view.disk old.disk).input.coming first)
       × EditsInput view line input (commands_seen (view.disk old.disk).input first last view.asked) old new fate)

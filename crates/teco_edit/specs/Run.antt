@@ -17,6 +17,8 @@ use Rattle.teco_serve.specs.Exchange.{allowance}
 use Rattle.teco_serve.specs.Serving.{Serves}
 use Rattle.teco_edit.specs.Seen.{CommandsSeen, InputSeen, OutputSeen, RunSeen, TerminalSeen, terminal_seen}
 use Rattle.teco_host.specs.Reading.{IsInput, IsStreamed}
+use Rattle.teco_host.specs.Reasons.{reason_of}
+use Rattle.teco_host.specs.declared.reason.Reason.TheVariants.{WriteFailed}
 use Rattle.teco_host.specs.Seen.{DiskSeen, KeepsDisk, SourceView}
 use Rattle.teco_bytes.specs.Source.{Gives}
 use Rattle.teco_host.specs.Writing.{AddsDrafts, HasDraft, IsWriteError, IsWriting, WritesOutput}
@@ -47,11 +49,11 @@ pub record FailsToRead {I : Type 0} (input : SourceView I) (files : Option Files
   pub fault_is : IsFaultOf FILE_LIMIT (Gives input.coming input.bound input.failures first last) fault
   pub fate_is : fate ≡ fate_without_input fault
 
--- The disk refused to open the file.
+-- The disk refused to open the file, by an error whose reason the fate has.
 pub record FailsToOpen (gave : Error → Type 0) (fate : Fate) : Type 0 where
   pub error : Error
   pub given : gave error
-  pub fate_is : IsFateOf error NoInput fate
+  pub fate_is : IsFateOf error (NoInput (reason_of (error_kind error))) fate
 
 -- Why there is no input.
 abbrev pub LacksInput : {I : Type 0} → DiskSeen I → DiskSeen I → List ℕ → Fate → Type 0
@@ -63,14 +65,14 @@ LacksInPlace in_place old new name fate = LacksInput old new name fate
     ⊎ ((fate ≡ NotRegular) × IsTrue in_place × IsStream old.files old.streams name)
 
 -- The output file is as it was; and at each moment it was so, or had these bytes. The fate is that of the
--- error.
+-- error, and has its reason.
 pub record FailsToWrite {I : Type 0} (old new : DiskSeen I) (name bytes : List ℕ) (fate : Fate) : Type 0 where
   pub files : Changes old.files new.files (AddsDrafts name)
   pub streams : SameBut name old.streams new.streams
   pub moments : Passes old.files old.left new.left (IsWriting name bytes)
   pub error : Error
   pub given : IsWriteError new.gave error
-  pub fate_is : IsFateOf error NoOutput fate
+  pub fate_is : IsFateOf error (NoOutput (reason_of (error_kind error))) fate
 
 -- The file has changed since it was read. It is as it was before the writing, and at each moment it was so.
 pub record FindsChange {I : Type 0} (old new : DiskSeen I) (name bytes : List ℕ) : Type 0 where
@@ -138,14 +140,14 @@ pub record Doings : Type 1 where
 -- How a run ends, and what it has done then.
 abbrev pub EndsBy : Doings → Fate → Type 0
 -- the file of the commands is opened before
-EndsBy run NoCommands = ⊥
-EndsBy run NoInput = run.lacks NoInput × run.idle × run.keeps
+EndsBy run (NoCommands reason) = ⊥
+EndsBy run (NoInput reason) = run.lacks (NoInput reason) × run.idle × run.keeps
 EndsBy run NotRegular = run.refuses × run.idle × run.keeps
 EndsBy run LargeInput = run.lacks LargeInput × run.idle × run.keeps
 -- memory was refused before the serving, or to the writing
 EndsBy run NoMemory = (run.idle × run.keeps)
     ⊎ ((output : List ℕ) × run.serves served.Exit output × run.fails output NoMemory)
-EndsBy run NoOutput = (output : List ℕ) × run.serves served.Exit output × run.fails output NoOutput
+EndsBy run (NoOutput reason) = (output : List ℕ) × run.serves served.Exit output × run.fails output (NoOutput reason)
 -- what was to be written over stays as it is
 EndsBy run Changed = (output : List ℕ) × run.serves served.Exit output × run.changed output
 EndsBy run Unchanged = (output : List ℕ) × run.serves served.Exit output × run.same output × run.keeps
@@ -224,12 +226,12 @@ abbrev pub input_from : Bool → InputSeen → InputSeen → InputSeen
 input_from true stream file = stream
 input_from false stream file = file
 
--- A beginning of the bytes was put, and then the terminal failed.
+-- A beginning of the bytes was put, and then the terminal failed, which doesn't tell why.
 pub record FailsToPut (old new : Screen) (bytes : List ℕ) (fate : Fate) : Type 0 where
   pub front : List ℕ
   pub beginning : IsFrontOf front bytes
   pub shows : Shows old new front true
-  pub fate_is : fate ≡ NoOutput
+  pub fate_is : fate ≡ NoOutput WriteFailed
 
 -- The program's own standard output: `between` is the terminal after the serving, so the output comes after all
 -- that was typed.

@@ -1,5 +1,5 @@
 -- The commands of a line that are had at once, before any input is read: those of its sources, or the bytes of a file.
-use Rattle.std.specs.Prelude.{◌≡◌, ◌≢◌, ◌⊎◌, ◌<◌, ℕ, List, [], ◌∷◌, ◌++◌, length, take, map, codes, Option, Some, None, option_map, Bool, true, false, Ok, Err, ⊤}
+use Rattle.std.specs.Prelude.{◌≡◌, ◌⊎◌, ◌<◌, ℕ, List, [], ◌∷◌, ◌++◌, length, take, map, codes, Option, Some, None, option_map, Bool, true, false, Ok, Err, ⊤}
 use Rattle.std.specs.List.{slice_index_or}
 use Rattle.std.specs.String.{string_bytes}
 use Rattle.std.specs.declared.string.String.{String}
@@ -10,14 +10,15 @@ use Rattle.teco_option.specs.StreamNames.{is_standard_input}
 use Rattle.teco_line.specs.declared.line.Commands.{Commands}
 use Rattle.teco_line.specs.declared.line.Commands.TheVariants.{StandardInput, Sources, Pages, Bytes}
 use Rattle.teco_serve.specs.Ending.{said}
+use Rattle.teco_host.specs.Reasons.{with_reason}
 use Rattle.teco_host.specs.Refusing.{Tells}
 use Rattle.teco_edit.specs.Run.{FailsToStream, LacksInput}
 use Rattle.teco_host.specs.Reading.{IsInput, IsStreamed}
 use Rattle.teco_host.specs.Seen.{DiskSeen, SourceView}
 use Rattle.teco_serve.specs.declared.fate.Fate.{Fate}
-use Rattle.teco_serve.specs.declared.fate.Fate.TheVariants.{NoMemory}
+use Rattle.teco_serve.specs.declared.fate.Fate.TheVariants.{LargeInput, NoInput}
 use Rattle.teco_edit.specs.declared.sources.CommandsFault.{CommandsFault}
-use Rattle.teco_edit.specs.declared.sources.CommandsFault.TheVariants.{Memory, Unread, Caret}
+use Rattle.teco_edit.specs.declared.sources.CommandsFault.TheVariants.{Memory, Unread, TooLarge, Caret}
 use Rattle.teco_source.specs.Source.{commands_of}
 use Rattle.teco_terminal.specs.Terminal.{Screen}
 use Rattle.teco_telling.specs.Shown.{spot_shown}
@@ -86,54 +87,59 @@ IsFaultyIn source (Sources names word) files at spot old new =
 IsFaultyIn source (Pages word) files at spot old new = HasWrongCaret (string_bytes word) spot × (new ≡ old)
 IsFaultyIn source (Bytes name) files at spot old new = ⊥
 
--- A read of standard input failed; or the disk refused to open the file of this name, or a read of it failed, and standard
--- input stays as it is. That was not for want of memory.
-abbrev pub FailsToGive : {S I : Type 0} → Bool → SourceView S → DiskSeen I → DiskSeen I → List ℕ → S → S → Type 0
-FailsToGive true source before after name old new = (fate : Fate) × (fate ≢ NoMemory) × FailsToStream source old new fate
-FailsToGive false source before after name old new =
-    (fate : Fate) × (fate ≢ NoMemory) × LacksInput before after name fate × (new ≡ old)
+-- A run over standard input, or over the file of this name, would have this fate: it can't be read, or is too large. If it is a
+-- file, standard input stays as it is.
+abbrev pub FailsToGive : {S I : Type 0} → Bool → SourceView S → DiskSeen I → DiskSeen I → List ℕ → S → S → Fate → Type 0
+FailsToGive true source before after name old new fate = FailsToStream source old new fate
+FailsToGive false source before after name old new fate = LacksInput before after name fate × (new ≡ old)
 
--- The sources in the files before this one are read, and this one can't be.
-pub record IsUnreadFile {S I : Type 0} (source : SourceView S) (before after : DiskSeen I) (names : List (String Global)) (at : ℕ) (old new : S) : Type 0 where
+-- The sources in the files before this one are read, and this one is not: a run over it would have this fate.
+pub record IsUnreadFile {S I : Type 0} (source : SourceView S) (before after : DiskSeen I) (names : List (String Global)) (at : ℕ) (old new : S)
+    (fate : Fate) : Type 0 where
   pub mid : S
   pub front : List ℕ
   pub read : AreCommandsIn source before.files (take at names) old mid front
   pub within : at < length names
   pub name : String Global
   pub name_is : name ≡ slice_index_or names at name
-  pub fails : FailsToGive (is_standard_input (string_bytes name)) source before after (string_bytes name) mid new
+  pub fails : FailsToGive (is_standard_input (string_bytes name)) source before after (string_bytes name) mid new fate
 
--- The file of this number can't be read.
-abbrev pub IsUnreadIn : {S I : Type 0} → SourceView S → Commands → DiskSeen I → DiskSeen I → ℕ → S → S → Type 0
-IsUnreadIn source StandardInput before after at old new = ⊥
-IsUnreadIn source (Sources names word) before after at old new = IsUnreadFile source before after names.items at old new
-IsUnreadIn source (Pages word) before after at old new = ⊥
-IsUnreadIn source (Bytes name) before after at old new =
-    (at ≡ 0) × FailsToGive (is_standard_input (string_bytes name)) source before after (string_bytes name) old new
+-- The file of this number is not read: a run over it would have this fate.
+abbrev pub IsUnreadIn : {S I : Type 0} → SourceView S → Commands → DiskSeen I → DiskSeen I → ℕ → S → S → Fate → Type 0
+IsUnreadIn source StandardInput before after at old new fate = ⊥
+IsUnreadIn source (Sources names word) before after at old new fate = IsUnreadFile source before after names.items at old new fate
+IsUnreadIn source (Pages word) before after at old new fate = ⊥
+IsUnreadIn source (Bytes name) before after at old new fate =
+    (at ≡ 0) × FailsToGive (is_standard_input (string_bytes name)) source before after (string_bytes name) old new fate
 
 -- Why the commands of a line are not had.
 abbrev pub LacksCommands : {S I : Type 0} → SourceView S → Commands → DiskSeen I → DiskSeen I → S → S → CommandsFault → Type 0
 LacksCommands source commands before after old new Memory = ⊤
-LacksCommands source commands before after old new (Unread at) = IsUnreadIn source commands before after at old new
+LacksCommands source commands before after old new (Unread at reason) = IsUnreadIn source commands before after at old new (NoInput reason)
+LacksCommands source commands before after old new (TooLarge at) = IsUnreadIn source commands before after at old new LargeInput
 LacksCommands source commands before after old new (Caret at spot) = IsFaultyIn source commands before.files at spot old new
 
 -- the same of its files alone
 abbrev pub LacksFiles : {S I : Type 0} → SourceView S → List (String Global) → DiskSeen I → DiskSeen I → S → S → CommandsFault → Type 0
 LacksFiles source names before after old new Memory = ⊤
-LacksFiles source names before after old new (Unread at) = IsUnreadFile source before after names at old new
+LacksFiles source names before after old new (Unread at reason) = IsUnreadFile source before after names at old new (NoInput reason)
+LacksFiles source names before after old new (TooLarge at) = IsUnreadFile source before after names at old new LargeInput
 LacksFiles source names before after old new (Caret at spot) = IsFaultyFile source before.files names at spot old new
 
 -- and of one source, of this number
 abbrev pub IsFaultOf : List ℕ → ℕ → CommandsFault → Type 0
 IsFaultOf text at Memory = ⊤
-IsFaultOf text at (Unread n) = ⊥
+IsFaultOf text at (Unread n reason) = ⊥
+IsFaultOf text at (TooLarge n) = ⊥
 IsFaultOf text at (Caret n spot) = (n ≡ at) × HasWrongCaret text spot
 
 -- and of one file, of this number and name
 abbrev pub IsUnread : {S I : Type 0} → SourceView S → DiskSeen I → DiskSeen I → List ℕ → S → S → ℕ → CommandsFault → Type 0
 IsUnread source before after name old new at Memory = ⊤
-IsUnread source before after name old new at (Unread n) =
-    (n ≡ at) × FailsToGive (is_standard_input name) source before after name old new
+IsUnread source before after name old new at (Unread n reason) =
+    (n ≡ at) × FailsToGive (is_standard_input name) source before after name old new (NoInput reason)
+IsUnread source before after name old new at (TooLarge n) =
+    (n ≡ at) × FailsToGive (is_standard_input name) source before after name old new LargeInput
 IsUnread source before after name old new at (Caret n spot) = ⊥
 
 -- what a source of a line is called: by its file's name, or by the option that gives it
@@ -143,16 +149,24 @@ source_name (Sources names word) at = slice_index_or (map string_bytes names.ite
 source_name (Pages word) at = codes "--pages"
 source_name (Bytes name) at = string_bytes name
 
--- A source that can't be read is a faulty line.
+-- the fault of a file of this number over which a run would have this fate
+abbrev pub fault_by : ℕ → Fate → CommandsFault
+fault_by at (NoInput reason) = Unread at reason
+fault_by at LargeInput = TooLarge at
+fault_by at _ = Memory
+
+-- A source that has a wrong caret is a faulty line.
 abbrev pub status_without : CommandsFault → ℕ
 status_without Memory = 1
-status_without (Unread at) = 1
+status_without (Unread at reason) = 1
+status_without (TooLarge at) = 1
 status_without (Caret at spot) = 3
 
 -- what is told where the commands are not had
 abbrev pub text_without : Commands → CommandsFault → List ℕ
 text_without commands Memory = said (codes "no memory")
-text_without commands (Unread at) = said (codes "cannot read " ++ source_name commands at)
+text_without commands (Unread at reason) = said (with_reason (codes "cannot read ") (source_name commands at) reason)
+text_without commands (TooLarge at) = said (source_name commands at ++ codes " is too large")
 text_without commands (Caret at spot) =
     said (source_name commands at ++ (codes ":" ++ spot_shown spot ++ codes ": a caret before what it cannot stand before"))
 

@@ -6,7 +6,10 @@ ghost use Rattle.teco_line.specs.CommandLine.{IsDepth};
 ghost use Rattle.teco_option.specs.StreamNames.{is_standard_input, is_standard_output};
 ghost use Rattle.teco_serve.specs.Exchange.{HasRung};
 ghost use Rattle.teco_edit.specs.Run.{Edits, EndsBy, FinishesIn, FailsToStream, IsFateOf, LacksInPlace, LacksInput, depth_of, doings_after, given_input, history_over, input_from, named_input, named_output, replaces_input, standard_input, standard_output};
+ghost use Rattle.std.specs.IoError.{error_kind};
 ghost use Rattle.teco_host.specs.Reading.{IsInput, IsStreamed};
+ghost use Rattle.teco_host.specs.Reasons.{reason_of};
+ghost use Rattle.teco_serve.specs.declared.fate.Fate.TheVariants.{NoCommands, NoInput, NoOutput};
 ghost use Rattle.teco_host.specs.Seen.{KeepsDisk, disk_seen, source_view};
 ghost use Rattle.teco_edit.specs.Seen.{commands_seen, run_seen};
 ghost use Rattle.teco_host.specs.Writing.{both};
@@ -20,7 +23,7 @@ use std::mem::ManuallyDrop;
 use teco_bytes::{Source, read_input};
 use teco_core::{FILE_LIMIT, NoMemory};
 use teco_files::Disk;
-use teco_host::{Written, has_bytes, write_output};
+use teco_host::{Reason, Written, has_bytes, reason_of, write_output};
 use teco_line::{Commands, Line};
 use teco_option::{is_standard_input, is_standard_output};
 use teco_serve::{Alarm, Bounds, Fate, Listens, Served, output_name, serve};
@@ -29,13 +32,34 @@ use teco_store::Desk;
 use teco_terminal::{Terminal, TerminalFault};
 
 /// How the program ends at an error of the system: by want of memory where the error is that, otherwise as given.
-pub fn fate_of(error: io::Error, other: Fate) -> Fate
+fn fate_of(error: io::Error, other: Fate) -> Fate
     ensures { IsFateOf error other result }
 {
     match error.kind() {
         ErrorKind::OutOfMemory => Fate::NoMemory,
         _ => other,
     }
+}
+
+/// How the program ends where an input can't be opened.
+fn no_input(error: io::Error) -> Fate
+    ensures { IsFateOf error (NoInput (reason_of (error_kind error))) result }
+{
+    fate_of(error, Fate::NoInput(reason_of(error)))
+}
+
+/// How it ends where the file of the commands can't be opened.
+pub fn no_commands(error: io::Error) -> Fate
+    ensures { IsFateOf error (NoCommands (reason_of (error_kind error))) result }
+{
+    fate_of(error, Fate::NoCommands(reason_of(error)))
+}
+
+/// How it ends where the output can't be written.
+fn no_output(error: io::Error) -> Fate
+    ensures { IsFateOf error (NoOutput (reason_of (error_kind error))) result }
+{
+    fate_of(error, Fate::NoOutput(reason_of(error)))
 }
 
 /// Reads a file whole.
@@ -51,7 +75,7 @@ pub fn input_of_file<D: Disk>(alloc: Global, name: &str, disk: &mut D) -> Result
 {
     let mut source = match disk.open(name) {
         Ok(source) => source,
-        Err(error) => return Err(fate_of(error, Fate::NoInput)),
+        Err(error) => return Err(no_input(error)),
     };
     match read_input(alloc, &mut source, FILE_LIMIT) {
         Ok(input) => Ok(input),
@@ -78,7 +102,7 @@ fn input_in_place<D: Disk>(
     let mut source = match disk.open_to_replace(name, waits) {
         Ok(Some(source)) => source,
         Ok(None) => return Err(Fate::NotRegular),
-        Err(error) => return Err(fate_of(error, Fate::NoInput)),
+        Err(error) => return Err(no_input(error)),
     };
     match read_input(alloc, &mut source, FILE_LIMIT) {
         Ok(input) => Ok(input),
@@ -160,11 +184,11 @@ fn put_on_terminal<T: Terminal>(output: (&[u8], &[u8]), term: &mut T) -> Fate
         (standard_output T.screen term.old term.new)) result }
 {
     if let Err(TerminalFault) = term.put(output.0) {
-        return Fate::NoOutput;
+        return Fate::NoOutput(Reason::WriteFailed);
     }
     match term.put(output.1) {
         Ok(()) => Fate::Ended(Served::Exit),
-        Err(TerminalFault) => Fate::NoOutput,
+        Err(TerminalFault) => Fate::NoOutput(Reason::WriteFailed),
     }
 }
 
@@ -187,7 +211,7 @@ fn put_over_input<D: Disk>(
     match write_output(alloc, disk, name, number, Some(name), output) {
         Ok(Written::Whole) => Fate::Ended(Served::Exit),
         Ok(Written::Changed) => Fate::Changed,
-        Err(error) => fate_of(error, Fate::NoOutput),
+        Err(error) => no_output(error),
     }
 }
 
@@ -212,7 +236,7 @@ fn put_in_file<D: Disk>(
         Ok(Written::Whole) => Fate::Ended(Served::Exit),
         // no file is named that was read, so none has changed
         Ok(Written::Changed) => unreachable!(),
-        Err(error) => fate_of(error, Fate::NoOutput),
+        Err(error) => no_output(error),
     }
 }
 

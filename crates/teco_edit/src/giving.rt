@@ -7,7 +7,7 @@ ghost use Rattle.teco_serve.specs.Exchange.{HasRung};
 ghost use Rattle.teco_edit.specs.Given.{EditsBy, EditsGiven, host_view, is_streamed};
 ghost use Rattle.teco_host.specs.Seen.{disk_seen, host, source_view};
 
-use crate::editing::{edit_file, edit_input, fate_of};
+use crate::editing::{edit_file, edit_input, no_commands};
 use std::alloc::Global;
 use teco_bytes::{Source, WordSource};
 use teco_files::Disk;
@@ -57,7 +57,7 @@ fn edit_by_line<S: Source, A: Alarm, T: Terminal, L: Listens, D: Disk>(
     };
     let mut given = match disk.open(file) {
         Ok(given) => given,
-        Err(error) => return fate_of(error, Fate::NoCommands),
+        Err(error) => return no_commands(error),
     };
     edit_input(
         alloc, line, name, number, &mut given, commands, alarm, term, listener, disk,

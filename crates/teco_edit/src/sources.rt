@@ -5,7 +5,7 @@ ghost use Rattle.teco_line.specs.CommandLine.{on_pages};
 ghost use Rattle.teco_line.specs.Conflict.{are_awaited};
 ghost use Rattle.teco_option.specs.StreamNames.{is_standard_input};
 ghost use Rattle.teco_host.specs.Seen.{KeepsDisk, disk_seen, source_view};
-ghost use Rattle.teco_edit.specs.Sources.{AreCommandsIn, Declines, IsFaultOf, IsGivenBy, IsUnread, IsWholeOf, LacksCommands, LacksFiles, source_name, status_without, text_without};
+ghost use Rattle.teco_edit.specs.Sources.{AreCommandsIn, Declines, FailsToGive, IsFaultOf, IsGivenBy, IsUnread, IsWholeOf, LacksCommands, LacksFiles, fault_by, source_name, status_without, text_without};
 ghost use Rattle.teco_source.specs.Source.{commands_of};
 
 use crate::concluding::no_memory;
@@ -14,9 +14,10 @@ use std::alloc::Global;
 use teco_bytes::Source;
 use teco_core::NoMemory;
 use teco_files::Disk;
+use teco_host::Reason;
 use teco_line::{Commands, commands_on_pages};
 use teco_option::is_standard_input;
-use teco_serve::{Fate, said_of};
+use teco_serve::{Fate, said_of, said_why};
 use teco_source::{SourceFault, commands};
 use teco_telling::{Spot, spot_of};
 use teco_terminal::Terminal;
@@ -26,8 +27,10 @@ use teco_terminal::Terminal;
 pub enum CommandsFault {
     /// Memory was refused for them.
     Memory,
-    /// The file of this number can't be read, of those that the line names.
-    Unread(usize),
+    /// The file of this number can't be read, of those that the line names, for this reason.
+    Unread(usize, Reason),
+    /// The file of this number has more bytes than it may have.
+    TooLarge(usize),
     /// The source of this number can't be read. At this spot of it a caret stands before what it cannot stand before.
     Caret(usize, Spot),
 }
@@ -115,6 +118,42 @@ fn commands_in(alloc: Global, source: &[u8], at: usize) -> Result<Vec<u8>, Comma
     }
 }
 
+/// Why a file of commands is not had, which has this number, if a run over it would have this fate.
+fn fault_by(at: usize, fate: Fate) -> CommandsFault
+    ensures { result ≡ fault_by at fate }
+{
+    match fate {
+        Fate::NoInput(reason) => CommandsFault::Unread(at, reason),
+        Fate::LargeInput => CommandsFault::TooLarge(at),
+        _ => CommandsFault::Memory,
+    }
+}
+
+/// All the bytes of a file of commands, or the fate of a run over it. A name of standard input is that.
+fn whole_of<S: Source, D: Disk>(
+    alloc: Global,
+    name: &str,
+    stream: &mut S,
+    disk: &mut D,
+) -> Result<Vec<u8>, Fate>
+    ensures whole { IfOk result (λ bytes. IsWholeOf (is_standard_input name.now)
+        (source_view S.coming S.bound S.failures S.ended) (D.files disk.old) name.now
+        stream.old stream.new bytes.items) }
+    ensures fails { let seen = disk_seen D.files D.streams D.left D.gave D.changed
+        (source_view D.Input.coming D.Input.bound D.Input.failures D.Input.ended) in
+        IfErr result (FailsToGive (is_standard_input name.now)
+        (source_view S.coming S.bound S.failures S.ended) (seen disk.old) (seen disk.new)
+        name.now stream.old stream.new) }
+    ensures keeps { let seen = disk_seen D.files D.streams D.left D.gave D.changed
+        (source_view D.Input.coming D.Input.bound D.Input.failures D.Input.ended) in
+        KeepsDisk (seen disk.old) (seen disk.new) }
+{
+    if is_standard_input(name) {
+        return input_of_stream(alloc, stream);
+    }
+    input_of_file(alloc, name, disk)
+}
+
 /// All the bytes of a file of commands, which has this number. A name of standard input is that.
 fn bytes_of<S: Source, D: Disk>(
     alloc: Global,
@@ -134,15 +173,9 @@ fn bytes_of<S: Source, D: Disk>(
         (source_view D.Input.coming D.Input.bound D.Input.failures D.Input.ended) in
         KeepsDisk (seen disk.old) (seen disk.new) }
 {
-    let read = if is_standard_input(name) {
-        input_of_stream(alloc, stream)
-    } else {
-        input_of_file(alloc, name, disk)
-    };
-    match read {
+    match whole_of(alloc, name, stream, disk) {
         Ok(bytes) => Ok(bytes),
-        Err(Fate::NoMemory) => Err(CommandsFault::Memory),
-        Err(_) => Err(CommandsFault::Unread(at)),
+        Err(fate) => Err(fault_by(at, fate)),
     }
 }
 
@@ -266,7 +299,12 @@ fn text_without(
 {
     match fault {
         CommandsFault::Memory => said_of(alloc, "no memory", "", ""),
-        CommandsFault::Unread(at) => said_of(alloc, "cannot read ", source_name(commands, at), ""),
+        CommandsFault::Unread(at, reason) => {
+            said_why(alloc, "cannot read ", source_name(commands, at), reason)
+        }
+        CommandsFault::TooLarge(at) => {
+            said_of(alloc, "", source_name(commands, at), " is too large")
+        }
         CommandsFault::Caret(at, spot) => {
             let name = source_name(commands, at);
             format!(in alloc; "teco: {name}:{spot}: a caret before what it cannot stand before\n")
@@ -278,7 +316,7 @@ fn status_without(fault: CommandsFault) -> u8
     ensures { result ≡ status_without fault }
 {
     match fault {
-        CommandsFault::Memory | CommandsFault::Unread(_) => 1,
+        CommandsFault::Memory | CommandsFault::Unread(..) | CommandsFault::TooLarge(_) => 1,
         CommandsFault::Caret(..) => 3,
     }
 }

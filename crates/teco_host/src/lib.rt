@@ -3,8 +3,10 @@
 
 mod comparing;
 mod output;
+mod reason;
 mod refusing;
 
 pub use comparing::has_bytes;
 pub use output::{Written, write_output};
+pub use reason::{Reason, reason_of};
 pub use refusing::refuse;

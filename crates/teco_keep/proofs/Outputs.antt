@@ -3,6 +3,8 @@ use Rattle.std.proofs.Common.{◌≡◌, ◌≢◌, ◌⊎◌, inl, inr, ℕ, Li
 use Rattle.std.specs.declared.io.Error.{Error}
 use Rattle.teco_option.specs.StreamNames.{is_standard_output}
 use Rattle.teco_host.specs.Refusing.{Tells}
+use Rattle.teco_host.specs.declared.reason.Reason.{Reason}
+use Rattle.teco_host.specs.declared.reason.Reason.TheVariants.{WriteFailed}
 use Rattle.teco_host.specs.Writing.{WritesOutput}
 use Rattle.teco_host.specs.Seen.{DiskSeen}
 use Rattle.teco_terminal.specs.Terminal.{Puts, Screen}
@@ -25,23 +27,27 @@ module _ {I T : Type 0} (screen : T → Screen) (name bytes : List ℕ) (before 
   pub fails_in : (fate : Fate) → FailsToWrite before after name bytes fate → (output_to (is_standard_output name) screen name before after term term).fails bytes fate
   fails_in fate fails = subst (λ b. (output_to b screen name before after term term).fails bytes fate) (sym off) (refl, fails)
 
+-- the output can't be written, for some reason
+abbrev pub IsNoOutput : Fate → Type 0
+IsNoOutput fate = (reason : Reason) × (fate ≡ NoOutput reason)
+
 -- an error's fate is want of memory or the other one
 no_other : {error : Error} {other fate : Fate} → IsFateOf error other fate → fate ≢ NoMemory → fate ≢ other → ⊥
 no_other f not_memory not_other = not_other (f.other_is (λ memory. not_memory (f.memory memory)))
 
-of_error : {error : Error} (fate : Fate) → IsFateOf error NoOutput fate → (fate ≡ NoMemory) ⊎ (fate ≡ NoOutput)
+of_error : {error : Error} {reason : Reason} (fate : Fate) → IsFateOf error (NoOutput reason) fate → (fate ≡ NoMemory) ⊎ IsNoOutput fate
 of_error NoMemory is = inl refl
-of_error NoOutput is = inr refl
+of_error (NoOutput other) is = inr (other, refl)
 of_error Done is = absurd (no_other is (λ e. cc) (λ e. cc))
 of_error Faulty is = absurd (no_other is (λ e. cc) (λ e. cc))
 of_error (Unreadable spot) is = absurd (no_other is (λ e. cc) (λ e. cc))
-of_error NoInput is = absurd (no_other is (λ e. cc) (λ e. cc))
+of_error (NoInput other) is = absurd (no_other is (λ e. cc) (λ e. cc))
 of_error LargeInput is = absurd (no_other is (λ e. cc) (λ e. cc))
 
 -- how a run ends whose output fails
 pub fails_by : {I T : Type 0} (b : Bool) (screen : T → Screen) (name bytes : List ℕ) (before after : DiskSeen I) (old new : T) (fate : Fate)
-    → (output_to b screen name before after old new).fails bytes fate → (fate ≡ NoMemory) ⊎ (fate ≡ NoOutput)
-fails_by true screen name bytes before after old new fate f = inr f.0.fate_is
+    → (output_to b screen name before after old new).fails bytes fate → (fate ≡ NoMemory) ⊎ IsNoOutput fate
+fails_by true screen name bytes before after old new fate f = inr (WriteFailed, f.0.fate_is)
 fails_by false screen name bytes before after old new fate f = of_error fate f.1.fate_is
 
 -- what is to be written was made, and the run is to end by whether it tells of a fault
@@ -57,7 +63,7 @@ module _ (is_made : Made → Type 0) (input : List ℕ) (output : Output) (bytes
   made_so wanted (inl (m, is)) = inl m
   made_so wanted (inr (m, is)) = inr m
 
-  pub fails : (wanted fate : Fate) → Chosen is_made (bytes, wanted) → output.fails bytes.items fate → (fate ≡ NoMemory) ⊎ (fate ≡ NoOutput)
+  pub fails : (wanted fate : Fate) → Chosen is_made (bytes, wanted) → output.fails bytes.items fate → (fate ≡ NoMemory) ⊎ IsNoOutput fate
       → MakesAndPuts is_made input output fate
   fails wanted fate m f (inl is) = subst (MakesAndPuts is_made input output) (sym is) (inr (bytes, made_so wanted m, subst (output.fails bytes.items) is f))
-  fails wanted fate m f (inr is) = subst (MakesAndPuts is_made input output) (sym is) (bytes, made_so wanted m, subst (output.fails bytes.items) is f)
+  fails wanted fate m f (inr is) = subst (MakesAndPuts is_made input output) (sym is.1) (bytes, made_so wanted m, subst (output.fails bytes.items) is.1 f)

@@ -6,6 +6,8 @@ use Rattle.std.specs.declared.io.Error.{Error}
 use Rattle.std.specs.declared.io.ErrorKind.TheVariants.{OutOfMemory}
 use Rattle.teco_bytes.specs.declared.input.InputFault.{InputFault}
 use Rattle.teco_bytes.specs.declared.input.InputFault.TheVariants as input
+use Rattle.teco_host.specs.Reasons.{with_reason}
+use Rattle.teco_host.specs.declared.reason.Reason.TheVariants.{ReadFailed}
 use Rattle.teco_telling.specs.Shown.{spot_shown}
 use Rattle.teco_telling.specs.Spot.{spot_of}
 use Rattle.teco_telling.specs.declared.spot.Spot.{Spot}
@@ -22,7 +24,7 @@ status_of fate = 1
 
 -- how a run ends where the input is not read
 abbrev pub fate_without_input : InputFault → Fate
-fate_without_input input.Read = NoInput
+fate_without_input input.Read = NoInput ReadFailed
 fate_without_input input.TooLarge = LargeInput
 fate_without_input input.Memory = NoMemory
 
@@ -49,10 +51,10 @@ abbrev pub text_of : Line → Fate → List ℕ
 text_of line Done = []
 text_of line Faulty = []
 text_of line (Unreadable spot) = unreadable (string_bytes line.input) spot
-text_of line NoInput = said (codes "cannot read " ++ string_bytes line.input)
+text_of line (NoInput reason) = said (with_reason (codes "cannot read ") (string_bytes line.input) reason)
 text_of line LargeInput = said (string_bytes line.input ++ codes " is too large")
 text_of line NoMemory = said (codes "no memory")
-text_of line NoOutput = said (codes "cannot write " ++ string_bytes line.output)
+text_of line (NoOutput reason) = said (with_reason (codes "cannot write ") (string_bytes line.output) reason)
 
 -- A line is told of it.
 abbrev pub is_told : Fate → Bool

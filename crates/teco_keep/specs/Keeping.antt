@@ -10,7 +10,10 @@ use Rattle.teco_bytes.specs.Input.{IsFaultOf}
 use Rattle.teco_bytes.specs.Source.{Gives}
 use Rattle.teco_bytes.specs.declared.input.InputFault.{InputFault}
 use Rattle.teco_option.specs.StreamNames.{is_standard_input, is_standard_output}
+use Rattle.std.specs.IoError.{error_kind}
+use Rattle.teco_host.specs.Reasons.{reason_of}
 use Rattle.teco_host.specs.Refusing.{Tells}
+use Rattle.teco_host.specs.declared.reason.Reason.TheVariants.{WriteFailed}
 use Rattle.teco_host.specs.Reading.{IsInput, IsStreamed}
 use Rattle.teco_host.specs.Seen.{KeepsDisk, Host, KeepsStream, DiskSeen, SourceView}
 use Rattle.teco_host.specs.Writing.{WritesOutput, AddsDrafts, IsWriteError, IsWriting}
@@ -30,11 +33,11 @@ pub record FailsToStream {S : Type 0} (source : SourceView S) (old new : S) (fat
   pub fault_is : IsFaultOf FILE_LIMIT (Gives source.coming source.bound source.failures old new) fault
   pub fate_is : fate ≡ fate_without_input fault
 
--- The disk refused to open the file.
+-- The disk refused to open the file, by an error whose reason the fate has.
 pub record FailsToOpen (gave : Error → Type 0) (fate : Fate) : Type 0 where
   pub error : Error
   pub given : gave error
-  pub fate_is : IsFateOf error NoInput fate
+  pub fate_is : IsFateOf error (NoInput (reason_of (error_kind error))) fate
 
 -- What the disk opened under the name was read, and that ended by a fault.
 pub record FailsToRead {I : Type 0} (input : SourceView I) (files : Option Files) (name : List ℕ)
@@ -56,21 +59,22 @@ ReadsInput true stream name before after old new (Err fate) = FailsToStream stre
 ReadsInput false stream name before after old new (Ok input) = IsInput before.files name input.items
 ReadsInput false stream name before after old new (Err fate) = LacksInput before after name fate
 
--- The output file is as it was; and at each moment it was so, or had these bytes. The fate is that of the error.
+-- The output file is as it was; and at each moment it was so, or had these bytes. The fate is that of the error,
+-- and has its reason.
 pub record FailsToWrite {I : Type 0} (old new : DiskSeen I) (name bytes : List ℕ) (fate : Fate) : Type 0 where
   pub files : Changes old.files new.files (AddsDrafts name)
   pub streams : SameBut name old.streams new.streams
   pub moments : Passes old.files old.left new.left (IsWriting name bytes)
   pub error : Error
   pub given : IsWriteError new.gave error
-  pub fate_is : IsFateOf error NoOutput fate
+  pub fate_is : IsFateOf error (NoOutput (reason_of (error_kind error))) fate
 
--- A beginning of the bytes was put, and then the terminal failed.
+-- A beginning of the bytes was put, and then the terminal failed, which doesn't tell why.
 pub record FailsToPut (old new : Screen) (bytes : List ℕ) (fate : Fate) : Type 0 where
   pub front : List ℕ
   pub beginning : IsFrontOf front bytes
   pub shows : Shows old new front true
-  pub fate_is : fate ≡ NoOutput
+  pub fate_is : fate ≡ NoOutput WriteFailed
 
 -- what is seen of where the output goes
 pub record Output : Type 1 where
@@ -120,11 +124,11 @@ MakesAndPuts is_made input output Faulty =
 MakesAndPuts is_made input output (Unreadable spot) =
     (at : ℕ) × is_made (made.Unreadable at) × (spot ≡ spot_in input at) × output.keeps
 -- the input was read
-MakesAndPuts is_made input output NoInput = ⊥
+MakesAndPuts is_made input output (NoInput reason) = ⊥
 MakesAndPuts is_made input output LargeInput = ⊥
 -- memory was refused to the making, or to the writing
 MakesAndPuts is_made input output NoMemory = output.keeps ⊎ FailsWith is_made output NoMemory
-MakesAndPuts is_made input output NoOutput = FailsWith is_made output NoOutput
+MakesAndPuts is_made input output (NoOutput reason) = FailsWith is_made output (NoOutput reason)
 
 -- The input was read, and the run ends by what was made of it; or it was not read, and nothing is written.
 abbrev pub EndsAfter : Mode → Result (Vec ℕ Global) Fate → Output → Fate → Type 0

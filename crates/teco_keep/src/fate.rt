@@ -1,10 +1,14 @@
 //! How a run ends.
 ghost use Rattle.std.specs.Prelude.{◌≡◌};
+ghost use Rattle.std.specs.IoError.{error_kind};
+ghost use Rattle.teco_host.specs.Reasons.{reason_of};
 ghost use Rattle.teco_keep.specs.Ending.{IsFateOf, status_of};
+ghost use Rattle.teco_keep.specs.declared.fate.Fate.TheVariants.{NoInput, NoOutput};
 
 use std::io;
 use std::io::ErrorKind;
 use teco_bytes::InputFault;
+use teco_host::{Reason, reason_of};
 use teco_telling::Spot;
 
 /// How a run ends, once its command line is read.
@@ -16,14 +20,14 @@ pub enum Fate {
     Faulty,
     /// In the source a caret at this line and column cannot be read.
     Unreadable(Spot),
-    /// The input cannot be read.
-    NoInput,
+    /// The input cannot be read, for this reason.
+    NoInput(Reason),
     /// The input has more bytes than it may have.
     LargeInput,
     /// Memory was refused.
     NoMemory,
-    /// The output cannot be written.
-    NoOutput,
+    /// The output cannot be written, for this reason.
+    NoOutput(Reason),
 }
 
 impl From<InputFault> for Fate {
@@ -33,7 +37,7 @@ impl From<InputFault> for Fate {
 
     fn from(fault: InputFault) -> Fate {
         match fault {
-            InputFault::Read => Fate::NoInput,
+            InputFault::Read => Fate::NoInput(Reason::ReadFailed),
             InputFault::TooLarge => Fate::LargeInput,
             InputFault::Memory => Fate::NoMemory,
         }
@@ -41,13 +45,27 @@ impl From<InputFault> for Fate {
 }
 
 /// How a run ends at an error of the system: by want of memory where the error is that, otherwise as given.
-pub fn fate_of(error: io::Error, other: Fate) -> Fate
+fn fate_of(error: io::Error, other: Fate) -> Fate
     ensures { IsFateOf error other result }
 {
     match error.kind() {
         ErrorKind::OutOfMemory => Fate::NoMemory,
         _ => other,
     }
+}
+
+/// How a run ends where the input can't be opened.
+pub fn no_input(error: io::Error) -> Fate
+    ensures { IsFateOf error (NoInput (reason_of (error_kind error))) result }
+{
+    fate_of(error, Fate::NoInput(reason_of(error)))
+}
+
+/// How it ends where the output can't be written.
+pub fn no_output(error: io::Error) -> Fate
+    ensures { IsFateOf error (NoOutput (reason_of (error_kind error))) result }
+{
+    fate_of(error, Fate::NoOutput(reason_of(error)))
 }
 
 /// The status: 2 where a fault was found or a source can't be read, 1 where anything failed, otherwise 0.

@@ -4,7 +4,7 @@ ghost use Rattle.teco_keep.specs.Keeping.{FailsToStream, LacksInput};
 ghost use Rattle.teco_host.specs.Reading.{IsInput, IsStreamed};
 ghost use Rattle.teco_host.specs.Seen.{KeepsDisk, disk_seen, source_view};
 
-use crate::fate::{Fate, fate_of};
+use crate::fate::{Fate, no_input};
 use std::alloc::Global;
 use teco_bytes::{Source, read_input};
 use teco_core::FILE_LIMIT;
@@ -22,7 +22,7 @@ pub fn input_of_file<D: Disk>(alloc: Global, name: &str, disk: &mut D) -> Result
 {
     match disk.open(name) {
         Ok(mut source) => input_of_stream(alloc, &mut source),
-        Err(error) => Err(fate_of(error, Fate::NoInput)),
+        Err(error) => Err(no_input(error)),
     }
 }
 

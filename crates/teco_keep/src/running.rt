@@ -10,7 +10,7 @@ ghost use Rattle.teco_keep.specs.Program.{KeepsBy};
 ghost use Rattle.teco_host.specs.Refusing.{Tells};
 ghost use Rattle.teco_host.specs.Seen.{KeepsDisk, host, disk_seen, source_view};
 
-use crate::fate::{Fate, fate_of, status};
+use crate::fate::{Fate, no_output, status};
 use crate::line::Line;
 use crate::made::{Made, make};
 use crate::parsing::line_of;
@@ -21,7 +21,7 @@ use std::process::ExitCode;
 use teco_bytes::Source;
 use teco_core::NoMemory;
 use teco_files::Disk;
-use teco_host::{Written, refuse, write_output};
+use teco_host::{Reason, Written, refuse, write_output};
 use teco_option::{LineFault, is_standard_input, is_standard_output};
 use teco_terminal::{Terminal, TerminalFault};
 
@@ -68,14 +68,14 @@ fn put<T: Terminal, D: Disk>(
     if is_standard_output(name) {
         return match term.put(bytes) {
             Ok(()) => Ok(()),
-            Err(TerminalFault) => Err(Fate::NoOutput),
+            Err(TerminalFault) => Err(Fate::NoOutput(Reason::WriteFailed)),
         };
     }
     match write_output(alloc, disk, name, number, None, (bytes, &[])) {
         Ok(Written::Whole) => Ok(()),
         // no file is named that was read, so none has changed
         Ok(Written::Changed) => unreachable!(),
-        Err(error) => Err(fate_of(error, Fate::NoOutput)),
+        Err(error) => Err(no_output(error)),
     }
 }
 

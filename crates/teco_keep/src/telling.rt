@@ -1,12 +1,14 @@
 //! What is told of how a run ends.
 ghost use Rattle.std.specs.Prelude.{◌≡◌, ◌++◌, true, IfOk, OnErr};
 ghost use Rattle.std.specs.String.{string_bytes};
+ghost use Rattle.teco_host.specs.Reasons.{with_reason};
 ghost use Rattle.teco_keep.specs.Ending.{is_told, said, spot_in, text_of, unreadable};
 
 use crate::fate::Fate;
 use crate::line::Line;
 use std::alloc::Global;
 use teco_core::NoMemory;
+use teco_host::Reason;
 use teco_telling::{Spot, spot_of};
 
 /// The line and the column of a place of a source, as far as it goes.
@@ -21,6 +23,14 @@ fn said_of(alloc: Global, before: &str, name: &str, after: &str) -> Result<Strin
     ensures { IfOk result (λ text. string_bytes text ≡ said (before.now ++ name.now ++ after.now)) }
 {
     format!(in alloc; "tecol: {before}{name}{after}\n")
+}
+
+/// A line about a file: what can't be done with it, and why.
+fn said_why(alloc: Global, what: &str, name: &str, reason: Reason) -> Result<String, NoMemory>
+    ensures { IfOk result (λ text. string_bytes text ≡ said (with_reason what.now name.now reason)) }
+{
+    let why = reason.words();
+    format!(in alloc; "tecol: {what}{name}: {why}\n")
 }
 
 /// The line of a caret that cannot be read.
@@ -39,9 +49,9 @@ pub fn text_of(alloc: Global, line: &Line, fate: Fate) -> Result<String, NoMemor
     match fate {
         Fate::Done | Fate::Faulty => Ok(String::new(alloc)),
         Fate::Unreadable(spot) => unreadable(alloc, input, spot),
-        Fate::NoInput => said_of(alloc, "cannot read ", input, ""),
+        Fate::NoInput(reason) => said_why(alloc, "cannot read ", input, reason),
         Fate::LargeInput => said_of(alloc, "", input, " is too large"),
         Fate::NoMemory => said_of(alloc, "no memory", "", ""),
-        Fate::NoOutput => said_of(alloc, "cannot write ", line.output.as_str(), ""),
+        Fate::NoOutput(reason) => { said_why(alloc, "cannot write ", line.output.as_str(), reason) }
     }
 }

@@ -84,7 +84,7 @@ pub fn edit_told<S: Source, A: Alarm, T: Terminal, E: Terminal, N: Terminal, D: 
         &mut explainer,
         disk,
     );
-    explainer.ended(line, name, fate, disk.why());
+    explainer.ended(line, name, fate);
     conclude(alloc, line, name, fate, errors)
 }
 

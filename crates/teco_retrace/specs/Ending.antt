@@ -3,13 +3,14 @@ use Rattle.std.specs.Prelude.{◌≡◌, ◌⊎◌, ℕ, List, [], ◌∷◌, �
 use Rattle.std.specs.String.{string_bytes}
 use Rattle.std.specs.declared.alloc.Global.{Global}
 use Rattle.std.specs.declared.string.String.{String}
-use Rattle.teco_bytes.specs.declared.input.InputFault.{InputFault}
-use Rattle.teco_bytes.specs.declared.input.InputFault.TheVariants as input
+use Rattle.teco_host.specs.Reasons.{with_reason}
 use Rattle.teco_host.specs.Refusing.{Tells}
 use Rattle.teco_terminal.specs.Terminal.{Screen}
 use Rattle.teco_retrace.specs.declared.ending.Ending.{Ending}
 use Rattle.teco_retrace.specs.declared.ending.Ending.TheVariants.{Done, NoText, NoInput, NoMemory, ReadFault, ShowFault}
 use Rattle.teco_retrace.specs.declared.line.Line.{Line}
+use Rattle.teco_retrace.specs.declared.reading.FileFault.{FileFault}
+use Rattle.teco_retrace.specs.declared.reading.FileFault.TheVariants as file
 
 -- 0 of a run that is done, 1 where a file, memory or the terminal failed
 abbrev pub status_of_ending : Ending → ℕ
@@ -20,11 +21,11 @@ status_of_ending _ = 1
 abbrev pub told_line : List ℕ → List ℕ
 told_line words = codes "teco-debug: " ++ words ++ 10 ∷ []
 
--- why a file is not read, in words after its name
-abbrev pub fault_words : InputFault → List ℕ
-fault_words input.Read = codes ": cannot be read"
-fault_words input.TooLarge = codes ": is too large"
-fault_words input.Memory = codes ": no memory for it"
+-- what is told of a file that is not had
+abbrev pub fault_words : List ℕ → FileFault → List ℕ
+fault_words name (file.Unread reason) = with_reason (codes "cannot read ") name reason
+fault_words name file.TooLarge = name ++ codes " is too large"
+fault_words name file.Memory = name ++ codes ": no memory for it"
 
 -- the name of the input, or nothing if the line names none
 abbrev pub input_name : Option (String Global) → List ℕ
@@ -34,8 +35,8 @@ input_name None = []
 -- what is told: a line, or nothing
 abbrev pub ending_line : Line → Ending → List ℕ
 ending_line line Done = []
-ending_line line (NoText fault) = told_line (string_bytes line.text ++ fault_words fault)
-ending_line line (NoInput fault) = told_line (input_name line.input ++ fault_words fault)
+ending_line line (NoText fault) = told_line (fault_words (string_bytes line.text) fault)
+ending_line line (NoInput fault) = told_line (fault_words (input_name line.input) fault)
 ending_line line NoMemory = told_line (codes "no memory")
 ending_line line ReadFault = told_line (codes "cannot read commands")
 ending_line line ShowFault = told_line (codes "cannot show")

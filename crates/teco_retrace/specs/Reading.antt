@@ -13,24 +13,35 @@ use Rattle.teco_bytes.specs.Source.{Gives}
 use Rattle.teco_bytes.specs.declared.input.InputFault.{InputFault}
 use Rattle.teco_bytes.specs.declared.input.InputFault.TheVariants as input
 use Rattle.teco_host.specs.Reading.{IsInput}
+use Rattle.teco_host.specs.Reasons.{reason_of}
+use Rattle.teco_host.specs.declared.reason.Reason.TheVariants.{ReadFailed}
 use Rattle.teco_host.specs.Seen.{DiskSeen}
 use Rattle.teco_retrace.specs.Spelling.{escaped}
 use Rattle.teco_retrace.specs.declared.debugger.Debugger.{Debugger}
 use Rattle.teco_retrace.specs.declared.ending.Ending.{Ending}
 use Rattle.teco_retrace.specs.declared.ending.Ending.TheVariants.{Done, NoText, NoInput, NoMemory, ReadFault, ShowFault}
 use Rattle.teco_retrace.specs.declared.line.Line.{Line}
+use Rattle.teco_retrace.specs.declared.reading.FileFault.{FileFault}
+use Rattle.teco_retrace.specs.declared.reading.FileFault.TheVariants as file
 
--- Why a file is not read that could not be opened: for want of memory where the error is that, else for another cause.
-pub record IsFaultOfError (error : Error) (fault : InputFault) : Type 0 where
-  pub memory : error_kind error ≡ OutOfMemory → fault ≡ input.Memory
-  pub other_is : error_kind error ≢ OutOfMemory → fault ≡ input.Read
+-- Why a file is not had that could not be opened: for want of memory where the error is that, else for its reason.
+pub record IsFaultOfError (error : Error) (fault : FileFault) : Type 0 where
+  pub memory : error_kind error ≡ OutOfMemory → fault ≡ file.Memory
+  pub other_is : error_kind error ≢ OutOfMemory → fault ≡ file.Unread (reason_of (error_kind error))
 
--- The file of this name is not read: the disk refused to open it, or what it opened was read, and that ended by a
+-- why a file is not had that was opened, after a reading that ended by this fault
+abbrev pub fault_after : InputFault → FileFault
+fault_after input.Read = file.Unread ReadFailed
+fault_after input.TooLarge = file.TooLarge
+fault_after input.Memory = file.Memory
+
+-- The file of this name is not had: the disk refused to open it, or what it opened was read, and that ended by a
 -- fault.
-abbrev pub IsNotRead : {I : Type 0} → Option Files → DiskSeen I → List ℕ → InputFault → Type 0
+abbrev pub IsNotRead : {I : Type 0} → Option Files → DiskSeen I → List ℕ → FileFault → Type 0
 IsNotRead {I} files new name fault = ((error : Error) × new.gave error × IsFaultOfError error fault)
-    ⊎ ((first : I) × (last : I) × Opens files name (new.input.coming first)
-    × IsFaultOf FILE_LIMIT (Gives new.input.coming new.input.bound new.input.failures first last) fault)
+    ⊎ ((first : I) × (last : I) × (read : InputFault) × Opens files name (new.input.coming first)
+    × IsFaultOf FILE_LIMIT (Gives new.input.coming new.input.bound new.input.failures first last) read
+    × (fault ≡ fault_after read))
 
 -- the command string that these bytes are: themselves, or with each dollar sign made ESC
 abbrev pub string_in : Bool → List ℕ → List ℕ

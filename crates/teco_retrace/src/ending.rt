@@ -2,12 +2,14 @@
 ghost use Rattle.std.specs.Prelude.{◌≡◌, ◌++◌, IfOk, OnErr};
 ghost use Rattle.std.specs.String.{string_bytes};
 ghost use Rattle.teco_host.specs.Refusing.{Tells};
+ghost use Rattle.teco_retrace.specs.declared.reading.FileFault.TheVariants.{Unread};
 ghost use Rattle.teco_retrace.specs.Ending.{TellsEnding, ending_line, fault_words, input_name, status_of_ending, told_line};
 
 use crate::line::Line;
+use crate::reading::FileFault;
 use std::alloc::Global;
-use teco_bytes::InputFault;
 use teco_core::NoMemory;
+use teco_host::Reason;
 use teco_terminal::Terminal;
 
 /// What is told if memory is refused to the program.
@@ -18,10 +20,10 @@ pub const NO_MEMORY: &[u8] = b"teco-debug: no memory\n";
 pub enum Ending {
     /// By `quit`, or at the end of the commands.
     Done,
-    /// The file of the command string is not read.
-    NoText(InputFault),
-    /// The file of the input is not read.
-    NoInput(InputFault),
+    /// The file of the command string is not had.
+    NoText(FileFault),
+    /// The file of the input is not had.
+    NoInput(FileFault),
     NoMemory,
     /// The commands cannot be read.
     ReadFault,
@@ -36,17 +38,6 @@ impl From<NoMemory> for Ending {
 
     fn from(_: NoMemory) -> Ending {
         Ending::NoMemory
-    }
-}
-
-/// Why a file is not read, in words after its name.
-fn words_of(fault: InputFault) -> &'static str
-    ensures { result.now ≡ fault_words fault }
-{
-    match fault {
-        InputFault::Read => ": cannot be read",
-        InputFault::TooLarge => ": is too large",
-        InputFault::Memory => ": no memory for it",
     }
 }
 
@@ -67,6 +58,25 @@ fn told(alloc: Global, name: &str, words: &str) -> Result<String, NoMemory>
     format!(in alloc; "teco-debug: {name}{words}\n")
 }
 
+/// A line of a file that can't be read, and why.
+fn told_unread(alloc: Global, name: &str, reason: Reason) -> Result<String, NoMemory>
+    ensures { IfOk result (λ text. string_bytes text ≡ told_line (fault_words name.now (Unread reason))) }
+{
+    let why = reason.words();
+    format!(in alloc; "teco-debug: cannot read {name}: {why}\n")
+}
+
+/// A line of a file that is not had.
+fn told_fault(alloc: Global, name: &str, fault: FileFault) -> Result<String, NoMemory>
+    ensures { IfOk result (λ text. string_bytes text ≡ told_line (fault_words name.now fault)) }
+{
+    match fault {
+        FileFault::Unread(reason) => told_unread(alloc, name, reason),
+        FileFault::TooLarge => told(alloc, name, " is too large"),
+        FileFault::Memory => told(alloc, name, ": no memory for it"),
+    }
+}
+
 /// What is told: a line, or nothing.
 fn line_of(alloc: Global, line: &Line, ending: Ending) -> Result<String, NoMemory>
     ensures ok { IfOk result (λ text. string_bytes text ≡ ending_line line.now ending) }
@@ -74,8 +84,8 @@ fn line_of(alloc: Global, line: &Line, ending: Ending) -> Result<String, NoMemor
 {
     match ending {
         Ending::Done => Ok(String::new(alloc)),
-        Ending::NoText(fault) => told(alloc, line.text.as_str(), words_of(fault)),
-        Ending::NoInput(fault) => told(alloc, input_name(line), words_of(fault)),
+        Ending::NoText(fault) => told_fault(alloc, line.text.as_str(), fault),
+        Ending::NoInput(fault) => told_fault(alloc, input_name(line), fault),
         Ending::NoMemory => told(alloc, "", "no memory"),
         Ending::ReadFault => told(alloc, "", "cannot read commands"),
         Ending::ShowFault => told(alloc, "", "cannot show"),

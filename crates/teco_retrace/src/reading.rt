@@ -12,19 +12,45 @@ use std::io::ErrorKind;
 use teco_bytes::{InputFault, read_input};
 use teco_core::{ESC, FILE_LIMIT, NoMemory};
 use teco_files::Disk;
+use teco_host::{Reason, reason_of};
 
-/// Why a file is not read that could not be opened.
-fn fault_of(error: io::Error) -> InputFault
+/// Why a file is not had.
+#[derive(Clone, Copy)]
+pub enum FileFault {
+    /// It can't be read, for this reason.
+    Unread(Reason),
+    /// It has more bytes than it may have.
+    TooLarge,
+    /// Memory was refused for its bytes.
+    Memory,
+}
+
+impl From<InputFault> for FileFault {
+    ghost use Rattle.teco_retrace.specs.Reading.{fault_after};
+
+    ghost from_gives = { λ read fault. fault ≡ fault_after read };
+
+    fn from(fault: InputFault) -> FileFault {
+        match fault {
+            InputFault::Read => FileFault::Unread(Reason::ReadFailed),
+            InputFault::TooLarge => FileFault::TooLarge,
+            InputFault::Memory => FileFault::Memory,
+        }
+    }
+}
+
+/// Why a file is not had that could not be opened.
+fn fault_of(error: io::Error) -> FileFault
     ensures { IsFaultOfError error result }
 {
     match error.kind() {
-        ErrorKind::OutOfMemory => InputFault::Memory,
-        _ => InputFault::Read,
+        ErrorKind::OutOfMemory => FileFault::Memory,
+        _ => FileFault::Unread(reason_of(error)),
     }
 }
 
 /// The bytes of a file, at most 2^30.
-pub fn read_file<D: Disk>(alloc: Global, name: &str, disk: &mut D) -> Result<Vec<u8>, InputFault>
+pub fn read_file<D: Disk>(alloc: Global, name: &str, disk: &mut D) -> Result<Vec<u8>, FileFault>
     ensures bytes { IfOk result (λ bytes. IsInput (D.files disk.old) name.now bytes.items) }
     ensures most { IfOk result (λ bytes. vec_len bytes ≤ FILE_LIMIT) }
     ensures fault { let seen = disk_seen D.files D.streams D.left D.gave D.changed
@@ -38,7 +64,10 @@ pub fn read_file<D: Disk>(alloc: Global, name: &str, disk: &mut D) -> Result<Vec
         Ok(source) => source,
         Err(error) => return Err(fault_of(error)),
     };
-    read_input(alloc, &mut source, FILE_LIMIT)
+    match read_input(alloc, &mut source, FILE_LIMIT) {
+        Ok(bytes) => Ok(bytes),
+        Err(fault) => Err(FileFault::from(fault)),
+    }
 }
 
 /// The byte that a byte of a string stands for where a dollar sign is ESC.

@@ -3,6 +3,8 @@ use Rattle.std.specs.Prelude.{ℕ, List, [], ◌∷◌, ◌++◌, Some, None, co
 use Rattle.std.specs.String.{string_bytes}
 use Rattle.teco_bytes.specs.declared.input.InputFault.{InputFault}
 use Rattle.teco_bytes.specs.declared.input.InputFault.TheVariants as input
+use Rattle.teco_host.specs.Reasons.{with_reason}
+use Rattle.teco_host.specs.declared.reason.Reason.TheVariants.{ReadFailed}
 use Rattle.teco_line.specs.Conflict.{has_more}
 use Rattle.teco_option.specs.StreamNames.{is_standard_input}
 use Rattle.teco_line.specs.declared.line.Commands.{Commands}
@@ -39,7 +41,7 @@ about line input words = if has_more line then input ++ codes ": " ++ words else
 
 -- how the program ends where the input is not read
 abbrev pub fate_without_input : InputFault → Fate
-fate_without_input input.Read = NoInput
+fate_without_input input.Read = NoInput ReadFailed
 fate_without_input input.TooLarge = LargeInput
 fate_without_input input.Memory = NoMemory
 
@@ -49,12 +51,12 @@ commands_name line =
     elim line.commands [ Bytes name ↦ string_bytes name | Sources names word ↦ [] | Pages word ↦ [] | StandardInput ↦ [] ]
 
 abbrev pub status_of : Fate → ℕ
-status_of NoCommands = 1
-status_of NoInput = 1
+status_of (NoCommands reason) = 1
+status_of (NoInput reason) = 1
 status_of NotRegular = 1
 status_of LargeInput = 1
 status_of NoMemory = 1
-status_of NoOutput = 1
+status_of (NoOutput reason) = 1
 status_of Changed = 1
 status_of Unchanged = 0
 status_of (Ended served.Exit) = 0
@@ -69,12 +71,12 @@ said words = codes "teco: " ++ words ++ 10 ∷ []
 
 -- the line of a fate, for this input of the line
 abbrev pub text_of : Line → List ℕ → Fate → List ℕ
-text_of line input NoCommands = said (codes "cannot read " ++ commands_name line)
-text_of line input NoInput = said (codes "cannot read " ++ input)
+text_of line input (NoCommands reason) = said (with_reason (codes "cannot read ") (commands_name line) reason)
+text_of line input (NoInput reason) = said (with_reason (codes "cannot read ") input reason)
 text_of line input NotRegular = said (input ++ codes " is not a regular file")
 text_of line input LargeInput = said (input ++ codes " is too large")
 text_of line input NoMemory = said (about line input (codes "no memory"))
-text_of line input NoOutput = said (codes "cannot write " ++ output_of line input)
+text_of line input (NoOutput reason) = said (with_reason (codes "cannot write ") (output_of line input) reason)
 text_of line input Changed = said (input ++ codes " has changed")
 text_of line input Unchanged = []
 text_of line input (Ended served.Exit) = []

@@ -5,8 +5,6 @@ use Rattle.std.specs.List.{list_all}
 use Rattle.std.specs.String.{string_bytes}
 use Rattle.std.specs.declared.alloc.AllocError.{AllocError}
 use Rattle.std.specs.declared.alloc.Global.{Global}
-use Rattle.std.specs.declared.io.ErrorKind.{ErrorKind}
-use Rattle.std.specs.declared.io.ErrorKind.TheVariants as kind
 use Rattle.std.specs.declared.string.String.{String}
 use Rattle.teco_core.specs.Ascii.{is_filler}
 use Rattle.teco_core.specs.declared.code.Code.{Code}
@@ -137,45 +135,25 @@ left_line bytes broken_off =
     else if length bytes == 1 then codes "1 byte after " ++ after_what broken_off ++ codes " was not run" ++ 10 ∷ []
     else decimal (length bytes) ++ codes " bytes after " ++ after_what broken_off ++ codes " were not run" ++ 10 ∷ []
 
--- why a file cannot be read or written, in words
-abbrev pub reason_of : ErrorKind → List ℕ
-reason_of kind.NotFound = codes "there is no such file or folder"
-reason_of kind.PermissionDenied = codes "permission is denied"
-reason_of kind.IsADirectory = codes "it is a folder"
-reason_of kind.NotADirectory = codes "a part of its path is no folder"
-reason_of kind.StorageFull = codes "there is no room on the disk"
-reason_of kind.QuotaExceeded = codes "there is no room on the disk"
-reason_of kind.ReadOnlyFilesystem = codes "the file system is read only"
-reason_of kind.FilesystemLoop = codes "its links lead in a circle"
-reason_of kind.InvalidFilename = codes "its name is too long"
-reason_of kind.ResourceBusy = codes "it is in use"
-reason_of _ = codes "the system refused it"
-
--- a file that failed, if the disk told why
-abbrev pub fault_line : List ℕ → Option ErrorKind → List ℕ
-fault_line name None = []
-fault_line name (Some why) = name ++ codes ": " ++ reason_of why ++ 10 ∷ []
-
 -- an output that is not written
 abbrev pub unwritten_line : List ℕ → List ℕ
 unwritten_line name = name ++ codes " is not written" ++ 10 ∷ []
 
--- What is told of how the run over an input ended, by the name of its output.
-abbrev pub end_line : List ℕ → List ℕ → Fate → Option ErrorKind → List ℕ
-end_line input output NoCommands why = []
-end_line input output NoInput why = fault_line input why
-end_line input output NoOutput why = fault_line output why
-end_line input output NotRegular why = unwritten_line output
-end_line input output LargeInput why = unwritten_line output
-end_line input output NoMemory why = unwritten_line output
-end_line input output Changed why = unwritten_line output
-end_line input output Unchanged why = output ++ codes " is unchanged" ++ 10 ∷ []
-end_line input output (Ended served.Exit) why = output ++ codes " is written" ++ 10 ∷ []
-end_line input output (Ended served.EndOfCommands) why =
-    codes "the commands ended without EX: " ++ unwritten_line output
-end_line input output (Ended served.ReadFault) why = unwritten_line output
-end_line input output (Ended served.ShowFault) why = unwritten_line output
-end_line input output (Ended served.NoMemory) why = unwritten_line output
+-- What is told of how the run over an input ended, by the name of its output: what became of that.
+abbrev pub end_line : List ℕ → Fate → List ℕ
+end_line output (NoCommands reason) = []
+end_line output (NoInput reason) = unwritten_line output
+end_line output (NoOutput reason) = unwritten_line output
+end_line output NotRegular = unwritten_line output
+end_line output LargeInput = unwritten_line output
+end_line output NoMemory = unwritten_line output
+end_line output Changed = unwritten_line output
+end_line output Unchanged = output ++ codes " is unchanged" ++ 10 ∷ []
+end_line output (Ended served.Exit) = output ++ codes " is written" ++ 10 ∷ []
+end_line output (Ended served.EndOfCommands) = codes "the commands ended without EX: " ++ unwritten_line output
+end_line output (Ended served.ReadFault) = unwritten_line output
+end_line output (Ended served.ShowFault) = unwritten_line output
+end_line output (Ended served.NoMemory) = unwritten_line output
 
 -- Lines are told at once: all of them are shown, or a beginning and then the terminal fails. If memory lacked for
 -- them, that is told.

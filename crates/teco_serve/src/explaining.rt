@@ -4,14 +4,13 @@ ghost use Rattle.std.specs.List.{list_all};
 ghost use Rattle.std.specs.String.{string_bytes};
 ghost use Rattle.teco_core.specs.Ascii.{is_filler};
 ghost use Rattle.teco_serve.specs.Ending.{output_of};
-ghost use Rattle.teco_serve.specs.Explaining.{after_what, end_line, exit_line, exits_first, fault_line, history_line, is_bare_exit, is_turn, left_line, limits_after, move_lines, next_number, place_had, reason_of, refusal_line, run_lines, steps_line, steps_told, stop_line};
+ghost use Rattle.teco_serve.specs.Explaining.{after_what, end_line, exit_line, exits_first, history_line, is_bare_exit, is_turn, left_line, limits_after, move_lines, next_number, place_had, refusal_line, run_lines, steps_line, steps_told, stop_line};
 ghost use Rattle.teco_session.specs.Answers.{answer_code, outcome_of};
 
 use crate::fate::{Fate, output_name};
 use crate::served::Served;
 use std::alloc::Global;
 use std::fmt::Write;
-use std::io::ErrorKind;
 use teco_core::{Code, NoMemory, is_filler};
 use teco_exec::Outcome;
 use teco_line::Line;
@@ -257,35 +256,6 @@ pub fn line_of_left(alloc: Global, bytes: &[u8], broken_off: bool) -> Result<Str
     format!(in alloc; "{n} bytes after {after} were not run\n")
 }
 
-/// Why a file cannot be read or written, in words.
-fn reason(kind: ErrorKind) -> &'static str
-    ensures { result.now ≡ reason_of kind }
-{
-    match kind {
-        ErrorKind::NotFound => "there is no such file or folder",
-        ErrorKind::PermissionDenied => "permission is denied",
-        ErrorKind::IsADirectory => "it is a folder",
-        ErrorKind::NotADirectory => "a part of its path is no folder",
-        ErrorKind::StorageFull | ErrorKind::QuotaExceeded => "there is no room on the disk",
-        ErrorKind::ReadOnlyFilesystem => "the file system is read only",
-        ErrorKind::FilesystemLoop => "its links lead in a circle",
-        ErrorKind::InvalidFilename => "its name is too long",
-        ErrorKind::ResourceBusy => "it is in use",
-        _ => "the system refused it",
-    }
-}
-
-/// What is told of a file that failed: its name, and why, if the disk told that.
-fn line_of_fault(alloc: Global, name: &str, why: Option<ErrorKind>) -> Result<String, NoMemory>
-    ensures { IfOk result (λ line. string_bytes line ≡ fault_line name.now why) }
-{
-    let Some(kind) = why else {
-        return Ok(String::new(alloc));
-    };
-    let reason = reason(kind);
-    format!(in alloc; "{name}: {reason}\n")
-}
-
 /// A line about a file, whose name comes between two texts.
 fn line_about(alloc: Global, before: &str, name: &str, after: &str) -> Result<String, NoMemory>
     ensures { IfOk result (λ line. string_bytes line ≡ before.now ++ name.now ++ after.now ++ 10 ∷ []) }
@@ -293,21 +263,12 @@ fn line_about(alloc: Global, before: &str, name: &str, after: &str) -> Result<St
     format!(in alloc; "{before}{name}{after}\n")
 }
 
-/// What is told of how the run over an input ended, by the name of its output. `why` is the error that the disk gave last, if it gave
-/// one.
-fn line_by_name(
-    alloc: Global,
-    input: &str,
-    output: &str,
-    fate: Fate,
-    why: Option<ErrorKind>,
-) -> Result<String, NoMemory>
-    ensures { IfOk result (λ line. string_bytes line ≡ end_line input.now output.now fate why) }
+/// What is told of how the run over an input ended, by the name of its output: what became of that.
+fn line_by_name(alloc: Global, output: &str, fate: Fate) -> Result<String, NoMemory>
+    ensures { IfOk result (λ line. string_bytes line ≡ end_line output.now fate) }
 {
     match fate {
-        Fate::NoCommands => Ok(String::new(alloc)),
-        Fate::NoInput => line_of_fault(alloc, input, why),
-        Fate::NoOutput => line_of_fault(alloc, output, why),
+        Fate::NoCommands(_) => Ok(String::new(alloc)),
         Fate::Unchanged => line_about(alloc, "", output, " is unchanged"),
         Fate::Ended(Served::Exit) => line_about(alloc, "", output, " is written"),
         Fate::Ended(Served::EndOfCommands) => line_about(
@@ -316,7 +277,9 @@ fn line_by_name(
             output,
             " is not written",
         ),
-        Fate::NotRegular
+        Fate::NoInput(_)
+        | Fate::NoOutput(_)
+        | Fate::NotRegular
         | Fate::LargeInput
         | Fate::NoMemory
         | Fate::Changed
@@ -326,16 +289,10 @@ fn line_by_name(
     }
 }
 
-/// What is told of how the run over this input of the line ended. `why` is the error that the disk gave last, if it gave one.
-pub fn line_of_end(
-    alloc: Global,
-    line: &Line,
-    input: &str,
-    fate: Fate,
-    why: Option<ErrorKind>,
-) -> Result<String, NoMemory>
-    ensures { IfOk result (λ text. string_bytes text ≡ end_line input.now (output_of line.now input.now) fate why) }
+/// What is told of how the run over this input of the line ended.
+pub fn line_of_end(alloc: Global, line: &Line, input: &str, fate: Fate) -> Result<String, NoMemory>
+    ensures { IfOk result (λ text. string_bytes text ≡ end_line (output_of line.now input.now) fate) }
 {
     let output = output_name(alloc, line, input)?;
-    line_by_name(alloc, input, output.as_str(), fate, why)
+    line_by_name(alloc, output.as_str(), fate)
 }

@@ -1,30 +1,32 @@
 //! How the program ends.
 ghost use Rattle.std.specs.Prelude.{◌≡◌, ◌++◌, codes, IfOk, OnErr};
 ghost use Rattle.std.specs.String.{string_bytes};
+ghost use Rattle.teco_host.specs.Reasons.{with_reason};
 ghost use Rattle.teco_serve.specs.Ending.{about, commands_name, output_beside, output_by, output_of, said, status_of, text_of};
 
 use crate::served::Served;
 use std::alloc::Global;
 use teco_bytes::InputFault;
 use teco_core::NoMemory;
+use teco_host::Reason;
 use teco_line::{Commands, Line};
 use teco_option::is_standard_input;
 
 /// How the program ends, once its command line is read.
 #[derive(Clone, Copy)]
 pub enum Fate {
-    /// The file of the commands cannot be opened.
-    NoCommands,
-    /// The input cannot be read.
-    NoInput,
+    /// The file of the commands cannot be opened, for this reason.
+    NoCommands(Reason),
+    /// The input cannot be read, for this reason.
+    NoInput(Reason),
     /// The input was to be edited in place, and is no regular file.
     NotRegular,
     /// The input has more bytes than it may have.
     LargeInput,
     /// Memory was refused before the serving, or after it.
     NoMemory,
-    /// The output cannot be written.
-    NoOutput,
+    /// The output cannot be written, for this reason.
+    NoOutput(Reason),
     /// The output was to be written over the file that was read, and that has changed since.
     Changed,
     /// The output was to be written over the file that was read, and that has it already.
@@ -40,7 +42,7 @@ impl From<InputFault> for Fate {
 
     fn from(fault: InputFault) -> Fate {
         match fault {
-            InputFault::Read => Fate::NoInput,
+            InputFault::Read => Fate::NoInput(Reason::ReadFailed),
             InputFault::TooLarge => Fate::LargeInput,
             InputFault::Memory => Fate::NoMemory,
         }
@@ -62,6 +64,14 @@ pub fn said_of(alloc: Global, before: &str, name: &str, after: &str) -> Result<S
     ensures { IfOk result (λ text. string_bytes text ≡ said (before.now ++ name.now ++ after.now)) }
 {
     format!(in alloc; "teco: {before}{name}{after}\n")
+}
+
+/// A line about a file: what can't be done with it, and why.
+pub fn said_why(alloc: Global, what: &str, name: &str, reason: Reason) -> Result<String, NoMemory>
+    ensures { IfOk result (λ text. string_bytes text ≡ said (with_reason what.now name.now reason)) }
+{
+    let why = reason.words();
+    format!(in alloc; "teco: {what}{name}: {why}\n")
 }
 
 /// The name of an output beside its input: standard output if the input is standard input, else the input's followed by `.out`.
@@ -126,8 +136,8 @@ fn text(alloc: Global, line: &Line, input: &str, fate: Fate) -> Result<String, N
     ensures err { OnErr result (status_of fate ≡ 1) }
 {
     match fate {
-        Fate::NoCommands => said_of(alloc, "cannot read ", commands_name(line), ""),
-        Fate::NoInput => said_of(alloc, "cannot read ", input, ""),
+        Fate::NoCommands(reason) => said_why(alloc, "cannot read ", commands_name(line), reason),
+        Fate::NoInput(reason) => said_why(alloc, "cannot read ", input, reason),
         Fate::NotRegular => said_of(alloc, "", input, " is not a regular file"),
         Fate::LargeInput => said_of(alloc, "", input, " is too large"),
         Fate::NoMemory | Fate::Ended(Served::NoMemory) => said_about(
@@ -136,9 +146,9 @@ fn text(alloc: Global, line: &Line, input: &str, fate: Fate) -> Result<String, N
             input,
             "no memory",
         ),
-        Fate::NoOutput => {
+        Fate::NoOutput(reason) => {
             let name = output_name(alloc, line, input)?;
-            said_of(alloc, "cannot write ", name.as_str(), "")
+            said_why(alloc, "cannot write ", name.as_str(), reason)
         }
         Fate::Changed => said_of(alloc, "", input, " has changed"),
         Fate::Ended(Served::ReadFault) => said_about(alloc, line, input, "cannot read commands"),

@@ -9,7 +9,6 @@ use crate::explaining::{
 };
 use crate::fate::Fate;
 use std::alloc::Global;
-use std::io::ErrorKind;
 use teco_core::{Code, NoMemory, TEXT_LIMIT};
 use teco_line::Line;
 use teco_session::{Answered, Session};
@@ -120,13 +119,13 @@ impl<'a, N: Terminal> Explainer<'a, N> {
         self.telling.place = session.editor().place();
     }
 
-    /// The run over this input of the line ends so. `why` is the error that the disk gave last, if it gave one.
-    pub fn ended(&mut self, line: &Line, input: &str, fate: Fate, why: Option<ErrorKind>)
+    /// The run over this input of the line ends so.
+    pub fn ended(&mut self, line: &Line, input: &str, fate: Fate)
         ensures told { TellsLines (N.screen self.old.notes.now) (N.screen self.new.notes.now)
-            (end_line input.now (output_of line.now input.now) fate why) }
+            (end_line (output_of line.now input.now) fate) }
         ensures same_reference { self.new.notes.ghost_name ≡ self.old.notes.ghost_name }
     {
-        self.tell(line_of_end(self.alloc, line, input, fate, why));
+        self.tell(line_of_end(self.alloc, line, input, fate));
     }
 }
 

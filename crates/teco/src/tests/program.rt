@@ -219,15 +219,15 @@ const ROWS: &str = "
     - teco --limit 5 in => YNc\x1b\x1bHT\x1b\x1b => ?LIM\r\nc => => => 2 => in == a\x0cb\x0cc
     - teco --undo 2 in => Ia\x1b\x1bIb\x1b\x1bIc\x1b\x1b3{\x1b\x1bHT\x1b\x1b => ?NTU\r\na => => => 2 => in == hi\n
     - // An input that is not there.
-    - teco none => Y\x1b\x1bZ=\x1b\x1bEX\x1b\x1b => => teco: cannot read none\n => => 1 => in == hi\n
+    - teco none => Y\x1b\x1bZ=\x1b\x1bEX\x1b\x1b => => teco: cannot read none: there is no such file or folder\n => => 1 => in == hi\n
     - // A read that fails.
-    - teco in => Y\x1b\x1bZ=\x1b\x1bEX\x1b\x1b => => teco: cannot read in\n => => 1 => in == hi\n => => read
+    - teco in => Y\x1b\x1bZ=\x1b\x1bEX\x1b\x1b => => teco: cannot read in: a read failed\n => => 1 => in == hi\n => => read
     - // An output that cannot be written: what was there stays, and no draft is left but one that can't be removed.
-    - teco in => Y\x1b\x1bZ=\x1b\x1bEX\x1b\x1b => 3\r\n => teco: cannot write in.out\n => => 1 => in == hi\n => => make
-    - teco in => Y\x1b\x1bZ=\x1b\x1bEX\x1b\x1b => 3\r\n => teco: cannot write in.out\n => => 1 => in == hi\n => => write
-    - teco in => Y\x1b\x1bZ=\x1b\x1bEX\x1b\x1b => 3\r\n => teco: cannot write in.out\n => => 1 => in == hi\n => => sync
-    - teco in => Y\x1b\x1bZ=\x1b\x1bEX\x1b\x1b => 3\r\n => teco: cannot write in.out\n => => 1 => in == hi\n ++ in.out == old => => place
-    - teco in => Y\x1b\x1bZ=\x1b\x1bEX\x1b\x1b => 3\r\n => teco: cannot write in.out\n => => 1 => in == hi\n ++ in.out == old => in == hi\n ++ in.out == old ++ .teco-7 == hi\n => both place and remove
+    - teco in => Y\x1b\x1bZ=\x1b\x1bEX\x1b\x1b => 3\r\n => teco: cannot write in.out: permission is denied\n => => 1 => in == hi\n => => make
+    - teco in => Y\x1b\x1bZ=\x1b\x1bEX\x1b\x1b => 3\r\n => teco: cannot write in.out: there is no room on the disk\n => => 1 => in == hi\n => => write
+    - teco in => Y\x1b\x1bZ=\x1b\x1bEX\x1b\x1b => 3\r\n => teco: cannot write in.out: there is no room on the disk\n => => 1 => in == hi\n => => sync
+    - teco in => Y\x1b\x1bZ=\x1b\x1bEX\x1b\x1b => 3\r\n => teco: cannot write in.out: permission is denied\n => => 1 => in == hi\n ++ in.out == old => => place
+    - teco in => Y\x1b\x1bZ=\x1b\x1bEX\x1b\x1b => 3\r\n => teco: cannot write in.out: permission is denied\n => => 1 => in == hi\n ++ in.out == old => in == hi\n ++ in.out == old ++ .teco-7 == hi\n => both place and remove
     - // A faulty line.
     - teco --version => Y\x1b\x1bZ=\x1b\x1bEX\x1b\x1b => teco 0.2.0\n => => => => in == hi\n";
 

@@ -23,12 +23,12 @@ pub(crate) const ROWS: &str = "
     - tecol -c -w -o out in => => => error: the argument '--check' cannot be used with '--words'\n\nUsage: tecol [OPTIONS] [FILE]\n\nFor more information, try '--help'.\n => => 3 => in == Y<\n\tFSa$b$;>EX$$\n ++ out == old
     - tecol in out => => => error: unexpected argument 'out' found\n\nUsage: tecol [OPTIONS] [FILE]\n\nFor more information, try '--help'.\n => => 3 => in == Y<\n\tFSa$b$;>EX$$\n ++ out == old
     - // An input that can't be read, and an output that can't be written: what was there stays.
-    - tecol in => => => tecol: cannot read in\n => => 1
-    - tecol in => => => tecol: cannot read in\n => => 1 => in == Y<\n\tFSa$b$;>EX$$\n => => read
-    - tecol -o out in => => => tecol: cannot write out\n => => 1 => in == Y<\n\tFSa$b$;>EX$$\n ++ out == old => => make
-    - tecol -o out in => => => tecol: cannot write out\n => => 1 => in == Y<\n\tFSa$b$;>EX$$\n ++ out == old => => write
-    - tecol -o out in => => => tecol: cannot write out\n => => 1 => in == Y<\n\tFSa$b$;>EX$$\n ++ out == old => => sync
-    - tecol -o out in => => => tecol: cannot write out\n => => 1 => in == Y<\n\tFSa$b$;>EX$$\n ++ out == old => => place
+    - tecol in => => => tecol: cannot read in: there is no such file or folder\n => => 1
+    - tecol in => => => tecol: cannot read in: a read failed\n => => 1 => in == Y<\n\tFSa$b$;>EX$$\n => => read
+    - tecol -o out in => => => tecol: cannot write out: permission is denied\n => => 1 => in == Y<\n\tFSa$b$;>EX$$\n ++ out == old => => make
+    - tecol -o out in => => => tecol: cannot write out: there is no room on the disk\n => => 1 => in == Y<\n\tFSa$b$;>EX$$\n ++ out == old => => write
+    - tecol -o out in => => => tecol: cannot write out: there is no room on the disk\n => => 1 => in == Y<\n\tFSa$b$;>EX$$\n ++ out == old => => sync
+    - tecol -o out in => => => tecol: cannot write out: permission is denied\n => => 1 => in == Y<\n\tFSa$b$;>EX$$\n ++ out == old => => place
     - // An output that can't be shown, and words that were refused memory.
-    - tecol => EX$$ => => tecol: cannot write -\n => => 1 => => => no room
+    - tecol => EX$$ => => tecol: cannot write -: a write failed\n => => 1 => => => no room
     - tecol => EX$$ => => tecol: no memory\n => => 1 => => => no words";

@@ -18,4 +18,4 @@ pub(crate) const ROWS: &str = "
     - // A hint is no fault.
     - teco --check -e Y$$EX$ none => => --execute:1:7: hint: this is not run: it ends with one ESC, and wants two\n
     - teco --check -f wrong -f none in => => => teco: wrong:2:3: a caret before what it cannot stand before\n => => 3 => in == hi\n ++ wrong == HKEX$$\nIa^+$$\n
-    - teco --check -f faulty -f none in => => => teco: cannot read none\n => => 1 => in == hi\n ++ faulty == Y\n  M? !!no register\nEX$$\n";
+    - teco --check -f faulty -f none in => => => teco: cannot read none: there is no such file or folder\n => => 1 => in == hi\n ++ faulty == Y\n  M? !!no register\nEX$$\n";

@@ -12,7 +12,7 @@ pub(crate) const ROWS: &str = "
     - teco --explain in => 65<[A><<<<<<<<<<<<<<<<<<<<<<<<<<<<<<<<<<<<<<<<<<<<<<<<<<<<<<<<<<<<<<<<<\x1b\x1b => ?PDO\r\n => => string 1, step 130, 1:4, [A: PDO, too many open or pushed\nthe commands ended without EX: in.out is not written\n => 2 => in == hi\n
     - // With `-p` the places are those of the string that has the loop over the pages.
     - teco --explain -p 9D -o out in => => ?DTB\r\n => => string 1, step 3, 1:4, D: DTB, delete past the buffer\nthe commands ended without EX: out is not written\n => 2 => in == hi\n
-    - // How the commands ended is told too: what was not run of them, an exit that nothing came before, why a file can't be had, and which limit a string came to.
+    - // How the commands ended is told too: what was not run of them, an exit that nothing came before, what is not written, and which limit a string came to.
     - teco --explain -e Y$$HK$$EX in => => => => 2 bytes after the last ESC ESC were not run\nthe commands ended without EX: in.out is not written\n => 2 => in == hi\n
     - teco --explain -e YEX$$J in => => => => 1 byte after the last string that ran was not run\nin.out is written\n => => in == hi\n => in == hi\n ++ in.out == hi\n
     - teco --explain -e EX$$ in => => => => EX came before any page was read: the input is copied\nin.out is written\n => => in == hi\n => in == hi\n ++ in.out == hi\n
@@ -23,7 +23,7 @@ pub(crate) const ROWS: &str = "
     - // Where the page that was read is taken back, none was read.
     - teco --explain -e Y$${$$EX$$ in => => => => EX came before any page was read: the input is copied\nin.out is written\n => => in == hi\n => in == hi\n ++ in.out == hi\n
     - teco --explain -e Y$$EX$$ in => => => => in.out is written\n => => in == \x0c => in == \x0c ++ in.out == \x0c
-    - teco --explain -e EX$$ none => => => teco: cannot read none\n => none: there is no such file or folder\n => 1 => in == hi\n
+    - teco --explain -e EX$$ none => => => teco: cannot read none: there is no such file or folder\n => none.out is not written\n => 1 => in == hi\n
     - teco --explain --limit 2 -e YJJ$$ in => => ?LIM\r\n => => string 1, step 2, 1:3, J: LIM, 2 steps are done: --limit N allows more\nthe commands ended without EX: in.out is not written\n => 2 => in == hi\n
     - // The clock of a test tells a second more each time.
     - teco --explain --seconds 3 -e <>$$ in => => ?LIM\r\n => => string 1, step 512, 1:2, >: LIM, the time of 3 s is over: --seconds N allows more\nthe commands ended without EX: in.out is not written\n => 2 => in == hi\n

@@ -28,10 +28,10 @@ pub(crate) const ROWS: &str = "
     - teco -i -p Ia^* in => => => teco: --pages:1:3: a caret before what it cannot stand before\n => => 3 => in == hi\n
     - teco -e Y$$Ix^+$EX$$ in in => => => teco: --execute:1:6: a caret before what it cannot stand before\n => => 3 => in == hi\n
     - // Files of commands that are not there, and an input that is not.
-    - teco -f none in => => => teco: cannot read none\n => => 1 => in == hi\n
-    - teco -f calls.teco -f none -e EX$$ in => => => teco: cannot read none\n => => 1 => in == hi\n ++ calls.teco == Y MA$$\n
-    - teco -b none in => => => teco: cannot read none\n => => 1 => in == hi\n
-    - teco -e EX$$ none => => => teco: cannot read none\n => => 1 => in == hi\n
+    - teco -f none in => => => teco: cannot read none: there is no such file or folder\n => => 1 => in == hi\n
+    - teco -f calls.teco -f none -e EX$$ in => => => teco: cannot read none: there is no such file or folder\n => => 1 => in == hi\n ++ calls.teco == Y MA$$\n
+    - teco -b none in => => => teco: cannot read none: there is no such file or folder\n => => 1 => in == hi\n
+    - teco -e EX$$ none => => => teco: cannot read none: there is no such file or folder\n => => 1 => in == hi\n
     - // The commands of a word for every page.
     - teco -p FSi$o$ in => => ho\n\x0cho\n => => => => in == hi\n\x0chi\n
     - teco -p FSi$o$$ -i in => => => => => => in == hi\n => in == ho\n

@@ -3,17 +3,18 @@ use crate::tests::bytes::{first_of, is};
 use crate::tests::rows::{Cells, number_or};
 use std::alloc::Global;
 use teco_core::NoMemory;
+use teco_host::Reason;
 use teco_line::Line;
 use teco_serve::{Fate, Served, ending, ending_of};
 
 /// How the program ends, by the first letter of what a row says.
 fn fate_of(said: &str) -> Fate {
     match first_of(said) {
-        b'c' => Fate::NoCommands,
-        b'i' => Fate::NoInput,
+        b'c' => Fate::NoCommands(Reason::Denied),
+        b'i' => Fate::NoInput(Reason::Missing),
         b'l' => Fate::LargeInput,
         b'm' => Fate::NoMemory,
-        b'o' => Fate::NoOutput,
+        b'o' => Fate::NoOutput(Reason::NoRoom),
         b'd' => Fate::Changed,
         b'u' => Fate::Unchanged,
         b'e' => Fate::Ended(Served::Exit),
@@ -40,23 +41,23 @@ pub(super) fn ends_so(alloc: Global, line: &Line, cells: &Cells) -> bool {
 
 /// The words of a line, how the program ends, and its status and text. Of several inputs the first is spoken of.
 pub(super) const ROWS: &str = "
-    - teco -b strings in => commands => 1 => teco: cannot read strings\n
-    - teco -b strings in => input => 1 => teco: cannot read in\n
+    - teco -b strings in => commands => 1 => teco: cannot read strings: permission is denied\n
+    - teco -b strings in => input => 1 => teco: cannot read in: there is no such file or folder\n
     - teco -b strings in => large => 1 => teco: in is too large\n
     - teco -b strings in => memory => 1 => teco: no memory\n
-    - teco -b strings in => output => 1 => teco: cannot write in.out\n
-    - teco -b strings -o out in => output => 1 => teco: cannot write out\n
+    - teco -b strings in => output => 1 => teco: cannot write in.out: there is no room on the disk\n
+    - teco -b strings -o out in => output => 1 => teco: cannot write out: there is no room on the disk\n
     - teco -b strings in => exit => 0
     - teco -b strings in => stream ended => 2
     - teco -b strings in => read failed => 1 => teco: cannot read commands\n
     - teco -b strings in => terminal failed => 1 => teco: cannot show\n
     - teco -b strings in => no memory in a run => 1 => teco: no memory\n
-    - teco -b strings -i in => output => 1 => teco: cannot write in\n
+    - teco -b strings -i in => output => 1 => teco: cannot write in: there is no room on the disk\n
     - teco -b strings -i in => differs => 1 => teco: in has changed\n
     - teco -b strings -i in => unchanged => 0
     - // Of several inputs each line names one.
-    - teco -b strings in two => input => 1 => teco: cannot read in\n
-    - teco -b strings in two => output => 1 => teco: cannot write in.out\n
+    - teco -b strings in two => input => 1 => teco: cannot read in: there is no such file or folder\n
+    - teco -b strings in two => output => 1 => teco: cannot write in.out: there is no room on the disk\n
     - teco -b strings in two => memory => 1 => teco: in: no memory\n
     - teco -b strings in two => terminal failed => 1 => teco: in: cannot show\n
     - teco -b strings in two => no memory in a run => 1 => teco: in: no memory\n";

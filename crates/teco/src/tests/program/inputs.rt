@@ -16,22 +16,22 @@ pub(super) const ROWS: &str = "
     - teco --check -f - none => Y\n\tM? !!no register\nEX$$\n => -:2:2: IQN: after M comes a register, A to Z or 0 to 9\n => => => 2
     - teco -e YZ=IA$EX$$ in two => unread => 3\r\n4\r\n => => => => in == hi\n ++ two == two\n => in == hi\n ++ two == two\n ++ in.out == Ahi\n ++ two.out == Atwo\n
     - // One that fails doesn't hold up the others.
-    - teco -e YZ=IA$EX$$ none in => unread => 3\r\n => teco: cannot read none\n => => 1 => in == hi\n => in == hi\n ++ in.out == Ahi\n
+    - teco -e YZ=IA$EX$$ none in => unread => 3\r\n => teco: cannot read none: there is no such file or folder\n => => 1 => in == hi\n => in == hi\n ++ in.out == Ahi\n
     - // One that ends without an exit after one that fails: the worst is 1.
-    - teco -e YZ=$$ none in => unread => 3\r\n => teco: cannot read none\n => => 1 => in == hi\n
+    - teco -e YZ=$$ none in => unread => 3\r\n => teco: cannot read none: there is no such file or folder\n => => 1 => in == hi\n
     - teco -e YZ-4\"EIA$EX'Z=$$ in two => unread => 3\r\n => => => 2 => in == hi\n ++ two == two\n => in == hi\n ++ two == two\n ++ two.out == Atwo\n
     - // The second run reads what the first one wrote.
     - teco -i -p IA$ in in => unread => => => => => in == hi\n => in == AAhi\n
     - // The file of commands is read once, so standard input serves all.
     - teco -f - in two => YZ=EX\x1b\x1b => 3\r\n4\r\n => => => => in == hi\n ++ two == two\n => in == hi\n ++ two == two\n ++ in.out == hi\n ++ two.out == two\n
     - teco -b - in two => YI$\x1bEX\x1b\x1b => => => => => in == hi\n ++ two == two\n => in == hi\n ++ two == two\n ++ in.out == $hi\n ++ two.out == $two\n
-    - teco -f none in two => unread => => teco: cannot read none\n => => 1 => in == hi\n ++ two == two\n
+    - teco -f none in two => unread => => teco: cannot read none: there is no such file or folder\n => => 1 => in == hi\n ++ two == two\n
     - // Each is told at its end.
     - teco --explain -i -p J<FSh$H$;> in two => unread => => => in is written\ntwo is unchanged\n => => in == hi\n ++ two == two\n => in == Hi\n ++ two == two\n
     - teco -i -e YIA$EX$$ in => unread => => => => => in == hi\n => in == Ahi\n
     - // What has the output already isn't written: a refused write is not met.
     - teco -i -e YEX$$ in => unread => => => => => in == hi\n => => write
-    - teco -i -e YIA$EX$$ in => unread => => teco: cannot write in\n => => 1 => in == hi\n => => write
+    - teco -i -e YIA$EX$$ in => unread => => teco: cannot write in: there is no room on the disk\n => => 1 => in == hi\n => => write
     - // A file that another program changed is not replaced.
     - teco -i -e YIA$EX$$ in => unread => => teco: in has changed\n => => 1 => in == hi\n => => changed
     - // A value that the strings leave is dropped at the end of each page.
@@ -42,7 +42,7 @@ pub(super) const ROWS: &str = "
     - teco --page-lines 2 -p T in => unread => a\nc\na\nb\nc\n => => => => in == a\nb\nc\n
     - // Strings for every page make a filter: the outputs come on standard output, one after another, and no file is written.
     - teco -p IA$ in two => unread => Ahi\nAtwo\n => => => => in == hi\n ++ two == two\n ++ in.out == old\n
-    - teco -p IA$ none in => unread => Ahi\n => teco: cannot read none\n => => 1 => in == hi\n
+    - teco -p IA$ none in => unread => Ahi\n => teco: cannot read none: there is no such file or folder\n => => 1 => in == hi\n
     - teco -p IA$ -o - in => unread => Ahi\n => => => => in == hi\n
     - teco -p IA$ -o out in => unread => => => => => in == hi\n => in == hi\n ++ out == Ahi\n
     - teco -p IA$ - => hi\n => Ahi\n

@@ -46,11 +46,11 @@ returns-in-Err g c =
     let seen = disk_seen g.D.Disk.files g.D.Disk.streams g.D.Disk.left g.D.Disk.gave g.D.Disk.changed
     (source_view g.D.Input.Source.coming g.D.Input.Source.bound g.D.Input.Source.failures g.D.Input.Source.ended) in
     let run = doings_after Exit (both c.args.output) (IsTrue true) (named_output (seen c.args.disk.now) (seen c.write_output.new.disk) c.args.name.now) in
-    failed_write run (both c.args.output) c.fate_of.result c.fate_of.ensures (refl, refl) (fails_after c.has_bytes.ensures.keeps (record {
+    failed_write run (both c.args.output) c.no_output.result c.no_output.ensures (refl, refl) (fails_after c.has_bytes.ensures.keeps (record {
       files = c.in-Err.ensures.err;
       streams = c.in-Err.ensures.streams;
       moments = c.in-Err.ensures.moments;
       error = c.in-Err.error;
       given = c.in-Err.ensures.error;
-      fate_is = c.fate_of.ensures;
+      fate_is = c.no_output.ensures;
     }))

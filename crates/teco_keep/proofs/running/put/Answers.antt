@@ -30,7 +30,7 @@ returns-in-Err-write_output g c =
     let old = c.args.disk.now in
     let new = c.write_output.new.disk in
     let name = c.as_str-name.result.now in
-    let fate = c.fate_of.result in
+    let fate = c.no_output.result in
     subst (λ (n : List ℕ). (output_to (is_standard_output n) g.T.Terminal.screen n (seen old) (seen new) c.args.term.now c.args.term.now).fails c.args.bytes.now fate) c.as_str-name.ensures.value
     (fails_in g.T.Terminal.screen name c.args.bytes.now (seen old) (seen new) c.args.term.now (sym c.is_standard_output.ensures ∙ c.if-is_standard_output.false) fate (record {
       files = c.in-Err-write_output.ensures.err;
@@ -38,7 +38,7 @@ returns-in-Err-write_output g c =
       moments = subst (λ (bytes : List ℕ). Passes (g.D.Disk.files old) (g.D.Disk.left old) (g.D.Disk.left new) (IsWriting name bytes)) (append-nil c.args.bytes.now) c.in-Err-write_output.ensures.moments;
       error = c.in-Err-write_output.error;
       given = c.in-Err-write_output.ensures.error;
-      fate_is = c.fate_of.ensures;
+      fate_is = c.no_output.ensures;
     }))
 
 pub returns-in-Err : goal.returns-in-Err

@@ -2,12 +2,6 @@ use Rattle.std.proofs.Common.{arith}
 use Rattle.std.proofs.lemmas.Grind.{common_steps}
 use Rattle.teco_serve.proofs.explaining.line_by_name.Goals as goal
 
-pub returns-in-NoInput : goal.returns-in-NoInput
-returns-in-NoInput c = rw c.in-NoInput.is c.line_of_fault.ensures
-
-pub returns-in-NoOutput : goal.returns-in-NoOutput
-returns-in-NoOutput c = rw c.in-NoOutput.is c.line_of_fault-in-NoOutput.ensures
-
 pub returns-in-Unchanged : goal.returns-in-Unchanged
 returns-in-Unchanged c = rw c.in-Unchanged.is c.line_about.ensures
 
@@ -24,5 +18,5 @@ returns-in-Ended-EndOfCommands c =
     let end = rw c.in-Ended-EndOfCommands.is at c.in-Ended-EndOfCommands.field-0-is in
     rw (c.in-Ended-EndOfCommands.is, end) c.line_about-in-Ended-EndOfCommands.ensures
 
-pub returns-in-NotRegular : goal.returns-in-NotRegular
-returns-in-NotRegular c = grind (arith, common_steps)
+pub returns-in-NoInput : goal.returns-in-NoInput
+returns-in-NoInput c = grind (arith, common_steps)

@@ -7,12 +7,6 @@ use Rattle.teco_serve.specs.Ending.{commands_name, output_of, said}
 use Rattle.teco_serve.proofs.Showing.{on_err_by}
 use Rattle.teco_serve.proofs.fate.text.Goals as goal
 
--- a line that ends by a name
-ends : {E : Type 0} (result : Result (String Global) E) (before name is : List ℕ) → name ≡ is → IfOk result (λ text. string_bytes text ≡ said (before ++ (name ++ [])))
-    → IfOk result (λ text. string_bytes text ≡ said (before ++ is))
-ends (Ok text) before name is same told = told ∙ ap (λ (l : List ℕ). said (before ++ l)) (append-nil name ∙ same)
-ends (Err fault) before name is same told = tt
-
 pub returns-in-LargeInput : goal.returns-in-LargeInput
 returns-in-LargeInput c = record { ok = rw c.in-LargeInput.is c.said_of-in-LargeInput.ensures; err = rw c.in-LargeInput.is (on_err_by c.said_of-in-LargeInput.result refl) }
 
@@ -36,15 +30,18 @@ returns-in_err-name-in-NoOutput c = record {
 }
 
 pub returns-in-NoCommands : goal.returns-in-NoCommands
-returns-in-NoCommands c = record { ok = rw c.in-NoCommands.is (ends c.said_of.result (codes "cannot read ") c.commands_name.result.now (commands_name c.args.line.now) c.commands_name.ensures c.said_of.ensures); err = rw c.in-NoCommands.is (on_err_by c.said_of.result refl) }
+returns-in-NoCommands c = record {
+  ok = rw (c.in-NoCommands.is, ← c.commands_name.ensures) c.said_why.ensures;
+  err = rw c.in-NoCommands.is (on_err_by c.said_why.result refl);
+}
 
 pub returns-in-NoInput : goal.returns-in-NoInput
-returns-in-NoInput c = record { ok = rw c.in-NoInput.is (ends c.said_of-in-NoInput.result (codes "cannot read ") c.args.input.now c.args.input.now refl c.said_of-in-NoInput.ensures); err = rw c.in-NoInput.is (on_err_by c.said_of-in-NoInput.result refl) }
+returns-in-NoInput c = record { ok = rw c.in-NoInput.is c.said_why-in-NoInput.ensures; err = rw c.in-NoInput.is (on_err_by c.said_why-in-NoInput.result refl) }
 
 pub returns-in_ok-name-in-NoOutput : goal.returns-in_ok-name-in-NoOutput
 returns-in_ok-name-in-NoOutput c = record {
-  ok = rw c.in-NoOutput.is (ends c.said_of-in-NoOutput.result (codes "cannot write ") c.as_str.result.now (output_of c.args.line.now c.args.input.now) (c.as_str.ensures.value ∙ c.in_ok-name-in-NoOutput.ensures) c.said_of-in-NoOutput.ensures);
-  err = rw c.in-NoOutput.is (on_err_by c.said_of-in-NoOutput.result refl);
+  ok = rw (c.in-NoOutput.is, ← (c.as_str.ensures.value ∙ c.in_ok-name-in-NoOutput.ensures)) c.said_why-in-NoOutput.ensures;
+  err = rw c.in-NoOutput.is (on_err_by c.said_why-in-NoOutput.result refl);
 }
 
 pub returns-in-Unchanged : goal.returns-in-Unchanged
