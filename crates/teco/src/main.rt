@@ -4,10 +4,11 @@
 #[cfg(test)]
 mod tests;
 
+use std::cell::Cell;
 use std::process;
 use std::process::ExitCode;
 use teco_bytes::ReaderSource;
-use teco_files::{FileDisk, hold_standard_streams};
+use teco_files::{FileDisk, Piped, UntilLeft, hold_standard_streams};
 use teco_line::not_text;
 use teco_option::{LineFault, fault_of_words};
 use teco_program::program;
@@ -26,15 +27,16 @@ fn words_given(rt: &HostRuntime) -> Result<Vec<String>, LineFault> {
 
 fn main(rt: HostRuntime) -> ExitCode {
     hold_standard_streams(&rt);
+    let has_left = Cell::new(false);
     program(
         rt.alloc(),
         words_given(&rt),
         process::id(rt.process()),
         &mut ReaderSource::new(rt.stdin()),
         &mut ClockAlarm::new(&rt),
-        &mut WriterTerminal::new(rt.stdout()),
-        &mut WriterTerminal::new(rt.stderr()),
-        &mut WriterTerminal::new(rt.stderr()),
+        &mut WriterTerminal::new(Piped::new(rt.stdout(), &has_left)),
+        &mut WriterTerminal::new(UntilLeft::new(rt.stderr(), &has_left)),
+        &mut WriterTerminal::new(UntilLeft::new(rt.stderr(), &has_left)),
         &mut FileDisk::new(&rt),
     )
 }

@@ -1,9 +1,10 @@
 //! The program: walks over the steps of a command string, forward and back, by commands on standard input.
 #![tactic(auto)]
 
+use std::cell::Cell;
 use std::env;
 use std::process::ExitCode;
-use teco_files::{FileDisk, hold_standard_streams};
+use teco_files::{FileDisk, Piped, UntilLeft, hold_standard_streams};
 use teco_option::{LineFault, fault_of_words};
 use teco_retrace::{not_text, program};
 use teco_terminal::WriterTerminal;
@@ -20,12 +21,13 @@ fn words_given(rt: &HostRuntime) -> Result<Vec<String>, LineFault> {
 
 fn main(rt: HostRuntime) -> ExitCode {
     hold_standard_streams(&rt);
+    let has_left = Cell::new(false);
     program(
         rt.alloc(),
         words_given(&rt),
         &mut rt.reader(),
-        &mut WriterTerminal::new(rt.stdout()),
-        &mut WriterTerminal::new(rt.stderr()),
+        &mut WriterTerminal::new(Piped::new(rt.stdout(), &has_left)),
+        &mut WriterTerminal::new(UntilLeft::new(rt.stderr(), &has_left)),
         &mut FileDisk::new(&rt),
     )
 }

@@ -1,4 +1,5 @@
 -- Sources one after another, and where the one that can't be read is.
+use Rattle.teco_bytes.specs.declared.source.Source.{Ghosts as SourceView}
 use Rattle.std.proofs.Common.{◌≡◌, ◌++◌, ◌+◌, ◌-◌, ◌≤◌, ◌<◌, ◌∙◌, ℕ, suc, take, List, [], ◌∷◌, Ok, Err, Bool, true, false, String, Global, Option, length, refl, sym, ap, subst, arith, append_assoc}
 use Rattle.std.specs.Prelude.{IfErr, IsErrAnd, Result}
 use Rattle.std.proofs.lemmas.List.{append-nil}
@@ -7,9 +8,9 @@ use Rattle.std.specs.String.{string_bytes}
 use Rattle.teco_files.specs.Disk.{Files}
 use Rattle.teco_option.specs.StreamNames.{is_standard_input}
 use Rattle.teco_edit.proofs.Doings.{lacks_after}
-use Rattle.teco_host.specs.Seen.{KeepsDisk, DiskSeen, SourceView}
+use Rattle.teco_host.specs.Seen.{KeepsDisk, DiskSeen}
 use Rattle.teco_serve.specs.declared.fate.Fate.{Fate}
-use Rattle.teco_serve.specs.declared.fate.Fate.TheVariants.{NoCommands, NoInput, NotRegular, LargeInput, NoMemory, NoOutput, Changed, Unchanged, Ended}
+use Rattle.teco_serve.specs.declared.fate.Fate.TheVariants.{NoCommands, NoInput, NotRegular, LargeInput, NoMemory, NoOutput, Changed, Unchanged, Lacking, Ended}
 use Rattle.teco_edit.specs.Sources.{AreCommandsIn, FailsToGive, IsFaultOf, IsFaultyFile, IsUnread, IsUnreadFile, IsWholeOf, LacksFiles, fault_by}
 use Rattle.teco_edit.specs.declared.sources.CommandsFault.{CommandsFault}
 use Rattle.teco_edit.specs.declared.sources.CommandsFault.TheVariants as fault
@@ -154,4 +155,5 @@ module _ {S I : Type 0} (source : SourceView S) (before after : DiskSeen I) (nam
   unread_by b (NoOutput reason) is fails = tt
   unread_by b Changed is fails = tt
   unread_by b Unchanged is fails = tt
+  unread_by b (Lacking unkept) is fails = tt
   unread_by b (Ended served) is fails = tt

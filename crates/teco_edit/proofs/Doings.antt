@@ -1,7 +1,9 @@
 -- What a run has done leads to what it has done as seen from before, or over another input.
-use Rattle.std.proofs.Common.{◌≡◌, ◌≢◌, inl, inr, ℕ, List, Bool, IsTrue, Option, None, true, false, refl, ap, sym, ◌∙◌, subst}
+use Rattle.teco_bytes.specs.declared.source.Source.{Ghosts as SourceView}
+use Rattle.std.proofs.Common.{◌≡◌, ◌≢◌, inl, inr, ℕ, List, Bool, IsTrue, Option, None, Some, true, false, refl, ap, sym, ◌∙◌, subst}
 use Rattle.std.specs.declared.io.Error.{Error}
 use Rattle.teco_files.specs.Disk.{Changes, Files, IsStream}
+use Rattle.teco_files.specs.declared.unkept.Unkept.{Unkept}
 use Rattle.teco_bytes.specs.declared.input.InputFault.{InputFault}
 use Rattle.teco_bytes.specs.declared.input.InputFault.TheVariants as input
 use Rattle.teco_line.specs.declared.line.Line.{Line}
@@ -11,10 +13,10 @@ use Rattle.teco_host.specs.declared.reason.Reason.{Reason}
 use Rattle.teco_host.specs.Writing.{HasDraft, IsPut, WritesOutput}
 use Rattle.teco_serve.specs.Ending.{fate_without_input, output_of}
 use Rattle.teco_edit.specs.Seen.{CommandsSeen, InputSeen, OutputSeen, RunSeen, TerminalSeen, run_seen, terminal_seen}
-use Rattle.teco_host.specs.Seen.{DiskSeen, SourceView, KeepsDisk}
-use Rattle.teco_edit.specs.Run.{Doings, Edits, EndsBy, EndsIn, FindsChange, FinishesIn, FailsToStream, FailsToWrite, IsFateOf, LacksInPlace, LacksInput, ServesInput, doings, doings_after, given_input, input_from, named_input, named_output, replaces_input, standard_input, standard_output}
+use Rattle.teco_host.specs.Seen.{DiskSeen, KeepsDisk}
+use Rattle.teco_edit.specs.Run.{Doings, Edits, EndsBy, EndsIn, FindsChange, FinishesIn, FailsToStream, FailsToWrite, IsFateOf, LacksInPlace, LacksInput, ServesInput, doings, doings_after, fate_written, given_input, input_from, named_input, named_output, replaces_input, standard_input, standard_output}
 use Rattle.teco_serve.specs.declared.fate.Fate.{Fate}
-use Rattle.teco_serve.specs.declared.fate.Fate.TheVariants.{NoCommands, NoInput, NotRegular, LargeInput, NoMemory, NoOutput, Changed, Unchanged, Ended}
+use Rattle.teco_serve.specs.declared.fate.Fate.TheVariants.{NoCommands, NoInput, NotRegular, LargeInput, NoMemory, NoOutput, Changed, Unchanged, Lacking, Ended}
 use Rattle.teco_serve.specs.declared.served.Served.{Served}
 use Rattle.teco_serve.specs.declared.served.Served.TheVariants as served
 
@@ -32,6 +34,7 @@ pub record Leads (a b : Doings) : Type 0 where
   pub fails : (output : List ℕ) (fate : Fate) → a.fails output fate → b.fails output fate
   pub same : (output : List ℕ) → a.same output → b.same output
   pub changed : (output : List ℕ) → a.changed output → b.changed output
+  pub unkept : (what : Option Unkept) → a.unkept what → b.unkept what
 
 pub ends_so : {a b : Doings} → Leads a b → (fate : Fate) → EndsBy a fate → EndsBy b fate
 ends_so l (NoCommands reason) e = e
@@ -43,7 +46,8 @@ ends_so l NoMemory (inr e) = inr (e.0, l.serves served.Exit e.0 e.1, l.fails e.0
 ends_so l (NoOutput reason) e = (e.0, l.serves served.Exit e.0 e.1, l.fails e.0 (NoOutput reason) e.2)
 ends_so l Changed e = (e.0, l.serves served.Exit e.0 e.1, l.changed e.0 e.2)
 ends_so l Unchanged e = (e.0, l.serves served.Exit e.0 e.1, l.same e.0 e.2, l.keeps e.3)
-ends_so l (Ended served.Exit) e = (e.0, l.serves served.Exit e.0 e.1, l.writes e.0 e.2)
+ends_so l (Lacking unkept) e = (e.0, l.serves served.Exit e.0 e.1, l.writes e.0 e.2, l.unkept (Some unkept) e.3)
+ends_so l (Ended served.Exit) e = (e.0, l.serves served.Exit e.0 e.1, l.writes e.0 e.2, l.unkept None e.3)
 ends_so l (Ended served.EndOfCommands) e = (e.0, l.serves served.EndOfCommands e.0 e.1, l.keeps e.2)
 ends_so l (Ended served.ReadFault) e = (e.0, l.serves served.ReadFault e.0 e.1, l.keeps e.2)
 ends_so l (Ended served.ShowFault) e = (e.0, l.serves served.ShowFault e.0 e.1, l.keeps e.2)
@@ -63,6 +67,7 @@ after_serving {line} {input} {to} {commands} {term} {end} {output} s = record {
   fails = λ o fate f. f;
   same = λ o h. h;
   changed = λ o h. h;
+  unkept = λ what u. u;
 }
 
 -- to a terminal nothing is written over a file
@@ -79,6 +84,7 @@ on_terminal {line} {input} {to} {commands} {term} {end} {output} s free = record
   fails = λ o fate f. f;
   same = λ o h. absurd h.0;
   changed = λ o h. absurd h.0;
+  unkept = λ what u. u;
 }
 
 -- any way but an exit
@@ -154,6 +160,7 @@ module _ {I : Type 0} {old mid : DiskSeen I} (kept : KeepsDisk old mid) where
     fails = λ output fate f. fails_after f;
     same = λ output h. (h.0, λ before told. h.1 before (kept.files ∙ told));
     changed = λ output h. (h.0, change_after h.1);
+    unkept = λ what u. u;
   }
 
 pub to_terminal : {line : Line} {bytes : List ℕ} {input : InputSeen} {to : OutputSeen} {commands : CommandsSeen} {term : TerminalSeen} → input.is_input bytes
@@ -174,6 +181,7 @@ to_terminal {line} {bytes} {input} {to} {commands} {term} given = record {
   fails = λ output fate f. f;
   same = λ output h. h;
   changed = λ output h. h;
+  unkept = λ what u. u;
 }
 
 -- an error's fate is want of memory or the other one
@@ -205,6 +213,11 @@ lacks_change input.Read e = cc
 lacks_change input.TooLarge e = cc
 lacks_change input.Memory e = cc
 
+lacks_kept : (unkept : Unkept) (fault : InputFault) → Lacking unkept ≡ fate_without_input fault → ⊥
+lacks_kept unkept input.Read e = cc
+lacks_kept unkept input.TooLarge e = cc
+lacks_kept unkept input.Memory e = cc
+
 lacks_no_change : (fault : InputFault) → Unchanged ≡ fate_without_input fault → ⊥
 lacks_no_change input.Read e = cc
 lacks_no_change input.TooLarge e = cc
@@ -224,6 +237,8 @@ module _ {I : Type 0} (old new : DiskSeen I) (name : List ℕ) where
   lacks_by run (NoOutput reason) (inr reads) l i k = absurd (lacks_output reason reads.fault reads.fate_is)
   lacks_by run Changed (inl opens) l i k = absurd (no_other opens.fate_is (λ e. cc) (λ e. cc))
   lacks_by run Changed (inr reads) l i k = absurd (lacks_change reads.fault reads.fate_is)
+  lacks_by run (Lacking unkept) (inl opens) l i k = absurd (no_other opens.fate_is (λ e. cc) (λ e. cc))
+  lacks_by run (Lacking unkept) (inr reads) l i k = absurd (lacks_kept unkept reads.fault reads.fate_is)
   lacks_by run Unchanged (inl opens) l i k = absurd (no_other opens.fate_is (λ e. cc) (λ e. cc))
   lacks_by run Unchanged (inr reads) l i k = absurd (lacks_no_change reads.fault reads.fate_is)
   lacks_by run (Ended served) (inl opens) l i k = absurd (no_other opens.fate_is (λ e. cc) (λ e. cc))
@@ -296,7 +311,12 @@ pub lacks_streamed : {I S T : Type 0} {line : Line} {name : List ℕ} {source : 
 lacks_streamed {line} {name} {source} {first} {last} {commands} {disk} {screen} {term} {fate} l still =
     idle_ends line name (standard_input source first last) commands disk disk screen term term fate (λ seen place quiet keeps. lacks_stream (doings line (standard_input source first last) place commands seen) l.fault fate l.fate_is l (still, quiet) keeps) refl kept_same
 
--- A failed write after an exit, and one that was done.
+-- A write that was done after an exit.
+pub written : (run : Doings) (output : List ℕ) (unkept : Option Unkept) → run.serves served.Exit output → run.writes output → run.unkept unkept → EndsBy run (fate_written unkept)
+written run output None s w u = (output, s, w, u)
+written run output (Some unkept) s w u = (output, s, w, u)
+
+-- A failed write after an exit.
 pub failed_write : (run : Doings) (output : List ℕ) (fate : Fate) {error : Error} {reason : Reason} → IsFateOf error (NoOutput reason) fate → run.serves served.Exit output → run.fails output fate → EndsBy run fate
 failed_write run output (NoOutput other) is s f = (output, s, f)
 failed_write run output NoMemory is s f = inr (output, s, f)
@@ -305,6 +325,7 @@ failed_write run output (NoInput other) is s f = absurd (no_other is (λ e. cc) 
 failed_write run output NotRegular is s f = absurd (no_other is (λ e. cc) (λ e. cc))
 failed_write run output LargeInput is s f = absurd (no_other is (λ e. cc) (λ e. cc))
 failed_write run output Changed is s f = absurd (no_other is (λ e. cc) (λ e. cc))
+failed_write run output (Lacking unkept) is s f = absurd (no_other is (λ e. cc) (λ e. cc))
 failed_write run output Unchanged is s f = absurd (no_other is (λ e. cc) (λ e. cc))
 failed_write run output (Ended end) is s f = absurd (no_other is (λ e. cc) (λ e. cc))
 
@@ -372,6 +393,7 @@ module _ {I : Type 0} (old mid new : DiskSeen I) (kept : KeepsDisk old mid) (str
     fails = λ output fate f. fails_after kept f;
     same = λ output h. (h.0, λ before told. h.1 before (kept.files ∙ told));
     changed = λ output h. (h.0, change_after kept h.1);
+    unkept = λ what u. u;
   }
 
   on_terminal_from : (b : Bool) (line : Line) (to : OutputSeen) (commands : CommandsSeen) (term : TerminalSeen)
@@ -386,6 +408,7 @@ module _ {I : Type 0} (old mid new : DiskSeen I) (kept : KeepsDisk old mid) (str
     fails = λ output fate f. f;
     same = λ output h. h;
     changed = λ output h. h;
+    unkept = λ what u. u;
   }
 
   ends_from : {T : Type 0} (place b : Bool) (line : Line) (to : List ℕ) (commands : CommandsSeen) (screen : T → Screen) (before after : T) (fate : Fate)

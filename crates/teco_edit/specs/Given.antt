@@ -1,4 +1,5 @@
 -- A run over one input of the line: by commands as they come, or by bytes that are had already.
+use Rattle.teco_bytes.specs.declared.source.Source.{Ghosts as SourceView}
 use Rattle.std.specs.Prelude.{◌≡◌, ◌≢◌, ◌⊎◌, ◌&&◌, not, ℕ, List, Some, Bool, true, false}
 use Rattle.std.specs.String.{string_bytes}
 use Rattle.std.specs.IoError.{error_kind}
@@ -12,7 +13,7 @@ use Rattle.teco_line.specs.declared.line.Commands.TheVariants.{StandardInput, So
 use Rattle.teco_line.specs.declared.line.Line.{Line}
 use Rattle.teco_edit.specs.Run.{Edits, IsFateOf, input_from, named_input, standard_input}
 use Rattle.teco_host.specs.Reasons.{reason_of}
-use Rattle.teco_host.specs.Seen.{DiskSeen, Host, KeepsDisk, KeepsStream, SourceView}
+use Rattle.teco_host.specs.Seen.{DiskSeen, Host, KeepsDisk, KeepsStream}
 use Rattle.teco_edit.specs.Seen.{CommandsSeen, commands_seen, run_seen}
 use Rattle.teco_serve.specs.declared.fate.Fate.{Fate}
 use Rattle.teco_serve.specs.declared.fate.Fate.TheVariants.{NoCommands, NoMemory, Ended}

@@ -1,5 +1,6 @@
 -- A run over one input of the line: what it reads, serves and writes, and how it ends.
-use Rattle.std.specs.Prelude.{◌≡◌, ◌≢◌, ◌⊎◌, ◌||◌, ⊤, ℕ, List, codes, Option, Some, None, unwrap_or, Bool, IsTrue, true, false}
+use Rattle.teco_bytes.specs.declared.source.Source.{Ghosts as SourceView}
+use Rattle.std.specs.Prelude.{◌≡◌, ◌≢◌, ◌⊎◌, ◌||◌, ⊤, ℕ, List, [], codes, Option, Some, None, unwrap_or, Bool, IsTrue, true, false}
 use Rattle.std.specs.Str.{bytes_eq}
 use Rattle.std.specs.String.{string_bytes}
 use Rattle.teco_terminal.specs.Terminal.{IsFrontOf, Screen, Shows}
@@ -9,6 +10,7 @@ use Rattle.std.specs.declared.io.Error.{Error}
 use Rattle.std.specs.declared.io.ErrorKind.TheVariants.{OutOfMemory}
 use Rattle.teco_core.specs.declared.limits.TheConstants.{FILE_LIMIT}
 use Rattle.teco_session.specs.History.{History, new_paged_history, present}
+use Rattle.teco_files.specs.declared.unkept.Unkept.{Unkept}
 use Rattle.teco_files.specs.Disk.{Changes, Files, IsStream, Opens, Passes, SameBut}
 use Rattle.teco_serve.specs.Ending.{fate_without_input, output_of, said, status_of, text_of}
 use Rattle.teco_bytes.specs.Input.{IsFaultOf}
@@ -19,13 +21,13 @@ use Rattle.teco_edit.specs.Seen.{CommandsSeen, InputSeen, OutputSeen, RunSeen, T
 use Rattle.teco_host.specs.Reading.{IsInput, IsStreamed}
 use Rattle.teco_host.specs.Reasons.{reason_of}
 use Rattle.teco_host.specs.declared.reason.Reason.TheVariants.{WriteFailed}
-use Rattle.teco_host.specs.Seen.{DiskSeen, KeepsDisk, SourceView}
+use Rattle.teco_host.specs.Seen.{DiskSeen, KeepsDisk}
 use Rattle.teco_bytes.specs.Source.{Gives}
 use Rattle.teco_host.specs.Writing.{AddsDrafts, HasDraft, IsWriteError, IsWriting, WritesOutput}
 use Rattle.teco_serve.specs.declared.alarm.Bounds.{Bounds}
 use Rattle.teco_serve.specs.declared.fate.Fate.{Fate}
 use Rattle.teco_serve.specs.declared.fate.Fate.TheVariants.{NoCommands, NoInput, NotRegular, LargeInput, NoMemory, NoOutput}
-use Rattle.teco_serve.specs.declared.fate.Fate.TheVariants.{Changed, Unchanged}
+use Rattle.teco_serve.specs.declared.fate.Fate.TheVariants.{Changed, Unchanged, Lacking}
 use Rattle.teco_serve.specs.declared.fate.Fate.TheVariants.{Ended}
 use Rattle.teco_bytes.specs.declared.input.InputFault.{InputFault}
 use Rattle.teco_line.specs.declared.line.Commands.{Commands}
@@ -136,6 +138,8 @@ pub record Doings : Type 1 where
   pub same : List ℕ → Type 0
   -- the output was to be written over a file that has changed since it was read
   pub changed : List ℕ → Type 0
+  -- this could not be kept of the file that the output was written over
+  pub unkept : Option Unkept → Type 0
 
 -- How a run ends, and what it has done then.
 abbrev pub EndsBy : Doings → Fate → Type 0
@@ -151,8 +155,11 @@ EndsBy run (NoOutput reason) = (output : List ℕ) × run.serves served.Exit out
 -- what was to be written over stays as it is
 EndsBy run Changed = (output : List ℕ) × run.serves served.Exit output × run.changed output
 EndsBy run Unchanged = (output : List ℕ) × run.serves served.Exit output × run.same output × run.keeps
--- after an exit the output is written
+-- after an exit the output is written, and of a file that it was written over this could not be kept, or all was
+EndsBy run (Lacking unkept) = (output : List ℕ) × run.serves served.Exit output × run.writes output
+    × run.unkept (Some unkept)
 EndsBy run (Ended served.Exit) = (output : List ℕ) × run.serves served.Exit output × run.writes output
+    × run.unkept None
 -- and otherwise nothing is
 EndsBy run (Ended served.EndOfCommands) = (output : List ℕ) × run.serves served.EndOfCommands output
     × run.keeps
@@ -172,6 +179,7 @@ doings line input output commands term = record {
   fails = output.fails;
   same = λ bytes. IsTrue (replaces_input line) × output.has bytes;
   changed = λ bytes. IsTrue (replaces_input line) × output.changed bytes;
+  unkept = output.unkept;
 }
 
 -- what may be done after a serving that ended so, with this output
@@ -186,6 +194,7 @@ doings_after served output over to = record {
   fails = to.fails;
   same = λ bytes. over × to.has bytes;
   changed = λ bytes. over × to.changed bytes;
+  unkept = to.unkept;
 }
 
 -- A file as the input, and a file as the output.
@@ -204,6 +213,7 @@ named_output old new name = record {
   has = λ bytes. (before : Files) → old.files ≡ Some before → before name ≡ Some bytes;
   is_as_read = λ bytes. new.asked name old.files (λ before now. old.streams name ≡ None → HasDraft name bytes before now);
   changed = FindsChange old new name;
+  unkept = new.unkept;
 }
 
 -- The input was read already, and is this.
@@ -243,6 +253,7 @@ standard_output screen between new = record {
   has = λ bytes. ⊥;
   is_as_read = λ bytes. ⊤;
   changed = λ bytes. ⊥;
+  unkept = λ what. what ≡ None;
 }
 
 -- A run ends so, with its output in the file of this name, or on the terminal; then no file changes.
@@ -278,4 +289,9 @@ pub record Edits {I T : Type 0} (line : Line) (input : List ℕ) (run : RunSeen 
 pub record Concludes (line : Line) (input : List ℕ) (fate : Fate) (old new : Screen) (status : ℕ) : Type 0 where
   pub status_is : status ≡ status_of fate
   pub told : Tells old new (text_of line input fate)
-      ⊎ ((status_of fate ≡ 1) × Tells old new (said (codes "no memory")))
+      ⊎ ((text_of line input fate ≢ []) × Tells old new (said (codes "no memory")))
+
+-- how a run ends whose output is written, if this could not be kept of the file that it was written over
+abbrev pub fate_written : Option Unkept → Fate
+fate_written None = Ended served.Exit
+fate_written (Some unkept) = Lacking unkept

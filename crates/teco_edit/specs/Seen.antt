@@ -1,7 +1,9 @@
 -- What is seen of the commands, the input and the output of one run.
-use Rattle.std.specs.Prelude.{◌≡◌, ℕ, List, Bool}
+use Rattle.teco_bytes.specs.declared.source.Source.{Ghosts as SourceView}
+use Rattle.std.specs.Prelude.{◌≡◌, ℕ, List, Bool, Option}
 use Rattle.teco_bytes.specs.Source.{Gives, HasEnded}
-use Rattle.teco_host.specs.Seen.{DiskSeen, SourceView}
+use Rattle.teco_files.specs.declared.unkept.Unkept.{Unkept}
+use Rattle.teco_host.specs.Seen.{DiskSeen}
 use Rattle.teco_serve.specs.declared.fate.Fate.{Fate}
 use Rattle.teco_terminal.specs.Terminal.{Screen, Shows}
 
@@ -57,6 +59,8 @@ pub record OutputSeen : Type 1 where
   pub is_as_read : List ℕ → Type 0
   -- what is there has changed since it was read, and these bytes were not written
   pub changed : List ℕ → Type 0
+  -- this could not be kept of what was written over
+  pub unkept : Option Unkept → Type 0
 
 -- What is seen of one run: where its input comes from, its commands, and its disk and terminal before and after it.
 pub record RunSeen (I T : Type 0) : Type 1 where

@@ -1,4 +1,5 @@
 -- The commands of a line that are had at once, before any input is read: those of its sources, or the bytes of a file.
+use Rattle.teco_bytes.specs.declared.source.Source.{Ghosts as SourceView}
 use Rattle.std.specs.Prelude.{◌≡◌, ◌⊎◌, ◌<◌, ℕ, List, [], ◌∷◌, ◌++◌, length, take, map, codes, Option, Some, None, option_map, Bool, true, false, Ok, Err, ⊤}
 use Rattle.std.specs.List.{slice_index_or}
 use Rattle.std.specs.String.{string_bytes}
@@ -14,7 +15,7 @@ use Rattle.teco_host.specs.Reasons.{with_reason}
 use Rattle.teco_host.specs.Refusing.{Tells}
 use Rattle.teco_edit.specs.Run.{FailsToStream, LacksInput}
 use Rattle.teco_host.specs.Reading.{IsInput, IsStreamed}
-use Rattle.teco_host.specs.Seen.{DiskSeen, SourceView}
+use Rattle.teco_host.specs.Seen.{DiskSeen}
 use Rattle.teco_serve.specs.declared.fate.Fate.{Fate}
 use Rattle.teco_serve.specs.declared.fate.Fate.TheVariants.{LargeInput, NoInput}
 use Rattle.teco_edit.specs.declared.sources.CommandsFault.{CommandsFault}

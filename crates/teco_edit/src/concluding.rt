@@ -7,7 +7,7 @@ ghost use Rattle.teco_serve.specs.Ending.{said};
 use std::alloc::Global;
 use teco_core::NoMemory;
 use teco_line::Line;
-use teco_serve::{Fate, ending_of};
+use teco_serve::{Fate, ending_of, status_of};
 use teco_terminal::Terminal;
 
 /// What is told where memory is refused to the program.
@@ -37,6 +37,9 @@ pub fn conclude<E: Terminal>(
             let _ = errors.put(text.as_bytes());
             status
         }
-        Err(NoMemory) => no_memory(errors),
+        Err(NoMemory) => {
+            let _ = no_memory(errors);
+            status_of(fate)
+        }
     }
 }

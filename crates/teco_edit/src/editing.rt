@@ -5,25 +5,21 @@ ghost use Rattle.teco_core.specs.declared.limits.TheConstants.{DEPTH_LIMIT, FILE
 ghost use Rattle.teco_line.specs.CommandLine.{IsDepth};
 ghost use Rattle.teco_option.specs.StreamNames.{is_standard_input, is_standard_output};
 ghost use Rattle.teco_serve.specs.Exchange.{HasRung};
-ghost use Rattle.teco_edit.specs.Run.{Edits, EndsBy, FinishesIn, FailsToStream, IsFateOf, LacksInPlace, LacksInput, depth_of, doings_after, given_input, history_over, input_from, named_input, named_output, replaces_input, standard_input, standard_output};
-ghost use Rattle.std.specs.IoError.{error_kind};
+ghost use Rattle.teco_edit.specs.Run.{Edits, EndsBy, FinishesIn, FailsToStream, LacksInPlace, LacksInput, depth_of, doings_after, given_input, history_over, input_from, named_input, named_output, replaces_input, standard_input, standard_output};
 ghost use Rattle.teco_host.specs.Reading.{IsInput, IsStreamed};
-ghost use Rattle.teco_host.specs.Reasons.{reason_of};
-ghost use Rattle.teco_serve.specs.declared.fate.Fate.TheVariants.{NoCommands, NoInput, NoOutput};
-ghost use Rattle.teco_host.specs.Seen.{KeepsDisk, disk_seen, source_view};
+ghost use Rattle.teco_host.specs.Seen.{KeepsDisk, disk_seen};
 ghost use Rattle.teco_edit.specs.Seen.{commands_seen, run_seen};
 ghost use Rattle.teco_host.specs.Writing.{both};
 ghost use Rattle.teco_session.specs.Kept.{history_of};
 
+use crate::fates::{fate_written, no_input, no_output};
 use crate::giving::is_streamed;
 use std::alloc::Global;
-use std::io;
-use std::io::ErrorKind;
 use std::mem::ManuallyDrop;
 use teco_bytes::{Source, read_input};
 use teco_core::{FILE_LIMIT, NoMemory};
 use teco_files::Disk;
-use teco_host::{Reason, Written, has_bytes, reason_of, write_output};
+use teco_host::{Reason, Written, has_bytes, write_output};
 use teco_line::{Commands, Line};
 use teco_option::{is_standard_input, is_standard_output};
 use teco_serve::{Alarm, Bounds, Fate, Listens, Served, output_name, serve};
@@ -31,46 +27,13 @@ use teco_session::Session;
 use teco_store::Desk;
 use teco_terminal::{Terminal, TerminalFault};
 
-/// How the program ends at an error of the system: by want of memory where the error is that, otherwise as given.
-fn fate_of(error: io::Error, other: Fate) -> Fate
-    ensures { IsFateOf error other result }
-{
-    match error.kind() {
-        ErrorKind::OutOfMemory => Fate::NoMemory,
-        _ => other,
-    }
-}
-
-/// How the program ends where an input can't be opened.
-fn no_input(error: io::Error) -> Fate
-    ensures { IsFateOf error (NoInput (reason_of (error_kind error))) result }
-{
-    fate_of(error, Fate::NoInput(reason_of(error)))
-}
-
-/// How it ends where the file of the commands can't be opened.
-pub fn no_commands(error: io::Error) -> Fate
-    ensures { IsFateOf error (NoCommands (reason_of (error_kind error))) result }
-{
-    fate_of(error, Fate::NoCommands(reason_of(error)))
-}
-
-/// How it ends where the output can't be written.
-fn no_output(error: io::Error) -> Fate
-    ensures { IsFateOf error (NoOutput (reason_of (error_kind error))) result }
-{
-    fate_of(error, Fate::NoOutput(reason_of(error)))
-}
-
 /// Reads a file whole.
 pub fn input_of_file<D: Disk>(alloc: Global, name: &str, disk: &mut D) -> Result<Vec<u8>, Fate>
     ensures input { IfOk result (λ input. IsInput (D.files disk.old) name.now input.items) }
     ensures small { IfOk result (λ input. vec_len input ≤ FILE_LIMIT) }
-    ensures fault { let seen = disk_seen D.files D.streams D.left D.gave D.changed
-        (source_view D.Input.coming D.Input.bound D.Input.failures D.Input.ended) in
+    ensures fault { let seen = disk_seen D.Disk D.Input.Source in
         IfErr result (LacksInput (seen disk.old) (seen disk.new) name.now) }
-    ensures keeps { let seen = disk_seen D.files D.streams D.left D.gave D.changed
-        (source_view D.Input.coming D.Input.bound D.Input.failures D.Input.ended) in
+    ensures keeps { let seen = disk_seen D.Disk D.Input.Source in
         KeepsDisk (seen disk.old) (seen disk.new) }
 {
     let mut source = match disk.open(name) {
@@ -92,11 +55,9 @@ fn input_in_place<D: Disk>(
 ) -> Result<Vec<u8>, Fate>
     ensures input { IfOk result (λ input. IsInput (D.files disk.old) name.now input.items) }
     ensures small { IfOk result (λ input. vec_len input ≤ FILE_LIMIT) }
-    ensures fault { let seen = disk_seen D.files D.streams D.left D.gave D.changed
-        (source_view D.Input.coming D.Input.bound D.Input.failures D.Input.ended) in
+    ensures fault { let seen = disk_seen D.Disk D.Input.Source in
         IfErr result (LacksInPlace true (seen disk.old) (seen disk.new) name.now) }
-    ensures keeps { let seen = disk_seen D.files D.streams D.left D.gave D.changed
-        (source_view D.Input.coming D.Input.bound D.Input.failures D.Input.ended) in
+    ensures keeps { let seen = disk_seen D.Disk D.Input.Source in
         KeepsDisk (seen disk.old) (seen disk.new) }
 {
     let mut source = match disk.open_to_replace(name, waits) {
@@ -115,11 +76,9 @@ fn input_in_place<D: Disk>(
 fn input_of<D: Disk>(alloc: Global, line: &Line, name: &str, disk: &mut D) -> Result<Vec<u8>, Fate>
     ensures input { IfOk result (λ input. IsInput (D.files disk.old) name.now input.items) }
     ensures small { IfOk result (λ input. vec_len input ≤ FILE_LIMIT) }
-    ensures fault { let seen = disk_seen D.files D.streams D.left D.gave D.changed
-        (source_view D.Input.coming D.Input.bound D.Input.failures D.Input.ended) in
+    ensures fault { let seen = disk_seen D.Disk D.Input.Source in
         IfErr result (LacksInPlace line.now.in_place (seen disk.old) (seen disk.new) name.now) }
-    ensures keeps { let seen = disk_seen D.files D.streams D.left D.gave D.changed
-        (source_view D.Input.coming D.Input.bound D.Input.failures D.Input.ended) in
+    ensures keeps { let seen = disk_seen D.Disk D.Input.Source in
         KeepsDisk (seen disk.old) (seen disk.new) }
 {
     if line.in_place {
@@ -130,10 +89,10 @@ fn input_of<D: Disk>(alloc: Global, line: &Line, name: &str, disk: &mut D) -> Re
 
 /// Reads standard input to its end.
 pub fn input_of_stream<S: Source>(alloc: Global, source: &mut S) -> Result<Vec<u8>, Fate>
-    ensures input { IfOk result (λ input. IsStreamed (source_view S.coming S.bound S.failures S.ended)
+    ensures input { IfOk result (λ input. IsStreamed S.Source
         source.old source.new input.items) }
     ensures small { IfOk result (λ input. vec_len input ≤ FILE_LIMIT) }
-    ensures fault { IfErr result (FailsToStream (source_view S.coming S.bound S.failures S.ended)
+    ensures fault { IfErr result (FailsToStream S.Source
         source.old source.new) }
 {
     match read_input(alloc, source, FILE_LIMIT) {
@@ -200,8 +159,7 @@ fn put_over_input<D: Disk>(
     output: (&[u8], &[u8]),
     disk: &mut D,
 ) -> Fate
-    ensures { let seen = disk_seen D.files D.streams D.left D.gave D.changed
-        (source_view D.Input.coming D.Input.bound D.Input.failures D.Input.ended) in
+    ensures { let seen = disk_seen D.Disk D.Input.Source in
         EndsBy (doings_after Served.Exit (both output.entry) (IsTrue true)
         (named_output (seen disk.old) (seen disk.new) name.now)) result }
 {
@@ -209,7 +167,7 @@ fn put_over_input<D: Disk>(
         return Fate::Unchanged;
     }
     match write_output(alloc, disk, name, number, Some(name), output) {
-        Ok(Written::Whole) => Fate::Ended(Served::Exit),
+        Ok(Written::Whole(unkept)) => fate_written(unkept),
         Ok(Written::Changed) => Fate::Changed,
         Err(error) => no_output(error),
     }
@@ -224,8 +182,7 @@ fn put_in_file<D: Disk>(
     output: (&[u8], &[u8]),
     disk: &mut D,
 ) -> Fate
-    ensures { let seen = disk_seen D.files D.streams D.left D.gave D.changed
-        (source_view D.Input.coming D.Input.bound D.Input.failures D.Input.ended) in
+    ensures { let seen = disk_seen D.Disk D.Input.Source in
         EndsBy (doings_after Served.Exit (both output.entry) (IsTrue over)
         (named_output (seen disk.old) (seen disk.new) name.now)) result }
 {
@@ -233,7 +190,7 @@ fn put_in_file<D: Disk>(
         return put_over_input(alloc, name, number, output, disk);
     }
     match write_output(alloc, disk, name, number, None, output) {
-        Ok(Written::Whole) => Fate::Ended(Served::Exit),
+        Ok(Written::Whole(unkept)) => fate_written(unkept),
         // no file is named that was read, so none has changed
         Ok(Written::Changed) => unreachable!(),
         Err(error) => no_output(error),
@@ -251,8 +208,7 @@ fn finish<T: Terminal, D: Disk>(
     term: &mut T,
     disk: &mut D,
 ) -> Fate
-    ensures { let seen = disk_seen D.files D.streams D.left D.gave D.changed
-        (source_view D.Input.coming D.Input.bound D.Input.failures D.Input.ended) in
+    ensures { let seen = disk_seen D.Disk D.Input.Source in
         FinishesIn (is_standard_output name.now) served (both output.entry) over name.now
         (seen disk.old) (seen disk.new) T.screen term.old term.new result }
 {
@@ -289,10 +245,9 @@ fn edit_over<S: Source, A: Alarm, T: Terminal, L: Listens, D: Disk>(
 ) -> Fate
     requires small { vec_len input ≤ FILE_LIMIT }
     requires depth { IfSome line.now.undo IsDepth }
-    ensures { let seen = disk_seen D.files D.streams D.left D.gave D.changed
-        (source_view D.Input.coming D.Input.bound D.Input.failures D.Input.ended) in
+    ensures { let seen = disk_seen D.Disk D.Input.Source in
         Edits line.now name.now (run_seen (given_input input.items)
-        (commands_seen (source_view S.coming S.bound S.failures S.ended) commands.old commands.new
+        (commands_seen S.Source commands.old commands.new
         (HasRung A.answered))
         (seen disk.old) (seen disk.new) T.screen term.old term.new) result }
 {
@@ -342,10 +297,9 @@ pub fn edit_file<S: Source, A: Alarm, T: Terminal, L: Listens, D: Disk>(
     disk: &mut D,
 ) -> Fate
     requires depth { IfSome line.now.undo IsDepth }
-    ensures { let seen = disk_seen D.files D.streams D.left D.gave D.changed
-        (source_view D.Input.coming D.Input.bound D.Input.failures D.Input.ended) in
+    ensures { let seen = disk_seen D.Disk D.Input.Source in
         Edits line.now name.now (run_seen (named_input (seen disk.old) (seen disk.new) name.now)
-        (commands_seen (source_view S.coming S.bound S.failures S.ended) commands.old commands.new
+        (commands_seen S.Source commands.old commands.new
         (HasRung A.answered))
         (seen disk.old) (seen disk.new) T.screen term.old term.new) result }
 {
@@ -371,12 +325,11 @@ pub fn edit_input<C: Source, S: Source, A: Alarm, T: Terminal, L: Listens, D: Di
     disk: &mut D,
 ) -> Fate
     requires depth { IfSome line.now.undo IsDepth }
-    ensures edits { let seen = disk_seen D.files D.streams D.left D.gave D.changed
-        (source_view D.Input.coming D.Input.bound D.Input.failures D.Input.ended) in
+    ensures edits { let seen = disk_seen D.Disk D.Input.Source in
         Edits line.now name.now (run_seen (input_from (is_standard_input name.now)
-        (standard_input (source_view S.coming S.bound S.failures S.ended) stream.old stream.new)
+        (standard_input S.Source stream.old stream.new)
         (named_input (seen disk.old) (seen disk.new) name.now))
-        (commands_seen (source_view C.coming C.bound C.failures C.ended) commands.old commands.new
+        (commands_seen C.Source commands.old commands.new
         (HasRung A.answered))
         (seen disk.old) (seen disk.new) T.screen term.old term.new) result }
     ensures still { is_standard_input name.now ≡ false → stream.new ≡ stream.old }

@@ -7,7 +7,8 @@ ghost use Rattle.teco_serve.specs.Exchange.{HasRung};
 ghost use Rattle.teco_edit.specs.Given.{EditsBy, EditsGiven, host_view, is_streamed};
 ghost use Rattle.teco_host.specs.Seen.{disk_seen, host, source_view};
 
-use crate::editing::{edit_file, edit_input, no_commands};
+use crate::editing::{edit_file, edit_input};
+use crate::fates::no_commands;
 use std::alloc::Global;
 use teco_bytes::{Source, WordSource};
 use teco_files::Disk;
@@ -38,9 +39,8 @@ fn edit_by_line<S: Source, A: Alarm, T: Terminal, L: Listens, D: Disk>(
     requires depth { IfSome line.now.undo IsDepth }
     requires fits { has_conflict line.now ≡ false }
     requires streamed { is_streamed line.now ≡ true }
-    ensures { let view = host_view (disk_seen D.files D.streams D.left D.gave D.changed
-        (source_view D.Input.coming D.Input.bound D.Input.failures D.Input.ended))
-        (source_view S.coming S.bound S.failures S.ended) T.screen
+    ensures { let view = host_view (disk_seen D.Disk D.Input.Source)
+        S.Source T.screen
         (source_view ⟦<WordSource as Source>⟧.coming ⟦<WordSource as Source>⟧.bound
         ⟦<WordSource as Source>⟧.failures ⟦<WordSource as Source>⟧.ended) (HasRung A.answered) in
         EditsBy view line.now (string_bytes line.now.input) line.now.commands (host disk.old commands.old term.old)
@@ -80,9 +80,8 @@ pub fn edit_given<S: Source, A: Alarm, T: Terminal, L: Listens, D: Disk>(
 ) -> Fate
     requires depth { IfSome line.now.undo IsDepth }
     requires come { is_streamed line.now ≡ true → has_conflict line.now ≡ false }
-    ensures { let view = host_view (disk_seen D.files D.streams D.left D.gave D.changed
-        (source_view D.Input.coming D.Input.bound D.Input.failures D.Input.ended))
-        (source_view S.coming S.bound S.failures S.ended) T.screen
+    ensures { let view = host_view (disk_seen D.Disk D.Input.Source)
+        S.Source T.screen
         (source_view ⟦<WordSource as Source>⟧.coming ⟦<WordSource as Source>⟧.bound
         ⟦<WordSource as Source>⟧.failures ⟦<WordSource as Source>⟧.ended) (HasRung A.answered) in
         EditsGiven (is_streamed line.now) view line.now bytes.now name.now (host disk.old commands.old term.old)

@@ -3,6 +3,7 @@
 
 mod concluding;
 mod editing;
+mod fates;
 mod giving;
 mod sources;
 

@@ -4,7 +4,7 @@ ghost use Rattle.std.specs.String.{string_bytes};
 ghost use Rattle.teco_line.specs.CommandLine.{on_pages};
 ghost use Rattle.teco_line.specs.Conflict.{are_awaited};
 ghost use Rattle.teco_option.specs.StreamNames.{is_standard_input};
-ghost use Rattle.teco_host.specs.Seen.{KeepsDisk, disk_seen, source_view};
+ghost use Rattle.teco_host.specs.Seen.{KeepsDisk, disk_seen};
 ghost use Rattle.teco_edit.specs.Sources.{AreCommandsIn, Declines, FailsToGive, IsFaultOf, IsGivenBy, IsUnread, IsWholeOf, LacksCommands, LacksFiles, fault_by, source_name, status_without, text_without};
 ghost use Rattle.teco_source.specs.Source.{commands_of};
 
@@ -137,15 +137,13 @@ fn whole_of<S: Source, D: Disk>(
     disk: &mut D,
 ) -> Result<Vec<u8>, Fate>
     ensures whole { IfOk result (λ bytes. IsWholeOf (is_standard_input name.now)
-        (source_view S.coming S.bound S.failures S.ended) (D.files disk.old) name.now
+        S.Source (D.files disk.old) name.now
         stream.old stream.new bytes.items) }
-    ensures fails { let seen = disk_seen D.files D.streams D.left D.gave D.changed
-        (source_view D.Input.coming D.Input.bound D.Input.failures D.Input.ended) in
+    ensures fails { let seen = disk_seen D.Disk D.Input.Source in
         IfErr result (FailsToGive (is_standard_input name.now)
-        (source_view S.coming S.bound S.failures S.ended) (seen disk.old) (seen disk.new)
+        S.Source (seen disk.old) (seen disk.new)
         name.now stream.old stream.new) }
-    ensures keeps { let seen = disk_seen D.files D.streams D.left D.gave D.changed
-        (source_view D.Input.coming D.Input.bound D.Input.failures D.Input.ended) in
+    ensures keeps { let seen = disk_seen D.Disk D.Input.Source in
         KeepsDisk (seen disk.old) (seen disk.new) }
 {
     if is_standard_input(name) {
@@ -163,14 +161,12 @@ fn bytes_of<S: Source, D: Disk>(
     disk: &mut D,
 ) -> Result<Vec<u8>, CommandsFault>
     ensures whole { IfOk result (λ bytes. IsWholeOf (is_standard_input name.now)
-        (source_view S.coming S.bound S.failures S.ended) (D.files disk.old) name.now
+        S.Source (D.files disk.old) name.now
         stream.old stream.new bytes.items) }
-    ensures unread { let seen = disk_seen D.files D.streams D.left D.gave D.changed
-        (source_view D.Input.coming D.Input.bound D.Input.failures D.Input.ended) in
-        IfErr result (IsUnread (source_view S.coming S.bound S.failures S.ended) (seen disk.old) (seen disk.new)
+    ensures unread { let seen = disk_seen D.Disk D.Input.Source in
+        IfErr result (IsUnread S.Source (seen disk.old) (seen disk.new)
         name.now stream.old stream.new at) }
-    ensures keeps { let seen = disk_seen D.files D.streams D.left D.gave D.changed
-        (source_view D.Input.coming D.Input.bound D.Input.failures D.Input.ended) in
+    ensures keeps { let seen = disk_seen D.Disk D.Input.Source in
         KeepsDisk (seen disk.old) (seen disk.new) }
 {
     match whole_of(alloc, name, stream, disk) {
@@ -187,14 +183,12 @@ fn commands_in_files<S: Source, D: Disk>(
     disk: &mut D,
     parts: &mut Parts,
 ) -> Result<Vec<u8>, CommandsFault>
-    ensures read { IfOk result (λ made. AreCommandsIn (source_view S.coming S.bound S.failures S.ended)
+    ensures read { IfOk result (λ made. AreCommandsIn S.Source
         (D.files disk.old) names.now stream.old stream.new made.items) }
-    ensures fault { let seen = disk_seen D.files D.streams D.left D.gave D.changed
-        (source_view D.Input.coming D.Input.bound D.Input.failures D.Input.ended) in
-        IfErr result (LacksFiles (source_view S.coming S.bound S.failures S.ended)
+    ensures fault { let seen = disk_seen D.Disk D.Input.Source in
+        IfErr result (LacksFiles S.Source
         names.now (seen disk.old) (seen disk.new) stream.old stream.new) }
-    ensures keeps { let seen = disk_seen D.files D.streams D.left D.gave D.changed
-        (source_view D.Input.coming D.Input.bound D.Input.failures D.Input.ended) in
+    ensures keeps { let seen = disk_seen D.Disk D.Input.Source in
         KeepsDisk (seen disk.old) (seen disk.new) }
 {
     let mut made = Vec::new(alloc);
@@ -250,14 +244,12 @@ pub fn commands_given<S: Source, D: Disk>(
     parts: &mut Parts,
 ) -> Result<Vec<u8>, CommandsFault>
     requires { are_awaited commands.now ≡ false }
-    ensures given { IfOk result (λ bytes. IsGivenBy (source_view S.coming S.bound S.failures S.ended)
+    ensures given { IfOk result (λ bytes. IsGivenBy S.Source
         commands.now (D.files disk.old) stream.old stream.new bytes.items) }
-    ensures lacks { let seen = disk_seen D.files D.streams D.left D.gave D.changed
-        (source_view D.Input.coming D.Input.bound D.Input.failures D.Input.ended) in
-        IfErr result (LacksCommands (source_view S.coming S.bound S.failures S.ended)
+    ensures lacks { let seen = disk_seen D.Disk D.Input.Source in
+        IfErr result (LacksCommands S.Source
         commands.now (seen disk.old) (seen disk.new) stream.old stream.new) }
-    ensures keeps { let seen = disk_seen D.files D.streams D.left D.gave D.changed
-        (source_view D.Input.coming D.Input.bound D.Input.failures D.Input.ended) in
+    ensures keeps { let seen = disk_seen D.Disk D.Input.Source in
         KeepsDisk (seen disk.old) (seen disk.new) }
 {
     match commands {

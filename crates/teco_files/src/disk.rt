@@ -4,9 +4,11 @@ ghost use Rattle.std.specs.Prelude.{◌≡◌, ◌≢◌, ◌⊎◌, ◌++◌, �
 ghost use Rattle.std.specs.declared.io.Error.{Error};
 ghost use Rattle.std.specs.declared.io.ErrorKind.{ErrorKind};
 ghost use Rattle.std.specs.Prelude.{[], None, Some, IfOk, IfSome, IsNone, IsSome, true, false};
+ghost use Rattle.teco_files.specs.declared.unkept.Unkept.{Unkept};
 ghost use Rattle.teco_files.specs.Disk.{Appends, Changes, Counts, Creates, Files, IsStream, IsTargetOf, Opens, Passes, Removes, Renames, Same, SameBut};
 
 use crate::target::Target;
+use crate::unkept::Unkept;
 use std::io;
 use std::io::ErrorKind;
 use teco_bytes::Source;
@@ -45,6 +47,9 @@ pub trait Disk {
 
     // the file of this name isn't what it was when it was opened
     ghost changed: { Self → List ℕ → Type 0 };
+
+    // this could not be kept of the file whose place the output that was written last takes; of a stream all is kept
+    ghost unkept: { Self → Option Unkept → Type 0 };
 
     /// Opens a file, to be read from its beginning to its end.
     fn open(&mut self, name: &str) -> io::Result<Self::Input>
@@ -100,6 +105,7 @@ pub trait Disk {
         ensures ok { OnOk result
             (Appends name.now (bytes.entry.0.now ++ bytes.entry.1.now) (streams self.old) (streams self.new)) }
         ensures others { SameBut name.now (streams self.old) (streams self.new) }
+        ensures unkept { OnOk result (unkept self.new None) }
         ensures files { files self.new ≡ files self.old }
         ensures moments { (files : Files) → left self.new files → left self.old files }
         ensures count { Counts result (failures self.old) (failures self.new) }
@@ -126,8 +132,8 @@ pub trait Disk {
         ensures count { Counts result (failures self.old) (failures self.new) }
         ensures error { IfErr result (gave self.new) };
 
-    /// Gives a draft the owner and the permissions of the file whose place it is to take, as far as the system lets us. If no file
-    /// is there, the draft has the permissions of the file that was opened last.
+    /// Gives a draft the owner and the permissions of the file whose place it is to take, as far as the system lets us. If no file is
+    /// there, the draft has the permissions of the file that was opened last.
     fn make_like(&mut self, draft: &Self::Draft, name: &str)
         requires { is_of draft.now name.now }
         ensures files { files self.new ≡ files self.old }
@@ -146,11 +152,13 @@ pub trait Disk {
         ensures count { Counts result (failures self.old) (failures self.new) }
         ensures error { IfErr result (gave self.new) };
 
-    /// Gives a file another name, in one moment, if its bytes outlast a crash. What had that name before is gone.
-    fn rename(&mut self, from: &str, to: &str) -> io::Result<()>
+    /// Gives a file another name, in one moment, if its bytes outlast a crash. What had that name before is gone. Says what the file could
+    /// not keep of it.
+    fn rename(&mut self, from: &str, to: &str) -> io::Result<Option<Unkept>>
         requires { from.now ≢ to.now }
         ensures ok { OnOk result (Changes (files self.old) (files self.new) (Renames from.now to.now)) }
         ensures err { OnErr result (Changes (files self.old) (files self.new) Same) }
+        ensures unkept { IfOk result (unkept self.new) }
         ensures streams { streams self.new ≡ streams self.old }
         ensures moments { kept self.old from.now → Passes (files self.old) (left self.old) (left self.new)
             (λ before now. Same before now ⊎ Renames from.now to.now before now) }

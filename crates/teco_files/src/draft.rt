@@ -1,4 +1,5 @@
 //! Whose the new files are, and who may read and write them. What is changed is the file that was opened, and not what has its name.
+use crate::unkept::Unkept;
 use std::fs::{Files, Metadata, OpenFile, OpenOptions, Permissions};
 use std::io;
 use std::os::fd::AsFd;
@@ -19,9 +20,9 @@ fn without_group(mode: u32) -> u32 {
     (mode & 0o707) | ((mode & 0o7) << 3)
 }
 
-/// Gives a file the group, the owner and the permissions of another, as far as the system lets us. The permissions come last, so
-/// that nobody may meanwhile do more than in the end.
-pub fn make_like<F: OpenFile + AsFd>(file: &F, old: &Metadata) {
+/// Gives a file the group, the owner and the permissions of another, as far as the system lets us, and says what it couldn't keep. The
+/// permissions come last, so that nobody may meanwhile do more than in the end.
+pub fn make_like<F: OpenFile + AsFd>(file: &F, old: &Metadata) -> Option<Unkept> {
     let has_group = fchown(file, None, Some(old.gid())).is_ok();
     let has_owner = fchown(file, Some(old.uid()), None).is_ok();
     let mode = match (has_owner, has_group) {
@@ -29,5 +30,11 @@ pub fn make_like<F: OpenFile + AsFd>(file: &F, old: &Metadata) {
         (false, true) => old.mode() & 0o777,
         (_, false) => without_group(old.mode()),
     };
-    let _ = file.set_permissions(Permissions::from_mode(mode));
+    let has_mode = file.set_permissions(Permissions::from_mode(mode)).is_ok();
+    match (has_owner, has_group, has_mode) {
+        (false, _, _) => Some(Unkept::Owner),
+        (true, false, _) => Some(Unkept::Group),
+        (true, true, false) => Some(Unkept::Permissions),
+        (true, true, true) => None,
+    }
 }

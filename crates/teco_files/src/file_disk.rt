@@ -1,11 +1,12 @@
 //! The files of the system.
-ghost use Rattle.std.specs.Prelude.{◌≡◌, ⊤, true, None, Some};
+ghost use Rattle.std.specs.Prelude.{◌≡◌, ⊤, true, IfOk, None, Some};
 
 use crate::disk::Disk;
 use crate::draft::{make_like, open_new};
 use crate::failures::Failures;
 use crate::lock::{Lock, hold};
 use crate::target::{Target, append, is_same_file, known, target_of};
+use crate::unkept::Unkept;
 use std::fs::{Files, Metadata, OpenFile};
 use std::io::{ErrorKind, Write};
 use std::os::fd::AsFd;
@@ -29,6 +30,8 @@ pub struct FileDisk<'a, R: Files> {
     held: Option<R::File>,
     // the file whose place a new one is to take
     replaced: Option<Metadata>,
+    // what the output that was written last could not keep
+    unkept: Option<Unkept>,
     // whether the file that was last asked about was not as it was when it was opened
     changed: bool,
     failures: Failures,
@@ -71,15 +74,18 @@ where
     Ok(Some(open_noted(rt, name, opened)?))
 }
 
+/// Whether a file has the size that it had, and nobody has written to it since.
+fn has_same_text(was: &Metadata, now: &Metadata) -> bool {
+    was.size() == now.size() && was.mtime() == now.mtime() && was.mtime_nsec() == now.mtime_nsec()
+}
+
 /// Whether both are there, and are the same file, of the same size, which nobody has written to since. A time that was put back shows by
 /// the time at which what is known of the file changed, which nobody can put back.
 fn is_unchanged(was: &Option<Metadata>, now: &Option<Metadata>) -> bool {
     match (was, now) {
         (Some(was), Some(now)) => {
             is_same_file(was, now)
-                && was.size() == now.size()
-                && was.mtime() == now.mtime()
-                && was.mtime_nsec() == now.mtime_nsec()
+                && has_same_text(was, now)
                 && was.ctime() == now.ctime()
                 && was.ctime_nsec() == now.ctime_nsec()
         }
@@ -96,6 +102,7 @@ impl<'a, R: Files> FileDisk<'a, R> {
             opened: None,
             held: None,
             replaced: None,
+            unkept: None,
             changed: false,
             failures: Failures {
                 times: 0,
@@ -113,14 +120,43 @@ impl<'a, R: Files> FileDisk<'a, R> {
         }
     }
 
-    /// Whether a new file would take the place of the file that was opened last, though that has changed since.
-    fn would_lose(&self, name: &str) -> io::Result<bool> {
+    /// The file that was opened last, open once more, if a new file is to take its place. It has to be what it was.
+    fn open_replaced(&self, name: &str) -> io::Result<Option<R::File>> {
         match (&self.opened, &self.replaced) {
             (Some(opened), Some(replaced)) if is_same_file(opened, replaced) => {
-                Ok(!is_unchanged(&self.opened, &known(self.rt, name)?))
+                let file = fs::open(self.rt, name)?;
+                let now = Some(file.metadata()?);
+                if !is_unchanged(&self.opened, &now) {
+                    return Err(io::Error::from(ErrorKind::ResourceBusy));
+                }
+                Ok(Some(file))
             }
-            _ => Ok(false),
+            _ => Ok(None),
         }
+    }
+
+    /// Whether a file that was opened before it lost its name has changed since it was read.
+    fn has_changed(&self, replaced: &Option<R::File>) -> bool {
+        match (&self.opened, replaced) {
+            (Some(opened), Some(file)) => match file.metadata() {
+                Ok(now) => !has_same_text(opened, &now),
+                Err(_) => true,
+            },
+            _ => false,
+        }
+    }
+
+    /// Gives a file another name, and says what it could not keep of the file that had the name. That is looked at once more afterwards.
+    fn take_name(&mut self, from: &str, to: &str) -> io::Result<Option<Unkept>>
+        ensures unkept { IfOk result (λ unkept. self.new.unkept ≡ unkept) }
+        ensures failures { self.new.failures ≡ self.old.failures }
+    {
+        let replaced = self.open_replaced(to)?;
+        fs::rename(self.rt, from, to)?;
+        if self.has_changed(&replaced) {
+            self.unkept = Some(Unkept::Changes);
+        }
+        Ok(self.unkept)
     }
 }
 
@@ -149,6 +185,8 @@ where
     ghost unremoved = { λ _ _. ⊤ };
 
     ghost changed = { λ disk _. disk.changed ≡ true };
+
+    ghost unkept = { λ disk what. disk.unkept ≡ what };
 
     fn open(&mut self, name: &str) -> io::Result<ReaderSource<R::File>> {
         let opened = open_noted(self.rt, name, &mut self.opened);
@@ -188,6 +226,7 @@ where
 
     fn append(&mut self, name: &str, bytes: (&[u8], &[u8])) -> io::Result<()> {
         let appended = append(self.rt, name, bytes);
+        self.unkept = None;
         self.failures.counted(appended)
     }
 
@@ -202,9 +241,10 @@ where
     }
 
     fn make_like(&mut self, draft: &R::File, _name: &str) {
-        if let Some(old) = &self.replaced {
-            make_like(draft, old);
-        }
+        self.unkept = match &self.replaced {
+            Some(old) => make_like(draft, old),
+            None => None,
+        };
     }
 
     fn sync(&mut self, draft: &R::File, _name: &str) -> io::Result<()> {
@@ -212,12 +252,8 @@ where
         self.failures.counted(synced)
     }
 
-    fn rename(&mut self, from: &str, to: &str) -> io::Result<()> {
-        let renamed = match self.would_lose(to) {
-            Ok(false) => fs::rename(self.rt, from, to),
-            Ok(true) => Err(io::Error::from(ErrorKind::ResourceBusy)),
-            Err(error) => Err(error),
-        };
+    fn rename(&mut self, from: &str, to: &str) -> io::Result<Option<Unkept>> {
+        let renamed = self.take_name(from, to);
         self.failures.counted(renamed)
     }
 

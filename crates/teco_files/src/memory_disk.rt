@@ -7,6 +7,7 @@ ghost use Rattle.teco_files.specs.FileLog.{WereOnce, files_of};
 use crate::disk::Disk;
 use crate::failures::Failures;
 use crate::target::Target;
+use crate::unkept::Unkept;
 use std::alloc::Global;
 use std::io;
 use std::io::ErrorKind;
@@ -32,6 +33,10 @@ pub enum Refused {
     RenameAndRemove,
     /// To replace a file: it is told not to be what it was when it was opened.
     Changed,
+    /// To keep the owner of a file that is replaced.
+    Owner,
+    /// To keep what is written to a file while it is replaced.
+    Changes,
 }
 
 /// Files in memory, which tells them. So a disk can tell its files and do all that is said of a disk.
@@ -45,6 +50,8 @@ pub struct MemoryDisk {
     failures: Failures,
     // whether a file could not be removed
     unremoved: bool,
+    // what the output that was written last could not keep
+    unkept: Option<Unkept>,
 }
 
 impl MemoryDisk {
@@ -59,6 +66,7 @@ impl MemoryDisk {
                 last: None,
             },
             unremoved: false,
+            unkept: None,
         }
     }
 
@@ -140,6 +148,8 @@ impl Disk for MemoryDisk {
 
     ghost changed = { λ disk _. disk.refused ≡ Changed };
 
+    ghost unkept = { λ disk what. disk.unkept ≡ what };
+
     fn open(&mut self, name: &str) -> io::Result<MemorySource> {
         let opened = self.log.opened(self.refused, name);
         self.failures.counted(opened)
@@ -165,6 +175,7 @@ impl Disk for MemoryDisk {
 
     fn append(&mut self, name: &str, bytes: (&[u8], &[u8])) -> io::Result<()> {
         let appended = self.devices.written_both(self.refused, name, bytes);
+        self.unkept = None;
         self.failures.counted(appended)
     }
 
@@ -178,7 +189,13 @@ impl Disk for MemoryDisk {
         self.failures.counted(written)
     }
 
-    fn make_like(&mut self, _draft: &(), _name: &str) {}
+    fn make_like(&mut self, _draft: &(), _name: &str) {
+        self.unkept = match self.refused {
+            Refused::Owner => Some(Unkept::Owner),
+            Refused::Changes => Some(Unkept::Changes),
+            _ => None,
+        };
+    }
 
     fn sync(&mut self, _draft: &(), _name: &str) -> io::Result<()> {
         let synced = match self.refused {
@@ -188,9 +205,12 @@ impl Disk for MemoryDisk {
         self.failures.counted(synced)
     }
 
-    fn rename(&mut self, from: &str, to: &str) -> io::Result<()> {
+    fn rename(&mut self, from: &str, to: &str) -> io::Result<Option<Unkept>> {
         let renamed = self.log.renamed(self.refused, from, to);
-        self.failures.counted(renamed)
+        match self.failures.counted(renamed) {
+            Ok(()) => Ok(self.unkept),
+            Err(error) => Err(error),
+        }
     }
 
     fn remove(&mut self, name: &str) -> io::Result<()> {

@@ -48,27 +48,27 @@ appends_still same appends before told = let done = appends before told in (done
 
 -- what became of an output
 pub whole_weaker : {P Q : Type 0} (result : Result Written Error) → (P → Q) → IfWhole result P → IfWhole result Q
-whole_weaker (Ok Whole) more p = more p
+whole_weaker (Ok (Whole unkept)) more p = more p
 whole_weaker (Ok Changed) more p = tt
 whole_weaker (Err error) more p = tt
 
 pub changed_weaker : {P Q : Type 0} (result : Result Written Error) → (P → Q) → IfChanged result P → IfChanged result Q
-changed_weaker (Ok Whole) more p = tt
+changed_weaker (Ok (Whole unkept)) more p = tt
 changed_weaker (Ok Changed) more p = more p
 changed_weaker (Err error) more p = tt
 
 pub unless_weaker : {P Q : Type 0} (result : Result Written Error) → (P → Q) → UnlessWhole result P → UnlessWhole result Q
-unless_weaker (Ok Whole) more p = tt
+unless_weaker (Ok (Whole unkept)) more p = tt
 unless_weaker (Ok Changed) more p = more p
 unless_weaker (Err error) more p = more p
 
 pub whole_by : {P : Type 0} (result : Result Written Error) → P → IfWhole result P
-whole_by (Ok Whole) p = p
+whole_by (Ok (Whole unkept)) p = p
 whole_by (Ok Changed) p = tt
 whole_by (Err error) p = tt
 
 pub unless_by : {P : Type 0} (result : Result Written Error) → P → UnlessWhole result P
-unless_by (Ok Whole) p = tt
+unless_by (Ok (Whole unkept)) p = tt
 unless_by (Ok Changed) p = p
 unless_by (Err error) p = p
 

@@ -1,9 +1,9 @@
 -- What was read of a file, or of standard input, whole.
+use Rattle.teco_bytes.specs.declared.source.Source.{Ghosts as SourceView}
 use Rattle.std.specs.Prelude.{◌≡◌, ◌≤◌, ℕ, List, length, Option, Some, false}
 use Rattle.teco_core.specs.declared.limits.TheConstants.{FILE_LIMIT}
 use Rattle.teco_files.specs.Disk.{Files}
 use Rattle.teco_bytes.specs.Source.{Gives, HasEnded}
-use Rattle.teco_host.specs.Seen.{SourceView}
 
 -- The bytes are the input of this name: all that the file has, where the files are told, and no more than a
 -- file may have.

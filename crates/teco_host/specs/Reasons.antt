@@ -3,7 +3,7 @@ use Rattle.std.specs.Prelude.{ℕ, List, ◌++◌, codes}
 use Rattle.std.specs.declared.io.ErrorKind.{ErrorKind}
 use Rattle.std.specs.declared.io.ErrorKind.TheVariants as kind
 use Rattle.teco_host.specs.declared.reason.Reason.{Reason}
-use Rattle.teco_host.specs.declared.reason.Reason.TheVariants.{Missing, Denied, IsFolder, InNoFolder, NoRoom, ReadOnly, Circle, LongName, InUse, TooLarge, Refused, ReadFailed, WriteFailed}
+use Rattle.teco_host.specs.declared.reason.Reason.TheVariants.{Missing, Denied, IsFolder, InNoFolder, NoRoom, ReadOnly, Circle, LongName, InUse, TooLarge, Unread, Refused, ReadFailed, WriteFailed}
 
 -- the reason of an error of this kind
 abbrev pub reason_of : ErrorKind → Reason
@@ -18,6 +18,7 @@ reason_of kind.FilesystemLoop = Circle
 reason_of kind.InvalidFilename = LongName
 reason_of kind.ResourceBusy = InUse
 reason_of kind.FileTooLarge = TooLarge
+reason_of kind.BrokenPipe = Unread
 reason_of _ = Refused
 
 -- a reason in words
@@ -32,6 +33,7 @@ reason_words Circle = codes "its links lead in a circle"
 reason_words LongName = codes "its name is too long"
 reason_words InUse = codes "it is in use"
 reason_words TooLarge = codes "it is too large"
+reason_words Unread = codes "its reader has left"
 reason_words Refused = codes "the system refused it"
 reason_words ReadFailed = codes "a read failed"
 reason_words WriteFailed = codes "a write failed"

@@ -1,20 +1,13 @@
 -- What is seen of what a run changes: its disk, its standard input and its terminal.
 use Rattle.std.specs.Prelude.{◌≡◌, ℕ, List, Option, Bool, false}
 use Rattle.std.specs.declared.io.Error.{Error}
+use Rattle.teco_bytes.specs.declared.source.Source.{Ghosts as SourceView}
 use Rattle.teco_files.specs.Disk.{Changes, Files}
+use Rattle.teco_files.specs.declared.disk.Disk.{Ghosts as DiskView}
+use Rattle.teco_files.specs.declared.unkept.Unkept.{Unkept}
 use Rattle.teco_option.specs.StreamNames.{is_standard_input}
 
--- how a source is seen at each of its states
-pub record SourceView (S : Type 0) : Type 0 where
-  -- the bytes still to come, where the source tells them
-  pub coming : S → Option (List ℕ)
-  -- no more bytes than this come
-  pub bound : S → ℕ
-  -- how often a read has failed, modulo 2^64
-  pub failures : S → ℕ
-  -- it has come to its end
-  pub ended : S → Bool
-
+-- how a source is seen at each of its states, by the members of its trait
 abbrev pub source_view : {S : Type 0} → (S → Option (List ℕ)) → (S → ℕ) → (S → ℕ) → (S → Bool) → SourceView S
 source_view coming bound failures ended =
     record { coming = coming; bound = bound; failures = failures; ended = ended }
@@ -39,20 +32,22 @@ pub record DiskSeen (I : Type 0) : Type 1 where
   pub gave : Error → Type 0
   -- the file of this name isn't what it was when it was opened
   pub changed : List ℕ → Type 0
+  -- this could not be kept of the file whose place the output that was written last takes
+  pub unkept : Option Unkept → Type 0
   -- with files that are related so to those from before, it was asked and said that the file of this name is what it was
   pub asked : List ℕ → Option Files → (Files → Files → Type 0) → Type 0
   -- how a file that it has opened is seen
   pub input : SourceView I
 
-abbrev pub disk_seen : {D I : Type 0} → (D → Option Files) → (D → Files) → (D → Files → Type 0) → (D → Error → Type 0)
-    → (D → List ℕ → Type 0) → SourceView I → D → DiskSeen I
-disk_seen files streams left gave changed input disk = record {
-  files = files disk;
-  streams = streams disk;
-  left = left disk;
-  gave = gave disk;
-  changed = changed disk;
-  asked = IsAsked files changed;
+abbrev pub disk_seen : {D I R : Type 0} → DiskView D I R → SourceView I → D → DiskSeen I
+disk_seen view input disk = record {
+  files = view.files disk;
+  streams = view.streams disk;
+  left = view.left disk;
+  gave = view.gave disk;
+  changed = view.changed disk;
+  unkept = view.unkept disk;
+  asked = IsAsked view.files view.changed;
   input = input;
 }
 

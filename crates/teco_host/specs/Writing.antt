@@ -5,6 +5,7 @@ use Rattle.std.specs.IoError.{error_kind}
 use Rattle.std.specs.declared.io.Error.{Error}
 use Rattle.std.specs.declared.io.ErrorKind.TheVariants.{AlreadyExists, OutOfMemory}
 use Rattle.teco_files.specs.Disk.{Changes, Files, Passes, Renames, Same, SameBut}
+use Rattle.teco_files.specs.declared.unkept.Unkept.{Unkept}
 use Rattle.teco_host.specs.Draft.{draft_beside}
 use Rattle.teco_host.specs.declared.output.Written.{Written}
 use Rattle.teco_host.specs.declared.output.Written.TheVariants.{Whole, Changed}
@@ -28,19 +29,25 @@ IsTaking draft file before now = Renames draft file before now ⊎ SameBut draft
 
 -- what holds if all of an output was written
 abbrev pub IfWhole : Result Written Error → Type 0 → Type 0
-IfWhole (Ok Whole) fact = fact
+IfWhole (Ok (Whole unkept)) fact = fact
 IfWhole (Ok Changed) fact = ⊤
 IfWhole (Err error) fact = ⊤
 
+-- what holds of what could not be kept, if all of an output was written
+abbrev pub IfWholeWith : Result Written Error → (Option Unkept → Type 0) → Type 0
+IfWholeWith (Ok (Whole unkept)) fact = fact unkept
+IfWholeWith (Ok Changed) fact = ⊤
+IfWholeWith (Err error) fact = ⊤
+
 -- what holds if nothing was written, since the file has changed
 abbrev pub IfChanged : Result Written Error → Type 0 → Type 0
-IfChanged (Ok Whole) fact = ⊤
+IfChanged (Ok (Whole unkept)) fact = ⊤
 IfChanged (Ok Changed) fact = fact
 IfChanged (Err error) fact = ⊤
 
 -- what holds if not all was written: the file has changed, or a call failed
 abbrev pub UnlessWhole : Result Written Error → Type 0 → Type 0
-UnlessWhole (Ok Whole) fact = ⊤
+UnlessWhole (Ok (Whole unkept)) fact = ⊤
 UnlessWhole (Ok Changed) fact = fact
 UnlessWhole (Err error) fact = fact
 

@@ -1,7 +1,7 @@
 //! Whether a file has the bytes that are to be written to it.
 ghost use Rattle.std.specs.Prelude.{◌≡◌, Some, true};
 ghost use Rattle.teco_files.specs.Disk.{Files};
-ghost use Rattle.teco_host.specs.Seen.{KeepsDisk, disk_seen, source_view};
+ghost use Rattle.teco_host.specs.Seen.{KeepsDisk, disk_seen};
 ghost use Rattle.teco_host.specs.Writing.{both};
 
 use teco_bytes::gives_just;
@@ -11,8 +11,7 @@ use teco_files::Disk;
 pub fn has_bytes<D: Disk>(name: &str, bytes: (&[u8], &[u8]), disk: &mut D) -> bool
     ensures same { result ≡ true → (before : Files) → D.files disk.old ≡ Some before
         → before name.now ≡ Some (both bytes.entry) }
-    ensures keeps { let seen = disk_seen D.files D.streams D.left D.gave D.changed
-        (source_view D.Input.coming D.Input.bound D.Input.failures D.Input.ended) in
+    ensures keeps { let seen = disk_seen D.Disk D.Input.Source in
         KeepsDisk (seen disk.old) (seen disk.new) }
 {
     match disk.reopen(name) {

@@ -5,14 +5,14 @@ ghost use Rattle.std.specs.declared.io.Error.{Error};
 ghost use Rattle.teco_host.specs.Draft.{draft_beside};
 ghost use Rattle.teco_files.specs.Disk.{Appends, Changes, Counts, Creates, Files, IsWhole, LeavesFiles, Passes, Removes, Renames, Replaces, Same, SameBut};
 ghost use Rattle.teco_host.specs.Seen.{IsAsked};
-ghost use Rattle.teco_host.specs.Writing.{AddsDrafts, HasChanged, HasDraft, IfChanged, IfWhole, IsPut, IsTaking, IsWriteError, IsWriting, UnlessWhole, Writes, both};
+ghost use Rattle.teco_host.specs.Writing.{AddsDrafts, HasChanged, HasDraft, IfChanged, IfWhole, IfWholeWith, IsPut, IsTaking, IsWriteError, IsWriting, UnlessWhole, Writes, both};
 
 use std::alloc::Global;
 use std::io;
 use std::io::ErrorKind;
 use std::path::Path;
 use teco_core::NoMemory;
-use teco_files::{Disk, Target};
+use teco_files::{Disk, Target, Unkept};
 
 /// How many names are tried for a draft.
 const DRAFTS: u32 = 100;
@@ -64,8 +64,8 @@ fn create<D: Disk>(disk: &mut D, name: &str, bytes: (&[u8], &[u8])) -> io::Resul
 /// What became of an output that was written, where no call failed.
 #[derive(Clone, Copy)]
 pub enum Written {
-    /// All of it is there.
-    Whole,
+    /// All of it is there, but this could not be kept of the file whose place it takes.
+    Whole(Option<Unkept>),
     /// Nothing was written over the file that was read, since it has changed.
     Changed,
 }
@@ -87,6 +87,7 @@ fn discard<D: Disk>(disk: &mut D, draft: &str)
 fn take_name<D: Disk>(disk: &mut D, draft: &str, file: &str) -> io::Result<Written>
     requires { draft.now ≢ file.now }
     ensures ok { IfWhole result (Changes (D.files disk.old) (D.files disk.new) (Renames draft.now file.now)) }
+    ensures unkept { IfWholeWith result (D.unkept disk.new) }
     ensures unchanged { IfChanged result ⊥ }
     ensures err { UnlessWhole result (Changes (D.files disk.old) (D.files disk.new) (SameBut draft.now)) }
     ensures removed { UnlessWhole result (Changes (D.files disk.old) (D.files disk.new) (Removes draft.now)
@@ -98,7 +99,7 @@ fn take_name<D: Disk>(disk: &mut D, draft: &str, file: &str) -> io::Result<Writt
     ensures error { IfErr result (D.gave disk.new) }
 {
     match disk.rename(draft, file) {
-        Ok(()) => Ok(Written::Whole),
+        Ok(unkept) => Ok(Written::Whole(unkept)),
         Err(error) => {
             discard(disk, draft);
             Err(error)
@@ -115,6 +116,7 @@ fn take_name_as_read<D: Disk>(
 ) -> io::Result<Written>
     requires { draft.now ≢ file.now }
     ensures ok { IfWhole result (Changes (D.files disk.old) (D.files disk.new) (Renames draft.now file.now)) }
+    ensures unkept { IfWholeWith result (D.unkept disk.new) }
     ensures asked { IfWhole result (IsAsked D.files D.changed read.now (D.files disk.old) Same) }
     ensures changed { IfChanged result (D.changed disk.new read.now) }
     ensures err { UnlessWhole result (Changes (D.files disk.old) (D.files disk.new) (SameBut draft.now)) }
@@ -154,6 +156,7 @@ pub fn replace<D: Disk>(
     requires { draft.now ≢ file.now }
     ensures ok { IfWhole result (Changes (D.files disk.old) (D.files disk.new)
         (Replaces file.now (both bytes.entry))) }
+    ensures unkept { IfWholeWith result (D.unkept disk.new) }
     ensures asked { IfWhole result (IfSome read.entry (λ read. IsAsked D.files D.changed read.now (D.files disk.old)
         (λ before now. now draft.now ≡ Some (both bytes.entry)))) }
     ensures changed { IfChanged result (HasChanged D.changed disk.new read.entry) }
@@ -199,6 +202,7 @@ fn replace_file<D: Disk>(
 ) -> io::Result<Written>
     ensures ok { IfWhole result (Changes (D.files disk.old) (D.files disk.new)
         (Writes file.now (both bytes.entry))) }
+    ensures unkept { IfWholeWith result (D.unkept disk.new) }
     ensures asked { IfWhole result (IfSome read.entry (λ read. IsAsked D.files D.changed read.now (D.files disk.old)
         (HasDraft file.now (both bytes.entry)))) }
     ensures changed { IfChanged result (HasChanged D.changed disk.new read.entry) }
@@ -228,6 +232,7 @@ fn append<D: Disk>(
 ) -> io::Result<Written>
     ensures ok { IfWhole result
         (Appends name.now (both bytes.entry) (D.streams disk.old) (D.streams disk.new)) }
+    ensures unkept { IfWholeWith result (D.unkept disk.new) }
     ensures asked { IfWhole result (IfSome read.entry (λ read. IsAsked D.files D.changed read.now (D.files disk.old) Same)) }
     ensures changed { IfChanged result (HasChanged D.changed disk.new read.entry) }
     ensures others { SameBut name.now (D.streams disk.old) (D.streams disk.new) }
@@ -243,7 +248,8 @@ fn append<D: Disk>(
         }
     }
     match disk.append(name, bytes) {
-        Ok(()) => Ok(Written::Whole),
+        // a stream keeps all that it is
+        Ok(()) => Ok(Written::Whole(None)),
         Err(error) => Err(error),
     }
 }
@@ -261,6 +267,7 @@ pub fn write_output<D: Disk>(
 ) -> io::Result<Written>
     ensures ok { IfWhole result (Changes (D.files disk.old) (D.files disk.new)
         (IsPut name.now (both output.entry) (D.streams disk.old name.now) (D.streams disk.new name.now))) }
+    ensures unkept { IfWholeWith result (D.unkept disk.new) }
     ensures asked { IfWhole result (IfSome read.entry (λ read. IsAsked D.files D.changed read.now (D.files disk.old)
         (λ before now. D.streams disk.old name.now ≡ None → HasDraft name.now (both output.entry) before now))) }
     ensures changed { IfChanged result (HasChanged D.changed disk.new read.entry) }

@@ -29,6 +29,8 @@ pub enum Reason {
     InUse,
     /// It is larger than it may be.
     TooLarge,
+    /// Who read it has left.
+    Unread,
     /// The system refused it for a reason that has no name here.
     Refused,
     /// A read failed of what was opened, which doesn't tell why.
@@ -52,6 +54,7 @@ pub fn reason_of(error: io::Error) -> Reason
         ErrorKind::InvalidFilename => Reason::LongName,
         ErrorKind::ResourceBusy => Reason::InUse,
         ErrorKind::FileTooLarge => Reason::TooLarge,
+        ErrorKind::BrokenPipe => Reason::Unread,
         _ => Reason::Refused,
     }
 }
@@ -72,6 +75,7 @@ impl Reason {
             Reason::LongName => "its name is too long",
             Reason::InUse => "it is in use",
             Reason::TooLarge => "it is too large",
+            Reason::Unread => "its reader has left",
             Reason::Refused => "the system refused it",
             Reason::ReadFailed => "a read failed",
             Reason::WriteFailed => "a write failed",

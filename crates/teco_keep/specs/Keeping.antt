@@ -1,10 +1,12 @@
 -- A run over a line: what it reads, makes of that, writes and tells.
-use Rattle.std.specs.Prelude.{◌≡◌, ◌⊎◌, ℕ, List, Option, Bool, true, false, Result, Ok, Err, codes}
+use Rattle.teco_bytes.specs.declared.source.Source.{Ghosts as SourceView}
+use Rattle.std.specs.Prelude.{◌≡◌, ◌⊎◌, ℕ, List, Option, None, Bool, true, false, Result, Ok, Err, codes}
 use Rattle.std.specs.String.{string_bytes}
 use Rattle.std.specs.declared.alloc.Global.{Global}
 use Rattle.std.specs.declared.io.Error.{Error}
 use Rattle.std.specs.declared.vec.Vec.{Vec}
 use Rattle.teco_core.specs.declared.limits.TheConstants.{FILE_LIMIT}
+use Rattle.teco_files.specs.declared.unkept.Unkept.{Unkept}
 use Rattle.teco_files.specs.Disk.{Changes, Files, Opens, Passes, SameBut}
 use Rattle.teco_bytes.specs.Input.{IsFaultOf}
 use Rattle.teco_bytes.specs.Source.{Gives}
@@ -15,7 +17,7 @@ use Rattle.teco_host.specs.Reasons.{reason_of}
 use Rattle.teco_host.specs.Refusing.{Tells}
 use Rattle.teco_host.specs.declared.reason.Reason.TheVariants.{WriteFailed}
 use Rattle.teco_host.specs.Reading.{IsInput, IsStreamed}
-use Rattle.teco_host.specs.Seen.{KeepsDisk, Host, KeepsStream, DiskSeen, SourceView}
+use Rattle.teco_host.specs.Seen.{KeepsDisk, Host, KeepsStream, DiskSeen}
 use Rattle.teco_host.specs.Writing.{WritesOutput, AddsDrafts, IsWriteError, IsWriting}
 use Rattle.teco_terminal.specs.Terminal.{IsFrontOf, Screen, Shows}
 use Rattle.teco_keep.specs.Ending.{IsFateOf, fate_without_input, is_told, said, spot_in, status_of, text_of}
@@ -84,6 +86,8 @@ pub record Output : Type 1 where
   pub writes : List ℕ → Type 0
   -- these bytes could not be written: why, by how the run ends
   pub fails : List ℕ → Fate → Type 0
+  -- this could not be kept of the file that was written over
+  pub unkept : Option Unkept → Type 0
 
 -- On standard output the bytes are shown, and no file changes; else the file of this name has them, and nothing
 -- is shown.
@@ -92,11 +96,13 @@ output_to true screen name before after old new = record {
   keeps = (new ≡ old) × KeepsDisk before after;
   writes = λ bytes. Shows (screen old) (screen new) bytes false × KeepsDisk before after;
   fails = λ bytes fate. FailsToPut (screen old) (screen new) bytes fate × KeepsDisk before after;
+  unkept = λ what. what ≡ None;
 }
 output_to false screen name before after old new = record {
   keeps = (new ≡ old) × KeepsDisk before after;
   writes = λ bytes. (new ≡ old) × WritesOutput before after name bytes;
   fails = λ bytes fate. (new ≡ old) × FailsToWrite before after name bytes fate;
+  unkept = after.unkept;
 }
 
 -- where the output of a line goes
@@ -104,10 +110,15 @@ abbrev pub output_of : {I T : Type 0} → (T → Screen) → Line → DiskSeen I
 output_of screen line before after old new =
     output_to (is_standard_output (string_bytes line.output)) screen (string_bytes line.output) before after old new
 
--- The bytes were written, or that failed.
-abbrev pub PutsOut : {A : Type 0} → Output → List ℕ → Result A Fate → Type 0
-PutsOut output bytes (Ok done) = output.writes bytes
+-- The bytes were written, and this could not be kept of a file that was written over; or that failed.
+abbrev pub PutsOut : Output → List ℕ → Result (Option Unkept) Fate → Type 0
+PutsOut output bytes (Ok unkept) = output.writes bytes × output.unkept unkept
 PutsOut output bytes (Err fate) = output.fails bytes fate
+
+-- how a run ends whose output is written, if a check found a fault or not
+abbrev pub fate_put : Bool → Option Unkept → Fate
+fate_put true unkept = Faulty unkept
+fate_put false unkept = Done unkept
 
 -- What was made was to be written, and that failed so.
 abbrev pub FailsWith : (Made → Type 0) → Output → Fate → Type 0
@@ -116,10 +127,11 @@ FailsWith is_made output fate =
 
 -- How a run ends over an input that was read, and what it has done then.
 abbrev pub MakesAndPuts : (Made → Type 0) → List ℕ → Output → Fate → Type 0
--- what was made is written whole
-MakesAndPuts is_made input output Done = (bytes : Vec ℕ Global) × is_made (made.Fine bytes) × output.writes bytes.items
-MakesAndPuts is_made input output Faulty =
-    (bytes : Vec ℕ Global) × is_made (made.Faulty bytes) × output.writes bytes.items
+-- what was made is written whole, and this could not be kept of a file that was written over
+MakesAndPuts is_made input output (Done unkept) =
+    (bytes : Vec ℕ Global) × is_made (made.Fine bytes) × output.writes bytes.items × output.unkept unkept
+MakesAndPuts is_made input output (Faulty unkept) =
+    (bytes : Vec ℕ Global) × is_made (made.Faulty bytes) × output.writes bytes.items × output.unkept unkept
 -- of a source that can't be read nothing is written
 MakesAndPuts is_made input output (Unreadable spot) =
     (at : ℕ) × is_made (made.Unreadable at) × (spot ≡ spot_in input at) × output.keeps

@@ -2,22 +2,23 @@
 ghost use Rattle.std.specs.Prelude.{◌≡◌};
 ghost use Rattle.std.specs.IoError.{error_kind};
 ghost use Rattle.teco_host.specs.Reasons.{reason_of};
-ghost use Rattle.teco_keep.specs.Ending.{IsFateOf, status_of};
+ghost use Rattle.teco_keep.specs.Ending.{IsFateOf, status_of, status_put};
 ghost use Rattle.teco_keep.specs.declared.fate.Fate.TheVariants.{NoInput, NoOutput};
 
 use std::io;
 use std::io::ErrorKind;
 use teco_bytes::InputFault;
+use teco_files::Unkept;
 use teco_host::{Reason, reason_of};
 use teco_telling::Spot;
 
 /// How a run ends, once its command line is read.
 #[derive(Clone, Copy)]
 pub enum Fate {
-    /// What was made is written.
-    Done,
+    /// What was made is written, but this could not be kept of the file whose place it takes.
+    Done(Option<Unkept>),
     /// So are the lines of a check that found a fault.
-    Faulty,
+    Faulty(Option<Unkept>),
     /// In the source a caret at this line and column cannot be read.
     Unreadable(Spot),
     /// The input cannot be read, for this reason.
@@ -68,13 +69,24 @@ pub fn no_output(error: io::Error) -> Fate
     fate_of(error, Fate::NoOutput(reason_of(error)))
 }
 
+/// The status of a run whose output is written: this one, or 1 if text is lost with what could not be kept.
+fn status_put(status: u8, unkept: Option<Unkept>) -> u8
+    ensures { result ≡ status_put status unkept }
+{
+    match unkept {
+        Some(unkept) if unkept.is_text() => 1,
+        _ => status,
+    }
+}
+
 /// The status: 2 where a fault was found or a source can't be read, 1 where anything failed, otherwise 0.
 pub fn status(fate: Fate) -> u8
     ensures { result ≡ status_of fate }
 {
     match fate {
-        Fate::Done => 0,
-        Fate::Faulty | Fate::Unreadable(_) => 2,
+        Fate::Done(unkept) => status_put(0, unkept),
+        Fate::Faulty(unkept) => status_put(2, unkept),
+        Fate::Unreadable(_) => 2,
         _ => 1,
     }
 }

@@ -2,7 +2,7 @@
 ghost use Rattle.std.specs.Prelude.{IfErr, IfOk};
 ghost use Rattle.teco_keep.specs.Keeping.{FailsToStream, LacksInput};
 ghost use Rattle.teco_host.specs.Reading.{IsInput, IsStreamed};
-ghost use Rattle.teco_host.specs.Seen.{KeepsDisk, disk_seen, source_view};
+ghost use Rattle.teco_host.specs.Seen.{KeepsDisk, disk_seen};
 
 use crate::fate::{Fate, no_input};
 use std::alloc::Global;
@@ -13,11 +13,9 @@ use teco_files::Disk;
 /// Reads a file whole.
 pub fn input_of_file<D: Disk>(alloc: Global, name: &str, disk: &mut D) -> Result<Vec<u8>, Fate>
     ensures input { IfOk result (λ input. IsInput (D.files disk.old) name.now input.items) }
-    ensures fault { let seen = disk_seen D.files D.streams D.left D.gave D.changed
-        (source_view D.Input.coming D.Input.bound D.Input.failures D.Input.ended) in
+    ensures fault { let seen = disk_seen D.Disk D.Input.Source in
         IfErr result (LacksInput (seen disk.old) (seen disk.new) name.now) }
-    ensures keeps { let seen = disk_seen D.files D.streams D.left D.gave D.changed
-        (source_view D.Input.coming D.Input.bound D.Input.failures D.Input.ended) in
+    ensures keeps { let seen = disk_seen D.Disk D.Input.Source in
         KeepsDisk (seen disk.old) (seen disk.new) }
 {
     match disk.open(name) {
@@ -28,9 +26,9 @@ pub fn input_of_file<D: Disk>(alloc: Global, name: &str, disk: &mut D) -> Result
 
 /// Reads standard input to its end.
 pub fn input_of_stream<S: Source>(alloc: Global, stream: &mut S) -> Result<Vec<u8>, Fate>
-    ensures input { IfOk result (λ input. IsStreamed (source_view S.coming S.bound S.failures S.ended)
+    ensures input { IfOk result (λ input. IsStreamed S.Source
         stream.old stream.new input.items) }
-    ensures fault { IfErr result (FailsToStream (source_view S.coming S.bound S.failures S.ended)
+    ensures fault { IfErr result (FailsToStream S.Source
         stream.old stream.new) }
 {
     read_input(alloc, stream, FILE_LIMIT).map_err(Fate::from)

@@ -3,12 +3,12 @@ ghost use Rattle.std.specs.Prelude.{◌≡◌, IfErr, IfOk, codes, false};
 ghost use Rattle.std.specs.Process.{exit_status};
 ghost use Rattle.teco_keep.specs.CommandLine.{SayNoLineIn, SayLineIn};
 ghost use Rattle.teco_keep.specs.Ending.{said};
-ghost use Rattle.teco_keep.specs.Keeping.{Concludes, Keeps, MakesAndPuts, PutsOut, ReadsInput, RunsOver, output_of, view_of};
+ghost use Rattle.teco_keep.specs.Keeping.{Concludes, Keeps, MakesAndPuts, PutsOut, ReadsInput, RunsOver, fate_put, output_of, view_of};
 ghost use Rattle.teco_keep.specs.Made.{IsMade};
 ghost use Rattle.teco_option.specs.StreamNames.{is_standard_input};
 ghost use Rattle.teco_keep.specs.Program.{KeepsBy};
 ghost use Rattle.teco_host.specs.Refusing.{Tells};
-ghost use Rattle.teco_host.specs.Seen.{KeepsDisk, host, disk_seen, source_view};
+ghost use Rattle.teco_host.specs.Seen.{KeepsDisk, host, disk_seen};
 
 use crate::fate::{Fate, no_output, status};
 use crate::line::Line;
@@ -20,7 +20,7 @@ use std::alloc::Global;
 use std::process::ExitCode;
 use teco_bytes::Source;
 use teco_core::NoMemory;
-use teco_files::Disk;
+use teco_files::{Disk, Unkept};
 use teco_host::{Reason, Written, refuse, write_output};
 use teco_option::{LineFault, is_standard_input, is_standard_output};
 use teco_terminal::{Terminal, TerminalFault};
@@ -35,12 +35,10 @@ fn input_of<S: Source, D: Disk>(
     stream: &mut S,
     disk: &mut D,
 ) -> Result<Vec<u8>, Fate>
-    ensures reads { let seen = disk_seen D.files D.streams D.left D.gave D.changed
-        (source_view D.Input.coming D.Input.bound D.Input.failures D.Input.ended) in
-        ReadsInput (is_standard_input name.now) (source_view S.coming S.bound S.failures S.ended) name.now
+    ensures reads { let seen = disk_seen D.Disk D.Input.Source in
+        ReadsInput (is_standard_input name.now) S.Source name.now
         (seen disk.old) (seen disk.new) stream.old stream.new result }
-    ensures keeps { let seen = disk_seen D.files D.streams D.left D.gave D.changed
-        (source_view D.Input.coming D.Input.bound D.Input.failures D.Input.ended) in
+    ensures keeps { let seen = disk_seen D.Disk D.Input.Source in
         KeepsDisk (seen disk.old) (seen disk.new) }
     ensures still { is_standard_input name.now ≡ false → stream.new ≡ stream.old }
 {
@@ -51,7 +49,7 @@ fn input_of<S: Source, D: Disk>(
 }
 
 /// Writes what was made to where the line says: to standard output, or to a file, which has the bytes whole at each moment or is as it
-/// was. Says how that ended, if it failed.
+/// was. Says what could not be kept of a file that was written over, or how that ended, if it failed.
 fn put<T: Terminal, D: Disk>(
     alloc: Global,
     line: &Line,
@@ -59,24 +57,33 @@ fn put<T: Terminal, D: Disk>(
     bytes: &[u8],
     term: &mut T,
     disk: &mut D,
-) -> Result<(), Fate>
-    ensures { let seen = disk_seen D.files D.streams D.left D.gave D.changed
-        (source_view D.Input.coming D.Input.bound D.Input.failures D.Input.ended) in
+) -> Result<Option<Unkept>, Fate>
+    ensures { let seen = disk_seen D.Disk D.Input.Source in
         PutsOut (output_of T.screen line.now (seen disk.old) (seen disk.new) term.old term.new) bytes.now result }
 {
     let name = line.output.as_str();
     if is_standard_output(name) {
         return match term.put(bytes) {
-            Ok(()) => Ok(()),
+            Ok(()) => Ok(None),
             Err(TerminalFault) => Err(Fate::NoOutput(Reason::WriteFailed)),
         };
     }
     match write_output(alloc, disk, name, number, None, (bytes, &[])) {
-        Ok(Written::Whole) => Ok(()),
+        Ok(Written::Whole(unkept)) => Ok(unkept),
         // no file is named that was read, so none has changed
         Ok(Written::Changed) => unreachable!(),
         Err(error) => Err(no_output(error)),
     }
+}
+
+/// How the run ends whose output is written, if a check found a fault or not, and if this could not be kept.
+fn fate_put(is_faulty: bool, unkept: Option<Unkept>) -> Fate
+    ensures { result ≡ fate_put is_faulty unkept }
+{
+    if is_faulty {
+        return Fate::Faulty(unkept);
+    }
+    Fate::Done(unkept)
 }
 
 /// Makes of the input what the line says, and writes it.
@@ -88,19 +95,18 @@ fn make_and_put<T: Terminal, D: Disk>(
     term: &mut T,
     disk: &mut D,
 ) -> Fate
-    ensures { let seen = disk_seen D.files D.streams D.left D.gave D.changed
-        (source_view D.Input.coming D.Input.bound D.Input.failures D.Input.ended) in
+    ensures { let seen = disk_seen D.Disk D.Input.Source in
         MakesAndPuts (IsMade line.now.mode input.now) input.now
         (output_of T.screen line.now (seen disk.old) (seen disk.new) term.old term.new) result }
 {
-    let (bytes, wanted) = match make(alloc, line, input) {
-        Ok(Made::Fine(bytes)) => (bytes, Fate::Done),
-        Ok(Made::Faulty(bytes)) => (bytes, Fate::Faulty),
+    let (bytes, is_faulty) = match make(alloc, line, input) {
+        Ok(Made::Fine(bytes)) => (bytes, false),
+        Ok(Made::Faulty(bytes)) => (bytes, true),
         Ok(Made::Unreadable(at)) => return Fate::Unreadable(spot_in(input, at)),
         Err(NoMemory) => return Fate::NoMemory,
     };
     match put(alloc, line, number, &bytes, term, disk) {
-        Ok(()) => wanted,
+        Ok(unkept) => fate_put(is_faulty, unkept),
         Err(failed) => failed,
     }
 }
@@ -114,9 +120,8 @@ fn run_over<S: Source, T: Terminal, D: Disk>(
     term: &mut T,
     disk: &mut D,
 ) -> Fate
-    ensures { let view = view_of (disk_seen D.files D.streams D.left D.gave D.changed
-        (source_view D.Input.coming D.Input.bound D.Input.failures D.Input.ended))
-        (source_view S.coming S.bound S.failures S.ended) T.screen in
+    ensures { let view = view_of (disk_seen D.Disk D.Input.Source)
+        S.Source T.screen in
         RunsOver view line.now (host disk.old stream.old term.old) (host disk.new stream.new term.new) result }
 {
     match input_of(alloc, line.input.as_str(), stream, disk) {
@@ -156,9 +161,8 @@ pub fn keep<S: Source, T: Terminal, E: Terminal, D: Disk>(
     errors: &mut E,
     disk: &mut D,
 ) -> u8
-    ensures { let view = view_of (disk_seen D.files D.streams D.left D.gave D.changed
-        (source_view D.Input.coming D.Input.bound D.Input.failures D.Input.ended))
-        (source_view S.coming S.bound S.failures S.ended) T.screen in
+    ensures { let view = view_of (disk_seen D.Disk D.Input.Source)
+        S.Source T.screen in
         Keeps view E.screen line.now (host disk.old stream.old term.old) (host disk.new stream.new term.new)
         errors.old errors.new result }
 {
@@ -186,9 +190,8 @@ pub fn program<S: Source, T: Terminal, E: Terminal, D: Disk>(
     errors: &mut E,
     disk: &mut D,
 ) -> ExitCode
-    ensures { let view = view_of (disk_seen D.files D.streams D.left D.gave D.changed
-        (source_view D.Input.coming D.Input.bound D.Input.failures D.Input.ended))
-        (source_view S.coming S.bound S.failures S.ended) T.screen in
+    ensures { let view = view_of (disk_seen D.Disk D.Input.Source)
+        S.Source T.screen in
         KeepsBy view E.screen words (host disk.old stream.old term.old) (host disk.new stream.new term.new)
         errors.old errors.new (exit_status result) }
 {

@@ -1,13 +1,14 @@
 //! What is told of how a run ends.
-ghost use Rattle.std.specs.Prelude.{◌≡◌, ◌++◌, true, IfOk, OnErr};
+ghost use Rattle.std.specs.Prelude.{◌≡◌, ◌++◌, true, is_some, IfOk, OnErr};
 ghost use Rattle.std.specs.String.{string_bytes};
 ghost use Rattle.teco_host.specs.Reasons.{with_reason};
-ghost use Rattle.teco_keep.specs.Ending.{is_told, said, spot_in, text_of, unreadable};
+ghost use Rattle.teco_keep.specs.Ending.{is_told, kept_text, said, spot_in, text_of, unreadable};
 
 use crate::fate::Fate;
 use crate::line::Line;
 use std::alloc::Global;
 use teco_core::NoMemory;
+use teco_files::Unkept;
 use teco_host::Reason;
 use teco_telling::{Spot, spot_of};
 
@@ -40,6 +41,17 @@ fn unreadable(alloc: Global, input: &str, spot: Spot) -> Result<String, NoMemory
     format!(in alloc; "{input}:{spot}: a caret before what it cannot stand before\n")
 }
 
+/// What is told of an output that is written: what could not be kept, or nothing.
+fn kept_text(alloc: Global, line: &Line, unkept: Option<Unkept>) -> Result<String, NoMemory>
+    ensures ok { IfOk result (λ text. string_bytes text ≡ kept_text line.now unkept) }
+    ensures err { OnErr result (is_some unkept ≡ true) }
+{
+    match unkept {
+        Some(unkept) => said_of(alloc, line.output.as_str(), ": ", unkept.words()),
+        None => Ok(String::new(alloc)),
+    }
+}
+
 /// What is told: a line, or nothing.
 pub fn text_of(alloc: Global, line: &Line, fate: Fate) -> Result<String, NoMemory>
     ensures ok { IfOk result (λ text. string_bytes text ≡ text_of line.now fate) }
@@ -47,7 +59,8 @@ pub fn text_of(alloc: Global, line: &Line, fate: Fate) -> Result<String, NoMemor
 {
     let input = line.input.as_str();
     match fate {
-        Fate::Done | Fate::Faulty => Ok(String::new(alloc)),
+        Fate::Done(unkept) => kept_text(alloc, line, unkept),
+        Fate::Faulty(unkept) => kept_text(alloc, line, unkept),
         Fate::Unreadable(spot) => unreadable(alloc, input, spot),
         Fate::NoInput(reason) => said_why(alloc, "cannot read ", input, reason),
         Fate::LargeInput => said_of(alloc, "", input, " is too large"),

@@ -1,4 +1,5 @@
 -- The runs of the program: over one input by commands as they come, or over each input by commands that are had at once.
+use Rattle.teco_bytes.specs.declared.source.Source.{Ghosts as SourceView}
 use Rattle.std.specs.Prelude.{◌≡◌, ◌⊎◌, ℕ, List, [], ◌∷◌, map, Result, Bool, true, false}
 use Rattle.std.specs.String.{string_bytes}
 use Rattle.std.specs.declared.string.String.{String}
@@ -11,7 +12,7 @@ use Rattle.teco_program.specs.Checks.{AreRejected, MayRun, TellsVerdict}
 use Rattle.teco_program.specs.Lines.{IsLineIn, Refuses, worst}
 use Rattle.teco_edit.specs.Run.{Concludes}
 use Rattle.teco_edit.specs.Given.{EditsBy, EditsByBytes, EditsGiven, HostView, IsIdle, is_streamed}
-use Rattle.teco_host.specs.Seen.{DiskSeen, Host, KeepsDisk, SourceView}
+use Rattle.teco_host.specs.Seen.{DiskSeen, Host, KeepsDisk}
 use Rattle.teco_serve.specs.declared.fate.Fate.{Fate}
 use Rattle.teco_edit.specs.declared.sources.CommandsFault.{CommandsFault}
 use Rattle.teco_edit.specs.Sources.{Declines, IsGivenBy, LacksCommands}

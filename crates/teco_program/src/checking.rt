@@ -5,7 +5,7 @@ ghost use Rattle.teco_program.specs.Checks.{TellsVerdict, status_of_check};
 ghost use Rattle.teco_serve.specs.Ending.{said};
 ghost use Rattle.teco_host.specs.Refusing.{Tells};
 ghost use Rattle.teco_program.specs.Runs.{ChecksLine};
-ghost use Rattle.teco_host.specs.Seen.{disk_seen, host, source_view};
+ghost use Rattle.teco_host.specs.Seen.{disk_seen, host};
 
 use crate::verdict::verdict_on;
 use std::alloc::Global;
@@ -62,9 +62,8 @@ pub fn check_line<S: Source, T: Terminal, E: Terminal, D: Disk>(
 ) -> u8
     requires asked { line.now.check ≡ true }
     requires given { are_awaited line.now.commands ≡ false }
-    ensures { let seen = disk_seen D.files D.streams D.left D.gave D.changed
-        (source_view D.Input.coming D.Input.bound D.Input.failures D.Input.ended) in
-        ChecksLine seen (source_view S.coming S.bound S.failures S.ended) T.screen E.screen line.now
+    ensures { let seen = disk_seen D.Disk D.Input.Source in
+        ChecksLine seen S.Source T.screen E.screen line.now
         (host disk.old commands.old term.old) (host disk.new commands.new term.new) errors.old errors.new result }
 {
     let mut parts = Parts::kept(alloc);

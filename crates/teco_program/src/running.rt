@@ -48,9 +48,8 @@ fn run_over<S: Source, A: Alarm, T: Terminal, E: Terminal, N: Terminal, D: Disk>
 ) -> u8
     requires depth { IfSome line.now.undo IsDepth }
     requires fits { has_conflict line.now ≡ false }
-    ensures runs { let view = host_view (disk_seen D.files D.streams D.left D.gave D.changed
-        (source_view D.Input.coming D.Input.bound D.Input.failures D.Input.ended))
-        (source_view S.coming S.bound S.failures S.ended) T.screen
+    ensures runs { let view = host_view (disk_seen D.Disk D.Input.Source)
+        S.Source T.screen
         (source_view ⟦<WordSource as Source>⟧.coming ⟦<WordSource as Source>⟧.bound
         ⟦<WordSource as Source>⟧.failures ⟦<WordSource as Source>⟧.ended) (HasRung A.answered) in
         RunsOrChecks view E.screen line.now (host disk.old commands.old term.old) (host disk.new commands.new term.new)
@@ -94,9 +93,8 @@ pub fn program<S: Source, A: Alarm, T: Terminal, E: Terminal, N: Terminal, D: Di
     notes: &mut N,
     disk: &mut D,
 ) -> ExitCode
-    ensures run { let view = host_view (disk_seen D.files D.streams D.left D.gave D.changed
-        (source_view D.Input.coming D.Input.bound D.Input.failures D.Input.ended))
-        (source_view S.coming S.bound S.failures S.ended) T.screen
+    ensures run { let view = host_view (disk_seen D.Disk D.Input.Source)
+        S.Source T.screen
         (source_view ⟦<WordSource as Source>⟧.coming ⟦<WordSource as Source>⟧.bound
         ⟦<WordSource as Source>⟧.failures ⟦<WordSource as Source>⟧.ended) (HasRung A.answered) in
         Runs view E.screen words (host disk.old commands.old term.old) (host disk.new commands.new term.new)

@@ -47,9 +47,8 @@ pub fn edit_told<S: Source, A: Alarm, T: Terminal, E: Terminal, N: Terminal, D: 
 ) -> u8
     requires depth { IfSome line.now.undo IsDepth }
     requires come { is_streamed line.now ≡ true → has_conflict line.now ≡ false }
-    ensures link { let view = host_view (disk_seen D.files D.streams D.left D.gave D.changed
-        (source_view D.Input.coming D.Input.bound D.Input.failures D.Input.ended))
-        (source_view S.coming S.bound S.failures S.ended) T.screen
+    ensures link { let view = host_view (disk_seen D.Disk D.Input.Source)
+        S.Source T.screen
         (source_view ⟦<WordSource as Source>⟧.coming ⟦<WordSource as Source>⟧.bound
         ⟦<WordSource as Source>⟧.failures ⟦<WordSource as Source>⟧.ended) (HasRung A.answered) in
         LinkGiven (is_streamed line.now) view E.screen line.now bytes.now name.now (host disk.old commands.old term.old, errors.old)
@@ -103,9 +102,8 @@ fn edit_each<S: Source, A: Alarm, T: Terminal, E: Terminal, N: Terminal, D: Disk
 ) -> u8
     requires whole { is_streamed line.now ≡ false }
     requires depth { IfSome line.now.undo IsDepth }
-    ensures runs { let view = host_view (disk_seen D.files D.streams D.left D.gave D.changed
-        (source_view D.Input.coming D.Input.bound D.Input.failures D.Input.ended))
-        (source_view S.coming S.bound S.failures S.ended) T.screen
+    ensures runs { let view = host_view (disk_seen D.Disk D.Input.Source)
+        S.Source T.screen
         (source_view ⟦<WordSource as Source>⟧.coming ⟦<WordSource as Source>⟧.bound
         ⟦<WordSource as Source>⟧.failures ⟦<WordSource as Source>⟧.ended) (HasRung A.answered) in
         RunsInOrder view E.screen line.now bytes.now (inputs_of line.now)
@@ -144,9 +142,8 @@ fn edit_looked_at<S: Source, A: Alarm, T: Terminal, E: Terminal, N: Terminal, D:
 ) -> u8
     requires whole { is_streamed line.now ≡ false }
     requires depth { IfSome line.now.undo IsDepth }
-    ensures runs { let view = host_view (disk_seen D.files D.streams D.left D.gave D.changed
-        (source_view D.Input.coming D.Input.bound D.Input.failures D.Input.ended))
-        (source_view S.coming S.bound S.failures S.ended) T.screen
+    ensures runs { let view = host_view (disk_seen D.Disk D.Input.Source)
+        S.Source T.screen
         (source_view ⟦<WordSource as Source>⟧.coming ⟦<WordSource as Source>⟧.bound
         ⟦<WordSource as Source>⟧.failures ⟦<WordSource as Source>⟧.ended) (HasRung A.answered) in
         RunsIfSpelt view E.screen line.now bytes.now (host disk.old commands.old term.old, errors.old)
@@ -176,9 +173,8 @@ pub fn edit_all<S: Source, A: Alarm, T: Terminal, E: Terminal, N: Terminal, D: D
     requires whole { is_streamed line.now ≡ false }
     requires depth { IfSome line.now.undo IsDepth }
     requires given { are_awaited line.now.commands ≡ false }
-    ensures runs { let view = host_view (disk_seen D.files D.streams D.left D.gave D.changed
-        (source_view D.Input.coming D.Input.bound D.Input.failures D.Input.ended))
-        (source_view S.coming S.bound S.failures S.ended) T.screen
+    ensures runs { let view = host_view (disk_seen D.Disk D.Input.Source)
+        S.Source T.screen
         (source_view ⟦<WordSource as Source>⟧.coming ⟦<WordSource as Source>⟧.bound
         ⟦<WordSource as Source>⟧.failures ⟦<WordSource as Source>⟧.ended) (HasRung A.answered) in
         RunsOverAll view E.screen line.now (host disk.old commands.old term.old) (host disk.new commands.new term.new)

@@ -2,7 +2,7 @@
 ghost use Rattle.std.specs.Prelude.{◌≡◌, ◌≤◌, IfErr, IfOk, vec_len, map};
 ghost use Rattle.teco_core.specs.declared.limits.TheConstants.{FILE_LIMIT};
 ghost use Rattle.teco_host.specs.Reading.{IsInput};
-ghost use Rattle.teco_host.specs.Seen.{KeepsDisk, disk_seen, source_view};
+ghost use Rattle.teco_host.specs.Seen.{KeepsDisk, disk_seen};
 ghost use Rattle.teco_retrace.specs.Reading.{IsFaultOfError, IsNotRead};
 ghost use Rattle.teco_retrace.specs.Spelling.{escaped};
 
@@ -53,11 +53,9 @@ fn fault_of(error: io::Error) -> FileFault
 pub fn read_file<D: Disk>(alloc: Global, name: &str, disk: &mut D) -> Result<Vec<u8>, FileFault>
     ensures bytes { IfOk result (λ bytes. IsInput (D.files disk.old) name.now bytes.items) }
     ensures most { IfOk result (λ bytes. vec_len bytes ≤ FILE_LIMIT) }
-    ensures fault { let seen = disk_seen D.files D.streams D.left D.gave D.changed
-        (source_view D.Input.coming D.Input.bound D.Input.failures D.Input.ended) in
+    ensures fault { let seen = disk_seen D.Disk D.Input.Source in
         IfErr result (IsNotRead (D.files disk.old) (seen disk.new) name.now) }
-    ensures keeps { let seen = disk_seen D.files D.streams D.left D.gave D.changed
-        (source_view D.Input.coming D.Input.bound D.Input.failures D.Input.ended) in
+    ensures keeps { let seen = disk_seen D.Disk D.Input.Source in
         KeepsDisk (seen disk.old) (seen disk.new) }
 {
     let mut source = match disk.open(name) {

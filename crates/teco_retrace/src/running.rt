@@ -2,7 +2,7 @@
 ghost use Rattle.std.specs.Prelude.{◌≡◌, ◌≤◌, IfErr, IfOk, vec_len};
 ghost use Rattle.std.specs.Process.{exit_status};
 ghost use Rattle.teco_core.specs.declared.limits.TheConstants.{FILE_LIMIT};
-ghost use Rattle.teco_host.specs.Seen.{KeepsDisk, host, disk_seen, source_view};
+ghost use Rattle.teco_host.specs.Seen.{KeepsDisk, host, disk_seen};
 ghost use Rattle.teco_retrace.specs.CommandLine.{WordsGivenSay, WordsGivenSayNone};
 ghost use Rattle.teco_retrace.specs.Program.{HasNoFiles, RetracesBy, ServesFiles, retrace_view};
 ghost use Rattle.teco_retrace.specs.Reading.{IsInputOf, IsTextOf, CannotRead};
@@ -25,11 +25,9 @@ use teco_walk::Walk;
 /// The command string of the line.
 fn text_of<D: Disk>(alloc: Global, line: &Line, disk: &mut D) -> Result<Vec<u8>, Ending>
     ensures text { IfOk result (λ text. IsTextOf (D.files disk.old) line.now text.items) }
-    ensures lacks { let seen = disk_seen D.files D.streams D.left D.gave D.changed
-        (source_view D.Input.coming D.Input.bound D.Input.failures D.Input.ended) in
+    ensures lacks { let seen = disk_seen D.Disk D.Input.Source in
         IfErr result (CannotRead (D.files disk.old) (seen disk.new) line.now) }
-    ensures keeps { let seen = disk_seen D.files D.streams D.left D.gave D.changed
-        (source_view D.Input.coming D.Input.bound D.Input.failures D.Input.ended) in
+    ensures keeps { let seen = disk_seen D.Disk D.Input.Source in
         KeepsDisk (seen disk.old) (seen disk.new) }
 {
     match read_file(alloc, line.text.as_str(), disk) {
@@ -47,11 +45,9 @@ fn text_of<D: Disk>(alloc: Global, line: &Line, disk: &mut D) -> Result<Vec<u8>,
 fn input_of<D: Disk>(alloc: Global, line: &Line, disk: &mut D) -> Result<Vec<u8>, Ending>
     ensures input { IfOk result (λ input. IsInputOf (D.files disk.old) line.now.input input.items) }
     ensures most { IfOk result (λ input. vec_len input ≤ FILE_LIMIT) }
-    ensures lacks { let seen = disk_seen D.files D.streams D.left D.gave D.changed
-        (source_view D.Input.coming D.Input.bound D.Input.failures D.Input.ended) in
+    ensures lacks { let seen = disk_seen D.Disk D.Input.Source in
         IfErr result (CannotRead (D.files disk.old) (seen disk.new) line.now) }
-    ensures keeps { let seen = disk_seen D.files D.streams D.left D.gave D.changed
-        (source_view D.Input.coming D.Input.bound D.Input.failures D.Input.ended) in
+    ensures keeps { let seen = disk_seen D.Disk D.Input.Source in
         KeepsDisk (seen disk.old) (seen disk.new) }
 {
     match &line.input {
@@ -71,14 +67,11 @@ fn retrace<C: BufRead, T: Terminal, D: Disk>(
     term: &mut T,
     disk: &mut D,
 ) -> Result<Ending, Ending>
-    ensures serves { let view = retrace_view (disk_seen D.files D.streams D.left D.gave D.changed
-        (source_view D.Input.coming D.Input.bound D.Input.failures D.Input.ended)) C.remaining T.screen in
+    ensures serves { let view = retrace_view (disk_seen D.Disk D.Input.Source) C.remaining T.screen in
         IfOk result (ServesFiles view line.now (host disk.old commands.old term.old) (host disk.new commands.new term.new)) }
-    ensures lacks { let view = retrace_view (disk_seen D.files D.streams D.left D.gave D.changed
-        (source_view D.Input.coming D.Input.bound D.Input.failures D.Input.ended)) C.remaining T.screen in
+    ensures lacks { let view = retrace_view (disk_seen D.Disk D.Input.Source) C.remaining T.screen in
         IfErr result (HasNoFiles view line.now (host disk.old commands.old term.old) (host disk.new commands.new term.new)) }
-    ensures keeps { let seen = disk_seen D.files D.streams D.left D.gave D.changed
-        (source_view D.Input.coming D.Input.bound D.Input.failures D.Input.ended) in
+    ensures keeps { let seen = disk_seen D.Disk D.Input.Source in
         KeepsDisk (seen disk.old) (seen disk.new) }
 {
     let text = text_of(alloc, line, disk)?;
@@ -106,8 +99,7 @@ pub fn program<C: BufRead, T: Terminal, E: Terminal, D: Disk>(
     errors: &mut E,
     disk: &mut D,
 ) -> ExitCode
-    ensures { let view = retrace_view (disk_seen D.files D.streams D.left D.gave D.changed
-        (source_view D.Input.coming D.Input.bound D.Input.failures D.Input.ended)) C.remaining T.screen in
+    ensures { let view = retrace_view (disk_seen D.Disk D.Input.Source) C.remaining T.screen in
         RetracesBy view E.screen words (host disk.old commands.old term.old) (host disk.new commands.new term.new)
         errors.old errors.new (exit_status result) }
 {

@@ -3,6 +3,7 @@ use Rattle.std.specs.Prelude.{ℕ, List, [], ◌∷◌, ◌++◌, Some, None, co
 use Rattle.std.specs.String.{string_bytes}
 use Rattle.teco_bytes.specs.declared.input.InputFault.{InputFault}
 use Rattle.teco_bytes.specs.declared.input.InputFault.TheVariants as input
+use Rattle.teco_files.specs.Unkept.{is_text, unkept_words}
 use Rattle.teco_host.specs.Reasons.{with_reason}
 use Rattle.teco_host.specs.declared.reason.Reason.TheVariants.{ReadFailed}
 use Rattle.teco_line.specs.Conflict.{has_more}
@@ -12,7 +13,7 @@ use Rattle.teco_line.specs.declared.line.Commands.TheVariants.{StandardInput, So
 use Rattle.teco_line.specs.declared.line.Line.{Line}
 use Rattle.teco_serve.specs.declared.fate.Fate.{Fate}
 use Rattle.teco_serve.specs.declared.fate.Fate.TheVariants.{NoCommands, NoInput, NotRegular, LargeInput, NoMemory, NoOutput}
-use Rattle.teco_serve.specs.declared.fate.Fate.TheVariants.{Changed, Unchanged}
+use Rattle.teco_serve.specs.declared.fate.Fate.TheVariants.{Changed, Unchanged, Lacking}
 use Rattle.teco_serve.specs.declared.fate.Fate.TheVariants.{Ended}
 use Rattle.teco_serve.specs.declared.served.Served.TheVariants as served
 
@@ -59,6 +60,7 @@ status_of NoMemory = 1
 status_of (NoOutput reason) = 1
 status_of Changed = 1
 status_of Unchanged = 0
+status_of (Lacking unkept) = if is_text unkept then 1 else 0
 status_of (Ended served.Exit) = 0
 status_of (Ended served.EndOfCommands) = 2
 status_of (Ended served.ReadFault) = 1
@@ -79,6 +81,7 @@ text_of line input NoMemory = said (about line input (codes "no memory"))
 text_of line input (NoOutput reason) = said (with_reason (codes "cannot write ") (output_of line input) reason)
 text_of line input Changed = said (input ++ codes " has changed")
 text_of line input Unchanged = []
+text_of line input (Lacking unkept) = said (output_of line input ++ codes ": " ++ unkept_words unkept)
 text_of line input (Ended served.Exit) = []
 text_of line input (Ended served.EndOfCommands) = []
 text_of line input (Ended served.ReadFault) = said (about line input (codes "cannot read commands"))

@@ -13,7 +13,7 @@ use Rattle.teco_exec.specs.declared.place.Place.{Place}
 use Rattle.teco_line.specs.declared.line.Line.{Line}
 use Rattle.teco_host.specs.Refusing.{Tells}
 use Rattle.teco_serve.specs.declared.fate.Fate.{Fate}
-use Rattle.teco_serve.specs.declared.fate.Fate.TheVariants.{NoCommands, NoInput, NotRegular, LargeInput, NoMemory, NoOutput, Changed, Unchanged}
+use Rattle.teco_serve.specs.declared.fate.Fate.TheVariants.{NoCommands, NoInput, NotRegular, LargeInput, NoMemory, NoOutput, Changed, Unchanged, Lacking}
 use Rattle.teco_serve.specs.declared.fate.Fate.TheVariants.{Ended}
 use Rattle.teco_serve.specs.declared.explaining.Telling.{Telling}
 use Rattle.teco_serve.specs.declared.served.Served.TheVariants as served
@@ -149,6 +149,7 @@ end_line output LargeInput = unwritten_line output
 end_line output NoMemory = unwritten_line output
 end_line output Changed = unwritten_line output
 end_line output Unchanged = output ++ codes " is unchanged" ++ 10 ∷ []
+end_line output (Lacking unkept) = output ++ codes " is written" ++ 10 ∷ []
 end_line output (Ended served.Exit) = output ++ codes " is written" ++ 10 ∷ []
 end_line output (Ended served.EndOfCommands) = codes "the commands ended without EX: " ++ unwritten_line output
 end_line output (Ended served.ReadFault) = unwritten_line output

@@ -270,6 +270,7 @@ fn line_by_name(alloc: Global, output: &str, fate: Fate) -> Result<String, NoMem
     match fate {
         Fate::NoCommands(_) => Ok(String::new(alloc)),
         Fate::Unchanged => line_about(alloc, "", output, " is unchanged"),
+        Fate::Lacking(_) => line_about(alloc, "", output, " is written"),
         Fate::Ended(Served::Exit) => line_about(alloc, "", output, " is written"),
         Fate::Ended(Served::EndOfCommands) => line_about(
             alloc,

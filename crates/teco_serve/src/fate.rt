@@ -1,5 +1,5 @@
 //! How the program ends.
-ghost use Rattle.std.specs.Prelude.{◌≡◌, ◌++◌, codes, IfOk, OnErr};
+ghost use Rattle.std.specs.Prelude.{◌≡◌, ◌≢◌, ◌++◌, [], codes, IfOk, OnErr};
 ghost use Rattle.std.specs.String.{string_bytes};
 ghost use Rattle.teco_host.specs.Reasons.{with_reason};
 ghost use Rattle.teco_serve.specs.Ending.{about, commands_name, output_beside, output_by, output_of, said, status_of, text_of};
@@ -8,6 +8,7 @@ use crate::served::Served;
 use std::alloc::Global;
 use teco_bytes::InputFault;
 use teco_core::NoMemory;
+use teco_files::Unkept;
 use teco_host::Reason;
 use teco_line::{Commands, Line};
 use teco_option::is_standard_input;
@@ -31,6 +32,8 @@ pub enum Fate {
     Changed,
     /// The output was to be written over the file that was read, and that has it already.
     Unchanged,
+    /// The output is written, but this could not be kept of the file whose place it takes.
+    Lacking(Unkept),
     /// The serving ended; after [`Served::Exit`] the output is written.
     Ended(Served),
 }
@@ -49,11 +52,13 @@ impl From<InputFault> for Fate {
     }
 }
 
-fn status(fate: Fate) -> u8
+/// The status of a run that ends so.
+pub fn status_of(fate: Fate) -> u8
     ensures { result ≡ status_of fate }
 {
     match fate {
         Fate::Unchanged | Fate::Ended(Served::Exit) => 0,
+        Fate::Lacking(unkept) => u8::from(unkept.is_text()),
         Fate::Ended(Served::EndOfCommands) => 2,
         _ => 1,
     }
@@ -133,7 +138,7 @@ fn said_about(alloc: Global, line: &Line, input: &str, words: &str) -> Result<St
 
 fn text(alloc: Global, line: &Line, input: &str, fate: Fate) -> Result<String, NoMemory>
     ensures ok { IfOk result (λ text. string_bytes text ≡ text_of line.now input.now fate) }
-    ensures err { OnErr result (status_of fate ≡ 1) }
+    ensures err { OnErr result (text_of line.now input.now fate ≢ []) }
 {
     match fate {
         Fate::NoCommands(reason) => said_why(alloc, "cannot read ", commands_name(line), reason),
@@ -149,6 +154,10 @@ fn text(alloc: Global, line: &Line, input: &str, fate: Fate) -> Result<String, N
         Fate::NoOutput(reason) => {
             let name = output_name(alloc, line, input)?;
             said_why(alloc, "cannot write ", name.as_str(), reason)
+        }
+        Fate::Lacking(unkept) => {
+            let name = output_name(alloc, line, input)?;
+            said_of(alloc, name.as_str(), ": ", unkept.words())
         }
         Fate::Changed => said_of(alloc, "", input, " has changed"),
         Fate::Ended(Served::ReadFault) => said_about(alloc, line, input, "cannot read commands"),
@@ -168,16 +177,16 @@ pub fn ending_of(
 ) -> Result<(u8, String), NoMemory>
     ensures ok { IfOk result (λ ending. (ending.0 ≡ status_of fate)
         × (string_bytes ending.1 ≡ text_of line.now input.now fate)) }
-    ensures err { OnErr result (status_of fate ≡ 1) }
+    ensures err { OnErr result (text_of line.now input.now fate ≢ []) }
 {
-    Ok((status(fate), text(alloc, line, input, fate)?))
+    Ok((status_of(fate), text(alloc, line, input, fate)?))
 }
 
 /// The status of a run over the first input of the line, and what it prints on standard error, which may be nothing.
 pub fn ending(alloc: Global, line: &Line, fate: Fate) -> Result<(u8, String), NoMemory>
     ensures ok { IfOk result (λ ending. (ending.0 ≡ status_of fate)
         × (string_bytes ending.1 ≡ text_of line.now (string_bytes line.now.input) fate)) }
-    ensures err { OnErr result (status_of fate ≡ 1) }
+    ensures err { OnErr result (text_of line.now (string_bytes line.now.input) fate ≢ []) }
 {
     ending_of(alloc, line, line.input.as_str(), fate)
 }

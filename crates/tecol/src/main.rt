@@ -1,10 +1,11 @@
 //! The program: turns sources of command strings into bytes and back, and checks them.
 #![tactic(auto)]
 
+use std::cell::Cell;
 use std::process;
 use std::process::ExitCode;
 use teco_bytes::ReaderSource;
-use teco_files::{FileDisk, hold_standard_streams};
+use teco_files::{FileDisk, Piped, UntilLeft, hold_standard_streams};
 use teco_keep::{not_text, program};
 use teco_option::{LineFault, fault_of_words};
 use teco_terminal::WriterTerminal;
@@ -21,13 +22,14 @@ fn words_given(rt: &HostRuntime) -> Result<Vec<String>, LineFault> {
 
 fn main(rt: HostRuntime) -> ExitCode {
     hold_standard_streams(&rt);
+    let has_left = Cell::new(false);
     program(
         rt.alloc(),
         words_given(&rt),
         process::id(rt.process()),
         &mut ReaderSource::new(rt.stdin()),
-        &mut WriterTerminal::new(rt.stdout()),
-        &mut WriterTerminal::new(rt.stderr()),
+        &mut WriterTerminal::new(Piped::new(rt.stdout(), &has_left)),
+        &mut WriterTerminal::new(UntilLeft::new(rt.stderr(), &has_left)),
         &mut FileDisk::new(&rt),
     )
 }

@@ -130,7 +130,7 @@ fn runs_on(alloc: Global, disk: &mut MemoryDisk, cells: &Cells) -> bool {
 }
 
 /// The call that is refused, by the first letter of what a row says: that which reads, makes, writes or keeps, puts a draft in its place, or
-/// that and the removal of the draft; or that a file has changed.
+/// that and the removal of the draft; that a file has changed; that an owner can't be kept, or what is written late.
 fn refused_of(said: &str) -> Refused {
     match first_of(said) {
         b'r' => Refused::Read,
@@ -140,6 +140,8 @@ fn refused_of(said: &str) -> Refused {
         b'p' => Refused::Rename,
         b'b' => Refused::RenameAndRemove,
         b'c' => Refused::Changed,
+        b'o' => Refused::Owner,
+        b'l' => Refused::Changes,
         _ => Refused::Nothing,
     }
 }

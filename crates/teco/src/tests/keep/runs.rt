@@ -29,6 +29,11 @@ pub(crate) const ROWS: &str = "
     - tecol -o out in => => => tecol: cannot write out: there is no room on the disk\n => => 1 => in == Y<\n\tFSa$b$;>EX$$\n ++ out == old => => write
     - tecol -o out in => => => tecol: cannot write out: there is no room on the disk\n => => 1 => in == Y<\n\tFSa$b$;>EX$$\n ++ out == old => => sync
     - tecol -o out in => => => tecol: cannot write out: permission is denied\n => => 1 => in == Y<\n\tFSa$b$;>EX$$\n ++ out == old => => place
+    - // An owner that can't be kept is told, and the output is written all the same, also of a check that finds a fault.
+    - tecol -o out in => => => tecol: out: owner not kept\n => => => in == Y$$\n ++ out == old => in == Y$$\n ++ out == Y\x1b\x1b => owner
+    - tecol -cr -o out => Y\n>EX\x1b\x1b => => tecol: out: owner not kept\n => => 2 => out == old => out == -:2:1: BNI: > has no <\n => owner
+    - tecol -cr -o out => Y\n>EX\x1b\x1b => => tecol: out: changes made meanwhile not kept\n => => 1 => out == old => out == -:2:1: BNI: > has no <\n => late
+    - tecol -o out in => => => tecol: out: changes made meanwhile not kept\n => => 1 => in == Y$$\n ++ out == old => in == Y$$\n ++ out == Y\x1b\x1b => late
     - // An output that can't be shown, and words that were refused memory.
     - tecol => EX$$ => => tecol: cannot write -: a write failed\n => => 1 => => => no room
     - tecol => EX$$ => => tecol: no memory\n => => 1 => => => no words";

@@ -24,7 +24,7 @@ fn writes_over<D: Disk>(
     let parts = bytes.as_bytes().split_at(bytes.len() / 2);
     matches!(
         write_output(alloc, disk, name, 7, read, parts),
-        Ok(Written::Whole),
+        Ok(Written::Whole(_)),
     )
 }
 

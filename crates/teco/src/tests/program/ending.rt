@@ -3,6 +3,7 @@ use crate::tests::bytes::{first_of, is};
 use crate::tests::rows::{Cells, number_or};
 use std::alloc::Global;
 use teco_core::NoMemory;
+use teco_files::Unkept;
 use teco_host::Reason;
 use teco_line::Line;
 use teco_serve::{Fate, Served, ending, ending_of};
@@ -17,6 +18,9 @@ fn fate_of(said: &str) -> Fate {
         b'o' => Fate::NoOutput(Reason::NoRoom),
         b'd' => Fate::Changed,
         b'u' => Fate::Unchanged,
+        b'k' => Fate::Lacking(Unkept::Permissions),
+        b'g' => Fate::Lacking(Unkept::Group),
+        b'w' => Fate::Lacking(Unkept::Changes),
         b'e' => Fate::Ended(Served::Exit),
         b's' => Fate::Ended(Served::EndOfCommands),
         b'r' => Fate::Ended(Served::ReadFault),
@@ -55,6 +59,9 @@ pub(super) const ROWS: &str = "
     - teco -b strings -i in => output => 1 => teco: cannot write in: there is no room on the disk\n
     - teco -b strings -i in => differs => 1 => teco: in has changed\n
     - teco -b strings -i in => unchanged => 0
+    - teco -b strings -i in => kept all but the permissions => 0 => teco: in: permissions not kept\n
+    - teco -b strings -o out in => group => 0 => teco: out: group not kept\n
+    - teco -b strings -i in => written late => 1 => teco: in: changes made meanwhile not kept\n
     - // Of several inputs each line names one.
     - teco -b strings in two => input => 1 => teco: cannot read in: there is no such file or folder\n
     - teco -b strings in two => output => 1 => teco: cannot write in.out: there is no room on the disk\n

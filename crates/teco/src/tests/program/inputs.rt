@@ -34,6 +34,14 @@ pub(super) const ROWS: &str = "
     - teco -i -e YIA$EX$$ in => unread => => teco: cannot write in: there is no room on the disk\n => => 1 => in == hi\n => => write
     - // A file that another program changed is not replaced.
     - teco -i -e YIA$EX$$ in => unread => => teco: in has changed\n => => 1 => in == hi\n => => changed
+    - // An owner that can't be kept is told, and the output is written all the same. What isn't written keeps its owner.
+    - teco -i -e YIA$EX$$ in => unread => => teco: in: owner not kept\n => => => in == hi\n => in == Ahi\n => owner
+    - teco -i -p J<FSh$H$;> in two => unread => => teco: in: owner not kept\n => => => in == hi\n ++ two == two\n => in == Hi\n ++ two == two\n => owner
+    - teco --explain -o out -e YIA$EX$$ in => unread => => teco: out: owner not kept\n => out is written\n => => in == hi\n ++ out == old => in == hi\n ++ out == Ahi\n => owner
+    - // What another program writes while the file is replaced is lost, which is told and is no success.
+    - teco -i -e YIA$EX$$ in => unread => => teco: in: changes made meanwhile not kept\n => => 1 => in == hi\n => in == Ahi\n => late
+    - // Standard output has none to be kept.
+    - teco -p IA$ in => unread => Ahi\n => => => => in == hi\n => => owner
     - // A value that the strings leave is dropped at the end of each page.
     - teco -i -p :FSi$o$ in => unread => => => => => in == hi\x0chi\x0cxx => in == ho\x0cho\x0cxx
     - // Pages end after so many lines, and no byte is lost.

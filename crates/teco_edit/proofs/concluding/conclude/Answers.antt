@@ -1,4 +1,4 @@
-use Rattle.std.proofs.Common.{◌∙◌, inl}
+use Rattle.std.proofs.Common.{◌∙◌, inl, inr}
 use Rattle.teco_edit.proofs.Showing.{told_by}
 use Rattle.teco_edit.proofs.concluding.conclude.Goals as goal
 
@@ -7,3 +7,6 @@ returns-in-Ok g c = record {
   status_is = c.in-Ok.ensures.ok.0;
   told = inl (told_by c.put.result (c.as_bytes.ensures.value ∙ c.in-Ok.ensures.ok.1) c.put.ensures);
 }
+
+pub returns-in-Err : goal.returns-in-Err
+returns-in-Err g c = record { status_is = c.status_of.ensures; told = inr (c.in-Err.ensures.err, c.no_memory.ensures.told) }

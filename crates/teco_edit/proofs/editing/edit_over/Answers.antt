@@ -6,7 +6,6 @@ use Rattle.teco_terminal.specs.Terminal.{Shows}
 use Rattle.teco_serve.specs.Exchange.{HasRung, allowance}
 use Rattle.teco_edit.specs.Run.{ServesInput, bounds_of, given_input}
 use Rattle.teco_edit.specs.Seen.{commands_seen, terminal_seen}
-use Rattle.teco_host.specs.Seen.{source_view}
 use Rattle.teco_serve.specs.Serving.{Serves}
 use Rattle.teco_host.specs.Writing.{both}
 use Rattle.teco_edit.proofs.Doings.{idle_ends, kept_same, over_served}
@@ -21,7 +20,7 @@ returns-in_default-session_over g c = idle_ends _ _ _ _ _ _ _ _ _ _ (λ term pla
 pub returns : goal.returns
 returns g c =
     let serves : ServesInput c.args.line.now (given_input c.args.input.items).is_input
-    (commands_seen (source_view g.S.Source.coming g.S.Source.bound g.S.Source.failures g.S.Source.ended) c.args.commands.now c.serve-served.new.source (HasRung g.A.Stop.answered))
+    (commands_seen g.S.Source c.args.commands.now c.serve-served.new.source (HasRung g.A.Stop.answered))
     (terminal_seen g.T.Terminal.screen c.args.term.now c.serve-served.new.term)
     c.serve-served.result (both c.output.result) = record {
       input = c.args.input.items;

@@ -17,7 +17,7 @@ returns-in-Err g c =
     )
 
 pub returns-in-Ok : goal.returns-in-Ok
-returns-in-Ok g c = (both c.args.output, (refl, refl), ((λ none. tt), Shows-trans c.in_default.ensures c.in-Ok.ensures))
+returns-in-Ok g c = (both c.args.output, (refl, refl), ((λ none. tt), Shows-trans c.in_default.ensures c.in-Ok.ensures), refl)
 
 pub returns-in-Err-put : goal.returns-in-Err-put
 returns-in-Err-put g c =

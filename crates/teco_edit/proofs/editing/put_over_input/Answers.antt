@@ -1,9 +1,9 @@
 use Rattle.std.proofs.Common.{refl, IsTrue, true}
-use Rattle.teco_host.specs.Seen.{KeepsDisk, disk_seen, source_view}
+use Rattle.teco_host.specs.Seen.{KeepsDisk, disk_seen}
 use Rattle.teco_host.specs.Writing.{both}
 use Rattle.teco_edit.specs.Run.{doings_after, named_output}
 use Rattle.teco_serve.specs.declared.served.Served.TheVariants.{Exit}
-use Rattle.teco_edit.proofs.Doings.{as_read_after, change_after, failed_write, fails_after, writes_after}
+use Rattle.teco_edit.proofs.Doings.{as_read_after, change_after, failed_write, fails_after, writes_after, written}
 use Rattle.teco_edit.proofs.editing.put_over_input.Goals as goal
 
 pub returns-then-has_bytes : goal.returns-then-has_bytes
@@ -11,22 +11,18 @@ returns-then-has_bytes g c = (both c.args.output, (refl, refl), (refl, c.has_byt
 
 pub returns-in-Ok-Whole : goal.returns-in-Ok-Whole
 returns-in-Ok-Whole g c =
-    let seen = disk_seen g.D.Disk.files g.D.Disk.streams g.D.Disk.left g.D.Disk.gave g.D.Disk.changed
-    (source_view g.D.Input.Source.coming g.D.Input.Source.bound g.D.Input.Source.failures g.D.Input.Source.ended) in
+    let seen = disk_seen g.D.Disk g.D.Input.Source in
+    let run = doings_after Exit (both c.args.output) (IsTrue true) (named_output (seen c.args.disk.now) (seen c.write_output.new.disk) c.args.name.now) in
     let kept = c.has_bytes.ensures.keeps in
-    let ok = rw c.in-Ok-Whole.field-0-is at c.in-Ok-Whole.ensures in (
-      both c.args.output,
-      (refl, refl),
-      (
-        (λ over. as_read_after {old = seen c.args.disk.now} {mid = seen c.has_bytes.new.disk} kept (seen c.write_output.new.disk) c.args.name.now (both c.args.output) ok.asked),
-        writes_after {old = seen c.args.disk.now} {mid = seen c.has_bytes.new.disk} kept {new = seen c.write_output.new.disk} (record { files = ok.ok; streams = ok.streams; moments = ok.moments }),
-      ),
-    )
+    let ok = rw c.in-Ok-Whole.field-0-is at c.in-Ok-Whole.ensures in
+    rw c.fate_written.ensures (written run (both c.args.output) c.in-Ok-Whole.unkept (refl, refl) (
+      (λ over. as_read_after {old = seen c.args.disk.now} {mid = seen c.has_bytes.new.disk} kept (seen c.write_output.new.disk) c.args.name.now (both c.args.output) ok.asked),
+      writes_after {old = seen c.args.disk.now} {mid = seen c.has_bytes.new.disk} kept {new = seen c.write_output.new.disk} (record { files = ok.ok; streams = ok.streams; moments = ok.moments }),
+    ) ok.unkept)
 
 pub returns-in-Ok-Changed : goal.returns-in-Ok-Changed
 returns-in-Ok-Changed g c =
-    let seen = disk_seen g.D.Disk.files g.D.Disk.streams g.D.Disk.left g.D.Disk.gave g.D.Disk.changed
-    (source_view g.D.Input.Source.coming g.D.Input.Source.bound g.D.Input.Source.failures g.D.Input.Source.ended) in
+    let seen = disk_seen g.D.Disk g.D.Input.Source in
     let ok = rw c.in-Ok-Changed.field-0-is at c.in-Ok-Changed.ensures in (
       both c.args.output,
       (refl, refl),
@@ -43,8 +39,7 @@ returns-in-Ok-Changed g c =
 
 pub returns-in-Err : goal.returns-in-Err
 returns-in-Err g c =
-    let seen = disk_seen g.D.Disk.files g.D.Disk.streams g.D.Disk.left g.D.Disk.gave g.D.Disk.changed
-    (source_view g.D.Input.Source.coming g.D.Input.Source.bound g.D.Input.Source.failures g.D.Input.Source.ended) in
+    let seen = disk_seen g.D.Disk g.D.Input.Source in
     let run = doings_after Exit (both c.args.output) (IsTrue true) (named_output (seen c.args.disk.now) (seen c.write_output.new.disk) c.args.name.now) in
     failed_write run (both c.args.output) c.no_output.result c.no_output.ensures (refl, refl) (fails_after c.has_bytes.ensures.keeps (record {
       files = c.in-Err.ensures.err;

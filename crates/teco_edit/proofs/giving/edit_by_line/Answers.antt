@@ -4,7 +4,7 @@ use Rattle.std.specs.String.{string_bytes}
 use Rattle.teco_option.specs.StreamNames.{is_standard_input}
 use Rattle.teco_serve.specs.Exchange.{HasRung}
 use Rattle.teco_edit.specs.Run.{Edits, input_from, named_input, standard_input}
-use Rattle.teco_host.specs.Seen.{KeepsDisk, disk_seen, source_view}
+use Rattle.teco_host.specs.Seen.{KeepsDisk, disk_seen}
 use Rattle.teco_edit.specs.Seen.{commands_seen, run_seen}
 use Rattle.teco_line.specs.Conflict.{has_more}
 use Rattle.teco_edit.specs.Given.{come_as_wanted}
@@ -15,13 +15,12 @@ use Rattle.teco_edit.proofs.giving.edit_by_line.Goals.{in_default-via-in-Bytes+e
 
 pub returns : goal.returns
 returns g c =
-    let seen = disk_seen g.D.Disk.files g.D.Disk.streams g.D.Disk.left g.D.Disk.gave g.D.Disk.changed
-    (source_view g.D.Input.Source.coming g.D.Input.Source.bound g.D.Input.Source.failures g.D.Input.Source.ended) in
-    let stream = standard_input (source_view g.S.Source.coming g.S.Source.bound g.S.Source.failures g.S.Source.ended) c.args.commands.now c.edit_input.new.stream in
+    let seen = disk_seen g.D.Disk g.D.Input.Source in
+    let stream = standard_input g.S.Source c.args.commands.now c.edit_input.new.stream in
     let old = seen c.args.disk.now in
     let mid = seen c.open.new.self in
     let new = seen c.edit_input.new.disk in
-    let given = commands_seen (source_view g.D.Input.Source.coming g.D.Input.Source.bound g.D.Input.Source.failures g.D.Input.Source.ended) c.in-Ok.given c.edit_input.new.commands (HasRung g.A.Stop.answered) in
+    let given = commands_seen g.D.Input.Source c.in-Ok.given c.edit_input.new.commands (HasRung g.A.Stop.answered) in
     let kept : KeepsDisk old mid = record {
       files = c.open.ensures.files;
       streams = c.open.ensures.streams;
@@ -44,12 +43,11 @@ returns g c =
 
 pub returns-in_default : goal.returns-in_default
 returns-in_default g c =
-    let seen = disk_seen g.D.Disk.files g.D.Disk.streams g.D.Disk.left g.D.Disk.gave g.D.Disk.changed
-    (source_view g.D.Input.Source.coming g.D.Input.Source.bound g.D.Input.Source.failures g.D.Input.Source.ended) in
-    let stream = standard_input (source_view g.S.Source.coming g.S.Source.bound g.S.Source.failures g.S.Source.ended) c.args.commands.now c.edit_file.new.commands in
+    let seen = disk_seen g.D.Disk g.D.Input.Source in
+    let stream = standard_input g.S.Source c.args.commands.now c.edit_file.new.commands in
     let old = seen c.args.disk.now in
     let new = seen c.edit_file.new.disk in
-    let given = commands_seen (source_view g.S.Source.coming g.S.Source.bound g.S.Source.failures g.S.Source.ended) c.args.commands.now c.edit_file.new.commands (HasRung g.A.Stop.answered) in
+    let given = commands_seen g.S.Source c.args.commands.now c.edit_file.new.commands (HasRung g.A.Stop.answered) in
     let input = string_bytes c.args.line.now.input in
     let wanted = wanted_of (come_as_wanted c.args.line.now.commands) (has_more c.args.line.now) c.requires.streamed in
     let ends : IsStreamOf c.args.line.now.commands → Edits c.args.line.now input (run_seen (input_from (is_standard_input input) stream (named_input old new input)) given old new g.T.Terminal.screen c.args.term.now c.edit_file.new.term) c.edit_file.result = λ is.

@@ -2,7 +2,7 @@ use Rattle.std.proofs.Common.{◌≡◌, ◌∙◌, ◌++◌, ◌+◌, ℕ, List
 use Rattle.std.proofs.lemmas.List.{take_all, take_more}
 use Rattle.std.specs.String.{string_bytes}
 use Rattle.teco_option.specs.StreamNames.{is_standard_input}
-use Rattle.teco_host.specs.Seen.{disk_seen, source_view}
+use Rattle.teco_host.specs.Seen.{disk_seen}
 use Rattle.teco_edit.specs.Sources.{AreCommandsIn, IsFaultOf, IsUnread, IsWholeOf, LacksFiles}
 use Rattle.teco_source.specs.Source.{commands_of}
 use Rattle.teco_edit.proofs.CommandSources.{faulty_file, one_source_more, passed_up, same_files, unread_file}
@@ -23,7 +23,7 @@ returns-in_err-keep-clause-keeps g c = keeps_after c.loop-at.invariant.1 c.bytes
 
 pub returns-in_err-strings-clause-fault : goal.returns-in_err-strings-clause-fault
 returns-in_err-strings-clause-fault g c =
-    let source = source_view g.S.Source.coming g.S.Source.bound g.S.Source.failures g.S.Source.ended in
+    let source = g.S.Source in
     let files = g.D.Disk.files c.args.disk.now in
     let item = c.index-names-at.result in
     let h = c.loop-at.invariant in
@@ -33,15 +33,14 @@ returns-in_err-strings-clause-fault g c =
     subst (λ (n : List ℕ). IsWholeOf (is_standard_input n) source files n c.loop-at.stream c.bytes_of.new.stream text) c.as_str.ensures.value
     (same_files source (is_standard_input c.as_str.result.now) c.as_str.result.now c.loop-at.stream c.bytes_of.new.stream text h.1.files c.in_ok-source.ensures.whole) in
     let wrong : IsFaultOf text c.loop-at.at fault = subst (λ (t : List ℕ). IsFaultOf t c.loop-at.at fault) c.as_slice.ensures.value c.in_err-strings.ensures.fault in
-    let seen = disk_seen g.D.Disk.files g.D.Disk.streams g.D.Disk.left g.D.Disk.gave g.D.Disk.changed
-    (source_view g.D.Input.Source.coming g.D.Input.Source.bound g.D.Input.Source.failures g.D.Input.Source.ended) in
+    let seen = disk_seen g.D.Disk g.D.Input.Source in
     passed_up c.from_residual-in_err-strings.result fault (LacksFiles source c.args.names.now (seen c.args.disk.now) (seen c.bytes_of.new.disk) c.args.stream.now c.bytes_of.new.stream) c.from_residual-in_err-strings.ensures.1
     (faulty_file source (seen c.args.disk.now) (seen c.bytes_of.new.disk) c.args.names.now item c.loop-at.at c.args.stream.now c.loop-at.stream c.bytes_of.new.stream c.loop-at.made.items text h.0 c.loop-at-test.true c.index-names-at.is
     whole fault wrong)
 
 pub loop-at-preserved : goal.loop-at-preserved
 loop-at-preserved g c =
-    let source = source_view g.S.Source.coming g.S.Source.bound g.S.Source.failures g.S.Source.ended in
+    let source = g.S.Source in
     let files = g.D.Disk.files c.args.disk.now in
     let names = c.args.names.now in
     let at = c.loop-at.at in
@@ -66,9 +65,8 @@ loop-at-preserved g c =
 
 pub returns-in_err-source-clause-fault : goal.returns-in_err-source-clause-fault
 returns-in_err-source-clause-fault g c =
-    let source = source_view g.S.Source.coming g.S.Source.bound g.S.Source.failures g.S.Source.ended in
-    let seen = disk_seen g.D.Disk.files g.D.Disk.streams g.D.Disk.left g.D.Disk.gave g.D.Disk.changed
-    (source_view g.D.Input.Source.coming g.D.Input.Source.bound g.D.Input.Source.failures g.D.Input.Source.ended) in
+    let source = g.S.Source in
+    let seen = disk_seen g.D.Disk g.D.Input.Source in
     let after = seen c.bytes_of.new.disk in
     let h = c.loop-at.invariant in
     let item = c.index-names-at.result in
@@ -85,7 +83,7 @@ returns-clause-keeps g c = c.loop-at.invariant.1
 
 pub returns-clause-read : goal.returns-clause-read
 returns-clause-read g c =
-    let source = source_view g.S.Source.coming g.S.Source.bound g.S.Source.failures g.S.Source.ended in
+    let source = g.S.Source in
     let files = g.D.Disk.files c.args.disk.now in
     subst (λ ns. AreCommandsIn source files ns c.args.stream.now c.loop-at.stream c.loop-at.made.items)
     (take_all c.loop-at.at c.args.names.now c.loop-at-test.false) c.loop-at.invariant.0

@@ -9,6 +9,7 @@ returns-in_err-create g c =
     let failed = is_error c.from_residual.result c.in_err-create.field-0.0 c.from_residual.ensures.1 in
     record {
       ok = rw failed tt;
+      unkept = rw failed tt;
       asked = rw failed tt;
       changed = rw failed tt;
       err = rw failed c.in_err-create.ensures.err;
@@ -22,6 +23,7 @@ returns-in_err-create g c =
 pub returns-in-Some : goal.returns-in-Some
 returns-in-Some g c = record {
   ok = whole_weaker c.take_name_as_read.result (replaces_by c.in_ok-create.ensures.ok) c.take_name_as_read.ensures.ok;
+  unkept = c.take_name_as_read.ensures.unkept;
   asked = rw c.in-Some.is (whole_weaker c.take_name_as_read.result (asked_whole c.in_ok-create.ensures.ok) c.take_name_as_read.ensures.asked);
   changed = rw c.in-Some.is c.take_name_as_read.ensures.changed;
   err = unless_weaker c.take_name_as_read.result (leaves_by c.in_ok-create.ensures.ok) c.take_name_as_read.ensures.err;
@@ -35,6 +37,7 @@ returns-in-Some g c = record {
 pub returns-in-None : goal.returns-in-None
 returns-in-None g c = record {
   ok = whole_weaker c.take_name.result (replaces_by c.in_ok-create.ensures.ok) c.take_name.ensures.ok;
+  unkept = c.take_name.ensures.unkept;
   asked = rw c.in-None.is (whole_by c.take_name.result tt);
   changed = rw c.in-None.is c.take_name.ensures.unchanged;
   err = unless_weaker c.take_name.result (leaves_by c.in_ok-create.ensures.ok) c.take_name.ensures.err;

@@ -11,6 +11,7 @@ returns-in_err-draft g c =
     let failed = err_from_is_err_and c.from_residual.result c.from_residual.ensures.1 in
     record {
       ok = rw failed.1 tt;
+      unkept = rw failed.1 tt;
       asked = rw failed.1 tt;
       changed = rw failed.1 tt;
       err = rw failed.1 c.drafts.invariant.adds;
@@ -27,6 +28,10 @@ returns-in_default g c =
       ok = elim c.in_default-1.branch [
         | in_default-via-in-Err+else-eq w ↦ rw w.done-is tt
         | in_default-via-in-Ok-1 w ↦ rw w.done-is (whole_weaker c.replace.result (writes_after c.drafts.draft_number named differ c.drafts.invariant.adds) c.replace.ensures.ok)
+      ];
+      unkept = elim c.in_default-1.branch [
+        | in_default-via-in-Err+else-eq w ↦ rw w.done-is tt
+        | in_default-via-in-Ok-1 w ↦ rw w.done-is c.replace.ensures.unkept
       ];
       asked = elim c.in_default-1.branch [
         | in_default-via-in-Err+else-eq w ↦ rw w.done-is tt
@@ -51,6 +56,7 @@ returns-in_default g c =
 pub returns : goal.returns
 returns g c = record {
   ok = tt;
+  unkept = tt;
   asked = tt;
   changed = tt;
   err = c.drafts.invariant.adds;

@@ -5,6 +5,7 @@ use Rattle.teco_host.proofs.output.take_name.Goals as goal
 pub returns-in-Ok : goal.returns-in-Ok
 returns-in-Ok g c = record {
   ok = c.in-Ok.ensures.ok;
+  unkept = c.in-Ok.ensures.unkept;
   unchanged = tt;
   err = tt;
   removed = tt;
@@ -17,6 +18,7 @@ returns-in-Ok g c = record {
 pub returns-in-Err : goal.returns-in-Err
 returns-in-Err g c = record {
   ok = tt;
+  unkept = tt;
   unchanged = tt;
   err = same_but_then c.in-Err.ensures.err c.discard.ensures.others;
   removed = removes_then c.in-Err.ensures.err c.discard.ensures.removed;

@@ -6,6 +6,7 @@ use Rattle.teco_host.proofs.output.take_name_as_read.Goals as goal
 pub returns-in-Ok-true : goal.returns-in-Ok-true
 returns-in-Ok-true g c = record {
   ok = whole_weaker c.take_name.result (changes_after c.is_as_read.ensures.files) c.take_name.ensures.ok;
+  unkept = c.take_name.ensures.unkept;
   asked = whole_by c.take_name.result (record {
     disk = c.is_as_read.new.self;
     then = λ before told. (before, c.is_as_read.ensures.files ∙ told, λ other. refl);
@@ -23,6 +24,7 @@ returns-in-Ok-true g c = record {
 pub returns-in-Ok-false : goal.returns-in-Ok-false
 returns-in-Ok-false g c = record {
   ok = tt;
+  unkept = tt;
   asked = tt;
   changed = c.discard.ensures.changed _ (c.in-Ok-false.ensures.told c.in-Ok-false.field-0-test);
   err = changes_after c.is_as_read.ensures.files c.discard.ensures.others;
@@ -36,6 +38,7 @@ returns-in-Ok-false g c = record {
 pub returns-in-Err : goal.returns-in-Err
 returns-in-Err g c = record {
   ok = tt;
+  unkept = tt;
   asked = tt;
   changed = tt;
   err = changes_after c.is_as_read.ensures.files c.discard-in-Err.ensures.others;

@@ -10,6 +10,7 @@ returns-in-Stream g c = record {
   ok = let is : g.D.Disk.files c.args.disk.now ≢ None → (given : List ℕ) × (g.D.Disk.streams c.args.disk.now c.args.name.now ≡ Some given) =
       λ there. subst (IsTargetOf (g.D.Disk.streams c.args.disk.now) c.args.name.now) c.in-Stream.is (c.in_ok-target_of.ensures.target there) in
       whole_weaker c.append.result (λ appends. puts_on is (c.append.ensures.files ∙ c.target_of.ensures.files) appends) (rw c.target_of.ensures.streams at c.append.ensures.ok);
+  unkept = c.append.ensures.unkept;
   asked = let is : g.D.Disk.files c.args.disk.now ≢ None → (given : List ℕ) × (g.D.Disk.streams c.args.disk.now c.args.name.now ≡ Some given) =
       λ there. subst (IsTargetOf (g.D.Disk.streams c.args.disk.now) c.args.name.now) c.in-Stream.is (c.in_ok-target_of.ensures.target there) in
       whole_weaker c.append.result (some_weaker c.args.read (λ read. asked_on c.args.name.now is c.target_of.ensures.files)) c.append.ensures.asked;
@@ -26,6 +27,7 @@ returns-in-File g c = record {
       let it = subst (IsTargetOf (g.D.Disk.streams c.args.disk.now) c.args.name.now) c.in-File.is (c.in_ok-target_of.ensures.target there) in
       (c.as_str.ensures.value ∙ it.0, it.1) in
       whole_weaker c.replace_file.result (puts_in (g.D.Disk.streams c.replace_file.new.disk c.args.name.now) is c.target_of.ensures.files) c.replace_file.ensures.ok;
+  unkept = c.replace_file.ensures.unkept;
   asked = let is : g.D.Disk.files c.args.disk.now ≢ None → c.as_str.result.now ≡ c.args.name.now = λ there.
       c.as_str.ensures.value ∙ (subst (IsTargetOf (g.D.Disk.streams c.args.disk.now) c.args.name.now) c.in-File.is (c.in_ok-target_of.ensures.target there)).0 in
       whole_weaker c.replace_file.result (some_weaker c.args.read (λ read. asked_in is c.target_of.ensures.files)) c.replace_file.ensures.asked;
@@ -48,6 +50,7 @@ returns-in_err-target_of g c =
     let failed = is_error c.from_residual.result c.in_err-target_of.field-0.0 c.from_residual.ensures.1 in
     record {
       ok = rw failed tt;
+      unkept = rw failed tt;
       asked = rw failed tt;
       changed = rw failed tt;
       err = rw failed (adds_same c.args.name.now c.target_of.ensures.files);

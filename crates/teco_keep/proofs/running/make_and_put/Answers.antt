@@ -1,7 +1,7 @@
 use Rattle.std.proofs.Common.{List, ℕ, rules, inl, inr, refl, subst, sym}
 use Rattle.std.specs.String.{string_bytes}
 use Rattle.teco_option.specs.StreamNames.{is_standard_output}
-use Rattle.teco_host.specs.Seen.{disk_seen, source_view}
+use Rattle.teco_host.specs.Seen.{disk_seen}
 use Rattle.teco_keep.specs.Keeping.{output_of}
 use Rattle.teco_keep.specs.Made.{IsMade}
 use Rattle.teco_keep.proofs.Outputs.{Chosen, fails, fails_by, puts}
@@ -10,8 +10,7 @@ use Rattle.teco_keep.proofs.running.make_and_put.Goals as goal
 
 pub returns-in-Ok : goal.returns-in-Ok
 returns-in-Ok g c =
-    let seen = disk_seen g.D.Disk.files g.D.Disk.streams g.D.Disk.left g.D.Disk.gave g.D.Disk.changed
-    (source_view g.D.Input.Source.coming g.D.Input.Source.bound g.D.Input.Source.failures g.D.Input.Source.ended) in
+    let seen = disk_seen g.D.Disk g.D.Input.Source in
     let output = output_of g.T.Terminal.screen c.args.line.now (seen c.args.disk.now) (seen c.put.new.disk) c.args.term.now c.put.new.term in
     let is_made = IsMade c.args.line.now.mode c.args.input.now in
     let made = c.match-make-2.bytes in
@@ -19,12 +18,11 @@ returns-in-Ok g c =
       | in-Ok-Fine w ↦ subst (Chosen is_made) (sym w.bytes-is) (inl (search rules, refl))
       | in-Ok-Faulty w ↦ subst (Chosen is_made) (sym w.bytes-is) (inr (search rules, refl))
     ] in
-    puts is_made c.args.input.now output made.0 made.1 chosen (subst (λ (bytes : List ℕ). output.writes bytes) c.deref.ensures.value c.in-Ok.ensures)
+    rw c.fate_put.ensures (puts is_made c.args.input.now output made.0 made.1 c.in-Ok.unkept chosen (subst (λ (bytes : List ℕ). output.writes bytes × output.unkept c.in-Ok.unkept) c.deref.ensures.value c.in-Ok.ensures))
 
 pub returns : goal.returns
 returns g c =
-    let seen = disk_seen g.D.Disk.files g.D.Disk.streams g.D.Disk.left g.D.Disk.gave g.D.Disk.changed
-    (source_view g.D.Input.Source.coming g.D.Input.Source.bound g.D.Input.Source.failures g.D.Input.Source.ended) in
+    let seen = disk_seen g.D.Disk g.D.Input.Source in
     let output = output_of g.T.Terminal.screen c.args.line.now (seen c.args.disk.now) (seen c.put.new.disk) c.args.term.now c.put.new.term in
     let name = string_bytes c.args.line.now.output in
     let is_made = IsMade c.args.line.now.mode c.args.input.now in

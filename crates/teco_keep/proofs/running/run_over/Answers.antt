@@ -1,15 +1,14 @@
 use Rattle.std.proofs.Common.{List, ℕ, ap, sym, subst, ◌∙◌}
 use Rattle.teco_option.specs.StreamNames.{is_standard_input}
-use Rattle.teco_host.specs.Seen.{disk_seen, source_view}
+use Rattle.teco_host.specs.Seen.{disk_seen}
 use Rattle.teco_keep.specs.Keeping.{EndsAfter, MakesAndPuts, ReadsInput, output_of}
 use Rattle.teco_keep.specs.Made.{IsMade}
 use Rattle.teco_keep.proofs.running.run_over.Goals as goal
 
 pub returns-in-Ok : goal.returns-in-Ok
 returns-in-Ok g c =
-    let seen = disk_seen g.D.Disk.files g.D.Disk.streams g.D.Disk.left g.D.Disk.gave g.D.Disk.changed
-    (source_view g.D.Input.Source.coming g.D.Input.Source.bound g.D.Input.Source.failures g.D.Input.Source.ended) in
-    let stream = source_view g.S.Source.coming g.S.Source.bound g.S.Source.failures g.S.Source.ended in
+    let seen = disk_seen g.D.Disk g.D.Input.Source in
+    let stream = g.S.Source in
     let output = output_of g.T.Terminal.screen c.args.line.now (seen c.input_of.new.disk) (seen c.make_and_put.new.disk) c.args.term.now c.make_and_put.new.term in
     let named = c.as_str.ensures.value in
     record {

@@ -9,9 +9,8 @@ use Rattle.teco_program.proofs.running.program.Goals as goal
 
 pub returns-in-Ok : goal.returns-in-Ok
 returns-in-Ok g c = record {
-  run = let view = host_view (disk_seen g.D.Disk.files g.D.Disk.streams g.D.Disk.left g.D.Disk.gave g.D.Disk.changed
-      (source_view g.D.Input.Source.coming g.D.Input.Source.bound g.D.Input.Source.failures g.D.Input.Source.ended))
-      (source_view g.S.Source.coming g.S.Source.bound g.S.Source.failures g.S.Source.ended) g.T.Terminal.screen
+  run = let view = host_view (disk_seen g.D.Disk g.D.Input.Source)
+      g.S.Source g.T.Terminal.screen
       (source_view (word.coming-value).it (word.bound-value).it (word.failures-value).it (word.ended-value).it) (HasRung g.A.Stop.answered) in
       let old = host c.args.disk.now c.args.commands.now c.args.term.now in
       let new = host c.run_over.new.disk c.run_over.new.commands c.run_over.new.term in

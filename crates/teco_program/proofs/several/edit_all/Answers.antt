@@ -8,9 +8,8 @@ use Rattle.teco_program.proofs.several.edit_all.Goals as goal
 
 pub returns-in-Ok-clause-runs : goal.returns-in-Ok-clause-runs
 returns-in-Ok-clause-runs g c =
-    let view = host_view (disk_seen g.D.Disk.files g.D.Disk.streams g.D.Disk.left g.D.Disk.gave g.D.Disk.changed
-    (source_view g.D.Input.Source.coming g.D.Input.Source.bound g.D.Input.Source.failures g.D.Input.Source.ended))
-    (source_view g.S.Source.coming g.S.Source.bound g.S.Source.failures g.S.Source.ended) g.T.Terminal.screen
+    let view = host_view (disk_seen g.D.Disk g.D.Input.Source)
+    g.S.Source g.T.Terminal.screen
     (source_view (word.coming-value).it (word.bound-value).it (word.failures-value).it (word.ended-value).it) (HasRung g.A.Stop.answered) in
     let mid = host c.commands_given.new.disk c.commands_given.new.stream c.args.term.now in
     let new = host c.edit_looked_at.new.disk c.edit_looked_at.new.commands c.edit_looked_at.new.term in

@@ -12,9 +12,8 @@ use Rattle.teco_program.proofs.several.edit_each.Goals as goal
 
 pub loop-name-init : goal.loop-name-init
 loop-name-init g c =
-    let view = host_view (disk_seen g.D.Disk.files g.D.Disk.streams g.D.Disk.left g.D.Disk.gave g.D.Disk.changed
-    (source_view g.D.Input.Source.coming g.D.Input.Source.bound g.D.Input.Source.failures g.D.Input.Source.ended))
-    (source_view g.S.Source.coming g.S.Source.bound g.S.Source.failures g.S.Source.ended) g.T.Terminal.screen
+    let view = host_view (disk_seen g.D.Disk g.D.Input.Source)
+    g.S.Source g.T.Terminal.screen
     (source_view (word.coming-value).it (word.bound-value).it (word.failures-value).it (word.ended-value).it) (HasRung g.A.Stop.answered) in
     let old : Host g.row.D.Denot g.row.S.Denot g.row.T.Denot × g.row.E.Denot = (host c.args.disk.now c.args.commands.now c.args.term.now, c.args.errors.now) in
     let new : Host g.row.D.Denot g.row.S.Denot g.row.T.Denot × g.row.E.Denot = (host c.edit_told-first.new.disk c.edit_told-first.new.commands c.edit_told-first.new.term, c.edit_told-first.new.errors) in
@@ -25,9 +24,8 @@ loop-name-init g c =
 
 pub loop-name-preserved : goal.loop-name-preserved
 loop-name-preserved g c =
-    let view = host_view (disk_seen g.D.Disk.files g.D.Disk.streams g.D.Disk.left g.D.Disk.gave g.D.Disk.changed
-    (source_view g.D.Input.Source.coming g.D.Input.Source.bound g.D.Input.Source.failures g.D.Input.Source.ended))
-    (source_view g.S.Source.coming g.S.Source.bound g.S.Source.failures g.S.Source.ended) g.T.Terminal.screen
+    let view = host_view (disk_seen g.D.Disk g.D.Input.Source)
+    g.S.Source g.T.Terminal.screen
     (source_view (word.coming-value).it (word.bound-value).it (word.failures-value).it (word.ended-value).it) (HasRung g.A.Stop.answered) in
     let link = LinkOver view g.E.Terminal.screen c.args.line.now c.args.bytes.now in
     let h = c.loop-name.invariant in
@@ -57,9 +55,8 @@ loop-name-preserved g c =
 
 pub returns-clause-runs : goal.returns-clause-runs
 returns-clause-runs g c =
-    let view = host_view (disk_seen g.D.Disk.files g.D.Disk.streams g.D.Disk.left g.D.Disk.gave g.D.Disk.changed
-    (source_view g.D.Input.Source.coming g.D.Input.Source.bound g.D.Input.Source.failures g.D.Input.Source.ended))
-    (source_view g.S.Source.coming g.S.Source.bound g.S.Source.failures g.S.Source.ended) g.T.Terminal.screen
+    let view = host_view (disk_seen g.D.Disk g.D.Input.Source)
+    g.S.Source g.T.Terminal.screen
     (source_view (word.coming-value).it (word.bound-value).it (word.failures-value).it (word.ended-value).it) (HasRung g.A.Stop.answered) in
     let link = LinkOver view g.E.Terminal.screen c.args.line.now c.args.bytes.now in
     let h = c.loop-name.invariant in

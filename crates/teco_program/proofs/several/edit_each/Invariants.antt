@@ -10,9 +10,8 @@ use Rattle.teco_program.proofs.several.edit_each.Given as goal
 
 abbrev pub invariant-loop-name : goal.invariant-loop-name
 invariant-loop-name g l =
-    let view = host_view (disk_seen g.D.Disk.files g.D.Disk.streams g.D.Disk.left g.D.Disk.gave g.D.Disk.changed
-    (source_view g.D.Input.Source.coming g.D.Input.Source.bound g.D.Input.Source.failures g.D.Input.Source.ended))
-    (source_view g.S.Source.coming g.S.Source.bound g.S.Source.failures g.S.Source.ended) g.T.Terminal.screen
+    let view = host_view (disk_seen g.D.Disk g.D.Input.Source)
+    g.S.Source g.T.Terminal.screen
     (source_view (word.coming-value).it (word.bound-value).it (word.failures-value).it (word.ended-value).it) (HasRung g.A.Stop.answered) in
     (statuses : List ℕ) × Chain (LinkOver view g.E.Terminal.screen l.line l.bytes) (string_bytes l.line.input ∷ map string_bytes (take l.name-index l.line.more.items))
     (host l.fn.disk l.fn.commands l.fn.term, l.fn.errors) (host l.disk l.commands l.term, l.errors) statuses

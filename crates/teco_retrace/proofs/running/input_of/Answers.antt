@@ -1,5 +1,5 @@
 use Rattle.std.proofs.Common.{List, ℕ, subst}
-use Rattle.teco_host.specs.Seen.{disk_seen, source_view}
+use Rattle.teco_host.specs.Seen.{disk_seen}
 use Rattle.teco_retrace.specs.Reading.{IsNotRead}
 use Rattle.teco_retrace.proofs.running.input_of.Goals as goal
 
@@ -9,6 +9,5 @@ returns-in-Err-clause-input g c = tt
 
 pub returns-in-Err-clause-lacks : goal.returns-in-Err-clause-lacks
 returns-in-Err-clause-lacks g c =
-    let seen = disk_seen g.D.Disk.files g.D.Disk.streams g.D.Disk.left g.D.Disk.gave g.D.Disk.changed
-    (source_view g.D.Input.Source.coming g.D.Input.Source.bound g.D.Input.Source.failures g.D.Input.Source.ended) in
+    let seen = disk_seen g.D.Disk g.D.Input.Source in
     (c.in-Some.name, c.in-Some.is, subst (λ (n : List ℕ). IsNotRead (g.D.Disk.files c.args.disk.now) (seen c.read_file.new.disk) n c.in-Err.fault) c.as_str.ensures.value c.in-Err.ensures.fault)

@@ -8,6 +8,9 @@ returns-in-Unchanged c = rw c.in-Unchanged.is c.line_about.ensures
 pub returns-in-NoCommands : goal.returns-in-NoCommands
 returns-in-NoCommands c = rw c.in-NoCommands.is c.new.ensures.bytes
 
+pub returns-in-Lacking : goal.returns-in-Lacking
+returns-in-Lacking c = rw c.in-Lacking.is c.line_about-in-Lacking.ensures
+
 pub returns-in-Ended-Exit : goal.returns-in-Ended-Exit
 returns-in-Ended-Exit c =
     let exit = rw c.in-Ended-Exit.is at c.in-Ended-Exit.field-0-is in

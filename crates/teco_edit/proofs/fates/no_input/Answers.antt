@@ -1,4 +1,4 @@
-use Rattle.teco_edit.proofs.editing.no_output.Goals as goal
+use Rattle.teco_edit.proofs.fates.no_input.Goals as goal
 
 pub returns : goal.returns
 returns c = rw c.reason_of.ensures at c.fate_of.ensures

@@ -1,5 +1,5 @@
 use Rattle.std.proofs.Common.{refl, ◌∙◌}
-use Rattle.teco_edit.proofs.editing.fate_of.Goals as goal
+use Rattle.teco_edit.proofs.fates.fate_of.Goals as goal
 
 pub returns-in_default : goal.returns-in_default
 returns-in_default c = record {
