@@ -12,6 +12,9 @@ pub(super) const ROWS: &str = "
     O\x1b!x!!!2= => 2\r\n => => 3
     Ox\x1b0<!x!1=>!x!2= => 2\r\n => => 3
     Ox\x1b?!x!1= => => TAG => 1
+    // So many that the tags of the text are gathered on the way.
+    120<Oa\x1b!a!Ob\x1b!b!Oc\x1b!c!Od\x1b!d!Oe\x1b!e!Of\x1b!f!%A>QA=\x1b => 120\r\n => => 964
+    120<Oa\x1b!a!Ob\x1b!b!Oc\x1b!c!Od\x1b!d!Oe\x1b!e!Of\x1b!f!%A>Oz\x1b => => TAG => 963
     @^UA/Ox\x1b/MA!x!1=\x1b => => TAG => 3
     // Macros end as they mean.
     @^UA/;/<MA>\x1b => => SNI => 4
