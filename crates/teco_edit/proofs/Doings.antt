@@ -8,13 +8,16 @@ use Rattle.teco_bytes.specs.declared.input.InputFault.{InputFault}
 use Rattle.teco_bytes.specs.declared.input.InputFault.TheVariants as input
 use Rattle.teco_line.specs.declared.line.Line.{Line}
 use Rattle.teco_option.specs.StreamNames.{is_standard_output}
-use Rattle.teco_terminal.specs.Terminal.{Screen}
+use Rattle.teco_session.specs.History.{History, present}
+use Rattle.teco_serve.specs.Exchange.{allowance}
+use Rattle.teco_serve.specs.Serving.{Serves}
+use Rattle.teco_terminal.specs.Terminal.{Screen, Shows}
 use Rattle.teco_host.specs.declared.reason.Reason.{Reason}
 use Rattle.teco_host.specs.Writing.{HasDraft, IsPut, WritesOutput}
 use Rattle.teco_serve.specs.Ending.{fate_without_input, output_of}
 use Rattle.teco_edit.specs.Seen.{CommandsSeen, InputSeen, OutputSeen, RunSeen, TerminalSeen, run_seen, terminal_seen}
 use Rattle.teco_host.specs.Seen.{DiskSeen, KeepsDisk}
-use Rattle.teco_edit.specs.Run.{Doings, Edits, EndsBy, EndsIn, FindsChange, FinishesIn, FailsToStream, FailsToWrite, IsFateOf, LacksInPlace, LacksInput, ServesInput, doings, doings_after, fate_written, given_input, input_from, named_input, named_output, replaces_input, standard_input, standard_output}
+use Rattle.teco_edit.specs.Run.{Doings, Edits, EndsBy, EndsIn, FindsChange, FinishesIn, FailsToStream, FailsToWrite, IsFateOf, Lacks, LacksInPlace, LacksInput, ServesInput, bounds_of, doings, doings_after, fate_written, given_input, history_over, input_from, named_input, named_output, replaces_input, standard_input, standard_output}
 use Rattle.teco_serve.specs.declared.fate.Fate.{Fate}
 use Rattle.teco_serve.specs.declared.fate.Fate.TheVariants.{NoCommands, NoInput, NotRegular, LargeInput, NoMemory, NoOutput, Changed, Unchanged, Lacking, Ended}
 use Rattle.teco_serve.specs.declared.served.Served.{Served}
@@ -305,11 +308,48 @@ lacks_file {line} {name} {commands} {old} {new} {screen} {term} {fate} (inr irre
     idle_ends line name (named_input old new name) commands old new screen term term fate
     (λ seen place quiet keeps. subst (EndsBy (doings line (named_input old new name) place commands seen)) (sym irregular.0) ((irregular.1, irregular.2), (still, quiet), keeps)) refl kept
 
-pub lacks_streamed : {I S T : Type 0} {line : Line} {name : List ℕ} {source : SourceView S} {first last : S} {commands : CommandsSeen} {disk : DiskSeen I} {screen : T → Screen} {term : T} {fate : Fate}
-    → FailsToStream source first last fate → commands.still
-    → Edits line name (run_seen (standard_input source first last) commands disk disk screen term term) fate
-lacks_streamed {line} {name} {source} {first} {last} {commands} {disk} {screen} {term} {fate} l still =
-    idle_ends line name (standard_input source first last) commands disk disk screen term term fate (λ seen place quiet keeps. lacks_stream (doings line (standard_input source first last) place commands seen) l.fault fate l.fate_is l (still, quiet) keeps) refl kept_same
+-- without the input, wherever that comes from
+pub lacks_either : {I S T : Type 0} {line : Line} {name : List ℕ} {commands : CommandsSeen} {screen : T → Screen} {term : T} {fate : Fate}
+    (b : Bool) (source : SourceView S) (first last : S) (old new : DiskSeen I)
+    → Lacks line.in_place (input_from b (standard_input source first last) (named_input old new name)) fate → commands.still → KeepsDisk old new
+    → Edits line name (run_seen (input_from b (standard_input source first last) (named_input old new name)) commands old new screen term term) fate
+lacks_either {line} {name} {commands} {screen} {term} {fate} true source first last old new (inl l) still kept =
+    idle_ends line name (standard_input source first last) commands old new screen term term fate (λ seen place quiet keeps. lacks_stream (doings line (standard_input source first last) place commands seen) l.fault fate l.fate_is l (still, quiet) keeps) refl kept
+lacks_either true source first last old new (inr irregular) still kept = absurd irregular.2
+lacks_either false source first last old new l still kept = lacks_file l still kept
+
+-- What was read stays so when the disk changes later.
+pub read_before : {I S : Type 0} (b : Bool) (source : SourceView S) (first last : S) (old mid new : DiskSeen I) (name bytes : List ℕ) {final : S} → final ≡ last
+    → (input_from b (standard_input source first last) (named_input old mid name)).is_input bytes
+    → (input_from b (standard_input source first final) (named_input old new name)).is_input bytes
+read_before true source first last old mid new name bytes same given = subst (λ s. (standard_input source first s).is_input bytes) (sym same) given
+read_before false source first last old mid new name bytes same given = given
+
+-- An input was read, its commands were served, and the output was written.
+pub over_work : {I T : Type 0} (line : Line) (name : List ℕ) (input : InputSeen) (commands : CommandsSeen) (old mid new : DiskSeen I) (screen : T → Screen)
+    (before between after : T) (fate : Fate) {bytes place : List ℕ} {first history : History} {end : Served}
+    → KeepsDisk old mid → input.is_input bytes → place ≡ output_of line name → first ≡ history_over line bytes
+    → Serves (allowance (bounds_of line) commands.asked) line.prompt commands.gave commands.ended (Shows (screen before) (screen between)) first history end
+    → FinishesIn (is_standard_output place) end (present history).output (replaces_input line) place mid new screen between after fate
+    → Edits line name (run_seen input commands old new screen before after) fate
+over_work line name input commands old mid new screen before between after fate {bytes} {place} {first} {history} {end} kept given named begins serves finishes =
+    over_read line name input commands old new screen before after fate kept given
+    (over_served line name (given_input bytes) commands mid new screen before after fate named refl (record {
+      input = bytes;
+      input_is = refl;
+      history = history;
+      serves = subst (λ (h : History). Serves (allowance (bounds_of line) commands.asked) line.prompt commands.gave commands.ended (Shows (screen before) (screen between)) h history end) begins serves;
+      output_is = refl;
+    }) finishes)
+
+-- The same, of what is known by another name.
+pub finishes_as : (I T : Type 0) {place to output bytes : List ℕ} {over goes : Bool} (end : Served) (old new : DiskSeen I) (screen : T → Screen) (before after : T) (fate : Fate)
+    → place ≡ to → output ≡ bytes → over ≡ goes → FinishesIn (is_standard_output place) end output over place old new screen before after fate
+    → FinishesIn (is_standard_output to) end bytes goes to old new screen before after fate
+finishes_as I T {place} {to} {output} {bytes} {over} {goes} end old new screen before after fate p o g f =
+    subst (λ n. FinishesIn (is_standard_output n) end bytes goes n old new screen before after fate) p
+    (subst (λ b. FinishesIn (is_standard_output place) end b goes place old new screen before after fate) o
+    (subst (λ (g : Bool). FinishesIn (is_standard_output place) end output g place old new screen before after fate) g f))
 
 -- A write that was done after an exit.
 pub written : (run : Doings) (output : List ℕ) (unkept : Option Unkept) → run.serves served.Exit output → run.writes output → run.unkept unkept → EndsBy run (fate_written unkept)

@@ -1,5 +1,7 @@
 -- A run over one input of the line: by commands as they come, or by bytes that are had already.
 use Rattle.teco_bytes.specs.declared.source.Source.{Ghosts as SourceView}
+use Rattle.teco_bytes.specs.declared.word_source.WordSource.{WordSource}
+use Rattle.teco_bytes.specs.contracts.word_source.WordSourceSource.TheImpl as word
 use Rattle.std.specs.Prelude.{◌≡◌, ◌≢◌, ◌⊎◌, ◌&&◌, not, ℕ, List, Some, Bool, true, false}
 use Rattle.std.specs.String.{string_bytes}
 use Rattle.std.specs.IoError.{error_kind}
@@ -13,53 +15,60 @@ use Rattle.teco_line.specs.declared.line.Commands.TheVariants.{StandardInput, So
 use Rattle.teco_line.specs.declared.line.Line.{Line}
 use Rattle.teco_edit.specs.Run.{Edits, IsFateOf, input_from, named_input, standard_input}
 use Rattle.teco_host.specs.Reasons.{reason_of}
-use Rattle.teco_host.specs.Seen.{DiskSeen, Host, KeepsDisk, KeepsStream}
+use Rattle.teco_host.specs.Seen.{DiskSeen, KeepsDisk, source_view}
+use Rattle.teco_edit.specs.declared.host.Host.{Host}
 use Rattle.teco_edit.specs.Seen.{CommandsSeen, commands_seen, run_seen}
 use Rattle.teco_serve.specs.declared.fate.Fate.{Fate}
 use Rattle.teco_serve.specs.declared.fate.Fate.TheVariants.{NoCommands, NoMemory, Ended}
 use Rattle.teco_serve.specs.declared.served.Served.TheVariants as served
 
--- how these are seen, and how a source over the bytes of a word is
-pub record HostView (D I S T W : Type 0) : Type 1 where
+-- how a source over the bytes of a word is seen
+abbrev pub word_seen : SourceView WordSource
+word_seen = source_view (word.coming-value).it (word.bound-value).it (word.failures-value).it (word.ended-value).it
+
+-- how these are seen
+pub record HostView (D I S T : Type 0) : Type 1 where
   pub disk : D → DiskSeen I
   pub stream : SourceView S
   pub screen : T → Screen
-  pub word : SourceView W
   -- an alarm of so many seconds asked a command string to stop after so many steps
   pub asked : ℕ → ℕ → Type 0
 
-abbrev pub host_view : {D I S T W : Type 0} → (D → DiskSeen I) → SourceView S → (T → Screen) → SourceView W
-    → (ℕ → ℕ → Type 0) → HostView D I S T W
-host_view disk stream screen word asked =
-    record { disk = disk; stream = stream; screen = screen; word = word; asked = asked }
+abbrev pub host_view : {D I S T : Type 0} → (D → DiskSeen I) → SourceView S → (T → Screen) → (ℕ → ℕ → Type 0)
+    → HostView D I S T
+host_view disk stream screen asked = record { disk = disk; stream = stream; screen = screen; asked = asked }
 
 -- A run over this input of the line, a file or standard input, by the commands that were given.
-abbrev pub EditsInput : {D I S T W : Type 0} → HostView D I S T W → Line → List ℕ → CommandsSeen → Host D S T
-    → Host D S T → Fate → Type 0
+abbrev pub EditsInput : {D I S A T : Type 0} → HostView D I S T → Line → List ℕ → CommandsSeen → Host S A T D
+    → Host S A T D → Fate → Type 0
 EditsInput view line input given old new fate = Edits line input
     (run_seen
-    (input_from (is_standard_input input) (standard_input view.stream old.stream new.stream)
+    (input_from (is_standard_input input) (standard_input view.stream old.commands new.commands)
     (named_input (view.disk old.disk) (view.disk new.disk) input))
-    given (view.disk old.disk) (view.disk new.disk) view.screen old.term new.term) fate
+    given (view.disk old.disk) (view.disk new.disk) view.screen old.terminal new.terminal) fate
+
+-- What comes on standard input stays as it is, unless the input comes from there.
+abbrev pub KeepsStream : {S A T D : Type 0} → List ℕ → Host S A T D → Host S A T D → Type 0
+KeepsStream input old new = is_standard_input input ≡ false → new.commands ≡ old.commands
 
 -- Nothing was done.
-abbrev pub IsIdle : {D I S T W : Type 0} → HostView D I S T W → Host D S T → Host D S T → Type 0
-IsIdle view old new = (new.term ≡ old.term) × KeepsDisk (view.disk old.disk) (view.disk new.disk)
+abbrev pub IsIdle : {D I S A T : Type 0} → HostView D I S T → Host S A T D → Host S A T D → Type 0
+IsIdle view old new = (new.terminal ≡ old.terminal) × KeepsDisk (view.disk old.disk) (view.disk new.disk)
 
 -- By commands in memory: nothing is done if memory is refused for them; else the run is over these bytes, of
 -- which no read fails.
-pub record EditsByBytes {D I S T W : Type 0} (view : HostView D I S T W) (line : Line) (input bytes : List ℕ)
-    (old new : Host D S T) (fate : Fate) : Type 0 where
+pub record EditsByBytes {D I S A T : Type 0} (view : HostView D I S T) (line : Line) (input bytes : List ℕ)
+    (old new : Host S A T D) (fate : Fate) : Type 0 where
   pub kept : KeepsStream input old new
   pub edits : ((fate ≡ NoMemory) × IsIdle view old new)
-      ⊎ ((first : W) × (last : W) × (view.word.coming first ≡ Some bytes)
-      × EditsInput view line input (commands_seen view.word first last view.asked) old new fate
+      ⊎ ((first : WordSource) × (last : WordSource) × (word_seen.coming first ≡ Some bytes)
+      × EditsInput view line input (commands_seen word_seen first last view.asked) old new fate
       × (fate ≢ Ended served.ReadFault))
 
 -- By the commands of a file: nothing is done if the disk refuses to open it, and the fate has the reason; else the run is over
 -- what it opened.
-pub record EditsByFile {D I S T W : Type 0} (view : HostView D I S T W) (line : Line) (input name : List ℕ)
-    (old new : Host D S T) (fate : Fate) : Type 0 where
+pub record EditsByFile {D I S A T : Type 0} (view : HostView D I S T) (line : Line) (input name : List ℕ)
+    (old new : Host S A T D) (fate : Fate) : Type 0 where
   pub kept : KeepsStream input old new
   pub edits : ((error : Error) × (view.disk new.disk).gave error
       × IsFateOf error (NoCommands (reason_of (error_kind error))) fate
@@ -68,19 +77,19 @@ pub record EditsByFile {D I S T W : Type 0} (view : HostView D I S T W) (line : 
       × EditsInput view line input (commands_seen (view.disk old.disk).input first last view.asked) old new fate)
 
 -- By the commands of standard input, which come as they are wanted.
-abbrev pub EditsByStream : {D I S T W : Type 0} → HostView D I S T W → Line → List ℕ → Host D S T → Host D S T → Fate
+abbrev pub EditsByStream : {D I S A T : Type 0} → HostView D I S T → Line → List ℕ → Host S A T D → Host S A T D → Fate
     → Type 0
 EditsByStream view line input old new fate =
-    EditsInput view line input (commands_seen view.stream old.stream new.stream view.asked) old new fate
+    EditsInput view line input (commands_seen view.stream old.commands new.commands view.asked) old new fate
 
 -- A file of commands that has a name of standard input is that.
-abbrev pub EditsByNamed : {D I S T W : Type 0} → Bool → HostView D I S T W → Line → List ℕ → List ℕ → Host D S T
-    → Host D S T → Fate → Type 0
+abbrev pub EditsByNamed : {D I S A T : Type 0} → Bool → HostView D I S T → Line → List ℕ → List ℕ → Host S A T D
+    → Host S A T D → Fate → Type 0
 EditsByNamed true view line input name old new fate = EditsByStream view line input old new fate
 EditsByNamed false view line input name old new fate = EditsByFile view line input name old new fate
 
 -- These commands come as they are wanted: from standard input, or from a file as they are.
-abbrev pub EditsBy : {D I S T W : Type 0} → HostView D I S T W → Line → List ℕ → Commands → Host D S T → Host D S T
+abbrev pub EditsBy : {D I S A T : Type 0} → HostView D I S T → Line → List ℕ → Commands → Host S A T D → Host S A T D
     → Fate → Type 0
 EditsBy view line input StandardInput old new fate = EditsByStream view line input old new fate
 EditsBy view line input (Sources names word) old new fate = ⊥
@@ -100,7 +109,7 @@ is_streamed line = come_as_wanted line.commands && not (has_more line)
 
 -- A run over the line's own input by commands as they come, if the line is streamed; else one over this input by these
 -- bytes as commands.
-abbrev pub EditsGiven : {D I S T W : Type 0} → Bool → HostView D I S T W → Line → List ℕ → List ℕ → Host D S T
-    → Host D S T → Fate → Type 0
+abbrev pub EditsGiven : {D I S A T : Type 0} → Bool → HostView D I S T → Line → List ℕ → List ℕ → Host S A T D
+    → Host S A T D → Fate → Type 0
 EditsGiven true view line bytes input old new fate = EditsBy view line (string_bytes line.input) line.commands old new fate
 EditsGiven false view line bytes input old new fate = EditsByBytes view line input bytes old new fate

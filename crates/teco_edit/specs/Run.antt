@@ -236,6 +236,10 @@ abbrev pub input_from : Bool → InputSeen → InputSeen → InputSeen
 input_from true stream file = stream
 input_from false stream file = file
 
+-- Why there is no input from there, which may be to be edited in place: then it may be no regular file.
+abbrev pub Lacks : Bool → InputSeen → Fate → Type 0
+Lacks in_place input fate = input.lacks fate ⊎ ((fate ≡ NotRegular) × IsTrue in_place × input.is_irregular)
+
 -- A beginning of the bytes was put, and then the terminal failed, which doesn't tell why.
 pub record FailsToPut (old new : Screen) (bytes : List ℕ) (fate : Fate) : Type 0 where
   pub front : List ℕ

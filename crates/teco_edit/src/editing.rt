@@ -1,11 +1,17 @@
 //! One run of the program: an input is read, commands are served over it, and the output is written.
 ghost use Rattle.std.specs.Prelude.{◌≡◌, ◌≤◌, IfErr, IfOk, IfSome, IsTrue, false, true, vec_len};
 ghost use Rattle.std.specs.Option.{ForSome};
+ghost use Rattle.std.specs.String.{string_bytes};
+ghost use Rattle.teco_bytes.specs.Source.{Gives, HasEnded};
 ghost use Rattle.teco_core.specs.declared.limits.TheConstants.{DEPTH_LIMIT, FILE_LIMIT};
 ghost use Rattle.teco_line.specs.CommandLine.{IsDepth};
 ghost use Rattle.teco_option.specs.StreamNames.{is_standard_input, is_standard_output};
-ghost use Rattle.teco_serve.specs.Exchange.{HasRung};
-ghost use Rattle.teco_edit.specs.Run.{Edits, EndsBy, FinishesIn, FailsToStream, LacksInPlace, LacksInput, depth_of, doings_after, given_input, history_over, input_from, named_input, named_output, replaces_input, standard_input, standard_output};
+ghost use Rattle.teco_serve.specs.Exchange.{HasRung, allowance};
+ghost use Rattle.teco_serve.specs.Ending.{output_of};
+ghost use Rattle.teco_serve.specs.Serving.{Serves};
+ghost use Rattle.teco_session.specs.History.{present};
+ghost use Rattle.teco_terminal.specs.Terminal.{Shows};
+ghost use Rattle.teco_edit.specs.Run.{Edits, EndsBy, FinishesIn, FailsToStream, Lacks, LacksInPlace, LacksInput, bounds_of, depth_of, doings_after, history_over, input_from, named_input, named_output, replaces_input, standard_input, standard_output};
 ghost use Rattle.teco_host.specs.Reading.{IsInput, IsStreamed};
 ghost use Rattle.teco_host.specs.Seen.{KeepsDisk, disk_seen};
 ghost use Rattle.teco_edit.specs.Seen.{commands_seen, run_seen};
@@ -14,6 +20,7 @@ ghost use Rattle.teco_session.specs.Kept.{history_of};
 
 use crate::fates::{fate_written, no_input, no_output};
 use crate::giving::is_streamed;
+use crate::host::Host;
 use std::alloc::Global;
 use std::mem::ManuallyDrop;
 use teco_bytes::{Source, read_input};
@@ -99,6 +106,31 @@ pub fn input_of_stream<S: Source>(alloc: Global, source: &mut S) -> Result<Vec<u
         Ok(input) => Ok(input),
         Err(fault) => Err(Fate::from(fault)),
     }
+}
+
+/// Reads an input of the line whole, standard input or a file.
+fn input_at<S: Source, D: Disk>(
+    alloc: Global,
+    line: &Line,
+    name: &str,
+    stream: &mut S,
+    disk: &mut D,
+) -> Result<Vec<u8>, Fate>
+    ensures input { let seen = disk_seen D.Disk D.Input.Source in
+        IfOk result (λ input. (input_from (is_standard_input name.now) (standard_input S.Source stream.old stream.new)
+        (named_input (seen disk.old) (seen disk.new) name.now)).is_input input.items) }
+    ensures small { IfOk result (λ input. vec_len input ≤ FILE_LIMIT) }
+    ensures fault { let seen = disk_seen D.Disk D.Input.Source in
+        IfErr result (Lacks line.now.in_place (input_from (is_standard_input name.now)
+        (standard_input S.Source stream.old stream.new) (named_input (seen disk.old) (seen disk.new) name.now))) }
+    ensures keeps { let seen = disk_seen D.Disk D.Input.Source in
+        KeepsDisk (seen disk.old) (seen disk.new) }
+    ensures still { is_standard_input name.now ≡ false → stream.new ≡ stream.old }
+{
+    if is_standard_input(name) {
+        return input_of_stream(alloc, stream);
+    }
+    input_of(alloc, line, name, disk)
 }
 
 /// How many strings the history keeps: as many as the line says, all if it says none, and none of the strings for every page.
@@ -198,28 +230,71 @@ fn put_in_file<D: Disk>(
 }
 
 /// What is done after a serving: after an exit the output is written to where the line says.
-fn finish<T: Terminal, D: Disk>(
+fn finish<S: Source, A: Alarm, T: Terminal, D: Disk>(
     alloc: Global,
     over: bool,
     name: &str,
-    number: u32,
     served: Served,
     output: (&[u8], &[u8]),
-    term: &mut T,
-    disk: &mut D,
+    host: &mut Host<S, A, T, D>,
 ) -> Fate
-    ensures { let seen = disk_seen D.Disk D.Input.Source in
+    ensures ends { let seen = disk_seen D.Disk D.Input.Source in
         FinishesIn (is_standard_output name.now) served (both output.entry) over name.now
-        (seen disk.old) (seen disk.new) T.screen term.old term.new result }
+        (seen host.old.disk) (seen host.new.disk) T.screen host.old.terminal host.new.terminal result }
+    ensures still { host.new.commands ≡ host.old.commands }
 {
     match served {
         Served::Exit => {}
         other => return Fate::Ended(other),
     }
     if is_standard_output(name) {
-        return put_on_terminal(output, term);
+        return put_on_terminal(output, &mut host.terminal);
     }
-    put_in_file(alloc, over, name, number, output, disk)
+    put_in_file(alloc, over, name, host.process, output, &mut host.disk)
+}
+
+/// What is made of an input that was read: a session over it, and the name of its output.
+#[derive(Drop)]
+struct Work {
+    session: Session,
+    to: String,
+}
+
+/// Makes a session over an input of the line, with as many lines on a page and as deep as the line says.
+fn work_over(alloc: Global, line: &Line, name: &str, input: Vec<u8>) -> Result<Work, NoMemory>
+    requires small { vec_len input ≤ FILE_LIMIT }
+    requires depth { IfSome line.now.undo IsDepth }
+    ensures to { IfOk result (λ work. string_bytes work.to ≡ output_of line.now name.now) }
+    ensures history { IfOk result (λ work. history_of work.session ≡ history_over line.now input.items) }
+{
+    let to = output_name(alloc, line, name)?;
+    let session = session_over(line, input)?;
+    Ok(Work { session, to })
+}
+
+/// Serves these commands to a session, within the bounds of the line.
+fn serve_line<C: Source, A: Alarm, T: Terminal, L: Listens>(
+    alloc: Global,
+    line: &Line,
+    commands: &mut C,
+    session: &mut Session,
+    alarm: &mut A,
+    terminal: &mut T,
+    listener: &mut L,
+) -> Served
+    ensures { Serves (allowance (bounds_of line.now) (HasRung A.answered)) line.now.prompt
+        (Gives C.coming C.bound C.failures commands.old commands.new)
+        (HasEnded (C.coming commands.new) (C.ended commands.new))
+        (Shows (T.screen terminal.old) (T.screen terminal.new))
+        (history_of session.old) (history_of session.new) result }
+{
+    let bounds = Bounds {
+        steps: line.limit,
+        seconds: line.seconds,
+    };
+    serve(
+        alloc, commands, session, bounds, line.prompt, alarm, terminal, listener,
+    )
 }
 
 /// Gives up a session that is over.
@@ -230,119 +305,92 @@ fn leave(line: &Line, session: Session) {
     }
 }
 
-/// Serves the commands over an input that was read, and after an exit writes the output. The number is for the name of a draft.
-fn edit_over<S: Source, A: Alarm, T: Terminal, L: Listens, D: Disk>(
+/// Writes the output of a session after an exit, and gives it up.
+fn finish_work<S: Source, A: Alarm, T: Terminal, D: Disk>(
     alloc: Global,
     line: &Line,
-    name: &str,
-    number: u32,
-    input: Vec<u8>,
-    commands: &mut S,
-    alarm: &mut A,
-    term: &mut T,
-    listener: &mut L,
-    disk: &mut D,
+    work: Work,
+    served: Served,
+    host: &mut Host<S, A, T, D>,
 ) -> Fate
-    requires small { vec_len input ≤ FILE_LIMIT }
-    requires depth { IfSome line.now.undo IsDepth }
-    ensures { let seen = disk_seen D.Disk D.Input.Source in
-        Edits line.now name.now (run_seen (given_input input.items)
-        (commands_seen S.Source commands.old commands.new
-        (HasRung A.answered))
-        (seen disk.old) (seen disk.new) T.screen term.old term.new) result }
+    ensures ends { let seen = disk_seen D.Disk D.Input.Source in
+        FinishesIn (is_standard_output (string_bytes work.to)) served (present (history_of work.session)).output
+        (replaces_input line.now) (string_bytes work.to)
+        (seen host.old.disk) (seen host.new.disk) T.screen host.old.terminal host.new.terminal result }
+    ensures still { host.new.commands ≡ host.old.commands }
 {
-    let Ok(to) = output_name(alloc, line, name) else {
-        return Fate::NoMemory;
-    };
-    let Ok(mut session) = session_over(line, input) else {
-        return Fate::NoMemory;
-    };
-    let served = serve(
-        alloc,
-        commands,
-        &mut session,
-        Bounds {
-            steps: line.limit,
-            seconds: line.seconds,
-        },
-        line.prompt,
-        alarm,
-        term,
-        listener,
-    );
-    let fate = finish(
-        alloc,
-        replaces_input(line),
-        to.as_str(),
-        number,
-        served,
-        session.editor().output(),
-        term,
-        disk,
-    );
-    leave(line, session);
+    let output = work.session.editor().output();
+    let fate = finish(alloc, replaces_input(line), work.to.as_str(), served, output, host);
+    leave(line, work.session);
     fate
 }
 
-/// Reads an input that is a file, and edits it by these commands.
-pub fn edit_file<S: Source, A: Alarm, T: Terminal, L: Listens, D: Disk>(
+/// Reads an input that is a file, and edits it by the commands of standard input.
+pub fn edit_by_stream<S: Source, A: Alarm, T: Terminal, L: Listens, D: Disk>(
     alloc: Global,
     line: &Line,
     name: &str,
-    number: u32,
-    commands: &mut S,
-    alarm: &mut A,
-    term: &mut T,
+    host: &mut Host<S, A, T, D>,
     listener: &mut L,
-    disk: &mut D,
 ) -> Fate
     requires depth { IfSome line.now.undo IsDepth }
     ensures { let seen = disk_seen D.Disk D.Input.Source in
-        Edits line.now name.now (run_seen (named_input (seen disk.old) (seen disk.new) name.now)
-        (commands_seen S.Source commands.old commands.new
-        (HasRung A.answered))
-        (seen disk.old) (seen disk.new) T.screen term.old term.new) result }
+        Edits line.now name.now (run_seen (named_input (seen host.old.disk) (seen host.new.disk) name.now)
+        (commands_seen S.Source host.old.commands host.new.commands (HasRung A.answered))
+        (seen host.old.disk) (seen host.new.disk) T.screen host.old.terminal host.new.terminal) result }
 {
-    match input_of(alloc, line, name, disk) {
-        Ok(input) => edit_over(
-            alloc, line, name, number, input, commands, alarm, term, listener, disk,
-        ),
-        Err(fate) => fate,
-    }
+    let input = match input_of(alloc, line, name, &mut host.disk) {
+        Ok(input) => input,
+        Err(fate) => return fate,
+    };
+    let Ok(mut work) = work_over(alloc, line, name, input) else {
+        return Fate::NoMemory;
+    };
+    let served = serve_line(
+        alloc,
+        line,
+        &mut host.commands,
+        &mut work.session,
+        &mut host.alarm,
+        &mut host.terminal,
+        listener,
+    );
+    finish_work(alloc, line, work, served, host)
 }
 
 /// Reads an input, standard input or a file, and edits it by these commands.
-pub fn edit_input<C: Source, S: Source, A: Alarm, T: Terminal, L: Listens, D: Disk>(
+pub fn edit_by<C: Source, S: Source, A: Alarm, T: Terminal, L: Listens, D: Disk>(
     alloc: Global,
     line: &Line,
     name: &str,
-    number: u32,
     commands: &mut C,
-    stream: &mut S,
-    alarm: &mut A,
-    term: &mut T,
+    host: &mut Host<S, A, T, D>,
     listener: &mut L,
-    disk: &mut D,
 ) -> Fate
     requires depth { IfSome line.now.undo IsDepth }
     ensures edits { let seen = disk_seen D.Disk D.Input.Source in
         Edits line.now name.now (run_seen (input_from (is_standard_input name.now)
-        (standard_input S.Source stream.old stream.new)
-        (named_input (seen disk.old) (seen disk.new) name.now))
-        (commands_seen C.Source commands.old commands.new
-        (HasRung A.answered))
-        (seen disk.old) (seen disk.new) T.screen term.old term.new) result }
-    ensures still { is_standard_input name.now ≡ false → stream.new ≡ stream.old }
+        (standard_input S.Source host.old.commands host.new.commands)
+        (named_input (seen host.old.disk) (seen host.new.disk) name.now))
+        (commands_seen C.Source commands.old commands.new (HasRung A.answered))
+        (seen host.old.disk) (seen host.new.disk) T.screen host.old.terminal host.new.terminal) result }
+    ensures still { is_standard_input name.now ≡ false → host.new.commands ≡ host.old.commands }
 {
-    if is_standard_input(name) {
-        return match input_of_stream(alloc, stream) {
-            Ok(input) => edit_over(
-                alloc, line, name, number, input, commands, alarm, term, listener, disk,
-            ),
-            Err(fate) => fate,
-        };
-    }
-    edit_file(
-        alloc, line, name, number, commands, alarm, term, listener, disk,
-    )
+    let input = match input_at(alloc, line, name, &mut host.commands, &mut host.disk) {
+        Ok(input) => input,
+        Err(fate) => return fate,
+    };
+    let Ok(mut work) = work_over(alloc, line, name, input) else {
+        return Fate::NoMemory;
+    };
+    let served = serve_line(
+        alloc,
+        line,
+        commands,
+        &mut work.session,
+        &mut host.alarm,
+        &mut host.terminal,
+        listener,
+    );
+    finish_work(alloc, line, work, served, host)
 }

@@ -5,8 +5,10 @@ mod concluding;
 mod editing;
 mod fates;
 mod giving;
+mod host;
 mod sources;
 
 pub use concluding::{NO_MEMORY, conclude, no_memory};
 pub use giving::{edit_given, is_streamed};
+pub use host::Host;
 pub use sources::{CommandsFault, Part, Parts, commands_given, decline, source_name};

@@ -5,12 +5,12 @@ ghost use Rattle.teco_program.specs.Checks.{TellsVerdict, status_of_check};
 ghost use Rattle.teco_serve.specs.Ending.{said};
 ghost use Rattle.teco_host.specs.Refusing.{Tells};
 ghost use Rattle.teco_program.specs.Runs.{ChecksLine};
-ghost use Rattle.teco_host.specs.Seen.{disk_seen, host};
+ghost use Rattle.teco_host.specs.Seen.{disk_seen};
 
 use crate::verdict::verdict_on;
 use std::alloc::Global;
 use teco_bytes::Source;
-use teco_edit::{Parts, commands_given, decline, no_memory};
+use teco_edit::{Host, Parts, commands_given, decline, no_memory};
 use teco_files::Disk;
 use teco_line::{Commands, Line};
 use teco_terminal::{Terminal, TerminalFault};
@@ -52,28 +52,31 @@ fn tell_verdict<T: Terminal, E: Terminal>(
 }
 
 /// Checks the commands of the line, which are not run, and tells what is found. Gives the status.
-pub fn check_line<S: Source, T: Terminal, E: Terminal, D: Disk>(
+pub fn check_line<S: Source, A, T: Terminal, E: Terminal, D: Disk>(
     alloc: Global,
     line: &Line,
-    commands: &mut S,
-    term: &mut T,
+    host: &mut Host<S, A, T, D>,
     errors: &mut E,
-    disk: &mut D,
 ) -> u8
     requires asked { line.now.check ≡ true }
     requires given { are_awaited line.now.commands ≡ false }
     ensures { let seen = disk_seen D.Disk D.Input.Source in
-        ChecksLine seen S.Source T.screen E.screen line.now
-        (host disk.old commands.old term.old) (host disk.new commands.new term.new) errors.old errors.new result }
+        ChecksLine seen S.Source T.screen E.screen line.now host.old host.new errors.old errors.new result }
 {
     let mut parts = Parts::kept(alloc);
-    match commands_given(alloc, &line.commands, commands, disk, &mut parts) {
+    match commands_given(
+        alloc,
+        &line.commands,
+        &mut host.commands,
+        &mut host.disk,
+        &mut parts,
+    ) {
         Ok(bytes) => tell_verdict(
             alloc,
             &line.commands,
             &parts,
             bytes.as_slice(),
-            term,
+            &mut host.terminal,
             errors,
         ),
         Err(fault) => decline(alloc, &line.commands, fault, errors),

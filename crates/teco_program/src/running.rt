@@ -7,14 +7,14 @@ ghost use Rattle.teco_serve.specs.Exchange.{HasRung};
 ghost use Rattle.teco_program.specs.Lines.{IsFaultIn, IsLineIn};
 ghost use Rattle.teco_edit.specs.Given.{host_view};
 ghost use Rattle.teco_program.specs.Runs.{Runs, RunsOrChecks};
-ghost use Rattle.teco_host.specs.Seen.{disk_seen, host, source_view};
+ghost use Rattle.teco_host.specs.Seen.{disk_seen};
 
 use crate::checking::check_line;
 use crate::several::{edit_all, edit_told};
 use std::alloc::Global;
 use std::process::ExitCode;
-use teco_bytes::{Source, WordSource};
-use teco_edit::{NO_MEMORY, is_streamed};
+use teco_bytes::Source;
+use teco_edit::{Host, NO_MEMORY, is_streamed};
 use teco_files::Disk;
 use teco_host::refuse;
 use teco_line::{Line, line_of};
@@ -38,73 +38,41 @@ fn line_in(alloc: Global, words: Result<Vec<String>, LineFault>) -> Result<Line,
 fn run_over<S: Source, A: Alarm, T: Terminal, E: Terminal, N: Terminal, D: Disk>(
     alloc: Global,
     line: &Line,
-    number: u32,
-    commands: &mut S,
-    alarm: &mut A,
-    term: &mut T,
+    host: &mut Host<S, A, T, D>,
     errors: &mut E,
     notes: &mut N,
-    disk: &mut D,
 ) -> u8
     requires depth { IfSome line.now.undo IsDepth }
     requires fits { has_conflict line.now ≡ false }
-    ensures runs { let view = host_view (disk_seen D.Disk D.Input.Source)
-        S.Source T.screen
-        (source_view ⟦<WordSource as Source>⟧.coming ⟦<WordSource as Source>⟧.bound
-        ⟦<WordSource as Source>⟧.failures ⟦<WordSource as Source>⟧.ended) (HasRung A.answered) in
-        RunsOrChecks view E.screen line.now (host disk.old commands.old term.old) (host disk.new commands.new term.new)
-        errors.old errors.new result }
+    ensures runs { let view = host_view (disk_seen D.Disk D.Input.Source) S.Source T.screen (HasRung A.answered) in
+        RunsOrChecks view E.screen line.now host.old host.new errors.old errors.new result }
     ensures silent { line.now.explain ≡ false → notes.new ≡ notes.old }
 {
     if line.check {
-        return check_line(alloc, line, commands, term, errors, disk);
+        return check_line(alloc, line, host, errors);
     }
     if is_streamed(line) {
         let name = line.input.as_str();
-        return edit_told(
-            alloc,
-            line,
-            name,
-            number,
-            &[],
-            commands,
-            alarm,
-            term,
-            errors,
-            notes,
-            disk,
-        );
+        return edit_told(alloc, line, name, &[], host, errors, notes);
     }
-    edit_all(
-        alloc, line, number, commands, alarm, term, errors, notes, disk,
-    )
+    edit_all(alloc, line, host, errors, notes)
 }
 
-/// Runs over the line of these words, and gives the status. The number is for the name of a draft. The alarm breaks off command strings
-/// of a line that gives them seconds. The notes are for what the line asks to be explained.
+/// Runs over the line of these words, and gives the status. The alarm of the host breaks off command strings of a line that gives them
+/// seconds. The notes are for what the line asks to be explained.
 pub fn program<S: Source, A: Alarm, T: Terminal, E: Terminal, N: Terminal, D: Disk>(
     alloc: Global,
     words: Result<Vec<String>, LineFault>,
-    number: u32,
-    commands: &mut S,
-    alarm: &mut A,
-    term: &mut T,
+    host: &mut Host<S, A, T, D>,
     errors: &mut E,
     notes: &mut N,
-    disk: &mut D,
 ) -> ExitCode
-    ensures run { let view = host_view (disk_seen D.Disk D.Input.Source)
-        S.Source T.screen
-        (source_view ⟦<WordSource as Source>⟧.coming ⟦<WordSource as Source>⟧.bound
-        ⟦<WordSource as Source>⟧.failures ⟦<WordSource as Source>⟧.ended) (HasRung A.answered) in
-        Runs view E.screen words (host disk.old commands.old term.old) (host disk.new commands.new term.new)
-        errors.old errors.new (exit_status result) }
+    ensures run { let view = host_view (disk_seen D.Disk D.Input.Source) S.Source T.screen (HasRung A.answered) in
+        Runs view E.screen words host.old host.new errors.old errors.new (exit_status result) }
     ensures silent { (line : Line) → IsLineIn words line → line.explain ≡ false → notes.new ≡ notes.old }
 {
     match line_in(alloc, words) {
-        Ok(line) => ExitCode::from(run_over(
-            alloc, &line, number, commands, alarm, term, errors, notes, disk,
-        )),
-        Err(fault) => ExitCode::from(refuse(&fault, NO_MEMORY, term, errors)),
+        Ok(line) => ExitCode::from(run_over(alloc, &line, host, errors, notes)),
+        Err(fault) => ExitCode::from(refuse(&fault, NO_MEMORY, &mut host.terminal, errors)),
     }
 }

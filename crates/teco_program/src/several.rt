@@ -6,12 +6,12 @@ ghost use Rattle.teco_program.specs.Lines.{worse};
 ghost use Rattle.teco_serve.specs.Exchange.{HasRung};
 ghost use Rattle.teco_edit.specs.Given.{host_view, is_streamed};
 ghost use Rattle.teco_program.specs.Runs.{LinkGiven, RunsIfSpelt, RunsInOrder, RunsOverAll, inputs_of};
-ghost use Rattle.teco_host.specs.Seen.{disk_seen, host, source_view};
+ghost use Rattle.teco_host.specs.Seen.{disk_seen};
 
 use crate::looking::status_if_misspelt;
 use std::alloc::Global;
-use teco_bytes::{Source, WordSource};
-use teco_edit::{Parts, commands_given, conclude, decline, edit_given};
+use teco_bytes::Source;
+use teco_edit::{Host, Parts, commands_given, conclude, decline, edit_given};
 use teco_files::Disk;
 use teco_line::Line;
 use teco_serve::{Alarm, Explainer, Silent};
@@ -36,53 +36,23 @@ pub fn edit_told<S: Source, A: Alarm, T: Terminal, E: Terminal, N: Terminal, D: 
     alloc: Global,
     line: &Line,
     name: &str,
-    number: u32,
     bytes: &[u8],
-    commands: &mut S,
-    alarm: &mut A,
-    term: &mut T,
+    host: &mut Host<S, A, T, D>,
     errors: &mut E,
     notes: &mut N,
-    disk: &mut D,
 ) -> u8
     requires depth { IfSome line.now.undo IsDepth }
     requires come { is_streamed line.now ≡ true → has_conflict line.now ≡ false }
-    ensures link { let view = host_view (disk_seen D.Disk D.Input.Source)
-        S.Source T.screen
-        (source_view ⟦<WordSource as Source>⟧.coming ⟦<WordSource as Source>⟧.bound
-        ⟦<WordSource as Source>⟧.failures ⟦<WordSource as Source>⟧.ended) (HasRung A.answered) in
-        LinkGiven (is_streamed line.now) view E.screen line.now bytes.now name.now (host disk.old commands.old term.old, errors.old)
-        (host disk.new commands.new term.new, errors.new) result }
+    ensures link { let view = host_view (disk_seen D.Disk D.Input.Source) S.Source T.screen (HasRung A.answered) in
+        LinkGiven (is_streamed line.now) view E.screen line.now bytes.now name.now (host.old, errors.old) (host.new, errors.new) result }
     ensures silent { line.now.explain ≡ false → notes.new ≡ notes.old }
 {
     if !line.explain {
-        let fate = edit_given(
-            alloc,
-            line,
-            name,
-            number,
-            bytes,
-            commands,
-            alarm,
-            term,
-            &mut Silent,
-            disk,
-        );
+        let fate = edit_given(alloc, line, name, bytes, host, &mut Silent);
         return conclude(alloc, line, name, fate, errors);
     }
     let mut explainer = Explainer::new(alloc, line, notes);
-    let fate = edit_given(
-        alloc,
-        line,
-        name,
-        number,
-        bytes,
-        commands,
-        alarm,
-        term,
-        &mut explainer,
-        disk,
-    );
+    let fate = edit_given(alloc, line, name, bytes, host, &mut explainer);
     explainer.ended(line, name, fate);
     conclude(alloc, line, name, fate, errors)
 }
@@ -91,36 +61,24 @@ pub fn edit_told<S: Source, A: Alarm, T: Terminal, E: Terminal, N: Terminal, D: 
 fn edit_each<S: Source, A: Alarm, T: Terminal, E: Terminal, N: Terminal, D: Disk>(
     alloc: Global,
     line: &Line,
-    number: u32,
     bytes: &[u8],
-    commands: &mut S,
-    alarm: &mut A,
-    term: &mut T,
+    host: &mut Host<S, A, T, D>,
     errors: &mut E,
     notes: &mut N,
-    disk: &mut D,
 ) -> u8
     requires whole { is_streamed line.now ≡ false }
     requires depth { IfSome line.now.undo IsDepth }
-    ensures runs { let view = host_view (disk_seen D.Disk D.Input.Source)
-        S.Source T.screen
-        (source_view ⟦<WordSource as Source>⟧.coming ⟦<WordSource as Source>⟧.bound
-        ⟦<WordSource as Source>⟧.failures ⟦<WordSource as Source>⟧.ended) (HasRung A.answered) in
+    ensures runs { let view = host_view (disk_seen D.Disk D.Input.Source) S.Source T.screen (HasRung A.answered) in
         RunsInOrder view E.screen line.now bytes.now (inputs_of line.now)
-        (host disk.old commands.old term.old, errors.old)
-        (host disk.new commands.new term.new, errors.new) result }
+        (host.old, errors.old) (host.new, errors.new) result }
     ensures silent { line.now.explain ≡ false → notes.new ≡ notes.old }
 {
     let name = line.input.as_str();
-    let first = edit_told(
-        alloc, line, name, number, bytes, commands, alarm, term, errors, notes, disk,
-    );
+    let first = edit_told(alloc, line, name, bytes, host, errors, notes);
     let mut status = worse(0, first);
     for name in line.more.iter() {
         let name = name.as_str();
-        let next = edit_told(
-            alloc, line, name, number, bytes, commands, alarm, term, errors, notes, disk,
-        );
+        let next = edit_told(alloc, line, name, bytes, host, errors, notes);
         status = worse(status, next);
     }
     status
@@ -130,71 +88,55 @@ fn edit_each<S: Source, A: Alarm, T: Terminal, E: Terminal, N: Terminal, D: Disk
 fn edit_looked_at<S: Source, A: Alarm, T: Terminal, E: Terminal, N: Terminal, D: Disk>(
     alloc: Global,
     line: &Line,
-    number: u32,
     parts: &Parts,
     bytes: &[u8],
-    commands: &mut S,
-    alarm: &mut A,
-    term: &mut T,
+    host: &mut Host<S, A, T, D>,
     errors: &mut E,
     notes: &mut N,
-    disk: &mut D,
 ) -> u8
     requires whole { is_streamed line.now ≡ false }
     requires depth { IfSome line.now.undo IsDepth }
-    ensures runs { let view = host_view (disk_seen D.Disk D.Input.Source)
-        S.Source T.screen
-        (source_view ⟦<WordSource as Source>⟧.coming ⟦<WordSource as Source>⟧.bound
-        ⟦<WordSource as Source>⟧.failures ⟦<WordSource as Source>⟧.ended) (HasRung A.answered) in
-        RunsIfSpelt view E.screen line.now bytes.now (host disk.old commands.old term.old, errors.old)
-        (host disk.new commands.new term.new, errors.new) result }
+    ensures runs { let view = host_view (disk_seen D.Disk D.Input.Source) S.Source T.screen (HasRung A.answered) in
+        RunsIfSpelt view E.screen line.now bytes.now (host.old, errors.old) (host.new, errors.new) result }
     ensures silent { line.now.explain ≡ false → notes.new ≡ notes.old }
 {
     if let Some(status) = status_if_misspelt(alloc, &line.commands, parts, bytes, errors) {
         return status;
     }
-    edit_each(
-        alloc, line, number, bytes, commands, alarm, term, errors, notes, disk,
-    )
+    edit_each(alloc, line, bytes, host, errors, notes)
 }
 
 /// Runs over each input of the line by commands that are had once, before. Gives the worst status.
 pub fn edit_all<S: Source, A: Alarm, T: Terminal, E: Terminal, N: Terminal, D: Disk>(
     alloc: Global,
     line: &Line,
-    number: u32,
-    commands: &mut S,
-    alarm: &mut A,
-    term: &mut T,
+    host: &mut Host<S, A, T, D>,
     errors: &mut E,
     notes: &mut N,
-    disk: &mut D,
 ) -> u8
     requires whole { is_streamed line.now ≡ false }
     requires depth { IfSome line.now.undo IsDepth }
     requires given { are_awaited line.now.commands ≡ false }
-    ensures runs { let view = host_view (disk_seen D.Disk D.Input.Source)
-        S.Source T.screen
-        (source_view ⟦<WordSource as Source>⟧.coming ⟦<WordSource as Source>⟧.bound
-        ⟦<WordSource as Source>⟧.failures ⟦<WordSource as Source>⟧.ended) (HasRung A.answered) in
-        RunsOverAll view E.screen line.now (host disk.old commands.old term.old) (host disk.new commands.new term.new)
-        errors.old errors.new result }
+    ensures runs { let view = host_view (disk_seen D.Disk D.Input.Source) S.Source T.screen (HasRung A.answered) in
+        RunsOverAll view E.screen line.now host.old host.new errors.old errors.new result }
     ensures silent { line.now.explain ≡ false → notes.new ≡ notes.old }
 {
     let mut parts = Parts::kept(alloc);
-    match commands_given(alloc, &line.commands, commands, disk, &mut parts) {
+    match commands_given(
+        alloc,
+        &line.commands,
+        &mut host.commands,
+        &mut host.disk,
+        &mut parts,
+    ) {
         Ok(bytes) => edit_looked_at(
             alloc,
             line,
-            number,
             &parts,
             bytes.as_slice(),
-            commands,
-            alarm,
-            term,
+            host,
             errors,
             notes,
-            disk,
         ),
         Err(fault) => decline(alloc, &line.commands, fault, errors),
     }

@@ -16,11 +16,11 @@ use Rattle.teco_edit.proofs.giving.edit_by_line.Goals.{in_default-via-in-Bytes+e
 pub returns : goal.returns
 returns g c =
     let seen = disk_seen g.D.Disk g.D.Input.Source in
-    let stream = standard_input g.S.Source c.args.commands.now c.edit_input.new.stream in
-    let old = seen c.args.disk.now in
+    let stream = standard_input g.S.Source c.args.host.now.commands c.edit_by.new.host.commands in
+    let old = seen c.args.host.now.disk in
     let mid = seen c.open.new.self in
-    let new = seen c.edit_input.new.disk in
-    let given = commands_seen g.D.Input.Source c.in-Ok.given c.edit_input.new.commands (HasRung g.A.Stop.answered) in
+    let new = seen c.edit_by.new.host.disk in
+    let given = commands_seen g.D.Input.Source c.in-Ok.given c.edit_by.new.commands (HasRung g.A.Stop.answered) in
     let kept : KeepsDisk old mid = record {
       files = c.open.ensures.files;
       streams = c.open.ensures.streams;
@@ -31,29 +31,29 @@ returns g c =
     let off : c.is_standard_input.result ≡ false = first_of (cc, search rules, grind (arith, common_steps)) in
     let apart : is_standard_input (string_bytes c.in-Bytes.file) ≡ false = ap is_standard_input (sym c.as_str.ensures.value) ∙ (sym c.is_standard_input.ensures ∙ off) in
     rw (c.in-Bytes.is, apart) (record {
-      kept = λ other. c.edit_input.ensures.still (ap is_standard_input named ∙ other);
+      kept = λ other. c.edit_by.ensures.still (ap is_standard_input named ∙ other);
       edits = inr (
         c.in-Ok.given,
-        c.edit_input.new.commands,
+        c.edit_by.new.commands,
         rw c.as_str-file.ensures.value at c.in-Ok.ensures.input,
-        subst (λ (n : List ℕ). Edits c.args.line.now n (run_seen (input_from (is_standard_input n) stream (named_input old new n)) given old new g.T.Terminal.screen c.args.term.now c.edit_input.new.term) c.edit_input.result) named
-            (edits_from old mid new kept stream name (is_standard_input name) c.args.line.now given g.T.Terminal.screen c.args.term.now c.edit_input.new.term c.edit_input.result c.edit_input.ensures.edits),
+        subst (λ (n : List ℕ). Edits c.args.line.now n (run_seen (input_from (is_standard_input n) stream (named_input old new n)) given old new g.T.Terminal.screen c.args.host.now.terminal c.edit_by.new.host.terminal) c.edit_by.result) named
+            (edits_from old mid new kept stream name (is_standard_input name) c.args.line.now given g.T.Terminal.screen c.args.host.now.terminal c.edit_by.new.host.terminal c.edit_by.result c.edit_by.ensures.edits),
       );
     })
 
 pub returns-in_default : goal.returns-in_default
 returns-in_default g c =
     let seen = disk_seen g.D.Disk g.D.Input.Source in
-    let stream = standard_input g.S.Source c.args.commands.now c.edit_file.new.commands in
-    let old = seen c.args.disk.now in
-    let new = seen c.edit_file.new.disk in
-    let given = commands_seen g.S.Source c.args.commands.now c.edit_file.new.commands (HasRung g.A.Stop.answered) in
+    let stream = standard_input g.S.Source c.args.host.now.commands c.edit_by_stream.new.host.commands in
+    let old = seen c.args.host.now.disk in
+    let new = seen c.edit_by_stream.new.host.disk in
+    let given = commands_seen g.S.Source c.args.host.now.commands c.edit_by_stream.new.host.commands (HasRung g.A.Stop.answered) in
     let input = string_bytes c.args.line.now.input in
     let wanted = wanted_of (come_as_wanted c.args.line.now.commands) (has_more c.args.line.now) c.requires.streamed in
-    let ends : IsStreamOf c.args.line.now.commands → Edits c.args.line.now input (run_seen (input_from (is_standard_input input) stream (named_input old new input)) given old new g.T.Terminal.screen c.args.term.now c.edit_file.new.term) c.edit_file.result = λ is.
-    subst (λ (b : Bool). Edits c.args.line.now input (run_seen (input_from b stream (named_input old new input)) given old new g.T.Terminal.screen c.args.term.now c.edit_file.new.term) c.edit_file.result)
+    let ends : IsStreamOf c.args.line.now.commands → Edits c.args.line.now input (run_seen (input_from (is_standard_input input) stream (named_input old new input)) given old new g.T.Terminal.screen c.args.host.now.terminal c.edit_by_stream.new.host.terminal) c.edit_by_stream.result = λ is.
+    subst (λ (b : Bool). Edits c.args.line.now input (run_seen (input_from b stream (named_input old new input)) given old new g.T.Terminal.screen c.args.host.now.terminal c.edit_by_stream.new.host.terminal) c.edit_by_stream.result)
     (sym (input_apart c.args.line.now c.requires.fits wanted is))
-    (subst (λ (n : List ℕ). Edits c.args.line.now n (run_seen (named_input old new n) given old new g.T.Terminal.screen c.args.term.now c.edit_file.new.term) c.edit_file.result) c.as_str-name.ensures.value c.edit_file.ensures) in
+    (subst (λ (n : List ℕ). Edits c.args.line.now n (run_seen (named_input old new n) given old new g.T.Terminal.screen c.args.host.now.terminal c.edit_by_stream.new.host.terminal) c.edit_by_stream.result) c.as_str-name.ensures.value c.edit_by_stream.ensures) in
     elim c.in_default.branch [
       | in_default-via-in-Bytes+else-not-is_standard_input w ↦
           let on : w.is_standard_input.result ≡ true = first_of (cc, search rules, grind (arith, common_steps)) in

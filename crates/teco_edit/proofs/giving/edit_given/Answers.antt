@@ -4,12 +4,12 @@ use Rattle.teco_edit.proofs.giving.edit_given.Goals as goal
 
 pub returns : goal.returns
 returns g c = rw (sym c.is_streamed.ensures ∙ c.if-is_streamed.false) (record {
-  kept = c.edit_input.ensures.still;
+  kept = c.edit_by.ensures.still;
   edits = inr (
     c.new-given.result,
-    c.edit_input.new.commands,
+    c.edit_by.new.commands,
     c.new-given.ensures.coming ∙ ap Some c.in-Ok.ensures.items,
-    c.edit_input.ensures.edits,
-    reads_all (λ bytes gave. omega (arith, gave.count)) c.edit_input.ensures.edits,
+    c.edit_by.ensures.edits,
+    reads_all (λ bytes gave. omega (arith, gave.count)) c.edit_by.ensures.edits,
   );
 })

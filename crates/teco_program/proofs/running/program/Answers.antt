@@ -1,19 +1,16 @@
 use Rattle.std.proofs.Common.{ℕ, inr, subst, sym}
-use Rattle.teco_bytes.specs.contracts.word_source.WordSourceSource.TheImpl as word
 use Rattle.teco_serve.specs.Exchange.{HasRung}
 use Rattle.teco_program.specs.Runs.{RunsOrChecks}
-use Rattle.teco_host.specs.Seen.{host, disk_seen, source_view}
+use Rattle.teco_host.specs.Seen.{disk_seen}
 use Rattle.teco_edit.specs.Given.{host_view}
 use Rattle.teco_program.proofs.Runs.{same_explain}
 use Rattle.teco_program.proofs.running.program.Goals as goal
 
 pub returns-in-Ok : goal.returns-in-Ok
 returns-in-Ok g c = record {
-  run = let view = host_view (disk_seen g.D.Disk g.D.Input.Source)
-      g.S.Source g.T.Terminal.screen
-      (source_view (word.coming-value).it (word.bound-value).it (word.failures-value).it (word.ended-value).it) (HasRung g.A.Stop.answered) in
-      let old = host c.args.disk.now c.args.commands.now c.args.term.now in
-      let new = host c.run_over.new.disk c.run_over.new.commands c.run_over.new.term in
+  run = let view = host_view (disk_seen g.D.Disk g.D.Input.Source) g.S.Source g.T.Terminal.screen (HasRung g.A.Stop.answered) in
+      let old = c.args.host.now in
+      let new = c.run_over.new.host in
       inr (record {
         line = c.in-Ok.line;
         line_is = c.in-Ok.ensures.line;

@@ -1,22 +1,20 @@
 use Rattle.std.proofs.Common.{◌≡◌, ◌∙◌, ◌++◌, ◌+◌, ◌≤◌, ℕ, List, String, Global, [], ◌∷◌, map, take, length, refl, sym, ap, subst}
 use Rattle.std.proofs.lemmas.List.{take_all, take_more, map-append}
 use Rattle.std.specs.String.{string_bytes}
-use Rattle.teco_bytes.specs.contracts.word_source.WordSourceSource.TheImpl as word
 use Rattle.teco_program.specs.Lines.{worse}
 use Rattle.teco_serve.specs.Exchange.{HasRung}
 use Rattle.teco_program.specs.Runs.{Chain, LinkOver}
-use Rattle.teco_host.specs.Seen.{Host, host, disk_seen, source_view}
+use Rattle.teco_host.specs.Seen.{disk_seen}
 use Rattle.teco_edit.specs.Given.{host_view}
+use Rattle.teco_edit.specs.declared.host.Host.{Host}
 use Rattle.teco_program.proofs.Runs.{chain_more, worst_more}
 use Rattle.teco_program.proofs.several.edit_each.Goals as goal
 
 pub loop-name-init : goal.loop-name-init
 loop-name-init g c =
-    let view = host_view (disk_seen g.D.Disk g.D.Input.Source)
-    g.S.Source g.T.Terminal.screen
-    (source_view (word.coming-value).it (word.bound-value).it (word.failures-value).it (word.ended-value).it) (HasRung g.A.Stop.answered) in
-    let old : Host g.row.D.Denot g.row.S.Denot g.row.T.Denot × g.row.E.Denot = (host c.args.disk.now c.args.commands.now c.args.term.now, c.args.errors.now) in
-    let new : Host g.row.D.Denot g.row.S.Denot g.row.T.Denot × g.row.E.Denot = (host c.edit_told-first.new.disk c.edit_told-first.new.commands c.edit_told-first.new.term, c.edit_told-first.new.errors) in
+    let view = host_view (disk_seen g.D.Disk g.D.Input.Source) g.S.Source g.T.Terminal.screen (HasRung g.A.Stop.answered) in
+    let old : Host g.row.S.Denot g.row.A.Denot g.row.T.Denot g.row.D.Denot × g.row.E.Denot = (c.args.host.now, c.args.errors.now) in
+    let new : Host g.row.S.Denot g.row.A.Denot g.row.T.Denot g.row.D.Denot × g.row.E.Denot = (c.edit_told-first.new.host, c.edit_told-first.new.errors) in
     let status = c.edit_told-first.result in
     let told = rw c.requires.whole at c.edit_told-first.ensures.link in
     let linked = subst (λ (name : List ℕ). LinkOver view g.E.Terminal.screen c.args.line.now c.args.bytes.now name old new status) c.as_str-name.ensures.value told in
@@ -24,18 +22,16 @@ loop-name-init g c =
 
 pub loop-name-preserved : goal.loop-name-preserved
 loop-name-preserved g c =
-    let view = host_view (disk_seen g.D.Disk g.D.Input.Source)
-    g.S.Source g.T.Terminal.screen
-    (source_view (word.coming-value).it (word.bound-value).it (word.failures-value).it (word.ended-value).it) (HasRung g.A.Stop.answered) in
+    let view = host_view (disk_seen g.D.Disk g.D.Input.Source) g.S.Source g.T.Terminal.screen (HasRung g.A.Stop.answered) in
     let link = LinkOver view g.E.Terminal.screen c.args.line.now c.args.bytes.now in
     let h = c.loop-name.invariant in
     let i = c.loop-name.name-index in
     let items = c.deref-name-items.result.now in
     let more = c.args.line.now.more.items in
     let item = c.name-item.result in
-    let old : Host g.row.D.Denot g.row.S.Denot g.row.T.Denot × g.row.E.Denot = (host c.args.disk.now c.args.commands.now c.args.term.now, c.args.errors.now) in
-    let mid : Host g.row.D.Denot g.row.S.Denot g.row.T.Denot × g.row.E.Denot = (host c.loop-name.disk c.loop-name.commands c.loop-name.term, c.loop-name.errors) in
-    let new : Host g.row.D.Denot g.row.S.Denot g.row.T.Denot × g.row.E.Denot = (host c.edit_told-next.new.disk c.edit_told-next.new.commands c.edit_told-next.new.term, c.edit_told-next.new.errors) in
+    let old : Host g.row.S.Denot g.row.A.Denot g.row.T.Denot g.row.D.Denot × g.row.E.Denot = (c.args.host.now, c.args.errors.now) in
+    let mid : Host g.row.S.Denot g.row.A.Denot g.row.T.Denot g.row.D.Denot × g.row.E.Denot = (c.loop-name.host, c.loop-name.errors) in
+    let new : Host g.row.S.Denot g.row.A.Denot g.row.T.Denot g.row.D.Denot × g.row.E.Denot = (c.edit_told-next.new.host, c.edit_told-next.new.errors) in
     let next = c.edit_told-next.result in
     let input = string_bytes c.args.line.now.input in
     let name = string_bytes item in
@@ -55,13 +51,11 @@ loop-name-preserved g c =
 
 pub returns-clause-runs : goal.returns-clause-runs
 returns-clause-runs g c =
-    let view = host_view (disk_seen g.D.Disk g.D.Input.Source)
-    g.S.Source g.T.Terminal.screen
-    (source_view (word.coming-value).it (word.bound-value).it (word.failures-value).it (word.ended-value).it) (HasRung g.A.Stop.answered) in
+    let view = host_view (disk_seen g.D.Disk g.D.Input.Source) g.S.Source g.T.Terminal.screen (HasRung g.A.Stop.answered) in
     let link = LinkOver view g.E.Terminal.screen c.args.line.now c.args.bytes.now in
     let h = c.loop-name.invariant in
-    let old : Host g.row.D.Denot g.row.S.Denot g.row.T.Denot × g.row.E.Denot = (host c.args.disk.now c.args.commands.now c.args.term.now, c.args.errors.now) in
-    let new : Host g.row.D.Denot g.row.S.Denot g.row.T.Denot × g.row.E.Denot = (host c.loop-name.disk c.loop-name.commands c.loop-name.term, c.loop-name.errors) in
+    let old : Host g.row.S.Denot g.row.A.Denot g.row.T.Denot g.row.D.Denot × g.row.E.Denot = (c.args.host.now, c.args.errors.now) in
+    let new : Host g.row.S.Denot g.row.A.Denot g.row.T.Denot g.row.D.Denot × g.row.E.Denot = (c.loop-name.host, c.loop-name.errors) in
     let more = c.args.line.now.more.items in
     let past : length more ≤ c.loop-name.name-index = subst (λ xs. length xs ≤ c.loop-name.name-index) c.deref-name-items.ensures.value c.loop-name-test.false in
     record {
