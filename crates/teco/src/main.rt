@@ -11,7 +11,7 @@ use teco_bytes::ReaderSource;
 use teco_files::{FileDisk, Piped, UntilLeft, hold_standard_streams};
 use teco_line::not_text;
 use teco_option::{LineFault, fault_of_words};
-use teco_program::program;
+use teco_program::{Host, program};
 use teco_serve::ClockAlarm;
 use teco_terminal::WriterTerminal;
 
@@ -28,15 +28,18 @@ fn words_given(rt: &HostRuntime) -> Result<Vec<String>, LineFault> {
 fn main(rt: HostRuntime) -> ExitCode {
     hold_standard_streams(&rt);
     let has_left = Cell::new(false);
+    let mut host = Host {
+        commands: ReaderSource::new(rt.stdin()),
+        alarm: ClockAlarm::new(&rt),
+        terminal: WriterTerminal::new(Piped::new(rt.stdout(), &has_left)),
+        disk: FileDisk::new(&rt),
+        process: process::id(rt.process()),
+    };
     program(
         rt.alloc(),
         words_given(&rt),
-        process::id(rt.process()),
-        &mut ReaderSource::new(rt.stdin()),
-        &mut ClockAlarm::new(&rt),
-        &mut WriterTerminal::new(Piped::new(rt.stdout(), &has_left)),
+        &mut host,
         &mut WriterTerminal::new(UntilLeft::new(rt.stderr(), &has_left)),
         &mut WriterTerminal::new(UntilLeft::new(rt.stderr(), &has_left)),
-        &mut FileDisk::new(&rt),
     )
 }

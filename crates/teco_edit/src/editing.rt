@@ -293,7 +293,14 @@ fn serve_line<C: Source, A: Alarm, T: Terminal, L: Listens>(
         seconds: line.seconds,
     };
     serve(
-        alloc, commands, session, bounds, line.prompt, alarm, terminal, listener,
+        alloc,
+        commands,
+        session,
+        bounds,
+        line.prompt,
+        alarm,
+        terminal,
+        listener,
     )
 }
 
@@ -320,7 +327,14 @@ fn finish_work<S: Source, A: Alarm, T: Terminal, D: Disk>(
     ensures still { host.new.commands ≡ host.old.commands }
 {
     let output = work.session.editor().output();
-    let fate = finish(alloc, replaces_input(line), work.to.as_str(), served, output, host);
+    let fate = finish(
+        alloc,
+        replaces_input(line),
+        work.to.as_str(),
+        served,
+        output,
+        host,
+    );
     leave(line, work.session);
     fate
 }

@@ -8,3 +8,4 @@ mod several;
 mod verdict;
 
 pub use running::program;
+pub use teco_edit::Host;

@@ -129,15 +129,7 @@ pub fn edit_all<S: Source, A: Alarm, T: Terminal, E: Terminal, N: Terminal, D: D
         &mut host.disk,
         &mut parts,
     ) {
-        Ok(bytes) => edit_looked_at(
-            alloc,
-            line,
-            &parts,
-            bytes.as_slice(),
-            host,
-            errors,
-            notes,
-        ),
+        Ok(bytes) => edit_looked_at(alloc, line, &parts, bytes.as_slice(), host, errors, notes),
         Err(fault) => decline(alloc, &line.commands, fault, errors),
     }
 }

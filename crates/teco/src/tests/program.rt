@@ -1,5 +1,5 @@
 //! Of teco_program: its parts, and runs of the whole program over files in memory.
-use super::bytes::{Screen, are_there, first_of, is, is_typed, joined, screen_of, wide_screen};
+use super::bytes::{are_there, first_of, is, is_typed, joined, screen_of, wide_screen};
 use super::keep::runs;
 use super::line_commands::{checked, explained, shown, sources};
 use super::rows::{Cells, Rule, all_hold, cells_of, halves_at, number_or};
@@ -12,7 +12,7 @@ use std::time::{Clock, Duration};
 use teco_bytes::{MemorySource, Source};
 use teco_files::{MemoryDisk, Refused};
 use teco_option::LineFault;
-use teco_program::program;
+use teco_program::{Host, program};
 use teco_serve::ClockAlarm;
 
 mod disk;
@@ -78,35 +78,8 @@ impl Clock for Ticking {
     }
 }
 
-/// What a run of `teco` or `tecol` types on a terminal, tells and notes.
-#[derive(Drop)]
-struct Shown {
-    typed: Screen,
-    told: Screen,
-    noted: Screen,
-}
-
-/// The status of a run, of `tecol` if that is said.
-fn status_of(
-    alloc: Global,
-    words: Result<Vec<String>, LineFault>,
-    source: &mut MemorySource,
-    shown: &mut Shown,
-    disk: &mut MemoryDisk,
-    of_tecol: bool,
-) -> ExitCode {
-    let (to, errors) = (&mut shown.typed, &mut shown.told);
-    if of_tecol {
-        return teco_keep::program(alloc, words, 7, source, to, errors, disk);
-    }
-    let clock = Ticking::new();
-    let alarm = &mut ClockAlarm::new(&clock);
-    let notes = &mut shown.noted;
-    program(alloc, words, 7, source, alarm, to, errors, notes, disk)
-}
-
-/// Whether a run of `teco` or `tecol` ends so, and types, tells and notes what its row says.
-fn runs_on(alloc: Global, disk: &mut MemoryDisk, cells: &Cells) -> bool {
+/// Whether a run of `teco` or `tecol` over these files ends so, and types, tells, notes and leaves what its row says.
+fn runs_on(alloc: Global, disk: MemoryDisk, cells: &Cells, after: &str) -> bool {
     let words = if is(cells[8], "no words") {
         Err(LineFault::NoMemory)
     } else {
@@ -114,19 +87,27 @@ fn runs_on(alloc: Global, disk: &mut MemoryDisk, cells: &Cells) -> bool {
     };
     let commands = commands_of(cells[1]);
     let bytes = joined(alloc, &[commands.as_bytes()]);
-    let mut source = MemorySource::new(bytes, Vec::new(alloc), false);
-    let mut shown = Shown {
-        typed: screen_of(alloc, if is(cells[8], "no room") { 0 } else { 10_000 }),
-        told: wide_screen(alloc),
-        noted: wide_screen(alloc),
+    let clock = Ticking::new();
+    let mut host = Host {
+        commands: MemorySource::new(bytes, Vec::new(alloc), false),
+        alarm: ClockAlarm::new(&clock),
+        terminal: screen_of(alloc, if is(cells[8], "no room") { 0 } else { 10_000 }),
+        disk,
+        process: 7,
     };
-    let of_tecol = cells[0].starts_with("tecol");
-    let status = status_of(alloc, words, &mut source, &mut shown, disk, of_tecol);
+    let (mut told, mut noted) = (wide_screen(alloc), wide_screen(alloc));
+    let status = if cells[0].starts_with("tecol") {
+        let (source, to, disk) = (&mut host.commands, &mut host.terminal, &mut host.disk);
+        teco_keep::program(alloc, words, 7, source, to, &mut told, disk)
+    } else {
+        program(alloc, words, &mut host, &mut told, &mut noted)
+    };
     status == ExitCode::from(number_or(cells[5], 0).min(255) as u8)
-        && is_typed(&shown.typed, cells[2])
-        && is_typed(&shown.told, cells[3])
-        && is_typed(&shown.noted, cells[4])
-        && is_unread(&mut source, commands)
+        && is_typed(&host.terminal, cells[2])
+        && is_typed(&told, cells[3])
+        && is_typed(&noted, cells[4])
+        && is_unread(&mut host.commands, commands)
+        && has_just(&host.disk, after)
 }
 
 /// The call that is refused, by the first letter of what a row says: that which reads, makes, writes or keeps, puts a draft in its place, or
@@ -199,8 +180,8 @@ impl Rule for Runs {
         } else {
             cells[7]
         };
-        let mut disk = disk_with(alloc, cells[6], cells[8]);
-        runs_on(alloc, &mut disk, &cells) && has_just(&disk, after)
+        let disk = disk_with(alloc, cells[6], cells[8]);
+        runs_on(alloc, disk, &cells, after)
     }
 }
 

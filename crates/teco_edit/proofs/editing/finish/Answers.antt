@@ -18,7 +18,7 @@ returns-then-is_standard_output g c =
     let seen = disk_seen g.D.Disk g.D.Input.Source in
     record {
       ends = finishes_on_terminal (both c.args.output) c.args.name.now c.args.over (seen c.args.host.now.disk) g.T.Terminal.screen c.args.host.now.terminal c.put_on_terminal.new.term c.put_on_terminal.result c.in-Exit.is
-    (sym c.is_standard_output.ensures ∙ c.if-is_standard_output.true) c.put_on_terminal.ensures;
+          (sym c.is_standard_output.ensures ∙ c.if-is_standard_output.true) c.put_on_terminal.ensures;
       still = refl;
     }
 
@@ -27,6 +27,6 @@ returns g c =
     let seen = disk_seen g.D.Disk g.D.Input.Source in
     record {
       ends = finishes_in_file (both c.args.output) c.args.name.now c.args.over (seen c.args.host.now.disk) (seen c.put_in_file.new.disk) g.T.Terminal.screen c.args.host.now.terminal c.put_in_file.result c.in-Exit.is
-    (sym c.is_standard_output.ensures ∙ c.if-is_standard_output.false) c.put_in_file.ensures;
+          (sym c.is_standard_output.ensures ∙ c.if-is_standard_output.false) c.put_in_file.ensures;
       still = refl;
     }
