@@ -10,7 +10,8 @@ use Rattle.teco_line.specs.declared.line.Commands.{Commands}
 use Rattle.teco_line.specs.declared.line.Commands.TheVariants.{StandardInput, Sources, Pages, Bytes}
 use Rattle.teco_line.specs.declared.line.Line.{Line}
 use Rattle.teco_option.specs.StreamNames.{is_standard_input}
-use Rattle.teco_edit.specs.Given.{come_as_wanted}
+use Rattle.teco_edit.specs.declared.giving.Feed.TheVariants.{Stream}
+use Rattle.teco_edit.specs.Given.{IsFeed, come_as_wanted}
 
 or_first : (a b : Bool) → a || b ≡ false → a ≡ false
 or_first true b e = e
@@ -52,11 +53,11 @@ input_apart line fits wanted is =
 pub wanted_of : (wanted more : Bool) → wanted && not more ≡ true → wanted ≡ true
 wanted_of wanted more e = and_first wanted (not more) e
 
-pub is_awaited : (commands : Commands) → come_as_wanted commands ≡ true → ((name : String Global) → commands ≡ Bytes name → ⊥) → commands ≡ StandardInput
-is_awaited StandardInput wanted other = refl
-is_awaited (Sources names word) wanted other = absurd (let t : false ≡ true = wanted in cc)
-is_awaited (Pages word) wanted other = absurd (let t : false ≡ true = wanted in cc)
-is_awaited (Bytes name) wanted other = absurd (other name refl)
+pub feeds : (commands : Commands) → come_as_wanted commands ≡ true → IsStreamOf commands → IsFeed commands Stream
+feeds StandardInput wanted is = tt
+feeds (Sources names word) wanted is = absurd (let t : false ≡ true = wanted in cc)
+feeds (Pages word) wanted is = absurd (let t : false ≡ true = wanted in cc)
+feeds (Bytes name) wanted is = is name refl
 
 pub same_name : (one other : String Global) → Bytes one ≡ Bytes other → one ≡ other
 same_name one other e = cc

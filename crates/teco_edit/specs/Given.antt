@@ -2,7 +2,7 @@
 use Rattle.teco_bytes.specs.declared.source.Source.{Ghosts as SourceView}
 use Rattle.teco_bytes.specs.declared.word_source.WordSource.{WordSource}
 use Rattle.teco_bytes.specs.contracts.word_source.WordSourceSource.TheImpl as word
-use Rattle.std.specs.Prelude.{◌≡◌, ◌≢◌, ◌⊎◌, ◌&&◌, not, ℕ, List, Some, Bool, true, false}
+use Rattle.std.specs.Prelude.{◌≡◌, ◌≢◌, ◌⊎◌, ◌&&◌, not, ℕ, List, Some, Bool, true, false, ⊤}
 use Rattle.std.specs.String.{string_bytes}
 use Rattle.std.specs.IoError.{error_kind}
 use Rattle.std.specs.declared.io.Error.{Error}
@@ -16,6 +16,9 @@ use Rattle.teco_line.specs.declared.line.Line.{Line}
 use Rattle.teco_edit.specs.Run.{Edits, IsFateOf, input_from, named_input, standard_input}
 use Rattle.teco_host.specs.Reasons.{reason_of}
 use Rattle.teco_host.specs.Seen.{DiskSeen, KeepsDisk, source_view}
+use Rattle.teco_edit.specs.declared.giving.Feed.{Feed}
+use Rattle.teco_edit.specs.declared.giving.Feed.TheVariants.{Stream, File}
+use Rattle.teco_edit.specs.declared.giving.Feed.TheVariants as feed
 use Rattle.teco_edit.specs.declared.host.Host.{Host}
 use Rattle.teco_edit.specs.Seen.{CommandsSeen, commands_seen, run_seen}
 use Rattle.teco_serve.specs.declared.fate.Fate.{Fate}
@@ -107,9 +110,16 @@ come_as_wanted (Bytes name) = true
 abbrev pub is_streamed : Line → Bool
 is_streamed line = come_as_wanted line.commands && not (has_more line)
 
--- A run over the line's own input by commands as they come, if the line is streamed; else one over this input by these
--- bytes as commands.
-abbrev pub EditsGiven : {D I S A T : Type 0} → Bool → HostView D I S T → Line → List ℕ → List ℕ → Host S A T D
-    → Host S A T D → Fate → Type 0
-EditsGiven true view line bytes input old new fate = EditsBy view line (string_bytes line.input) line.commands old new fate
-EditsGiven false view line bytes input old new fate = EditsByBytes view line input bytes old new fate
+-- These commands come from there, as they are wanted.
+abbrev pub IsFeed : Commands → Feed → Type 0
+IsFeed StandardInput Stream = ⊤
+IsFeed (Bytes name) Stream = is_standard_input (string_bytes name) ≡ true
+IsFeed (Bytes name) (File file) = (is_standard_input (string_bytes name) ≡ false) × (file.now ≡ string_bytes name)
+IsFeed _ _ = ⊥
+
+-- A run over this input by the commands that come from there.
+abbrev pub EditsGiven : {D I S A T : Type 0} → HostView D I S T → Line → Feed → List ℕ → Host S A T D → Host S A T D → Fate
+    → Type 0
+EditsGiven view line Stream input old new fate = EditsByStream view line input old new fate
+EditsGiven view line (File file) input old new fate = EditsByFile view line input file.now old new fate
+EditsGiven view line (feed.Bytes bytes) input old new fate = EditsByBytes view line input bytes.now old new fate

@@ -1,10 +1,12 @@
 //! A run over one input of the line: by commands as they come, or by bytes that are had already.
-ghost use Rattle.std.specs.Prelude.{◌≡◌, true, false, IfSome};
+ghost use Rattle.std.specs.Prelude.{◌≡◌, true, false, IfNone, IfSome, Some};
 ghost use Rattle.std.specs.String.{string_bytes};
 ghost use Rattle.teco_line.specs.CommandLine.{IsDepth};
 ghost use Rattle.teco_line.specs.Conflict.{has_conflict};
 ghost use Rattle.teco_serve.specs.Exchange.{HasRung};
-ghost use Rattle.teco_edit.specs.Given.{EditsBy, EditsGiven, host_view, is_streamed};
+ghost use Rattle.teco_option.specs.StreamNames.{is_standard_input};
+ghost use Rattle.teco_edit.specs.declared.giving.Feed.TheVariants.{Stream};
+ghost use Rattle.teco_edit.specs.Given.{EditsByBytes, EditsByFile, EditsGiven, IsFeed, host_view, is_streamed};
 ghost use Rattle.teco_host.specs.Seen.{disk_seen};
 
 use crate::editing::{edit_by, edit_by_stream};
@@ -26,34 +28,56 @@ pub fn is_streamed(line: &Line) -> bool
     as_wanted && line.more.is_empty()
 }
 
-/// Edits the input of the line by commands as they come: those on standard input, or those of a file.
-fn edit_by_line<S: Source, A: Alarm, T: Terminal, L: Listens, D: Disk>(
+/// Where the commands of a run over one input come from.
+#[derive(Clone, Copy)]
+pub enum Feed<'a> {
+    /// From standard input, as they are wanted.
+    Stream,
+    /// From the file of this name, as they are wanted.
+    File(&'a str),
+    /// They are these bytes, which are had already.
+    Bytes(&'a [u8]),
+}
+
+/// Where the commands of the line come from, if they are served to one input as they come.
+pub fn feed_of(line: &Line) -> Option<Feed<'_>>
+    ensures some { IfSome result (λ feed. (is_streamed line.now ≡ true) × IsFeed line.now.commands feed) }
+    ensures none { IfNone result (is_streamed line.now ≡ false) }
+    ensures apart { has_conflict line.now ≡ false → result ≡ Some Stream
+        → is_standard_input (string_bytes line.now.input) ≡ false }
+{
+    if !is_streamed(line) {
+        return None;
+    }
+    match &line.commands {
+        Commands::Bytes(file) if !is_standard_input(file.as_str()) => {
+            Some(Feed::File(file.as_str()))
+        }
+        _ => Some(Feed::Stream),
+    }
+}
+
+/// Edits this input of the line by the commands of a file, as they come.
+fn edit_by_file<S: Source, A: Alarm, T: Terminal, L: Listens, D: Disk>(
     alloc: Global,
     line: &Line,
+    name: &str,
+    file: &str,
     host: &mut Host<S, A, T, D>,
     listener: &mut L,
 ) -> Fate
     requires depth { IfSome line.now.undo IsDepth }
-    requires fits { has_conflict line.now ≡ false }
-    requires streamed { is_streamed line.now ≡ true }
     ensures { let view = host_view (disk_seen D.Disk D.Input.Source) S.Source T.screen (HasRung A.answered) in
-        EditsBy view line.now (string_bytes line.now.input) line.now.commands host.old host.new result }
+        EditsByFile view line.now name.now file.now host.old host.new result }
 {
-    let name = line.input.as_str();
-    let file = match &line.commands {
-        Commands::Bytes(file) if !is_standard_input(file.as_str()) => file.as_str(),
-        _ => return edit_by_stream(alloc, line, name, host, listener),
-    };
-    let mut given = match host.disk.open(file) {
-        Ok(given) => given,
-        Err(error) => return no_commands(error),
-    };
-    edit_by(alloc, line, name, &mut given, host, listener)
+    match host.disk.open(file) {
+        Ok(mut given) => edit_by(alloc, line, name, &mut given, host, listener),
+        Err(error) => no_commands(error),
+    }
 }
 
-/// Edits this input of the line by commands as they come, if the line is one of those; else by these bytes as commands, if there is
-/// memory for a copy of them.
-pub fn edit_given<S: Source, A: Alarm, T: Terminal, L: Listens, D: Disk>(
+/// Edits this input of the line by these bytes as commands, if there is memory for a copy of them.
+fn edit_by_bytes<S: Source, A: Alarm, T: Terminal, L: Listens, D: Disk>(
     alloc: Global,
     line: &Line,
     name: &str,
@@ -62,16 +86,33 @@ pub fn edit_given<S: Source, A: Alarm, T: Terminal, L: Listens, D: Disk>(
     listener: &mut L,
 ) -> Fate
     requires depth { IfSome line.now.undo IsDepth }
-    requires come { is_streamed line.now ≡ true → has_conflict line.now ≡ false }
     ensures { let view = host_view (disk_seen D.Disk D.Input.Source) S.Source T.screen (HasRung A.answered) in
-        EditsGiven (is_streamed line.now) view line.now bytes.now name.now host.old host.new result }
+        EditsByBytes view line.now name.now bytes.now host.old host.new result }
 {
-    if is_streamed(line) {
-        return edit_by_line(alloc, line, host, listener);
-    }
     let Ok(bytes) = Vec::from_slice(alloc, bytes) else {
         return Fate::NoMemory;
     };
     let mut given = WordSource::new(bytes);
     edit_by(alloc, line, name, &mut given, host, listener)
+}
+
+/// Edits this input of the line by the commands that come from there.
+pub fn edit_given<S: Source, A: Alarm, T: Terminal, L: Listens, D: Disk>(
+    alloc: Global,
+    line: &Line,
+    name: &str,
+    feed: Feed<'_>,
+    host: &mut Host<S, A, T, D>,
+    listener: &mut L,
+) -> Fate
+    requires depth { IfSome line.now.undo IsDepth }
+    requires apart { feed ≡ Stream → is_standard_input name.now ≡ false }
+    ensures { let view = host_view (disk_seen D.Disk D.Input.Source) S.Source T.screen (HasRung A.answered) in
+        EditsGiven view line.now feed.entry name.now host.old host.new result }
+{
+    match feed {
+        Feed::Stream => edit_by_stream(alloc, line, name, host, listener),
+        Feed::File(file) => edit_by_file(alloc, line, name, file, host, listener),
+        Feed::Bytes(bytes) => edit_by_bytes(alloc, line, name, bytes, host, listener),
+    }
 }

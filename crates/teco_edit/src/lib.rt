@@ -9,6 +9,6 @@ mod host;
 mod sources;
 
 pub use concluding::{NO_MEMORY, conclude, no_memory};
-pub use giving::{edit_given, is_streamed};
+pub use giving::{Feed, edit_given, feed_of};
 pub use host::Host;
 pub use sources::{CommandsFault, Part, Parts, commands_given, decline, source_name};

@@ -1,7 +1,15 @@
 -- What lines that the same words say have in common, and runs one after another.
 use Rattle.std.proofs.Common.{◌≡◌, ◌++◌, inl, inr, ℕ, List, [], ◌∷◌, Result, Ok, Err, String, Vec, Global, refl, sym, ◌∙◌, ap, subst, false, true≢false}
 use Rattle.std.proofs.lemmas.Bool.{cases_Bool}
+use Rattle.teco_edit.specs.Given.{EditsBy, EditsByFile, EditsGiven, HostView, IsFeed}
+use Rattle.teco_edit.specs.declared.giving.Feed.{Feed}
+use Rattle.teco_edit.specs.declared.giving.Feed.TheVariants.{Stream, File}
+use Rattle.teco_edit.specs.declared.giving.Feed.TheVariants as feed
+use Rattle.teco_edit.specs.declared.host.Host.{Host}
+use Rattle.teco_line.specs.declared.line.Commands.{Commands}
+use Rattle.teco_line.specs.declared.line.Commands.TheVariants.{StandardInput, Sources, Pages, Bytes}
 use Rattle.teco_line.specs.declared.line.Line.{Line}
+use Rattle.teco_serve.specs.declared.fate.Fate.{Fate}
 use Rattle.teco_option.specs.declared.fault.LineFault.{LineFault}
 use Rattle.teco_program.specs.Lines.{worse, worst, IsLineIn}
 use Rattle.teco_program.specs.Runs.{Chain}
@@ -27,3 +35,15 @@ same_explain (Ok words) line other is same off = elim (cases_Bool line.explain) 
   | inr down ↦ down
 ]
 same_explain (Err fault) line other is same off = absurd is
+
+-- A run by the commands that come from there is one by those of the line, if they do.
+pub as_wanted : {D I S A T : Type 0} (view : HostView D I S T) (line : Line) (input : List ℕ) (commands : Commands) (feed : Feed) (old new : Host S A T D) (fate : Fate)
+    → IsFeed commands feed → EditsGiven view line feed input old new fate → EditsBy view line input commands old new fate
+as_wanted view line input StandardInput Stream old new fate is run = run
+as_wanted view line input StandardInput (File file) old new fate is run = absurd is
+as_wanted view line input StandardInput (feed.Bytes bytes) old new fate is run = absurd is
+as_wanted view line input (Sources names word) feed old new fate is run = absurd is
+as_wanted view line input (Pages word) feed old new fate is run = absurd is
+as_wanted view line input (Bytes name) Stream old new fate is run = rw is run
+as_wanted view line input (Bytes name) (File file) old new fate is run = rw is.0 (subst (λ (name : List ℕ). EditsByFile view line input name old new fate) is.1 run)
+as_wanted view line input (Bytes name) (feed.Bytes bytes) old new fate is run = absurd is

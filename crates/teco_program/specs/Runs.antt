@@ -1,6 +1,6 @@
 -- The runs of the program: over one input by commands as they come, or over each input by commands that are had at once.
 use Rattle.teco_bytes.specs.declared.source.Source.{Ghosts as SourceView}
-use Rattle.std.specs.Prelude.{◌≡◌, ◌⊎◌, ℕ, List, [], ◌∷◌, map, Result, Bool, true, false}
+use Rattle.std.specs.Prelude.{◌≡◌, ◌⊎◌, ℕ, List, [], ◌∷◌, map, Result, true, false}
 use Rattle.std.specs.String.{string_bytes}
 use Rattle.std.specs.declared.string.String.{String}
 use Rattle.std.specs.declared.vec.Vec.{Vec}
@@ -10,6 +10,7 @@ use Rattle.teco_line.specs.declared.line.Line.{Line}
 use Rattle.teco_option.specs.declared.fault.LineFault.{LineFault}
 use Rattle.teco_program.specs.Checks.{AreRejected, MayRun, TellsVerdict}
 use Rattle.teco_program.specs.Lines.{IsLineIn, Refuses, worst}
+use Rattle.teco_edit.specs.declared.giving.Feed.{Feed}
 use Rattle.teco_edit.specs.declared.host.Host.{Host}
 use Rattle.teco_edit.specs.Run.{Concludes}
 use Rattle.teco_edit.specs.Given.{EditsBy, EditsByBytes, EditsGiven, HostView, IsIdle, is_streamed}
@@ -50,11 +51,11 @@ LinkOver {D} {I} {S} {A} {T} {E} view errors line bytes = Link {W = Host S A T D
     (λ input old new fate. EditsByBytes view line input bytes old.0 new.0 fate)
     (λ input fate old new status. Concludes line input fate (errors old.1) (errors new.1) status)
 
--- That run is told.
-abbrev pub LinkGiven : {D I S A T E : Type 0} → Bool → HostView D I S T → (E → Screen) → Line → List ℕ → List ℕ
+-- A run over an input by the commands that come from there, and it is told.
+abbrev pub LinkGiven : {D I S A T E : Type 0} → HostView D I S T → (E → Screen) → Line → Feed → List ℕ
     → Host S A T D × E → Host S A T D × E → ℕ → Type 0
-LinkGiven {D} {I} {S} {A} {T} {E} streamed view errors line bytes = Link {W = Host S A T D × E}
-    (λ input old new fate. EditsGiven streamed view line bytes input old.0 new.0 fate)
+LinkGiven {D} {I} {S} {A} {T} {E} view errors line feed = Link {W = Host S A T D × E}
+    (λ input old new fate. EditsGiven view line feed input old.0 new.0 fate)
     (λ input fate old new status. Concludes line input fate (errors old.1) (errors new.1) status)
 
 -- Each of these inputs is run over in order, by these bytes as commands, and that is told. The status is the worst.

@@ -14,7 +14,7 @@ use crate::several::{edit_all, edit_told};
 use std::alloc::Global;
 use std::process::ExitCode;
 use teco_bytes::Source;
-use teco_edit::{Host, NO_MEMORY, is_streamed};
+use teco_edit::{Host, NO_MEMORY, feed_of};
 use teco_files::Disk;
 use teco_host::refuse;
 use teco_line::{Line, line_of};
@@ -51,9 +51,9 @@ fn run_over<S: Source, A: Alarm, T: Terminal, E: Terminal, N: Terminal, D: Disk>
     if line.check {
         return check_line(alloc, line, host, errors);
     }
-    if is_streamed(line) {
+    if let Some(feed) = feed_of(line) {
         let name = line.input.as_str();
-        return edit_told(alloc, line, name, &[], host, errors, notes);
+        return edit_told(alloc, line, name, feed, host, errors, notes);
     }
     edit_all(alloc, line, host, errors, notes)
 }

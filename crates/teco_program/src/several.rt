@@ -1,7 +1,9 @@
 //! Runs over each input, one after another, by commands that are had at once.
-ghost use Rattle.std.specs.Prelude.{◌≡◌, true, false, IfSome};
+ghost use Rattle.std.specs.Prelude.{◌≡◌, false, IfSome};
 ghost use Rattle.teco_line.specs.CommandLine.{IsDepth};
-ghost use Rattle.teco_line.specs.Conflict.{are_awaited, has_conflict};
+ghost use Rattle.teco_line.specs.Conflict.{are_awaited};
+ghost use Rattle.teco_option.specs.StreamNames.{is_standard_input};
+ghost use Rattle.teco_edit.specs.declared.giving.Feed.TheVariants.{Stream};
 ghost use Rattle.teco_program.specs.Lines.{worse};
 ghost use Rattle.teco_serve.specs.Exchange.{HasRung};
 ghost use Rattle.teco_edit.specs.Given.{host_view, is_streamed};
@@ -11,7 +13,7 @@ ghost use Rattle.teco_host.specs.Seen.{disk_seen};
 use crate::looking::status_if_misspelt;
 use std::alloc::Global;
 use teco_bytes::Source;
-use teco_edit::{Host, Parts, commands_given, conclude, decline, edit_given};
+use teco_edit::{Feed, Host, Parts, commands_given, conclude, decline, edit_given};
 use teco_files::Disk;
 use teco_line::Line;
 use teco_serve::{Alarm, Explainer, Silent};
@@ -30,29 +32,29 @@ fn worse(a: u8, b: u8) -> u8
     }
 }
 
-/// Runs over this input of the line, and tells how that ends. Where the line asks for it what is done is explained in notes. Gives the
+/// Runs over this input of the line, by the commands that come from there, and tells how that ends. Where the line asks for it what is done is explained in notes. Gives the
 /// status.
 pub fn edit_told<S: Source, A: Alarm, T: Terminal, E: Terminal, N: Terminal, D: Disk>(
     alloc: Global,
     line: &Line,
     name: &str,
-    bytes: &[u8],
+    feed: Feed<'_>,
     host: &mut Host<S, A, T, D>,
     errors: &mut E,
     notes: &mut N,
 ) -> u8
     requires depth { IfSome line.now.undo IsDepth }
-    requires come { is_streamed line.now ≡ true → has_conflict line.now ≡ false }
+    requires apart { feed ≡ Stream → is_standard_input name.now ≡ false }
     ensures link { let view = host_view (disk_seen D.Disk D.Input.Source) S.Source T.screen (HasRung A.answered) in
-        LinkGiven (is_streamed line.now) view E.screen line.now bytes.now name.now (host.old, errors.old) (host.new, errors.new) result }
+        LinkGiven view E.screen line.now feed.entry name.now (host.old, errors.old) (host.new, errors.new) result }
     ensures silent { line.now.explain ≡ false → notes.new ≡ notes.old }
 {
     if !line.explain {
-        let fate = edit_given(alloc, line, name, bytes, host, &mut Silent);
+        let fate = edit_given(alloc, line, name, feed, host, &mut Silent);
         return conclude(alloc, line, name, fate, errors);
     }
     let mut explainer = Explainer::new(alloc, line, notes);
-    let fate = edit_given(alloc, line, name, bytes, host, &mut explainer);
+    let fate = edit_given(alloc, line, name, feed, host, &mut explainer);
     explainer.ended(line, name, fate);
     conclude(alloc, line, name, fate, errors)
 }
@@ -66,7 +68,6 @@ fn edit_each<S: Source, A: Alarm, T: Terminal, E: Terminal, N: Terminal, D: Disk
     errors: &mut E,
     notes: &mut N,
 ) -> u8
-    requires whole { is_streamed line.now ≡ false }
     requires depth { IfSome line.now.undo IsDepth }
     ensures runs { let view = host_view (disk_seen D.Disk D.Input.Source) S.Source T.screen (HasRung A.answered) in
         RunsInOrder view E.screen line.now bytes.now (inputs_of line.now)
@@ -74,11 +75,11 @@ fn edit_each<S: Source, A: Alarm, T: Terminal, E: Terminal, N: Terminal, D: Disk
     ensures silent { line.now.explain ≡ false → notes.new ≡ notes.old }
 {
     let name = line.input.as_str();
-    let first = edit_told(alloc, line, name, bytes, host, errors, notes);
+    let first = edit_told(alloc, line, name, Feed::Bytes(bytes), host, errors, notes);
     let mut status = worse(0, first);
     for name in line.more.iter() {
         let name = name.as_str();
-        let next = edit_told(alloc, line, name, bytes, host, errors, notes);
+        let next = edit_told(alloc, line, name, Feed::Bytes(bytes), host, errors, notes);
         status = worse(status, next);
     }
     status
@@ -94,7 +95,6 @@ fn edit_looked_at<S: Source, A: Alarm, T: Terminal, E: Terminal, N: Terminal, D:
     errors: &mut E,
     notes: &mut N,
 ) -> u8
-    requires whole { is_streamed line.now ≡ false }
     requires depth { IfSome line.now.undo IsDepth }
     ensures runs { let view = host_view (disk_seen D.Disk D.Input.Source) S.Source T.screen (HasRung A.answered) in
         RunsIfSpelt view E.screen line.now bytes.now (host.old, errors.old) (host.new, errors.new) result }

@@ -1,15 +1,11 @@
-use Rattle.std.proofs.Common.{◌∙◌, ap, arith, inr, sym, Some}
-use Rattle.teco_edit.proofs.Doings.{reads_all}
+use Rattle.std.proofs.Common.{sym}
 use Rattle.teco_edit.proofs.giving.edit_given.Goals as goal
 
-pub returns : goal.returns
-returns g c = rw (sym c.is_streamed.ensures ∙ c.if-is_streamed.false) (record {
-  kept = c.edit_by.ensures.still;
-  edits = inr (
-    c.new-given.result,
-    c.edit_by.new.commands,
-    c.new-given.ensures.coming ∙ ap Some c.in-Ok.ensures.items,
-    c.edit_by.ensures.edits,
-    reads_all (λ bytes gave. omega (arith, gave.count)) c.edit_by.ensures.edits,
-  );
-})
+pub returns-in-Stream : goal.returns-in-Stream
+returns-in-Stream g c = rw (c.in-Stream.is, c.requires.apart c.in-Stream.is) c.edit_by_stream.ensures
+
+pub returns-in-File : goal.returns-in-File
+returns-in-File g c = rw c.in-File.is c.edit_by_file.ensures
+
+pub returns-in-Bytes : goal.returns-in-Bytes
+returns-in-Bytes g c = rw c.in-Bytes.is c.edit_by_bytes.ensures

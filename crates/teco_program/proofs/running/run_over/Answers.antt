@@ -1,18 +1,26 @@
-use Rattle.std.proofs.Common.{◌∙◌, ℕ, List, inl, rules, subst, sym}
+use Rattle.std.proofs.Common.{ℕ, List, inl, rules, subst, ap}
+use Rattle.std.specs.String.{string_bytes}
+use Rattle.teco_edit.specs.Given.{EditsGiven, host_view}
 use Rattle.teco_edit.specs.Run.{Concludes}
+use Rattle.teco_host.specs.Seen.{disk_seen}
+use Rattle.teco_serve.specs.Exchange.{HasRung}
+use Rattle.teco_program.specs.Runs.{LinkGiven}
+use Rattle.teco_program.proofs.Runs.{as_wanted}
 use Rattle.teco_program.proofs.running.run_over.Goals as goal
 
-pub returns-then-is_streamed-clause-runs : goal.returns-then-is_streamed-clause-runs
-returns-then-is_streamed-clause-runs g c =
-    let streamed = sym c.is_streamed.ensures ∙ c.if-is_streamed.true in
-    let h = rw streamed at c.edit_told.ensures.link in
+pub returns-in-Some-clause-runs : goal.returns-in-Some-clause-runs
+returns-in-Some-clause-runs g c =
+    let view = host_view (disk_seen g.D.Disk g.D.Input.Source) g.S.Source g.T.Terminal.screen (HasRung g.A.Stop.answered) in
+    let line = c.args.line.now in
+    let link = subst (λ (n : List ℕ). LinkGiven view g.E.Terminal.screen line c.in-Some.feed n (c.args.host.now, c.args.errors.now) (c.edit_told.new.host, c.edit_told.new.errors) c.edit_told.result)
+        c.as_str-name.ensures.value c.edit_told.ensures.link in
     inl (
       search rules,
       inl (record {
-        streamed = streamed;
-        fate = h.fate;
-        run = h.run;
-        end = subst (λ (n : List ℕ). Concludes c.args.line.now n h.fate (g.E.Terminal.screen c.args.errors.now) (g.E.Terminal.screen c.edit_told.new.errors) c.edit_told.result) c.as_str-name.ensures.value h.end;
+        streamed = c.in-Some.ensures.some.0;
+        fate = link.fate;
+        run = as_wanted view line (string_bytes line.input) line.commands c.in-Some.feed c.args.host.now c.edit_told.new.host link.fate c.in-Some.ensures.some.1 link.run;
+        end = link.end;
       }),
     )
 

@@ -16,8 +16,7 @@ loop-name-init g c =
     let old : Host g.row.S.Denot g.row.A.Denot g.row.T.Denot g.row.D.Denot × g.row.E.Denot = (c.args.host.now, c.args.errors.now) in
     let new : Host g.row.S.Denot g.row.A.Denot g.row.T.Denot g.row.D.Denot × g.row.E.Denot = (c.edit_told-first.new.host, c.edit_told-first.new.errors) in
     let status = c.edit_told-first.result in
-    let told = rw c.requires.whole at c.edit_told-first.ensures.link in
-    let linked = subst (λ (name : List ℕ). LinkOver view g.E.Terminal.screen c.args.line.now c.args.bytes.now name old new status) c.as_str-name.ensures.value told in
+    let linked = subst (λ (name : List ℕ). LinkOver view g.E.Terminal.screen c.args.line.now c.args.bytes.now name old new status) c.as_str-name.ensures.value c.edit_told-first.ensures.link in
     (status ∷ [], (new, status, [], refl, linked, (refl, refl)), c.worse-status.ensures, c.edit_told-first.ensures.silent)
 
 pub loop-name-preserved : goal.loop-name-preserved
@@ -40,8 +39,7 @@ loop-name-preserved g c =
     let front : take (i + 1) more ≡ take i more ++ item ∷ [] = subst (λ xs. take (i + 1) xs ≡ take i xs ++ item ∷ []) c.deref-name-items.ensures.value taken in
     let names : map string_bytes (take i more) ++ name ∷ [] ≡ map string_bytes (take (i + 1) more) =
     sym (map-append string_bytes (take i more) (item ∷ [])) ∙ ap (map string_bytes) (sym front) in
-    let told = rw c.requires.whole at c.edit_told-next.ensures.link in
-    let linked = subst (λ (n : List ℕ). link n mid new next) c.as_str-name-in-loop-name.ensures.value told in
+    let linked = subst (λ (n : List ℕ). link n mid new next) c.as_str-name-in-loop-name.ensures.value c.edit_told-next.ensures.link in
     let all = chain_more link (input ∷ map string_bytes (take i more)) name old mid new h.0 next h.1 linked in (
       h.0 ++ next ∷ [],
       subst (λ (ns : List (List ℕ)). Chain link (input ∷ ns) old new (h.0 ++ next ∷ [])) names all,
