@@ -17,7 +17,7 @@ use Rattle.teco_host.specs.Writing.{HasDraft, IsPut, WritesOutput}
 use Rattle.teco_serve.specs.Ending.{fate_without_input, output_of}
 use Rattle.teco_edit.specs.Seen.{CommandsSeen, InputSeen, OutputSeen, RunSeen, TerminalSeen, run_seen, terminal_seen}
 use Rattle.teco_host.specs.Seen.{DiskSeen, KeepsDisk}
-use Rattle.teco_edit.specs.Run.{Doings, Edits, EndsBy, EndsIn, FindsChange, FinishesIn, FailsToStream, FailsToWrite, IsFateOf, Lacks, LacksInPlace, LacksInput, ServesInput, bounds_of, doings, doings_after, fate_written, given_input, history_over, input_from, named_input, named_output, replaces_input, standard_input, standard_output}
+use Rattle.teco_edit.specs.Run.{Doings, Edits, EndsBy, EndsIn, FindsChange, FinishesIn, FailsToStream, FailsToWrite, IsFateOf, Lacks, LacksInput, ServesInput, bounds_of, doings, doings_after, fate_written, given_input, history_over, input_from, named_input, named_output, replaces_input, standard_input, standard_output}
 use Rattle.teco_serve.specs.declared.fate.Fate.{Fate}
 use Rattle.teco_serve.specs.declared.fate.Fate.TheVariants.{NoCommands, NoInput, NotRegular, LargeInput, NoMemory, NoOutput, Changed, Unchanged, Lacking, Ended}
 use Rattle.teco_serve.specs.declared.served.Served.{Served}
@@ -300,7 +300,7 @@ finishes_otherwise output name in_place disk screen term false end other = (ende
 
 -- without the input
 pub lacks_file : {I T : Type 0} {line : Line} {name : List ℕ} {commands : CommandsSeen} {old new : DiskSeen I} {screen : T → Screen} {term : T} {fate : Fate}
-    → LacksInPlace line.in_place old new name fate → commands.still → KeepsDisk old new
+    → Lacks line.in_place (named_input old new name) fate → commands.still → KeepsDisk old new
     → Edits line name (run_seen (named_input old new name) commands old new screen term term) fate
 lacks_file {line} {name} {commands} {old} {new} {screen} {term} {fate} (inl l) still kept =
     idle_ends line name (named_input old new name) commands old new screen term term fate (λ seen place quiet keeps. lacks_by old new name (doings line (named_input old new name) place commands seen) fate l l (still, quiet) keeps) refl kept

@@ -61,11 +61,6 @@ pub record FailsToOpen (gave : Error → Type 0) (fate : Fate) : Type 0 where
 abbrev pub LacksInput : {I : Type 0} → DiskSeen I → DiskSeen I → List ℕ → Fate → Type 0
 LacksInput old new name fate = FailsToOpen new.gave fate ⊎ FailsToRead new.input old.files name fate
 
--- Why there is no input, which may be to be edited in place: then it may be no regular file.
-abbrev pub LacksInPlace : {I : Type 0} → Bool → DiskSeen I → DiskSeen I → List ℕ → Fate → Type 0
-LacksInPlace in_place old new name fate = LacksInput old new name fate
-    ⊎ ((fate ≡ NotRegular) × IsTrue in_place × IsStream old.files old.streams name)
-
 -- The output file is as it was; and at each moment it was so, or had these bytes. The fate is that of the
 -- error, and has its reason.
 pub record FailsToWrite {I : Type 0} (old new : DiskSeen I) (name bytes : List ℕ) (fate : Fate) : Type 0 where

@@ -1,5 +1,5 @@
 //! One run of the program: an input is read, commands are served over it, and the output is written.
-ghost use Rattle.std.specs.Prelude.{◌≡◌, ◌≤◌, IfErr, IfOk, IfSome, IsTrue, false, true, vec_len};
+ghost use Rattle.std.specs.Prelude.{◌≡◌, ◌≤◌, IfOk, IfSome, IsTrue, false, true, vec_len};
 ghost use Rattle.std.specs.Option.{ForSome};
 ghost use Rattle.std.specs.String.{string_bytes};
 ghost use Rattle.teco_bytes.specs.Source.{Gives, HasEnded};
@@ -11,127 +11,28 @@ ghost use Rattle.teco_serve.specs.Ending.{output_of};
 ghost use Rattle.teco_serve.specs.Serving.{Serves};
 ghost use Rattle.teco_session.specs.History.{present};
 ghost use Rattle.teco_terminal.specs.Terminal.{Shows};
-ghost use Rattle.teco_edit.specs.Run.{Edits, EndsBy, FinishesIn, FailsToStream, Lacks, LacksInPlace, LacksInput, bounds_of, depth_of, doings_after, history_over, input_from, named_input, named_output, replaces_input, standard_input, standard_output};
-ghost use Rattle.teco_host.specs.Reading.{IsInput, IsStreamed};
-ghost use Rattle.teco_host.specs.Seen.{KeepsDisk, disk_seen};
-ghost use Rattle.teco_edit.specs.Seen.{commands_seen, run_seen};
+ghost use Rattle.teco_edit.specs.Run.{EndsBy, FinishesIn, bounds_of, depth_of, doings_after, history_over, named_output, replaces_input, standard_output};
+ghost use Rattle.teco_edit.specs.Given.{EditsByStream, EditsInput, KeepsStream, host_view};
+ghost use Rattle.teco_host.specs.Seen.{disk_seen};
+ghost use Rattle.teco_edit.specs.Seen.{commands_seen};
 ghost use Rattle.teco_host.specs.Writing.{both};
 ghost use Rattle.teco_session.specs.Kept.{history_of};
 
-use crate::fates::{fate_written, no_input, no_output};
-use crate::giving::is_streamed;
+use crate::fates::{fate_written, no_output};
 use crate::host::Host;
+use crate::reading::{input_at, input_of};
 use std::alloc::Global;
 use std::mem::ManuallyDrop;
-use teco_bytes::{Source, read_input};
-use teco_core::{FILE_LIMIT, NoMemory};
+use teco_bytes::Source;
+use teco_core::NoMemory;
 use teco_files::Disk;
 use teco_host::{Reason, Written, has_bytes, write_output};
 use teco_line::{Commands, Line};
-use teco_option::{is_standard_input, is_standard_output};
+use teco_option::is_standard_output;
 use teco_serve::{Alarm, Bounds, Fate, Listens, Served, output_name, serve};
 use teco_session::Session;
 use teco_store::Desk;
 use teco_terminal::{Terminal, TerminalFault};
-
-/// Reads a file whole.
-pub fn input_of_file<D: Disk>(alloc: Global, name: &str, disk: &mut D) -> Result<Vec<u8>, Fate>
-    ensures input { IfOk result (λ input. IsInput (D.files disk.old) name.now input.items) }
-    ensures small { IfOk result (λ input. vec_len input ≤ FILE_LIMIT) }
-    ensures fault { let seen = disk_seen D.Disk D.Input.Source in
-        IfErr result (LacksInput (seen disk.old) (seen disk.new) name.now) }
-    ensures keeps { let seen = disk_seen D.Disk D.Input.Source in
-        KeepsDisk (seen disk.old) (seen disk.new) }
-{
-    let mut source = match disk.open(name) {
-        Ok(source) => source,
-        Err(error) => return Err(no_input(error)),
-    };
-    match read_input(alloc, &mut source, FILE_LIMIT) {
-        Ok(input) => Ok(input),
-        Err(fault) => Err(Fate::from(fault)),
-    }
-}
-
-/// Reads a regular file whole, which is to be edited in place. If it `waits`, it first waits for other runs that do so with the file.
-fn input_in_place<D: Disk>(
-    alloc: Global,
-    name: &str,
-    waits: bool,
-    disk: &mut D,
-) -> Result<Vec<u8>, Fate>
-    ensures input { IfOk result (λ input. IsInput (D.files disk.old) name.now input.items) }
-    ensures small { IfOk result (λ input. vec_len input ≤ FILE_LIMIT) }
-    ensures fault { let seen = disk_seen D.Disk D.Input.Source in
-        IfErr result (LacksInPlace true (seen disk.old) (seen disk.new) name.now) }
-    ensures keeps { let seen = disk_seen D.Disk D.Input.Source in
-        KeepsDisk (seen disk.old) (seen disk.new) }
-{
-    let mut source = match disk.open_to_replace(name, waits) {
-        Ok(Some(source)) => source,
-        Ok(None) => return Err(Fate::NotRegular),
-        Err(error) => return Err(no_input(error)),
-    };
-    match read_input(alloc, &mut source, FILE_LIMIT) {
-        Ok(input) => Ok(input),
-        Err(fault) => Err(Fate::from(fault)),
-    }
-}
-
-/// Reads an input of the line whole, which is a file. A run waits for others that edit the file in place only if it has its commands
-/// already: one that awaits them may take hours.
-fn input_of<D: Disk>(alloc: Global, line: &Line, name: &str, disk: &mut D) -> Result<Vec<u8>, Fate>
-    ensures input { IfOk result (λ input. IsInput (D.files disk.old) name.now input.items) }
-    ensures small { IfOk result (λ input. vec_len input ≤ FILE_LIMIT) }
-    ensures fault { let seen = disk_seen D.Disk D.Input.Source in
-        IfErr result (LacksInPlace line.now.in_place (seen disk.old) (seen disk.new) name.now) }
-    ensures keeps { let seen = disk_seen D.Disk D.Input.Source in
-        KeepsDisk (seen disk.old) (seen disk.new) }
-{
-    if line.in_place {
-        return input_in_place(alloc, name, !is_streamed(line), disk);
-    }
-    input_of_file(alloc, name, disk)
-}
-
-/// Reads standard input to its end.
-pub fn input_of_stream<S: Source>(alloc: Global, source: &mut S) -> Result<Vec<u8>, Fate>
-    ensures input { IfOk result (λ input. IsStreamed S.Source
-        source.old source.new input.items) }
-    ensures small { IfOk result (λ input. vec_len input ≤ FILE_LIMIT) }
-    ensures fault { IfErr result (FailsToStream S.Source
-        source.old source.new) }
-{
-    match read_input(alloc, source, FILE_LIMIT) {
-        Ok(input) => Ok(input),
-        Err(fault) => Err(Fate::from(fault)),
-    }
-}
-
-/// Reads an input of the line whole, standard input or a file.
-fn input_at<S: Source, D: Disk>(
-    alloc: Global,
-    line: &Line,
-    name: &str,
-    stream: &mut S,
-    disk: &mut D,
-) -> Result<Vec<u8>, Fate>
-    ensures input { let seen = disk_seen D.Disk D.Input.Source in
-        IfOk result (λ input. (input_from (is_standard_input name.now) (standard_input S.Source stream.old stream.new)
-        (named_input (seen disk.old) (seen disk.new) name.now)).is_input input.items) }
-    ensures small { IfOk result (λ input. vec_len input ≤ FILE_LIMIT) }
-    ensures fault { let seen = disk_seen D.Disk D.Input.Source in
-        IfErr result (Lacks line.now.in_place (input_from (is_standard_input name.now)
-        (standard_input S.Source stream.old stream.new) (named_input (seen disk.old) (seen disk.new) name.now))) }
-    ensures keeps { let seen = disk_seen D.Disk D.Input.Source in
-        KeepsDisk (seen disk.old) (seen disk.new) }
-    ensures still { is_standard_input name.now ≡ false → stream.new ≡ stream.old }
-{
-    if is_standard_input(name) {
-        return input_of_stream(alloc, stream);
-    }
-    input_of(alloc, line, name, disk)
-}
 
 /// How many strings the history keeps: as many as the line says, all if it says none, and none of the strings for every page.
 fn depth_of(line: &Line) -> Option<usize>
@@ -348,10 +249,9 @@ pub fn edit_by_stream<S: Source, A: Alarm, T: Terminal, L: Listens, D: Disk>(
     listener: &mut L,
 ) -> Fate
     requires depth { IfSome line.now.undo IsDepth }
-    ensures { let seen = disk_seen D.Disk D.Input.Source in
-        Edits line.now name.now (run_seen (named_input (seen host.old.disk) (seen host.new.disk) name.now)
-        (commands_seen S.Source host.old.commands host.new.commands (HasRung A.answered))
-        (seen host.old.disk) (seen host.new.disk) T.screen host.old.terminal host.new.terminal) result }
+    requires apart { is_standard_input name.now ≡ false }
+    ensures { let view = host_view (disk_seen D.Disk D.Input.Source) S.Source T.screen (HasRung A.answered) in
+        EditsByStream view line.now name.now host.old host.new result }
 {
     let input = match input_of(alloc, line, name, &mut host.disk) {
         Ok(input) => input,
@@ -382,13 +282,9 @@ pub fn edit_by<C: Source, S: Source, A: Alarm, T: Terminal, L: Listens, D: Disk>
     listener: &mut L,
 ) -> Fate
     requires depth { IfSome line.now.undo IsDepth }
-    ensures edits { let seen = disk_seen D.Disk D.Input.Source in
-        Edits line.now name.now (run_seen (input_from (is_standard_input name.now)
-        (standard_input S.Source host.old.commands host.new.commands)
-        (named_input (seen host.old.disk) (seen host.new.disk) name.now))
-        (commands_seen C.Source commands.old commands.new (HasRung A.answered))
-        (seen host.old.disk) (seen host.new.disk) T.screen host.old.terminal host.new.terminal) result }
-    ensures still { is_standard_input name.now ≡ false → host.new.commands ≡ host.old.commands }
+    ensures edits { let view = host_view (disk_seen D.Disk D.Input.Source) S.Source T.screen (HasRung A.answered) in
+        EditsInput view line.now name.now (commands_seen C.Source commands.old commands.new view.asked) host.old host.new result }
+    ensures still { KeepsStream name.now host.old host.new }
 {
     let input = match input_at(alloc, line, name, &mut host.commands, &mut host.disk) {
         Ok(input) => input,

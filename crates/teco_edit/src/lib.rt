@@ -6,6 +6,7 @@ mod editing;
 mod fates;
 mod giving;
 mod host;
+mod reading;
 mod sources;
 
 pub use concluding::{NO_MEMORY, conclude, no_memory};

@@ -9,7 +9,7 @@ ghost use Rattle.teco_edit.specs.Sources.{AreCommandsIn, Declines, FailsToGive, 
 ghost use Rattle.teco_source.specs.Source.{commands_of};
 
 use crate::concluding::no_memory;
-use crate::editing::{input_of_file, input_of_stream};
+use crate::reading::{input_of_file, input_of_stream};
 use std::alloc::Global;
 use teco_bytes::Source;
 use teco_core::NoMemory;
@@ -143,8 +143,7 @@ fn whole_of<S: Source, D: Disk>(
         IfErr result (FailsToGive (is_standard_input name.now)
         S.Source (seen disk.old) (seen disk.new)
         name.now stream.old stream.new) }
-    ensures keeps { let seen = disk_seen D.Disk D.Input.Source in
-        KeepsDisk (seen disk.old) (seen disk.new) }
+    ensures keeps { let seen = disk_seen D.Disk D.Input.Source in KeepsDisk (seen disk.old) (seen disk.new) }
 {
     if is_standard_input(name) {
         return input_of_stream(alloc, stream);
@@ -166,8 +165,7 @@ fn bytes_of<S: Source, D: Disk>(
     ensures unread { let seen = disk_seen D.Disk D.Input.Source in
         IfErr result (IsUnread S.Source (seen disk.old) (seen disk.new)
         name.now stream.old stream.new at) }
-    ensures keeps { let seen = disk_seen D.Disk D.Input.Source in
-        KeepsDisk (seen disk.old) (seen disk.new) }
+    ensures keeps { let seen = disk_seen D.Disk D.Input.Source in KeepsDisk (seen disk.old) (seen disk.new) }
 {
     match whole_of(alloc, name, stream, disk) {
         Ok(bytes) => Ok(bytes),
@@ -188,8 +186,7 @@ fn commands_in_files<S: Source, D: Disk>(
     ensures fault { let seen = disk_seen D.Disk D.Input.Source in
         IfErr result (LacksFiles S.Source
         names.now (seen disk.old) (seen disk.new) stream.old stream.new) }
-    ensures keeps { let seen = disk_seen D.Disk D.Input.Source in
-        KeepsDisk (seen disk.old) (seen disk.new) }
+    ensures keeps { let seen = disk_seen D.Disk D.Input.Source in KeepsDisk (seen disk.old) (seen disk.new) }
 {
     let mut made = Vec::new(alloc);
     for (at, name) in names.iter().enumerate() {
@@ -249,8 +246,7 @@ pub fn commands_given<S: Source, D: Disk>(
     ensures lacks { let seen = disk_seen D.Disk D.Input.Source in
         IfErr result (LacksCommands S.Source
         commands.now (seen disk.old) (seen disk.new) stream.old stream.new) }
-    ensures keeps { let seen = disk_seen D.Disk D.Input.Source in
-        KeepsDisk (seen disk.old) (seen disk.new) }
+    ensures keeps { let seen = disk_seen D.Disk D.Input.Source in KeepsDisk (seen disk.old) (seen disk.new) }
 {
     match commands {
         Commands::StandardInput => unreachable!(),

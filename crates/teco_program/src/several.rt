@@ -32,8 +32,8 @@ fn worse(a: u8, b: u8) -> u8
     }
 }
 
-/// Runs over this input of the line, by the commands that come from there, and tells how that ends. Where the line asks for it what is done is explained in notes. Gives the
-/// status.
+/// Runs over this input of the line by the commands that come from there, and tells how that ends. Where the line asks for it what is done
+/// is explained in notes. Gives the status.
 pub fn edit_told<S: Source, A: Alarm, T: Terminal, E: Terminal, N: Terminal, D: Disk>(
     alloc: Global,
     line: &Line,

@@ -4,26 +4,20 @@ use Rattle.teco_host.specs.Seen.{disk_seen}
 use Rattle.teco_edit.proofs.Doings.{idle_ends, lacks_either, over_work, read_before}
 use Rattle.teco_edit.proofs.editing.edit_by.Goals as goal
 
-pub returns-in-Err : goal.returns-in-Err
-returns-in-Err g c =
+pub returns-in-Err-clause-edits : goal.returns-in-Err-clause-edits
+returns-in-Err-clause-edits g c =
     let seen = disk_seen g.D.Disk g.D.Input.Source in
-    record {
-      edits = lacks_either (is_standard_input c.args.name.now) g.S.Source c.args.host.now.commands c.input_at.new.stream (seen c.args.host.now.disk) (seen c.input_at.new.disk) c.in-Err.ensures.fault refl c.in-Err.ensures.keeps;
-      still = c.in-Err.ensures.still;
-    }
+    lacks_either (is_standard_input c.args.name.now) g.S.Source c.args.host.now.commands c.input_at.new.stream (seen c.args.host.now.disk) (seen c.input_at.new.disk) c.in-Err.ensures.fault refl c.in-Err.ensures.keeps
 
-pub returns-in_default : goal.returns-in_default
-returns-in_default g c = record {
-  edits = idle_ends _ _ _ _ _ _ _ _ _ _ (λ term place quiet keeps. inl ((refl, quiet), keeps)) refl c.input_at.ensures.keeps;
-  still = c.input_at.ensures.still;
-}
+pub returns-in_default-clause-edits : goal.returns-in_default-clause-edits
+returns-in_default-clause-edits g c = idle_ends _ _ _ _ _ _ _ _ _ _ (λ term place quiet keeps. inl ((refl, quiet), keeps)) refl c.input_at.ensures.keeps
 
 pub returns : goal.returns
 returns g c =
     let seen = disk_seen g.D.Disk g.D.Input.Source in
+    let given = read_before (is_standard_input c.args.name.now) g.S.Source c.args.host.now.commands c.input_at.new.stream (seen c.args.host.now.disk) (seen c.input_at.new.disk) (seen c.finish_work.new.host.disk) c.args.name.now c.in-Ok.input.items
+    c.finish_work.ensures.still c.in-Ok.ensures.input in
     record {
-      edits = over_work _ _ _ _ _ _ _ _ _ _ _ _ c.input_at.ensures.keeps
-          (read_before (is_standard_input c.args.name.now) g.S.Source c.args.host.now.commands c.input_at.new.stream (seen c.args.host.now.disk) (seen c.input_at.new.disk) (seen c.finish_work.new.host.disk) c.args.name.now c.in-Ok.input.items
-          c.finish_work.ensures.still c.in-Ok.ensures.input) c.in-Ok-work_over.ensures.to c.in-Ok-work_over.ensures.history c.serve_line-served.ensures c.finish_work.ensures.ends;
+      edits = over_work _ _ _ _ _ _ _ _ _ _ _ _ c.input_at.ensures.keeps given c.in-Ok-work_over.ensures.to c.in-Ok-work_over.ensures.history c.serve_line-served.ensures c.finish_work.ensures.ends;
       still = λ apart. c.finish_work.ensures.still ∙ c.input_at.ensures.still apart;
     }

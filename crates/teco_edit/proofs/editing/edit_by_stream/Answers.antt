@@ -3,11 +3,11 @@ use Rattle.teco_edit.proofs.Doings.{idle_ends, lacks_file, over_work}
 use Rattle.teco_edit.proofs.editing.edit_by_stream.Goals as goal
 
 pub returns-in-Err : goal.returns-in-Err
-returns-in-Err g c = lacks_file c.in-Err.ensures.fault refl c.in-Err.ensures.keeps
+returns-in-Err g c = rw c.requires.apart (lacks_file c.in-Err.ensures.fault refl c.in-Err.ensures.keeps)
 
 pub returns-in_default : goal.returns-in_default
-returns-in_default g c = idle_ends _ _ _ _ _ _ _ _ _ _ (λ term place quiet keeps. inl ((refl, quiet), keeps)) refl c.input_of.ensures.keeps
+returns-in_default g c = rw c.requires.apart (idle_ends _ _ _ _ _ _ _ _ _ _ (λ term place quiet keeps. inl ((refl, quiet), keeps)) refl c.input_of.ensures.keeps)
 
 pub returns : goal.returns
-returns g c = over_work _ _ _ _ _ _ _ _ _ _ _ _ c.input_of.ensures.keeps c.in-Ok.ensures.input c.in-Ok-work_over.ensures.to c.in-Ok-work_over.ensures.history
-    (rw (← c.finish_work.ensures.still) at c.serve_line-served.ensures) c.finish_work.ensures.ends
+returns g c = rw c.requires.apart (over_work _ _ _ _ _ _ _ _ _ _ _ _ c.input_of.ensures.keeps c.in-Ok.ensures.input c.in-Ok-work_over.ensures.to c.in-Ok-work_over.ensures.history
+    (rw (← c.finish_work.ensures.still) at c.serve_line-served.ensures) c.finish_work.ensures.ends)

@@ -26,6 +26,6 @@ returns-in-Ok g c =
         c.edit_by.new.commands,
         c.in-Ok.ensures.input,
         edits_from old mid new kept (standard_input g.S.Source c.args.host.now.commands c.edit_by.new.host.commands) name (is_standard_input name) c.args.line.now (commands_seen g.D.Input.Source c.in-Ok.given c.edit_by.new.commands (HasRung g.A.Stop.answered))
-        g.T.Terminal.screen c.args.host.now.terminal c.edit_by.new.host.terminal c.edit_by.result c.edit_by.ensures.edits,
+            g.T.Terminal.screen c.args.host.now.terminal c.edit_by.new.host.terminal c.edit_by.result c.edit_by.ensures.edits,
       );
     }

@@ -1,8 +1,7 @@
-use Rattle.std.proofs.Common.{sym}
 use Rattle.teco_edit.proofs.giving.edit_given.Goals as goal
 
 pub returns-in-Stream : goal.returns-in-Stream
-returns-in-Stream g c = rw (c.in-Stream.is, c.requires.apart c.in-Stream.is) c.edit_by_stream.ensures
+returns-in-Stream g c = rw c.in-Stream.is c.edit_by_stream.ensures
 
 pub returns-in-File : goal.returns-in-File
 returns-in-File g c = rw c.in-File.is c.edit_by_file.ensures

@@ -13,7 +13,7 @@ returns-in-Some-clause-runs g c =
     let view = host_view (disk_seen g.D.Disk g.D.Input.Source) g.S.Source g.T.Terminal.screen (HasRung g.A.Stop.answered) in
     let line = c.args.line.now in
     let link = subst (λ (n : List ℕ). LinkGiven view g.E.Terminal.screen line c.in-Some.feed n (c.args.host.now, c.args.errors.now) (c.edit_told.new.host, c.edit_told.new.errors) c.edit_told.result)
-        c.as_str-name.ensures.value c.edit_told.ensures.link in
+    c.as_str-name.ensures.value c.edit_told.ensures.link in
     inl (
       search rules,
       inl (record {
