@@ -2,15 +2,12 @@
 ghost use Rattle.std.specs.Prelude.{◌≡◌, ◌≤◌, IfOk, IfSome, IsTrue, false, true, vec_len};
 ghost use Rattle.std.specs.Option.{ForSome};
 ghost use Rattle.std.specs.String.{string_bytes};
-ghost use Rattle.teco_bytes.specs.Source.{Gives, HasEnded};
 ghost use Rattle.teco_core.specs.declared.limits.TheConstants.{DEPTH_LIMIT, FILE_LIMIT};
 ghost use Rattle.teco_line.specs.CommandLine.{IsDepth};
 ghost use Rattle.teco_option.specs.StreamNames.{is_standard_input, is_standard_output};
-ghost use Rattle.teco_serve.specs.Exchange.{HasRung, allowance};
+ghost use Rattle.teco_serve.specs.Exchange.{HasRung};
 ghost use Rattle.teco_serve.specs.Ending.{output_of};
-ghost use Rattle.teco_serve.specs.Serving.{Serves};
 ghost use Rattle.teco_session.specs.History.{present};
-ghost use Rattle.teco_terminal.specs.Terminal.{Shows};
 ghost use Rattle.teco_edit.specs.Run.{EndsBy, FinishesIn, bounds_of, depth_of, doings_after, history_over, named_output, replaces_input, standard_output};
 ghost use Rattle.teco_edit.specs.Given.{EditsByStream, EditsInput, KeepsStream, host_view};
 ghost use Rattle.teco_host.specs.Seen.{disk_seen};
@@ -173,36 +170,14 @@ fn work_over(alloc: Global, line: &Line, name: &str, input: Vec<u8>) -> Result<W
     Ok(Work { session, to })
 }
 
-/// Serves these commands to a session, within the bounds of the line.
-fn serve_line<C: Source, A: Alarm, T: Terminal, L: Listens>(
-    alloc: Global,
-    line: &Line,
-    commands: &mut C,
-    session: &mut Session,
-    alarm: &mut A,
-    terminal: &mut T,
-    listener: &mut L,
-) -> Served
-    ensures { Serves (allowance (bounds_of line.now) (HasRung A.answered)) line.now.prompt
-        (Gives C.coming C.bound C.failures commands.old commands.new)
-        (HasEnded (C.coming commands.new) (C.ended commands.new))
-        (Shows (T.screen terminal.old) (T.screen terminal.new))
-        (history_of session.old) (history_of session.new) result }
+/// How far each command string may run, by the line.
+fn bounds_of(line: &Line) -> Bounds
+    ensures { result ≡ bounds_of line.now }
 {
-    let bounds = Bounds {
+    Bounds {
         steps: line.limit,
         seconds: line.seconds,
-    };
-    serve(
-        alloc,
-        commands,
-        session,
-        bounds,
-        line.prompt,
-        alarm,
-        terminal,
-        listener,
-    )
+    }
 }
 
 /// Gives up a session that is over.
@@ -260,11 +235,12 @@ pub fn edit_by_stream<S: Source, A: Alarm, T: Terminal, L: Listens, D: Disk>(
     let Ok(mut work) = work_over(alloc, line, name, input) else {
         return Fate::NoMemory;
     };
-    let served = serve_line(
+    let served = serve(
         alloc,
-        line,
         &mut host.commands,
         &mut work.session,
+        bounds_of(line),
+        line.prompt,
         &mut host.alarm,
         &mut host.terminal,
         listener,
@@ -293,11 +269,12 @@ pub fn edit_by<C: Source, S: Source, A: Alarm, T: Terminal, L: Listens, D: Disk>
     let Ok(mut work) = work_over(alloc, line, name, input) else {
         return Fate::NoMemory;
     };
-    let served = serve_line(
+    let served = serve(
         alloc,
-        line,
         commands,
         &mut work.session,
+        bounds_of(line),
+        line.prompt,
         &mut host.alarm,
         &mut host.terminal,
         listener,

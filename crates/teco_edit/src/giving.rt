@@ -6,7 +6,7 @@ ghost use Rattle.teco_line.specs.Conflict.{has_conflict};
 ghost use Rattle.teco_serve.specs.Exchange.{HasRung};
 ghost use Rattle.teco_option.specs.StreamNames.{is_standard_input};
 ghost use Rattle.teco_edit.specs.declared.giving.Feed.TheVariants.{Stream};
-ghost use Rattle.teco_edit.specs.Given.{EditsByBytes, EditsByFile, EditsGiven, IsFeed, host_view, is_streamed};
+ghost use Rattle.teco_edit.specs.Given.{EditsGiven, IsFeed, host_view, is_streamed};
 ghost use Rattle.teco_host.specs.Seen.{disk_seen};
 
 use crate::editing::{edit_by, edit_by_stream};
@@ -57,46 +57,7 @@ pub fn feed_of(line: &Line) -> Option<Feed<'_>>
     }
 }
 
-/// Edits this input of the line by the commands of a file, as they come.
-fn edit_by_file<S: Source, A: Alarm, T: Terminal, L: Listens, D: Disk>(
-    alloc: Global,
-    line: &Line,
-    name: &str,
-    file: &str,
-    host: &mut Host<S, A, T, D>,
-    listener: &mut L,
-) -> Fate
-    requires depth { IfSome line.now.undo IsDepth }
-    ensures { let view = host_view (disk_seen D.Disk D.Input.Source) S.Source T.screen (HasRung A.answered) in
-        EditsByFile view line.now name.now file.now host.old host.new result }
-{
-    match host.disk.open(file) {
-        Ok(mut given) => edit_by(alloc, line, name, &mut given, host, listener),
-        Err(error) => no_commands(error),
-    }
-}
-
-/// Edits this input of the line by these bytes as commands, if there is memory for a copy of them.
-fn edit_by_bytes<S: Source, A: Alarm, T: Terminal, L: Listens, D: Disk>(
-    alloc: Global,
-    line: &Line,
-    name: &str,
-    bytes: &[u8],
-    host: &mut Host<S, A, T, D>,
-    listener: &mut L,
-) -> Fate
-    requires depth { IfSome line.now.undo IsDepth }
-    ensures { let view = host_view (disk_seen D.Disk D.Input.Source) S.Source T.screen (HasRung A.answered) in
-        EditsByBytes view line.now name.now bytes.now host.old host.new result }
-{
-    let Ok(bytes) = Vec::from_slice(alloc, bytes) else {
-        return Fate::NoMemory;
-    };
-    let mut given = WordSource::new(bytes);
-    edit_by(alloc, line, name, &mut given, host, listener)
-}
-
-/// Edits this input of the line by the commands that come from there.
+/// Edits this input of the line by the commands that come from there. Of bytes a copy is made, if there is memory for one.
 pub fn edit_given<S: Source, A: Alarm, T: Terminal, L: Listens, D: Disk>(
     alloc: Global,
     line: &Line,
@@ -112,7 +73,16 @@ pub fn edit_given<S: Source, A: Alarm, T: Terminal, L: Listens, D: Disk>(
 {
     match feed {
         Feed::Stream => edit_by_stream(alloc, line, name, host, listener),
-        Feed::File(file) => edit_by_file(alloc, line, name, file, host, listener),
-        Feed::Bytes(bytes) => edit_by_bytes(alloc, line, name, bytes, host, listener),
+        Feed::File(file) => match host.disk.open(file) {
+            Ok(mut given) => edit_by(alloc, line, name, &mut given, host, listener),
+            Err(error) => no_commands(error),
+        },
+        Feed::Bytes(bytes) => {
+            let Ok(bytes) = Vec::from_slice(alloc, bytes) else {
+                return Fate::NoMemory;
+            };
+            let mut given = WordSource::new(bytes);
+            edit_by(alloc, line, name, &mut given, host, listener)
+        }
     }
 }
