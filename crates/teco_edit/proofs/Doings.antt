@@ -279,16 +279,15 @@ module _ {I T : Type 0} (line : Line) (name : List ℕ) (input : InputSeen) (com
   served_to output between end place false s f =
       ends_so (after_serving {line = line} {input = input} {to = named_output old new place} {commands = commands} {term = terminal_seen screen before after} {end = end} {output = output} (subst (λ t. ServesInput line input.is_input commands (terminal_seen screen before t) end output) (sym f.1) s)) fate f.0
 
-  pub over_served : {output : List ℕ} {between : T} {end : Served} {place : List ℕ} {over : Bool} → place ≡ output_of line name → over ≡ replaces_input line
+  over_served : {output : List ℕ} {between : T} {end : Served} {place : List ℕ} → place ≡ output_of line name
       → ServesInput line input.is_input commands (terminal_seen screen before between) end output
-      → FinishesIn (is_standard_output place) end output over place old new screen between after fate
+      → FinishesIn (is_standard_output place) end output (replaces_input line) place old new screen between after fate
       → Edits line name (run_seen input commands old new screen before after) fate
-  over_served {output} {between} {end} {place} named goes s f =
-      let finishes = subst (λ (b : Bool). FinishesIn (is_standard_output place) end output b place old new screen between after fate) goes f in
-      record { ends = subst (λ to. EndsIn (is_standard_output to) line to (run_seen input commands old new screen before after) fate) named (served_to output between end place (is_standard_output place) s finishes) }
+  over_served {output} {between} {end} {place} named s f =
+      record { ends = subst (λ to. EndsIn (is_standard_output to) line to (run_seen input commands old new screen before after) fate) named (served_to output between end place (is_standard_output place) s f) }
 
   -- The input was read, and then the run was over it.
-  pub over_read : {mid : DiskSeen I} {bytes : List ℕ} → KeepsDisk old mid → input.is_input bytes
+  over_read : {mid : DiskSeen I} {bytes : List ℕ} → KeepsDisk old mid → input.is_input bytes
       → Edits line name (run_seen (given_input bytes) commands mid new screen before after) fate
       → Edits line name (run_seen input commands old new screen before after) fate
   over_read {mid} {bytes} kept given e = record { ends = read_to mid bytes (is_standard_output (output_of line name)) (output_of line name) kept given e.ends }
@@ -334,22 +333,13 @@ pub over_work : {I T : Type 0} (line : Line) (name : List ℕ) (input : InputSee
     → Edits line name (run_seen input commands old new screen before after) fate
 over_work line name input commands old mid new screen before between after fate {bytes} {place} {first} {history} {end} kept given named begins serves finishes =
     over_read line name input commands old new screen before after fate kept given
-    (over_served line name (given_input bytes) commands mid new screen before after fate named refl (record {
+    (over_served line name (given_input bytes) commands mid new screen before after fate named (record {
       input = bytes;
       input_is = refl;
       history = history;
       serves = subst (λ (h : History). Serves (allowance (bounds_of line) commands.asked) line.prompt commands.gave commands.ended (Shows (screen before) (screen between)) h history end) begins serves;
       output_is = refl;
     }) finishes)
-
--- The same, of what is known by another name.
-pub finishes_as : (I T : Type 0) {place to output bytes : List ℕ} {over goes : Bool} (end : Served) (old new : DiskSeen I) (screen : T → Screen) (before after : T) (fate : Fate)
-    → place ≡ to → output ≡ bytes → over ≡ goes → FinishesIn (is_standard_output place) end output over place old new screen before after fate
-    → FinishesIn (is_standard_output to) end bytes goes to old new screen before after fate
-finishes_as I T {place} {to} {output} {bytes} {over} {goes} end old new screen before after fate p o g f =
-    subst (λ n. FinishesIn (is_standard_output n) end bytes goes n old new screen before after fate) p
-    (subst (λ b. FinishesIn (is_standard_output place) end b goes place old new screen before after fate) o
-    (subst (λ (g : Bool). FinishesIn (is_standard_output place) end output g place old new screen before after fate) g f))
 
 -- A write that was done after an exit.
 pub written : (run : Doings) (output : List ℕ) (unkept : Option Unkept) → run.serves served.Exit output → run.writes output → run.unkept unkept → EndsBy run (fate_written unkept)

@@ -127,30 +127,6 @@ fn put_in_file<D: Disk>(
     }
 }
 
-/// What is done after a serving: after an exit the output is written to where the line says.
-fn finish<S: Source, A: Alarm, T: Terminal, D: Disk>(
-    alloc: Global,
-    over: bool,
-    name: &str,
-    served: Served,
-    output: (&[u8], &[u8]),
-    host: &mut Host<S, A, T, D>,
-) -> Fate
-    ensures ends { let seen = disk_seen D.Disk D.Input.Source in
-        FinishesIn (is_standard_output name.now) served (both output.entry) over name.now
-        (seen host.old.disk) (seen host.new.disk) T.screen host.old.terminal host.new.terminal result }
-    ensures still { host.new.commands ≡ host.old.commands }
-{
-    match served {
-        Served::Exit => {}
-        other => return Fate::Ended(other),
-    }
-    if is_standard_output(name) {
-        return put_on_terminal(output, &mut host.terminal);
-    }
-    put_in_file(alloc, over, name, host.process, output, &mut host.disk)
-}
-
 /// What is made of an input that was read: a session over it, and the name of its output.
 #[derive(Drop)]
 struct Work {
@@ -180,39 +156,39 @@ fn bounds_of(line: &Line) -> Bounds
     }
 }
 
+/// What is done after a serving: after an exit the output is written to where the line says.
+fn finish<S: Source, A: Alarm, T: Terminal, D: Disk>(
+    alloc: Global,
+    line: &Line,
+    work: &Work,
+    served: Served,
+    host: &mut Host<S, A, T, D>,
+) -> Fate
+    ensures ends { let seen = disk_seen D.Disk D.Input.Source in
+        FinishesIn (is_standard_output (string_bytes work.now.to)) served (present (history_of work.now.session)).output
+        (replaces_input line.now) (string_bytes work.now.to)
+        (seen host.old.disk) (seen host.new.disk) T.screen host.old.terminal host.new.terminal result }
+    ensures still { host.new.commands ≡ host.old.commands }
+{
+    match served {
+        Served::Exit => {}
+        other => return Fate::Ended(other),
+    }
+    let name = work.to.as_str();
+    let output = work.session.editor().output();
+    if is_standard_output(name) {
+        return put_on_terminal(output, &mut host.terminal);
+    }
+    let over = replaces_input(line);
+    put_in_file(alloc, over, name, host.process, output, &mut host.disk)
+}
+
 /// Gives up a session that is over.
 fn leave(line: &Line, session: Session) {
     if line.more.is_empty() {
         // The process ends next, and the system takes back at once what the session would free change by change.
         let _kept = ManuallyDrop::new(session);
     }
-}
-
-/// Writes the output of a session after an exit, and gives it up.
-fn finish_work<S: Source, A: Alarm, T: Terminal, D: Disk>(
-    alloc: Global,
-    line: &Line,
-    work: Work,
-    served: Served,
-    host: &mut Host<S, A, T, D>,
-) -> Fate
-    ensures ends { let seen = disk_seen D.Disk D.Input.Source in
-        FinishesIn (is_standard_output (string_bytes work.to)) served (present (history_of work.session)).output
-        (replaces_input line.now) (string_bytes work.to)
-        (seen host.old.disk) (seen host.new.disk) T.screen host.old.terminal host.new.terminal result }
-    ensures still { host.new.commands ≡ host.old.commands }
-{
-    let output = work.session.editor().output();
-    let fate = finish(
-        alloc,
-        replaces_input(line),
-        work.to.as_str(),
-        served,
-        output,
-        host,
-    );
-    leave(line, work.session);
-    fate
 }
 
 /// Reads an input that is a file, and edits it by the commands of standard input.
@@ -245,7 +221,9 @@ pub fn edit_by_stream<S: Source, A: Alarm, T: Terminal, L: Listens, D: Disk>(
         &mut host.terminal,
         listener,
     );
-    finish_work(alloc, line, work, served, host)
+    let fate = finish(alloc, line, &work, served, host);
+    leave(line, work.session);
+    fate
 }
 
 /// Reads an input, standard input or a file, and edits it by these commands.
@@ -279,5 +257,7 @@ pub fn edit_by<C: Source, S: Source, A: Alarm, T: Terminal, L: Listens, D: Disk>
         &mut host.terminal,
         listener,
     );
-    finish_work(alloc, line, work, served, host)
+    let fate = finish(alloc, line, &work, served, host);
+    leave(line, work.session);
+    fate
 }
