@@ -2,7 +2,7 @@
 use Rattle.teco_bytes.specs.declared.source.Source.{Ghosts as SourceView}
 use Rattle.std.proofs.Common.{◌≡◌, ◌≢◌, inl, inr, ℕ, List, Bool, IsTrue, Option, None, Some, true, false, refl, ap, sym, ◌∙◌, subst}
 use Rattle.std.specs.declared.io.Error.{Error}
-use Rattle.teco_files.specs.Disk.{Changes, Files, IsStream}
+use Rattle.teco_files.specs.Disk.{Changes, Files}
 use Rattle.teco_files.specs.declared.unkept.Unkept.{Unkept}
 use Rattle.teco_bytes.specs.declared.input.InputFault.{InputFault}
 use Rattle.teco_bytes.specs.declared.input.InputFault.TheVariants as input
@@ -17,7 +17,7 @@ use Rattle.teco_host.specs.Writing.{HasDraft, IsPut, WritesOutput}
 use Rattle.teco_serve.specs.Ending.{fate_without_input, output_of}
 use Rattle.teco_edit.specs.Seen.{CommandsSeen, InputSeen, OutputSeen, RunSeen, TerminalSeen, run_seen, terminal_seen}
 use Rattle.teco_host.specs.Seen.{DiskSeen, KeepsDisk}
-use Rattle.teco_edit.specs.Run.{Doings, Edits, EndsBy, EndsIn, FindsChange, FinishesIn, FailsToStream, FailsToWrite, IsFateOf, Lacks, LacksInput, ServesInput, bounds_of, doings, doings_after, fate_written, given_input, history_over, input_from, named_input, named_output, replaces_input, standard_input, standard_output}
+use Rattle.teco_edit.specs.Run.{Doings, Edits, EndsBy, EndsIn, FindsChange, FinishesIn, FailsToWrite, IsFateOf, Lacks, LacksInput, ServesInput, bounds_of, doings, doings_after, fate_written, given_input, history_over, input_from, named_input, named_output, replaces_input, standard_input, standard_output}
 use Rattle.teco_serve.specs.declared.fate.Fate.{Fate}
 use Rattle.teco_serve.specs.declared.fate.Fate.TheVariants.{NoCommands, NoInput, NotRegular, LargeInput, NoMemory, NoOutput, Changed, Unchanged, Lacking, Ended}
 use Rattle.teco_serve.specs.declared.served.Served.{Served}

@@ -29,7 +29,7 @@ use Rattle.teco_serve.specs.declared.served.Served.TheVariants as served
 abbrev pub word_seen : SourceView WordSource
 word_seen = source_view (word.coming-value).it (word.bound-value).it (word.failures-value).it (word.ended-value).it
 
--- how these are seen
+-- how the parts of a host are seen
 pub record HostView (D I S T : Type 0) : Type 1 where
   pub disk : D → DiskSeen I
   pub stream : SourceView S

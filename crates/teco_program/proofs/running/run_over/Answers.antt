@@ -1,7 +1,6 @@
-use Rattle.std.proofs.Common.{ℕ, List, inl, rules, subst, ap}
+use Rattle.std.proofs.Common.{ℕ, List, inl, rules, subst}
 use Rattle.std.specs.String.{string_bytes}
-use Rattle.teco_edit.specs.Given.{EditsGiven, host_view}
-use Rattle.teco_edit.specs.Run.{Concludes}
+use Rattle.teco_edit.specs.Given.{host_view}
 use Rattle.teco_host.specs.Seen.{disk_seen}
 use Rattle.teco_serve.specs.Exchange.{HasRung}
 use Rattle.teco_program.specs.Runs.{LinkGiven}
