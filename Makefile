@@ -30,7 +30,7 @@ PAGES = docs/*.md
 EXAMPLES = examples/*.md examples/*.tec examples/*.in examples/*.out examples/*.typed
 PROGRAMS = out/teco out/teco-debug out/tecol out/teco-term out/teco-screen
 LIBRARY = out/libteco_c.a out/teco.pc
-VERSION != sed -n 's/^pub const VERSION: &str = "\(.*\)";$$/\1/p' crates/teco_option/src/*.rt
+VERSION != sed -n 's/^pub const VERSION: &str = "\(.*\)";$$/\1/p' crates/teco_cli/src/*.rt
 SOURCES != find crates.txt crates/*/src crates/*/specs crates/*/proofs -type f ! -path '*/src/tests/*'
 # What teco-term and teco-screen share, and what each has beside it.
 SHARED = doors/c/term-codes.c doors/c/term-file.c doors/c/term-journal.c doors/c/term-keys.c doors/c/term-options.c doors/c/term-read.c \

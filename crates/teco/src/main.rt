@@ -1,19 +1,14 @@
 //! The program: reads the input file, serves the commands on standard input, and writes the output file.
 #![tactic(auto)]
 
-#[cfg(test)]
-mod tests;
-
 use std::cell::Cell;
 use std::process;
 use std::process::ExitCode;
-use teco_bytes::ReaderSource;
-use teco_files::{FileDisk, Piped, UntilLeft, hold_standard_streams};
-use teco_line::not_text;
-use teco_option::{LineFault, fault_of_words};
-use teco_program::{Host, program};
+use teco_cli::{LineFault, fault_of_words, not_text};
+use teco_driver::{Host, program};
+use teco_fs::{FileDisk, Piped, UntilLeft, hold_standard_streams};
+use teco_io::{ReaderSource, WriterTerminal};
 use teco_serve::ClockAlarm;
-use teco_terminal::WriterTerminal;
 
 // The theorem ends here: that these are the program's words, streams, clock and files is told by no contract.
 

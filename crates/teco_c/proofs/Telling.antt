@@ -3,12 +3,12 @@ use Rattle.std.proofs.Common.{◌≡◌, ◌≤◌, ◌<◌, ℕ, List, Option, 
 use Rattle.std.proofs.lemmas.Option.{slice_get-get_or, slice_get_past}
 use Rattle.teco_session.specs.History.{NotedString, note_at}
 use Rattle.teco_session.specs.Kept.{history_of, string_at}
-use Rattle.teco_door.specs.Calls.{StaysClosed}
-use Rattle.teco_door.specs.Handle.{Kept, SessionGoes}
+use Rattle.teco_ffi.specs.Calls.{StaysClosed}
+use Rattle.teco_ffi.specs.Handle.{Kept, SessionGoes}
 use Rattle.teco_c.specs.Changes.{changes_of}
 use Rattle.teco_c.specs.Looks.{TellsIf, IsTold, CopiesIf, IsCopied, string_of}
-use Rattle.teco_door.specs.Rooms.{filled}
-use Rattle.teco_door.specs.declared.answers.TheConstants.{CLOSED, OUTSIDE}
+use Rattle.teco_ffi.specs.Rooms.{filled}
+use Rattle.teco_ffi.specs.declared.answers.TheConstants.{CLOSED, OUTSIDE}
 
 -- The handle is closed.
 module _ (held : Option Kept) (closed : held ≡ None) where

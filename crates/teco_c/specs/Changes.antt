@@ -4,8 +4,8 @@ use Rattle.teco_store.specs.Kinds.{kind_of}
 use Rattle.teco_store.specs.Turn.{Note}
 use Rattle.teco_store.specs.declared.change_kind.ChangeKind.{ChangeKind}
 use Rattle.teco_store.specs.declared.change_kind.ChangeKind.TheVariants.{Splice, Point, Number, Text, Push, Pop, Pages, Search, Found, Done, Mode}
-use Rattle.teco_door.specs.Handle.{Kept}
-pub use Rattle.teco_door.specs.Kinds.{kind_number, name_in}
+use Rattle.teco_ffi.specs.Handle.{Kept}
+pub use Rattle.teco_ffi.specs.Kinds.{kind_number, name_in}
 
 -- the changes of the string at a place, as an undo or a redo would turn them now
 abbrev pub changes_of : ℕ → Kept → Option (List Note)

@@ -6,9 +6,9 @@ use Rattle.teco_core.specs.declared.case_mode.CaseMode.TheVariants.{Exact, Eithe
 use Rattle.teco_store.specs.State.{State}
 use Rattle.teco_session.specs.History.{NotedString, present}
 use Rattle.teco_session.specs.Kept.{history_of}
-use Rattle.teco_door.specs.Handle.{Kept}
-use Rattle.teco_door.specs.Rooms.{filled}
-use Rattle.teco_door.specs.declared.answers.TheConstants.{CLOSED, OUTSIDE}
+use Rattle.teco_ffi.specs.Handle.{Kept}
+use Rattle.teco_ffi.specs.Rooms.{filled}
+use Rattle.teco_ffi.specs.declared.answers.TheConstants.{CLOSED, OUTSIDE}
 
 -- the editing state
 abbrev pub state_now : Kept → State

@@ -4,15 +4,15 @@ ghost use Rattle.teco_core.specs.Code.{number_of};
 ghost use Rattle.teco_core.specs.declared.code.Code.TheVariants.{Mem};
 ghost use Rattle.teco_session.specs.Kept.{new_session};
 ghost use Rattle.teco_session.specs.declared.request.Answer.{Answer as RunAnswer};
-ghost use Rattle.teco_door.specs.Calls.{StaysClosed, Undoes, Redoes, Rewinds, Forgets, RunsTo, depth_asked};
-ghost use Rattle.teco_door.specs.Handle.{SessionGoes};
-ghost use Rattle.teco_door.specs.Numbers.{answer_number, steps_of};
+ghost use Rattle.teco_ffi.specs.Calls.{StaysClosed, Undoes, Redoes, Rewinds, Forgets, RunsTo, depth_asked};
+ghost use Rattle.teco_ffi.specs.Handle.{SessionGoes};
+ghost use Rattle.teco_ffi.specs.Numbers.{answer_number, steps_of};
 
 use crate::answers::{CLOSED, DEEP, LARGE, number_of_answer, steps_of_answer};
 use crate::handle::Teco;
 use std::alloc::Global;
 use teco_core::{Code, DEPTH_LIMIT, FILE_LIMIT};
-use teco_door::calls::{run_in, session_over, undo};
+use teco_ffi::calls::{run_in, session_over, undo};
 
 /// Opens a handle: a session over a copy of the input, that keeps the last `depth` strings, or all of them where that is 0. What was
 /// open in it is freed then.

@@ -2,7 +2,7 @@
 ghost use Rattle.std.specs.Prelude.{◌≡◌, ◌<◌, None, Some, length, option_map, slice_index_or, MatchOption};
 ghost use Rattle.teco_c.specs.Changes.{change_of, changes_of, kind_at, kind_number, name_in, splice_of};
 ghost use Rattle.teco_c.specs.Looks.{TellsIf};
-ghost use Rattle.teco_record.specs.Listing.{no_note};
+ghost use Rattle.teco_undo.specs.Listing.{no_note};
 
 use crate::answers::{CLOSED, OUTSIDE};
 use crate::handle::Teco;

@@ -1,17 +1,17 @@
 //! The call that runs a string and tells each call that is open where it stopped.
 ghost use Rattle.std.specs.Prelude.{◌≡◌, ◌≤◌, length, take, None};
 ghost use Rattle.teco_session.specs.declared.request.Answer.{Answer as RunAnswer};
-ghost use Rattle.teco_door.specs.Calls.{StaysClosed, RunsToWithin};
-ghost use Rattle.teco_door.specs.Frames.{TellsFrames};
-ghost use Rattle.teco_door.specs.Handle.{SessionGoes};
-ghost use Rattle.teco_door.specs.Numbers.{answer_number, steps_of};
-ghost use Rattle.teco_door.specs.Stops.{may_answer};
+ghost use Rattle.teco_ffi.specs.Calls.{StaysClosed, RunsToWithin};
+ghost use Rattle.teco_ffi.specs.Frames.{TellsFrames};
+ghost use Rattle.teco_ffi.specs.Handle.{SessionGoes};
+ghost use Rattle.teco_ffi.specs.Numbers.{answer_number, steps_of};
+ghost use Rattle.teco_ffi.specs.Stops.{may_answer};
 
 use crate::answers::{CLOSED, NOWHERE, number_of_answer, steps_of_answer};
 use crate::handle::Teco;
 use crate::stopper::Stopper;
-use teco_door::frames::{OpenCall, tell_place};
-use teco_door::places::{run_asked, told_calls};
+use teco_ffi::frames::{OpenCall, tell_place};
+use teco_ffi::places::{run_asked, told_calls};
 
 /// Runs a command string as `teco_where_until` does, and tells each call that is open where it stopped, the latest first, as far as there
 /// is room for them. `at` is the place of the token in the innermost text: of the register that the first of them calls, or of the string

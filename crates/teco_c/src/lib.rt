@@ -12,4 +12,4 @@ mod state;
 mod stops;
 mod tokens;
 
-use teco_door::{answers, halves, handle, kinds, room, stopper};
+use teco_ffi::{answers, halves, handle, kinds, room, stopper};

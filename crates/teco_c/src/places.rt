@@ -1,17 +1,17 @@
 //! The calls that run a string and tell where it stopped.
 ghost use Rattle.std.specs.Prelude.{◌≡◌, ◌⊎◌, ◌≤◌, length, take, None};
 ghost use Rattle.teco_session.specs.declared.request.Answer.{Answer as RunAnswer};
-ghost use Rattle.teco_door.specs.Calls.{StaysClosed, RunsTo, RunsToWithin};
-ghost use Rattle.teco_door.specs.Handle.{SessionGoes};
-ghost use Rattle.teco_door.specs.Numbers.{answer_number, steps_of};
-ghost use Rattle.teco_door.specs.Stops.{may_answer};
-ghost use Rattle.teco_door.specs.Places.{TellsWhere};
+ghost use Rattle.teco_ffi.specs.Calls.{StaysClosed, RunsTo, RunsToWithin};
+ghost use Rattle.teco_ffi.specs.Handle.{SessionGoes};
+ghost use Rattle.teco_ffi.specs.Numbers.{answer_number, steps_of};
+ghost use Rattle.teco_ffi.specs.Stops.{may_answer};
+ghost use Rattle.teco_ffi.specs.Places.{TellsWhere};
 
 use crate::answers::{CLOSED, NOWHERE, number_of_answer, steps_of_answer};
 use crate::handle::Teco;
 use crate::stopper::Stopper;
-use teco_door::places::{run_asked, run_in, told_at, told_calls};
 use teco_exec::Never;
+use teco_ffi::places::{run_asked, run_in, told_at, told_calls};
 
 /// Runs a command string as `teco_run` does, and tells where it stopped: at the token that ended it by a code, or that comes next where
 /// the limit did. `at` is the place of that token in the string itself, or of the outermost call, where `calls` were open.

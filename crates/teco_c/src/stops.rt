@@ -2,13 +2,13 @@
 ghost use Rattle.std.specs.Prelude.{◌≡◌, ◌≢◌, ◌⊎◌, None, IsSome, Option};
 ghost use Rattle.teco_core.specs.Code.{number_of};
 ghost use Rattle.teco_core.specs.declared.code.Code.TheVariants.{Mem};
-ghost use Rattle.teco_door.specs.Stops.{Hears};
+ghost use Rattle.teco_ffi.specs.Stops.{Hears};
 
 use crate::answers::CLOSED;
 use crate::stopper::Stopper;
 use std::alloc::Global;
 use teco_core::Code;
-use teco_door::flag::Flag;
+use teco_ffi::flag::Flag;
 
 /// Opens a stopper: a flag that is not set, with two handles. What was open in them is closed then.
 ///

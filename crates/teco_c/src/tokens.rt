@@ -1,9 +1,9 @@
 //! The call that reads a token of a text.
 ghost use Rattle.std.specs.Prelude.{◌≡◌, ◌≤◌, drop, length};
 ghost use Rattle.teco_scan.specs.Scan.{after_fillers, scan};
-ghost use Rattle.teco_door.specs.Tokens.{after_token, last_text, token_answer, token_kind};
+ghost use Rattle.teco_ffi.specs.Tokens.{after_token, last_text, token_answer, token_kind};
 
-use teco_door::tokens::tell_token;
+use teco_ffi::tokens::tell_token;
 
 /// Writes what stands at a place of a text after fillers: the two ends of a token, the number of its kind, and how many bytes its last
 /// text has. Past the end of the text there is nothing. Takes no memory.

@@ -4,10 +4,10 @@
 use std::cell::Cell;
 use std::env;
 use std::process::ExitCode;
-use teco_files::{FileDisk, Piped, UntilLeft, hold_standard_streams};
-use teco_option::{LineFault, fault_of_words};
-use teco_retrace::{not_text, program};
-use teco_terminal::WriterTerminal;
+use teco_cli::{LineFault, fault_of_words};
+use teco_debugger::{not_text, program};
+use teco_fs::{FileDisk, Piped, UntilLeft, hold_standard_streams};
+use teco_io::WriterTerminal;
 
 // That these are the program's words, streams and files is told by no contract.
 

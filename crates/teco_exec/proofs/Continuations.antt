@@ -16,14 +16,14 @@ use Rattle.teco_exec.specs.declared.moves.Coming.{Coming}
 use Rattle.teco_exec.specs.declared.moves.Coming.TheVariants.{Passed, Step, Block, End, Fault}
 use Rattle.teco_exec.proofs.MachineMeans.{arrives_step, halted, halts_nowhere, halts_ready, no_steps, run_ready, arrives_stays}
 use Rattle.teco_exec.proofs.Going.{Settles, alike, also, continues, end_since, host_of, settles, now_there, shows_nothing}
-use Rattle.teco_blocks.specs.ListLaws.{BlockLaws}
+use Rattle.teco_scan.specs.ListLaws.{BlockLaws}
 use Rattle.teco_exec.proofs.Passing.{Shorter, pass_short}
 use Rattle.std.proofs.lemmas.Bool.Decides.{nat_tests}
 use Rattle.std.proofs.Math.Nat.{mul-le-mul_right, add-mul}
 use Rattle.teco_core.specs.Arguments.{Arguments, no_arguments}
 use Rattle.teco_core.specs.declared.code.Code.TheVariants.{Lim, Pdo}
 use Rattle.teco_store.specs.Trail.{Trail}
-use Rattle.teco_terminal.specs.Terminal.{Shows}
+use Rattle.teco_io.specs.Terminal.{Shows}
 use Rattle.teco_exec.specs.MachineLaws.{MachineMeans}
 use Rattle.teco_exec.specs.Places.{standing}
 use Rattle.teco_exec.specs.declared.flow.Exit.{Exit}

@@ -4,17 +4,17 @@ use Rattle.teco_core.specs.declared.code.Code.{Code}
 use Rattle.teco_core.specs.declared.code.Code.TheVariants.{Lim, Naq, Utc, Arg}
 use Rattle.teco_core.specs.Arguments.{Arguments, no_arguments, taken_from}
 use Rattle.teco_scan.specs.declared.command.Modifiers.{Modifiers}
-use Rattle.teco_blocks.specs.declared.blocks.Kind.{Kind}
-use Rattle.teco_blocks.specs.declared.blocks.Kind.TheVariants.{Iter, Then}
+use Rattle.teco_scan.specs.declared.blocks.Kind.{Kind}
+use Rattle.teco_scan.specs.declared.blocks.Kind.TheVariants.{Iter, Then}
 use Rattle.teco_scan.specs.Scan.{Item, Scanned, scan}
-use Rattle.teco_blocks.specs.Tree.{Nodes, done, item, escape, iter, cond, tag}
+use Rattle.teco_scan.specs.Tree.{Nodes, done, item, escape, iter, cond, tag}
 use Rattle.teco_scan.specs.declared.command.Test.{Test}
-use Rattle.teco_command.specs.declared.next.Work.{Work}
-use Rattle.teco_command.specs.Step.{End, on, stop, takes_one, leave}
+use Rattle.teco_step.specs.declared.next.Work.{Work}
+use Rattle.teco_step.specs.Step.{End, on, stop, takes_one, leave}
 use Rattle.teco_exec.specs.World.{World, WorldAndEnd, pay, pay_from}
 use Rattle.teco_exec.specs.Meaning.{then_rest, run_step, run_iteration, run_conditional, first_setting, leave_comes, list_by, meaning, after_part, run_turn, turns_of, turns_by}
-use Rattle.teco_blocks.specs.Lists.{Close, closed, broken, Past, past, Listed, wrong, behind_block, put, second, at_scan, list_at}
-use Rattle.teco_blocks.specs.ListLaws.{BlockLaws}
+use Rattle.teco_scan.specs.Lists.{Close, closed, broken, Past, past, Listed, wrong, behind_block, put, second, at_scan, list_at}
+use Rattle.teco_scan.specs.ListLaws.{BlockLaws}
 use Rattle.teco_exec.specs.CursorMoves.{Frame, Cursor, CursorOrError, Coming, passed_to, step_comes, block_comes, end_comes, fault_comes, BlockStep, innermost_kind, inside_iteration, leave_is_next, after_skip, after_block_end, passed_or_fault, pass_opening, pass_mark, pass_instruction, pass_scanned, pass, inside_block, after_counted_start, after_iteration_start, next_turn_or_end, inside_second_part, inside_chosen_part, after_leaving_block, after_leaving_iteration}
 use Rattle.teco_exec.specs.Machine.{Caller, Final, setting_of}
 use Rattle.teco_exec.specs.CursorMoves as machine

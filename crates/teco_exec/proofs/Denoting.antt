@@ -1,14 +1,14 @@
 -- What the recursive meaning makes of a machine's configuration.
 use Rattle.std.specs.Prelude.{◌≡◌, ℕ, suc, List, [], ◌∷◌, length, Option, Some, Ok, Err}
-use Rattle.teco_blocks.specs.declared.blocks.Kind.{Kind}
-use Rattle.teco_blocks.specs.declared.blocks.Kind.TheVariants.{Iter, Then, Else}
-use Rattle.teco_blocks.specs.Tree.{Nodes}
-use Rattle.teco_command.specs.Step.{End}
+use Rattle.teco_scan.specs.declared.blocks.Kind.{Kind}
+use Rattle.teco_scan.specs.declared.blocks.Kind.TheVariants.{Iter, Then, Else}
+use Rattle.teco_scan.specs.Tree.{Nodes}
+use Rattle.teco_step.specs.Step.{End}
 use Rattle.teco_exec.specs.World.{World, WorldAndEnd}
 use Rattle.teco_exec.specs.Meaning.{then_rest, after_turn, after_part, run_step, run_iteration, run_conditional, meaning}
 use Rattle.teco_exec.specs.Meaning as meant
 use Rattle.teco_exec.specs.StringMeaning.{code_of}
-use Rattle.teco_blocks.specs.Lists.{Close, Past, past, Listed, behind, second, behind_block, list_at, nodes}
+use Rattle.teco_scan.specs.Lists.{Close, Past, past, Listed, behind, second, behind_block, list_at, nodes}
 use Rattle.teco_exec.specs.CursorMoves.{Frame, Cursor, CursorOrError, innermost_kind, inside_iteration}
 use Rattle.teco_exec.specs.Machine.{Caller, Final}
 

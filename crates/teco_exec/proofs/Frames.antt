@@ -5,11 +5,11 @@ use Rattle.std.proofs.lemmas.List.{take_more, reverse-append}
 use Rattle.std.proofs.lemmas.List.Elements.{All-cons, All-tail}
 use Rattle.teco_core.specs.Arguments.{Arguments, no_arguments}
 use Rattle.teco_core.specs.declared.code.Code.TheVariants.{Pdo, Sni, Tag, Utc}
-use Rattle.teco_blocks.specs.declared.blocks.Kind.{Kind}
-use Rattle.teco_blocks.specs.declared.blocks.Kind.TheVariants.{Iter, Then, Else}
+use Rattle.teco_scan.specs.declared.blocks.Kind.{Kind}
+use Rattle.teco_scan.specs.declared.blocks.Kind.TheVariants.{Iter, Then, Else}
 use Rattle.teco_exec.specs.Frames.{EndsTurn, frame, frames, has_iteration, in_turn, kind_of, list_start, next_body, next_turn}
-use Rattle.teco_blocks.specs.Lists.{Close, Past, past, behind_block, list_at, tag_at}
-use Rattle.teco_blocks.specs.Lists as lists
+use Rattle.teco_scan.specs.Lists.{Close, Past, past, behind_block, list_at, tag_at}
+use Rattle.teco_scan.specs.Lists as lists
 use Rattle.teco_exec.specs.CursorMoves.{Frame, pass_text_end, end_comes, Cursor, Coming, after_leaving_block, after_leaving_iteration, passed_or_fault, after_skip, inside_second_part, passed_to, block_comes, fault_comes, after_block_end, inside_iteration, after_jump, after_tag_or}
 use Rattle.teco_exec.specs.CursorMoves as machine
 use Rattle.teco_exec.specs.declared.blocks.Block.{Block}

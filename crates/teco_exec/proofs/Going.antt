@@ -6,7 +6,7 @@ use Rattle.teco_core.specs.declared.code.Code.{Code}
 use Rattle.teco_core.specs.declared.code.Code.TheVariants.{Lim, Mem, Tty}
 use Rattle.teco_store.specs.State.{State}
 use Rattle.teco_store.specs.Trail.{Trail, moved, stepped}
-use Rattle.teco_terminal.specs.Terminal.{Screen, Shows, IsFrontOf, count_after}
+use Rattle.teco_io.specs.Terminal.{Screen, Shows, IsFrontOf, count_after}
 use Rattle.teco_exec.specs.Machine.{Final, Machine, Now, Ready, after_steps, ready_of, run_within}
 use Rattle.teco_exec.specs.Places.{after_coming}
 use Rattle.teco_exec.specs.StringMeaning.{StringMeaning, string_meaning}

@@ -3,17 +3,17 @@ use Rattle.std.proofs.Common.{◌≡◌, ℕ, zero, suc, ◌+◌, ◌-◌, false
 use Rattle.teco_core.specs.declared.code.Code.TheVariants.{Lim, Naq}
 use Rattle.teco_core.specs.Arguments.{Arguments, taken_from}
 use Rattle.teco_scan.specs.declared.command.Modifiers.{Modifiers}
-use Rattle.teco_blocks.specs.declared.blocks.Kind.TheVariants.{Iter}
+use Rattle.teco_scan.specs.declared.blocks.Kind.TheVariants.{Iter}
 use Rattle.teco_scan.specs.Scan.{Item}
 use Rattle.teco_store.specs.State.{State}
-use Rattle.teco_command.specs.declared.next.Work.{Work}
-use Rattle.teco_command.specs.Step.{Step, on, stop, takes_one, End}
+use Rattle.teco_step.specs.declared.next.Work.{Work}
+use Rattle.teco_step.specs.Step.{Step, on, stop, takes_one, End}
 use Rattle.teco_step.specs.Effect.{effect}
 use Rattle.teco_exec.specs.World.{World, WorldAndEnd, without_arguments, pay_from}
 use Rattle.teco_exec.specs.Meaning.{meaning}
 use Rattle.teco_exec.specs.StringMeaning.{string_run}
-use Rattle.teco_blocks.specs.Lists.{closed}
-use Rattle.teco_blocks.specs.ListLaws.{BlockLaws}
+use Rattle.teco_scan.specs.Lists.{closed}
+use Rattle.teco_scan.specs.ListLaws.{BlockLaws}
 use Rattle.teco_exec.specs.CursorMoves.{Frame, Cursor, CursorOrError, Coming, passed_to, step_comes, block_comes, end_comes, fault_comes, BlockStep, innermost_kind, inside_iteration, after_leaving_iteration, after_jump, pass, after_block_step}
 use Rattle.teco_exec.specs.Machine.{Caller, Further, Config, Machine, runs, halts, Ready, step, block, faulty, finished, Final, final, setting_of, runs_or_halts, after_step_end, after_text_end, ready_where_comes, ready_at, ready_within, ready_of, bytes_of_callers, bytes_left, after_paid_step, final_without_fuel, final_with_fuel, run_within, after_steps, start_config, Now, now_of}
 use Rattle.teco_exec.specs.CursorMoves as machine

@@ -3,8 +3,8 @@ use Rattle.std.proofs.Common.{arith, ◌≡◌, ℕ, Bool, true, List, [], Optio
 use Rattle.teco_core.specs.declared.code.Code.{Code}
 use Rattle.teco_core.specs.declared.code.Code.TheVariants.{Mem}
 use Rattle.teco_core.specs.Arguments.{Arguments, no_arguments}
-use Rattle.teco_blocks.specs.ListLaws.{BlockLaws}
-use Rattle.teco_blocks.specs.Lists.{Listed, nodes}
+use Rattle.teco_scan.specs.ListLaws.{BlockLaws}
+use Rattle.teco_scan.specs.Lists.{Listed, nodes}
 use Rattle.teco_scan.specs.declared.token.Found.{Found}
 use Rattle.teco_scan.specs.declared.token.TokenKind.{TokenKind}
 use Rattle.teco_scan.specs.declared.token.TokenKind.TheVariants as kind

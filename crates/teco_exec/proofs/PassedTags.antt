@@ -1,6 +1,6 @@
 -- What uses no step is passed, one after the other.
 use Rattle.std.proofs.Common.{◌≡◌, ◌∙◌, [], refl, arith}
-use Rattle.teco_blocks.specs.ListLaws.{BlockLaws}
+use Rattle.teco_scan.specs.ListLaws.{BlockLaws}
 use Rattle.teco_scan.specs.declared.token.Found.{Found}
 use Rattle.teco_exec.specs.CursorMoves.{pass}
 use Rattle.teco_exec.specs.TextStep.{GoesOnAlike}

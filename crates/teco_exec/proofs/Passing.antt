@@ -3,17 +3,17 @@ use Rattle.std.proofs.Common.{◌≡◌, ℕ, suc, ◌<◌, Bool, true, false, L
 use Rattle.teco_core.specs.Arguments.{Arguments, no_arguments}
 use Rattle.teco_core.specs.declared.code.Code.{Code}
 use Rattle.teco_core.specs.declared.code.Code.TheVariants.{Bni, Ill, Pdo, Utc}
-use Rattle.teco_blocks.specs.declared.blocks.Kind.{Kind}
-use Rattle.teco_blocks.specs.declared.blocks.Kind.TheVariants.{Iter, Then, Else}
+use Rattle.teco_scan.specs.declared.blocks.Kind.{Kind}
+use Rattle.teco_scan.specs.declared.blocks.Kind.TheVariants.{Iter, Then, Else}
 use Rattle.teco_scan.specs.declared.command.BlockMark.{BlockMark}
 use Rattle.teco_scan.specs.declared.command.BlockMark.TheVariants.{Iterate, EndIteration, Otherwise, EndTest}
 use Rattle.teco_scan.specs.declared.command.Modifiers.{Modifiers}
 use Rattle.teco_scan.specs.declared.command.Test.{Test}
-use Rattle.teco_blocks.specs.ListLaws.{BlockLaws, Within}
-use Rattle.teco_blocks.specs.Lists.{Close, closed, broken, past, Listed, wrong, put, behind_block, iter_at, cond_at, at_mark, at_instruction, at_scan, list_at}
+use Rattle.teco_scan.specs.ListLaws.{BlockLaws, Within}
+use Rattle.teco_scan.specs.Lists.{Close, closed, broken, past, Listed, wrong, put, behind_block, iter_at, cond_at, at_mark, at_instruction, at_scan, list_at}
 use Rattle.teco_scan.specs.Scan.{Item, Instruction, TokenMeaning, Scanned, found, ended, fault, scan}
 use Rattle.teco_scan.specs.Scan as token
-use Rattle.teco_blocks.specs.Tree.{is_fault, done, item, escape, tag}
+use Rattle.teco_scan.specs.Tree.{is_fault, done, item, escape, tag}
 use Rattle.teco_exec.specs.CursorMoves.{Frame, Cursor, BlockStep, iterates, ends_turn, decides, Coming, passed_to, step_comes, block_comes, end_comes, fault_comes, innermost_kind, after_skip, passed_or_fault, after_block_end, pass_mark, pass_instruction, pass_scanned, pass, CursorOrError, inside_iteration, pass_opening, after_counted_start, after_iteration_start, next_turn_or_end, inside_second_part, inside_chosen_part, after_leaving_block, after_leaving_iteration, after_tag_or, after_jump, after_block_step}
 use Rattle.teco_exec.proofs.Denoting.{here, after, after_iteration, after_conditional, Fits, FitsAt}
 use Rattle.teco_exec.specs.CursorMoves as machine

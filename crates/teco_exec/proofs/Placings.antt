@@ -3,7 +3,7 @@ use Rattle.std.proofs.Common.{◌≡◌, ℕ, suc, ◌+◌, ◌++◌, Bool, true
 use Rattle.std.proofs.lemmas.List.{drop-drop, length-drop}
 use Rattle.teco_core.specs.Ascii.{is_filler}
 use Rattle.teco_scan.specs.Scan.{TokenMeaning, scan, scan_here, after_fillers}
-use Rattle.teco_blocks.specs.Breaks.{IsTokenPlace}
+use Rattle.teco_scan.specs.Breaks.{IsTokenPlace}
 use Rattle.teco_store.specs.State.{State}
 use Rattle.teco_exec.specs.CursorMoves.{Frame}
 use Rattle.teco_exec.specs.Machine.{Caller}

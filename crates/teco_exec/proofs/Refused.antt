@@ -4,8 +4,8 @@ use Rattle.teco_core.specs.declared.code.Code.{Code}
 use Rattle.teco_core.specs.declared.arguments.Expression.{Expression}
 use Rattle.teco_core.specs.declared.arguments.Expression.TheVariants.{Nothing, Number, Signed, Operation}
 use Rattle.teco_core.specs.Arguments.{Arguments, taken_on, taken_from, with_first}
-use Rattle.teco_blocks.specs.Tree.{is_fault}
-use Rattle.teco_command.specs.Ending.{is_unfinished_code}
+use Rattle.teco_scan.specs.Tree.{is_fault}
+use Rattle.teco_step.specs.Ending.{is_unfinished_code}
 
 -- a text's own faults
 pub fault_is_finished : (c : Code) → is_fault c ≡ true → is_unfinished_code c ≡ false

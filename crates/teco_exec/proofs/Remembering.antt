@@ -3,12 +3,12 @@ use mathlib.Core.HLevel.{is_prop→PathP}
 use Rattle.std.proofs.Common.{◌≡◌, ◌≤◌, ℕ, All, List, Option, Some, Result, drop, length, subst}
 use Rattle.std.proofs.Props.{props}
 use Rattle.teco_core.specs.declared.code.Code.{Code}
-use Rattle.teco_blocks.specs.declared.blocks.Kind.{Kind}
-use Rattle.teco_blocks.specs.declared.blocks.Stop.{Stop}
+use Rattle.teco_scan.specs.declared.blocks.Kind.{Kind}
+use Rattle.teco_scan.specs.declared.blocks.Stop.{Stop}
 use Rattle.teco_scan.specs.declared.token.Span.{Span}
-use Rattle.teco_blocks.specs.Lists.{behind_block, list_at, tag_at}
+use Rattle.teco_scan.specs.Lists.{behind_block, list_at, tag_at}
 use Rattle.teco_scan.specs.Seen.{bytes_in}
-use Rattle.teco_blocks.specs.Closes.{close_of, past_of, tag_of}
+use Rattle.teco_scan.specs.Closes.{close_of, past_of, tag_of}
 use Rattle.teco_exec.specs.declared.blocks.Block.{Block}
 use Rattle.teco_exec.specs.declared.cursor.Cursor.{Cursor}
 

@@ -3,16 +3,16 @@ use Rattle.std.proofs.Common.{◌≡◌, ℕ, suc, ◌+◌, Bool, true, false, L
 use Rattle.teco_core.specs.declared.code.Code.TheVariants.{Pdo, Tag}
 use Rattle.teco_core.specs.Arguments.{Arguments}
 use Rattle.teco_scan.specs.declared.command.Modifiers.{Modifiers}
-use Rattle.teco_blocks.specs.declared.blocks.Kind.{Kind}
+use Rattle.teco_scan.specs.declared.blocks.Kind.{Kind}
 use Rattle.teco_scan.specs.Scan.{Item}
-use Rattle.teco_blocks.specs.Tree.{Nodes, after_tag}
-use Rattle.teco_command.specs.declared.next.Work.{Work}
-use Rattle.teco_command.specs.Step.{End, on, leave, go, call, out, again, stop}
+use Rattle.teco_scan.specs.Tree.{Nodes, after_tag}
+use Rattle.teco_step.specs.declared.next.Work.{Work}
+use Rattle.teco_step.specs.Step.{End, on, leave, go, call, out, again, stop}
 use Rattle.teco_exec.specs.World.{World, WorldAndEnd}
 use Rattle.teco_exec.specs.Meaning.{then_rest, run_after_tag, run_after_step, run_call, run_step, further_by, meaning}
 use Rattle.teco_exec.specs.Meaning as meant
-use Rattle.teco_blocks.specs.Lists.{Close, Listed, list_at, tag_at, nodes}
-use Rattle.teco_blocks.specs.ListLaws.{BlockLaws, Finds}
+use Rattle.teco_scan.specs.Lists.{Close, Listed, list_at, tag_at, nodes}
+use Rattle.teco_scan.specs.ListLaws.{BlockLaws, Finds}
 use Rattle.teco_exec.specs.CursorMoves.{Frame, CursorOrError, innermost_kind, inside_iteration, after_tag_or, after_jump, after_leaving_iteration}
 use Rattle.teco_exec.specs.Machine.{Caller, Further, Config, Machine, runs, halts, Final, final, setting_of, runs_or_halts, in_called_text, after_step_end}
 use Rattle.teco_exec.proofs.Sentences.{unrolls}

@@ -6,10 +6,10 @@ use Rattle.teco_core.specs.declared.code.Code.{Code}
 use Rattle.teco_core.specs.Number.{digits_value}
 use Rattle.teco_core.specs.Arguments.{give, operate, open_level, close_level, comma, give_pair, taken_from}
 use Rattle.teco_scan.specs.Scan.{scan, test_of, byte_at, register_at, test_at, delimiter_at, text_at, operand_at, modifiers_at, after_letter, after_name, ends_inside, row_at, is_cut, command_at, run_of as digits_of, after_run, token_from, after_fillers}
-use Rattle.teco_blocks.specs.Lists.{list_at, list_within}
+use Rattle.teco_scan.specs.Lists.{list_at, list_within}
 use Rattle.teco_store.specs.State.{State, beginning, with_register_number, with_register_text}
 use Rattle.teco_step.specs.Effect.{effect}
-use Rattle.teco_command.specs.Line.{line_ends_from}
+use Rattle.teco_step.specs.Line.{line_ends_from}
 use Rattle.teco_exec.specs.Meaning.{meaning, layers, list_by, turns_by, further_by}
 use Rattle.teco_exec.specs.StringMeaning.{StringMeaning, string_run, string_meaning}
 use Rattle.teco_core.specs.declared.code.Code.TheVariants as code

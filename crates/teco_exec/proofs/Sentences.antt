@@ -7,11 +7,11 @@ use Rattle.teco_core.specs.declared.arguments.Taken.TheVariants as taken
 use Rattle.teco_core.specs.Arguments.{taken_from}
 use Rattle.teco_scan.specs.declared.command.Test.{Test}
 use Rattle.teco_scan.specs.Scan.{Item}
-use Rattle.teco_blocks.specs.Tree.{Nodes, done, item, escape, iter, cond, tag, faulty, after_tag}
-use Rattle.teco_command.specs.declared.next.Setting.{Setting}
-use Rattle.teco_command.specs.Step.{Step, End, on, leave, go, call, again, stop, takes_one}
+use Rattle.teco_scan.specs.Tree.{Nodes, done, item, escape, iter, cond, tag, faulty, after_tag}
+use Rattle.teco_step.specs.declared.next.Setting.{Setting}
+use Rattle.teco_step.specs.Step.{Step, End, on, leave, go, call, again, stop, takes_one}
 use Rattle.teco_step.specs.Effect.{effect}
-use Rattle.teco_blocks.specs.Lists.{nodes}
+use Rattle.teco_scan.specs.Lists.{nodes}
 use Rattle.teco_exec.specs.Test.{holds}
 use Rattle.teco_exec.specs.World.{World, WorldAndEnd, without_arguments, world_after, pay_from, pay}
 use Rattle.teco_exec.specs.Laws.{MeaningUnrolls, with_fuel, comes_to, StepEnds, first_effect, stepped_world, EmptyListEnds, FaultStops, TagIsPassed, EscapeDrops, NothingWithoutFuel, StepComesTo, FurtherStep, BlockComesTo, TurnEnds, LeavingEnds}

@@ -4,7 +4,7 @@ use Rattle.teco_core.specs.declared.code.Code.{Code}
 use Rattle.teco_scan.specs.Scan.{Instruction, Item, scan, found, after_fillers}
 use Rattle.teco_scan.specs.Scan as scanned
 use Rattle.teco_scan.specs.Seen.{found_in, meaning_in, instruction_in}
-use Rattle.teco_blocks.specs.ListLaws.{BlockLaws}
+use Rattle.teco_scan.specs.ListLaws.{BlockLaws}
 use Rattle.teco_scan.specs.declared.command.Modifiers.{Modifiers}
 use Rattle.teco_scan.specs.declared.token.Found.{Found}
 use Rattle.teco_scan.specs.declared.token.Found.TheVariants.{Token}
@@ -12,7 +12,7 @@ use Rattle.teco_scan.specs.declared.token.Token.{Token as ScannedToken}
 use Rattle.teco_scan.specs.declared.token.TokenKind.{TokenKind}
 use Rattle.teco_scan.specs.declared.token.TokenKind.TheVariants as kind
 use Rattle.teco_step.specs.Stepping.{IsStepKind}
-use Rattle.teco_command.specs.declared.next.Work.{Work}
+use Rattle.teco_step.specs.declared.next.Work.{Work}
 use Rattle.teco_exec.specs.CursorMoves.{Coming as MachineComing, Cursor as MachineCursor, pass, pass_instruction, pass_scanned, step_comes}
 use Rattle.teco_exec.specs.Frames.{frames}
 use Rattle.teco_exec.specs.Machine.{Caller}

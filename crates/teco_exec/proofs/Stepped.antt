@@ -9,12 +9,12 @@ use Rattle.teco_scan.specs.declared.token.Token.{Token}
 use Rattle.teco_scan.specs.declared.token.TokenKind.{TokenKind}
 use Rattle.teco_scan.specs.declared.token.TokenKind.TheVariants as kind
 use Rattle.teco_store.specs.State.{State}
-use Rattle.teco_command.specs.declared.next.Work.{Work}
+use Rattle.teco_step.specs.declared.next.Work.{Work}
 use Rattle.teco_step.specs.Effect.{effect, item_effect}
-use Rattle.teco_command.specs.declared.next.Setting.{Setting}
-use Rattle.teco_command.specs.Step.{done_by, settled, Step, End, Moment, at, call}
+use Rattle.teco_step.specs.declared.next.Setting.{Setting}
+use Rattle.teco_step.specs.Step.{done_by, settled, Step, End, Moment, at, call}
 use Rattle.teco_step.specs.Stepping.{IsStepIn, IsStepKind, is_call, kind_effect, token_effect, Steps, IsDone, trail_after, name_in}
-use Rattle.teco_command.specs.Ending.{end_of, is_unfinished, is_unfinished_code}
+use Rattle.teco_step.specs.Ending.{end_of, is_unfinished, is_unfinished_code}
 use Rattle.teco_exec.specs.CursorMoves.{inside_iteration, leave_is_next, CursorOrError, after_block_step}
 use Rattle.teco_exec.specs.Machine.{step, in_called_text, setting_of, Caller, Config, Now, halts, runs, runs_or_halts, after_step_end, after_token_step, ready_of, ready_within}
 use Rattle.teco_exec.specs.Runs.{Answers, StillSays}
@@ -29,10 +29,10 @@ use Rattle.teco_scan.specs.Scan as items
 use Rattle.teco_scan.specs.declared.command.Modifiers.{Modifiers}
 use Rattle.teco_scan.specs.declared.command.RegisterCommand.TheVariants as register_command
 use Rattle.teco_store.specs.Trail.{Trail, most_changes, moved, stepped}
-use Rattle.teco_command.specs.declared.next.Next.{Next}
-use Rattle.teco_command.specs.declared.next.Next.TheVariants as next
+use Rattle.teco_step.specs.declared.next.Next.{Next}
+use Rattle.teco_step.specs.declared.next.Next.TheVariants as next
 use Rattle.teco_step.specs.Laws.{CallsByCalls}
-use Rattle.teco_terminal.specs.Terminal.{Screen}
+use Rattle.teco_io.specs.Terminal.{Screen}
 use Rattle.teco_exec.specs.Running.{Origin, Host, Continuation, RunGoesOn, ReachesContinuation, ReachesEnd, Reached, Reaches, over, Alike, Comes, sight, ready_run, config, at_call, at_register_call, at_token, at_block_step, reached_by_flow, FlowFinishes}
 use Rattle.teco_exec.specs.declared.flow.Flow.{Flow}
 use Rattle.teco_exec.specs.declared.flow.Flow.TheVariants.{On, Call, Return, Over, Fail, Stop}

@@ -11,7 +11,7 @@ use Rattle.teco_exec.specs.MachineLaws.{MachineMeans, MachineFollows}
 use Rattle.teco_core.specs.declared.code.Code.TheVariants as code
 use Rattle.teco_scan.specs.declared.command.Modifiers.{Modifiers}
 use Rattle.teco_scan.specs.Scan.{Item}
-use Rattle.teco_command.specs.Step.{End, out}
+use Rattle.teco_step.specs.Step.{End, out}
 use Rattle.teco_step.specs.Effect.{effect}
 use Rattle.teco_step.specs.Laws.{OnlyExits}
 use Rattle.teco_exec.specs.Runs.{Runs}

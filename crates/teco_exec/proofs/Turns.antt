@@ -1,7 +1,7 @@
 -- The turns of open blocks, one block after the other.
 use Rattle.std.proofs.Common.{◌≡◌, ℕ, ◌+◌, ◌<◌, ◌++◌, List, [], ◌∷◌, length, get_or, reverse, take, Option, Some, None, refl, sym, ap, ◌∙◌, append_assoc, inl, inr, ◌⊎◌}
-use Rattle.teco_blocks.specs.declared.blocks.Kind.TheVariants.{Iter}
-use Rattle.teco_blocks.specs.declared.blocks.Kind.TheVariants as kinds
+use Rattle.teco_scan.specs.declared.blocks.Kind.TheVariants.{Iter}
+use Rattle.teco_scan.specs.declared.blocks.Kind.TheVariants as kinds
 use Rattle.teco_exec.specs.Frames.{frames, kind_of, turns_left, turns_open}
 use Rattle.teco_exec.specs.Places.{open_turns}
 use Rattle.teco_exec.specs.declared.blocks.Block.{Block}

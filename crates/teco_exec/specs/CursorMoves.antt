@@ -10,14 +10,14 @@ use Rattle.teco_scan.specs.declared.command.Modifiers.{Modifiers}
 use Rattle.teco_scan.specs.declared.command.Test.{Test}
 use Rattle.teco_scan.specs.declared.command.BlockMark.{BlockMark}
 use Rattle.teco_scan.specs.declared.command.BlockMark.TheVariants.{Iterate, EndIteration, Otherwise, EndTest}
-use Rattle.teco_blocks.specs.declared.blocks.Kind.{Kind}
-use Rattle.teco_blocks.specs.declared.blocks.Kind.TheVariants.{Iter, Then, Else}
+use Rattle.teco_scan.specs.declared.blocks.Kind.{Kind}
+use Rattle.teco_scan.specs.declared.blocks.Kind.TheVariants.{Iter, Then, Else}
 use Rattle.teco_scan.specs.Scan.{Item, Instruction, Scanned, found, ended, fault, scan}
 use Rattle.teco_scan.specs.Scan as token
-use Rattle.teco_command.specs.Step.{takes_one}
+use Rattle.teco_step.specs.Step.{takes_one}
 use Rattle.teco_exec.specs.Test.{holds}
 use Rattle.teco_exec.specs.Meaning.{is_plain_leave, turns_of}
-use Rattle.teco_blocks.specs.Lists.{Close, closed, broken, Past, past, behind_block, list_at, tag_at}
+use Rattle.teco_scan.specs.Lists.{Close, closed, broken, Past, past, behind_block, list_at, tag_at}
 
 -- An open block: its kind, the bytes from its beginning on, and the turns left after the present one (none:
 -- without end).

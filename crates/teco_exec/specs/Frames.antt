@@ -1,7 +1,7 @@
 -- The open blocks that the code keeps, as the machine sees them.
 use Rattle.std.specs.Prelude.{◌≡◌, ◌-◌, Bool, true, false, ℕ, zero, suc, List, [], ◌∷◌, drop, length, Option, Some, None}
-use Rattle.teco_blocks.specs.declared.blocks.Kind.{Kind}
-use Rattle.teco_blocks.specs.declared.blocks.Kind.TheVariants as kind
+use Rattle.teco_scan.specs.declared.blocks.Kind.{Kind}
+use Rattle.teco_scan.specs.declared.blocks.Kind.TheVariants as kind
 use Rattle.teco_exec.specs.CursorMoves.{Frame}
 use Rattle.teco_exec.specs.declared.blocks.Body.{Body}
 use Rattle.teco_exec.specs.declared.blocks.Body.TheVariants.{Endless, Turns, Then, Else}

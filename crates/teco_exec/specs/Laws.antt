@@ -8,12 +8,12 @@ use Rattle.teco_core.specs.declared.limits.TheConstants.{CALL_LIMIT}
 use Rattle.teco_scan.specs.declared.command.Modifiers.{Modifiers}
 use Rattle.teco_scan.specs.declared.command.Test.{Test}
 use Rattle.teco_scan.specs.Scan.{Item}
-use Rattle.teco_blocks.specs.Tree.{Nodes, done, item, escape, iter, cond, tag, faulty, after_tag}
-use Rattle.teco_command.specs.declared.next.Setting.{Setting}
-use Rattle.teco_command.specs.Step.{Step, End, on, leave, go, call, out, again, stop, takes_one}
+use Rattle.teco_scan.specs.Tree.{Nodes, done, item, escape, iter, cond, tag, faulty, after_tag}
+use Rattle.teco_step.specs.declared.next.Setting.{Setting}
+use Rattle.teco_step.specs.Step.{Step, End, on, leave, go, call, out, again, stop, takes_one}
 use Rattle.teco_step.specs.Effect.{effect}
 use Rattle.teco_store.specs.State.{State}
-use Rattle.teco_blocks.specs.Lists.{nodes}
+use Rattle.teco_scan.specs.Lists.{nodes}
 use Rattle.teco_exec.specs.Test.{holds}
 use Rattle.teco_exec.specs.World.{World, WorldAndEnd, and_then, without_arguments, world_after}
 use Rattle.teco_exec.specs.Meaning.{meaning, run_after_tag, then_rest, after_call, turns_of, leave_comes, first_setting, list_by, turns_by, further_by}

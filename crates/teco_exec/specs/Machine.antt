@@ -7,9 +7,9 @@ use Rattle.teco_core.specs.declared.limits.TheConstants.{CALL_LIMIT}
 use Rattle.teco_scan.specs.declared.command.Modifiers.{Modifiers}
 use Rattle.teco_scan.specs.Scan.{Item, scan}
 use Rattle.teco_store.specs.State.{State}
-use Rattle.teco_command.specs.declared.next.Work.{Work}
-use Rattle.teco_command.specs.declared.next.Setting.{Setting}
-use Rattle.teco_command.specs.Step.{Step, End, on, leave, go, call, out, again, stop}
+use Rattle.teco_step.specs.declared.next.Work.{Work}
+use Rattle.teco_step.specs.declared.next.Setting.{Setting}
+use Rattle.teco_step.specs.Step.{Step, End, on, leave, go, call, out, again, stop}
 use Rattle.teco_step.specs.Effect.{effect}
 use Rattle.teco_exec.specs.CursorMoves.{Frame, Cursor, CursorOrError, BlockStep, Coming, passed_to, step_comes, block_comes, end_comes, fault_comes, inside_iteration, leave_is_next, pass, after_block_step, after_leaving_iteration, after_jump}
 

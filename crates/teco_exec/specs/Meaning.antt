@@ -11,11 +11,11 @@ use Rattle.teco_scan.specs.declared.command.Modifiers.{Modifiers}
 use Rattle.teco_scan.specs.declared.command.Bare.TheVariants as bare_command
 use Rattle.teco_scan.specs.declared.command.Command.TheVariants as command
 use Rattle.teco_scan.specs.Scan.{Item, bare}
-use Rattle.teco_blocks.specs.Tree.{Nodes, done, item, escape, iter, cond, tag, faulty, after_tag}
-use Rattle.teco_command.specs.declared.next.Setting.{Setting}
-use Rattle.teco_command.specs.Step.{Step, End, on, leave, go, call, again, stop, takes_one}
+use Rattle.teco_scan.specs.Tree.{Nodes, done, item, escape, iter, cond, tag, faulty, after_tag}
+use Rattle.teco_step.specs.declared.next.Setting.{Setting}
+use Rattle.teco_step.specs.Step.{Step, End, on, leave, go, call, again, stop, takes_one}
 use Rattle.teco_step.specs.Effect.{effect}
-use Rattle.teco_blocks.specs.Lists.{nodes}
+use Rattle.teco_scan.specs.Lists.{nodes}
 use Rattle.teco_exec.specs.Test.{holds}
 use Rattle.teco_exec.specs.World.{World, WorldAndEnd, and_then, without_arguments, world_after, pay}
 

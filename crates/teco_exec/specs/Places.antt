@@ -2,8 +2,8 @@
 use Rattle.std.specs.Prelude.{◌≡◌, ◌<◌, ◌≤◌, ℕ, List, [], ◌∷◌, ◌++◌, drop, Option, Some, None}
 use Rattle.teco_scan.specs.Scan.{Item, TokenMeaning, found, scan, after_fillers, no_modifiers}
 use Rattle.teco_scan.specs.Scan as token
-use Rattle.teco_blocks.specs.Breaks.{IsTokenPlace}
-use Rattle.teco_blocks.specs.declared.blocks.Kind.TheVariants.{Iter, Then, Else}
+use Rattle.teco_scan.specs.Breaks.{IsTokenPlace}
+use Rattle.teco_scan.specs.declared.blocks.Kind.TheVariants.{Iter, Then, Else}
 use Rattle.teco_scan.specs.declared.command.Modifiers.{Modifiers}
 use Rattle.teco_scan.specs.declared.command.RegisterCommand.TheVariants.{Macro}
 use Rattle.teco_store.specs.State.{State}

@@ -1,8 +1,8 @@
 -- Texts that take no memory.
 use Rattle.std.specs.Prelude.{◌≡◌, [], Bool, true, false, ◌&&◌}
-use Rattle.teco_blocks.specs.Lists.{nodes}
-use Rattle.teco_blocks.specs.Tree.{Nodes, done, item, escape, iter, cond, tag, faulty}
-use Rattle.teco_command.specs.Step.{End, on, leave, go, call, out, again, stop}
+use Rattle.teco_scan.specs.Lists.{nodes}
+use Rattle.teco_scan.specs.Tree.{Nodes, done, item, escape, iter, cond, tag, faulty}
+use Rattle.teco_step.specs.Step.{End, on, leave, go, call, out, again, stop}
 use Rattle.teco_step.specs.Stepping.{takes_nothing}
 use Rattle.teco_exec.specs.CursorMoves.{Cursor, Coming, passed_to, step_comes, block_comes, end_comes, fault_comes}
 

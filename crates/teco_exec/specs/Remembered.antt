@@ -1,9 +1,9 @@
 -- What is remembered of a text: skips and searches for tags that were made in it.
 use Rattle.std.specs.Prelude.{◌≡◌, ◌≤◌, ℕ, true, List, Option, Some, IfSome, drop, length}
-use Rattle.teco_blocks.specs.Lists.{closed, list_at, tag_at}
-use Rattle.teco_blocks.specs.declared.blocks.Kind.TheVariants.{Then}
+use Rattle.teco_scan.specs.Lists.{closed, list_at, tag_at}
+use Rattle.teco_scan.specs.declared.blocks.Kind.TheVariants.{Then}
 use Rattle.teco_scan.specs.Seen.{bytes_in}
-use Rattle.teco_blocks.specs.Closes.{tag_of}
+use Rattle.teco_scan.specs.Closes.{tag_of}
 use Rattle.teco_exec.specs.declared.remembered.Search.{Search}
 use Rattle.teco_exec.specs.declared.remembered.Skip.{Skip}
 

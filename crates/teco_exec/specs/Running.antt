@@ -10,10 +10,10 @@ use Rattle.teco_scan.specs.declared.token.Token.{Token}
 use Rattle.teco_store.specs.State.{State}
 use Rattle.teco_store.specs.Trail.{Trail}
 use Rattle.teco_store.specs.declared.desk.Desk.{Ghosts as DeskView}
-use Rattle.teco_command.specs.declared.next.Work.{Work}
-use Rattle.teco_command.specs.Ending.{is_unfinished_code}
-use Rattle.teco_terminal.specs.Terminal.{Screen, Shows}
-use Rattle.teco_terminal.specs.declared.terminal.Terminal.{Ghosts as TerminalView}
+use Rattle.teco_step.specs.declared.next.Work.{Work}
+use Rattle.teco_step.specs.Ending.{is_unfinished_code}
+use Rattle.teco_io.specs.Terminal.{Screen, Shows}
+use Rattle.teco_io.specs.declared.terminal.Terminal.{Ghosts as TerminalView}
 use Rattle.teco_exec.specs.Machine.{Caller, Config, Further, Machine, runs, in_called_text, after_text_end, Ready, step, block, Final, Now, ready_of, final_with_fuel, final_without_fuel, run_within, after_steps, start_config}
 use Rattle.teco_exec.specs.CursorMoves as machine
 use Rattle.teco_exec.specs.MachineLaws.{MachineMeans}

@@ -3,7 +3,7 @@ use Rattle.std.specs.Prelude.{◌≡◌, ◌≢◌, ℕ, ◌+◌, ◌<◌, ◌�
 use Rattle.teco_core.specs.declared.code.Code.TheVariants.{Lim, Mem, Tty}
 use Rattle.teco_store.specs.State.{State}
 use Rattle.teco_store.specs.Trail.{Trail}
-use Rattle.teco_terminal.specs.Terminal.{IsFrontOf}
+use Rattle.teco_io.specs.Terminal.{IsFrontOf}
 use Rattle.teco_exec.specs.StringMeaning.{string_meaning}
 use Rattle.teco_exec.specs.declared.outcome.Outcome.{Outcome}
 

@@ -3,9 +3,9 @@ use Rattle.std.specs.Prelude.{ℕ, ◌-◌, List, [], Option, Some, None, false}
 use Rattle.teco_core.specs.declared.code.Code.{Code}
 use Rattle.teco_core.specs.declared.code.Code.TheVariants as code
 use Rattle.teco_core.specs.Arguments.{no_arguments}
-use Rattle.teco_blocks.specs.Lists.{nodes}
+use Rattle.teco_scan.specs.Lists.{nodes}
 use Rattle.teco_store.specs.State.{State}
-use Rattle.teco_command.specs.Step.{End, go, stop}
+use Rattle.teco_step.specs.Step.{End, go, stop}
 use Rattle.teco_exec.specs.World.{World, WorldAndEnd}
 use Rattle.teco_exec.specs.Meaning.{meaning}
 

@@ -1,7 +1,7 @@
 -- A place as it is told, and when it is.
 use Rattle.std.specs.Prelude.{◌≡◌, ◌↔◌, ℕ, List, Option, None, Result, Ok, IfOk, IfSome, map}
 use Rattle.std.specs.declared.alloc.AllocError.{AllocError}
-use Rattle.teco_blocks.specs.Breaks.{IsFirstFault}
+use Rattle.teco_scan.specs.Breaks.{IsFirstFault}
 use Rattle.teco_store.specs.State.{State}
 use Rattle.teco_exec.specs.Places.{CallToken, IsPlaceAfter, Told}
 use Rattle.teco_exec.specs.declared.outcome.Outcome.{Outcome}

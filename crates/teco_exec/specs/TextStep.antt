@@ -2,7 +2,7 @@
 use Rattle.std.specs.Prelude.{◌≡◌, ◌<◌, ◌≤◌, ◌⊎◌, List, Some, length}
 use Rattle.teco_core.specs.declared.code.Code.TheVariants.{Lim}
 use Rattle.teco_store.specs.declared.desk.Desk.{Ghosts as DeskView}
-use Rattle.teco_terminal.specs.declared.terminal.Terminal.{Ghosts as TerminalView}
+use Rattle.teco_io.specs.declared.terminal.Terminal.{Ghosts as TerminalView}
 use Rattle.teco_exec.specs.Machine.{Caller, Now}
 use Rattle.teco_exec.specs.Places.{IsReadAt, call_token}
 use Rattle.teco_exec.specs.Quiet.{IsQuiet}

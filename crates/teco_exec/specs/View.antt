@@ -11,7 +11,7 @@ use Rattle.teco_scan.specs.declared.token.TokenKind.TheVariants as kind
 use Rattle.teco_scan.specs.Scan.{Item, digits}
 use Rattle.teco_scan.specs.Seen.{item_in}
 use Rattle.teco_step.specs.Stepping.{IsStepIn}
-use Rattle.teco_command.specs.Ending.{is_unfinished_code}
+use Rattle.teco_step.specs.Ending.{is_unfinished_code}
 use Rattle.teco_exec.specs.Frames.{EndsTurn, frames}
 use Rattle.teco_exec.specs.CursorMoves.{CursorOrError, passed_to, step_comes, block_comes, end_comes, fault_comes}
 use Rattle.teco_exec.specs.CursorMoves as machine

@@ -1,6 +1,6 @@
 -- What the watch that keeps the place knows.
 use Rattle.std.specs.Prelude.{◌≡◌, true, false, [], Option, Some, None}
-use Rattle.teco_blocks.specs.Breaks.{IsFirstFault}
+use Rattle.teco_scan.specs.Breaks.{IsFirstFault}
 use Rattle.teco_exec.specs.Places.{Told}
 use Rattle.teco_exec.specs.Telling.{told_of}
 use Rattle.teco_exec.specs.declared.place.Place.{Place}

@@ -4,8 +4,8 @@ ghost use Rattle.teco_exec.specs.Frames.{EndsTurn, has_iteration, kind_of, list_
 
 use std::alloc::Global;
 use std::marker::Model;
-use teco_blocks::Kind;
 use teco_core::{BLOCK_LIMIT, NoMemory};
+use teco_scan::Kind;
 
 /// What an open block is.
 #[derive(Clone, Copy)]

@@ -11,12 +11,12 @@ use crate::stepping::step_found;
 use crate::stop::Stop;
 use crate::watch::Watch;
 use teco_core::ESC;
+use teco_io::Terminal;
 use teco_scan::{
     Form, Found, bare_token, digits_token, end_found, escape_token, filler_end, lead, mark_token,
     register_token, tag_token, test_token, text_token, token_at,
 };
 use teco_store::Desk;
-use teco_terminal::Terminal;
 
 /// Passes what comes at the cursor, where it uses no step, or else does its steps. What uses no step is passed one token at a time, but
 /// tags that come one after the other at once.

@@ -2,8 +2,8 @@
 ghost use Rattle.std.specs.Prelude.{◌≡◌, ◌≤◌};
 
 use crate::stop::Stop;
-use teco_command::Work;
 use teco_core::{Code, Reg};
+use teco_step::Work;
 
 /// What one step of a text leads to.
 #[derive(Clone, Copy)]

@@ -5,9 +5,8 @@ ghost use Rattle.teco_exec.specs.CursorMoves as machine;
 ghost use Rattle.teco_exec.specs.View.{ResultFinishes, Stays, cursor, cursor_or_error};
 
 use crate::cursor::Cursor;
-use teco_blocks::Kind;
 use teco_core::Code;
-use teco_scan::Span;
+use teco_scan::{Kind, Span};
 
 impl<'t> Cursor<'t> {
     /// Leaves the innermost iteration. Where it can't, the cursor stays.

@@ -2,7 +2,7 @@
 ghost use Rattle.teco_exec.specs.Laws.{MeaningUnrolls, EmptyListEnds, FaultStops, TagIsPassed, EscapeDrops, NothingWithoutFuel, StepEnds, StepComesTo, FurtherStep, BlockComesTo, TurnEnds, LeavingEnds, StepsWithinLimit, MoreLimitChangesNothing, EnoughIsEnough, ZeroLimitChangesNothing, ExitEndsWell};
 ghost use Rattle.teco_exec.specs.MachineLaws.{MachineMeans, MachineFollows};
 
-use teco_blocks::block_laws;
+use teco_scan::block_laws;
 use teco_step::effect_laws;
 
 /// The recursive meaning, sentence by sentence. It does nothing: its clauses are laws.

@@ -9,9 +9,8 @@ ghost use Rattle.teco_exec.specs.View.{ResultFinishes, MayOpen, Stays, TellsComi
 use crate::blocks::{Block, Body};
 use crate::conditions::holds;
 use crate::cursor::Cursor;
-use teco_blocks::{Kind, block_laws};
 use teco_core::{BLOCK_LIMIT, Code, Taken};
-use teco_scan::{BlockMark, Found, Test, TokenKind};
+use teco_scan::{BlockMark, Found, Kind, Test, TokenKind, block_laws};
 
 /// What opens a block or ends a turn: a step that no item makes.
 #[derive(Clone, Copy)]

@@ -1,6 +1,6 @@
 //! Where a run stands.
-use teco_blocks::Fault;
 use teco_core::Reg;
+use teco_scan::Fault;
 
 /// Where a run stands: before a step of a token, or at a fault of a text.
 ///

@@ -1,16 +1,15 @@
 //! What skips and jumps in a text came to last, so that a loop finds it at once.
 ghost use Rattle.std.specs.Prelude.{◌≡◌, ◌<◌, ◌≤◌, IfErr, IfOk, IfSome, Some, drop, length, true};
-ghost use Rattle.teco_blocks.specs.Lists.{behind_block, closed, list_at, tag_at};
+ghost use Rattle.teco_scan.specs.Lists.{behind_block, closed, list_at, tag_at};
 ghost use Rattle.teco_scan.specs.Seen.{IsSpanIn, bytes_in};
-ghost use Rattle.teco_blocks.specs.Closes.{close_of, past_of, tag_of};
-ghost use Rattle.teco_blocks.specs.Tree.{is_fault};
-ghost use Rattle.teco_blocks.specs.declared.blocks.Kind.TheVariants.{Then};
+ghost use Rattle.teco_scan.specs.Closes.{close_of, past_of, tag_of};
+ghost use Rattle.teco_scan.specs.Tree.{is_fault};
+ghost use Rattle.teco_scan.specs.declared.blocks.Kind.TheVariants.{Then};
 
 use std::alloc::Global;
 use std::marker::Model;
-use teco_blocks::{Kind, Stop, Tags, find_tag, skip_block};
 use teco_core::{BLOCK_LIMIT, Code};
-use teco_scan::Span;
+use teco_scan::{Kind, Span, Stop, Tags, find_tag, skip_block};
 
 /// The most skips that are remembered of a text.
 const SKIPS: usize = 8;

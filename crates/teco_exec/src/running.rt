@@ -1,10 +1,10 @@
 //! The run of a command string.
 ghost use Rattle.std.specs.Prelude.{◌≡◌, ℕ, List, ◌↔◌, IfOk, IfSome, MatchOption, Ok, Some, true, false, None};
 ghost use Rattle.teco_core.specs.declared.code.Code.TheVariants.{Lim, Mem};
-ghost use Rattle.teco_blocks.specs.Lists.{nodes};
+ghost use Rattle.teco_scan.specs.Lists.{nodes};
 ghost use Rattle.teco_exec.specs.Places.{IsPlaceAfter, Told};
 ghost use Rattle.teco_exec.specs.Telling.{IsLastPlace};
-ghost use Rattle.teco_terminal.specs.Terminal.{Shows};
+ghost use Rattle.teco_io.specs.Terminal.{Shows};
 ghost use Rattle.teco_exec.specs.Quiet.{takes_no_memory};
 ghost use Rattle.teco_exec.specs.Runs.{Runs, RunsWithin, StillSays, is_tty, trail_of};
 ghost use Rattle.teco_exec.specs.StringMeaning.{string_meaning};
@@ -19,8 +19,8 @@ use crate::texts::{EMPTY_ROOM, ROOMS, run_text};
 use crate::watch::{Unwatched, Watch, Watched};
 use std::alloc::Global;
 use teco_core::{Args, Reg};
+use teco_io::Terminal;
 use teco_store::Desk;
-use teco_terminal::Terminal;
 
 /// Runs a command string on a desk and a terminal, for at most `limit` steps.
 ///

@@ -5,9 +5,9 @@ ghost use Rattle.teco_scan.specs.Scan.{scan};
 ghost use Rattle.teco_scan.specs.Seen.{IsFoundAt, IsSpanIn, bytes_in, found_in};
 ghost use Rattle.teco_store.specs.State.{State};
 ghost use Rattle.teco_step.specs.Stepping.{IsStepIn, name_in, takes_nothing_in};
-ghost use Rattle.teco_command.specs.Ending.{end_of, is_unfinished, is_unfinished_code};
-ghost use Rattle.teco_terminal.specs.Terminal.{Screen};
-ghost use Rattle.teco_command.specs.declared.next.Next.TheVariants.{Call, Error};
+ghost use Rattle.teco_step.specs.Ending.{end_of, is_unfinished, is_unfinished_code};
+ghost use Rattle.teco_io.specs.Terminal.{Screen};
+ghost use Rattle.teco_step.specs.declared.next.Next.TheVariants.{Call, Error};
 ghost use Rattle.teco_exec.specs.CursorMoves.{inside_iteration, leave_is_next};
 ghost use Rattle.teco_exec.specs.Machine.{Caller, Now, after_step_end, ready_of};
 ghost use Rattle.teco_exec.specs.Running.{Comes, FlowStays, GoesOn, GoesQuietly, HasStoodBefore, OnCall, OnLast, RunLeads, at_block_step, at_token, config, itself, reached_by_flow};
@@ -22,13 +22,13 @@ use crate::cursor::Cursor;
 use crate::flow::{Flow, Progress, Steps};
 use crate::moves::{BlockStep, Coming};
 use crate::stop::Stop;
-use teco_blocks::block_laws;
-use teco_command::{Next, Work};
 use teco_core::{Code, Reg};
-use teco_scan::{Bare, Command, Found, Item, RegisterCommand, Span, TextCommand, Token, TokenKind};
-use teco_step::{effect_laws, step_token};
+use teco_io::Terminal;
+use teco_scan::{
+    Bare, Command, Found, Item, RegisterCommand, Span, TextCommand, Token, TokenKind, block_laws,
+};
+use teco_step::{Next, Work, effect_laws, step_token};
 use teco_store::Desk;
-use teco_terminal::Terminal;
 
 /// Passes what was found at the cursor, where it uses no step, or else does its steps.
 ///

@@ -8,8 +8,7 @@ ghost use Rattle.teco_exec.specs.View.{coming_of, cursor};
 ghost use Rattle.teco_exec.specs.declared.moves.Coming.TheVariants as coming;
 
 use crate::cursor::Cursor;
-use teco_blocks::block_laws;
-use teco_scan::{Form, Found, TokenKind, filler_end, lead, tag_token};
+use teco_scan::{Form, Found, TokenKind, block_laws, filler_end, lead, tag_token};
 
 /// The token that comes at a place, if it begins as a tag does and has an end.
 #[inline(always)]

@@ -3,7 +3,7 @@ ghost use Rattle.std.specs.Prelude.{◌≡◌, ◌≤◌, ◌<◌, Some, length,
 ghost use Rattle.teco_core.specs.ArgumentsView.{arguments};
 ghost use Rattle.teco_core.specs.Register.{content};
 ghost use Rattle.teco_core.specs.declared.code.Code.TheVariants.{Lim, Mem};
-ghost use Rattle.teco_blocks.specs.Lists.{nodes};
+ghost use Rattle.teco_scan.specs.Lists.{nodes};
 ghost use Rattle.teco_exec.specs.Places.{IsReadAt, call_token};
 ghost use Rattle.teco_exec.specs.Running.{RunLeadsAt, StandsFrom, Tells, code_left, at_beginning, at_register_call, reached_by_exit, reached_after_call};
 ghost use Rattle.teco_exec.specs.Tokens.{CountsSteps};
@@ -19,8 +19,8 @@ use crate::flow::{Exit, Flow, Steps};
 use crate::stop::Stop;
 use crate::watch::Watch;
 use teco_core::{Args, BLOCK_LIMIT, CALL_LIMIT, Code, Reg};
+use teco_io::Terminal;
 use teco_store::Desk;
-use teco_terminal::Terminal;
 
 /// The room for the open blocks of a text. What is in it means nothing before a block is opened.
 pub(crate) type Room = [Block; BLOCK_LIMIT];

@@ -1,15 +1,14 @@
 //! What is told of where a run last stood.
 ghost use Rattle.std.specs.Prelude.{◌≡◌, ◌≤◌, ℕ, IfOk, IsSomeAnd, Ok, Option, None, Some, length};
-ghost use Rattle.teco_blocks.specs.Breaks.{IsTokenPlace};
+ghost use Rattle.teco_scan.specs.Breaks.{IsTokenPlace};
 ghost use Rattle.teco_exec.specs.Places.{Told, told_here, with_call};
 ghost use Rattle.teco_exec.specs.View.{cursor as cursor_of};
 
 use crate::cursor::Cursor;
 use crate::place::{Call, Place};
 use std::alloc::Global;
-use teco_blocks::first_fault;
 use teco_core::{NoMemory, Reg};
-use teco_scan::filler_end;
+use teco_scan::{filler_end, first_fault};
 
 /// Who is told where a run last stood: of the innermost text first, and then of each text that has called.
 pub(crate) trait Watch {

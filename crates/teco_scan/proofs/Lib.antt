@@ -12,3 +12,17 @@ pub mod TokenShortens
 pub mod Written
 pub mod Determined
 pub mod FirstRow
+pub mod ScanFaults
+pub mod LastBytes
+pub mod BlockRows
+pub mod ListUnrolls
+pub mod SearchUnrolls
+pub mod SearchFinds
+pub mod SkipSteps
+pub mod Passing
+pub mod ListFaults
+pub mod TokensNest
+pub mod Breaking
+pub mod BreaksIsBroken
+pub mod TreeRows
+pub mod FirstPlaces

@@ -5,3 +5,12 @@ pub mod Spelling
 pub mod Seen
 pub mod Led
 pub mod Written
+pub mod Closes
+pub mod Tree
+pub mod Skip
+pub mod Lists
+pub mod Nesting
+pub mod ListLaws
+pub mod Breaks
+pub mod Gathered
+pub mod GatheredLists

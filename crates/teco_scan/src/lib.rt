@@ -1,7 +1,10 @@
-//! The spelling of tokens.
+//! The spelling of tokens, the table of commands, and the blocks and tags that the tokens of a text make.
 #![tactic(auto)]
 
+mod blocks;
+mod breaks;
 mod command;
+mod gathering;
 mod leads;
 mod names;
 mod operand;
@@ -9,10 +12,15 @@ mod scan;
 mod table;
 mod token;
 
+pub use blocks::{
+    Kind, Stop, block_laws, closing_mark, find_tag, nesting, skip_block, skip_whole_block,
+};
+pub use breaks::{Fault, OpenList, break_laws, first_fault};
 pub use command::{
     Arithmetic, Bare, BlockMark, Command, Form, LevelCommand, Modifiers, Name, Quantity,
     RegisterCommand, Row, Test, TextCommand,
 };
+pub use gathering::Tags;
 pub use leads::{
     bare_token, digits_token, end_found, escape_token, lead, mark_token, register_token, tag_token,
     test_token, text_token,

@@ -4,10 +4,10 @@ use Rattle.std.specs.Prelude.{◌≢◌, IfOk, OnErr}
 use Rattle.std.specs.String.{string_bytes}
 use Rattle.std.specs.declared.alloc.AllocError.{AllocError}
 use Rattle.std.proofs.KnownBytes.{Appends-trans, Appends-nil}
-use Rattle.teco_terminal.specs.Terminal.{IsFrontOf, Screen, Shows, Puts, count_after}
+use Rattle.teco_io.specs.Terminal.{IsFrontOf, Screen, Shows, Puts, count_after}
 use Rattle.teco_serve.specs.Exchange.{BreaksOff}
 use Rattle.teco_serve.specs.Explaining.{TellsLines, told}
-use Rattle.teco_host.specs.Refusing.{Tells}
+use Rattle.teco_fs.specs.Refusing.{Tells}
 
 pub Shows-nil : (t : Screen) → Shows t t [] false
 Shows-nil t = record { more = Appends-nil t.shown; count = refl }

@@ -1,16 +1,16 @@
 -- How the program ends: its status, and what it prints on standard error.
 use Rattle.std.specs.Prelude.{ℕ, List, [], ◌∷◌, ◌++◌, Some, None, codes, if◌then◌else◌}
 use Rattle.std.specs.String.{string_bytes}
-use Rattle.teco_bytes.specs.declared.input.InputFault.{InputFault}
-use Rattle.teco_bytes.specs.declared.input.InputFault.TheVariants as input
-use Rattle.teco_files.specs.Unkept.{is_text, unkept_words}
-use Rattle.teco_host.specs.Reasons.{with_reason}
-use Rattle.teco_host.specs.declared.reason.Reason.TheVariants.{ReadFailed}
-use Rattle.teco_line.specs.Conflict.{has_more}
-use Rattle.teco_option.specs.StreamNames.{is_standard_input}
-use Rattle.teco_line.specs.declared.line.Commands.{Commands}
-use Rattle.teco_line.specs.declared.line.Commands.TheVariants.{StandardInput, Sources, Pages, Bytes}
-use Rattle.teco_line.specs.declared.line.Line.{Line}
+use Rattle.teco_io.specs.declared.input.InputFault.{InputFault}
+use Rattle.teco_io.specs.declared.input.InputFault.TheVariants as input
+use Rattle.teco_fs.specs.Unkept.{is_text, unkept_words}
+use Rattle.teco_fs.specs.Reasons.{with_reason}
+use Rattle.teco_fs.specs.declared.reason.Reason.TheVariants.{ReadFailed}
+use Rattle.teco_cli.specs.Conflict.{has_more}
+use Rattle.teco_cli.specs.StreamNames.{is_standard_input}
+use Rattle.teco_cli.specs.declared.line.Commands.{Commands}
+use Rattle.teco_cli.specs.declared.line.Commands.TheVariants.{StandardInput, Sources, Pages, Bytes}
+use Rattle.teco_cli.specs.declared.line.Line.{Line}
 use Rattle.teco_serve.specs.declared.fate.Fate.{Fate}
 use Rattle.teco_serve.specs.declared.fate.Fate.TheVariants.{NoCommands, NoInput, NotRegular, LargeInput, NoMemory, NoOutput}
 use Rattle.teco_serve.specs.declared.fate.Fate.TheVariants.{Changed, Unchanged, Lacking}

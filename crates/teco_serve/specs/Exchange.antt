@@ -3,7 +3,7 @@ use Rattle.std.specs.Prelude.{◌≡◌, ◌≢◌, ◌≤◌, ◌⊎◌, ℕ, z
 use Rattle.std.specs.Prelude.{if◌then◌else◌}
 use Rattle.std.specs.Bool.{MatchBool}
 use Rattle.teco_core.specs.declared.code.Code.TheVariants.{Lim}
-use Rattle.teco_terminal.specs.Terminal.{IsFrontOf}
+use Rattle.teco_io.specs.Terminal.{IsFrontOf}
 use Rattle.teco_exec.specs.Runs.{Answers, StillSays}
 use Rattle.teco_exec.specs.declared.outcome.Outcome.{Outcome}
 use Rattle.teco_session.specs.Answers.{is_refused, string_outcome}

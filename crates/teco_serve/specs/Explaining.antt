@@ -10,8 +10,8 @@ use Rattle.teco_core.specs.Ascii.{is_filler}
 use Rattle.teco_core.specs.declared.code.Code.{Code}
 use Rattle.teco_core.specs.declared.limits.TheConstants.{TEXT_LIMIT}
 use Rattle.teco_exec.specs.declared.place.Place.{Place}
-use Rattle.teco_line.specs.declared.line.Line.{Line}
-use Rattle.teco_host.specs.Refusing.{Tells}
+use Rattle.teco_cli.specs.declared.line.Line.{Line}
+use Rattle.teco_fs.specs.Refusing.{Tells}
 use Rattle.teco_serve.specs.declared.fate.Fate.{Fate}
 use Rattle.teco_serve.specs.declared.fate.Fate.TheVariants.{NoCommands, NoInput, NotRegular, LargeInput, NoMemory, NoOutput, Changed, Unchanged, Lacking}
 use Rattle.teco_serve.specs.declared.fate.Fate.TheVariants.{Ended}
@@ -26,10 +26,10 @@ use Rattle.teco_store.specs.State.{state_of}
 use Rattle.teco_store.specs.Turn.{Note as Change}
 use Rattle.teco_store.specs.declared.change_kind.ChangeKind.{ChangeKind}
 use Rattle.teco_store.specs.declared.change_kind.ChangeKind.TheVariants as change
-use Rattle.teco_telling.specs.Shown.{code_shown}
-use Rattle.teco_telling.specs.Stop.{stop_shown}
-use Rattle.teco_telling.specs.declared.sentence.Limits.{Limits}
-use Rattle.teco_terminal.specs.Terminal.{Screen}
+use Rattle.teco_messages.specs.Shown.{code_shown}
+use Rattle.teco_messages.specs.Stop.{stop_shown}
+use Rattle.teco_messages.specs.declared.sentence.Limits.{Limits}
+use Rattle.teco_io.specs.Terminal.{Screen}
 
 -- each line of a text begins with its number
 abbrev pub of_string : ℕ → List ℕ

@@ -10,16 +10,16 @@ ghost use Rattle.teco_session.specs.Answers.{answer_code, string_outcome};
 ghost use Rattle.teco_session.specs.History.{present};
 ghost use Rattle.teco_session.specs.Kept.{history_of};
 ghost use Rattle.teco_session.specs.Step.{Reply, RunStep, is_terminal_failure};
-ghost use Rattle.teco_terminal.specs.Terminal.{Puts, Shows};
+ghost use Rattle.teco_io.specs.Terminal.{Puts, Shows};
 
 use crate::alarm::{Alarm, Bounds};
 use crate::listener::Listens;
 use crate::served::Served;
 use crate::splitter::Asked;
 use teco_core::Code;
+use teco_io::{Terminal, TerminalFault};
 use teco_session::{Answer, Answered, Request, Session};
 use teco_store::Desk;
-use teco_terminal::{Terminal, TerminalFault};
 
 /// The line that is shown of a code.
 fn code_line(code: Code) -> [u8; 6]

@@ -11,12 +11,12 @@ use crate::fate::{Fate, output_name};
 use crate::served::Served;
 use std::alloc::Global;
 use std::fmt::Write;
+use teco_cli::Line;
 use teco_core::{Code, NoMemory, is_filler};
 use teco_exec::Outcome;
-use teco_line::Line;
+use teco_messages::{Limits, show_code, show_stop};
 use teco_session::{Answer, Answered, Changes, Session};
 use teco_store::{ChangeKind, Desk};
-use teco_telling::{Limits, show_code, show_stop};
 
 /// What is told of an exit before any page was read.
 const COPIED: &str = "EX came before any page was read: the input is copied\n";

@@ -1,17 +1,15 @@
 //! How the program ends.
 ghost use Rattle.std.specs.Prelude.{◌≡◌, ◌≢◌, ◌++◌, [], codes, IfOk, OnErr};
 ghost use Rattle.std.specs.String.{string_bytes};
-ghost use Rattle.teco_host.specs.Reasons.{with_reason};
+ghost use Rattle.teco_fs.specs.Reasons.{with_reason};
 ghost use Rattle.teco_serve.specs.Ending.{about, commands_name, output_beside, output_by, output_of, said, status_of, text_of};
 
 use crate::served::Served;
 use std::alloc::Global;
-use teco_bytes::InputFault;
+use teco_cli::{Commands, Line, is_standard_input};
 use teco_core::NoMemory;
-use teco_files::Unkept;
-use teco_host::Reason;
-use teco_line::{Commands, Line};
-use teco_option::is_standard_input;
+use teco_fs::{Reason, Unkept};
+use teco_io::InputFault;
 
 /// How the program ends, once its command line is read.
 #[derive(Clone, Copy)]

@@ -2,19 +2,19 @@
 ghost use Rattle.std.specs.Prelude.{◌≡◌, None};
 ghost use Rattle.teco_serve.specs.Ending.{output_of};
 ghost use Rattle.teco_serve.specs.Explaining.{Hearing, HasTold, TellsLines, beginning_of, counted, end_line, left_line, move_lines, run_lines, told};
-ghost use Rattle.teco_host.specs.Refusing.{Tells};
+ghost use Rattle.teco_fs.specs.Refusing.{Tells};
 
 use crate::explaining::{
     Telling, line_of_end, line_of_left, lines_of_move, lines_of_run, next_number,
 };
 use crate::fate::Fate;
 use std::alloc::Global;
+use teco_cli::Line;
 use teco_core::{Code, NoMemory, TEXT_LIMIT};
-use teco_line::Line;
+use teco_io::Terminal;
+use teco_messages::Limits;
 use teco_session::{Answered, Session};
 use teco_store::Desk;
-use teco_telling::Limits;
-use teco_terminal::Terminal;
 
 /// Who hears what is done for each text of the stream. One that tells of it does so in the call itself.
 pub trait Listens {

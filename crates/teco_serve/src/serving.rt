@@ -4,8 +4,8 @@ ghost use Rattle.teco_session.specs.Kept.{history_of};
 ghost use Rattle.teco_serve.specs.Exchange.{Exchange, HasRung, allowance};
 ghost use Rattle.teco_serve.specs.Held.{CutsOff, Emptied, HeldEnds};
 ghost use Rattle.teco_serve.specs.Serving.{Exchanges, Serves};
-ghost use Rattle.teco_bytes.specs.Source.{Gives, HasEnded};
-ghost use Rattle.teco_terminal.specs.Terminal.{Shows};
+ghost use Rattle.teco_io.specs.Source.{Gives, HasEnded};
+ghost use Rattle.teco_io.specs.Terminal.{Shows};
 
 use crate::alarm::{Alarm, Bounds};
 use crate::exchange::{do_exchange, show_prompt};
@@ -13,9 +13,8 @@ use crate::listener::Listens;
 use crate::served::Served;
 use crate::splitter::Splitter;
 use std::alloc::Global;
-use teco_bytes::Source;
+use teco_io::{Source, Terminal, TerminalFault};
 use teco_session::Session;
-use teco_terminal::{Terminal, TerminalFault};
 
 /// The most bytes of a piece.
 const PIECE: usize = 4096;

@@ -3,11 +3,11 @@ use Rattle.std.proofs.Common.{◌≡◌, ℕ, zero, suc, ◌<◌, ◌≤◌, Lis
 use Rattle.std.proofs.lemmas.List.{reverse-reverse, reverse-append, take-append-drop}
 use Rattle.teco_store.specs.State.{State, Body, IsSound, state_at}
 use Rattle.teco_store.specs.Turn.{Note as Change, body_after}
-use Rattle.teco_record.specs.Entry.{body_back, body_forth, notes_forth, held_in, load_back}
-use Rattle.teco_record.specs.RecordLaws.{ForthThenBack, HoldsAtMostItsLoad}
+use Rattle.teco_undo.specs.Entry.{body_back, body_forth, notes_forth, held_in, load_back}
+use Rattle.teco_undo.specs.RecordLaws.{ForthThenBack, HoldsAtMostItsLoad}
 use Rattle.teco_exec.specs.StringMeaning.{string_meaning}
 use Rattle.teco_session.specs.History.{NotedString, state_after}
-use Rattle.teco_entries.specs.Strings.{KeptString}
+use Rattle.teco_session.specs.Strings.{KeptString}
 use Rattle.teco_session.specs.Kept.{KeptSession, done_strings, undone_strings, noted_as, first_body, done_notes, undone_notes, history_of, LeadBack, LeadForth, IsSession, IsSmall}
 
 -- each string's entry is small against what the string does in the state before it

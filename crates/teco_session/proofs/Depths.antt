@@ -3,9 +3,9 @@ use Rattle.std.proofs.Common.{◌≡◌, ℕ, zero, suc, ◌+◌, ◌-◌, ◌�
 use Rattle.std.proofs.lemmas.List.{reverse-append, length-reverse, length-take-le, length-drop, drop-drop}
 use Rattle.std.proofs.Math.Seq.{take-add, drop-append_seam}
 use Rattle.teco_store.specs.State.{State, Body, state_at, paged_beginning}
-use Rattle.teco_record.specs.Entry.{body_back}
+use Rattle.teco_undo.specs.Entry.{body_back}
 use Rattle.teco_session.specs.History.{History, NotedString, state_after, AreMeant, HasBegun, IsHistory, without_first}
-use Rattle.teco_entries.specs.Strings.{KeptString}
+use Rattle.teco_session.specs.Strings.{KeptString}
 use Rattle.teco_session.specs.Kept.{KeptSession, done_strings, undone_strings, noted_as, first_body, done_notes, undone_notes, history_of, LeadBack, LeadForth, IsSession}
 use Rattle.teco_session.proofs.Turning.{history_at, history_is, length-done_notes, present-done}
 use Rattle.teco_session.proofs.Running.{notes_split}

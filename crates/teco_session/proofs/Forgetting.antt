@@ -2,7 +2,7 @@
 use Rattle.std.proofs.Common.{◌≡◌, ℕ, Option, List, [], length, take, reverse, refl, sym, ◌∙◌, ap, subst, arith}
 use Rattle.std.proofs.lemmas.List.{length-reverse, length-take-le, drop_all, take_all}
 use Rattle.teco_session.specs.History.{History, NotedString, IsHistory, without_undone}
-use Rattle.teco_entries.specs.Strings.{KeptString}
+use Rattle.teco_session.specs.Strings.{KeptString}
 use Rattle.teco_session.specs.Kept.{KeptSession, done_strings, undone_strings, undone_notes, done_notes, forgotten, history_of, LeadBack, LeadForth, IsSession}
 use Rattle.teco_session.proofs.Depths.{parts}
 use Rattle.teco_session.proofs.Running.{notes_cut}

@@ -2,9 +2,9 @@
 use Rattle.std.proofs.Common.{◌≡◌, ℕ, ◌<◌, ◌≤◌, List, [], ◌∷◌, ◌++◌, length, take, reverse, map, get_or, refl, sym, ◌∙◌, ap, arith, append_assoc}
 use Rattle.std.proofs.lemmas.List.{get_or-map, map-append, reverse-append, reverse-reverse, take-append-drop}
 use Rattle.teco_store.specs.State.{State, Body, state_at}
-use Rattle.teco_record.specs.Entry.{body_back, body_forth}
+use Rattle.teco_undo.specs.Entry.{body_back, body_forth}
 use Rattle.teco_session.specs.History.{NotedString}
-use Rattle.teco_entries.specs.Strings.{KeptString}
+use Rattle.teco_session.specs.Strings.{KeptString}
 use Rattle.teco_session.specs.Kept.{KeptSession, done_strings, undone_strings, noted_as, done_notes, undone_notes, history_of}
 use Rattle.teco_session.proofs.Turning.{length-notes}
 

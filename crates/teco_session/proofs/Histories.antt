@@ -3,7 +3,7 @@ use Rattle.std.proofs.Common.{◌≡◌, ℕ, zero, suc, ◌≤◌, false, List,
 use Rattle.std.proofs.KnownBytes.{Appends-trans, Appends-nil}
 use Rattle.teco_store.specs.State.{State}
 use Rattle.teco_exec.specs.StringMeaning.{string_meaning}
-use Rattle.teco_terminal.specs.Terminal.{Screen, Shows, count_after}
+use Rattle.teco_io.specs.Terminal.{Screen, Shows, count_after}
 use Rattle.teco_session.specs.History.{History, NotedString, state_after, present, AreMeant, IsHistory, appended}
 use Rattle.teco_session.specs.Step.{Step, Reply, is_terminal_failure}
 use Rattle.teco_session.specs.Play.{Play, ShowsAll, typed_by, answers_of, failures_after}

@@ -3,12 +3,12 @@ use Rattle.std.proofs.Common.{◌≡◌, ℕ, ◌≤◌, List, length, refl, sym
 use Rattle.teco_store.specs.State.{State, Full, IsSound, state_at, state_of}
 use Rattle.teco_store.specs.Trail.{Trail}
 use Rattle.teco_store.specs.Turn.{Note as Change}
-use Rattle.teco_record.specs.Entry.{body_back}
-use Rattle.teco_record.specs.Follows.{Recording, HasCome, Follows, LeadsBack}
-use Rattle.teco_record.specs.RecordLaws.{LeadsToItsBeginning}
+use Rattle.teco_undo.specs.Entry.{body_back}
+use Rattle.teco_undo.specs.Follows.{Recording, HasCome, Follows, LeadsBack}
+use Rattle.teco_undo.specs.RecordLaws.{LeadsToItsBeginning}
 use Rattle.teco_exec.specs.Laws.{ZeroLimitChangesNothing}
 use Rattle.teco_exec.specs.Runs.{trail_of}
-use Rattle.teco_entries.specs.Strings.{KeptString}
+use Rattle.teco_session.specs.Strings.{KeptString}
 use Rattle.teco_session.specs.Kept.{HasRun}
 
 -- a string that was run, as it is kept

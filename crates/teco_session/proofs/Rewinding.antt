@@ -3,13 +3,13 @@ use Rattle.std.proofs.Common.{◌≡◌, ℕ, ◌+◌, ◌-◌, ◌≤◌, List,
 use Rattle.std.proofs.lemmas.List.{take-set}
 use Rattle.teco_store.specs.State.{State, Full, state_at, state_of, with_body}
 use Rattle.teco_store.specs.Turn.{Note as Change}
-use Rattle.teco_record.specs.Entry.{body_back, before, since}
-use Rattle.teco_record.specs.Follows.{HasCome, LeadsBack}
-use Rattle.teco_record.specs.RecordLaws.{BackThenForth, ComesSoExtended, ComesSoFarCut}
+use Rattle.teco_undo.specs.Entry.{body_back, before, since}
+use Rattle.teco_undo.specs.Follows.{HasCome, LeadsBack}
+use Rattle.teco_undo.specs.RecordLaws.{BackThenForth, ComesSoExtended, ComesSoFarCut}
 use Rattle.teco_exec.specs.Runs.{trail_of}
 use Rattle.teco_exec.specs.StringMeaning.{string_meaning}
 use Rattle.teco_session.specs.History.{History, NotedString, note_at, present, undone, appended, with_steps}
-use Rattle.teco_entries.specs.Strings.{KeptString, string_back, string_cut}
+use Rattle.teco_session.specs.Strings.{KeptString, string_back, string_cut}
 use Rattle.teco_session.specs.Kept.{KeptSession, noted_as, history_of, HasRun, LeadBack, IsSession, turned_back, cut_back}
 use Rattle.teco_session.proofs.Headings.{has_text}
 use Rattle.teco_session.proofs.Turning.{Turned, cursor_at, last_done, present_is, session_back}

@@ -2,14 +2,14 @@
 use Rattle.std.proofs.Common.{◌≡◌, ℕ, ◌+◌, ◌≤◌, Option, List, [], ◌∷◌, ◌++◌, length, take, drop, reverse, ◌⊎◌, inl, inr, true, false, refl, sym, ◌∙◌, ap, subst, arith, append_assoc, length-append}
 use Rattle.std.proofs.lemmas.List.{reverse-append, length-reverse, length-take-le, drop_all, take_all, take_at, take-take, take-append-drop}
 use Rattle.teco_store.specs.State.{State, Body, IsSound, Extends, state_at, state_of}
-use Rattle.teco_record.specs.Entry.{body_back}
-use Rattle.teco_record.specs.Follows.{HasCome, LeadsBack}
-use Rattle.teco_record.specs.RecordLaws.{BackThenForth, ComesSoExtended}
+use Rattle.teco_undo.specs.Entry.{body_back}
+use Rattle.teco_undo.specs.Follows.{HasCome, LeadsBack}
+use Rattle.teco_undo.specs.RecordLaws.{BackThenForth, ComesSoExtended}
 use Rattle.teco_exec.specs.Runs.{IsBrokenOff, RunsWithin, never_asks, trail_of}
 use Rattle.teco_exec.specs.StringMeaning.{string_meaning}
 use Rattle.teco_exec.specs.declared.outcome.Outcome.{Outcome}
 use Rattle.teco_session.specs.History.{History, NotedString, IsHistory, appended}
-use Rattle.teco_entries.specs.Strings.{KeptString}
+use Rattle.teco_session.specs.Strings.{KeptString}
 use Rattle.teco_session.specs.Kept.{KeptSession, done_strings, undone_strings, noted_as, first_body, done_notes, undone_notes, history_of, HasRun, editor_at, LeadBack, LeadForth, IsSession}
 use Rattle.teco_session.proofs.Histories.{IsHistory-appended}
 use Rattle.teco_session.proofs.Turning.{history_is, length-done_notes, present_is}

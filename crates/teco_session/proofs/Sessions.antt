@@ -10,13 +10,13 @@ use Rattle.teco_core.specs.Register.{Content, blank}
 use Rattle.std.proofs.lemmas.List.{get_or_default, take_more_set, length-take-le, length-drop}
 use Rattle.teco_core.specs.declared.limits.TheConstants.{FILE_LIMIT, TEXT_LIMIT}
 use Rattle.teco_store.specs.State.{Full, IsSound, state_of, with_body, paged_beginning, new_paged_full}
-use Rattle.teco_record.specs.Entry.{body_back, body_forth, since}
-use Rattle.teco_record.specs.Follows.{LeadsBack}
-use Rattle.teco_record.specs.RecordLaws.{BackThenForth, ForthThenBack, ComesSoExtended, ComesSoFarCut}
+use Rattle.teco_undo.specs.Entry.{body_back, body_forth, since}
+use Rattle.teco_undo.specs.Follows.{LeadsBack}
+use Rattle.teco_undo.specs.RecordLaws.{BackThenForth, ForthThenBack, ComesSoExtended, ComesSoFarCut}
 use Rattle.teco_exec.specs.StringMeaning.{string_meaning}
-use Rattle.teco_entries.specs.Strings.{keeps_none, beyond}
+use Rattle.teco_session.specs.Strings.{keeps_none, beyond}
 use Rattle.teco_session.specs.History.{History, NotedString, HasBegun, note_at, present, without_first, appended, noted, undone, redone, with_steps, rewound}
-use Rattle.teco_entries.specs.Strings.{KeptString, string_back, string_cut, string_forth, newest}
+use Rattle.teco_session.specs.Strings.{KeptString, string_back, string_cut, string_forth, newest}
 use Rattle.teco_session.specs.Kept.{KeptSession, string_at, cut_to, new_paged_session, noted_as, IsSession, HasRun, history_of, reverted, applied}
 use Rattle.teco_session.proofs.Turning.{Turned, length-notes, session_back, session_forth}
 use Rattle.teco_session.proofs.Headings.{has_steps}

@@ -3,10 +3,10 @@ use Rattle.std.proofs.Common.{◌≡◌, ℕ, suc, ◌+◌, ◌<◌, ◌≤◌, 
 use Rattle.std.proofs.lemmas.List.{reverse-append, length-reverse, drop_more, take_more, take-set, drop-set, take_more_set, drop-set-lt, length-set, length-take-le}
 use Rattle.teco_store.specs.State.{State, Body, IsSound, state_at, state_of}
 use Rattle.teco_store.specs.Turn.{Note as Change}
-use Rattle.teco_record.specs.Entry.{body_back, notes_back, body_forth, FitsBack, FitsForth}
-use Rattle.teco_record.specs.RecordLaws.{BackThenForth, ForthThenBack}
+use Rattle.teco_undo.specs.Entry.{body_back, notes_back, body_forth, FitsBack, FitsForth}
+use Rattle.teco_undo.specs.RecordLaws.{BackThenForth, ForthThenBack}
 use Rattle.teco_session.specs.History.{History, NotedString, state_after, present, IsHistory}
-use Rattle.teco_entries.specs.Strings.{KeptString, string_back, string_forth}
+use Rattle.teco_session.specs.Strings.{KeptString, string_back, string_forth}
 use Rattle.teco_session.specs.Kept.{KeptSession, done_strings, undone_strings, noted_as, first_body, done_notes, undone_notes, history_of, HasRun, editor_at, LeadBack, LeadForth, IsSession, turned_back, turned_forth}
 
 pub length-done_notes : (stored : List ℕ) (xs : List KeptString) (b : Body) (ns : List NotedString) → length (done_notes stored xs b ns) ≡ length xs + length ns

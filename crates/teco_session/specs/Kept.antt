@@ -3,13 +3,13 @@
 use Rattle.std.specs.Prelude.{ℕ, ◌+◌, ◌-◌, ◌*◌, ◌≤◌, List, [], ◌∷◌, ◌++◌, length, take, drop, min, reverse, slice_index_or, Option}
 use Rattle.std.proofs.Common.{set}
 use Rattle.teco_store.specs.State.{State, Body, Full, IsSound, state_at, new_paged_full, with_body}
-use Rattle.teco_record.specs.Follows.{HasCome}
+use Rattle.teco_undo.specs.Follows.{HasCome}
 use Rattle.teco_store.specs.Trail.{most_changes}
 use Rattle.teco_store.specs.Turn.{Note as Change}
-use Rattle.teco_record.specs.Entry.{body_back, notes_back, body_forth, notes_forth, FitsForth, before, since, held_in}
+use Rattle.teco_undo.specs.Entry.{body_back, notes_back, body_forth, notes_forth, FitsForth, before, since, held_in}
 use Rattle.teco_exec.specs.Runs.{trail_of}
 use Rattle.teco_exec.specs.StringMeaning.{string_meaning}
-use Rattle.teco_entries.specs.Strings.{KeptString, string_back, string_forth, string_cut, entry_at}
+use Rattle.teco_session.specs.Strings.{KeptString, string_back, string_forth, string_cut, entry_at}
 use Rattle.teco_session.specs.History.{History, NotedString, IsHistory}
 
 -- one editor, the strings in order, how many of them are done, and how many are kept, if there is a bound

@@ -1,18 +1,18 @@
 //! How a command string is run: alone, or so that its place is told.
 ghost use Rattle.std.specs.Prelude.{◌≡◌, ℕ, List, length, None, Ok, true, false};
 ghost use Rattle.teco_store.specs.State.{IsSound, state_of};
-ghost use Rattle.teco_record.specs.Follows.{LeadsBack};
+ghost use Rattle.teco_undo.specs.Follows.{LeadsBack};
 ghost use Rattle.teco_exec.specs.Runs.{Runs, RunsWithin, StillSays, is_tty, trail_of};
 ghost use Rattle.teco_exec.specs.StringMeaning.{string_meaning};
-ghost use Rattle.teco_terminal.specs.Terminal.{Shows};
+ghost use Rattle.teco_io.specs.Terminal.{Shows};
 ghost use Rattle.teco_session.specs.Kept.{HasRun};
 
 use std::alloc::Global;
 use teco_core::NoMemory;
 use teco_exec::{Outcome, Place, Stop, meaning_laws, run_until, run_where_until};
-use teco_record::{ChangeList, Recorder, record_laws};
+use teco_io::Terminal;
 use teco_store::Desk;
-use teco_terminal::Terminal;
+use teco_undo::{ChangeList, Recorder, record_laws};
 
 /// What runs a string, and may tell more than how it ended.
 pub(crate) trait Runner {

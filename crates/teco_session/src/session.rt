@@ -4,9 +4,9 @@ ghost use Rattle.std.specs.Option.{ForSome};
 ghost use Rattle.teco_exec.specs.Runs.{RunsWithin, StillSays};
 ghost use Rattle.teco_exec.specs.Telling.{TellsPlace};
 ghost use Rattle.teco_store.specs.State.{state_of};
-ghost use Rattle.teco_terminal.specs.Terminal.{Shows};
+ghost use Rattle.teco_io.specs.Terminal.{Shows};
 ghost use Rattle.teco_session.specs.Answers.{answer_code, is_unbegun, outcome_of, string_outcome};
-ghost use Rattle.teco_entries.specs.Strings.{IsWithinDepth};
+ghost use Rattle.teco_session.specs.Strings.{IsWithinDepth};
 ghost use Rattle.teco_session.specs.History.{IsHistory, new_history, new_paged_history, note_at, present, redone, rewound, state_after, undone, without_undone};
 ghost use Rattle.teco_session.specs.Kept.{IsSession, IsSmall, applied, cut_to, forgotten, history_of, new_paged_session, new_session, reverted, string_at};
 ghost use Rattle.teco_session.specs.Step.{Step, RunStep, Reply, is_terminal_failure};
@@ -14,14 +14,14 @@ ghost use Rattle.teco_session.specs.Play.{Play, ShowsAll, answers_of};
 
 use crate::request::{Answer, Answered, NothingToRedo, NothingToUndo, Request};
 use crate::runner::{Placing, Plain, Runner, record_run};
+use crate::{Changes, Entries, Entry, Text, Turn};
 use std::alloc::Global;
 use std::marker::Model;
 use teco_core::{DEPTH_LIMIT, FILE_LIMIT, NoMemory};
-use teco_entries::{Changes, Entries, Entry, Text, Turn};
 use teco_exec::{Never, Stop};
-use teco_record::{Recorder, record_laws};
+use teco_io::Terminal;
 use teco_store::{Desk, Editor, editor_laws};
-use teco_terminal::Terminal;
+use teco_undo::{Recorder, record_laws};
 
 /// Command strings one after another, each of which can be undone and redone.
 ///
@@ -47,7 +47,7 @@ impl Drop for Session {
 
 impl Model for Session {
     ghost use Rattle.teco_session.specs.Kept.{KeptSession, IsSession};
-    ghost use Rattle.teco_session.specs.Entries.{kept_session};
+    ghost use Rattle.teco_session.specs.SessionView.{kept_session};
 
     ghost Value = { KeptSession };
 

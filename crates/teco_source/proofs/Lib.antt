@@ -8,3 +8,4 @@ pub mod Places
 pub mod Placements
 mod SourceRows
 pub mod PlaceLaws
+pub mod Parts

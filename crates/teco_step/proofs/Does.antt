@@ -3,16 +3,16 @@ use Rattle.std.proofs.Common.{◌≡◌, ◌∙◌, sym, ap, subst, refl, ℕ, [
 use Rattle.teco_scan.specs.Scan.{Item}
 use Rattle.teco_store.specs.State.{State}
 use Rattle.teco_store.specs.Trail.{Trail, moved}
-use Rattle.teco_command.specs.declared.failure.Failure.{Failure}
-use Rattle.teco_command.specs.declared.next.Next.{Next}
-use Rattle.teco_command.specs.declared.next.Next.TheVariants as next
-use Rattle.teco_command.specs.Step.{Attempt, Step, Action, done_by, End, go, Moment, settled}
-use Rattle.teco_command.specs.Families.{next_of, code_of_failure, tag_of, IsRefusal, ActsFrom, Scene, Types, Carries}
+use Rattle.teco_step.specs.declared.failure.Failure.{Failure}
+use Rattle.teco_step.specs.declared.next.Next.{Next}
+use Rattle.teco_step.specs.declared.next.Next.TheVariants as next
+use Rattle.teco_step.specs.Step.{Attempt, Step, Action, done_by, End, go, Moment, settled}
+use Rattle.teco_step.specs.Families.{next_of, code_of_failure, tag_of, IsRefusal, ActsFrom, Scene, Types, Carries}
 use Rattle.teco_step.specs.Stepping.{Steps, name_of, trail_after}
-use Rattle.teco_command.specs.Ending.{end_of, is_unfinished}
-use Rattle.teco_terminal.specs.Terminal.{Screen, Shows}
+use Rattle.teco_step.specs.Ending.{end_of, is_unfinished}
+use Rattle.teco_io.specs.Terminal.{Screen, Shows}
 use Rattle.teco_step.proofs.Ends.{MayEnd}
-use Rattle.teco_command.proofs.Shown.{Shows-nil}
+use Rattle.teco_step.proofs.Shown.{Shows-nil}
 
 -- an end that a token may have is told by what it leads to
 end_is : (s : State) (inside : Bool) (i : Item) (n : Next) (e : End) → end_of s (tag_of e) n ≡ e → MayEnd inside i e → end_of s (name_of i) n ≡ e

@@ -13,7 +13,7 @@ use Rattle.teco_scan.specs.declared.command.TextCommand.TheVariants.{InsertTab}
 use Rattle.teco_scan.specs.Scan as token
 use Rattle.teco_store.specs.State.{State}
 use Rattle.teco_step.specs.Effect.{effect}
-use Rattle.teco_command.specs.Line.{line_ends_from}
+use Rattle.teco_step.specs.Line.{line_ends_from}
 use Rattle.teco_step.proofs.Rows.{lines, holds, value, does, goes, refused, keeps, seven, with_colon, pair, opened, minus}
 
 row_kill : does (token.bare (bare.Command command.Kill)) (holds lines 0) no_arguments ≡ goes (holds (98 ∷ 11 ∷ 12 ∷ 99 ∷ []) 0) no_arguments [] 2

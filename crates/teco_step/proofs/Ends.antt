@@ -20,14 +20,14 @@ use Rattle.teco_scan.specs.declared.command.TextCommand.TheVariants as text_comm
 use Rattle.teco_scan.specs.Scan.{Item}
 use Rattle.teco_scan.specs.Scan as token
 use Rattle.teco_step.specs.Effect.{effect, command_effect, bare_effect, register_effect, text_effect, item_effect}
-use Rattle.teco_command.specs.declared.next.Setting.{Setting}
-use Rattle.teco_command.specs.Step.{Attempt, Made, Action, goes, steers, goes_on, done_by, End, on, leave, go, call, again, stop, settled, ends, takes_none, takes_one_or}
-use Rattle.teco_command.specs.Searching.{search_or_compare, search_and_replace}
-use Rattle.teco_command.specs.PageSearching.{search_pages}
+use Rattle.teco_step.specs.declared.next.Setting.{Setting}
+use Rattle.teco_step.specs.Step.{Attempt, Made, Action, goes, steers, goes_on, done_by, End, on, leave, go, call, again, stop, settled, ends, takes_none, takes_one_or}
+use Rattle.teco_step.specs.Searching.{search_or_compare, search_and_replace}
+use Rattle.teco_step.specs.PageSearching.{search_pages}
 use Rattle.teco_step.proofs.Searches.{Searches, searches, replacement_searches}
 use Rattle.teco_step.proofs.PageSearches.{turned_searches, read_searches}
-use Rattle.teco_command.specs.Pages.{after_page, pages_left, with_output_in_limit, with_page_read, with_page_turned}
-use Rattle.teco_command.specs.declared.next.Work.{Work}
+use Rattle.teco_step.specs.Pages.{after_page, pages_left, with_output_in_limit, with_page_read, with_page_turned}
+use Rattle.teco_step.specs.declared.next.Work.{Work}
 use Rattle.teco_step.specs.Stepping.{is_call, may_go_further, name_of, takes_nothing}
 
 -- An end that a token may have, inside an iteration or not.

@@ -18,14 +18,14 @@ use Rattle.teco_scan.specs.declared.command.TextCommand.TheVariants as text_comm
 use Rattle.teco_scan.specs.Scan.{Item}
 use Rattle.teco_scan.specs.Scan as token
 use Rattle.teco_step.specs.Effect.{effect, command_effect, bare_effect, register_effect, text_effect, item_effect}
-use Rattle.teco_command.specs.Line.{line}
+use Rattle.teco_step.specs.Line.{line}
 use Rattle.teco_step.specs.Load.{Moves}
-use Rattle.teco_command.specs.Pages.{pages_left, with_output_in_limit, with_page_turned}
-use Rattle.teco_command.specs.Registers as registers
-use Rattle.teco_command.specs.declared.next.Setting.{Setting}
-use Rattle.teco_command.specs.Step.{Attempt, Made, Action, goes, steers, goes_on, done_by, on, leave, settled, ends, as_byte, place_or, takes_none, takes_one, takes_one_or, takes_reach}
-use Rattle.teco_command.specs.Typing.{around, ended, part}
-use Rattle.teco_command.specs.Values.{built, value_of}
+use Rattle.teco_step.specs.Pages.{pages_left, with_output_in_limit, with_page_turned}
+use Rattle.teco_step.specs.Registers as registers
+use Rattle.teco_step.specs.declared.next.Setting.{Setting}
+use Rattle.teco_step.specs.Step.{Attempt, Made, Action, goes, steers, goes_on, done_by, on, leave, settled, ends, as_byte, place_or, takes_none, takes_one, takes_one_or, takes_reach}
+use Rattle.teco_step.specs.Typing.{around, ended, part}
+use Rattle.teco_step.specs.Values.{built, value_of}
 use Rattle.teco_step.proofs.Moving.{exit_moves, nothing_moves, turn_moves}
 use Rattle.teco_step.proofs.Occurring.{Backward, Forward, Long, Spelled}
 use Rattle.teco_step.proofs.Seeking.{seeks, seeks_and_replaces, seeks_reading, seeks_turning}

@@ -11,7 +11,7 @@ use Rattle.teco_search.specs.Occurrence.{Sought, Span, backward, forward, looked
 use Rattle.teco_search.specs.Reading.{read}
 use Rattle.teco_search.specs.Spelling.{Spells, nothing, next}
 use Rattle.teco_store.specs.State.{State}
-use Rattle.teco_command.specs.Searching.{found, meant, sought, takes_count}
+use Rattle.teco_step.specs.Searching.{found, meant, sought, takes_count}
 
 -- One of a list of occurrences is a match.
 nth_forward : (q : Sought) (text : List ℕ) (from : ℕ) (ms : List Span) (n : ℕ) (m : Span) → AreForward q text from ms → slice_get ms n ≡ Some m → MatchesTo q text m.0 m.1

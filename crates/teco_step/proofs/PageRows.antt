@@ -16,8 +16,8 @@ use Rattle.teco_scan.specs.Scan as token
 use Rattle.teco_store.specs.Page.{page_of}
 use Rattle.teco_store.specs.State.{State, beginning}
 use Rattle.teco_step.specs.Effect.{effect}
-use Rattle.teco_command.specs.Step.{again, out}
-use Rattle.teco_command.specs.declared.next.Work.{Work}
+use Rattle.teco_step.specs.Step.{again, out}
+use Rattle.teco_step.specs.declared.next.Work.{Work}
 use Rattle.teco_step.proofs.Rows.{alone, holds, value, does, goes, refused, seven, pair, opened, waits, minus}
 
 -- an input of two pages: ab FF c

@@ -9,9 +9,9 @@ use Rattle.teco_scan.specs.Scan.{Item, text}
 use Rattle.teco_store.specs.Page.{page_of}
 use Rattle.teco_store.specs.State.{State, beginning}
 use Rattle.teco_step.specs.Effect.{effect}
-use Rattle.teco_command.specs.declared.next.Setting.{Setting}
-use Rattle.teco_command.specs.Step.{Step, again}
-use Rattle.teco_command.specs.declared.next.Work.{Work}
+use Rattle.teco_step.specs.declared.next.Setting.{Setting}
+use Rattle.teco_step.specs.Step.{Step, again}
+use Rattle.teco_step.specs.declared.next.Work.{Work}
 use Rattle.teco_step.proofs.Rows.{alone, does, goes, minus, opened, pair, refused, value}
 use Rattle.teco_step.proofs.SearchRows.{computing, colons, around, failed}
 

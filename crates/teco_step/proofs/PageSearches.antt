@@ -9,13 +9,13 @@ use Rattle.teco_core.specs.Arguments.{Arguments, no_arguments}
 use Rattle.teco_search.specs.Occurrence.{Sought, Span, occurrence}
 use Rattle.teco_store.specs.Page.{is_input_over, with_next_page, with_page}
 use Rattle.teco_store.specs.State.{State}
-use Rattle.teco_command.specs.Editing.{with_text_in_limit}
-use Rattle.teco_command.specs.Pages.{with_output_in_limit, with_page_read, with_page_turned}
-use Rattle.teco_command.specs.PageSearching.{wanted, wanted_still, runs_out, page_searched, search_page, goes_to_page, step_of, search_pages}
-use Rattle.teco_command.specs.Searching.{sought}
-use Rattle.teco_command.specs.declared.next.Setting.{Setting}
-use Rattle.teco_command.specs.Step.{again}
-use Rattle.teco_command.specs.declared.next.Work.{Work}
+use Rattle.teco_step.specs.Editing.{with_text_in_limit}
+use Rattle.teco_step.specs.Pages.{with_output_in_limit, with_page_read, with_page_turned}
+use Rattle.teco_step.specs.PageSearching.{wanted, wanted_still, runs_out, page_searched, search_page, goes_to_page, step_of, search_pages}
+use Rattle.teco_step.specs.Searching.{sought}
+use Rattle.teco_step.specs.declared.next.Setting.{Setting}
+use Rattle.teco_step.specs.Step.{again}
+use Rattle.teco_step.specs.declared.next.Work.{Work}
 use Rattle.teco_step.proofs.Searches.{Searches, KeepsDone, if_keeps, text_keeps, then_searches, if_searches, state_searches, notes_searches, searched_searches}
 
 runs_out_searches : (text : List ℕ) (w : Setting) (left : ℤ) (s : State) (a : Arguments) → Searches true s (runs_out text w left s a)

@@ -12,8 +12,8 @@ use Rattle.teco_core.specs.declared.code.Code.TheVariants.{Pop}
 use Rattle.teco_core.specs.Refusal.{◌>>=◌}
 use Rattle.teco_core.specs.Arguments.{Arguments, taken_from}
 use Rattle.teco_store.specs.State.{State}
-use Rattle.teco_command.specs.Line.{line, line_ends, line_ends_from, one_past}
-use Rattle.teco_command.specs.Step.{Range, place_or, reached, rising, takes_reach}
+use Rattle.teco_step.specs.Line.{line, line_ends, line_ends_from, one_past}
+use Rattle.teco_step.specs.Step.{Range, place_or, reached, rising, takes_reach}
 
 -- a place that was taken
 place_by : (c : Code) (n m place : ℕ) (b : Bool) → nat_le n m ≡ b → cond b (Ok n) (Err c) ≡ Ok place → place ≤ m

@@ -21,9 +21,9 @@ use Rattle.teco_scan.specs.Scan as token
 use Rattle.teco_core.specs.declared.limits.TheConstants.{TEXT_LIMIT}
 use Rattle.teco_store.specs.State.{State, beginning}
 use Rattle.teco_step.specs.Effect.{effect}
-use Rattle.teco_command.specs.Line.{line, line_ends_from}
-use Rattle.teco_command.specs.declared.next.Setting.{Setting}
-use Rattle.teco_command.specs.Step.{Step, End, on, leave, go, call, stop}
+use Rattle.teco_step.specs.Line.{line, line_ends_from}
+use Rattle.teco_step.specs.declared.next.Setting.{Setting}
+use Rattle.teco_step.specs.Step.{Step, End, on, leave, go, call, stop}
 
 -- a LF b VT FF c: the line ends are at 1, 3 and 4
 abbrev pub lines : List ℕ

@@ -13,9 +13,9 @@ use Rattle.teco_search.specs.Occurrence.{backward, chosen, element_end, forward,
 use Rattle.teco_search.specs.Reading.{byte_at, element_at, elements_at, item_at, items_at, listed_at, one_byte_at, read}
 use Rattle.teco_store.specs.State.{State}
 use Rattle.teco_step.specs.Effect.{effect}
-use Rattle.teco_command.specs.Searching.{notes}
-use Rattle.teco_command.specs.declared.next.Setting.{Setting}
-use Rattle.teco_command.specs.Step.{End, Step, stop}
+use Rattle.teco_step.specs.Searching.{notes}
+use Rattle.teco_step.specs.declared.next.Setting.{Setting}
+use Rattle.teco_step.specs.Step.{End, Step, stop}
 use Rattle.teco_step.proofs.Rows.{alone, does, goes, holds, minus, opened, pair, refused, value}
 
 -- all that a search computes with

@@ -8,12 +8,12 @@ use Rattle.teco_core.specs.Arguments.{Arguments}
 use Rattle.teco_search.specs.Occurrence.{Span}
 use Rattle.teco_store.specs.Search.{length_of, noted, replaced_noted}
 use Rattle.teco_store.specs.State.{State}
-use Rattle.teco_command.specs.Editing.{with_text_in_limit}
+use Rattle.teco_step.specs.Editing.{with_text_in_limit}
 use Rattle.teco_core.specs.declared.limits.TheConstants.{TEXT_LIMIT}
-use Rattle.teco_command.specs.Searching.{with_search_in_limit, notes, noted_text, answer, answers, end_failed, found, searched, search, matched, compared, compare, search_or_compare, replaces, replaced_or_not, search_and_replace}
-use Rattle.teco_command.specs.declared.next.Setting.{Setting}
-use Rattle.teco_command.specs.Step.{Attempt, End, on, again, stop, takes_none}
-use Rattle.teco_command.specs.declared.next.Work.{Work}
+use Rattle.teco_step.specs.Searching.{with_search_in_limit, notes, noted_text, answer, answers, end_failed, found, searched, search, matched, compared, compare, search_or_compare, replaces, replaced_or_not, search_and_replace}
+use Rattle.teco_step.specs.declared.next.Setting.{Setting}
+use Rattle.teco_step.specs.Step.{Attempt, End, on, again, stop, takes_none}
+use Rattle.teco_step.specs.declared.next.Work.{Work}
 
 -- by a further step only where it may have one
 abbrev pub EndsSearch : Bool → End → Type 0

@@ -9,14 +9,14 @@ use Rattle.teco_search.specs.Occurrence.{Sought, Span, occurrence}
 use Rattle.teco_store.specs.Page.{is_input_over, page_load, with_next_page, with_page}
 use Rattle.teco_store.specs.Search.{length_of, note_load, noted, replaced_noted}
 use Rattle.teco_store.specs.State.{State}
-use Rattle.teco_command.specs.Editing.{with_text_in_limit}
+use Rattle.teco_step.specs.Editing.{with_text_in_limit}
 use Rattle.teco_step.specs.Load.{Moves}
-use Rattle.teco_command.specs.Pages.{with_page_read, with_page_turned}
-use Rattle.teco_command.specs.PageSearching.{goes_to_page, page_searched, runs_out, search_page, search_pages, step_of, wanted, wanted_still}
-use Rattle.teco_command.specs.Searching.{answer, answers, compare, compared, end_failed, fails, found, matched, noted_text, notes, replaced_or_not, replaces, search, search_and_replace, search_or_compare, searched, sought, with_search_in_limit}
-use Rattle.teco_command.specs.declared.next.Setting.{Setting}
-use Rattle.teco_command.specs.Step.{End, again, on, takes_none}
-use Rattle.teco_command.specs.declared.next.Work.{Work}
+use Rattle.teco_step.specs.Pages.{with_page_read, with_page_turned}
+use Rattle.teco_step.specs.PageSearching.{goes_to_page, page_searched, runs_out, search_page, search_pages, step_of, wanted, wanted_still}
+use Rattle.teco_step.specs.Searching.{answer, answers, compare, compared, end_failed, fails, found, matched, noted_text, notes, replaced_or_not, replaces, search, search_and_replace, search_or_compare, searched, sought, with_search_in_limit}
+use Rattle.teco_step.specs.declared.next.Setting.{Setting}
+use Rattle.teco_step.specs.Step.{End, again, on, takes_none}
+use Rattle.teco_step.specs.declared.next.Work.{Work}
 use Rattle.teco_step.proofs.Moving.{note_moves, page_moves, replacement_moves, turn_moves}
 use Rattle.teco_step.proofs.Occurring.{Backward, Forward, Lies, Long, Spelled, found_lies}
 use Rattle.teco_step.proofs.Working.{AttemptWorks, attempt_if, attempt_then, limit_by, read_is, text_is, turned_is, within_limit}

@@ -18,14 +18,14 @@ use Rattle.teco_scan.specs.declared.command.LevelCommand.{LevelCommand}
 use Rattle.teco_scan.specs.declared.command.LevelCommand.TheVariants as level_command
 use Rattle.teco_store.specs.Page.{page, page_load, with_next_page, with_more, with_page, with_range_written}
 use Rattle.teco_store.specs.State.{State, last_pushed, popped_into, pushed_from, spliced, with_register_text}
-use Rattle.teco_command.specs.Case.{mode_of, set_case}
-use Rattle.teco_command.specs.Decimal.{Numeral, decimal_at_level, insert_number, numeral_at, reads}
-use Rattle.teco_command.specs.Editing.{delete, insert, insert_tab, inserted, inserts, kill, moves, puts, untaken, with_text_in_limit}
+use Rattle.teco_step.specs.Case.{mode_of, set_case}
+use Rattle.teco_step.specs.Decimal.{Numeral, decimal_at_level, insert_number, numeral_at, reads}
+use Rattle.teco_step.specs.Editing.{delete, insert, insert_tab, inserted, inserts, kill, moves, puts, untaken, with_text_in_limit}
 use Rattle.teco_step.specs.Load.{Moves}
-use Rattle.teco_command.specs.Pages.{append_page, next_page, with_output_in_limit, with_page_read, with_page_turned, write_page, writes, writes_taken}
-use Rattle.teco_command.specs.Registers.{adds, extract, get, increment, increments, insert_text, pop, push, set_number, set_text, sets_text, type_text}
-use Rattle.teco_command.specs.Step.{Attempt, Made, changes, edits, gives, place_or, reached, takes_none, takes_one, takes_one_or, takes_reach, types}
-use Rattle.teco_command.specs.Values.{appends, at_level}
+use Rattle.teco_step.specs.Pages.{append_page, next_page, with_output_in_limit, with_page_read, with_page_turned, write_page, writes, writes_taken}
+use Rattle.teco_step.specs.Registers.{adds, extract, get, increment, increments, insert_text, pop, push, set_number, set_text, sets_text, type_text}
+use Rattle.teco_step.specs.Step.{Attempt, Made, changes, edits, gives, place_or, reached, takes_none, takes_one, takes_one_or, takes_reach, types}
+use Rattle.teco_step.specs.Values.{appends, at_level}
 use Rattle.teco_step.proofs.Moving.{case_moves, more_moves, number_moves, page_moves, pointer_moves, pop_moves, push_moves, register_moves, splice_moves, writing_moves}
 use Rattle.teco_step.proofs.Reaching.{between, place_within, reach_spans}
 

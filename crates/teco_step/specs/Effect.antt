@@ -12,17 +12,17 @@ use Rattle.teco_scan.specs.Scan.{Item}
 use Rattle.teco_scan.specs.Scan as token
 use Rattle.teco_core.specs.Arguments.{Arguments}
 use Rattle.teco_store.specs.State.{State}
-use Rattle.teco_command.specs.declared.next.Setting.{Setting}
-use Rattle.teco_command.specs.Step.{Step, Action, goes, steers, done_by, settled}
-use Rattle.teco_command.specs.Values.{number, give_quantity, build, give_byte, at_level}
-use Rattle.teco_command.specs.Editing.{jump, forward, back, to_line, delete, kill, insert, insert_tab}
-use Rattle.teco_command.specs.Typing.{type_out, view, type_text, type_byte, print, print_octal}
-use Rattle.teco_command.specs.Registers.{register_value, set_number, increment, set_text, extract, push, pop, get}
-use Rattle.teco_command.specs.Searching.{search_or_compare, search_and_replace}
-use Rattle.teco_command.specs.Control.{leave_or_not, jump_to, run_register}
-use Rattle.teco_command.specs.Pages.{next_page, turn_pages, with_page_read, with_page_turned, write_page, exit}
-use Rattle.teco_command.specs.PageSearching.{search_pages}
-use Rattle.teco_command.specs.Case.{set_case}
+use Rattle.teco_step.specs.declared.next.Setting.{Setting}
+use Rattle.teco_step.specs.Step.{Step, Action, goes, steers, done_by, settled}
+use Rattle.teco_step.specs.Values.{number, give_quantity, build, give_byte, at_level}
+use Rattle.teco_step.specs.Editing.{jump, forward, back, to_line, delete, kill, insert, insert_tab}
+use Rattle.teco_step.specs.Typing.{type_out, view, type_text, type_byte, print, print_octal}
+use Rattle.teco_step.specs.Registers.{register_value, set_number, increment, set_text, extract, push, pop, get}
+use Rattle.teco_step.specs.Searching.{search_or_compare, search_and_replace}
+use Rattle.teco_step.specs.Control.{leave_or_not, jump_to, run_register}
+use Rattle.teco_step.specs.Pages.{next_page, turn_pages, with_page_read, with_page_turned, write_page, exit}
+use Rattle.teco_step.specs.PageSearching.{search_pages}
+use Rattle.teco_step.specs.Case.{set_case}
 
 -- Commands without an operand.
 abbrev pub command_effect : Command → Setting → Action

@@ -7,10 +7,10 @@ use Rattle.teco_scan.specs.Scan.{Item}
 use Rattle.teco_store.specs.State.{State}
 use Rattle.teco_step.specs.Effect.{effect}
 use Rattle.teco_step.specs.Load.{Moves}
-use Rattle.teco_command.specs.declared.next.Setting.{Setting}
-use Rattle.teco_command.specs.Step.{on, leave, go, call, again, out, stop}
+use Rattle.teco_step.specs.declared.next.Setting.{Setting}
+use Rattle.teco_step.specs.Step.{on, leave, go, call, again, out, stop}
 use Rattle.teco_step.specs.Stepping.{is_call, may_go_further, name_of, takes_nothing}
-use Rattle.teco_command.specs.declared.next.Work.{Work}
+use Rattle.teco_step.specs.declared.next.Work.{Work}
 
 -- An iteration is left only inside one.
 abbrev pub LeavesInside : Type 0

@@ -10,18 +10,18 @@ use Rattle.teco_scan.specs.declared.command.RegisterCommand.TheVariants as regis
 use Rattle.teco_scan.specs.declared.command.TextCommand.TheVariants as text_command
 use Rattle.teco_store.specs.State.{State}
 use Rattle.teco_store.specs.Trail.{Trail, moved}
-use Rattle.teco_terminal.specs.Terminal.{Shows, IsFrontOf}
+use Rattle.teco_io.specs.Terminal.{Shows, IsFrontOf}
 use Rattle.teco_scan.specs.declared.token.Token.{Token}
 use Rattle.teco_scan.specs.declared.token.TokenKind.{TokenKind}
 use Rattle.teco_scan.specs.declared.token.TokenKind.TheVariants as kind
 use Rattle.teco_scan.specs.Seen.{item_in, IsItemIn}
-use Rattle.teco_command.specs.declared.next.Work.{Work}
+use Rattle.teco_step.specs.declared.next.Work.{Work}
 use Rattle.teco_step.specs.Effect.{effect}
-use Rattle.teco_command.specs.Ending.{end_of, is_unfinished}
-use Rattle.teco_command.specs.declared.next.Setting.{Setting}
-use Rattle.teco_command.specs.Step.{Step, Moment, settled, unbuilt}
-use Rattle.teco_command.specs.declared.next.Next.{Next}
-use Rattle.teco_command.specs.declared.next.Next.TheVariants as next
+use Rattle.teco_step.specs.Ending.{end_of, is_unfinished}
+use Rattle.teco_step.specs.declared.next.Setting.{Setting}
+use Rattle.teco_step.specs.Step.{Step, Moment, settled, unbuilt}
+use Rattle.teco_step.specs.declared.next.Next.{Next}
+use Rattle.teco_step.specs.declared.next.Next.TheVariants as next
 
 -- the step was done, or refused as it means
 pub record IsDone (e : Step) (name : List ℕ) (old new : Moment) (n : Next) : Type 0 where

@@ -6,13 +6,13 @@ ghost use Rattle.teco_scan.specs.Scan as token;
 ghost use Rattle.teco_scan.specs.Seen.{IsItemIn, IsSpanIn, bytes_in, item_in};
 ghost use Rattle.teco_store.specs.Trail.{Trail};
 ghost use Rattle.teco_step.specs.Effect.{bare_effect, command_effect, item_effect, register_effect, text_effect};
-ghost use Rattle.teco_command.specs.Families.{Does};
-ghost use Rattle.teco_command.specs.Step.{at};
+ghost use Rattle.teco_step.specs.Families.{Does};
+ghost use Rattle.teco_step.specs.Step.{at};
 ghost use Rattle.teco_step.specs.Stepping.{IsStepIn, Steps, name_in, takes_nothing, takes_nothing_in, token_effect, trail_after};
-ghost use Rattle.teco_command.specs.declared.failure.Failure.TheVariants.{Memory};
-ghost use Rattle.teco_command.specs.declared.next.Next.TheVariants.{Error};
+ghost use Rattle.teco_step.specs.declared.failure.Failure.TheVariants.{Memory};
+ghost use Rattle.teco_step.specs.declared.next.Next.TheVariants.{Error};
 
-use teco_command::{
+use crate::{
     Failure, Next, Setting, Work, arithmetic, at_level, back, byte, delete, exit, extract, forward,
     get, increment, insert, insert_tab, jump, jump_to, kill, leave_or_not, next_of, next_page,
     number, pop, print, push, quantity, register_value, run_register, search_and_replace,
@@ -20,9 +20,9 @@ use teco_command::{
     type_byte, type_out, type_text, view, write_page,
 };
 use teco_core::{Args, Code, Reg};
+use teco_io::Terminal;
 use teco_scan::{Bare, Command, Item, RegisterCommand, Span, TextCommand, Token, TokenKind};
 use teco_store::Desk;
-use teco_terminal::Terminal;
 
 /// A step of a command without an operand.
 fn command_step<D: Desk, T: Terminal>(

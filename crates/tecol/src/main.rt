@@ -4,11 +4,10 @@
 use std::cell::Cell;
 use std::process;
 use std::process::ExitCode;
-use teco_bytes::ReaderSource;
-use teco_files::{FileDisk, Piped, UntilLeft, hold_standard_streams};
-use teco_keep::{not_text, program};
-use teco_option::{LineFault, fault_of_words};
-use teco_terminal::WriterTerminal;
+use teco_cli::{LineFault, fault_of_words};
+use teco_fs::{FileDisk, Piped, UntilLeft, hold_standard_streams};
+use teco_io::{ReaderSource, WriterTerminal};
+use tecol_driver::{not_text, program};
 
 // That these are the program's words, streams and files is told by no contract.
 

@@ -4,7 +4,7 @@ use Rattle.teco_exec.specs.Machine.{after_step_end, ready_of}
 use Rattle.teco_exec.specs.Running.{Comes, at_cursor, at_token, config, goes, over, reached_by_flow}
 use Rattle.teco_exec.specs.View.{cursor, item_of_kind}
 use Rattle.teco_step.specs.Stepping.{name_in}
-use Rattle.teco_command.specs.Ending.{end_of}
+use Rattle.teco_step.specs.Ending.{end_of}
 use Rattle.teco_exec.proofs.Going.{alike}
 use Rattle.teco_exec.proofs.Stepped.{ends_so, is_over, moves_on, goes_further}
 use Rattle.teco_exec.proofs.Standings.{unless_stays}

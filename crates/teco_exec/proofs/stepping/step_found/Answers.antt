@@ -11,7 +11,7 @@ use Rattle.teco_exec.proofs.Standings.{block_stands, fault_stands, flow_read, la
 use Rattle.teco_exec.specs.declared.cursor.Cursor.{Cursor}
 use Rattle.teco_exec.specs.declared.moves.Coming.TheVariants.{Block, Passed, Step}
 use Rattle.teco_core.specs.declared.code.Code.TheVariants.{Mem}
-use Rattle.teco_command.specs.Ending.{is_unfinished_code}
+use Rattle.teco_step.specs.Ending.{is_unfinished_code}
 use Rattle.teco_exec.proofs.stepping.step_found.Goals as goal
 
 pub returns-in-Passed : goal.returns-in-Passed

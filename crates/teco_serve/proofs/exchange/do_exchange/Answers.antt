@@ -1,6 +1,6 @@
 use Rattle.std.proofs.Common.{◌≡◌, [], ◌++◌, true, false, refl, sym, ap, ◌∙◌, subst, if◌then◌else◌}
 use Rattle.teco_session.specs.Kept.{history_of}
-use Rattle.teco_terminal.specs.Terminal.{Shows}
+use Rattle.teco_io.specs.Terminal.{Shows}
 use Rattle.teco_session.specs.History.{present}
 use Rattle.teco_serve.specs.Cut.{value_of}
 use Rattle.teco_serve.specs.Message.{replies_shown, star}

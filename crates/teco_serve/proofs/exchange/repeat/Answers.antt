@@ -1,7 +1,7 @@
 use Rattle.std.proofs.Common.{◌≡◌, ◌+◌, ◌-◌, [], ◌∷◌, ◌++◌, true, false, refl, sym, ◌∙◌, subst, append-nil, append_assoc, arith}
 use Rattle.std.specs.Prelude.{◌≢◌, OnErr}
 use Rattle.teco_session.specs.Kept.{history_of}
-use Rattle.teco_terminal.specs.Terminal.{Shows, Puts}
+use Rattle.teco_io.specs.Terminal.{Shows, Puts}
 use Rattle.teco_session.specs.Answers.{is_refused}
 use Rattle.teco_session.specs.Step.{Reply}
 use Rattle.teco_serve.specs.Exchange.{Repeats}

@@ -2,7 +2,7 @@ use Rattle.std.proofs.Common.{◌≡◌, ◌-◌, List, [], ◌++◌, false}
 use Rattle.teco_session.specs.Kept.{history_of}
 use Rattle.teco_session.specs.History.{History}
 use Rattle.teco_session.specs.Step.{Reply}
-use Rattle.teco_terminal.specs.Terminal.{Shows}
+use Rattle.teco_io.specs.Terminal.{Shows}
 use Rattle.teco_serve.specs.Exchange.{Repeats}
 use Rattle.teco_serve.specs.Message.{replies_shown}
 use Rattle.teco_serve.proofs.exchange.repeat.Given as goal

@@ -1,6 +1,6 @@
 use Rattle.std.proofs.Common.{◌≡◌, [], ◌∷◌, ◌++◌, true, false, refl, sym, ◌∙◌, subst, append-nil}
 use Rattle.teco_session.specs.Kept.{history_of}
-use Rattle.teco_terminal.specs.Terminal.{Shows, Puts}
+use Rattle.teco_io.specs.Terminal.{Shows, Puts}
 use Rattle.teco_session.specs.Step.{Reply, is_terminal_failure}
 use Rattle.teco_serve.specs.Message.{message}
 use Rattle.teco_serve.proofs.Showing.{OnErr-weaker, Puts-after}

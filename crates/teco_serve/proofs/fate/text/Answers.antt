@@ -3,7 +3,7 @@ use Rattle.std.proofs.Common.{◌≡◌, ◌∙◌, ◌++◌, [], ℕ, List, Res
 use Rattle.std.specs.Prelude.{◌≢◌}
 use Rattle.std.specs.String.{string_bytes}
 use Rattle.std.proofs.lemmas.Result.{IfOk-from_err}
-use Rattle.teco_host.specs.Reasons.{with_reason}
+use Rattle.teco_fs.specs.Reasons.{with_reason}
 use Rattle.teco_serve.specs.Ending.{commands_name, output_of, said}
 use Rattle.teco_serve.proofs.Showing.{on_err_by}
 use Rattle.teco_serve.proofs.fate.text.Goals as goal

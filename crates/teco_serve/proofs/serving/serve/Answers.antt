@@ -2,14 +2,14 @@ use Rattle.std.specs.Prelude.{OnOk}
 use Rattle.std.specs.Result.{is_err}
 use Rattle.std.proofs.Common.{◌≡◌, Result, Ok, Err, [], ◌++◌, take, false, refl, sym, ap, subst, append-nil, ◌∙◌, rules, true≢false, inl}
 use Rattle.teco_session.specs.Kept.{history_of}
-use Rattle.teco_terminal.specs.Terminal.{Shows}
-use Rattle.teco_bytes.specs.Source.{Gives}
+use Rattle.teco_io.specs.Terminal.{Shows}
+use Rattle.teco_io.specs.Source.{Gives}
 use Rattle.teco_serve.specs.Stream.{requests, texts_of}
 use Rattle.teco_serve.specs.Exchange.{HasRung, allowance}
 use Rattle.teco_serve.specs.Message.{star}
 use Rattle.teco_serve.specs.declared.served.Served.TheVariants.{EndOfCommands, NoMemory, ReadFault, ShowFault}
 use Rattle.teco_serve.proofs.Showing.{Shows-joins}
-use Rattle.teco_bytes.proofs.Sources.{Gives-nil, Gives-more, Gives-on}
+use Rattle.teco_io.proofs.Sources.{Gives-nil, Gives-more, Gives-on}
 use Rattle.teco_serve.proofs.Servings.{CutsOff-none, CutsOff-fed, CutsOff-append, CutsOff-first, CutsOff-all, Exchanges-append, GoOn-append, held_shows, ends_from}
 use Rattle.teco_serve.proofs.serving.serve.Goals as goal
 

@@ -1,6 +1,6 @@
 use Rattle.std.proofs.Common.{List, length, false}
 use Rattle.teco_session.specs.Kept.{history_of}
-use Rattle.teco_terminal.specs.Terminal.{Shows}
+use Rattle.teco_io.specs.Terminal.{Shows}
 use Rattle.teco_serve.specs.Exchange.{Exchange, HasRung, allowance}
 use Rattle.teco_serve.specs.Serving.{Exchanges, GoOn, exchanges_shown}
 use Rattle.teco_serve.specs.Held.{CutsOff}

@@ -3,10 +3,10 @@ use Rattle.teco_core.specs.ArgumentsView.{arguments}
 use Rattle.teco_scan.specs.Seen.{item_in}
 use Rattle.teco_scan.specs.declared.token.TokenKind.{TokenKind}
 use Rattle.teco_step.specs.Effect.{effect, item_effect}
-use Rattle.teco_command.specs.declared.next.Setting.{Setting}
-use Rattle.teco_command.specs.Step.{Moment, at}
+use Rattle.teco_step.specs.declared.next.Setting.{Setting}
+use Rattle.teco_step.specs.Step.{Moment, at}
 use Rattle.teco_step.specs.Stepping.{Steps, kind_effect, kind_name, name_of, trail_after}
-use Rattle.teco_command.specs.declared.next.Next.{Next}
+use Rattle.teco_step.specs.declared.next.Next.{Next}
 use Rattle.teco_step.proofs.Does.{does_steps, does_follows}
 use Rattle.teco_step.proofs.Ends.{effect_ends}
 use Rattle.teco_step.proofs.step.step_token.Goals as goal

@@ -1,7 +1,7 @@
 use Rattle.std.proofs.Common.{◌+◌, drop, Err, Ok, ap, sym, ◌∙◌}
 use Rattle.std.proofs.lemmas.Result.{err_from_is_err_and}
-use Rattle.teco_blocks.specs.Lists.{closed, broken}
-use Rattle.teco_blocks.specs.declared.blocks.Kind.TheVariants.{Then}
+use Rattle.teco_scan.specs.Lists.{closed, broken}
+use Rattle.teco_scan.specs.declared.blocks.Kind.TheVariants.{Then}
 use Rattle.teco_exec.specs.CursorMoves.{inside_second_part}
 use Rattle.teco_exec.specs.View.{cursor}
 use Rattle.teco_exec.proofs.Frames.{second_is}

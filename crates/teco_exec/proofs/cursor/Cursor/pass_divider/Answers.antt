@@ -1,6 +1,6 @@
 use Rattle.std.proofs.Common.{Err, Ok, drop, refl, sym, ap, ◌∙◌}
-use Rattle.teco_blocks.specs.Lists.{broken}
-use Rattle.teco_blocks.specs.declared.blocks.Kind.TheVariants.{Else}
+use Rattle.teco_scan.specs.Lists.{broken}
+use Rattle.teco_scan.specs.declared.blocks.Kind.TheVariants.{Else}
 use Rattle.teco_exec.specs.CursorMoves as machine
 use Rattle.teco_exec.proofs.Frames.{begin_outer, closes_top, top_cons, divides_on, divides_then, frames_either, frames_nil, or_kind}
 use Rattle.teco_exec.proofs.Refused.{fault_is_finished}

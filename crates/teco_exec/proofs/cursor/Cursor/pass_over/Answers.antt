@@ -1,6 +1,6 @@
 use Rattle.std.proofs.Common.{drop, Ok, Err, ◌+◌}
 use Rattle.std.proofs.lemmas.Result.{err_from_is_err_and}
-use Rattle.teco_blocks.specs.declared.blocks.Kind.TheVariants.{Iter}
+use Rattle.teco_scan.specs.declared.blocks.Kind.TheVariants.{Iter}
 use Rattle.teco_exec.specs.View.{cursor}
 use Rattle.teco_exec.proofs.Frames.{passed_over}
 use Rattle.teco_exec.proofs.Remembering.{passes_there}

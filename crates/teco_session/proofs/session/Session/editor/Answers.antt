@@ -2,7 +2,7 @@ use Rattle.std.proofs.Common.{sym, ap, ◌∙◌}
 use Rattle.teco_store.specs.State.{state_of}
 use Rattle.teco_session.specs.History.{present}
 use Rattle.teco_session.specs.Kept.{KeptSession, history_of}
-use Rattle.teco_session.specs.Entries.{kept_session}
+use Rattle.teco_session.specs.SessionView.{kept_session}
 use Rattle.teco_session.proofs.Turning.{present_is}
 use Rattle.teco_session.proofs.session.Session.editor.Goals as goal
 

@@ -1,5 +1,5 @@
 use Rattle.std.proofs.Common.{◌<◌, length, sym, ap, ◌∙◌, subst}
-use Rattle.teco_entries.specs.Strings.{KeptString}
+use Rattle.teco_session.specs.Strings.{KeptString}
 use Rattle.teco_session.specs.Kept.{KeptSession, IsSession, string_at}
 use Rattle.teco_session.proofs.Turning.{length-notes}
 use Rattle.teco_session.proofs.Bounds.{entry_small}

@@ -1,8 +1,8 @@
 use Rattle.std.proofs.Common.{◌∙◌, ap}
 use Rattle.teco_session.specs.History.{without_undone}
 use Rattle.teco_session.specs.Kept.{KeptSession, forgotten, history_of}
-use Rattle.teco_entries.specs.Entries.{strings_of, depth_of}
-use Rattle.teco_session.specs.Entries.{kept_session}
+use Rattle.teco_session.specs.Entries.{strings_of, depth_of}
+use Rattle.teco_session.specs.SessionView.{kept_session}
 use Rattle.teco_session.proofs.Forgetting.{IsForgotten, session_forgotten}
 use Rattle.teco_session.proofs.Sessions.{session_with}
 use Rattle.teco_session.proofs.session.Session.forget.Goals as goal

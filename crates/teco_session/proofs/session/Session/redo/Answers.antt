@@ -1,11 +1,11 @@
 use Rattle.std.proofs.Common.{◌≡◌, ◌≤◌, ◌+◌, length, refl, sym, ◌∙◌, ap, set, subst, arith}
 use Rattle.teco_store.specs.State.{Full, with_body}
-use Rattle.teco_record.specs.Entry.{FitsForth, body_forth}
+use Rattle.teco_undo.specs.Entry.{FitsForth, body_forth}
 use Rattle.teco_session.specs.History.{redone}
-use Rattle.teco_entries.specs.Strings.{string_forth}
+use Rattle.teco_session.specs.Strings.{string_forth}
 use Rattle.teco_session.specs.Kept.{KeptSession, history_of, applied, string_at}
-use Rattle.teco_entries.specs.Entries.{depth_of, strings_of}
-use Rattle.teco_session.specs.Entries.{kept_session}
+use Rattle.teco_session.specs.Entries.{depth_of, strings_of}
+use Rattle.teco_session.specs.SessionView.{kept_session}
 use Rattle.teco_session.specs.declared.session.Session.TheInside.{Inside}
 use Rattle.teco_session.proofs.Turning.{length-notes, redo_fits}
 use Rattle.teco_session.proofs.Sessions.{IsApplied, at_self, session_applied, session_with}

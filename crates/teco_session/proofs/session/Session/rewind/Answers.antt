@@ -1,11 +1,11 @@
 use Rattle.std.proofs.Common.{◌-◌, take, min, set, ◌∙◌, ap, subst, sym, arith}
 use Rattle.teco_store.specs.State.{Full, with_body}
-use Rattle.teco_record.specs.Entry.{FitsBack, body_back, since}
+use Rattle.teco_undo.specs.Entry.{FitsBack, body_back, since}
 use Rattle.teco_session.specs.History.{rewound}
-use Rattle.teco_entries.specs.Strings.{KeptString, string_cut}
+use Rattle.teco_session.specs.Strings.{KeptString, string_cut}
 use Rattle.teco_session.specs.Kept.{KeptSession, HasRun, history_of, cut_to, string_at}
-use Rattle.teco_entries.specs.Entries.{strings_of, depth_of}
-use Rattle.teco_session.specs.Entries.{kept_session}
+use Rattle.teco_session.specs.Entries.{strings_of, depth_of}
+use Rattle.teco_session.specs.SessionView.{kept_session}
 use Rattle.teco_session.proofs.Rewinding.{has_run}
 use Rattle.teco_session.proofs.Sessions.{IsRewoundTo, at_self, session_rewound, session_with}
 use Rattle.teco_session.proofs.session.Session.rewind.Goals as goal

@@ -3,15 +3,15 @@ use Rattle.std.proofs.lemmas.Bool.{false≢true}
 use Rattle.teco_exec.specs.StringMeaning.{string_meaning}
 use Rattle.teco_exec.specs.Runs.{Answers, Runs, RunsWithin, StillSays}
 use Rattle.teco_exec.specs.declared.outcome.Outcome.{Outcome}
-use Rattle.teco_record.specs.Follows.{LeadsBack}
+use Rattle.teco_undo.specs.Follows.{LeadsBack}
 use Rattle.teco_store.specs.State.{State, Full, state_of}
 use Rattle.teco_store.specs.Turn.{Note as Change}
 use Rattle.teco_session.specs.History.{History, NotedString, present, noted}
-use Rattle.teco_entries.specs.Strings.{KeptString, newest}
+use Rattle.teco_session.specs.Strings.{KeptString, newest}
 use Rattle.teco_session.specs.Kept.{KeptSession, HasRun, IsSession, history_of, noted_as}
-use Rattle.teco_entries.specs.Entries.{kept_string, strings_of, depth_of}
-use Rattle.teco_session.specs.Entries.{kept_session}
-use Rattle.teco_entries.specs.declared.entry.Entry.{Entry}
+use Rattle.teco_session.specs.Entries.{kept_string, strings_of, depth_of}
+use Rattle.teco_session.specs.SessionView.{kept_session}
+use Rattle.teco_session.specs.declared.entry.Entry.{Entry}
 use Rattle.teco_session.proofs.Histories.{Shows-nil}
 use Rattle.teco_session.proofs.Records.{kept_run}
 use Rattle.teco_session.proofs.Turning.{present_is}

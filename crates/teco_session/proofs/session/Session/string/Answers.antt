@@ -1,5 +1,5 @@
 use Rattle.std.proofs.Common.{◌≡◌, ◌<◌, ◌≤◌, length, sym, ap, ◌∙◌, subst}
-use Rattle.teco_entries.specs.Strings.{KeptString}
+use Rattle.teco_session.specs.Strings.{KeptString}
 use Rattle.teco_session.specs.Kept.{KeptSession, string_at}
 use Rattle.teco_session.proofs.Headings.{has_text}
 use Rattle.teco_session.proofs.session.Session.string.Goals as goal

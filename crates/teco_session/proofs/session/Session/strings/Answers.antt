@@ -1,7 +1,7 @@
 use Rattle.std.proofs.Common.{length, sym, ap, ◌∙◌, subst}
-use Rattle.teco_entries.specs.Strings.{IsWithinDepth}
+use Rattle.teco_session.specs.Strings.{IsWithinDepth}
 use Rattle.teco_session.specs.Kept.{KeptSession, history_of}
-use Rattle.teco_session.specs.Entries.{kept_session}
+use Rattle.teco_session.specs.SessionView.{kept_session}
 use Rattle.teco_session.proofs.Turning.{length-notes}
 use Rattle.teco_session.proofs.session.Session.strings.Goals as goal
 

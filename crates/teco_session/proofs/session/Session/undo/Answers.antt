@@ -1,11 +1,11 @@
 use Rattle.std.proofs.Common.{◌-◌, ◌∙◌, ap, set, subst, sym, arith}
 use Rattle.teco_store.specs.State.{Full, with_body}
-use Rattle.teco_record.specs.Entry.{FitsBack, body_back}
+use Rattle.teco_undo.specs.Entry.{FitsBack, body_back}
 use Rattle.teco_session.specs.History.{undone}
-use Rattle.teco_entries.specs.Strings.{string_back}
+use Rattle.teco_session.specs.Strings.{string_back}
 use Rattle.teco_session.specs.Kept.{KeptSession, history_of, reverted, string_at}
-use Rattle.teco_entries.specs.Entries.{depth_of, strings_of}
-use Rattle.teco_session.specs.Entries.{kept_session}
+use Rattle.teco_session.specs.Entries.{depth_of, strings_of}
+use Rattle.teco_session.specs.SessionView.{kept_session}
 use Rattle.teco_session.proofs.Turning.{undo_fits}
 use Rattle.teco_session.proofs.Sessions.{IsReverted, at_self, session_reverted, session_with}
 use Rattle.teco_session.proofs.session.Session.undo.Goals as goal

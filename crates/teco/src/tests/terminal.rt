@@ -1,2 +1,0 @@
-//! Of teco_terminal: terminals and sinks.
-mod terminals;

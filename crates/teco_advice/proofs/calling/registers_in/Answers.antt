@@ -1,5 +1,0 @@
-use Rattle.teco_advice.proofs.Noted.{first_noted}
-use Rattle.teco_advice.proofs.calling.registers_in.Goals as goal
-
-pub passes-init : goal.passes-init
-passes-init c = first_noted 36 c.args.commands.now c.note_strings.new.self.called c.note_strings.ensures

@@ -1,8 +1,0 @@
-use Rattle.teco_blocks.proofs.BreaksIsBroken.{breaks_broken, breaks_within}
-use Rattle.teco_blocks.proofs.breaks.break_laws.Goals as goal
-
-pub returns-clause-broken : goal.returns-clause-broken
-returns-clause-broken c = breaks_broken
-
-pub returns-clause-within : goal.returns-clause-within
-returns-clause-within c = breaks_within

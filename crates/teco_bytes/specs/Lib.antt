@@ -1,3 +1,0 @@
-pub mod Source
-pub mod Input
-pub mod Pieces

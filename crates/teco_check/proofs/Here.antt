@@ -1,0 +1,48 @@
+-- What is wrong at a place.
+use Rattle.std.proofs.Common.{◌≡◌, ℕ, true, List, drop, Some, Result, Ok, Err, IfErr, refl, ap, ◌∙◌}
+use Rattle.teco_scan.specs.declared.command.BlockMark.{BlockMark}
+use Rattle.teco_scan.specs.declared.command.BlockMark.TheVariants.{Iterate, EndIteration, Otherwise, EndTest}
+use Rattle.teco_scan.specs.Scan.{Instruction, TokenMeaning, found, scan, scan_here, after_fillers}
+use Rattle.teco_scan.specs.Scan as token
+use Rattle.teco_scan.specs.Skip.{closing_mark}
+use Rattle.teco_check.specs.declared.faults.Fault.{Fault}
+use Rattle.teco_check.specs.declared.faults.Wrong.{Wrong}
+use Rattle.teco_check.specs.declared.faults.Wrong.TheVariants as wrongs
+use Rattle.teco_check.specs.Checked.{is_stray, suits, IsFaultHere}
+
+here : (bs : List ℕ) (t : TokenMeaning) (rest : List ℕ) → scan bs ≡ found t rest → (w : Wrong) → suits w t.instruction ≡ true → IsFaultHere bs w
+here bs t rest e (wrongs.Unreadable c) s = absurd cc
+here bs t rest e (wrongs.Stray c opening) s = (t, (rest, (e, s)))
+here bs t rest e wrongs.Unended s = (t, (rest, (e, s)))
+here bs t rest e wrongs.TooDeep s = (t, (rest, (e, s)))
+here bs t rest e wrongs.NoTag s = (t, (rest, (e, s)))
+here bs t rest e wrongs.Calls s = (t, (rest, (e, s)))
+here bs t rest e wrongs.Loads s = (t, (rest, (e, s)))
+here bs t rest e wrongs.InText s = (t, (rest, (e, s)))
+
+pub fault_here : {X : Type 0} → (text : List ℕ) (from : ℕ) (t : TokenMeaning) (rest : List ℕ) (r : Result X Fault) → scan (drop from text) ≡ found t rest
+    → IfErr r (λ f. (f.at ≡ from) × (suits f.wrong t.instruction ≡ true)) → IfErr r (λ f. IsFaultHere (drop f.at text) f.wrong)
+fault_here text from t rest (Ok x) e h = tt
+fault_here text from t rest (Err f) e h = here (drop f.at text) t rest (ap (λ (n : ℕ). scan (drop n text)) h.0 ∙ e) f.wrong h.1
+
+stray_suits : (w : Wrong) (i : Instruction) (b : BlockMark) → is_stray w ≡ true → Some b ≡ closing_mark i → suits w i ≡ true
+stray_suits (wrongs.Stray c opening) (token.mark EndIteration) b s e = refl
+stray_suits (wrongs.Stray c opening) (token.mark Otherwise) b s e = refl
+stray_suits (wrongs.Stray c opening) (token.mark EndTest) b s e = refl
+stray_suits (wrongs.Stray c opening) (token.mark Iterate) b s e = absurd cc
+stray_suits (wrongs.Stray c opening) (token.step i) b s e = absurd cc
+stray_suits (wrongs.Stray c opening) (token.decide t) b s e = absurd cc
+stray_suits (wrongs.Stray c opening) (token.tag name) b s e = absurd cc
+stray_suits (wrongs.Stray c opening) token.escape b s e = absurd cc
+stray_suits (wrongs.Unreadable c) i b s e = absurd cc
+stray_suits wrongs.Unended i b s e = absurd cc
+stray_suits wrongs.TooDeep i b s e = absurd cc
+stray_suits wrongs.NoTag i b s e = absurd cc
+stray_suits wrongs.Calls i b s e = absurd cc
+stray_suits wrongs.Loads i b s e = absurd cc
+stray_suits wrongs.InText i b s e = absurd cc
+
+pub stray_here : {X : Type 0} → (text : List ℕ) (from : ℕ) (t : TokenMeaning) (rest : List ℕ) (b : BlockMark) (r : Result X Fault) → scan (drop from text) ≡ found t rest → Some b ≡ closing_mark t.instruction
+    → IfErr r (λ f. (f.at ≡ from) × (is_stray f.wrong ≡ true)) → IfErr r (λ f. IsFaultHere (drop f.at text) f.wrong)
+stray_here {X = X} text from t rest b (Ok x) e is h = tt
+stray_here {X = X} text from t rest b (Err f) e is h = fault_here {X = X} text from t rest (Err f) e (h.0, stray_suits f.wrong t.instruction b h.1 is)

@@ -1,0 +1,368 @@
+//! The first fault of a text.
+ghost use Rattle.std.specs.Prelude.{slice_index, ◌≡◌, ◌≢◌, ◌+◌, ◌-◌, ◌<◌, ◌≤◌, ℕ, suc, true, false, Bool, List, [], ◌∷◌, length, drop, IfOk, IfErr, IfSome, Option, Some, None, is_ok, is_some, is_none};
+ghost use Rattle.teco_core.specs.declared.code.Code.{Code};
+ghost use Rattle.teco_core.specs.declared.limits.TheConstants.{BLOCK_LIMIT};
+ghost use Rattle.teco_scan.specs.Scan.{ended, found, scan, step};
+ghost use Rattle.teco_scan.specs.Skip.{closing_mark};
+ghost use Rattle.teco_scan.specs.Tree.{Nodes};
+ghost use Rattle.teco_scan.specs.Seen.{instruction_in, meaning_in, item_in, IsItemIn, IsKindIn};
+ghost use Rattle.teco_scan.specs.Closes.{close_of, past_of};
+ghost use Rattle.teco_scan.specs.Lists.{at_instruction, at_mark, at_scan, broken, cond_at, list_at};
+ghost use Rattle.teco_scan.specs.declared.command.Modifiers.{Modifiers};
+ghost use Rattle.teco_scan.specs.declared.command.Test.{Test};
+ghost use Rattle.std.specs.Prelude.{Ok};
+ghost use Rattle.teco_check.specs.Clean.{is_fine, is_clean, clean_within};
+ghost use Rattle.teco_check.specs.Walk.{CodeRule, OpenList, rule, first_within, wrong_with, at_end, walk};
+ghost use Rattle.teco_check.specs.Walk as walked;
+ghost use Rattle.teco_check.specs.Walked.{BeginThere, after_node, after_list};
+ghost use Rattle.teco_check.specs.Checked.{item_holds, item_length, inner_length, held, may_hold, lands_below, AreInside, AreOpen, IsFaultHere, is_stray, suits, code_of, rest_clean};
+
+use crate::ends::{end_of_list, end_of_text};
+use crate::jumps::{LISTS, gathered, lands_below};
+use std::alloc::Global;
+use teco_core::{BLOCK_LIMIT, Code, Reg};
+use teco_scan::{
+    Found, Item, Kind, RegisterCommand, Stop, Tags, TextCommand, Token, TokenKind, block_laws,
+    closing_mark, filler_end, spelling, token_at,
+};
+
+/// What is wrong.
+#[derive(Clone, Copy)]
+pub enum Wrong {
+    /// The bytes are no token: ILL, IQN, IQC or UTC.
+    Unreadable(Code),
+    /// A mark closes or divides no such block: BNI or ILL. The place is that of the innermost open block, if there is one.
+    Stray(Code, Option<usize>),
+    /// The block that is opened here doesn't end: UTC.
+    Unended,
+    /// The 65th open block: PDO.
+    TooDeep,
+    /// The jump lands nowhere: TAG.
+    NoTag,
+    /// A register is called that holds no code.
+    Calls,
+    /// What is in the buffer, or what was pushed, is put where code is.
+    Loads,
+    /// A text that has a fault is put where code is, or one that lies in as many others as are looked into.
+    InText,
+}
+
+/// A fault, and its place: that of the token, or of the fillers before it.
+#[derive(Clone, Copy)]
+pub struct Fault {
+    pub at: usize,
+    pub wrong: Wrong,
+}
+
+/// How many registers there are.
+pub const REGISTERS: usize = 36;
+
+/// The most texts in one another that are looked into. Each takes stack for its open blocks, so there is a bound.
+pub const MOST_TEXTS: usize = 8;
+
+/// The registers that hold code, how many texts in one another are still looked into, and the tags that were gathered of a text.
+#[derive(Clone, Copy)]
+struct Look<'c, 'g, 't> {
+    code: &'c [bool; REGISTERS],
+    texts: usize,
+    memory: Option<Global>,
+    tags: &'g Tags<'t>,
+}
+
+/// Whether the register of an item holds code, if it has one.
+fn holds_code(code: &[bool; REGISTERS], item: &Item) -> bool
+    ensures { result ≡ item_holds (held code.now) item.now }
+{
+    match item {
+        Item::Register(_, register) => code[register.index()],
+        Item::SetText(register, _) => code[register.index()],
+        _ => false,
+    }
+}
+
+/// What is wrong with an item where so many lists are open, if it is not fine.
+#[cycle(check)]
+fn wrong_of(
+    text: &[u8],
+    look: Look<'_, '_, '_>,
+    item: Item,
+    starts: &[usize; LISTS],
+    count: usize,
+) -> Option<Wrong>
+    requires few { count ≤ BLOCK_LIMIT + 1 }
+    requires inside { AreInside text.now starts.now count }
+    requires item { IsItemIn (length text.now) item }
+    requires short { item_length item < length text.now }
+    requires tags { look.tags.now ≡ text.now }
+    ensures fine { (lists : List Nodes) → AreOpen text.now starts.now count lists
+        → is_fine (held look.entry.code.now) (may_hold look.entry.texts look.entry.code.now) lists (item_in text.now item) ≡ is_none result }
+    ensures first { (lists : List OpenList) → length lists ≡ count → BeginThere text.now starts.now lists
+        → result ≡ wrong_with (rule look.entry.texts look.entry.code.now) text.now lists (item_in text.now item) }
+    ensures suits { IfSome result (λ wrong. suits wrong (step (item_in text.now item)) ≡ true) }
+    ensures code { IfSome result (λ wrong. code_of wrong ≡ None) }
+{
+    let holds = holds_code(look.code, &item);
+    match item {
+        Item::Text(TextCommand::Go, name) => {
+            if lands_below(look.tags, starts, count, &text[name.from..name.to]) {
+                return None;
+            }
+            Some(Wrong::NoTag)
+        }
+        Item::Register(RegisterCommand::Macro, _) => {
+            if holds {
+                return None;
+            }
+            Some(Wrong::Calls)
+        }
+        Item::Register(RegisterCommand::Extract | RegisterCommand::Pop, _) => {
+            if holds {
+                return Some(Wrong::Loads);
+            }
+            None
+        }
+        Item::SetText(_, span) => {
+            if !holds {
+                return None;
+            }
+            if look.texts == 0 {
+                return Some(Wrong::InText);
+            }
+            let inside = &text[span.from..span.to];
+            if check_text(inside, look.code, look.texts - 1, look.memory).is_none() {
+                return None;
+            }
+            Some(Wrong::InText)
+        }
+        _ => None,
+    }
+}
+
+/// An item from one place to another, where so many lists are open: the place after it, if it is fine.
+#[cycle(check)]
+fn check_item(
+    text: &[u8],
+    look: Look<'_, '_, '_>,
+    item: Item,
+    from: usize,
+    to: usize,
+    starts: &[usize; LISTS],
+    count: usize,
+) -> Result<usize, Fault>
+    requires few { count ≤ BLOCK_LIMIT + 1 }
+    requires inside { AreInside text.now starts.now count }
+    requires item { IsItemIn (length text.now) item }
+    requires short { item_length item < length text.now }
+    requires tags { look.tags.now ≡ text.now }
+    ensures fine { (lists : List Nodes) → AreOpen text.now starts.now count lists
+        → is_fine (held look.entry.code.now) (may_hold look.entry.texts look.entry.code.now) lists (item_in text.now item) ≡ is_ok result }
+    ensures place { IfOk result (λ x. x ≡ to) }
+    ensures first { (o : OpenList) (os : List OpenList) → suc (length os) ≡ count → BeginThere text.now starts.now (o ∷ os)
+        → walked.after_item (walk (rule look.entry.texts look.entry.code.now) text.now) from (wrong_with (rule look.entry.texts look.entry.code.now) text.now (o ∷ os) (item_in text.now item)) o os (drop to text.now)
+        ≡ after_node (rule look.entry.texts look.entry.code.now) text.now o os result }
+    ensures suits { IfErr result (λ fault. (fault.at ≡ from) × (suits fault.wrong (step (item_in text.now item)) ≡ true)) }
+    ensures code { IfErr result (λ fault. code_of fault.wrong ≡ None) }
+{
+    match wrong_of(text, look, item, starts, count) {
+        None => Ok(to),
+        Some(wrong) => Err(Fault { at: from, wrong }),
+    }
+}
+
+/// A conditional directly in a list, from after its test on: the place after it.
+#[cycle(check)]
+fn check_conditional(
+    text: &[u8],
+    look: Look<'_, '_, '_>,
+    opening: usize,
+    at: usize,
+    depth: usize,
+    starts: &[usize; LISTS],
+) -> Result<usize, Fault>
+    requires inside { at ≤ length text.now }
+    requires few { depth < BLOCK_LIMIT }
+    requires opened { IsFaultHere (drop opening text.now) Wrong.Unended }
+    requires starts { AreInside text.now starts.now (depth + 1) }
+    requires tags { look.tags.now ≡ text.now }
+    ensures clean { (lists : List Nodes) (t : Test) (k : Option Kind) → AreOpen text.now starts.now (depth + 1) lists
+        → is_clean (held look.entry.code.now) (may_hold look.entry.texts look.entry.code.now) lists (cond_at list_at k depth t (list_at (Some Kind.Then) (suc depth) (drop at text.now))).0
+        ≡ rest_clean (held look.entry.code.now) (may_hold look.entry.texts look.entry.code.now) lists text.now k depth result }
+    ensures first { (o : OpenList) (os : List OpenList) → length os ≡ depth → BeginThere text.now starts.now (o ∷ os)
+        → walk (rule look.entry.texts look.entry.code.now) text.now (record { kind = Some Kind.Then; opening = opening; start = at }) (o ∷ os) (drop at text.now) ≡ after_node (rule look.entry.texts look.entry.code.now) text.now o os result }
+    ensures closes { (t : Test) (k : Option Kind)
+        → IfOk result (λ to. (cond_at list_at k depth t (list_at (Some Kind.Then) (suc depth) (drop at text.now))).1
+        ≡ (list_at k depth (drop to text.now)).1) }
+    ensures within { IfOk result (λ to. (at ≤ to) × (to ≤ length text.now)) }
+    ensures place { IfErr result (λ fault. IsFaultHere (drop fault.at text.now) fault.wrong) }
+    ensures breaks { (code : Code) (t : Test) (k : Option Kind)
+        → IfErr result (λ fault. code_of fault.wrong ≡ Some code
+        → (cond_at list_at k depth t (list_at (Some Kind.Then) (suc depth) (drop at text.now))).1 ≡ broken code) }
+{
+    let stop = check_list(text, look, opening, at, Some(Kind::Then), depth + 1, starts)?;
+    if stop.divided {
+        let end = check_list(
+            text,
+            look,
+            opening,
+            stop.to,
+            Some(Kind::Else),
+            depth + 1,
+            starts,
+        )?;
+        return Ok(end.to);
+    }
+    Ok(stop.to)
+}
+
+/// A token and, where it opens a block, the whole of that: the place after it.
+#[cycle(check)]
+fn check_node(
+    text: &[u8],
+    look: Look<'_, '_, '_>,
+    token: Token,
+    depth: usize,
+    starts: &[usize; LISTS],
+) -> Result<usize, Fault>
+    requires inside { token.span.to ≤ length text.now }
+    requires long { token.span.from + inner_length token.kind < token.span.to }
+    requires kind { IsKindIn (length text.now) token.kind }
+    requires few { depth ≤ BLOCK_LIMIT }
+    requires starts { AreInside text.now starts.now (depth + 1) }
+    requires token { scan (drop token.span.from text.now) ≡ found (meaning_in text.now token) (drop token.span.to text.now) }
+    requires node { closing_mark (instruction_in text.now token.kind) ≡ None }
+    requires tags { look.tags.now ≡ text.now }
+    ensures clean { (lists : List Nodes) (m : Modifiers) (k : Option Kind) → AreOpen text.now starts.now (depth + 1) lists
+        → is_clean (held look.entry.code.now) (may_hold look.entry.texts look.entry.code.now) lists (at_instruction list_at (instruction_in text.now token.kind) m (drop token.span.to text.now) k depth).0
+        ≡ rest_clean (held look.entry.code.now) (may_hold look.entry.texts look.entry.code.now) lists text.now k depth result }
+    ensures first { (o : OpenList) (os : List OpenList) → length os ≡ depth → BeginThere text.now starts.now (o ∷ os)
+        → walked.at_instruction (rule look.entry.texts look.entry.code.now) (walk (rule look.entry.texts look.entry.code.now) text.now) text.now (instruction_in text.now token.kind) token.span.from o os (drop token.span.to text.now)
+        ≡ after_node (rule look.entry.texts look.entry.code.now) text.now o os result }
+    ensures closes { (m : Modifiers) (k : Option Kind)
+        → IfOk result (λ to. (at_instruction list_at (instruction_in text.now token.kind) m (drop token.span.to text.now) k depth).1
+        ≡ (list_at k depth (drop to text.now)).1) }
+    ensures within { IfOk result (λ to. (token.span.to ≤ to) × (to ≤ length text.now)) }
+    ensures place { IfErr result (λ fault. IsFaultHere (drop fault.at text.now) fault.wrong) }
+    ensures breaks { (code : Code) (m : Modifiers) (k : Option Kind)
+        → IfErr result (λ fault. code_of fault.wrong ≡ Some code
+        → (at_instruction list_at (instruction_in text.now token.kind) m (drop token.span.to text.now) k depth).1 ≡ broken code) }
+{
+    let from = token.span.from;
+    let to = token.span.to;
+    match token.kind {
+        TokenKind::Mark(_) => {
+            if depth == BLOCK_LIMIT {
+                return Err(Fault {
+                    at: from,
+                    wrong: Wrong::TooDeep,
+                });
+            }
+            let stop = check_list(text, look, from, to, Some(Kind::Iter), depth + 1, starts)?;
+            Ok(stop.to)
+        }
+        TokenKind::Test(_) => {
+            if depth == BLOCK_LIMIT {
+                return Err(Fault {
+                    at: from,
+                    wrong: Wrong::TooDeep,
+                });
+            }
+            check_conditional(text, look, from, to, depth, starts)
+        }
+        TokenKind::Item(item) => check_item(text, look, item, from, to, starts, depth + 1),
+        TokenKind::Tag(_) => Ok(to),
+        TokenKind::Escape => Ok(to),
+    }
+}
+
+/// A list from its beginning on: where it closes, or its first fault.
+#[cycle(check)]
+fn check_list(
+    text: &[u8],
+    look: Look<'_, '_, '_>,
+    opening: usize,
+    at: usize,
+    kind: Option<Kind>,
+    depth: usize,
+    around: &[usize; LISTS],
+) -> Result<Stop, Fault>
+    requires inside { at ≤ length text.now }
+    requires few { depth ≤ BLOCK_LIMIT }
+    requires opened { kind ≢ None → IsFaultHere (drop opening text.now) Wrong.Unended }
+    requires starts { AreInside text.now around.now depth }
+    requires tags { look.tags.now ≡ text.now }
+    ensures clean { (lists : List Nodes) → AreOpen text.now around.now depth lists
+        → is_clean (held look.entry.code.now) (may_hold look.entry.texts look.entry.code.now) ((list_at kind depth (drop at text.now)).0 ∷ lists) (list_at kind depth (drop at text.now)).0 ≡ is_ok result }
+    ensures first { (os : List OpenList) → length os ≡ depth → BeginThere text.now around.now os
+        → walk (rule look.entry.texts look.entry.code.now) text.now (record { kind = kind; opening = opening; start = at }) os (drop at text.now) ≡ after_list (rule look.entry.texts look.entry.code.now) text.now kind opening os result }
+    ensures closes { (b : Kind) → kind ≡ Some b
+        → IfOk result (λ stop. (list_at kind depth (drop at text.now)).1 ≡ close_of text.now (Ok stop)) }
+    ensures within { IfOk result (λ stop. (at ≤ stop.to) × (stop.to ≤ length text.now)) }
+    ensures place { IfErr result (λ fault. IsFaultHere (drop fault.at text.now) fault.wrong) }
+    ensures breaks { (code : Code)
+        → IfErr result (λ fault. code_of fault.wrong ≡ Some code → (list_at kind depth (drop at text.now)).1 ≡ broken code) }
+{
+    block_laws();
+    spelling();
+    let mut starts = *around;
+    starts[depth] = at;
+    let mut next = at;
+    loop {
+        match token_at(text, next) {
+            Found::End => return end_of_text(kind, opening, next),
+            Found::Fault(code) => return Err(Fault {
+                at: filler_end(text, next),
+                wrong: Wrong::Unreadable(code),
+            }),
+            Found::Token(token) => match closing_mark(token.kind) {
+                Some(mark) => return end_of_list(
+                    kind,
+                    opening,
+                    mark,
+                    token.span.from,
+                    token.span.to,
+                ),
+                None => next = check_node(text, look, token, depth, &starts)?,
+            },
+        }
+    }
+}
+
+/// The first fault of a text whose tags are given.
+#[cycle(check)]
+fn check_gathered(text: &[u8], look: Look<'_, '_, '_>) -> Option<Fault>
+    requires tags { look.tags.now ≡ text.now }
+    ensures first { result ≡ first_within look.entry.texts look.entry.code.now text.now }
+    ensures clean { clean_within (suc look.entry.texts) (held look.entry.code.now) text.now ≡ is_none result }
+    ensures place { IfSome result (λ fault. IsFaultHere (drop fault.at text.now) fault.wrong) }
+    ensures breaks { (code : Code)
+        → IfSome result (λ fault. code_of fault.wrong ≡ Some code → (list_at None 0 text.now).1 ≡ broken code) }
+{
+    match check_list(text, look, 0, 0, None, 0, &[0; LISTS]) {
+        Ok(_) => None,
+        Err(fault) => Some(fault),
+    }
+}
+
+/// The first fault of a text. Without memory each jump searches for its tag.
+#[cycle(check)]
+pub(crate) fn check_text(
+    text: &[u8],
+    code: &[bool; REGISTERS],
+    texts: usize,
+    memory: Option<Global>,
+) -> Option<Fault>
+    ensures first { result ≡ first_within texts code.now text.now }
+    ensures clean { clean_within (suc texts) (held code.now) text.now ≡ is_none result }
+    ensures place { IfSome result (λ fault. IsFaultHere (drop fault.at text.now) fault.wrong) }
+    ensures breaks { (code : Code)
+        → IfSome result (λ fault. code_of fault.wrong ≡ Some code → (list_at None 0 text.now).1 ≡ broken code) }
+{
+    let tags = gathered(text, memory);
+    let look = Look {
+        code,
+        texts,
+        memory,
+        tags: &tags,
+    };
+    check_gathered(text, look)
+}

@@ -1,0 +1,6 @@
+mod CommandRows
+mod Joinings
+mod CommandLines
+pub mod CommandEntries
+pub mod OptionRows
+pub mod Parses

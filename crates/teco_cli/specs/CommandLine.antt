@@ -1,0 +1,196 @@
+-- What the command line says: teco [OPTIONS] INPUT...
+use Rattle.std.specs.Prelude.{Bool, ◌-◌, ◌||◌, nat_lt, length, take, map, unwrap_or, ◌++◌, IfSome, IsSomeAnd, ◌≡◌, ◌≤◌, ◌==◌, ℕ, List, [], ◌∷◌, Option, Some, None, IsTrue, ◌↔◌, codes, true}
+use Rattle.std.specs.Prelude.{false, option_map, is_some, ⊤, ◌⊎◌}
+use Rattle.std.specs.List.{count_by, suffix_len}
+use Rattle.std.specs.String.{string_bytes}
+use Rattle.clap.specs.Words.{all_of, App, IsAmong, IsUnsignedIn, Row, Rule, Text, fault_of, first_of, matches_of, new_app}
+use Rattle.clap.specs.Words.{new_rule, one_of, takes}
+use Rattle.clap.specs.declared.builder.action.ArgAction.TheVariants.{Append, Set}
+use Rattle.clap.specs.declared.error.kind.ErrorKind.{ErrorKind}
+use Rattle.clap.specs.declared.error.kind.ErrorKind.TheVariants as kind
+use Rattle.teco_core.specs.declared.ascii.TheConstants.{ESC}
+use Rattle.teco_core.specs.declared.limits.TheConstants.{DEPTH_LIMIT}
+use Rattle.teco_cli.specs.Conflict.{has_conflict}
+use Rattle.teco_cli.specs.Joining.{joined}
+use Rattle.teco_cli.specs.OptionRules.{option_rules}
+use Rattle.teco_cli.specs.OptionTable.{with_rules}
+use Rattle.teco_cli.specs.Parsing.{with_version}
+use Rattle.teco_cli.specs.Refusals.{IsFaulty, IsToldAs}
+use Rattle.teco_cli.specs.Values.{number_of}
+use Rattle.teco_cli.specs.declared.line.Commands.{Commands}
+use Rattle.teco_cli.specs.declared.line.Commands.TheVariants.{StandardInput, Sources, Pages, Bytes}
+use Rattle.teco_cli.specs.declared.line.Line.{Line}
+use Rattle.teco_cli.specs.declared.fault.LineFault.{LineFault}
+use Rattle.teco_cli.specs.declared.fault.LineFault.TheVariants.{Refused, NoMemory}
+use Rattle.teco_cli.specs.declared.refusal.Refusal.{Refusal}
+use Rattle.teco_cli.specs.declared.refusal.RefusedAs.TheVariants.{Faulty}
+
+-- a depth that a session can be asked for
+abbrev pub IsDepth : ℕ → Type 0
+IsDepth depth = (1 ≤ depth) × (depth ≤ DEPTH_LIMIT)
+
+-- the line ends after which a page can be asked to end
+abbrev pub IsPageLength : ℕ → Type 0
+IsPageLength lines = (1 ≤ lines) × (lines ≤ 1000000000)
+
+-- the seconds that a string can be given
+abbrev pub IsTime : ℕ → Type 0
+IsTime seconds = (1 ≤ seconds) × (seconds ≤ 1000000000000)
+
+-- INPUT: any text, and it has to be there
+abbrev pub input_rule : Rule
+input_rule = record (new_rule (codes "input")) {
+  value_names = 1;
+  required = true;
+  action = Some Set;
+}
+
+-- more of the same, before or between or after options
+abbrev pub more_rule : Rule
+more_rule = record (new_rule (codes "more")) { value_names = 1; action = Some Append }
+
+-- the options, and then the inputs
+abbrev pub teco_rules : List Rule
+teco_rules = option_rules ++ input_rule ∷ more_rule ∷ []
+
+-- The command that the words are read by: the parser's rules for a command with these arguments and no others
+-- of its own.
+abbrev pub teco_app : App
+teco_app = with_rules (with_version (new_app (codes "teco"))) teco_rules
+
+abbrev pub is_escape : ℕ → Bool
+is_escape byte = byte == ESC
+
+-- the bytes before the ESCs at the end
+abbrev pub without_last_escapes : List ℕ → List ℕ
+without_last_escapes bytes = take (length bytes - suffix_len is_escape bytes) bytes
+
+-- The commands that run these strings on every page, and then exit: a page is read and the strings are
+-- run; -1-^N ends the loop where no page follows, and else P writes the page and reads the next. ^N is typed as
+-- a caret and a letter. The strings may end with ESCs, as they would for --execute: one ESC takes their place,
+-- since two would end the command string inside the loop. After it come a space and an ESC, which drops what the
+-- last command gave.
+abbrev pub on_pages : List ℕ → List ℕ
+on_pages strings = codes "Y<" ++ without_last_escapes strings ++ (ESC ∷ 32 ∷ ESC ∷ codes "-1-^N;P>EX" ++ (ESC ∷ ESC ∷ []))
+
+-- --execute or --file gives a source
+abbrev pub has_sources : Option Text → List Text → Bool
+has_sources word files = is_some word || nat_lt 0 (length files)
+
+-- Where the commands come from, by the texts of --execute, --file, --pages and --bytes: from the sources of the
+-- first two where they give any; else from the one that is given; from standard input where none is.
+abbrev pub IsCommands : Option Text → List Text → Option Text → Option Text → Commands → Type 0
+IsCommands word files pages bytes StandardInput = (has_sources word files ≡ false) × (pages ≡ None) × (bytes ≡ None)
+IsCommands word files pages bytes (Sources names text) = (has_sources word files ≡ true)
+    × (files ≡ map string_bytes names.items) × (word ≡ option_map string_bytes text) × (pages ≡ None) × (bytes ≡ None)
+IsCommands word files pages bytes (Pages text) = (has_sources word files ≡ false)
+    × (pages ≡ Some (string_bytes text)) × (bytes ≡ None)
+IsCommands word files pages bytes (Bytes name) = (has_sources word files ≡ false)
+    × (pages ≡ None) × (bytes ≡ Some (string_bytes name))
+
+-- More than one of them is given: such a line is faulty.
+abbrev pub AreMany : Option Text → List Text → Option Text → Option Text → Type 0
+AreMany word files pages bytes = 2 ≤ count_by (λ given. given) (has_sources word files ∷ is_some pages ∷ is_some bytes ∷ [])
+
+-- Why a line gives no commands: memory was refused, or it gives them more than once, and is faulty.
+abbrev pub IsCommandsFault : Option Text → List Text → Option Text → Option Text → LineFault → Type 0
+IsCommandsFault word files pages bytes NoMemory = ⊤
+IsCommandsFault word files pages bytes (Refused refusal) = AreMany word files pages bytes × (refusal.refused_as ≡ Faulty)
+
+-- A parse says that the commands come from there, and that it gives them more than once.
+abbrev pub SaysCommands : List Row → Commands → Type 0
+SaysCommands rows = IsCommands (first_of (codes "execute") rows) (unwrap_or (all_of (codes "file") rows) [])
+    (first_of (codes "pages") rows) (first_of (codes "bytes") rows)
+
+abbrev pub SaysMany : List Row → Type 0
+SaysMany rows = AreMany (first_of (codes "execute") rows) (unwrap_or (all_of (codes "file") rows) [])
+    (first_of (codes "pages") rows) (first_of (codes "bytes") rows)
+
+-- The line has what a parse gives for each argument. `first_of` is an argument's value as text; `one_of` is
+-- its text where it is read as a number or as a flag.
+pub record HasLine (rows : List Row) (line : Line) : Type 0 where
+  -- the input is there
+  pub input : first_of (codes "input") rows ≡ Some (string_bytes line.input)
+  -- the inputs after it
+  pub more : unwrap_or (all_of (codes "more") rows) [] ≡ map string_bytes line.more.items
+  -- the output, if there is one
+  pub output : first_of (codes "output") rows ≡ option_map string_bytes line.output
+  -- where the commands come from, so that one place of them is given, or none
+  pub commands : SaysCommands rows line.commands
+  -- the limit, which is there: by its default where it is not given
+  pub limit : option_map number_of (one_of (codes "limit") rows) ≡ Some line.limit
+  -- the seconds that a string may run, if they are given
+  pub seconds : option_map number_of (one_of (codes "seconds") rows) ≡ line.seconds
+  pub prompt : IsTrue line.prompt ↔ (one_of (codes "prompt") rows ≡ Some (codes "true"))
+  pub in_place : IsTrue line.in_place ↔ (one_of (codes "in-place") rows ≡ Some (codes "true"))
+  pub check : IsTrue line.check ↔ (one_of (codes "check") rows ≡ Some (codes "true"))
+  pub explain : IsTrue line.explain ↔ (one_of (codes "explain") rows ≡ Some (codes "true"))
+  -- the depth of the history, if one is given
+  pub undo : option_map number_of (one_of (codes "undo") rows) ≡ line.undo
+  -- the line ends after which a page ends, if they are given
+  pub page_lines : option_map number_of (one_of (codes "page-lines") rows) ≡ line.page_lines
+
+-- The line has what the parse of these words gives.
+pub record IsLineBy (words : List Text) (line : Line) : Type 0 where
+  -- the parser takes the words
+  pub taken : fault_of teco_app words ≡ []
+  pub given : HasLine (matches_of teco_app words) line
+  -- and what it says goes together
+  pub fits : has_conflict line ≡ false
+
+-- The line is what the words say, the program's name first: the parser reads them as they are joined.
+abbrev pub IsLine : List Text → Line → Type 0
+IsLine words = IsLineBy (joined words)
+
+-- what every parse gives
+pub record IsGiven (rows : List Row) : Type 0 where
+  pub input : is_some (first_of (codes "input") rows) ≡ true
+  pub limit : IsSomeAnd (one_of (codes "limit") rows) (IsUnsignedIn 0 1000000000000)
+  pub seconds : IfSome (one_of (codes "seconds") rows) (IsUnsignedIn 1 1000000000000)
+  pub undo : IfSome (one_of (codes "undo") rows) (IsUnsignedIn 1 DEPTH_LIMIT)
+  pub page_lines : IfSome (one_of (codes "page-lines") rows) (IsUnsignedIn 1 1000000000)
+
+-- A parse says what doesn't go together: more than one place of the commands, or a line with a conflict.
+abbrev pub SaysConflict : List Row → Type 0
+SaysConflict rows = SaysMany rows
+    ⊎ ((line : Line) × HasLine rows line × (has_conflict line ≡ true))
+
+-- Why there is no line by a parse: memory was refused, or what it says doesn't go together.
+abbrev pub IsReadFault : List Row → LineFault → Type 0
+IsReadFault rows NoMemory = ⊤
+IsReadFault rows (Refused refusal) = SaysConflict rows × (refusal.refused_as ≡ Faulty)
+
+-- Why a line is given up once it is read: the same, of the line.
+abbrev pub IsMisfit : Line → LineFault → Type 0
+IsMisfit line NoMemory = ⊤
+IsMisfit line (Refused refusal) = (has_conflict line ≡ true) × (refusal.refused_as ≡ Faulty)
+
+-- Why a line is refused, by the kind of an error of the parser: it wants memory; or these words have an error of that
+-- kind, and it does not take them; or it takes them, but what they say doesn't go together.
+abbrev pub IsTecoError : List Text → ErrorKind → Type 0
+IsTecoError words error = (error ≡ kind.OutOfMemory)
+    ⊎ (((takes teco_app words ≡ false) × IsAmong error (fault_of teco_app words))
+    ⊎ ((fault_of teco_app words ≡ [])
+    × (SaysConflict (matches_of teco_app words) × (error ≡ kind.ArgumentConflict))))
+
+-- A line is refused for such an error, and told as what that is.
+pub record IsRefusal (words : List Text) (refusal : Refusal) : Type 0 where
+  pub error : ErrorKind
+  pub error_is : IsTecoError words error
+  pub told : IsToldAs refusal.refused_as error
+
+-- A line of the program is faulty, and its text says why; or memory was refused to tell it.
+abbrev pub IsFaultSaid : Text → LineFault → Type 0
+IsFaultSaid why NoMemory = ⊤
+IsFaultSaid why (Refused refusal) = IsFaulty why (codes "teco [OPTIONS] <INPUT>...") refusal
+
+-- Why the words gave no line: memory was refused, or the line is.
+abbrev pub IsLineFault : List Text → LineFault → Type 0
+IsLineFault words NoMemory = ⊤
+IsLineFault words (Refused refusal) = IsRefusal (joined words) refusal
+
+-- The same once the words are joined and the command is made: memory is refused to the program itself only
+-- where the parser takes the words, so a faulty line is never told as that.
+abbrev pub IsFaultOnceMade : List Text → LineFault → Type 0
+IsFaultOnceMade words NoMemory = fault_of teco_app words ≡ []
+IsFaultOnceMade words (Refused refusal) = IsRefusal words refusal

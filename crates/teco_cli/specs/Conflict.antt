@@ -1,0 +1,59 @@
+-- What a line can't say together, though the parser takes it.
+use Rattle.std.specs.Prelude.{Bool, true, false, ◌&&◌, ◌||◌, ◌∷◌, length, is_some, nat_lt}
+use Rattle.std.specs.List.{list_any}
+use Rattle.std.specs.String.{string_bytes}
+use Rattle.teco_cli.specs.StreamNames.{is_standard_input}
+use Rattle.teco_cli.specs.declared.line.Commands.{Commands}
+use Rattle.teco_cli.specs.declared.line.Commands.TheVariants.{StandardInput, Sources, Pages, Bytes}
+use Rattle.teco_cli.specs.declared.line.Line.{Line}
+
+-- one INPUT or more is standard input
+abbrev pub has_standard_input : Line → Bool
+has_standard_input line = list_any (λ name. is_standard_input (string_bytes name)) (line.input ∷ line.more.items)
+
+-- there are several INPUTs
+abbrev pub has_more : Line → Bool
+has_more line = nat_lt 0 (length line.more.items)
+
+-- no option gives the commands, so that they come on standard input as they are wanted
+abbrev pub are_awaited : Commands → Bool
+are_awaited StandardInput = true
+are_awaited (Sources names word) = false
+are_awaited (Pages word) = false
+are_awaited (Bytes name) = false
+
+-- the commands are on standard input: none gives them, or --file or --bytes does by its name
+abbrev pub are_on_standard_input : Commands → Bool
+are_on_standard_input StandardInput = true
+are_on_standard_input (Sources names word) = list_any (λ name. is_standard_input (string_bytes name)) names.items
+are_on_standard_input (Pages word) = false
+are_on_standard_input (Bytes name) = is_standard_input (string_bytes name)
+
+-- --output is where one output goes: with --in-place it goes over the input
+abbrev pub has_two_places : Line → Bool
+has_two_places line = is_some line.output && line.in_place
+
+-- and several INPUTs have an output each
+abbrev pub has_one_place_for_many : Line → Bool
+has_one_place_for_many line = is_some line.output && has_more line
+
+-- commands that are awaited are served to one INPUT
+abbrev pub awaits_for_many : Line → Bool
+awaits_for_many line = are_awaited line.commands && has_more line
+
+-- standard input has either commands or a text
+abbrev pub shares_standard_input : Line → Bool
+shares_standard_input line = are_on_standard_input line.commands && has_standard_input line
+
+-- and nothing can be written over it
+abbrev pub writes_over_a_stream : Line → Bool
+writes_over_a_stream line = line.in_place && has_standard_input line
+
+-- commands that are awaited are not checked, since what is run decides what is asked for next
+abbrev pub checks_awaited : Line → Bool
+checks_awaited line = line.check && are_awaited line.commands
+
+-- The line says one of these: it is faulty.
+abbrev pub has_conflict : Line → Bool
+has_conflict line = has_two_places line || (has_one_place_for_many line || (awaits_for_many line
+    || (shares_standard_input line || (writes_over_a_stream line || checks_awaited line))))

@@ -1,0 +1,9 @@
+pub mod CommandLine
+pub mod Conflict
+pub mod Joining
+pub mod OptionRules
+pub mod OptionTable
+pub mod Values
+pub mod Parsing
+pub mod Refusals
+pub mod StreamNames

@@ -1,0 +1,69 @@
+//! What a line can't say together, though the parser takes it.
+ghost use Rattle.std.specs.Prelude.{◌≡◌, is_some};
+ghost use Rattle.std.specs.List.{list_any};
+ghost use Rattle.std.specs.String.{string_bytes};
+ghost use Rattle.teco_cli.specs.Conflict.{are_awaited as awaited, are_on_standard_input as on_standard_input, has_conflict, has_more as many, has_standard_input as on_a_stream};
+ghost use Rattle.teco_cli.specs.StreamNames.{is_standard_input as names_standard_input};
+
+use super::{Commands, Line};
+use crate::is_standard_input;
+
+/// Whether no option gives the commands.
+fn are_awaited(commands: &Commands) -> bool
+    ensures { result ≡ awaited commands.now }
+{
+    matches!(commands, Commands::StandardInput)
+}
+
+/// Whether the commands are on standard input.
+fn are_on_standard_input(commands: &Commands) -> bool
+    ensures { result ≡ on_standard_input commands.now }
+{
+    match commands {
+        Commands::StandardInput => true,
+        Commands::Sources(names, _) => one_is_standard_input(names),
+        Commands::Pages(_) => false,
+        Commands::Bytes(name) => is_standard_input(name.as_str()),
+    }
+}
+
+/// Whether one of the names is standard input's.
+fn one_is_standard_input(names: &[String]) -> bool
+    ensures { result ≡ list_any (λ name. names_standard_input (string_bytes name)) names.now }
+{
+    names.iter().any(|name| is_standard_input(name.as_str()))
+}
+
+/// Whether one INPUT or more is standard input.
+fn has_standard_input(line: &Line) -> bool
+    ensures { result ≡ on_a_stream line.now }
+{
+    is_standard_input(line.input.as_str()) || one_is_standard_input(&line.more)
+}
+
+/// What is told of a line with a conflict, if it has one.
+pub(crate) fn conflict_in(line: &Line) -> Option<&'static str>
+    ensures { is_some result ≡ has_conflict line.now }
+{
+    let has_more = !line.more.is_empty();
+    let has_standard_input = has_standard_input(line);
+    if line.output.is_some() && line.in_place {
+        Some("the argument '--output <FILE>' cannot be used with '--in-place'")
+    } else if line.output.is_some() && has_more {
+        Some("the argument '--output <FILE>' cannot be used with more than one INPUT")
+    } else if are_awaited(&line.commands) && has_more {
+        Some(
+            "more than one INPUT wants commands from '--execute <STRINGS>', '--pages <STRINGS>', '--file <FILE>' or '--bytes <FILE>'",
+        )
+    } else if are_on_standard_input(&line.commands) && has_standard_input {
+        Some("standard input cannot be both the commands and an INPUT")
+    } else if line.in_place && has_standard_input {
+        Some("the argument '--in-place' cannot be used with an INPUT that is standard input")
+    } else if line.check && are_awaited(&line.commands) {
+        Some(
+            "the argument '--check' wants commands from '--execute <STRINGS>', '--pages <STRINGS>', '--file <FILE>' or '--bytes <FILE>'",
+        )
+    } else {
+        None
+    }
+}

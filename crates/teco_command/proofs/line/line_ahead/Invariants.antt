@@ -1,9 +1,0 @@
-use Rattle.std.proofs.Common.{◌≡◌, ◌++◌, drop, slice_get}
-use Rattle.teco_command.specs.Line.{line_ends_from}
-use Rattle.teco_command.proofs.line.line_ahead.Given as goal
-
--- What is looked for from the beginning is what is left of it from here.
-abbrev pub invariant-loop-place : goal.invariant-loop-place
-invariant-loop-place l =
-    let text = l.before ++ l.after in
-    slice_get (line_ends_from l.place (drop l.place text)) l.left ≡ slice_get (line_ends_from l.from (drop l.from text)) l.skip

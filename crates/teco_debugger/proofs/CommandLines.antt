@@ -1,0 +1,57 @@
+-- What a parse by the program's command gives.
+use Rattle.std.proofs.Common.{◌≡◌, ◌∙◌, ℕ, true, refl, sym, ap, subst, min, List, [], Option, Some, None, Result, Ok, Err}
+use Rattle.std.specs.Prelude.{unwrap_or, IfErr, IfOk}
+use Rattle.std.specs.Str.Parse.{ParsesUnsigned}
+use Rattle.clap.specs.Words.{App, HasMatchesOf, ReadsOne, Text, fault_of, found_of, is_simple, is_simple_and_free, matches_of, rows_of}
+use Rattle.clap.specs.declared.parser.matches.ArgMatches.{ArgMatches}
+use Rattle.teco_cli.specs.Parsing.{IsUnparsed}
+use Rattle.teco_cli.specs.declared.fault.LineFault.{LineFault}
+use Rattle.teco_cli.specs.declared.fault.LineFault.TheVariants.{NoMemory, Refused}
+use Rattle.teco_debugger.specs.CommandLine.{IsLimit, LineHas, WordsSay, WordsSayNone, debug_app}
+use Rattle.teco_debugger.specs.declared.line.Line.{Line}
+
+-- the command is one whose matches the parser's contract says, and no argument has a rule on another
+debug_is_simple : is_simple debug_app ≡ true
+debug_is_simple = refl
+
+debug_is_free : is_simple_and_free debug_app ≡ true
+debug_is_free = refl
+
+-- the limit is what its text says
+pub limit_read : {E : Type 0} (G : List ℕ → Result ℕ E → Type 0) → ((u : List ℕ) (x : Result ℕ E) → G u x → ParsesUnsigned 64 10 u x)
+    → (o : Option Text) (r : Option ℕ) → (o ≡ None → r ≡ None) → ((t : Text) → o ≡ Some t → ReadsOne G t r) → IsLimit o (min (unwrap_or r 1000000) 1000000000000)
+limit_read G only None r none some = ap (λ x. min (unwrap_or x 1000000) 1000000000000) (none refl)
+limit_read G only (Some t) (Some n) none some = λ number. ap (λ k. min k 1000000000000) (only t (Ok n) (some t refl)).1
+limit_read G only (Some t) None none some = λ number.
+    let err = some t refl in
+    absurd (only t (Err err.0) err.1 number)
+
+-- ---- why there is no line
+
+no_line : (words : List Text) (fault : LineFault) → IsUnparsed debug_app words fault → WordsSayNone words fault
+no_line words NoMemory h = tt
+no_line words (Refused refusal) h = h
+
+-- memory was refused
+pub refused_is : (words : List Text) (r : Result Line LineFault) → IfErr r (λ fault. fault ≡ NoMemory) → IfErr r (WordsSayNone words)
+refused_is words (Ok line) h = tt
+refused_is words (Err fault) h = subst (WordsSayNone words) (sym h) tt
+
+module _ (app : App) (is : app ≡ debug_app) where
+  -- the words are not read
+  pub unparsed_is : (words : List Text) (fault : LineFault) → (is_simple_and_free app ≡ true → IsUnparsed app words fault) → WordsSayNone words fault
+  unparsed_is words fault h = no_line words fault (subst (λ a. IsUnparsed a words fault) is (h (ap is_simple_and_free is ∙ debug_is_free)))
+
+  -- ---- the line
+
+  module _ (m : ArgMatches) (words : List Text) (matches : HasMatchesOf app words m) (fault : is_simple_and_free app ≡ true → fault_of app words ≡ []) where
+    rows_are : rows_of (found_of m) ≡ matches_of debug_app words
+    rows_are = (matches (ap is_simple is ∙ debug_is_simple)).0 ∙ ap (λ a. matches_of a words) is
+
+    -- the parser takes the words
+    words_taken : fault_of debug_app words ≡ []
+    words_taken = ap (λ a. fault_of a words) (sym is) ∙ fault (ap is_simple_and_free is ∙ debug_is_free)
+
+    pub line_is : (r : Result Line LineFault) → IfOk r (LineHas (rows_of (found_of m))) → IfOk r (WordsSay words)
+    line_is (Ok line) has = record { taken = words_taken; given = rw (← rows_are) has }
+    line_is (Err fault) has = tt

@@ -1,0 +1,15 @@
+pub mod Answered
+pub mod CallLines
+pub mod CommandLines
+pub mod FilesRead
+pub mod LineEnds
+pub mod Passes
+pub mod Served
+pub mod Sizes
+pub mod Texts
+pub mod Findings
+pub mod Staying
+pub mod Changes
+pub mod Returning
+pub mod WalkEnds
+pub mod Digits

@@ -1,0 +1,18 @@
+use Rattle.std.proofs.Common.{◌∙◌, ◌++◌, ap, refl}
+use Rattle.std.proofs.lemmas.Result.{on_ok_weaker}
+use Rattle.teco_debugger.specs.Showing.{step_shown}
+use Rattle.teco_debugger.proofs.debugger.Debugger.arrive.Goals as goal
+
+pub returns-clause-arrives : goal.returns-clause-arrives
+returns-clause-arrives c =
+    let went = c.in_ok-go.ensures in
+    on_ok_weaker c.show.result
+    (λ e. record {
+      goes = record { string = went.string; back = went.back; on = went.on };
+      seen = e.0;
+      seen_is = e.1;
+      shown_is = e.2 ∙ ap (λ l. l ++ step_shown c.go.new.self e.0) c.requires;
+      limit = refl;
+      stop = refl;
+    })
+    c.show.ensures

@@ -1,0 +1,49 @@
+-- How a run ends: its status, and the line that it tells on standard error.
+use Rattle.std.specs.Prelude.{◌≡◌, ◌⊎◌, ℕ, List, [], ◌∷◌, ◌++◌, Option, Some, None, codes}
+use Rattle.std.specs.String.{string_bytes}
+use Rattle.std.specs.declared.alloc.Global.{Global}
+use Rattle.std.specs.declared.string.String.{String}
+use Rattle.teco_fs.specs.Reasons.{with_reason}
+use Rattle.teco_fs.specs.Refusing.{Tells}
+use Rattle.teco_io.specs.Terminal.{Screen}
+use Rattle.teco_debugger.specs.declared.ending.Ending.{Ending}
+use Rattle.teco_debugger.specs.declared.ending.Ending.TheVariants.{Done, NoText, NoInput, NoMemory, ReadFault, ShowFault}
+use Rattle.teco_debugger.specs.declared.line.Line.{Line}
+use Rattle.teco_debugger.specs.declared.reading.FileFault.{FileFault}
+use Rattle.teco_debugger.specs.declared.reading.FileFault.TheVariants as file
+
+-- 0 of a run that is done, 1 where a file, memory or the terminal failed
+abbrev pub status_of_ending : Ending → ℕ
+status_of_ending Done = 0
+status_of_ending _ = 1
+
+-- a line that ends by LF
+abbrev pub told_line : List ℕ → List ℕ
+told_line words = codes "teco-debug: " ++ words ++ 10 ∷ []
+
+-- what is told of a file that is not had
+abbrev pub fault_words : List ℕ → FileFault → List ℕ
+fault_words name (file.Unread reason) = with_reason (codes "cannot read ") name reason
+fault_words name file.TooLarge = name ++ codes " is too large"
+fault_words name file.Memory = name ++ codes ": no memory for it"
+
+-- the name of the input, or nothing if the line names none
+abbrev pub input_name : Option (String Global) → List ℕ
+input_name (Some name) = string_bytes name
+input_name None = []
+
+-- what is told: a line, or nothing
+abbrev pub ending_line : Line → Ending → List ℕ
+ending_line line Done = []
+ending_line line (NoText fault) = told_line (fault_words (string_bytes line.text) fault)
+ending_line line (NoInput fault) = told_line (fault_words (input_name line.input) fault)
+ending_line line NoMemory = told_line (codes "no memory")
+ending_line line ReadFault = told_line (codes "cannot read commands")
+ending_line line ShowFault = told_line (codes "cannot show")
+
+-- The status is that of the ending, and its line is told on standard error; or that there is no memory for the line,
+-- where there is one.
+pub record TellsEnding (line : Line) (ending : Ending) (old new : Screen) (status : ℕ) : Type 0 where
+  pub status_is : status ≡ status_of_ending ending
+  pub told : Tells old new (ending_line line ending)
+      ⊎ ((status_of_ending ending ≡ 1) × Tells old new (told_line (codes "no memory")))

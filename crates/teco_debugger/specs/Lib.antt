@@ -1,0 +1,15 @@
+pub mod Answering
+pub mod CommandLine
+pub mod Ending
+pub mod Help
+pub mod Listing
+pub mod Moving
+pub mod Program
+pub mod Reading
+pub mod Serving
+pub mod Showing
+pub mod Spelling
+pub mod Walk
+pub mod Finding
+pub mod Verb
+pub mod Number

@@ -1,0 +1,86 @@
+-- The moves of a walk, and where it stops on the way.
+use Rattle.std.specs.Prelude.{◌≡◌, ◌↔◌, ◌⊎◌, ℕ, zero, suc, ◌+◌, ◌≤◌, ◌<◌, ◌==◌, ◌&&◌, Bool, true, false, List, [], ◌∷◌, ◌++◌, length, nat_le, Option, Some, None, IfSome}
+use Rattle.teco_exec.specs.Telling.{IsLastPlace}
+use Rattle.teco_exec.specs.declared.place.Place.{Place}
+use Rattle.teco_store.specs.State.{beginning}
+use Rattle.teco_messages.specs.Spot.{spot_of}
+use Rattle.teco_messages.specs.declared.spot.Spot.{Spot}
+use Rattle.teco_debugger.specs.Walk.{KeptWalk, SameString, meant}
+use Rattle.teco_debugger.specs.declared.walk.Seen.{Seen}
+use Rattle.teco_debugger.specs.Showing.{step_shown}
+use Rattle.teco_debugger.specs.declared.debugger.Debugger.{Debugger}
+use Rattle.teco_debugger.specs.declared.stops.TheConstants.{MOST_WORK}
+
+-- what a run of the string under a limit of n steps shows: how it ended, what it typed, and where it last stood
+pub record IsSeen (walk : KeptWalk) (n : ℕ) (seen : Seen) : Type 0 where
+  pub place : IfSome seen.place (λ p. IsLastPlace (beginning walk.input) walk.text seen.outcome.steps p)
+  pub told : (seen.place ≡ None) ↔ (seen.outcome.code ≡ None)
+  pub steps : seen.outcome.steps ≡ (meant walk.input walk.text n).steps
+  pub code : seen.outcome.code ≡ (meant walk.input walk.text n).code
+  pub typed : seen.typed.items ≡ (meant walk.input walk.text n).typed
+
+-- The walk goes to the state after the first n steps of the string, or after all that it takes under a limit of n.
+pub record Goes (n : ℕ) (old new : KeptWalk) : Type 0 where
+  pub string : SameString old new
+  pub back : n ≤ old.steps → new.steps ≡ n
+  pub on : old.steps < n → new.steps ≡ (meant old.input old.text n).steps
+
+-- The string, its input and the limit are as they were.
+pub record SameRun (old new : Debugger) : Type 0 where
+  pub string : SameString old.walk new.walk
+  pub limit : new.limit ≡ old.limit
+
+-- The walk goes to a step, and the line of where it then stands is shown.
+pub record Arrives (n : ℕ) (old new : Debugger) (shown : List ℕ) : Type 0 where
+  pub goes : Goes n old.walk new.walk
+  pub seen : Seen
+  pub seen_is : IsSeen new.walk new.walk.steps seen
+  pub shown_is : shown ≡ step_shown new.walk seen
+  pub limit : new.limit ≡ old.limit
+  -- the place to stop at
+  pub stop : new.stop ≡ old.stop
+
+-- The same, as a move that can be taken back: where the walk stood is kept.
+pub record MovesTo (n : ℕ) (old new : Debugger) (shown : List ℕ) : Type 0 where
+  pub arrives : Arrives n old new shown
+  pub kept : new.moves.items ≡ old.moves.items ++ old.walk.steps ∷ []
+
+abbrev pub is_spot : Spot → Spot → Bool
+is_spot a b = a.line == b.line && a.column == b.column
+
+-- a place of a run is at this line and column of the string, with no call open
+abbrev pub is_at : List ℕ → Spot → Place → Bool
+is_at text stop place =
+    length place.calls.items == 0 && (nat_le place.at (length text) && is_spot (spot_of text place.at) stop)
+
+-- a run that was seen stands there after n steps
+abbrev pub is_stop : List ℕ → Spot → ℕ → Option Place → Bool
+is_stop text stop n None = false
+is_stop text stop n (Some place) = place.steps == n && is_at text stop place
+
+-- The run of the string under a limit of n steps stands at the place to stop at, or not.
+abbrev pub StopsOr : KeptWalk → Spot → ℕ → Bool → Type 0
+StopsOr walk stop n so = (seen : Seen) × IsSeen walk n seen × (is_stop walk.text stop n seen.place ≡ so)
+
+-- No step from the one to the other, which is not among them, is at the place to stop at.
+abbrev pub PassesBetween : KeptWalk → Spot → ℕ → ℕ → Type 0
+PassesBetween walk stop from to = (n : ℕ) → from ≤ n → n < to → StopsOr walk stop n false
+
+-- The step is the first one from there on that is at the place to stop at.
+pub record IsNextStop (walk : KeptWalk) (stop : Spot) (from n : ℕ) : Type 0 where
+  pub after : from ≤ n
+  pub here : StopsOr walk stop n true
+  pub passed : PassesBetween walk stop from n
+
+-- how many steps are run to look at each step below n, each from the beginning
+unfoldable pub work_below : ℕ → ℕ
+work_below zero = 0
+work_below (suc n) = work_below n + n
+
+-- No step up to some other one is at the place to stop at, and the way ends there: at the limit, behind the last step
+-- of the string, or where it takes too much work to look on.
+pub record HasNoStop (walk : KeptWalk) (stop : Spot) (from limit : ℕ) : Type 0 where
+  pub to : ℕ
+  pub passed : PassesBetween walk stop from to
+  pub ends : (limit ≤ to) ⊎ (((meant walk.input walk.text to).steps < to)
+      ⊎ (MOST_WORK + work_below from < work_below (suc to)))

@@ -1,0 +1,74 @@
+-- A run of the program, from its words to its status.
+use Rattle.std.specs.Prelude.{◌≡◌, ◌⊎◌, ℕ, List, Option, Result, codes}
+use Rattle.std.specs.declared.alloc.Global.{Global}
+use Rattle.std.specs.declared.string.String.{String}
+use Rattle.std.specs.declared.vec.Vec.{Vec}
+use Rattle.teco_cli.specs.declared.fault.LineFault.{LineFault}
+use Rattle.teco_fs.specs.Refusing.{IsRefusedBy}
+use Rattle.teco_fs.specs.Seen.{KeepsDisk, Host, DiskSeen}
+use Rattle.teco_io.specs.Terminal.{Screen}
+use Rattle.teco_debugger.specs.CommandLine.{WordsGivenSay, WordsGivenSayNone}
+use Rattle.teco_debugger.specs.Ending.{TellsEnding, told_line}
+use Rattle.teco_debugger.specs.Reading.{BeginsOver, CannotRead}
+use Rattle.teco_debugger.specs.Serving.{ServesLines, stage}
+use Rattle.teco_debugger.specs.declared.debugger.Debugger.{Debugger}
+use Rattle.teco_debugger.specs.declared.ending.Ending.{Ending}
+use Rattle.teco_debugger.specs.declared.line.Line.{Line}
+
+-- how what a run changes is seen: its disk, its commands and its terminal
+pub record RetraceView (D I S T : Type 0) : Type 1 where
+  pub disk : D → DiskSeen I
+  pub coming : S → Option (List ℕ)
+  pub screen : T → Screen
+
+abbrev pub retrace_view : {D I S T : Type 0} → (D → DiskSeen I) → (S → Option (List ℕ)) → (T → Screen)
+    → RetraceView D I S T
+retrace_view disk coming screen = record { disk = disk; coming = coming; screen = screen }
+
+-- The files are not read, which says how the run ends. No command is read, and nothing is shown.
+pub record HasNoFiles {D I S T : Type 0} (view : RetraceView D I S T) (line : Line) (old new : Host D S T)
+    (ending : Ending) : Type 0 where
+  pub lacks : CannotRead (view.disk old.disk).files (view.disk new.disk) line ending
+  pub stream : new.stream ≡ old.stream
+  pub term : new.term ≡ old.term
+
+-- The files are read, and the commands are served over them.
+pub record ServesFiles {D I S T : Type 0} (view : RetraceView D I S T) (line : Line) (old new : Host D S T)
+    (ending : Ending) : Type 0 where
+  pub first : Debugger
+  pub last : Debugger
+  pub begins : BeginsOver (view.disk old.disk).files line first
+  pub serves : ServesLines (stage (view.coming old.stream) first (view.screen old.term))
+      (stage (view.coming new.stream) last (view.screen new.term)) ending
+
+-- A run over a line, by which no file changes.
+pub record RetracesLine {D I S T : Type 0} (view : RetraceView D I S T) (line : Line) (old new : Host D S T)
+    (ending : Ending) : Type 0 where
+  pub keeps : KeepsDisk (view.disk old.disk) (view.disk new.disk)
+  pub ends : HasNoFiles view line old new ending ⊎ ServesFiles view line old new ending
+
+-- The words say a line, and the run is that over it. How it ends is told on standard error.
+pub record RetracesWords {D I S T E : Type 0} (view : RetraceView D I S T) (errors : E → Screen)
+    (words : Result (Vec (String Global) Global) LineFault) (old new : Host D S T) (told telling : E) (status : ℕ)
+    : Type 0 where
+  pub line : Line
+  pub line_is : WordsGivenSay words line
+  pub ending : Ending
+  pub run : RetracesLine view line old new ending
+  pub end : TellsEnding line ending (errors told) (errors telling) status
+
+-- The words say no line. Nothing is read, and nothing is shown but what is told of that, by which the status is.
+pub record RetracesNothing {D I S T E : Type 0} (view : RetraceView D I S T) (errors : E → Screen)
+    (words : Result (Vec (String Global) Global) LineFault) (old new : Host D S T) (told telling : E) (status : ℕ)
+    : Type 0 where
+  pub fault : LineFault
+  pub fault_is : WordsGivenSayNone words fault
+  pub refused : IsRefusedBy view.screen errors (told_line (codes "no memory")) fault old.term new.term told telling status
+  pub stream : new.stream ≡ old.stream
+  pub disk : new.disk ≡ old.disk
+
+abbrev pub RetracesBy : {D I S T E : Type 0} → RetraceView D I S T → (E → Screen)
+    → Result (Vec (String Global) Global) LineFault → Host D S T → Host D S T → E → E → ℕ → Type 0
+RetracesBy view errors words old new told telling status =
+    RetracesNothing view errors words old new told telling status
+    ⊎ RetracesWords view errors words old new told telling status

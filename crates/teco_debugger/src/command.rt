@@ -1,0 +1,172 @@
+//! The commands, a line each.
+ghost use Rattle.std.specs.List.{prefix_len, suffix_len};
+ghost use Rattle.std.specs.Prelude.{◌≡◌, ℕ, ◌≤◌, length, not, Result, Some};
+ghost use Rattle.teco_debugger.specs.Verb.{break_at, colon_in, command_in, command_of, find, given, is_blank, part_in, register_in, spot_in, without_blanks_after, without_blanks_before, words_of};
+
+use crate::number::number_in;
+use crate::part::Part;
+use crate::verb::{Counted, Plain, Takes, takes_of};
+use std::error::Error;
+use std::fmt;
+use teco_core::Reg;
+use teco_messages::Spot;
+
+/// What is asked.
+#[derive(Clone, Copy)]
+pub enum Command {
+    Plain(Plain),
+    Counted(Counted, u64),
+    Register(Reg),
+    /// Back to before the last change of the part.
+    Find(Part),
+    /// The place to stop at.
+    Break(Spot),
+}
+
+/// Why a line is no command.
+#[derive(Clone, Copy, Debug)]
+pub enum Fault {
+    NoCommand,
+    NoNumber,
+    NoRegister,
+    NoPlace,
+    TooMuch,
+}
+
+impl Fault {
+    /// The fault in words.
+    fn words(self) -> &'static str
+        ensures { result.now ≡ words_of self }
+    {
+        match self {
+            Fault::NoCommand => "no such command; help lists them",
+            Fault::NoNumber => "a number is wanted",
+            Fault::NoRegister => "a register is wanted, A to Z or 0 to 9",
+            Fault::NoPlace => "a place is wanted, as LINE:COLUMN",
+            Fault::TooMuch => "nothing is wanted after this command",
+        }
+    }
+}
+
+impl fmt::Display for Fault {
+    ghost output = { λ fault. Some (words_of fault) };
+
+    fn fmt<W: fmt::Write>(&self, f: &mut fmt::Formatter<W>) -> fmt::Result {
+        f.write_str(self.words())
+    }
+}
+
+impl Error for Fault {}
+
+fn after_blanks(bytes: &[u8]) -> &[u8]
+    ensures { result.now ≡ without_blanks_before bytes.now }
+{
+    let mut start = 0;
+    while start < bytes.len() && bytes[start] <= b' ' {
+        start += 1;
+    }
+    &bytes[start..]
+}
+
+fn before_blanks(bytes: &[u8]) -> &[u8]
+    ensures { result.now ≡ without_blanks_after bytes.now }
+{
+    let mut end = bytes.len();
+    while end > 0 && bytes[end - 1] <= b' ' {
+        end -= 1;
+    }
+    &bytes[..end]
+}
+
+/// Where the first word ends.
+fn word_end(bytes: &[u8]) -> usize
+    ensures value { result ≡ prefix_len (λ b. not (is_blank b)) bytes.now }
+    ensures within { result ≤ length bytes.now }
+{
+    let mut end = 0;
+    while end < bytes.len() && bytes[end] > b' ' {
+        end += 1;
+    }
+    end
+}
+
+fn register_in(bytes: &[u8]) -> Result<Reg, Fault>
+    ensures { result ≡ register_in bytes.now }
+{
+    match bytes {
+        [byte] => match Reg::of(*byte) {
+            Some(q) => Ok(q),
+            None => Err(Fault::NoRegister),
+        },
+        _ => Err(Fault::NoRegister),
+    }
+}
+
+/// The command that finds the part.
+fn find_in(bytes: &[u8]) -> Result<Command, Fault>
+    ensures { result ≡ given find (part_in bytes.now) }
+{
+    if bytes == b"text".as_slice() {
+        return Ok(Command::Find(Part::Buffer));
+    }
+    Ok(Command::Find(Part::Register(register_in(bytes)?)))
+}
+
+/// Where the first colon is; the length where there is none.
+fn colon(bytes: &[u8]) -> usize
+    ensures value { result ≡ colon_in bytes.now }
+    ensures within { result ≤ length bytes.now }
+{
+    let mut at = 0;
+    while at < bytes.len() && bytes[at] != b':' {
+        at += 1;
+    }
+    at
+}
+
+/// The command that notes the place.
+fn break_in(bytes: &[u8]) -> Result<Command, Fault>
+    ensures { result ≡ given break_at (spot_in bytes.now) }
+{
+    let at = colon(bytes);
+    if at == bytes.len() {
+        return Err(Fault::NoPlace);
+    }
+    match (number_in(&bytes[..at]), number_in(&bytes[at + 1..])) {
+        (Ok(line), Ok(column)) => Ok(Command::Break(Spot { line, column })),
+        _ => Err(Fault::NoPlace),
+    }
+}
+
+/// The command that takes this, with these bytes after its word.
+fn command_in(takes: Takes, bytes: &[u8]) -> Result<Command, Fault>
+    ensures { result ≡ command_in takes bytes.now }
+{
+    match takes {
+        Takes::Nothing(plain) if bytes.is_empty() => Ok(Command::Plain(plain)),
+        Takes::Nothing(_) => Err(Fault::TooMuch),
+        Takes::NumberOr(counted, otherwise) if bytes.is_empty() => {
+            Ok(Command::Counted(counted, otherwise))
+        }
+        Takes::Number(counted) | Takes::NumberOr(counted, _) => {
+            Ok(Command::Counted(counted, number_in(bytes)?))
+        }
+        Takes::Register => Ok(Command::Register(register_in(bytes)?)),
+        Takes::Part => find_in(bytes),
+        Takes::Spot => break_in(bytes),
+    }
+}
+
+impl Command {
+    /// The command of a line: its first word tells which, and what comes after it is the operand. Blanks around both are passed.
+    pub fn of(line: &[u8]) -> Result<Command, Fault>
+        ensures { result ≡ command_of line.now }
+    {
+        let bytes = after_blanks(before_blanks(line));
+        let end = word_end(bytes);
+        match takes_of(&bytes[..end]) {
+            Some(takes) => command_in(takes, after_blanks(&bytes[end..])),
+            None => Err(Fault::NoCommand),
+        }
+    }
+}

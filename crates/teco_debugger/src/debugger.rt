@@ -1,0 +1,249 @@
+//! The commands, done by a walk.
+ghost use Rattle.std.specs.Prelude.{◌≡◌, ◌+◌, ◌++◌, [], IfNone, IfOk, IfSome, None, Ok, OnOk, slice_get};
+ghost use Rattle.std.specs.String.{string_bytes};
+ghost use Rattle.teco_debugger.specs.Answering.{IsAnswerTo, AnswersCommand, AnswersCounted, AnswersPlain, GoesOnToStop, GoesOrSays, ShowsSeen, TakesBack, answer_line};
+ghost use Rattle.teco_debugger.specs.Moving.{Arrives, HasNoStop, IsNextStop, MovesTo, SameRun};
+ghost use Rattle.teco_messages.specs.Spelling.{spelled};
+ghost use Rattle.teco_debugger.specs.Verb.{command_of, words_of};
+
+use crate::help::{show_help, verb_rows};
+use crate::listing::{show_register, show_registers, show_state, show_text};
+use crate::moving::{ahead, behind};
+use crate::showing::{show_step, show_where};
+use crate::stops::next_stop;
+use crate::{Command, Counted, Plain, Walk};
+use std::alloc::Global;
+use teco_core::NoMemory;
+use teco_messages::{Spot, spell};
+use teco_store::Desk;
+
+/// A walk, with what the commands need beside it.
+#[derive(Drop)]
+pub struct Debugger {
+    walk: Walk,
+    limit: u64,
+    /// Where the walk stood before each move that can be taken back.
+    moves: Vec<u64>,
+    stop: Option<Spot>,
+}
+
+/// Shows a line of words.
+fn show_words(out: &mut String, words: &str) -> Result<(), NoMemory>
+    ensures { OnOk result (string_bytes out.new ≡ string_bytes out.old ++ answer_line words.now) }
+{
+    out.push_str(words)?;
+    out.push_str("\n")
+}
+
+/// Shows what was typed, in a line.
+fn show_typed(out: &mut String, typed: &[u8]) -> Result<(), NoMemory>
+    ensures { OnOk result (string_bytes out.new ≡ string_bytes out.old ++ answer_line (spelled typed.now)) }
+{
+    spell(out, typed)?;
+    out.push_str("\n")
+}
+
+/// What is shown of where a walk stands.
+#[derive(Clone, Copy)]
+pub enum View {
+    /// The step, the place and the token, in a line.
+    Step,
+    /// All that is open there, too.
+    Where,
+    /// What was typed so far.
+    Typed,
+}
+
+impl Debugger {
+    pub fn new(walk: Walk, limit: u64) -> Debugger
+        ensures walk { result.walk ≡ walk }
+        ensures limit { result.limit ≡ limit }
+        ensures moves { result.moves.items ≡ [] }
+        ensures stop { result.stop ≡ None }
+    {
+        let moves = Vec::new(walk.alloc());
+        Debugger {
+            walk,
+            limit,
+            moves,
+            stop: None,
+        }
+    }
+
+    /// Shows where the walk stands.
+    fn show(&self, out: &mut String, view: View) -> Result<(), NoMemory>
+        ensures { OnOk result (ShowsSeen view self.now.walk (string_bytes out.old) (string_bytes out.new)) }
+    {
+        let seen = self.walk.look(self.walk.steps())?;
+        match view {
+            View::Step => show_step(out, &self.walk, &seen),
+            View::Where => show_where(out, &self.walk, &seen),
+            View::Typed => show_typed(out, seen.typed.as_slice()),
+        }
+    }
+
+    /// Goes to a step, and shows where the walk then stands.
+    fn arrive(&mut self, out: &mut String, n: u64) -> Result<(), NoMemory>
+        requires { string_bytes out.old ≡ [] }
+        ensures arrives { OnOk result (Arrives n self.old self.new (string_bytes out.new)) }
+        ensures moves { self.new.moves ≡ self.old.moves }
+        ensures same { SameRun self.old self.new }
+    {
+        self.walk.go(n)?;
+        self.show(out, View::Step)
+    }
+
+    /// The same, as a move that can be taken back.
+    fn go(&mut self, out: &mut String, n: u64) -> Result<(), NoMemory>
+        requires { string_bytes out.old ≡ [] }
+        ensures moves { OnOk result (MovesTo n self.old self.new (string_bytes out.new)) }
+        ensures same { SameRun self.old self.new }
+    {
+        self.moves.push(self.walk.steps())?;
+        self.arrive(out, n)
+    }
+
+    /// The same, if there is such a step; else says why there is none.
+    fn go_or_say(&mut self, out: &mut String, to: Option<u64>, words: &str) -> Result<(), NoMemory>
+        requires { string_bytes out.old ≡ [] }
+        ensures goes { OnOk result (GoesOrSays to words.now self.old self.new (string_bytes out.new)) }
+        ensures same { SameRun self.old self.new }
+    {
+        match to {
+            Some(n) => self.go(out, n),
+            None => show_words(out, words),
+        }
+    }
+
+    /// Where the walk stood before a move, of those that can be taken back.
+    fn before_move(&self, at: usize) -> Option<u64>
+        ensures { result ≡ slice_get self.now.moves.items at }
+    {
+        self.moves.get(at).copied()
+    }
+
+    /// Takes moves back until so many are left.
+    fn take_back(&mut self, out: &mut String, left: usize) -> Result<(), NoMemory>
+        requires { string_bytes out.old ≡ [] }
+        ensures back { OnOk result (TakesBack left (slice_get self.old.moves.items left) self.old self.new (string_bytes out.new)) }
+        ensures same { SameRun self.old self.new }
+    {
+        match self.before_move(left) {
+            Some(steps) => {
+                self.moves.truncate(left);
+                self.arrive(out, steps)
+            }
+            None => show_words(out, "no move to take back"),
+        }
+    }
+
+    /// The next step at the place to stop at.
+    fn next_stop(&self, stop: Spot) -> Result<Option<u64>, NoMemory>
+        ensures found { IfOk result (λ found. IfSome found (IsNextStop self.now.walk stop (self.now.walk.steps + 1))) }
+        ensures none { IfOk result (λ found. IfNone found
+            (HasNoStop self.now.walk stop (self.now.walk.steps + 1) self.now.limit)) }
+    {
+        let steps = self.walk.steps();
+        if steps >= self.limit {
+            return Ok(None);
+        }
+        next_stop(&self.walk, stop, steps + 1, self.limit)
+    }
+
+    /// Goes on to the next step at the place to stop at.
+    fn go_on(&mut self, out: &mut String) -> Result<(), NoMemory>
+        requires { string_bytes out.old ≡ [] }
+        ensures continues { OnOk result (GoesOnToStop self.old.stop self.old self.new (string_bytes out.new)) }
+        ensures same { SameRun self.old self.new }
+    {
+        match self.stop {
+            Some(stop) => {
+                let to = self.next_stop(stop)?;
+                self.go_or_say(out, to, "no step at that place comes, or it is too far")
+            }
+            None => show_words(out, "no place to stop at is noted"),
+        }
+    }
+
+    fn answer_plain(&mut self, out: &mut String, plain: Plain) -> Result<(), NoMemory>
+        requires { string_bytes out.old ≡ [] }
+        ensures answers { OnOk result (AnswersPlain plain self.old self.new (string_bytes out.new)) }
+        ensures same { SameRun self.old self.new }
+    {
+        match plain {
+            Plain::End => self.go(out, self.limit),
+            Plain::Start => self.go(out, 0),
+            Plain::Where => self.show(out, View::Where),
+            Plain::Registers => show_registers(out, self.walk.editor().registers()),
+            Plain::State => show_state(out, self.walk.editor()),
+            Plain::Continue => self.go_on(out),
+            Plain::Typed => self.show(out, View::Typed),
+            Plain::Help => show_help(out, verb_rows()),
+            // no line is read after it
+            Plain::Quit => Ok(()),
+        }
+    }
+
+    fn answer_counted(&mut self, out: &mut String, counted: Counted, n: u64) -> Result<(), NoMemory>
+        requires { string_bytes out.old ≡ [] }
+        ensures answers { OnOk result (AnswersCounted counted n self.old self.new (string_bytes out.new)) }
+        ensures same { SameRun self.old self.new }
+    {
+        let steps = self.walk.steps();
+        let moves = self.moves.len();
+        match counted {
+            Counted::Next => self.go(out, ahead(steps, n, self.limit)),
+            Counted::Back => self.go(out, behind(steps, n)),
+            Counted::Goto => self.go(out, n.min(self.limit)),
+            Counted::Text => show_text(out, self.walk.editor(), n),
+            Counted::Undo => self.take_back(out, moves.saturating_sub(n as usize)),
+        }
+    }
+
+    /// Does a command, and shows what it finds.
+    fn answer(&mut self, out: &mut String, command: Command) -> Result<(), NoMemory>
+        requires { string_bytes out.old ≡ [] }
+        ensures answers { OnOk result (AnswersCommand command self.old self.new (string_bytes out.new)) }
+        ensures same { SameRun self.old self.new }
+    {
+        match command {
+            Command::Plain(plain) => self.answer_plain(out, plain),
+            Command::Counted(counted, n) => self.answer_counted(out, counted, n),
+            Command::Register(q) => show_register(out, self.walk.editor().registers(), q),
+            Command::Find(part) => {
+                let to = self.walk.last_change(&part);
+                self.go_or_say(out, to, "no step before this one changed it")
+            }
+            Command::Break(spot) => {
+                self.stop = Some(spot);
+                Ok(())
+            }
+        }
+    }
+
+    /// What is shown of a command; if memory is refused to it, that alone, with the step at which the walk then stands.
+    fn answer_or_lack(&mut self, alloc: Global, command: Command) -> Result<String, NoMemory>
+        ensures answers { IfOk result (λ text. IsAnswerTo (Ok command) self.old self.new (string_bytes text)) }
+        ensures same { SameRun self.old self.new }
+    {
+        let mut out = String::new(alloc);
+        match self.answer(&mut out, command) {
+            Ok(()) => Ok(out),
+            Err(NoMemory) => {
+                let steps = self.walk.steps();
+                format!(in alloc; "no memory; the walk stands at step {steps}\n")
+            }
+        }
+    }
+
+    /// The answer to a line.
+    pub fn answer_to(&mut self, alloc: Global, line: &[u8]) -> Result<String, NoMemory>
+        ensures answers { IfOk result (λ text. IsAnswerTo (command_of line.now) self.old self.new (string_bytes text)) }
+        ensures same { SameRun self.old self.new }
+    {
+        match Command::of(line) {
+            Ok(command) => self.answer_or_lack(alloc, command),
+            Err(fault) => format!(in alloc; "{fault}\n"),
+        }
+    }
+}

@@ -1,0 +1,126 @@
+//! How a run ends, and what is told of it.
+ghost use Rattle.std.specs.Prelude.{◌≡◌, ◌++◌, IfOk, OnErr};
+ghost use Rattle.std.specs.String.{string_bytes};
+ghost use Rattle.teco_fs.specs.Refusing.{Tells};
+ghost use Rattle.teco_debugger.specs.declared.reading.FileFault.TheVariants.{Unread};
+ghost use Rattle.teco_debugger.specs.Ending.{TellsEnding, ending_line, fault_words, input_name, status_of_ending, told_line};
+
+use crate::line::Line;
+use crate::reading::FileFault;
+use std::alloc::Global;
+use teco_core::NoMemory;
+use teco_fs::Reason;
+use teco_io::Terminal;
+
+/// What is told if memory is refused to the program.
+pub const NO_MEMORY: &[u8] = b"teco-debug: no memory\n";
+
+/// How a run ends, once its command line is read.
+#[derive(Clone, Copy)]
+pub enum Ending {
+    /// By `quit`, or at the end of the commands.
+    Done,
+    /// The file of the command string is not had.
+    NoText(FileFault),
+    /// The file of the input is not had.
+    NoInput(FileFault),
+    NoMemory,
+    /// The commands cannot be read.
+    ReadFault,
+    /// The terminal failed.
+    ShowFault,
+}
+
+impl From<NoMemory> for Ending {
+    ghost use Rattle.teco_debugger.specs.declared.ending.Ending.TheVariants.{NoMemory as no_memory};
+
+    ghost from_gives = { λ _ ending. ending ≡ no_memory };
+
+    fn from(_: NoMemory) -> Ending {
+        Ending::NoMemory
+    }
+}
+
+/// The name of the input, or nothing if the line names none.
+fn input_name(line: &Line) -> &str
+    ensures { result.now ≡ input_name line.now.input }
+{
+    match &line.input {
+        Some(name) => name.as_str(),
+        None => "",
+    }
+}
+
+/// A line of words after a name.
+fn told(alloc: Global, name: &str, words: &str) -> Result<String, NoMemory>
+    ensures { IfOk result (λ text. string_bytes text ≡ told_line (name.now ++ words.now)) }
+{
+    format!(in alloc; "teco-debug: {name}{words}\n")
+}
+
+/// A line of a file that can't be read, and why.
+fn told_unread(alloc: Global, name: &str, reason: Reason) -> Result<String, NoMemory>
+    ensures { IfOk result (λ text. string_bytes text ≡ told_line (fault_words name.now (Unread reason))) }
+{
+    let why = reason.words();
+    format!(in alloc; "teco-debug: cannot read {name}: {why}\n")
+}
+
+/// A line of a file that is not had.
+fn told_fault(alloc: Global, name: &str, fault: FileFault) -> Result<String, NoMemory>
+    ensures { IfOk result (λ text. string_bytes text ≡ told_line (fault_words name.now fault)) }
+{
+    match fault {
+        FileFault::Unread(reason) => told_unread(alloc, name, reason),
+        FileFault::TooLarge => told(alloc, name, " is too large"),
+        FileFault::Memory => told(alloc, name, ": no memory for it"),
+    }
+}
+
+/// What is told: a line, or nothing.
+fn line_of(alloc: Global, line: &Line, ending: Ending) -> Result<String, NoMemory>
+    ensures ok { IfOk result (λ text. string_bytes text ≡ ending_line line.now ending) }
+    ensures err { OnErr result (status_of_ending ending ≡ 1) }
+{
+    match ending {
+        Ending::Done => Ok(String::new(alloc)),
+        Ending::NoText(fault) => told_fault(alloc, line.text.as_str(), fault),
+        Ending::NoInput(fault) => told_fault(alloc, input_name(line), fault),
+        Ending::NoMemory => told(alloc, "", "no memory"),
+        Ending::ReadFault => told(alloc, "", "cannot read commands"),
+        Ending::ShowFault => told(alloc, "", "cannot show"),
+    }
+}
+
+/// 0 of a run that is done, otherwise 1.
+fn status(ending: Ending) -> u8
+    ensures { result ≡ status_of_ending ending }
+{
+    match ending {
+        Ending::Done => 0,
+        _ => 1,
+    }
+}
+
+/// Tells these bytes on standard error.
+fn tell<E: Terminal>(bytes: &[u8], errors: &mut E)
+    ensures { Tells (E.screen errors.old) (E.screen errors.new) bytes.now }
+{
+    let _ = errors.put(bytes);
+}
+
+/// Tells on standard error how a run ends, and gives the status.
+pub fn conclude<E: Terminal>(alloc: Global, line: &Line, ending: Ending, errors: &mut E) -> u8
+    ensures { TellsEnding line.now ending (E.screen errors.old) (E.screen errors.new) result }
+{
+    match line_of(alloc, line, ending) {
+        Ok(text) => {
+            tell(text.as_bytes(), errors);
+            status(ending)
+        }
+        Err(NoMemory) => {
+            tell(NO_MEMORY, errors);
+            status(ending)
+        }
+    }
+}

@@ -1,0 +1,27 @@
+//! The debugger: its commands, and walks over the steps of a command string, forward and back.
+#![tactic(auto)]
+
+mod command;
+mod debugger;
+mod ending;
+mod finding;
+mod help;
+mod line;
+mod listing;
+mod moving;
+mod number;
+mod part;
+mod reading;
+mod running;
+mod serving;
+mod showing;
+mod stops;
+mod verb;
+mod walk;
+
+pub use command::{Command, Fault};
+pub use line::not_text;
+pub use part::Part;
+pub use running::program;
+pub use verb::{Counted, Plain, VERBS, VerbRow};
+pub use walk::{Seen, Walk};

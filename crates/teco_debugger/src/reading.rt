@@ -1,0 +1,82 @@
+//! Reading files.
+ghost use Rattle.std.specs.Prelude.{◌≡◌, ◌≤◌, IfErr, IfOk, vec_len, map};
+ghost use Rattle.teco_core.specs.declared.limits.TheConstants.{FILE_LIMIT};
+ghost use Rattle.teco_fs.specs.Reading.{IsInput};
+ghost use Rattle.teco_fs.specs.Seen.{KeepsDisk, disk_seen};
+ghost use Rattle.teco_debugger.specs.Reading.{IsFaultOfError, IsNotRead};
+ghost use Rattle.teco_debugger.specs.Spelling.{escaped};
+
+use std::alloc::Global;
+use std::io;
+use std::io::ErrorKind;
+use teco_core::{ESC, FILE_LIMIT, NoMemory};
+use teco_fs::{Disk, Reason, reason_of};
+use teco_io::{InputFault, read_input};
+
+/// Why a file is not had.
+#[derive(Clone, Copy)]
+pub enum FileFault {
+    /// It can't be read, for this reason.
+    Unread(Reason),
+    /// It has more bytes than it may have.
+    TooLarge,
+    /// Memory was refused for its bytes.
+    Memory,
+}
+
+impl From<InputFault> for FileFault {
+    ghost use Rattle.teco_debugger.specs.Reading.{fault_after};
+
+    ghost from_gives = { λ read fault. fault ≡ fault_after read };
+
+    fn from(fault: InputFault) -> FileFault {
+        match fault {
+            InputFault::Read => FileFault::Unread(Reason::ReadFailed),
+            InputFault::TooLarge => FileFault::TooLarge,
+            InputFault::Memory => FileFault::Memory,
+        }
+    }
+}
+
+/// Why a file is not had that could not be opened.
+fn fault_of(error: io::Error) -> FileFault
+    ensures { IsFaultOfError error result }
+{
+    match error.kind() {
+        ErrorKind::OutOfMemory => FileFault::Memory,
+        _ => FileFault::Unread(reason_of(error)),
+    }
+}
+
+/// The bytes of a file, at most 2^30.
+pub fn read_file<D: Disk>(alloc: Global, name: &str, disk: &mut D) -> Result<Vec<u8>, FileFault>
+    ensures bytes { IfOk result (λ bytes. IsInput (D.files disk.old) name.now bytes.items) }
+    ensures most { IfOk result (λ bytes. vec_len bytes ≤ FILE_LIMIT) }
+    ensures fault { let seen = disk_seen D.Disk D.Input.Source in
+        IfErr result (IsNotRead (D.files disk.old) (seen disk.new) name.now) }
+    ensures keeps { let seen = disk_seen D.Disk D.Input.Source in
+        KeepsDisk (seen disk.old) (seen disk.new) }
+{
+    let mut source = match disk.open(name) {
+        Ok(source) => source,
+        Err(error) => return Err(fault_of(error)),
+    };
+    match read_input(alloc, &mut source, FILE_LIMIT) {
+        Ok(bytes) => Ok(bytes),
+        Err(fault) => Err(FileFault::from(fault)),
+    }
+}
+
+/// The byte that a byte of a string stands for where a dollar sign is ESC.
+fn escaped(byte: u8) -> u8
+    ensures { result ≡ escaped byte }
+{
+    if byte == b'$' { ESC } else { byte }
+}
+
+/// The string with each dollar sign made ESC.
+pub fn with_escapes(alloc: Global, text: &[u8]) -> Result<Vec<u8>, NoMemory>
+    ensures { IfOk result (λ string. string.items ≡ map escaped text.now) }
+{
+    text.iter().copied().map(escaped).collect(alloc)
+}

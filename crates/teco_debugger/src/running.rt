@@ -1,0 +1,115 @@
+//! A run, from the words of its command line to its status.
+ghost use Rattle.std.specs.Prelude.{◌≡◌, ◌≤◌, IfErr, IfOk, vec_len};
+ghost use Rattle.std.specs.Process.{exit_status};
+ghost use Rattle.teco_core.specs.declared.limits.TheConstants.{FILE_LIMIT};
+ghost use Rattle.teco_fs.specs.Seen.{KeepsDisk, host, disk_seen};
+ghost use Rattle.teco_debugger.specs.CommandLine.{WordsGivenSay, WordsGivenSayNone};
+ghost use Rattle.teco_debugger.specs.Program.{HasNoFiles, RetracesBy, ServesFiles, retrace_view};
+ghost use Rattle.teco_debugger.specs.Reading.{IsInputOf, IsTextOf, CannotRead};
+
+use crate::Walk;
+use crate::debugger::Debugger;
+use crate::ending::{Ending, NO_MEMORY, conclude};
+use crate::line::{Line, line_of};
+use crate::reading::{read_file, with_escapes};
+use crate::serving::serve;
+use std::alloc::Global;
+use std::io::BufRead;
+use std::process::ExitCode;
+use teco_cli::LineFault;
+use teco_core::NoMemory;
+use teco_fs::{Disk, refuse};
+use teco_io::Terminal;
+
+/// The command string of the line.
+fn text_of<D: Disk>(alloc: Global, line: &Line, disk: &mut D) -> Result<Vec<u8>, Ending>
+    ensures text { IfOk result (λ text. IsTextOf (D.files disk.old) line.now text.items) }
+    ensures lacks { let seen = disk_seen D.Disk D.Input.Source in
+        IfErr result (CannotRead (D.files disk.old) (seen disk.new) line.now) }
+    ensures keeps { let seen = disk_seen D.Disk D.Input.Source in
+        KeepsDisk (seen disk.old) (seen disk.new) }
+{
+    match read_file(alloc, line.text.as_str(), disk) {
+        Err(fault) => Err(Ending::NoText(fault)),
+        Ok(bytes) => {
+            if line.dollar {
+                return Ok(with_escapes(alloc, bytes.as_slice())?);
+            }
+            Ok(bytes)
+        }
+    }
+}
+
+/// The input of the line, which is empty if none is named.
+fn input_of<D: Disk>(alloc: Global, line: &Line, disk: &mut D) -> Result<Vec<u8>, Ending>
+    ensures input { IfOk result (λ input. IsInputOf (D.files disk.old) line.now.input input.items) }
+    ensures most { IfOk result (λ input. vec_len input ≤ FILE_LIMIT) }
+    ensures lacks { let seen = disk_seen D.Disk D.Input.Source in
+        IfErr result (CannotRead (D.files disk.old) (seen disk.new) line.now) }
+    ensures keeps { let seen = disk_seen D.Disk D.Input.Source in
+        KeepsDisk (seen disk.old) (seen disk.new) }
+{
+    match &line.input {
+        None => Ok(Vec::new(alloc)),
+        Some(name) => match read_file(alloc, name.as_str(), disk) {
+            Err(fault) => Err(Ending::NoInput(fault)),
+            Ok(bytes) => Ok(bytes),
+        },
+    }
+}
+
+/// Serves the commands over what the line asks for; says how that ends, or why there is nothing to serve them over.
+fn retrace<C: BufRead, T: Terminal, D: Disk>(
+    alloc: Global,
+    line: &Line,
+    commands: &mut C,
+    term: &mut T,
+    disk: &mut D,
+) -> Result<Ending, Ending>
+    ensures serves { let view = retrace_view (disk_seen D.Disk D.Input.Source) C.remaining T.screen in
+        IfOk result (ServesFiles view line.now (host disk.old commands.old term.old) (host disk.new commands.new term.new)) }
+    ensures lacks { let view = retrace_view (disk_seen D.Disk D.Input.Source) C.remaining T.screen in
+        IfErr result (HasNoFiles view line.now (host disk.old commands.old term.old) (host disk.new commands.new term.new)) }
+    ensures keeps { let seen = disk_seen D.Disk D.Input.Source in
+        KeepsDisk (seen disk.old) (seen disk.new) }
+{
+    let text = text_of(alloc, line, disk)?;
+    let input = input_of(alloc, line, disk)?;
+    let mut debugger = Debugger::new(Walk::new(input, text)?, line.limit);
+    Ok(serve(alloc, &mut debugger, commands, term))
+}
+
+fn line_by(alloc: Global, words: Result<Vec<String>, LineFault>) -> Result<Line, LineFault>
+    ensures line { IfOk result (WordsGivenSay words) }
+    ensures fault { IfErr result (WordsGivenSayNone words) }
+{
+    match words {
+        Ok(words) => line_of(alloc, words.as_slice()),
+        Err(fault) => Err(fault),
+    }
+}
+
+/// Goes back and forth over what these words ask for, as the commands say, and gives the status.
+pub fn program<C: BufRead, T: Terminal, E: Terminal, D: Disk>(
+    alloc: Global,
+    words: Result<Vec<String>, LineFault>,
+    commands: &mut C,
+    term: &mut T,
+    errors: &mut E,
+    disk: &mut D,
+) -> ExitCode
+    ensures { let view = retrace_view (disk_seen D.Disk D.Input.Source) C.remaining T.screen in
+        RetracesBy view E.screen words (host disk.old commands.old term.old) (host disk.new commands.new term.new)
+        errors.old errors.new (exit_status result) }
+{
+    match line_by(alloc, words) {
+        Ok(line) => {
+            let ending = match retrace(alloc, &line, commands, term, disk) {
+                Ok(ending) => ending,
+                Err(ending) => ending,
+            };
+            ExitCode::from(conclude(alloc, &line, ending, errors))
+        }
+        Err(fault) => ExitCode::from(refuse(&fault, NO_MEMORY, term, errors)),
+    }
+}

@@ -1,0 +1,79 @@
+//! The commands, served over a walk.
+ghost use Rattle.std.specs.Prelude.{◌≡◌, ◌⊎◌};
+ghost use Rattle.teco_debugger.specs.Answering.{is_leaving};
+ghost use Rattle.teco_debugger.specs.Serving.{EndsUnread, Obeys, ServesLines, ServesNext, stage};
+ghost use Rattle.teco_debugger.specs.Verb.{command_of};
+
+use crate::debugger::Debugger;
+use crate::ending::Ending;
+use crate::{Command, Plain};
+use std::alloc::Global;
+use std::io::BufRead;
+use teco_core::NoMemory;
+use teco_io::{Terminal, TerminalFault};
+
+/// Whether a line asks to leave.
+fn is_leaving(line: &[u8]) -> bool
+    ensures { result ≡ is_leaving (command_of line.now) }
+{
+    matches!(Command::of(line), Ok(Command::Plain(Plain::Quit)))
+}
+
+/// IsAnswerTo a line, unless it asks to leave; says how the serving ends, if it does.
+fn obey<T: Terminal>(
+    alloc: Global,
+    debugger: &mut Debugger,
+    line: &[u8],
+    term: &mut T,
+) -> Option<Ending>
+    ensures { Obeys line.now result debugger.old debugger.new (T.screen term.old) (T.screen term.new) }
+{
+    if is_leaving(line) {
+        return Some(Ending::Done);
+    }
+    match debugger.answer_to(alloc, line) {
+        Err(NoMemory) => Some(Ending::NoMemory),
+        Ok(text) => match term.put(text.as_bytes()) {
+            Ok(()) => None,
+            Err(TerminalFault) => Some(Ending::ShowFault),
+        },
+    }
+}
+
+/// Reads the next line, and obeys it; says how the serving ends, if it does.
+fn serve_line<C: BufRead, T: Terminal>(
+    alloc: Global,
+    debugger: &mut Debugger,
+    commands: &mut C,
+    term: &mut T,
+) -> Option<Ending>
+    ensures { let old = stage (C.remaining commands.old) debugger.old (T.screen term.old) in
+        let new = stage (C.remaining commands.new) debugger.new (T.screen term.new) in
+        ServesNext result old new ⊎ EndsUnread result old new }
+{
+    let mut line = Vec::new(alloc);
+    match commands.read_until(b'\n', &mut line) {
+        Ok(0) => Some(Ending::Done),
+        Ok(_) => obey(alloc, debugger, line.as_slice(), term),
+        Err(_) => Some(Ending::ReadFault),
+    }
+}
+
+/// Serves commands, a line each, until one is `quit` or none is left.
+pub fn serve<C: BufRead, T: Terminal>(
+    alloc: Global,
+    debugger: &mut Debugger,
+    commands: &mut C,
+    term: &mut T,
+) -> Ending
+    ensures { ServesLines (stage (C.remaining commands.old) debugger.old (T.screen term.old))
+        (stage (C.remaining commands.new) debugger.new (T.screen term.new)) result }
+{
+    for _i in 0..u64::MAX {
+        if let Some(ending) = serve_line(alloc, debugger, commands, term) {
+            return ending;
+        }
+    }
+    // no run comes to so many lines
+    Ending::ReadFault
+}

@@ -1,0 +1,56 @@
+//! Where a walk stops on its way.
+ghost use Rattle.std.specs.Prelude.{◌≡◌, ◌≤◌, IfNone, IfOk, IfSome, length};
+ghost use Rattle.teco_debugger.specs.Moving.{HasNoStop, IsNextStop, is_at, is_spot, is_stop};
+
+use crate::Walk;
+use teco_core::NoMemory;
+use teco_exec::Place;
+use teco_messages::{Spot, spot_of};
+
+/// The most steps that `continue` runs in all; each step that it looks at is run to from the beginning.
+const MOST_WORK: u64 = 100_000_000;
+
+fn is_spot(a: Spot, b: Spot) -> bool
+    ensures { result ≡ is_spot a b }
+{
+    a.line == b.line && a.column == b.column
+}
+
+/// Whether a place of a run is this one of the string, with no call open.
+fn is_at(text: &[u8], stop: Spot, place: &Place) -> bool
+    ensures { result ≡ is_at text.now stop place.now }
+{
+    place.calls.is_empty() && place.at <= text.len() && is_spot(spot_of(text, place.at), stop)
+}
+
+/// Whether a run that was seen stands there after `n` steps.
+fn is_stop(text: &[u8], stop: Spot, n: u64, place: &Option<Place>) -> bool
+    ensures { result ≡ is_stop text.now stop n place.now }
+{
+    match place {
+        Some(place) => place.steps == n && is_at(text, stop, place),
+        None => false,
+    }
+}
+
+/// The first step from `from` on, below a limit, that is at the place to stop at; none, too, where the way there is too long.
+pub fn next_stop(walk: &Walk, stop: Spot, from: u64, limit: u64) -> Result<Option<u64>, NoMemory>
+    ensures found { IfOk result (λ found. IfSome found (IsNextStop walk.now stop from)) }
+    ensures none { IfOk result (λ found. IfNone found (HasNoStop walk.now stop from limit)) }
+{
+    let mut work = MOST_WORK;
+    for n in from..limit {
+        if n > work {
+            return Ok(None);
+        }
+        work -= n;
+        let seen = walk.look(n)?;
+        if seen.outcome.steps < n {
+            return Ok(None);
+        }
+        if is_stop(walk.text(), stop, n, &seen.place) {
+            return Ok(Some(n));
+        }
+    }
+    Ok(None)
+}

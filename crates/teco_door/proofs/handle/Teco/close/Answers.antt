@@ -1,5 +1,0 @@
-use Rattle.std.proofs.Common.{rules}
-use Rattle.teco_door.proofs.handle.Teco.close.Goals as goal
-
-pub returns : goal.returns
-returns c = search rules

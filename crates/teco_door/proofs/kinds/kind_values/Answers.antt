@@ -1,8 +1,0 @@
-use Rattle.std.proofs.Common.{refl}
-use Rattle.teco_door.proofs.kinds.kind_values.Goals as goal
-
-pub returns-clause-splice : goal.returns-clause-splice
-returns-clause-splice c = refl
-
-pub returns-clause-number : goal.returns-clause-number
-returns-clause-number c = refl

@@ -1,5 +1,0 @@
-use Rattle.teco_door.proofs.stopper.Stopper.TheSendSync.{the_send}
-use Rattle.teco_door.proofs.laws.stopper_laws.Goals as goal
-
-pub returns : goal.returns
-returns c = record { crosses = the_send }

@@ -1,4 +1,0 @@
-use Rattle.teco_door.proofs.room.copy_from.Goals as goal
-
-pub returns-clause-room : goal.returns-clause-room
-returns-clause-room c = cc

@@ -1,0 +1,6 @@
+pub mod Checks
+pub mod Runs
+pub mod Showing
+pub mod Streamed
+pub mod Doings
+pub mod CommandSources

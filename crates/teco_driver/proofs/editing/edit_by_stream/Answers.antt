@@ -1,0 +1,13 @@
+use Rattle.std.proofs.Common.{inl, refl}
+use Rattle.teco_driver.proofs.Doings.{idle_ends, lacks_file, over_work}
+use Rattle.teco_driver.proofs.editing.edit_by_stream.Goals as goal
+
+pub returns-in-Err : goal.returns-in-Err
+returns-in-Err g c = rw c.requires.apart (lacks_file c.in-Err.ensures.fault refl c.in-Err.ensures.keeps)
+
+pub returns-in_default : goal.returns-in_default
+returns-in_default g c = rw c.requires.apart (idle_ends _ _ _ _ _ _ _ _ _ _ (λ term place quiet keeps. inl ((refl, quiet), keeps)) refl c.input_of.ensures.keeps)
+
+pub returns : goal.returns
+returns g c = rw c.requires.apart (over_work _ _ _ _ _ _ _ _ _ _ _ _ c.input_of.ensures.keeps c.in-Ok.ensures.input c.in-Ok-work_over.ensures.to c.in-Ok-work_over.ensures.history
+    (rw (← c.finish-fate.ensures.still, c.bounds_of.ensures) at c.serve-served.ensures) c.finish-fate.ensures.ends)

@@ -1,0 +1,22 @@
+use Rattle.std.proofs.Common.{ℕ, inr, subst, sym}
+use Rattle.teco_serve.specs.Exchange.{HasRung}
+use Rattle.teco_driver.specs.Runs.{RunsOrChecks}
+use Rattle.teco_fs.specs.Seen.{disk_seen}
+use Rattle.teco_driver.specs.Given.{host_view}
+use Rattle.teco_driver.proofs.Runs.{same_explain}
+use Rattle.teco_driver.proofs.running.program.Goals as goal
+
+pub returns-in-Ok : goal.returns-in-Ok
+returns-in-Ok g c = record {
+  run = let view = host_view (disk_seen g.D.Disk g.D.Input.Source) g.S.Source g.T.Terminal.screen (HasRung g.A.Stop.answered) in
+      let old = c.args.host.now in
+      let new = c.run_over.new.host in
+      inr (record {
+        line = c.in-Ok.line;
+        line_is = c.in-Ok.ensures.line;
+        runs = subst (λ (status : ℕ). RunsOrChecks view g.E.Terminal.screen c.in-Ok.line old new c.args.errors.now c.run_over.new.errors status)
+            (sym c.from.ensures) c.run_over.ensures.runs;
+      });
+  silent = λ line is off.
+      c.run_over.ensures.silent (same_explain c.args.words c.in-Ok.line line c.in-Ok.ensures.line is off);
+}

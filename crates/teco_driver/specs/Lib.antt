@@ -1,0 +1,7 @@
+pub mod Lines
+pub mod Checks
+pub mod Runs
+pub mod Seen
+pub mod Run
+pub mod Sources
+pub mod Given

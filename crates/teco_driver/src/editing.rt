@@ -1,0 +1,260 @@
+//! One run of the program: an input is read, commands are served over it, and the output is written.
+ghost use Rattle.std.specs.Prelude.{◌≡◌, ◌≤◌, IfOk, IfSome, IsTrue, false, true, vec_len};
+ghost use Rattle.std.specs.Option.{ForSome};
+ghost use Rattle.std.specs.String.{string_bytes};
+ghost use Rattle.teco_core.specs.declared.limits.TheConstants.{DEPTH_LIMIT, FILE_LIMIT};
+ghost use Rattle.teco_cli.specs.CommandLine.{IsDepth};
+ghost use Rattle.teco_cli.specs.StreamNames.{is_standard_input, is_standard_output};
+ghost use Rattle.teco_serve.specs.Exchange.{HasRung};
+ghost use Rattle.teco_serve.specs.Ending.{output_of};
+ghost use Rattle.teco_session.specs.History.{present};
+ghost use Rattle.teco_driver.specs.Run.{EndsBy, FinishesIn, bounds_of, depth_of, doings_after, history_over, named_output, replaces_input, standard_output};
+ghost use Rattle.teco_driver.specs.Given.{EditsByStream, EditsInput, KeepsStream, host_view};
+ghost use Rattle.teco_fs.specs.Seen.{disk_seen};
+ghost use Rattle.teco_driver.specs.Seen.{commands_seen};
+ghost use Rattle.teco_fs.specs.Writing.{both};
+ghost use Rattle.teco_session.specs.Kept.{history_of};
+
+use crate::fates::{fate_written, no_output};
+use crate::host::Host;
+use crate::reading::{input_at, input_of};
+use std::alloc::Global;
+use std::mem::ManuallyDrop;
+use teco_cli::{Commands, Line, is_standard_output};
+use teco_core::NoMemory;
+use teco_fs::{Disk, Reason, Written, has_bytes, write_output};
+use teco_io::{Source, Terminal, TerminalFault};
+use teco_serve::{Alarm, Bounds, Fate, Listens, Served, output_name, serve};
+use teco_session::Session;
+use teco_store::Desk;
+
+/// How many strings the history keeps: as many as the line says, all if it says none, and none of the strings for every page.
+fn depth_of(line: &Line) -> Option<usize>
+    requires { IfSome line.now.undo IsDepth }
+    ensures depth { result ≡ depth_of line.now }
+    ensures most { ForSome result (λ depth. depth ≤ DEPTH_LIMIT) }
+{
+    match (line.undo, &line.commands) {
+        (Some(depth), _) => Some(depth as usize),
+        (None, Commands::Pages(_)) => Some(0),
+        (None, _) => None,
+    }
+}
+
+/// A session over the input, with pages of as many lines as the line says, and with its depth.
+fn session_over(line: &Line, input: Vec<u8>) -> Result<Session, NoMemory>
+    requires small { vec_len input ≤ FILE_LIMIT }
+    requires depth { IfSome line.now.undo IsDepth }
+    ensures { IfOk result (λ session. history_of session ≡ history_over line.now input.items) }
+{
+    let lines = line.page_lines.unwrap_or(0) as usize;
+    Session::with_pages(input, lines, depth_of(line))
+}
+
+/// Whether the output goes over the file that is read: the line says so, or its output has the name of its input.
+fn replaces_input(line: &Line) -> bool
+    ensures { result ≡ replaces_input line.now }
+{
+    if line.in_place {
+        return true;
+    }
+    match &line.output {
+        Some(name) => name.as_str() == line.input.as_str(),
+        None => false,
+    }
+}
+
+/// Shows the output after an exit, after all that was typed.
+fn put_on_terminal<T: Terminal>(output: (&[u8], &[u8]), term: &mut T) -> Fate
+    ensures { EndsBy (doings_after Served.Exit (both output.entry) ⊥
+        (standard_output T.screen term.old term.new)) result }
+{
+    if let Err(TerminalFault) = term.put(output.0) {
+        return Fate::NoOutput(Reason::WriteFailed);
+    }
+    match term.put(output.1) {
+        Ok(()) => Fate::Ended(Served::Exit),
+        Err(TerminalFault) => Fate::NoOutput(Reason::WriteFailed),
+    }
+}
+
+/// Writes the output over the file that was read, under its name. That has to be what it was, and stays as it is if it has these bytes.
+fn put_over_input<D: Disk>(
+    alloc: Global,
+    name: &str,
+    number: u32,
+    output: (&[u8], &[u8]),
+    disk: &mut D,
+) -> Fate
+    ensures { let seen = disk_seen D.Disk D.Input.Source in
+        EndsBy (doings_after Served.Exit (both output.entry) (IsTrue true)
+        (named_output (seen disk.old) (seen disk.new) name.now)) result }
+{
+    if has_bytes(name, output, disk) {
+        return Fate::Unchanged;
+    }
+    match write_output(alloc, disk, name, number, Some(name), output) {
+        Ok(Written::Whole(unkept)) => fate_written(unkept),
+        Ok(Written::Changed) => Fate::Changed,
+        Err(error) => no_output(error),
+    }
+}
+
+/// Writes the output to a file, which is the one that was read if it goes `over` that.
+fn put_in_file<D: Disk>(
+    alloc: Global,
+    over: bool,
+    name: &str,
+    number: u32,
+    output: (&[u8], &[u8]),
+    disk: &mut D,
+) -> Fate
+    ensures { let seen = disk_seen D.Disk D.Input.Source in
+        EndsBy (doings_after Served.Exit (both output.entry) (IsTrue over)
+        (named_output (seen disk.old) (seen disk.new) name.now)) result }
+{
+    if over {
+        return put_over_input(alloc, name, number, output, disk);
+    }
+    match write_output(alloc, disk, name, number, None, output) {
+        Ok(Written::Whole(unkept)) => fate_written(unkept),
+        // no file is named that was read, so none has changed
+        Ok(Written::Changed) => unreachable!(),
+        Err(error) => no_output(error),
+    }
+}
+
+/// What is made of an input that was read: a session over it, and the name of its output.
+#[derive(Drop)]
+struct Work {
+    session: Session,
+    to: String,
+}
+
+/// Makes a session over an input of the line, with as many lines on a page and as deep as the line says.
+fn work_over(alloc: Global, line: &Line, name: &str, input: Vec<u8>) -> Result<Work, NoMemory>
+    requires small { vec_len input ≤ FILE_LIMIT }
+    requires depth { IfSome line.now.undo IsDepth }
+    ensures to { IfOk result (λ work. string_bytes work.to ≡ output_of line.now name.now) }
+    ensures history { IfOk result (λ work. history_of work.session ≡ history_over line.now input.items) }
+{
+    let to = output_name(alloc, line, name)?;
+    let session = session_over(line, input)?;
+    Ok(Work { session, to })
+}
+
+/// How far each command string may run, by the line.
+fn bounds_of(line: &Line) -> Bounds
+    ensures { result ≡ bounds_of line.now }
+{
+    Bounds {
+        steps: line.limit,
+        seconds: line.seconds,
+    }
+}
+
+/// What is done after a serving: after an exit the output is written to where the line says.
+fn finish<S: Source, A: Alarm, T: Terminal, D: Disk>(
+    alloc: Global,
+    line: &Line,
+    work: &Work,
+    served: Served,
+    host: &mut Host<S, A, T, D>,
+) -> Fate
+    ensures ends { let seen = disk_seen D.Disk D.Input.Source in
+        FinishesIn (is_standard_output (string_bytes work.now.to)) served (present (history_of work.now.session)).output
+        (replaces_input line.now) (string_bytes work.now.to)
+        (seen host.old.disk) (seen host.new.disk) T.screen host.old.terminal host.new.terminal result }
+    ensures still { host.new.commands ≡ host.old.commands }
+{
+    match served {
+        Served::Exit => {}
+        other => return Fate::Ended(other),
+    }
+    let name = work.to.as_str();
+    let output = work.session.editor().output();
+    if is_standard_output(name) {
+        return put_on_terminal(output, &mut host.terminal);
+    }
+    let over = replaces_input(line);
+    put_in_file(alloc, over, name, host.process, output, &mut host.disk)
+}
+
+/// Gives up a session that is over.
+fn leave(line: &Line, session: Session) {
+    if line.more.is_empty() {
+        // The process ends next, and the system takes back at once what the session would free change by change.
+        let _kept = ManuallyDrop::new(session);
+    }
+}
+
+/// Reads an input that is a file, and edits it by the commands of standard input.
+pub fn edit_by_stream<S: Source, A: Alarm, T: Terminal, L: Listens, D: Disk>(
+    alloc: Global,
+    line: &Line,
+    name: &str,
+    host: &mut Host<S, A, T, D>,
+    listener: &mut L,
+) -> Fate
+    requires depth { IfSome line.now.undo IsDepth }
+    requires apart { is_standard_input name.now ≡ false }
+    ensures { let view = host_view (disk_seen D.Disk D.Input.Source) S.Source T.screen (HasRung A.answered) in
+        EditsByStream view line.now name.now host.old host.new result }
+{
+    let input = match input_of(alloc, line, name, &mut host.disk) {
+        Ok(input) => input,
+        Err(fate) => return fate,
+    };
+    let Ok(mut work) = work_over(alloc, line, name, input) else {
+        return Fate::NoMemory;
+    };
+    let served = serve(
+        alloc,
+        &mut host.commands,
+        &mut work.session,
+        bounds_of(line),
+        line.prompt,
+        &mut host.alarm,
+        &mut host.terminal,
+        listener,
+    );
+    let fate = finish(alloc, line, &work, served, host);
+    leave(line, work.session);
+    fate
+}
+
+/// Reads an input, standard input or a file, and edits it by these commands.
+pub fn edit_by<C: Source, S: Source, A: Alarm, T: Terminal, L: Listens, D: Disk>(
+    alloc: Global,
+    line: &Line,
+    name: &str,
+    commands: &mut C,
+    host: &mut Host<S, A, T, D>,
+    listener: &mut L,
+) -> Fate
+    requires depth { IfSome line.now.undo IsDepth }
+    ensures edits { let view = host_view (disk_seen D.Disk D.Input.Source) S.Source T.screen (HasRung A.answered) in
+        EditsInput view line.now name.now (commands_seen C.Source commands.old commands.new view.asked) host.old host.new result }
+    ensures still { KeepsStream name.now host.old host.new }
+{
+    let input = match input_at(alloc, line, name, &mut host.commands, &mut host.disk) {
+        Ok(input) => input,
+        Err(fate) => return fate,
+    };
+    let Ok(mut work) = work_over(alloc, line, name, input) else {
+        return Fate::NoMemory;
+    };
+    let served = serve(
+        alloc,
+        commands,
+        &mut work.session,
+        bounds_of(line),
+        line.prompt,
+        &mut host.alarm,
+        &mut host.terminal,
+        listener,
+    );
+    let fate = finish(alloc, line, &work, served, host);
+    leave(line, work.session);
+    fate
+}

@@ -1,0 +1,21 @@
+//! A run of the program, from the words of its command line to its status, over any files and streams.
+#![tactic(auto)]
+
+mod checking;
+mod concluding;
+mod editing;
+mod fates;
+mod giving;
+mod host;
+mod looking;
+mod reading;
+mod running;
+mod several;
+mod sources;
+mod verdict;
+
+pub use concluding::{NO_MEMORY, conclude, no_memory};
+pub use giving::{Feed, edit_given, feed_of};
+pub use host::Host;
+pub use running::program;
+pub use sources::{CommandsFault, Part, Parts, commands_given, decline, source_name};

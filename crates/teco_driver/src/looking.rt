@@ -1,0 +1,45 @@
+//! A look at commands before they are run.
+ghost use Rattle.std.specs.Prelude.{◌≡◌, IfNone, IfSome};
+ghost use Rattle.teco_driver.specs.Given.{come_as_wanted};
+ghost use Rattle.teco_driver.specs.Checks.{AreRejected, MayRun};
+
+use crate::verdict::verdict_on;
+use crate::{Parts, no_memory};
+use std::alloc::Global;
+use teco_cli::Commands;
+use teco_core::NoMemory;
+use teco_io::Terminal;
+
+/// Whether the commands are those of standard input, or of a file as they are.
+fn come_as_wanted(commands: &Commands) -> bool
+    ensures { result ≡ come_as_wanted commands.now }
+{
+    matches!(commands, Commands::StandardInput | Commands::Bytes(_))
+}
+
+/// Looks at the commands of sources, which are had whole. If a string is misspelt, tells its faults and gives the status.
+///
+/// Commands as they are, of standard input or a file, are not looked at. They may be a record, which has each fault that was typed.
+pub(crate) fn status_if_misspelt<E: Terminal>(
+    alloc: Global,
+    commands: &Commands,
+    parts: &Parts,
+    bytes: &[u8],
+    errors: &mut E,
+) -> Option<u8>
+    ensures rejected { IfSome result (AreRejected commands.now bytes.now (E.screen errors.old) (E.screen errors.new)) }
+    ensures may_run { IfNone result (MayRun commands.now bytes.now) }
+    ensures silent { IfNone result (errors.new ≡ errors.old) }
+{
+    if come_as_wanted(commands) {
+        return None;
+    }
+    let Ok(verdict) = verdict_on(alloc, commands, parts, bytes, false) else {
+        return Some(no_memory(errors));
+    };
+    if verdict.is_misspelt {
+        let _ = errors.put(verdict.lines.as_bytes());
+        return Some(3);
+    }
+    None
+}

@@ -1,0 +1,75 @@
+//! What the program does, on any disk, terminal and commands.
+ghost use Rattle.std.specs.Prelude.{◌≡◌, false, IfErr, IfOk, IfSome};
+ghost use Rattle.std.specs.Process.{exit_status};
+ghost use Rattle.teco_cli.specs.CommandLine.{IsDepth};
+ghost use Rattle.teco_cli.specs.Conflict.{has_conflict};
+ghost use Rattle.teco_serve.specs.Exchange.{HasRung};
+ghost use Rattle.teco_driver.specs.Lines.{IsFaultIn, IsLineIn};
+ghost use Rattle.teco_driver.specs.Given.{host_view};
+ghost use Rattle.teco_driver.specs.Runs.{Runs, RunsOrChecks};
+ghost use Rattle.teco_fs.specs.Seen.{disk_seen};
+
+use crate::checking::check_line;
+use crate::several::{edit_all, edit_told};
+use crate::{Host, NO_MEMORY, feed_of};
+use std::alloc::Global;
+use std::process::ExitCode;
+use teco_cli::{Line, LineFault, line_of};
+use teco_fs::{Disk, refuse};
+use teco_io::{Source, Terminal};
+use teco_serve::Alarm;
+
+fn line_in(alloc: Global, words: Result<Vec<String>, LineFault>) -> Result<Line, LineFault>
+    ensures line { IfOk result (IsLineIn words) }
+    ensures depth { IfOk result (λ line. IfSome line.undo IsDepth) }
+    ensures fits { IfOk result (λ line. has_conflict line ≡ false) }
+    ensures fault { IfErr result (IsFaultIn words) }
+{
+    match words {
+        Ok(words) => line_of(alloc, words.as_slice()),
+        Err(fault) => Err(fault),
+    }
+}
+
+/// Runs over a line, or checks it if it asks for that, and tells how that ends. Gives the status.
+fn run_over<S: Source, A: Alarm, T: Terminal, E: Terminal, N: Terminal, D: Disk>(
+    alloc: Global,
+    line: &Line,
+    host: &mut Host<S, A, T, D>,
+    errors: &mut E,
+    notes: &mut N,
+) -> u8
+    requires depth { IfSome line.now.undo IsDepth }
+    requires fits { has_conflict line.now ≡ false }
+    ensures runs { let view = host_view (disk_seen D.Disk D.Input.Source) S.Source T.screen (HasRung A.answered) in
+        RunsOrChecks view E.screen line.now host.old host.new errors.old errors.new result }
+    ensures silent { line.now.explain ≡ false → notes.new ≡ notes.old }
+{
+    if line.check {
+        return check_line(alloc, line, host, errors);
+    }
+    if let Some(feed) = feed_of(line) {
+        let name = line.input.as_str();
+        return edit_told(alloc, line, name, feed, host, errors, notes);
+    }
+    edit_all(alloc, line, host, errors, notes)
+}
+
+/// Runs over the line of these words, and gives the status. The alarm of the host breaks off command strings of a line that gives them
+/// seconds. The notes are for what the line asks to be explained.
+pub fn program<S: Source, A: Alarm, T: Terminal, E: Terminal, N: Terminal, D: Disk>(
+    alloc: Global,
+    words: Result<Vec<String>, LineFault>,
+    host: &mut Host<S, A, T, D>,
+    errors: &mut E,
+    notes: &mut N,
+) -> ExitCode
+    ensures run { let view = host_view (disk_seen D.Disk D.Input.Source) S.Source T.screen (HasRung A.answered) in
+        Runs view E.screen words host.old host.new errors.old errors.new (exit_status result) }
+    ensures silent { (line : Line) → IsLineIn words line → line.explain ≡ false → notes.new ≡ notes.old }
+{
+    match line_in(alloc, words) {
+        Ok(line) => ExitCode::from(run_over(alloc, &line, host, errors, notes)),
+        Err(fault) => ExitCode::from(refuse(&fault, NO_MEMORY, &mut host.terminal, errors)),
+    }
+}

@@ -1,4 +1,0 @@
-pub mod Showing
-pub mod Streamed
-pub mod Doings
-pub mod CommandSources

@@ -1,4 +1,0 @@
-pub mod Seen
-pub mod Run
-pub mod Sources
-pub mod Given

@@ -1,4 +1,0 @@
-pub mod Strings
-pub mod Turns
-pub mod Forms
-pub mod Entries

@@ -1,0 +1,56 @@
+//! What stands at a place of a text.
+ghost use Rattle.std.specs.Prelude.{◌≡◌, ◌≤◌, drop, length};
+ghost use Rattle.teco_scan.specs.Scan.{after_fillers, scan};
+ghost use Rattle.teco_scan.specs.Seen.{IsKindIn, instruction_in};
+ghost use Rattle.teco_ffi.specs.Tokens.{after_token, instruction_text, last_text, token_answer, token_kind};
+
+use crate::answers::NO_TOKEN;
+use crate::token_kinds::number_of_token;
+use teco_scan::{Found, Item, Span, TokenKind, filler_end, token_at};
+
+/// How many bytes the last text of a token has.
+fn text_size(text: &[u8], kind: TokenKind) -> usize
+    requires { IsKindIn (length text.now) kind }
+    ensures { result ≡ length (instruction_text (instruction_in text.now kind)) }
+{
+    match kind {
+        TokenKind::Item(Item::Text(_, Span { from, to }))
+        | TokenKind::Item(Item::SetText(_, Span { from, to }))
+        | TokenKind::Item(Item::Replace(_, Span { from, to }))
+        | TokenKind::Tag(Span { from, to }) => to - from,
+        _ => 0,
+    }
+}
+
+/// Tells what stands at a place of a text after fillers, as `teco_token` of the door does. Takes no memory.
+pub fn tell_token(
+    text: &[u8],
+    at: usize,
+    from: &mut usize,
+    to: &mut usize,
+    kind: &mut u8,
+    size: &mut usize,
+) -> u8
+    ensures answer { result ≡ token_answer (scan (drop at text.now)) }
+    ensures from { drop from.new text.now ≡ after_fillers (drop at text.now) }
+    ensures to { drop to.new text.now ≡ after_token (scan (drop at text.now)) }
+    ensures kind { kind.new ≡ token_kind (scan (drop at text.now)) }
+    ensures size { size.new ≡ length (last_text (scan (drop at text.now))) }
+    ensures within { (from.new ≤ to.new) × (to.new ≤ length text.now) }
+{
+    let at = at.min(text.len());
+    *from = filler_end(text, at);
+    *to = text.len();
+    *kind = 0;
+    *size = 0;
+    match token_at(text, at) {
+        Found::End => NO_TOKEN,
+        Found::Fault(code) => code.number(),
+        Found::Token(token) => {
+            *to = token.span.to;
+            *kind = number_of_token(token.kind);
+            *size = text_size(text, token.kind);
+            0
+        }
+    }
+}

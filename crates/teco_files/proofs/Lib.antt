@@ -1,2 +1,0 @@
-pub mod Disks
-pub mod FileLogs

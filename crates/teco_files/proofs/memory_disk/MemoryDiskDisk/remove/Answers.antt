@@ -1,6 +1,0 @@
-use Rattle.teco_files.specs.Disk.{SameBut}
-use Rattle.teco_files.proofs.FileLogs.{passes}
-use Rattle.teco_files.proofs.memory_disk.MemoryDiskDisk.remove.Goals as goal
-
-pub returns-clause-moments : goal.returns-clause-moments
-returns-clause-moments c = passes c.args.self.now.log c.removed-removed.new.self (SameBut c.args.name.now) c.removed-removed.ensures.grows c.removed-removed.ensures.others

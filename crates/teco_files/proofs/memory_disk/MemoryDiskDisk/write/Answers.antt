@@ -1,6 +1,0 @@
-use Rattle.teco_files.specs.Disk.{SameBut}
-use Rattle.teco_files.proofs.FileLogs.{passes}
-use Rattle.teco_files.proofs.memory_disk.MemoryDiskDisk.write.Goals as goal
-
-pub returns-clause-moments : goal.returns-clause-moments
-returns-clause-moments c = passes c.args.self.now.log c.written-written.new.self (SameBut c.args.name.now) c.written-written.ensures.grows c.written-written.ensures.others

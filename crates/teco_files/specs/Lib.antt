@@ -1,3 +1,0 @@
-pub mod Disk
-pub mod FileLog
-pub mod Unkept

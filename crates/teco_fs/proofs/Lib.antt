@@ -1,0 +1,3 @@
+pub mod Disks
+pub mod FileLogs
+pub mod Writings

@@ -1,0 +1,9 @@
+pub mod Disk
+pub mod FileLog
+pub mod Unkept
+pub mod Seen
+pub mod Reading
+pub mod Draft
+pub mod Reasons
+pub mod Writing
+pub mod Refusing

@@ -1,0 +1,29 @@
+//! Files: those of the system and those in memory, and how an output is written whole.
+#![tactic(auto)]
+
+mod comparing;
+mod disk;
+mod draft;
+mod failures;
+mod file_disk;
+mod lock;
+mod memory_disk;
+mod output;
+mod piped;
+mod reason;
+mod refusing;
+mod standard;
+mod target;
+mod unkept;
+
+pub use comparing::has_bytes;
+pub use disk::Disk;
+pub use file_disk::FileDisk;
+pub use memory_disk::{MemoryDisk, Refused};
+pub use output::{Written, write_output};
+pub use piped::{Piped, UntilLeft};
+pub use reason::{Reason, reason_of};
+pub use refusing::refuse;
+pub use standard::hold_standard_streams;
+pub use target::Target;
+pub use unkept::Unkept;

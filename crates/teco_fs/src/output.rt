@@ -1,0 +1,284 @@
+//! Writing the output.
+ghost use Rattle.std.specs.Prelude.{◌≡◌, ◌≢◌, ◌⊎◌, List, ℕ, None, IfErr, IfOk, IfSome, OnErr, OnOk, Some};
+ghost use Rattle.std.specs.String.{string_bytes};
+ghost use Rattle.std.specs.declared.io.Error.{Error};
+ghost use Rattle.teco_fs.specs.Draft.{draft_beside};
+ghost use Rattle.teco_fs.specs.Disk.{Appends, Changes, Counts, Creates, Files, IsWhole, LeavesFiles, Passes, Removes, Renames, Replaces, Same, SameBut};
+ghost use Rattle.teco_fs.specs.Seen.{IsAsked};
+ghost use Rattle.teco_fs.specs.Writing.{AddsDrafts, HasChanged, HasDraft, IfChanged, IfWhole, IfWholeWith, IsPut, IsTaking, IsWriteError, IsWriting, UnlessWhole, Writes, both};
+
+use crate::{Disk, Target, Unkept};
+use std::alloc::Global;
+use std::io;
+use std::io::ErrorKind;
+use std::path::Path;
+use teco_core::NoMemory;
+
+/// How many names are tried for a draft.
+const DRAFTS: u32 = 100;
+
+/// Writes the bytes to a draft, and waits until they outlast a crash.
+fn fill<D: Disk>(
+    disk: &mut D,
+    draft: &mut D::Draft,
+    name: &str,
+    bytes: (&[u8], &[u8]),
+) -> io::Result<()>
+    requires { D.is_of draft.old name.now }
+    ensures ok { OnOk result (Changes (D.files disk.old) (D.files disk.new)
+        (Appends name.now (both bytes.entry))) }
+    ensures kept { OnOk result (D.kept disk.new name.now) }
+    ensures err { OnErr result (Changes (D.files disk.old) (D.files disk.new) (SameBut name.now)) }
+    ensures streams { D.streams disk.new ≡ D.streams disk.old }
+    ensures moments { Passes (D.files disk.old) (D.left disk.old) (D.left disk.new) (SameBut name.now) }
+    ensures count { Counts result (D.failures disk.old) (D.failures disk.new) }
+    ensures error { IfErr result (D.gave disk.new) }
+{
+    disk.write(draft, name, bytes.0)?;
+    disk.write(draft, name, bytes.1)?;
+    disk.make_like(draft, name);
+    disk.sync(draft, name)
+}
+
+/// Makes a draft with these bytes, which outlast a crash. Where they can't be written, it is removed again.
+fn create<D: Disk>(disk: &mut D, name: &str, bytes: (&[u8], &[u8])) -> io::Result<()>
+    ensures ok { OnOk result (Changes (D.files disk.old) (D.files disk.new)
+        (Creates name.now (both bytes.entry))) }
+    ensures kept { OnOk result (D.kept disk.new name.now) }
+    ensures err { OnErr result (Changes (D.files disk.old) (D.files disk.new) (LeavesFiles name.now)) }
+    ensures removed { OnErr result (Changes (D.files disk.old) (D.files disk.new) Same
+        ⊎ D.unremoved disk.new name.now) }
+    ensures streams { D.streams disk.new ≡ D.streams disk.old }
+    ensures moments { Passes (D.files disk.old) (D.left disk.old) (D.left disk.new) (SameBut name.now) }
+    ensures count { Counts result (D.failures disk.old) (D.failures disk.new) }
+    ensures error { IfErr result (D.gave disk.new) }
+{
+    let mut draft = disk.make(name)?;
+    if let Err(error) = fill(disk, &mut draft, name, bytes) {
+        let _ = disk.remove(name);
+        return Err(error);
+    }
+    Ok(())
+}
+
+/// What became of an output that was written, where no call failed.
+#[derive(Clone, Copy)]
+pub enum Written {
+    /// All of it is there, but this could not be kept of the file whose place it takes.
+    Whole(Option<Unkept>),
+    /// Nothing was written over the file that was read, since it has changed.
+    Changed,
+}
+
+/// Removes a draft that is not needed, if the system lets us.
+fn discard<D: Disk>(disk: &mut D, draft: &str)
+    ensures removed { Changes (D.files disk.old) (D.files disk.new) (Removes draft.now) ⊎ D.unremoved disk.new draft.now }
+    ensures others { Changes (D.files disk.old) (D.files disk.new) (SameBut draft.now) }
+    ensures streams { D.streams disk.new ≡ D.streams disk.old }
+    ensures moments { Passes (D.files disk.old) (D.left disk.old) (D.left disk.new) (SameBut draft.now) }
+    ensures count { D.failures disk.new ≡ D.failures disk.old }
+    ensures changed { (file : List ℕ) → D.changed disk.old file → D.changed disk.new file }
+    ensures errors { (error : Error) → D.gave disk.old error → D.gave disk.new error }
+{
+    let _ = disk.remove(draft);
+}
+
+/// Gives a draft the name of the file whose place it takes. Where that fails the draft is removed.
+fn take_name<D: Disk>(disk: &mut D, draft: &str, file: &str) -> io::Result<Written>
+    requires { draft.now ≢ file.now }
+    ensures ok { IfWhole result (Changes (D.files disk.old) (D.files disk.new) (Renames draft.now file.now)) }
+    ensures unkept { IfWholeWith result (D.unkept disk.new) }
+    ensures unchanged { IfChanged result ⊥ }
+    ensures err { UnlessWhole result (Changes (D.files disk.old) (D.files disk.new) (SameBut draft.now)) }
+    ensures removed { UnlessWhole result (Changes (D.files disk.old) (D.files disk.new) (Removes draft.now)
+        ⊎ D.unremoved disk.new draft.now) }
+    ensures streams { D.streams disk.new ≡ D.streams disk.old }
+    ensures moments { D.kept disk.old draft.now → Passes (D.files disk.old) (D.left disk.old) (D.left disk.new)
+        (IsTaking draft.now file.now) }
+    ensures count { Counts result (D.failures disk.old) (D.failures disk.new) }
+    ensures error { IfErr result (D.gave disk.new) }
+{
+    match disk.rename(draft, file) {
+        Ok(unkept) => Ok(Written::Whole(unkept)),
+        Err(error) => {
+            discard(disk, draft);
+            Err(error)
+        }
+    }
+}
+
+/// Gives a draft the name of the file that was read under this other name, if that is still what it was then. Else the draft is removed.
+fn take_name_as_read<D: Disk>(
+    disk: &mut D,
+    read: &str,
+    draft: &str,
+    file: &str,
+) -> io::Result<Written>
+    requires { draft.now ≢ file.now }
+    ensures ok { IfWhole result (Changes (D.files disk.old) (D.files disk.new) (Renames draft.now file.now)) }
+    ensures unkept { IfWholeWith result (D.unkept disk.new) }
+    ensures asked { IfWhole result (IsAsked D.files D.changed read.now (D.files disk.old) Same) }
+    ensures changed { IfChanged result (D.changed disk.new read.now) }
+    ensures err { UnlessWhole result (Changes (D.files disk.old) (D.files disk.new) (SameBut draft.now)) }
+    ensures removed { UnlessWhole result (Changes (D.files disk.old) (D.files disk.new) (Removes draft.now)
+        ⊎ D.unremoved disk.new draft.now) }
+    ensures streams { D.streams disk.new ≡ D.streams disk.old }
+    ensures moments { D.kept disk.old draft.now → Passes (D.files disk.old) (D.left disk.old) (D.left disk.new)
+        (IsTaking draft.now file.now) }
+    ensures count { Counts result (D.failures disk.old) (D.failures disk.new) }
+    ensures error { IfErr result (D.gave disk.new) }
+{
+    match disk.is_as_read(read) {
+        Ok(true) => take_name(disk, draft, file),
+        Ok(false) => {
+            discard(disk, draft);
+            Ok(Written::Changed)
+        }
+        Err(error) => {
+            discard(disk, draft);
+            Err(error)
+        }
+    }
+}
+
+/// Gives a file these bytes in the place of what it has. They are written to a new file, the draft, which then takes the file's name. A file
+/// that was `read` is looked at directly before that, and is replaced only if it is still what it was.
+///
+/// So at no moment has the file a part of them. Where a call fails, or the file has changed, each file stays as it was, and no draft is
+/// left, or it could not be removed.
+pub fn replace<D: Disk>(
+    disk: &mut D,
+    file: &str,
+    draft: &str,
+    read: Option<&str>,
+    bytes: (&[u8], &[u8]),
+) -> io::Result<Written>
+    requires { draft.now ≢ file.now }
+    ensures ok { IfWhole result (Changes (D.files disk.old) (D.files disk.new)
+        (Replaces file.now (both bytes.entry))) }
+    ensures unkept { IfWholeWith result (D.unkept disk.new) }
+    ensures asked { IfWhole result (IfSome read.entry (λ read. IsAsked D.files D.changed read.now (D.files disk.old)
+        (λ before now. now draft.now ≡ Some (both bytes.entry)))) }
+    ensures changed { IfChanged result (HasChanged D.changed disk.new read.entry) }
+    ensures err { UnlessWhole result (Changes (D.files disk.old) (D.files disk.new) (LeavesFiles draft.now)) }
+    ensures removed { UnlessWhole result (Changes (D.files disk.old) (D.files disk.new) Same
+        ⊎ D.unremoved disk.new draft.now) }
+    ensures streams { D.streams disk.new ≡ D.streams disk.old }
+    ensures moments { Passes (D.files disk.old) (D.left disk.old) (D.left disk.new)
+        (IsWhole file.now draft.now (both bytes.entry)) }
+    ensures count { Counts result (D.failures disk.old) (D.failures disk.new) }
+    ensures error { IfErr result (D.gave disk.new) }
+{
+    create(disk, draft, bytes)?;
+    match read {
+        Some(read) => take_name_as_read(disk, read, draft, file),
+        None => take_name(disk, draft, file),
+    }
+}
+
+/// The name of a draft: in the folder of the file, of this number, and not the file's.
+fn draft_name(alloc: Global, file: &str, number: u32) -> Result<String, NoMemory>
+    ensures named { IfOk result (λ draft. string_bytes draft ≡ draft_beside file.now number) }
+    ensures another { IfOk result (λ draft. string_bytes draft ≢ file.now) }
+{
+    let name = format!(in alloc; ".teco-{number}")?;
+    let mut draft = Path::new(file)
+        .with_file_name(alloc, name.as_str())?
+        .into_string();
+    if draft.as_str() == file {
+        draft.push_str("-")?;
+    }
+    Ok(draft)
+}
+
+/// Gives a file these bytes, by the first draft whose name is free.
+fn replace_file<D: Disk>(
+    alloc: Global,
+    disk: &mut D,
+    file: &str,
+    number: u32,
+    read: Option<&str>,
+    bytes: (&[u8], &[u8]),
+) -> io::Result<Written>
+    ensures ok { IfWhole result (Changes (D.files disk.old) (D.files disk.new)
+        (Writes file.now (both bytes.entry))) }
+    ensures unkept { IfWholeWith result (D.unkept disk.new) }
+    ensures asked { IfWhole result (IfSome read.entry (λ read. IsAsked D.files D.changed read.now (D.files disk.old)
+        (HasDraft file.now (both bytes.entry)))) }
+    ensures changed { IfChanged result (HasChanged D.changed disk.new read.entry) }
+    ensures err { UnlessWhole result (Changes (D.files disk.old) (D.files disk.new) (AddsDrafts file.now)) }
+    ensures streams { D.streams disk.new ≡ D.streams disk.old }
+    ensures moments { Passes (D.files disk.old) (D.left disk.old) (D.left disk.new)
+        (IsWriting file.now (both bytes.entry)) }
+    ensures error { IfErr result (IsWriteError (D.gave disk.new)) }
+{
+    'drafts: for draft_number in number..number.saturating_add(DRAFTS) {
+        let draft = draft_name(alloc, file, draft_number)?;
+        match replace(disk, file, draft.as_str(), read, bytes) {
+            Err(error) if error.kind() == ErrorKind::AlreadyExists => {}
+            done => return done,
+        }
+    }
+    Err(io::Error::from(ErrorKind::AlreadyExists))
+}
+
+/// Gives a stream these bytes after what it was given. One that was `read` as a file is looked at before, and is given nothing if it is not
+/// what it was.
+fn append<D: Disk>(
+    disk: &mut D,
+    name: &str,
+    read: Option<&str>,
+    bytes: (&[u8], &[u8]),
+) -> io::Result<Written>
+    ensures ok { IfWhole result
+        (Appends name.now (both bytes.entry) (D.streams disk.old) (D.streams disk.new)) }
+    ensures unkept { IfWholeWith result (D.unkept disk.new) }
+    ensures asked { IfWhole result (IfSome read.entry (λ read. IsAsked D.files D.changed read.now (D.files disk.old) Same)) }
+    ensures changed { IfChanged result (HasChanged D.changed disk.new read.entry) }
+    ensures others { SameBut name.now (D.streams disk.old) (D.streams disk.new) }
+    ensures files { D.files disk.new ≡ D.files disk.old }
+    ensures moments { (files : Files) → D.left disk.new files → D.left disk.old files }
+    ensures error { IfErr result (D.gave disk.new) }
+{
+    if let Some(was) = read {
+        match disk.is_as_read(was) {
+            Ok(true) => {}
+            Ok(false) => return Ok(Written::Changed),
+            Err(error) => return Err(error),
+        }
+    }
+    match disk.append(name, bytes) {
+        // a stream keeps all that it is
+        Ok(()) => Ok(Written::Whole(None)),
+        Err(error) => Err(error),
+    }
+}
+
+/// Writes the output, which is in two parts. A file that is new or is replaced has it whole or stays as it was; a device, a pipe
+/// or a socket is given it after what it was given before. What was `read` is written over only if it is still what it was. The number is
+/// for the name of a draft.
+pub fn write_output<D: Disk>(
+    alloc: Global,
+    disk: &mut D,
+    name: &str,
+    number: u32,
+    read: Option<&str>,
+    output: (&[u8], &[u8]),
+) -> io::Result<Written>
+    ensures ok { IfWhole result (Changes (D.files disk.old) (D.files disk.new)
+        (IsPut name.now (both output.entry) (D.streams disk.old name.now) (D.streams disk.new name.now))) }
+    ensures unkept { IfWholeWith result (D.unkept disk.new) }
+    ensures asked { IfWhole result (IfSome read.entry (λ read. IsAsked D.files D.changed read.now (D.files disk.old)
+        (λ before now. D.streams disk.old name.now ≡ None → HasDraft name.now (both output.entry) before now))) }
+    ensures changed { IfChanged result (HasChanged D.changed disk.new read.entry) }
+    ensures err { UnlessWhole result (Changes (D.files disk.old) (D.files disk.new) (AddsDrafts name.now)) }
+    ensures streams { SameBut name.now (D.streams disk.old) (D.streams disk.new) }
+    ensures moments { Passes (D.files disk.old) (D.left disk.old) (D.left disk.new)
+        (IsWriting name.now (both output.entry)) }
+    ensures error { IfErr result (IsWriteError (D.gave disk.new)) }
+{
+    match disk.target_of(name)? {
+        Target::Stream => append(disk, name, read, output),
+        Target::File(file) => replace_file(alloc, disk, file.as_str(), number, read, output),
+    }
+}

@@ -1,0 +1,4 @@
+pub mod Counting
+pub mod Shown
+pub mod Pieces
+pub mod Sources

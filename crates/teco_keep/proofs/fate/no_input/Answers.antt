@@ -1,4 +1,0 @@
-use Rattle.teco_keep.proofs.fate.no_input.Goals as goal
-
-pub returns : goal.returns
-returns c = rw c.reason_of.ensures at c.fate_of.ensures

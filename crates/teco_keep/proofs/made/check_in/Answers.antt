@@ -1,8 +1,0 @@
-use Rattle.std.proofs.Common.{sym, ◌∙◌}
-use Rattle.teco_keep.proofs.made.check_in.Goals as goal
-
-pub returns-then-advice : goal.returns-then-advice
-returns-then-advice c = (c.in_ok-advice.advice.code, c.in_ok-advice.ensures.code, sym c.in_ok-advice.ensures.found ∙ c.if-advice.true)
-
-pub returns : goal.returns
-returns c = (c.in_ok-advice.advice.code, c.in_ok-advice.ensures.code, sym c.in_ok-advice.ensures.found ∙ c.if-advice.false)

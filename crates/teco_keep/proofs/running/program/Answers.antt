@@ -1,5 +1,0 @@
-use Rattle.std.proofs.Common.{inr}
-use Rattle.teco_keep.proofs.running.program.Goals as goal
-
-pub returns-in-Ok : goal.returns-in-Ok
-returns-in-Ok g c = inr (record { line = c.in-Ok.line; line_is = c.in-Ok.ensures.line; run = rw c.from.ensures c.keep.ensures })

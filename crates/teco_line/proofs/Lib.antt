@@ -1,3 +1,0 @@
-mod CommandRows
-mod Joinings
-mod CommandLines

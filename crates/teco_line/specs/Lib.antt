@@ -1,4 +1,0 @@
-pub mod CommandLine
-pub mod Conflict
-pub mod Joining
-pub mod OptionRules

@@ -1,0 +1,4 @@
+pub mod Calls
+pub mod Spelling
+pub mod Strings
+pub mod Told

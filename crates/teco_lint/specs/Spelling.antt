@@ -1,0 +1,45 @@
+-- Commands that are misspelt: they have a fault by which a run may end, of those that a check finds.
+use Rattle.std.specs.Prelude.{ℕ, zero, suc, Bool, true, false, List, [], drop, Option, Some, None, if◌then◌else◌}
+use Rattle.std.specs.List.{list_any}
+use Rattle.teco_scan.specs.Scan.{Instruction, Scanned, step, set_text, found, scan}
+use Rattle.teco_check.specs.Walk.{first_within}
+use Rattle.teco_check.specs.declared.faults.Fault.{Fault}
+use Rattle.teco_check.specs.declared.faults.TheConstants.{MOST_TEXTS}
+use Rattle.teco_check.specs.declared.faults.Wrong.{Wrong}
+use Rattle.teco_check.specs.declared.faults.Wrong.TheVariants as wrongs
+use Rattle.teco_lint.specs.Strings.{is_request, strings_of}
+
+-- the text that an instruction puts into a register; nothing where it puts none
+abbrev pub put_by : Instruction → List ℕ
+put_by (step (set_text q put)) = put
+put_by instruction = []
+
+-- the same of the first token of some bytes
+abbrev pub put_first : Scanned → List ℕ
+put_first (found t rest) = put_by t.instruction
+put_first scanned = []
+
+-- A run that comes to the fault ends by its code. A fault in a text that is put where code is counts if that text is misspelt. What
+-- no check looks into is not misspelt.
+abbrev pub misspelt_by : (List ℕ → Bool) → List ℕ → ℕ → Wrong → Bool
+misspelt_by inside bytes at wrongs.InText = inside (put_first (scan (drop at bytes)))
+misspelt_by inside bytes at wrongs.Calls = false
+misspelt_by inside bytes at wrongs.Loads = false
+misspelt_by inside bytes at wrong = true
+
+abbrev pub misspelt_at : (List ℕ → Bool) → List ℕ → Option Fault → Bool
+misspelt_at inside bytes None = false
+misspelt_at inside bytes (Some first) = misspelt_by inside bytes first.at first.wrong
+
+-- The first fault of a text makes it misspelt, where texts are looked into so many deep. What is deeper is not looked into.
+unfoldable pub misspelt_within : ℕ → List Bool → List ℕ → Bool
+misspelt_within zero code bytes = misspelt_at (λ inside. false) bytes (first_within zero code bytes)
+misspelt_within (suc n) code bytes = misspelt_at (misspelt_within n code) bytes (first_within (suc n) code bytes)
+
+-- The string is a misspelt text, where these registers hold code.
+abbrev pub is_misspelt_string : List Bool → List ℕ → Bool
+is_misspelt_string code string = if is_request string then false else misspelt_within MOST_TEXTS code string
+
+-- One of the command strings is.
+abbrev pub is_misspelt : List Bool → List ℕ → Bool
+is_misspelt code commands = list_any (is_misspelt_string code) (strings_of commands)

@@ -1,0 +1,111 @@
+//! Which registers hold code: those that are called.
+ghost use Rattle.std.specs.Prelude.{◌≡◌, ◌<◌, ◌≤◌, length};
+ghost use Rattle.teco_scan.specs.Scan.{register, step};
+ghost use Rattle.teco_scan.specs.Seen.{instruction_in};
+ghost use Rattle.teco_lint.specs.Calls.{AnyCalls, AnyCallsWithin, AreCalled, Calls, CallsWithin, MayCall, Notes, register_call};
+ghost use Rattle.teco_lint.specs.Strings.{strings_of};
+
+use crate::cutting::string_end;
+use teco_check::{MOST_TEXTS, REGISTERS};
+use teco_scan::{Found, Item, RegisterCommand, Token, TokenKind, filler_end, token_at};
+
+/// Which registers are called, and which are given a text.
+#[derive(Clone, Copy)]
+pub struct Registers {
+    pub called: [bool; REGISTERS],
+    pub given: [bool; REGISTERS],
+}
+
+impl Registers {
+    /// Notes what a command does to the register of this number.
+    fn note(&mut self, command: RegisterCommand, index: usize)
+        requires { index < 36 }
+        ensures { Notes (λ q. step (register command index) ≡ register_call q)
+            (λ q. step (register command index) ≡ register_call q) self.old.called self.new.called }
+    {
+        match command {
+            RegisterCommand::Macro => self.called[index] = true,
+            RegisterCommand::Extract | RegisterCommand::Pop => self.given[index] = true,
+            _ => {}
+        }
+    }
+
+    /// Notes what a token does, and what the tokens do of a text that it puts where code is.
+    #[cycle(noting)]
+    fn note_token(&mut self, text: &[u8], token: &Token, texts: usize)
+        ensures { Notes (λ q. instruction_in text.now token.now.kind ≡ register_call q)
+            (MayCall (instruction_in text.now token.now.kind)) self.old.called self.new.called }
+    {
+        let TokenKind::Item(item) = token.kind else {
+            return;
+        };
+        match item {
+            Item::Register(command, register) => self.note(command, register.index()),
+            Item::SetText(register, span) => {
+                let index = register.index();
+                self.given[index] = true;
+                if self.called[index]
+                    && texts > 0
+                    && span.from <= span.to
+                    && span.to <= text.len()
+                {
+                    self.note_text(&text[span.from..span.to], texts - 1);
+                }
+            }
+            _ => {}
+        }
+    }
+
+    /// Notes what the tokens of a text do. Where none can be read it goes on after a byte.
+    #[cycle(noting)]
+    fn note_text(&mut self, text: &[u8], texts: usize)
+        ensures { Notes (λ q. Calls q text.now) (λ q. CallsWithin q text.now)
+            self.old.called self.new.called }
+    {
+        let mut at = 0;
+        while at < text.len() {
+            match token_at(text, at) {
+                Found::Token(token) => {
+                    at = token.span.to;
+                    self.note_token(text, &token, texts);
+                }
+                Found::End => return,
+                Found::Fault(_) => at = filler_end(text, at).saturating_add(1),
+            }
+        }
+    }
+
+    /// The same of each command string, and of what comes after the last.
+    fn note_strings(&mut self, commands: &[u8])
+        ensures { Notes (λ q. AnyCalls q (strings_of commands.now))
+            (λ q. AnyCallsWithin q (strings_of commands.now)) self.old.called self.new.called }
+    {
+        let mut start = 0;
+        while let Some(end) = string_end(commands, start) {
+            self.note_text(&commands[start..end], MOST_TEXTS);
+            start = end + 1;
+        }
+        self.note_text(&commands[start..], MOST_TEXTS);
+    }
+}
+
+/// Which registers the commands call, and which they give a text.
+///
+/// A text counts if it is put where code is. So the commands are gone over until no more registers are called.
+pub fn registers_in(commands: &[u8]) -> Registers
+    ensures { AreCalled result.called commands.now }
+{
+    let mut registers = Registers {
+        called: [false; REGISTERS],
+        given: [false; REGISTERS],
+    };
+    registers.note_strings(commands);
+    'passes: for _i in 0..REGISTERS {
+        let before = registers.called;
+        registers.note_strings(commands);
+        if before == registers.called {
+            return registers;
+        }
+    }
+    registers
+}

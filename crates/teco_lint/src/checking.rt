@@ -1,0 +1,94 @@
+//! Checking commands: their faults and hints, in order.
+ghost use Rattle.std.specs.Prelude.{◌≡◌, false, Bool, IfOk};
+ghost use Rattle.teco_lint.specs.Told.{IsTold, TellsFirst};
+ghost use Rattle.teco_lint.specs.Calls.{AreCalled};
+ghost use Rattle.teco_lint.specs.Strings.{AreTold, is_faulty, is_faulty_string, is_request, strings_of};
+
+use crate::calling::{Registers, registers_in};
+use crate::cutting::string_end;
+use crate::requests::{ends_in_escape, is_request};
+use crate::{Hint, Hinting, Remark, push_both, push_faults, push_hints, push_last_hints};
+use std::alloc::Global;
+use teco_check::{REGISTERS, fault_of};
+use teco_core::NoMemory;
+use teco_scan::filler_end;
+
+/// What is told of commands.
+#[derive(Drop)]
+pub struct Advice {
+    /// The registers that hold code: those that are called.
+    pub code: [bool; REGISTERS],
+    /// Whether a command string has a fault.
+    pub is_faulty: bool,
+    /// The remarks, in the order of their places.
+    pub remarks: Vec<Remark>,
+}
+
+/// Checks a command string that begins at a place. Says whether it has a fault.
+fn check_string(
+    alloc: Global,
+    remarks: &mut Vec<Remark>,
+    hinting: &mut Hinting,
+    registers: &Registers,
+    string: &[u8],
+    from: usize,
+) -> Result<bool, NoMemory>
+    ensures found { IfOk result (λ faulty. faulty ≡ is_faulty_string registers.now.called string.now) }
+    ensures told { is_request string.now ≡ false → IfOk result (λ _. TellsFirst registers.now.called remarks.new.items from string.now) }
+    ensures kept { (test : Remark → Bool) → IsTold test remarks.old.items → IfOk result (λ _. IsTold test remarks.new.items) }
+{
+    if is_request(string) {
+        return Ok(false);
+    }
+    let mut hints = Vec::new(alloc);
+    push_hints(&mut hints, hinting, string, from, &registers.given)?;
+    let Some(first) = fault_of(alloc, string, &registers.called) else {
+        push_both(remarks, &[], &hints)?;
+        return Ok(false);
+    };
+    let mut faults = Vec::new(alloc);
+    push_faults(&mut faults, alloc, string, from, &registers.called, first)?;
+    push_both(remarks, &faults, &hints)?;
+    Ok(true)
+}
+
+/// The hint on bytes after the last pair of ESC, if there is more than fillers.
+fn hint_on_rest(rest: &[u8]) -> Option<Hint> {
+    if filler_end(rest, 0) == rest.len() {
+        return None;
+    }
+    Some(if ends_in_escape(rest) {
+        Hint::OneEscape
+    } else {
+        Hint::NotRun
+    })
+}
+
+/// Checks commands, each command string and what comes after the last, without running them.
+///
+/// The code registers are those that the commands call. A string is faulty exactly where its first fault is found.
+pub fn check(alloc: Global, commands: &[u8]) -> Result<Advice, NoMemory>
+    ensures found { IfOk result (λ advice. advice.is_faulty ≡ is_faulty advice.code commands.now) }
+    ensures code { IfOk result (λ advice. AreCalled advice.code commands.now) }
+    ensures told { IfOk result (λ advice. AreTold advice.code advice.remarks.items 0 (strings_of commands.now)) }
+{
+    let registers = registers_in(commands);
+    let mut remarks = Vec::new(alloc);
+    let mut hinting = Hinting::new();
+    let mut faulty = false;
+    let mut start = 0;
+    while let Some(end) = string_end(commands, start) {
+        let string = &commands[start..end];
+        faulty |= check_string(alloc, &mut remarks, &mut hinting, &registers, string, start)?;
+        start = end + 1;
+    }
+    hinting.in_rest = true;
+    let rest = &commands[start..];
+    faulty |= check_string(alloc, &mut remarks, &mut hinting, &registers, rest, start)?;
+    push_last_hints(&mut remarks, &hinting, commands, hint_on_rest(rest), faulty)?;
+    Ok(Advice {
+        code: registers.called,
+        is_faulty: faulty,
+        remarks,
+    })
+}

@@ -1,0 +1,262 @@
+//! Hints: what may be meant otherwise.
+ghost use Rattle.std.specs.Prelude.{◌<◌, Bool, IfSome, OnOk};
+ghost use Rattle.teco_lint.specs.Told.{IsTold};
+
+use crate::passing::part;
+use crate::remarks::{Hint, Remark, What};
+use teco_check::REGISTERS;
+use teco_core::NoMemory;
+use teco_scan::{
+    Bare, BlockMark, Command, Found, Item, LevelCommand, RegisterCommand, Span, TextCommand, Token,
+    TokenKind, filler_end, token_at,
+};
+
+/// What has been seen of the commands.
+#[derive(Clone, Copy)]
+pub struct Hinting {
+    /// How many iterations are open.
+    iterations: usize,
+    /// Whether `EX` is the command before in its list, and no jump can have gone past it.
+    after_exit: bool,
+    /// Whether the string has a jump, which may go to any of its tags.
+    has_jump: bool,
+    /// Whether a number comes before.
+    has_number: bool,
+    has_exit: bool,
+    has_page: bool,
+    /// Whether the last pair of ESC has come.
+    pub in_rest: bool,
+    /// The registers that were told of.
+    told: [bool; REGISTERS],
+}
+
+impl Hinting {
+    pub fn new() -> Self {
+        Self {
+            iterations: 0,
+            after_exit: false,
+            has_jump: false,
+            has_number: false,
+            has_exit: false,
+            has_page: false,
+            in_rest: false,
+            told: [false; REGISTERS],
+        }
+    }
+
+    /// A command string begins.
+    fn begin(&mut self, text: &[u8]) {
+        self.iterations = 0;
+        self.after_exit = false;
+        self.has_jump = has_jump(text);
+        self.has_number = false;
+    }
+
+    fn of_command(&mut self, command: Command) -> Option<Hint> {
+        match command {
+            Command::Exit => {
+                self.has_exit = true;
+                self.after_exit = true;
+            }
+            Command::NextPage | Command::TurnPages => self.has_page = true,
+            Command::Leave if self.iterations == 0 => return Some(Hint::LeavesNothing),
+            _ => {}
+        }
+        None
+    }
+
+    fn of_text(&mut self, command: TextCommand, text: &[u8]) -> Option<Hint> {
+        match command {
+            TextCommand::SearchPages | TextCommand::SearchPagesQuietly => self.has_page = true,
+            TextCommand::Go if self.has_number => return Some(Hint::NumberBeforeJump),
+            TextCommand::Search => {}
+            _ => return None,
+        }
+        has_caret(text).then_some(Hint::Caret)
+    }
+
+    fn of_call(&mut self, index: usize, given: &[bool; REGISTERS]) -> Option<Hint>
+        requires { index < 36 }
+    {
+        if given[index] || self.told[index] {
+            return None;
+        }
+        self.told[index] = true;
+        Some(Hint::NeverSet(index))
+    }
+
+    fn of_item(&mut self, text: &[u8], item: Item) -> Option<Hint> {
+        match item {
+            Item::Bare(Bare::Command(command)) => self.of_command(command),
+            Item::Bare(Bare::Level(LevelCommand::Append)) if !self.has_number => {
+                self.has_page = true;
+                None
+            }
+            Item::Text(command, span) => self.of_text(command, part(text, span)),
+            Item::Replace(span, _) => has_caret(part(text, span)).then_some(Hint::Caret),
+            _ => None,
+        }
+    }
+
+    /// The hint at a token, if there is one.
+    fn of_token(&mut self, text: &[u8], token: &Token, given: &[bool; REGISTERS]) -> Option<Hint> {
+        let is_after = self.after_exit;
+        match token.kind {
+            TokenKind::Escape => return None,
+            TokenKind::Tag(_) => {
+                self.after_exit = is_after && !self.has_jump;
+                return None;
+            }
+            TokenKind::Mark(BlockMark::Iterate) => self.iterations = self
+                .iterations
+                .saturating_add(1),
+            TokenKind::Mark(BlockMark::EndIteration) => {
+                self.iterations = self.iterations.saturating_sub(1);
+                self.after_exit = false;
+                return None;
+            }
+            TokenKind::Mark(_) => {
+                self.after_exit = false;
+                return None;
+            }
+            _ => {}
+        }
+        self.after_exit = false;
+        let hint = match (called(token), token.kind) {
+            (Some(register), _) => self.of_call(register, given),
+            (None, TokenKind::Item(item)) => self.of_item(text, item),
+            _ => None,
+        };
+        if is_after {
+            return Some(Hint::AfterExit);
+        }
+        if hint.is_none() && !self.in_rest && is_empty_at_end(text, token) {
+            return Some(Hint::EmptyText);
+        }
+        hint
+    }
+}
+
+/// Whether a text has a jump before its first fault.
+fn has_jump(text: &[u8]) -> bool {
+    let mut at = 0;
+    while at < text.len() {
+        let Found::Token(token) = token_at(text, at) else {
+            return false;
+        };
+        if let TokenKind::Item(Item::Text(TextCommand::Go, _)) = token.kind {
+            return true;
+        }
+        at = token.span.to;
+    }
+    false
+}
+
+/// Whether a token at the end of a text has an empty text. In a command string its ESC is the first of the pair.
+fn is_empty_at_end(text: &[u8], token: &Token) -> bool {
+    let span = match token.kind {
+        TokenKind::Item(Item::Text(_, span)) => span,
+        TokenKind::Item(Item::SetText(_, span)) => span,
+        _ => return false,
+    };
+    span.from == span.to && token.span.to == text.len()
+}
+
+/// The number of the register that a token calls, if it calls one.
+fn called(token: &Token) -> Option<usize>
+    ensures { IfSome result (λ register. register < 36) }
+{
+    match token.kind {
+        TokenKind::Item(Item::Register(RegisterCommand::Macro, register)) => {
+            Some(register.index())
+        }
+        _ => None,
+    }
+}
+
+/// Whether a text has a caret before a letter, as one who means a control byte writes it.
+fn has_caret(text: &[u8]) -> bool {
+    let mut caret = false;
+    for byte in text {
+        if caret && byte.is_ascii_alphabetic() {
+            return true;
+        }
+        caret = *byte == b'^';
+    }
+    false
+}
+
+/// Whether a token gives a number to the next one.
+fn is_number(token: &Token) -> bool {
+    match token.kind {
+        TokenKind::Item(item) => matches!(
+            item,
+            Item::Digits(_)
+                | Item::Byte(_)
+                | Item::Bare(Bare::Quantity(_) | Bare::Arithmetic(_))
+                | Item::Register(RegisterCommand::Number | RegisterCommand::Increment, _)
+        ),
+        _ => false,
+    }
+}
+
+/// Puts a hint at the end.
+fn push_hint(remarks: &mut Vec<Remark>, at: usize, hint: Hint) -> Result<(), NoMemory>
+    ensures kept { (test : Remark → Bool) → IsTold test remarks.old.items → OnOk result (IsTold test remarks.new.items) }
+{
+    remarks.push(Remark {
+        at,
+        what: What::Hint(hint),
+    })?;
+    Ok(())
+}
+
+/// Puts the hints of a command string that begins at a place, up to its first fault. `given` says which registers are given a text.
+pub fn push_hints(
+    remarks: &mut Vec<Remark>,
+    hinting: &mut Hinting,
+    text: &[u8],
+    from: usize,
+    given: &[bool; REGISTERS],
+) -> Result<(), NoMemory> {
+    hinting.begin(text);
+    let mut at = 0;
+    while at < text.len() {
+        let Found::Token(token) = token_at(text, at) else {
+            return Ok(());
+        };
+        at = token.span.to;
+        if let Some(hint) = hinting.of_token(text, &token, given) {
+            push_hint(remarks, from.saturating_add(token.span.from), hint)?;
+        }
+        hinting.has_number = is_number(&token);
+    }
+    Ok(())
+}
+
+/// Puts the hints on the whole at the end, that on its rest first. Past a fault nothing was looked for, so what lacks is told of no
+/// faulty text.
+pub fn push_last_hints(
+    remarks: &mut Vec<Remark>,
+    hinting: &Hinting,
+    commands: &[u8],
+    rest: Option<Hint>,
+    faulty: bool,
+) -> Result<(), NoMemory>
+    ensures kept { (test : Remark → Bool) → IsTold test remarks.old.items → OnOk result (IsTold test remarks.new.items) }
+{
+    let end = commands.len();
+    if let Some(hint) = rest {
+        push_hint(remarks, end, hint)?;
+    }
+    if faulty || filler_end(commands, 0) == end {
+        return Ok(());
+    }
+    if !hinting.has_page {
+        push_hint(remarks, end, Hint::NoPage)?;
+    }
+    if !hinting.has_exit {
+        push_hint(remarks, end, Hint::NoExit)?;
+    }
+    Ok(())
+}

@@ -1,0 +1,27 @@
+//! What a check tells of commands: their strings, and the faults and hints of each, in sentences.
+#![tactic(auto)]
+
+mod calling;
+mod checking;
+mod cutting;
+mod faults;
+mod hinting;
+mod left_out;
+mod listing;
+mod naming;
+mod passing;
+mod remarks;
+mod reporting;
+mod requests;
+mod sentences;
+mod spelling;
+
+pub use checking::{Advice, check};
+pub use faults::push_faults;
+pub use hinting::{Hinting, push_hints, push_last_hints};
+pub use left_out::{LeftOut, Takes, row_of};
+pub use listing::{MOST_REMARKS, push_both};
+pub use remarks::{FaultIn, Hint, Remark, What};
+pub use reporting::{report, report_part};
+pub use sentences::show_remark;
+pub use spelling::is_misspelt;

@@ -1,0 +1,119 @@
+//! Passing over a fault, so that those after it can be told.
+ghost use Rattle.std.specs.Prelude.{◌≡◌, ◌≤◌, length, vec_len};
+
+use crate::left_out::{Takes, row_of};
+use crate::naming::{modifiers_len, name_len, name_of};
+use crate::remarks::FaultIn;
+use memchr::memchr;
+use teco_check::Wrong;
+use teco_core::{Code, ESC};
+use teco_scan::{Found, Span, token_at};
+
+/// The bytes of a text between two places; none where it has no such places.
+pub fn part(text: &[u8], span: Span) -> &[u8] {
+    if span.from <= span.to && span.to <= text.len() {
+        &text[span.from..span.to]
+    } else {
+        &[]
+    }
+}
+
+/// How long the text is that the bytes begin with, and its ESC.
+fn text_len(bytes: &[u8]) -> usize {
+    match memchr(ESC, bytes) {
+        Some(at) => at.saturating_add(1),
+        None => bytes.len(),
+    }
+}
+
+/// What comes after so many bytes.
+fn after(bytes: &[u8], len: usize) -> &[u8] {
+    &bytes[len.min(bytes.len())..]
+}
+
+/// How many bytes the operands have of a command that is left out.
+fn operands_len(bytes: &[u8], takes: Takes) -> usize {
+    match takes {
+        Takes::Nothing => 0,
+        Takes::Register => 1,
+        Takes::Text => text_len(bytes),
+        Takes::RegisterAndText => text_len(after(bytes, 1)).saturating_add(1),
+        Takes::TwoTexts => {
+            let first = text_len(bytes);
+            text_len(after(bytes, first)).saturating_add(first)
+        }
+    }
+}
+
+/// How many of these bytes are passed over, where they begin with no token.
+fn unread_len(bytes: &[u8], code: Code) -> usize {
+    if let Some((row, len)) = row_of(bytes) {
+        let operands = operands_len(after(bytes, len), row.takes);
+        return len.saturating_add(operands);
+    }
+    let name = name_len(bytes);
+    if matches!(code, Code::Iqn) {
+        let operands = operands_len(after(bytes, name), takes_after(name_of(bytes)));
+        return name.saturating_add(operands);
+    }
+    let modifiers = modifiers_len(bytes);
+    if modifiers > 0 {
+        return modifiers.saturating_add(token_len(after(bytes, modifiers)));
+    }
+    name
+}
+
+/// What follows the name of a command with a register.
+fn takes_after(name: &[u8]) -> Takes {
+    match name {
+        [.., 21] | [.., b'^', b'U' | b'u'] => Takes::RegisterAndText,
+        _ => Takes::Register,
+    }
+}
+
+/// How many bytes the token has that these begin with.
+fn token_len(bytes: &[u8]) -> usize {
+    match token_at(bytes, 0) {
+        Found::Token(token) => token.span.to,
+        _ => 1,
+    }
+}
+
+/// How many bytes are passed over at a fault; none where what comes after it can't be told.
+fn passed_len(bytes: &[u8], wrong: Wrong) -> Option<usize> {
+    match wrong {
+        Wrong::Unreadable(Code::Utc) | Wrong::Unended | Wrong::TooDeep => None,
+        Wrong::Unreadable(code) => Some(unread_len(bytes, code)),
+        Wrong::Stray(..) => Some(1),
+        Wrong::NoTag | Wrong::Calls | Wrong::Loads | Wrong::InText => Some(token_len(bytes)),
+    }
+}
+
+/// Makes the bytes between two places spaces.
+fn blank(text: &mut Vec<u8>, span: Span)
+    ensures { vec_len text.new ≡ vec_len text.old }
+{
+    let end = span.to.min(text.len());
+    for at in span.from..end {
+        text[at] = b' ';
+    }
+}
+
+/// Makes a text read on after a fault: its token is spaces then, and a test that is none is one. Says whether that is so.
+pub fn pass_over(text: &mut Vec<u8>, fault: &FaultIn) -> bool {
+    let test = fault.at.saturating_add(1);
+    if matches!(fault.wrong, Wrong::Unreadable(Code::Iqc)) && test < text.len() {
+        text[test] = b'E';
+        return true;
+    }
+    let rest = Span {
+        from: fault.at,
+        to: fault.inside.to,
+    };
+    let Some(len) = passed_len(part(text, rest), fault.wrong) else {
+        return false;
+    };
+    let to = fault.at.saturating_add(len).min(fault.inside.to);
+    blank(text, Span { from: fault.at, to });
+    true
+}

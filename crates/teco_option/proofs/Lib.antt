@@ -1,3 +1,0 @@
-pub mod CommandEntries
-pub mod OptionRows
-pub mod Parses

@@ -1,5 +1,0 @@
-use Rattle.std.proofs.Common.{rules}
-use Rattle.teco_option.proofs.options.action_of.Goals as goal
-
-pub returns-in-Texts : goal.returns-in-Texts
-returns-in-Texts c = search rules

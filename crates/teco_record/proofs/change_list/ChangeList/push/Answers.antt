@@ -1,6 +1,0 @@
-use Rattle.std.proofs.Common.{length}
-use Rattle.teco_record.proofs.Listing.{in_place-push_here}
-use Rattle.teco_record.proofs.change_list.ChangeList.push.Goals as goal
-
-pub invariant_of-self : goal.invariant_of-self
-invariant_of-self c = rw c.push_reserved.ensures.items (in_place-push_here 0 c.self.inside.slots.items (length c.self.inside.apart.items) _ c.self.invariant c.requires.here)

@@ -1,5 +1,0 @@
-use Rattle.std.proofs.Common.{rules}
-use Rattle.teco_record.proofs.recorder.Recorder.begin.Goals as goal
-
-pub returns-clause-full : goal.returns-clause-full
-returns-clause-full c = search rules

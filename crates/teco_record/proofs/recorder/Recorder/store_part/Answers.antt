@@ -1,5 +1,0 @@
-use Rattle.teco_record.proofs.Recordings.{keeps_extended}
-use Rattle.teco_record.proofs.recorder.Recorder.store_part.Goals as goal
-
-pub returns-clause-keeps : goal.returns-clause-keeps
-returns-clause-keeps c = keeps_extended c.args.self.now c.self.inside.editor c.store_part.new.self c.self.inside.entry.items c.self.inside.done _ _ c.self.view_is c.store_part.ensures.extends

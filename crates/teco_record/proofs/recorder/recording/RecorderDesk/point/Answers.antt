@@ -1,5 +1,0 @@
-use Rattle.teco_record.specs.Follows.{follows_eases}
-use Rattle.teco_record.proofs.recorder.recording.RecorderDesk.point.Goals as goal
-
-pub returns-then-place-pointer-clause-follows : goal.returns-then-place-pointer-clause-follows
-returns-then-place-pointer-clause-follows c = follows_eases c.args.self.now

@@ -1,9 +1,0 @@
-pub mod Answered
-pub mod CallLines
-pub mod CommandLines
-pub mod FilesRead
-pub mod LineEnds
-pub mod Passes
-pub mod Served
-pub mod Sizes
-pub mod Texts

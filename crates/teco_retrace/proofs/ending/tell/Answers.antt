@@ -1,5 +1,0 @@
-use Rattle.teco_retrace.proofs.Served.{tells_put}
-use Rattle.teco_retrace.proofs.ending.tell.Goals as goal
-
-pub returns : goal.returns
-returns g c = tells_put c.put.result c.put.ensures

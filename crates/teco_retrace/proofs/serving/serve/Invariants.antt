@@ -1,7 +1,0 @@
-use Rattle.std.proofs.Common.{List, ℕ}
-use Rattle.teco_retrace.specs.Serving.{AnswersLines, stage}
-use Rattle.teco_retrace.proofs.serving.serve.Given as goal
-
-abbrev pub invariant-loop-i : goal.invariant-loop-i
-invariant-loop-i g l = (lines : List (List ℕ)) × AnswersLines lines (stage (g.C.Read.remaining l.fn.commands) l.fn.debugger (g.T.Terminal.screen l.fn.term))
-    (stage (g.C.Read.remaining l.commands) l.debugger (g.T.Terminal.screen l.term))

@@ -1,7 +1,0 @@
-use Rattle.std.proofs.Common.{◌≡◌, ◌++◌}
-use Rattle.std.specs.String.{string_bytes}
-use Rattle.teco_retrace.specs.Showing.{call_lines}
-use Rattle.teco_retrace.proofs.showing.show_calls.Given as goal
-
-abbrev pub invariant-loop-k : goal.invariant-loop-k
-invariant-loop-k l = string_bytes l.out ≡ string_bytes l.fn.out ++ call_lines l.walk l.place l.k

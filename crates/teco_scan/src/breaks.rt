@@ -1,0 +1,193 @@
+//! Where a list of a text breaks.
+ghost use Rattle.std.specs.Prelude.{◌≡◌, ◌≢◌, ◌+◌, ◌<◌, ◌≤◌, ℕ, true, false, List, length, drop, IfSome, Option, Some, None, Err, is_none};
+ghost use Rattle.teco_core.specs.declared.limits.TheConstants.{BLOCK_LIMIT};
+ghost use Rattle.teco_scan.specs.Breaks.{Breaks, IsFirstFault, IsTokenPlace, fault_at, inside_list, opening};
+ghost use Rattle.teco_scan.specs.Scan.{Instruction, TokenMeaning, ended, found, scan};
+ghost use Rattle.teco_scan.specs.Skip.{closing_mark, opened_kind};
+ghost use Rattle.teco_scan.specs.Lists.{at_instruction, at_mark, broken, list_at};
+ghost use Rattle.teco_scan.specs.Nesting.{is_whole};
+ghost use Rattle.teco_scan.specs.declared.command.Modifiers.{Modifiers};
+
+use crate::blocks::{Kind, closing_mark, opened_kind, skip_block, skip_whole_block};
+use crate::{BlockMark, Found, filler_end, token_at};
+use teco_core::{BLOCK_LIMIT, Code};
+
+/// A list of a text: the commands in a block, or the text's own.
+#[derive(Clone, Copy)]
+pub struct OpenList {
+    /// The kind of the block; none: the list is the text's own.
+    pub kind: Option<Kind>,
+    /// Where the list begins.
+    pub start: usize,
+    /// How many blocks are open in it, its own too.
+    pub depth: usize,
+}
+
+/// A fault of a text: what breaks one of its lists.
+#[derive(Clone, Copy, Debug)]
+pub struct Fault {
+    /// Its place: that of the bytes that are no token, of the mark that ends no such block, of the block that is one too many, or
+    /// the end of the text.
+    pub at: usize,
+    /// Where the text ends inside a block: the place of the mark after which that block's list begins, `<`, `"` or `|`.
+    pub opened: Option<usize>,
+    /// ILL, IQN, IQC, UTC, BNI or PDO.
+    pub code: Code,
+}
+
+/// The place of the mark after which a list begins.
+fn opening(kind: Kind, start: usize) -> usize
+    ensures { result ≡ opening kind start }
+{
+    match kind {
+        Kind::Then => start.saturating_sub(2),
+        Kind::Iter | Kind::Else => start.saturating_sub(1),
+    }
+}
+
+/// A fault at this place.
+fn fault_at(at: usize, code: Code) -> Fault
+    ensures { result ≡ fault_at at code }
+{
+    Fault {
+        at,
+        opened: None,
+        code,
+    }
+}
+
+/// The end of the text breaks the list of a block, and not the text's own.
+fn end_of_text(list: OpenList, end: usize) -> Option<Fault>
+    ensures breaks { (text : List ℕ) (at : ℕ) → scan (drop at text) ≡ ended → length text ≡ end
+        → IfSome result (λ fault. Breaks text list at fault) }
+    ensures none { is_none result ≡ is_none list.kind }
+{
+    match list.kind {
+        None => None,
+        Some(kind) => Some(Fault {
+            at: end,
+            opened: Some(opening(kind, list.start)),
+            code: Code::Utc,
+        }),
+    }
+}
+
+/// The code by which a mark that ends or divides a block breaks this list, or the text's own; none where it closes it.
+#[tactic(auto, unfolding(crate::specs::Nesting::is_whole))]
+fn stray_code(kind: Option<Kind>, mark: BlockMark) -> Option<Code>
+    requires { mark ≢ BlockMark.Iterate }
+    ensures breaks { (more : List ℕ) (d : ℕ)
+        → IfSome result (λ code. (at_mark list_at mark more kind d).1 ≡ broken code) }
+    ensures whole { (more : List ℕ) (d : ℕ)
+        → is_whole (at_mark list_at mark more kind d).0 ≡ is_none result }
+{
+    match (mark, kind) {
+        (BlockMark::EndIteration, Some(Kind::Iter)) => None,
+        (BlockMark::EndIteration, _) => Some(Code::Bni),
+        (BlockMark::Otherwise, Some(Kind::Then)) => None,
+        (BlockMark::EndTest, Some(Kind::Then | Kind::Else)) => None,
+        _ => Some(Code::Ill),
+    }
+}
+
+/// What a mark that ends or divides a block is to this list, where it stands at this place: a fault, or it closes the list.
+fn end_of_list(list: OpenList, mark: BlockMark, from: usize) -> Option<Fault>
+    requires { mark ≢ BlockMark.Iterate }
+    ensures breaks { (text more : List ℕ) (at : ℕ) (token : TokenMeaning) → IsTokenPlace text at from
+        → scan (drop at text) ≡ found token more → closing_mark token.instruction ≡ Some mark
+        → IfSome result (λ fault. Breaks text list at fault) }
+    ensures whole { (more : List ℕ)
+        → is_whole (at_mark list_at mark more list.kind list.depth).0 ≡ is_none result }
+{
+    match stray_code(list.kind, mark) {
+        Some(code) => Some(fault_at(from, code)),
+        None => None,
+    }
+}
+
+/// The list of a part of a block that opens in another list, and begins at this place.
+fn inside_list(list: OpenList, kind: Kind, start: usize) -> OpenList
+    requires { list.depth < BLOCK_LIMIT }
+    ensures { result ≡ inside_list list kind start }
+{
+    OpenList {
+        kind: Some(kind),
+        start,
+        depth: list.depth + 1,
+    }
+}
+
+/// Where to go on at a block that opens in a list and begins at a place: in the same list after the whole block or, where that can't be
+/// passed, in the part of it that breaks.
+fn past_block(text: &[u8], list: OpenList, kind: Kind, start: usize) -> (OpenList, usize)
+    requires inside { start ≤ length text.now }
+    requires few { list.depth < BLOCK_LIMIT }
+    ensures few { result.0.depth ≤ BLOCK_LIMIT }
+    ensures within { (start ≤ result.1) × (result.1 ≤ length text.now) }
+    ensures comes { (at : ℕ) (token : TokenMeaning) (fault : Fault)
+        → scan (drop at text.now) ≡ found token (drop start text.now)
+        → opened_kind token.instruction ≡ Some kind
+        → Breaks text.now result.0 result.1 fault → Breaks text.now list at fault }
+    ensures whole { (i : Instruction) (m : Modifiers) → opened_kind i ≡ Some kind
+        → is_whole (at_instruction list_at i m (drop start text.now) list.kind list.depth).0
+        ≡ is_whole (list_at result.0.kind result.0.depth (drop result.1 text.now)).0 }
+{
+    match skip_whole_block(text, start, kind, list.depth + 1) {
+        Ok(next) => (list, next),
+        Err(_) => match skip_block(text, start, kind, list.depth + 1) {
+            Ok(stop) => (inside_list(list, Kind::Else, stop.to), stop.to),
+            Err(_) => (inside_list(list, kind, start), start),
+        },
+    }
+}
+
+/// Where a list of a text first breaks, from a place in it on. There is none where it closes, or where the text's own list goes on to
+/// the end of the text.
+fn first_fault_from(text: &[u8], list: OpenList, at: usize) -> Option<Fault>
+    requires inside { at ≤ length text.now }
+    requires few { list.depth ≤ BLOCK_LIMIT }
+    ensures breaks { IfSome result (λ fault. Breaks text.now list at fault) }
+    ensures whole { is_whole (list_at list.kind list.depth (drop at text.now)).0 ≡ is_none result }
+{
+    let mut list = list;
+    let mut next = at;
+    loop {
+        match token_at(text, next) {
+            Found::End => return end_of_text(list, text.len()),
+            Found::Fault(code) => return Some(fault_at(filler_end(text, next), code)),
+            Found::Token(token) => match closing_mark(token.kind) {
+                Some(mark) => return end_of_list(list, mark, token.span.from),
+                None => match opened_kind(token.kind) {
+                    None => next = token.span.to,
+                    Some(_) if list.depth == BLOCK_LIMIT => {
+                        return Some(fault_at(token.span.from, Code::Pdo));
+                    }
+                    Some(kind) => (list, next) = past_block(text, list, kind, token.span.to),
+                },
+            },
+        }
+    }
+}
+
+/// The first fault of a text, if it has one: where its own list breaks.
+///
+/// It takes no memory. What comes before the fault in a block is passed once for each block around it.
+pub fn first_fault(text: &[u8]) -> Option<Fault>
+    ensures { IsFirstFault text.now result }
+{
+    let whole = OpenList {
+        kind: None,
+        start: 0,
+        depth: 0,
+    };
+    first_fault_from(text, whole, 0)
+}
+
+/// The laws of faults, as clauses: where a list breaks, it is broken by that code, and the place lies in the text. The call does
+/// nothing.
+pub fn break_laws()
+    ensures broken { (text : List ℕ) (list : OpenList) (at : ℕ) (fault : Fault) → Breaks text list at fault
+        → (list_at list.kind list.depth (drop at text)).1 ≡ broken fault.code }
+    ensures within { (text : List ℕ) (list : OpenList) (at : ℕ) (fault : Fault) → Breaks text list at fault
+        → fault.at ≤ length text }
+{}

@@ -1,0 +1,97 @@
+-- Registers.
+use Rattle.std.specs.Prelude.{ℕ, ◌+◌, List, length, Err, ℤ, pos, ◌+ℤ◌, nat_le, ◌==◌, if◌then◌else◌}
+use Rattle.teco_core.specs.declared.code.Code.TheVariants.{Big, Cpq, Nau, Pdo}
+use Rattle.teco_core.specs.declared.arguments.Level.{Level}
+use Rattle.teco_core.specs.declared.arguments.Level.TheVariants as level
+use Rattle.teco_core.specs.Refusal.{◌>>=◌}
+use Rattle.teco_core.specs.Number.{fitted}
+use Rattle.teco_core.specs.Arguments.{Arguments, give, level_of, emptied}
+use Rattle.teco_core.specs.Register.{content}
+use Rattle.teco_scan.specs.declared.command.Modifiers.{Modifiers}
+use Rattle.teco_core.specs.declared.limits.TheConstants.{PUSHED_LIMIT, TEXT_LIMIT}
+use Rattle.teco_store.specs.State.{State, with_register_number, with_register_text, pushed_from, last_pushed, popped_into}
+use Rattle.teco_step.specs.Step.{Made, changes, edits, gives, types, takes_none, takes_one, takes_reach}
+use Rattle.teco_step.specs.Editing.{inserts}
+use Rattle.teco_step.specs.Typing.{part}
+
+-- Qq gives the number of q; with a colon the length of its text.
+abbrev pub value_of : Modifiers → ℕ → State → ℤ
+value_of m q s = if m.colons == 1 then pos (length (content s.registers q).text)
+    else (content s.registers q).number
+
+abbrev pub register_value : Modifiers → ℕ → State → Arguments → Made
+register_value m q s a = gives s a (value_of m q s)
+
+-- nUq: the number of q becomes n.
+abbrev pub set_number : ℕ → State → Arguments → Made
+set_number q s a = do
+  n ← takes_one Nau a
+  changes (with_register_number s q n) 0
+
+-- This is added to the number of q, and the sum is given.
+abbrev pub adds : ℕ → ℤ → State → Arguments → Made
+adds q n s a = do
+  sum ← fitted ((content s.registers q).number +ℤ n)
+  given ← give sum a
+  edits (with_register_number s q sum) given 0
+
+-- Nothing at the level is kept.
+abbrev pub adds_alone : ℕ → ℤ → State → Arguments → Made
+adds_alone q n s a = adds q n s (emptied a)
+
+-- What % adds: the value or the lone sign at the level, and else 1. Only an operator that waits is kept there.
+abbrev pub increments : ℕ → Level → State → Arguments → Made
+increments q (level.Value n) s a = adds_alone q n s a
+increments q (level.Sign n) s a = adds_alone q n s a
+increments q level.Empty s a = adds_alone q (pos 1) s a
+increments q level.Waits s a = adds q (pos 1) s a
+
+-- n%q
+abbrev pub increment : ℕ → State → Arguments → Made
+increment q s a = increments q (level_of a.expression) s a
+
+-- The text of q becomes this one, which must be within its limit, else BIG. The load is that of the old and the new one.
+abbrev pub sets_text : ℕ → List ℕ → State → Made
+sets_text q text s =
+    if nat_le (length text) TEXT_LIMIT
+    then changes (with_register_text s q text) (length (content s.registers q).text + length text)
+    else Err Big
+
+-- ^Uqtext$: the text of q becomes this one.
+abbrev pub set_text : ℕ → List ℕ → State → Arguments → Made
+set_text q text s a = do
+  none ← takes_none a
+  sets_text q text s
+
+-- nXq: what n lines reach becomes the text of q; m,nXq: the range does.
+abbrev pub extract : ℕ → State → Arguments → Made
+extract q s a = do
+  r ← takes_reach s a
+  sets_text q (part s r) s
+
+-- [q: what q holds is pushed, and PDO where no more can be. The arguments stay.
+abbrev pub push : ℕ → State → Arguments → Made
+push q s a = if length s.pushed == PUSHED_LIMIT then Err Pdo
+    else edits (pushed_from s q) a (length (content s.registers q).text)
+
+-- ]q: what was pushed last goes into q, and CPQ where nothing is pushed. The arguments stay. The load is that of the old and the new text.
+abbrev pub pop : ℕ → State → Arguments → Made
+pop q s a =
+    if length s.pushed == 0 then Err Cpq
+    else edits (popped_into s q) a (length (content s.registers q).text + length (last_pushed s).text)
+
+-- :Gq: types the text of q.
+abbrev pub type_text : ℕ → State → Arguments → Made
+type_text q s a = do
+  none ← takes_none a
+  types s (content s.registers q).text
+
+-- Gq: the text of q comes in at the pointer.
+abbrev pub insert_text : ℕ → State → Arguments → Made
+insert_text q s a = do
+  none ← takes_none a
+  inserts (content s.registers q).text s a
+
+-- Gq, and with a colon :Gq
+abbrev pub get : Modifiers → ℕ → State → Arguments → Made
+get m q s a = if m.colons == 1 then type_text q s a else insert_text q s a

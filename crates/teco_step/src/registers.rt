@@ -1,0 +1,198 @@
+//! Commands on the number and the text of a register. One that is not done keeps the arguments and the state.
+ghost use Rattle.std.specs.Prelude.{◌≡◌, ◌≤◌, length, pos, Err, IfErr, IfOk, Ok};
+ghost use Rattle.teco_core.specs.ArgumentsView.{arguments};
+ghost use Rattle.teco_core.specs.Arguments.{emptied, give};
+ghost use Rattle.teco_core.specs.Register.{content};
+ghost use Rattle.teco_core.specs.declared.limits.TheConstants.{TEXT_LIMIT};
+ghost use Rattle.teco_step.specs.Families.{Acts, Does};
+ghost use Rattle.teco_step.specs.Registers as registers;
+ghost use Rattle.teco_step.specs.Step.{goes};
+ghost use Rattle.teco_step.specs.declared.failure.Failure.TheVariants.{Memory};
+
+use crate::edit::put;
+use crate::failure::{Failure, done};
+use crate::joining::joined;
+use crate::next::Next;
+use crate::taking::{given, sum, takes_none, takes_one, takes_reach};
+use crate::typing::type_text;
+use crate::value::give;
+use teco_core::{Args, Code, Level, Reg};
+use teco_io::Terminal;
+use teco_scan::Modifiers;
+use teco_store::{Desk, part};
+
+/// The length of the text of `q`, in bytes.
+fn length_of<D: Desk>(desk: &D, q: Reg) -> usize
+    ensures value { result ≡ length (content (D.state desk.now).registers q).text }
+    ensures small { length (content (D.state desk.now).registers q).text ≤ TEXT_LIMIT }
+{
+    desk.registers().value(q).text.len()
+}
+
+/// The number of `q`, or with a colon the length of its text.
+fn value_of<D: Desk>(desk: &D, modifiers: Modifiers, q: Reg) -> i32
+    ensures { result ≡ registers.value_of modifiers q (D.state desk.now) }
+{
+    if modifiers.colons == 1 {
+        return length_of(desk, q) as i32;
+    }
+    desk.registers().number(q)
+}
+
+/// `Qq` gives the number of q, and with a colon the length of its text.
+#[inline(always)]
+pub fn register_value<D: Desk>(
+    desk: &D,
+    modifiers: Modifiers,
+    q: Reg,
+    args: &mut Args,
+) -> Result<Next, Failure>
+    ensures does { Acts D.Desk (goes (registers.register_value modifiers q))
+        (desk.now, args.old) (desk.now, args.new) result }
+    ensures no_memory { result ≡ Err Memory → ⊥ }
+{
+    give(desk, value_of(desk, modifiers, q), args)
+}
+
+/// `nUq`: the number of q becomes n.
+#[inline(always)]
+pub fn set_number<D: Desk>(desk: &mut D, q: Reg, args: &mut Args) -> Result<Next, Failure>
+    ensures { Acts D.Desk (goes (registers.set_number q)) (desk.old, args.old) (desk.new, args.new) result }
+{
+    let n = takes_one(args, Code::Nau)?;
+    done(desk.set_number(q, n), Next::On, args)
+}
+
+/// Gives a value in place of what the level has, which no level refuses.
+#[tactic(auto, unfolding(teco_core::specs::Arguments::give))]
+#[inline(always)]
+pub(crate) fn give_alone(args: &mut Args, value: i32)
+    ensures { give value (emptied (arguments args.old)) ≡ Ok (arguments args.new) }
+{
+    args.empty_level();
+    match args.give(value) {
+        Ok(()) => {}
+        Err(_) => {}
+    }
+}
+
+/// Adds `n` to the number of q, and gives the sum in place of what the level has.
+#[inline(always)]
+fn add_alone<D: Desk>(desk: &mut D, q: Reg, n: i32, args: &mut Args) -> Result<Next, Failure>
+    ensures { Acts D.Desk (goes (registers.adds_alone q n)) (desk.old, args.old) (desk.new, args.new) result }
+{
+    let sum = sum(desk.registers().number(q), n)?;
+    desk.set_number(q, sum)?;
+    give_alone(args, sum);
+    Ok(Next::On)
+}
+
+/// Adds 1 to the number of q, and gives the sum to the operator that waits, which may refuse it.
+fn add_one<D: Desk>(desk: &mut D, q: Reg, args: &mut Args) -> Result<Next, Failure>
+    ensures { Acts D.Desk (goes (registers.adds q (pos 1))) (desk.old, args.old) (desk.new, args.new) result }
+{
+    let sum = sum(desk.registers().number(q), 1)?;
+    let left = given(args, sum)?;
+    desk.set_number(q, sum)?;
+    *args = left;
+    Ok(Next::On)
+}
+
+/// `n%q`: the sum becomes the number of q, and is given.
+#[inline(always)]
+pub fn increment<D: Desk>(desk: &mut D, q: Reg, args: &mut Args) -> Result<Next, Failure>
+    ensures { Acts D.Desk (goes (registers.increment q)) (desk.old, args.old) (desk.new, args.new) result }
+{
+    match args.level() {
+        Level::Value(n) => add_alone(desk, q, n, args),
+        Level::Sign(n) => add_alone(desk, q, n, args),
+        Level::Empty => add_alone(desk, q, 1, args),
+        Level::Waits => add_one(desk, q, args),
+    }
+}
+
+/// A copy of the bytes, in memory of its own.
+pub(crate) fn copy<D: Desk>(desk: &D, q: Reg, bytes: &[u8]) -> Result<Vec<u8>, Failure>
+    ensures ok { IfOk result (λ copy. copy.items ≡ bytes.now) }
+    ensures err { IfErr result (λ failure. failure ≡ Memory) }
+{
+    match Vec::from_slice(*desk.registers().value(q).text.allocator(), bytes) {
+        Ok(copy) => Ok(copy),
+        Err(_) => Err(Failure::Memory),
+    }
+}
+
+/// `^Uqtext$`: the text of q becomes this one. A text past its limit is [`Code::Big`].
+pub fn set_text<D: Desk>(
+    desk: &mut D,
+    q: Reg,
+    text: &[u8],
+    args: &mut Args,
+) -> Result<Next, Failure>
+    ensures { Acts D.Desk (goes (registers.set_text q text.now))
+        (desk.old, args.old) (desk.new, args.new) result }
+{
+    takes_none(args)?;
+    let text = copy(desk, q, text)?;
+    done(desk.set_text(q, text), Next::On, args)
+}
+
+/// `nXq`: what n lines reach becomes the text of q, and with `m,nXq` the range.
+pub fn extract<D: Desk>(desk: &mut D, q: Reg, args: &mut Args) -> Result<Next, Failure>
+    ensures { Acts D.Desk (goes (registers.extract q)) (desk.old, args.old) (desk.new, args.new) result }
+{
+    let range = takes_reach(desk, args)?;
+    let (before, after) = desk.halves();
+    let (first, second) = part(before, after, range.start, range.end);
+    let text = joined(desk, first, second)?;
+    done(desk.set_text(q, text), Next::On, args)
+}
+
+/// `[q` pushes what q holds. The arguments stay.
+pub fn push<D: Desk>(desk: &mut D, q: Reg, args: &Args) -> Result<Next, Failure>
+    ensures { Acts D.Desk (goes (registers.push q)) (desk.old, args.now) (desk.new, args.now) result }
+{
+    if desk.pushed().is_full() {
+        return Err(Failure::Command(Code::Pdo));
+    }
+    desk.push(q)?;
+    Ok(Next::On)
+}
+
+/// `]q` takes off what was pushed last, and puts it into q. The arguments stay.
+pub fn pop<D: Desk>(desk: &mut D, q: Reg, args: &Args) -> Result<Next, Failure>
+    ensures { Acts D.Desk (goes (registers.pop q)) (desk.old, args.now) (desk.new, args.now) result }
+{
+    if desk.pushed().is_empty() {
+        return Err(Failure::Command(Code::Cpq));
+    }
+    desk.pop(q)?;
+    Ok(Next::On)
+}
+
+/// `Gq` inserts the text of q.
+fn insert_text<D: Desk>(desk: &mut D, q: Reg, args: &mut Args) -> Result<Next, Failure>
+    ensures { Acts D.Desk (goes (registers.insert_text q)) (desk.old, args.old) (desk.new, args.new) result }
+{
+    takes_none(args)?;
+    let text = copy(desk, q, desk.registers().text(q))?;
+    let pointer = desk.pointer();
+    put(desk, pointer, 0, &text, args)
+}
+
+/// `Gq` inserts the text of q, and with a colon types it.
+pub fn get<D: Desk, T: Terminal>(
+    desk: &mut D,
+    modifiers: Modifiers,
+    q: Reg,
+    args: &mut Args,
+    term: &mut T,
+) -> Result<Next, Failure>
+    ensures { Does D.Desk T.Terminal (goes (registers.get modifiers q))
+        (desk.old, args.old, term.old) (desk.new, args.new, term.new) result }
+{
+    if modifiers.colons == 1 {
+        return type_text(desk, desk.registers().text(q), args, term);
+    }
+    insert_text(desk, q, args)
+}

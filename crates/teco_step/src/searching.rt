@@ -1,0 +1,216 @@
+//! Searches. One that is not done keeps the arguments and the state; one that fails is done.
+ghost use Rattle.std.specs.Prelude.{◌≡◌, ◌⊎◌, ◌<◌, ◌≤◌, IfErr, IfOk, IfSome, Ok, [], false, if◌then◌else◌, length};
+ghost use Rattle.std.specs.Option.{option_copied};
+ghost use Rattle.teco_core.specs.Arguments.{no_arguments};
+ghost use Rattle.teco_core.specs.ArgumentsView.{arguments};
+ghost use Rattle.teco_store.specs.State.{State};
+ghost use Rattle.teco_step.specs.Families.{Acts, IsRefusal, Takes};
+ghost use Rattle.teco_step.specs.Searching as searching;
+ghost use Rattle.teco_step.specs.Step.{steers};
+ghost use Rattle.teco_step.specs.Ending.{end_of, is_unfinished};
+ghost use Rattle.teco_step.specs.declared.failure.Failure.TheVariants.{Memory};
+
+use crate::failure::Failure;
+use crate::joining::allocator;
+use crate::next::{Next, Setting};
+use crate::registers::give_alone;
+use crate::taking::{takes_none, takes_one_or, truth};
+use teco_core::{Args, Code};
+use teco_search::{Pattern, find, matches_at};
+use teco_store::Desk;
+
+/// The text that a search means: an empty one means the last one.
+fn meant<'a, D: Desk>(desk: &'a D, text: &'a [u8]) -> &'a [u8]
+    ensures { result.now ≡ searching.meant text.now (D.state desk.now) }
+{
+    if !text.is_empty() {
+        return text;
+    }
+    match desk.last_search() {
+        None => &[],
+        Some(last) => last,
+    }
+}
+
+/// What a search looks for. No text, and none before it, is [`Code::Iss`]; a text that spells nothing is [`Code::Ice`].
+pub(crate) fn sought<D: Desk>(desk: &D, text: &[u8]) -> Result<Pattern, Failure>
+    ensures ok { IfOk result (λ pattern. searching.sought text.now (D.state desk.now) ≡ Ok pattern) }
+    ensures err { IfErr result (λ failure. IsRefusal failure (searching.sought text.now (D.state desk.now))
+        ⊎ (failure ≡ Memory)) }
+{
+    let meant = meant(desk, text);
+    if meant.is_empty() {
+        return Err(Failure::Command(Code::Iss));
+    }
+    match Pattern::read(allocator(desk), meant, desk.case_mode()) {
+        Ok(pattern) => Ok(pattern),
+        Err(Code::Mem) => Err(Failure::Memory),
+        Err(code) => Err(Failure::Command(code)),
+    }
+}
+
+/// The number that a search takes, which may not be 0.
+fn takes_count(args: &Args) -> Result<i32, Failure>
+    ensures { Takes (λ n. n) result (searching.takes_count (arguments args.now)) }
+{
+    let n = takes_one_or(args, 1)?;
+    if n == 0 {
+        return Err(Failure::Command(Code::Isa));
+    }
+    Ok(n)
+}
+
+/// Where the nth occurrence of a text from the pointer begins and ends, if there is one.
+fn found<D: Desk>(desk: &D, text: &[u8], args: &Args) -> Result<Option<(usize, usize)>, Failure>
+    ensures ok { IfOk result (λ m. searching.found text.now (D.state desk.now) (arguments args.now) ≡ Ok m) }
+    ensures err { IfErr result (λ failure. IsRefusal failure
+        (searching.found text.now (D.state desk.now) (arguments args.now)) ⊎ (failure ≡ Memory)) }
+    ensures within { IfOk result (λ found. IfSome found
+        (λ m. (m.0 ≤ m.1) × (m.1 ≤ length (D.state desk.now).text))) }
+{
+    let n = takes_count(args)?;
+    let pattern = sought(desk, text)?;
+    Ok(find(&pattern, desk.halves(), desk.pointer(), n))
+}
+
+/// The text that a search notes: an empty one leaves the last one.
+pub(crate) fn noted_text(text: &[u8]) -> Option<&[u8]>
+    ensures { option_copied result ≡ searching.noted_text text.now }
+{
+    if text.is_empty() { None } else { Some(text) }
+}
+
+/// Leaves the result as the one argument where it is asked for, else none.
+#[tactic(auto, unfolding(teco_core::specs::Arguments::give))]
+fn answer(asked: bool, found: bool, args: &mut Args)
+    ensures { arguments args.new ≡ (if asked then searching.answer found else no_arguments) }
+{
+    args.clear();
+    if asked {
+        give_alone(args, truth(found));
+    }
+}
+
+/// Notes the text and the result, puts the pointer at a place, and leaves the result where it is asked for. The step then leads on.
+pub(crate) fn note<D: Desk>(
+    desk: &mut D,
+    text: &[u8],
+    found: bool,
+    place: usize,
+    asked: bool,
+    next: Next,
+    args: &mut Args,
+) -> Result<Next, Failure>
+    requires there { place ≤ length (D.state desk.old).text }
+    requires finished { is_unfinished next ≡ false }
+    ensures { Acts D.Desk (steers (λ s _. searching.notes text.now found place
+        (if asked then searching.answer found else no_arguments) (end_of s [] next) s))
+        (desk.old, args.old) (desk.new, args.new) result }
+{
+    desk.note_search(noted_text(text), found, place)?;
+    answer(asked, found, args);
+    Ok(next)
+}
+
+/// What a failed search leads to: the string ends unless a colon asks or a `;` comes next in an iteration.
+fn after_failing(setting: Setting) -> Next
+    ensures leads { (s : State) → end_of s [] result ≡ searching.end_failed setting }
+    ensures finished { is_unfinished result ≡ false }
+{
+    if setting.modifiers.colons == 1 || (setting.inside && setting.before) {
+        return Next::On;
+    }
+    Next::Error(Code::Srh)
+}
+
+/// The search failed: the pointer goes to 0, and the string ends unless a colon asks or a `;` comes next in an iteration.
+pub(crate) fn fail<D: Desk>(
+    desk: &mut D,
+    text: &[u8],
+    setting: Setting,
+    args: &mut Args,
+) -> Result<Next, Failure>
+    ensures { Acts D.Desk (steers (searching.fails text.now setting))
+        (desk.old, args.old) (desk.new, args.new) result }
+{
+    let asked = setting.modifiers.colons == 1;
+    note(desk, text, false, 0, asked, after_failing(setting), args)
+}
+
+/// `nS` looks for the nth occurrence of the text, and puts the pointer after it.
+fn search<D: Desk>(
+    desk: &mut D,
+    text: &[u8],
+    setting: Setting,
+    args: &mut Args,
+) -> Result<Next, Failure>
+    ensures { Acts D.Desk (steers (searching.search text.now setting))
+        (desk.old, args.old) (desk.new, args.new) result }
+{
+    let Some((_, end)) = found(desk, text, args)? else {
+        return fail(desk, text, setting, args);
+    };
+    let asked = setting.modifiers.colons == 1;
+    note(desk, text, true, end, asked, Next::On, args)
+}
+
+/// Where the text ends that is at the pointer, if it is there.
+fn matched<D: Desk>(desk: &D, text: &[u8]) -> Result<Option<usize>, Failure>
+    ensures ok { IfOk result (λ end. searching.matched text.now (D.state desk.now) ≡ Ok end) }
+    ensures err { IfErr result (λ failure. IsRefusal failure (searching.matched text.now (D.state desk.now))
+        ⊎ (failure ≡ Memory)) }
+    ensures within { IfOk result (λ end. IfSome end (λ place. place ≤ length (D.state desk.now).text)) }
+{
+    let pattern = sought(desk, text)?;
+    Ok(matches_at(&pattern, desk.halves(), desk.pointer()))
+}
+
+/// `::S` tells whether the text is at the pointer, and puts the pointer after it.
+fn compare<D: Desk>(desk: &mut D, text: &[u8], args: &mut Args) -> Result<Next, Failure>
+    ensures { Acts D.Desk (steers (searching.compare text.now))
+        (desk.old, args.old) (desk.new, args.new) result }
+{
+    takes_none(args)?;
+    match matched(desk, text)? {
+        Some(end) => note(desk, text, true, end, true, Next::On, args),
+        None => {
+            let pointer = desk.pointer();
+            note(desk, text, false, pointer, true, Next::On, args)
+        }
+    }
+}
+
+/// `S`, and `::S`.
+pub fn search_or_compare<D: Desk>(
+    desk: &mut D,
+    text: &[u8],
+    setting: Setting,
+    args: &mut Args,
+) -> Result<Next, Failure>
+    ensures { Acts D.Desk (steers (searching.search_or_compare text.now setting))
+        (desk.old, args.old) (desk.new, args.new) result }
+{
+    if setting.modifiers.colons == 2 {
+        return compare(desk, text, args);
+    }
+    search(desk, text, setting, args)
+}
+
+/// `nFS` looks for the nth occurrence of the text, and puts the bytes in its place.
+pub fn search_and_replace<D: Desk>(
+    desk: &mut D,
+    text: &[u8],
+    bytes: &[u8],
+    setting: Setting,
+    args: &mut Args,
+) -> Result<Next, Failure>
+    ensures { Acts D.Desk (steers (searching.search_and_replace text.now bytes.now setting))
+        (desk.old, args.old) (desk.new, args.new) result }
+{
+    let Some((start, end)) = found(desk, text, args)? else {
+        return fail(desk, text, setting, args);
+    };
+    desk.note_replace(noted_text(text), start, end - start, bytes)?;
+    answer(setting.modifiers.colons == 1, true, args);
+    Ok(Next::On)
+}

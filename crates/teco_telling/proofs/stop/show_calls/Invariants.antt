@@ -1,7 +1,0 @@
-use Rattle.std.proofs.Common.{◌≡◌, ◌++◌}
-use Rattle.std.specs.String.{string_bytes}
-use Rattle.teco_telling.specs.Stop.{calls_shown}
-use Rattle.teco_telling.proofs.stop.show_calls.Given as goal
-
-abbrev pub invariant-loop-k : goal.invariant-loop-k
-invariant-loop-k l = string_bytes l.out ≡ string_bytes l.fn.out ++ calls_shown l.place l.registers l.string l.k

@@ -1,4 +1,0 @@
-pub mod Terminal
-pub mod Sink
-pub mod Progress
-pub mod Laws

@@ -1,0 +1,81 @@
+//! What `tecol` makes of an input.
+use super::{checks, listings, sources};
+use crate::tests::bytes::are;
+use crate::tests::rows::{Rule, all_hold, halves_at, number_or};
+use std::alloc::Global;
+use std::test::*;
+use teco_core::NoMemory;
+use tecol_driver::{Line, Made, Mode, make};
+
+/// What a row holds of.
+#[derive(Clone, Copy)]
+enum Wanted {
+    /// The bytes are those of the second cell.
+    Fine,
+    /// The lines of a check are those of the second cell, and tell a fault.
+    Faulty,
+    /// A caret can't be read, at the place that the second cell has.
+    Unreadable,
+}
+
+/// What is made, whether the words of each command are beside it, and what a row holds of: an input, and what is made of it.
+#[derive(Clone, Copy)]
+struct Makes(Mode, bool, Wanted);
+
+impl Makes {
+    /// What a line of this mode makes of an input.
+    fn made_of(&self, alloc: Global, input: &str) -> Result<Made, NoMemory> {
+        let line = Line {
+            input: String::from_str(alloc, "-")?,
+            output: String::from_str(alloc, "-")?,
+            mode: self.0,
+            words: self.1,
+        };
+        make(alloc, &line, input.as_bytes())
+    }
+}
+
+impl Rule for Makes {
+    fn holds(&self, alloc: Global, row: &str) -> bool {
+        let (input, cell) = halves_at(row, " => ");
+        match (self.made_of(alloc, input), self.2) {
+            (Ok(Made::Fine(bytes)), Wanted::Fine) => are(&bytes, cell.as_bytes()),
+            (Ok(Made::Faulty(lines)), Wanted::Faulty) => are(&lines, cell.as_bytes()),
+            (Ok(Made::Unreadable(at)), Wanted::Unreadable) => number_or(cell, u64::MAX)
+                == at as u64,
+            _ => false,
+        }
+    }
+}
+
+/// The tables. Past the last there are no rows. An array of them would cost the proof more.
+fn table(at: usize) -> (Makes, &'static str) {
+    match at {
+        0 => (
+            Makes(Mode::CheckSource, false, Wanted::Faulty),
+            checks::FAULTS,
+        ),
+        1 => (Makes(Mode::CheckSource, false, Wanted::Fine), checks::HINTS),
+        2 => (
+            Makes(Mode::CheckBytes, false, Wanted::Faulty),
+            checks::BYTES,
+        ),
+        3 => (Makes(Mode::Listing, false, Wanted::Fine), listings::LISTED),
+        4 => (Makes(Mode::Listing, true, Wanted::Fine), listings::WORDED),
+        5 => (Makes(Mode::Again, true, Wanted::Fine), listings::AGAIN),
+        6 => (Makes(Mode::Bytes, false, Wanted::Fine), sources::READ),
+        7 => (
+            Makes(Mode::Bytes, false, Wanted::Unreadable),
+            sources::UNREADABLE,
+        ),
+        _ => (Makes(Mode::Bytes, false, Wanted::Fine), ""),
+    }
+}
+
+#[test]
+fn inputs_become_what_their_rows_say(rt: HostRuntime) {
+    for at in 0..32 {
+        let (makes, rows) = table(at);
+        all_hold(&rt, rt.alloc(), &makes, rows);
+    }
+}

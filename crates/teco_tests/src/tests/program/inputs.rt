@@ -1,0 +1,57 @@
+//! Of teco_driver: where the input comes from and where the output goes, several inputs, and inputs that are edited in place.
+
+pub(super) const ROWS: &str = "
+    - teco -e YZ=IA$EX$$ - => hi\n => 3\r\nAhi\n
+    - teco -e YZ=IA$EX$$ /dev/stdin => hi\n => 3\r\nAhi\n
+    - teco -e YZ=IA$EX$$ -o out - => hi\n => 3\r\n => => => => => out == Ahi\n
+    - teco -e YZ=IA$EX$$ --output - in => unread => 3\r\nAhi\n => => => => in == hi\n
+    - teco -e YZ=IA$EX$$ --output=/dev/stdout in => unread => 3\r\nAhi\n => => => => in == hi\n
+    - // Pages whose output is in two parts: what was written, and the rest of the input.
+    - teco -e YPIA$EX$$ - => a\x0cb\x0cc => a\x0cAb\x0cc
+    - // Without an exit there is no output.
+    - teco -e YZ=$$ - => hi\n => 3\r\n => => => 2
+    - // A file of commands that has the name of standard input.
+    - teco -f - in => YZ=EX\x1b\x1b => 3\r\n => => => => in == hi\n => in == hi\n ++ in.out == hi\n
+    - // A check of it reads no input.
+    - teco --check -f - none => Y\n\tM? !!no register\nEX$$\n => -:2:2: IQN: after M comes a register, A to Z or 0 to 9\n => => => 2
+    - teco -e YZ=IA$EX$$ in two => unread => 3\r\n4\r\n => => => => in == hi\n ++ two == two\n => in == hi\n ++ two == two\n ++ in.out == Ahi\n ++ two.out == Atwo\n
+    - // One that fails doesn't hold up the others.
+    - teco -e YZ=IA$EX$$ none in => unread => 3\r\n => teco: cannot read none: there is no such file or folder\n => => 1 => in == hi\n => in == hi\n ++ in.out == Ahi\n
+    - // One that ends without an exit after one that fails: the worst is 1.
+    - teco -e YZ=$$ none in => unread => 3\r\n => teco: cannot read none: there is no such file or folder\n => => 1 => in == hi\n
+    - teco -e YZ-4\"EIA$EX'Z=$$ in two => unread => 3\r\n => => => 2 => in == hi\n ++ two == two\n => in == hi\n ++ two == two\n ++ two.out == Atwo\n
+    - // The second run reads what the first one wrote.
+    - teco -i -p IA$ in in => unread => => => => => in == hi\n => in == AAhi\n
+    - // The file of commands is read once, so standard input serves all.
+    - teco -f - in two => YZ=EX\x1b\x1b => 3\r\n4\r\n => => => => in == hi\n ++ two == two\n => in == hi\n ++ two == two\n ++ in.out == hi\n ++ two.out == two\n
+    - teco -b - in two => YI$\x1bEX\x1b\x1b => => => => => in == hi\n ++ two == two\n => in == hi\n ++ two == two\n ++ in.out == $hi\n ++ two.out == $two\n
+    - teco -f none in two => unread => => teco: cannot read none: there is no such file or folder\n => => 1 => in == hi\n ++ two == two\n
+    - // Each is told at its end.
+    - teco --explain -i -p J<FSh$H$;> in two => unread => => => in is written\ntwo is unchanged\n => => in == hi\n ++ two == two\n => in == Hi\n ++ two == two\n
+    - teco -i -e YIA$EX$$ in => unread => => => => => in == hi\n => in == Ahi\n
+    - // What has the output already isn't written: a refused write is not met.
+    - teco -i -e YEX$$ in => unread => => => => => in == hi\n => => write
+    - teco -i -e YIA$EX$$ in => unread => => teco: cannot write in: there is no room on the disk\n => => 1 => in == hi\n => => write
+    - // A file that another program changed is not replaced.
+    - teco -i -e YIA$EX$$ in => unread => => teco: in has changed\n => => 1 => in == hi\n => => changed
+    - // An owner that can't be kept is told, and the output is written all the same. What isn't written keeps its owner.
+    - teco -i -e YIA$EX$$ in => unread => => teco: in: owner not kept\n => => => in == hi\n => in == Ahi\n => owner
+    - teco -i -p J<FSh$H$;> in two => unread => => teco: in: owner not kept\n => => => in == hi\n ++ two == two\n => in == Hi\n ++ two == two\n => owner
+    - teco --explain -o out -e YIA$EX$$ in => unread => => teco: out: owner not kept\n => out is written\n => => in == hi\n ++ out == old => in == hi\n ++ out == Ahi\n => owner
+    - // What another program writes while the file is replaced is lost, which is told and is no success.
+    - teco -i -e YIA$EX$$ in => unread => => teco: in: changes made meanwhile not kept\n => => 1 => in == hi\n => in == Ahi\n => late
+    - // Standard output has none to be kept.
+    - teco -p IA$ in => unread => Ahi\n => => => => in == hi\n => => owner
+    - // A value that the strings leave is dropped at the end of each page.
+    - teco -i -p :FSi$o$ in => unread => => => => => in == hi\x0chi\x0cxx => in == ho\x0cho\x0cxx
+    - // Pages end after so many lines, and no byte is lost.
+    - teco --page-lines 2 -p Z=J<FSx$y$;> in => unread => 4\r\n4\r\n2\r\na\ny\nb\nc\ny\n => => => => in == a\nx\nb\nc\nx\n
+    - // Nothing is kept to be undone of strings for every page, unless the line says so.
+    - teco --page-lines 2 -p T in => unread => a\nc\na\nb\nc\n => => => => in == a\nb\nc\n
+    - // Strings for every page make a filter: the outputs come on standard output, one after another, and no file is written.
+    - teco -p IA$ in two => unread => Ahi\nAtwo\n => => => => in == hi\n ++ two == two\n ++ in.out == old\n
+    - teco -p IA$ none in => unread => Ahi\n => teco: cannot read none: there is no such file or folder\n => => 1 => in == hi\n
+    - teco -p IA$ -o - in => unread => Ahi\n => => => => in == hi\n
+    - teco -p IA$ -o out in => unread => => => => => in == hi\n => in == hi\n ++ out == Ahi\n
+    - teco -p IA$ - => hi\n => Ahi\n
+    - teco --explain -p IA$ in => unread => Ahi\n => => - is written\n => => in == hi\n";

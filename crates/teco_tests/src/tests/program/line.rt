@@ -1,0 +1,208 @@
+//! What the words of a line say.
+use super::ending::ends_so;
+use super::word::OnPages;
+use super::{ending, word, words_of};
+use crate::tests::bytes::{has, is};
+use crate::tests::rows::{Cells, Rule, all_hold, cells_of, number_or};
+use std::alloc::Global;
+use std::io;
+use std::test::*;
+use teco_cli::{
+    Commands, Line, LineFault, fault_of_words, is_standard_input, is_standard_output, line_of,
+    not_text, refused_status,
+};
+use teco_core::NoMemory;
+
+/// Where the commands come from: standard input, the sources of files and of a word, a word that is run on every page, or the bytes of a
+/// file.
+fn commands_told(alloc: Global, commands: &Commands) -> Result<String, NoMemory> {
+    match commands {
+        Commands::StandardInput => format!(in alloc; "standard input"),
+        Commands::Sources(names, word) => format!(in alloc; "{names:?} {word:?}"),
+        Commands::Pages(text) => format!(in alloc; "pages {text}"),
+        Commands::Bytes(name) => format!(in alloc; "bytes {name}"),
+    }
+}
+
+/// What a line says but for its commands: the input, more of them, the output, whether it is in place, prompts, checks and explains, the
+/// limit, the seconds, the depth, and the lines of a page.
+fn rest_told(alloc: Global, line: &Line) -> Result<String, NoMemory> {
+    let (input, more, output) = (&line.input, &line.more, &line.output);
+    let seconds = line.seconds;
+    format!(in alloc;
+        "{input} {more:?} {output:?} {:?} {} {seconds:?} {:?}",
+        [line.in_place, line.prompt, line.check, line.explain],
+        line.limit,
+        [line.undo, line.page_lines]
+    )
+}
+
+/// Whether it is told so, where that is said.
+fn is_told(told: Result<String, NoMemory>, cell: &str) -> bool {
+    match told {
+        Ok(told) => cell.is_empty() || is(&told, cell),
+        Err(NoMemory) => false,
+    }
+}
+
+fn says(alloc: Global, line: &Line, cells: &Cells) -> bool {
+    cells[3].is_empty()
+        && is_told(commands_told(alloc, &line.commands), cells[1])
+        && is_told(rest_told(alloc, line), cells[2])
+}
+
+/// Whether a line is refused with the status that a cell says, if it does.
+fn is_refused(fault: &LineFault, status: &str) -> bool {
+    match fault {
+        LineFault::Refused(error) => number_or(status, 256) == u64::from(refused_status(error)),
+        LineFault::NoMemory => false,
+    }
+}
+
+/// What the rows of lines tell. Each begins with words, with blanks between them.
+#[derive(Clone, Copy)]
+enum Lines {
+    /// Where the commands come from, and what else they say, if that is said; or the status with which they are refused;
+    Say,
+    /// or how a run that they ask for ends.
+    End,
+}
+
+impl Rule for Lines {
+    fn holds(&self, alloc: Global, row: &str) -> bool {
+        let cells = cells_of(row);
+        match line_of(alloc, words_of(alloc, cells[0]).as_slice()) {
+            Ok(line) => match self {
+                Lines::Say => says(alloc, &line, &cells),
+                Lines::End => ends_so(alloc, &line, &cells),
+            },
+            Err(fault) => is_refused(&fault, cells[3]),
+        }
+    }
+}
+
+const ROWS: &str = "
+    // Where the commands come from.
+    teco in => standard input
+    teco -e Y$$EX$$ in => [] Some(\"Y$$EX$$\")
+    teco in --execute ^EX$$ => [] Some(\"^EX$$\")
+    teco --execute=-C$$ in => [] Some(\"-C$$\")
+    // A value may begin with a hyphen, as any other.
+    teco -e -C$$ in => [] Some(\"-C$$\")
+    teco --execute -C$$ in => [] Some(\"-C$$\")
+    teco -e -- in => [] Some(\"--\")
+    teco -e -f in => [] Some(\"-f\")
+    teco -p 0K in => pages 0K
+    teco in --pages=0K => pages 0K
+    teco in more -p -C => pages -C
+    teco -f a in => [\"a\"] None
+    teco in -fa => [\"a\"] None
+    teco in --file=a => [\"a\"] None
+    teco -f - in => [\"-\"] None
+    // The files in their order, and then the word, wherever it stands.
+    teco -f a -f b in => [\"a\", \"b\"] None
+    teco -f b -e EX$$ --file=a in => [\"b\", \"a\"] Some(\"EX$$\")
+    teco -e EX$$ -f a in => [\"a\"] Some(\"EX$$\")
+    teco -b a in => bytes a
+    teco in --bytes=- => bytes -
+    // Lines that are refused, or ask for the help or the version.
+    teco -e EX$$ -b a in => => => 3
+    teco -f a -b a in => => => 3
+    teco -p 0K -b a in => => => 3
+    teco -b a -b a in => => => 3
+    teco -e EX$$ -p 0K in => => => 3
+    teco -p 0K -f a in => => => 3
+    teco -e EX$$ -e EX$$ in => => => 3
+    teco -e EX$$ -o b -i in => => => 3
+    teco -e EX$$ --output - --in-place in => => => 3
+    teco -e EX$$ -o b in more => => => 3
+    teco in more => => => 3
+    teco -i in more => => => 3
+    teco - => => => 3
+    teco /dev/stdin => => => 3
+    teco -f - - => => => 3
+    teco -f a -f /dev/stdin in /dev/fd/0 => => => 3
+    teco -b - - => => => 3
+    teco -i -e EX$$ - => => => 3
+    teco -i -e EX$$ in /proc/self/fd/0 => => => 3
+    teco --limit -1 in => => => 3
+    teco -o => => => 3
+    teco -- -e EX$$ in => => => 3
+    teco --what in => => => 3
+    teco -i -i in => => => 3
+    teco --help => => => 0
+    teco -V => => => 0
+    // What the other options say.
+    teco in => => in [] None [false, false, false, false] 1000000 None [None, None]
+    teco --limit 5 --output o --prompt in => => in [] Some(\"o\") [false, true, false, false] 5 None [None, None]
+    teco in --limit=1000000000000 --explain -o - => => in [] Some(\"-\") [false, false, false, true] 1000000000000 None [None, None]
+    teco --seconds 1 in => => in [] None [false, false, false, false] 1000000 Some(1) [None, None]
+    teco in --seconds=1000000000000 => => in [] None [false, false, false, false] 1000000 Some(1000000000000) [None, None]
+    teco --undo 1 in => => in [] None [false, false, false, false] 1000000 None [Some(1), None]
+    teco in --undo=100000 => => in [] None [false, false, false, false] 1000000 None [Some(100000), None]
+    teco in -i => => in [] None [true, false, false, false] 1000000 None [None, None]
+    teco -i in => => in [] None [true, false, false, false] 1000000 None [None, None]
+    teco -b EX --check in => => in [] None [false, false, true, false] 1000000 None [None, None]
+    teco --check --prompt in => => => 3
+    teco -p 0K in --in-place a b -- -c => => in [\"a\", \"b\", \"-c\"] None [true, false, false, false] 1000000 None [None, None]
+    teco -e EX$$ in - => => in [\"-\"] None [false, false, false, false] 1000000 None [None, None]
+    teco -e EX$$ - => => - [] None [false, false, false, false] 1000000 None [None, None]
+    teco -o -b in => => in [] Some(\"-b\") [false, false, false, false] 1000000 None [None, None]
+    teco --page-lines 1 in => => in [] None [false, false, false, false] 1000000 None [None, Some(1)]
+    teco in --page-lines=1000000000 => => in [] None [false, false, false, false] 1000000 None [None, Some(1000000000)]
+    teco --page-lines 0 in => => => 3
+    teco --page-lines 1000000001 in => => => 3
+    teco --page-lines -1 in => => => 3
+    teco --limit 1000000000001 in => => => 3
+    teco --limit -1 in => => => 3
+    teco --seconds 0 in => => => 3
+    teco --seconds x in => => => 3
+    teco --seconds 1000000000001 in => => => 3
+    teco --seconds 1 --seconds 1 in => => => 3
+    teco --seconds in => => => 3
+    teco --undo 0 in => => => 3
+    teco --undo 100001 in => => => 3
+    teco --undo x in => => => 3
+    teco -i=true in => => => 3
+    ";
+
+/// Whether an argument that is not UTF-8 leads to the status of a refused line.
+fn is_refused_without_text(alloc: Global) -> bool {
+    let error = io::Error::from(io::ErrorKind::InvalidData);
+    is_refused(&fault_of_words(error, not_text(alloc)), "3")
+}
+
+/// Names, and whose each is: standard input's, standard output's, or both.
+#[derive(Clone, Copy)]
+struct Names;
+
+impl Rule for Names {
+    fn holds(&self, _alloc: Global, row: &str) -> bool {
+        let [name, streams, ..] = cells_of(row);
+        is_standard_input(name) == has(streams, "input")
+            && is_standard_output(name) == has(streams, "output")
+    }
+}
+
+const NAMES: &str = "
+    /dev/stdin => input
+    /dev/fd/0 => input
+    /proc/self/fd/0 => input
+    - => input output
+    /dev/stdout => output
+    /dev/fd/1 => output
+    /proc/self/fd/1 => output
+    ./- => neither
+    /dev/stderr => neither
+     => neither
+    ";
+
+#[test]
+fn gives_what_the_words_say_and_says_how_it_ends(rt: HostRuntime) {
+    let alloc = rt.alloc();
+    all_hold(&rt, alloc, &Lines::Say, ROWS);
+    all_hold(&rt, alloc, &Lines::End, ending::ROWS);
+    all_hold(&rt, alloc, &Names, NAMES);
+    all_hold(&rt, alloc, &OnPages, word::ROWS);
+    assert!(rt; is_refused_without_text(alloc) || is_refused_without_text(alloc));
+}

@@ -1,0 +1,2 @@
+//! Of teco_io: terminals and sinks.
+mod terminals;

@@ -1,0 +1,13 @@
+use Rattle.std.proofs.Common.{arith, option_map, rules, ◌+◌}
+use Rattle.teco_undo.specs.Follows.{FollowsAfterChanges}
+use Rattle.teco_store.specs.Search.{fresh_load}
+use Rattle.teco_undo.proofs.Recordings.{goes_more, goes_then}
+use Rattle.teco_undo.proofs.recorder.Recorder.note_result.Goals as goal
+
+pub returns-clause-goes : goal.returns-clause-goes
+returns-clause-goes c =
+    let r = c.args.self.now in
+    let n = fresh_load r.full.body.last_search (option_map (λ v. v.items) c.args.text) in
+    let first : FollowsAfterChanges n 1 r c.match-text.self = search rules in
+    goes_more r c.note.new.self (n + 0) n 2 2 (omega arith) (omega arith)
+    (goes_then r c.match-text.self c.note.new.self n 0 1 1 first c.note.ensures.goes)

@@ -1,0 +1,194 @@
+//! Changes in order: what most of them hold lies in 24 bytes.
+ghost use Rattle.std.specs.Prelude.{◌≡◌, ◌↔◌, ◌+◌, ◌<◌, ◌≤◌, ◌++◌, ◌∷◌, [], length, option_to_list, slice_index_or, IsOk, IsSome, OnOk};
+ghost use Rattle.std.proofs.Common.{set};
+ghost use Rattle.teco_store.specs.ChangeView.{small_turn, IsHere};
+ghost use Rattle.teco_store.specs.Turn.{held_by, body_after, turn_after, note_after, full_after, Stands, FitsFull};
+ghost use Rattle.teco_store.specs.Kinds.{kind_of, way_back, ChangesOnly};
+ghost use Rattle.teco_undo.specs.Listing.{no_note};
+ghost use Rattle.teco_store.specs.State.{Body};
+
+use std::alloc::Global;
+use std::marker::Model;
+use teco_core::NoMemory;
+use teco_store::change::{Part, Small};
+use teco_store::{Change, ChangeKind, Editor, change_laws};
+
+/// A change with the steps that were done before it was noted: what it holds, or the place of what is held apart.
+#[derive(Clone, Copy)]
+pub(crate) struct Slot {
+    step: u64,
+    small: Small,
+}
+
+const _: () = prove!(size_of::<Slot>() <= 24);
+
+/// Changes, in the order in which they were made.
+///
+/// One of a number, of the pointer, of a flag or of a byte takes 24 bytes. What is larger is held apart. A clause sees them as the changes, and how
+/// many more have room.
+pub struct ChangeList {
+    slots: Vec<Slot>,
+    apart: Vec<Part>,
+}
+
+// Its parts go here, and a crate that lets changes go calls this.
+impl Drop for ChangeList {
+    fn drop(self) {
+        let ChangeList { slots: _, apart: _ } = self;
+    }
+}
+
+impl Model for ChangeList {
+    ghost use Rattle.teco_undo.specs.Listing.{ChangeListing, listed_in, IsChangeListing};
+
+    ghost Value = { ChangeListing };
+
+    ghost view = { listed_in };
+
+    ghost invariant = { IsChangeListing };
+}
+
+impl ChangeList {
+    /// None. Takes no memory.
+    pub(crate) fn new(alloc: Global) -> ChangeList
+        ensures { result.items ≡ [] }
+    {
+        ChangeList {
+            slots: Vec::new(alloc),
+            apart: Vec::new(alloc),
+        }
+    }
+
+    /// How many there are.
+    pub fn len(&self) -> usize
+        ensures { result ≡ length self.now.items }
+    {
+        self.slots.len()
+    }
+
+    /// The steps that were done before a change.
+    pub fn step(&self, i: usize) -> u64
+        requires { i < length self.now.items }
+        ensures { result ≡ (slice_index_or self.now.items i no_note).step }
+    {
+        self.slots[i].step
+    }
+
+    /// The bytes of the text of a change, if it has one.
+    pub fn held(&self, i: usize) -> usize
+        requires { i < length self.now.items }
+        ensures { result ≡ held_by (slice_index_or self.now.items i no_note).turn }
+    {
+        match self.slots[i].small {
+            Small::Apart(place) => self.apart[place].held(),
+            Small::ByteIn(_, _, _) => 1,
+            _ => 0,
+        }
+    }
+
+    /// What a change is for, and of a splice how many bytes a turn takes out and puts in. Takes no memory.
+    pub fn kind(&self, i: usize) -> ChangeKind
+        requires { i < length self.now.items }
+        ensures kind { result ≡ kind_of (slice_index_or self.now.items i no_note).turn }
+
+        // A turn changes nothing else, and leaves a change that goes back.
+        ensures only { (b : Body) → ChangesOnly result b
+            (body_after (slice_index_or self.now.items i no_note).turn b) }
+        ensures back { (b : Body) → Stands (slice_index_or self.now.items i no_note).turn b
+            → kind_of (turn_after (slice_index_or self.now.items i no_note).turn b) ≡ way_back result }
+    {
+        change_laws();
+        match self.slots[i].small {
+            Small::Apart(place) => self.apart[place].kind(),
+            small => small.kind(),
+        }
+    }
+
+    /// Swaps what a change holds with what stands in its place. Takes no memory.
+    #[inline(always)]
+    pub(crate) fn turn(&mut self, i: usize, editor: &mut Editor)
+        requires within { i < length self.old.items }
+        requires fits { FitsFull (slice_index_or self.old.items i no_note).turn editor.old }
+        ensures editor { editor.new ≡ full_after (slice_index_or self.old.items i no_note).turn editor.old }
+        ensures items { self.new.items ≡ set self.old.items i
+            (note_after (slice_index_or self.old.items i no_note) editor.old.body) }
+    {
+        match self.slots[i].small {
+            Small::Apart(place) => self.apart[place].turn(editor),
+            small => self.slots[i].small = editor.put_small(small),
+        }
+    }
+
+    /// Finds room for so many more, and for so many that are held apart.
+    #[inline(always)]
+    pub(crate) fn reserve(&mut self, changes: usize, apart: usize) -> Result<(), NoMemory>
+        ensures items { self.new.items ≡ self.old.items }
+        ensures spare { OnOk result (changes ≤ self.new.spare) }
+        ensures apart { OnOk result (apart ≤ self.new.apart) }
+        ensures succeeds { changes ≤ self.old.spare → apart ≤ self.old.apart → IsOk result }
+    {
+        self.slots.reserve(changes)?;
+        self.apart.reserve(apart)
+    }
+
+    /// Notes a change whose value lies in it, at a place that was found. Takes no memory.
+    #[inline(always)]
+    pub(crate) fn push(&mut self, step: u64, small: Small)
+        requires spare { 0 < self.old.spare }
+        requires here { IsHere small }
+        ensures items { self.new.items
+            ≡ self.old.items ++ record { step = step; turn = small_turn small } ∷ [] }
+        ensures spare { self.new.spare + 1 ≡ self.old.spare }
+        ensures apart { self.new.apart ≡ self.old.apart }
+    {
+        self.slots.push_reserved(Slot { step, small });
+    }
+
+    /// Notes a change that is held apart, at places that were found. Takes no memory.
+    pub(crate) fn push_apart(&mut self, step: u64, part: Part)
+        requires spare { 0 < self.old.spare }
+        requires apart { 0 < self.old.apart }
+        ensures items { self.new.items ≡ self.old.items ++ record { step = step; turn = part } ∷ [] }
+        ensures spare { self.new.spare + 1 ≡ self.old.spare }
+        ensures apart { self.new.apart + 1 ≡ self.old.apart }
+    {
+        let small = Small::Apart(self.apart.len());
+        self.apart.push_reserved(part);
+        self.slots.push_reserved(Slot { step, small });
+    }
+
+    /// Takes off the last change, if there is one. Takes no memory.
+    #[inline(always)]
+    pub fn pop(&mut self) -> Option<Change>
+        ensures items { self.old.items ≡ self.new.items ++ option_to_list result }
+        ensures variant { IsSome result ↔ (0 < length self.old.items) }
+    {
+        let Some(slot) = self.slots.pop() else {
+            return None;
+        };
+        match slot.small {
+            Small::Apart(_) => match self.apart.pop() {
+                Some(part) => Some(Change::new(slot.step, part)),
+                // The last of those held apart is there, by what always holds of the list.
+                None => unreachable!(),
+            },
+            small => Some(Change::small(slot.step, small)),
+        }
+    }
+
+    /// Drops all of them, and keeps the memory.
+    pub(crate) fn clear(&mut self)
+        ensures { self.new.items ≡ [] }
+    {
+        self.slots.clear();
+        self.apart.clear();
+    }
+
+    /// Gives back what memory they do not need.
+    pub fn shrink_to_fit(&mut self)
+        ensures { self.new.items ≡ self.old.items }
+    {
+        self.slots.shrink_to_fit();
+        self.apart.shrink_to_fit();
+    }
+}

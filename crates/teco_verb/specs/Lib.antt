@@ -1,2 +1,0 @@
-pub mod Verb
-pub mod Number

@@ -1,2 +1,0 @@
-pub mod Walk
-pub mod Finding

@@ -1,0 +1,104 @@
+-- What the command line says: tecol [OPTIONS] [FILE]
+use Rattle.std.specs.Prelude.{◌≡◌, ◌↔◌, ◌⊎◌, ⊤, List, [], ◌∷◌, codes, map, Some, unwrap_or, Bool, true, false, ◌&&◌, IsTrue, Result, Ok, Err}
+use Rattle.std.specs.String.{string_bytes}
+use Rattle.std.specs.declared.alloc.Global.{Global}
+use Rattle.std.specs.declared.string.String.{String}
+use Rattle.std.specs.declared.vec.Vec.{Vec}
+use Rattle.clap.specs.Words.{App, IsAmong, Row, Rule, Text, fault_of, first_of, matches_of, new_app, new_rule, one_of, takes}
+use Rattle.clap.specs.declared.builder.action.ArgAction.TheVariants.{Set}
+use Rattle.clap.specs.declared.error.kind.ErrorKind.{ErrorKind}
+use Rattle.clap.specs.declared.error.kind.ErrorKind.TheVariants as kind
+use Rattle.teco_cli.specs.Parsing.{with_version}
+use Rattle.teco_cli.specs.OptionTable.{flag, with_rules, with_text}
+use Rattle.teco_cli.specs.Refusals.{IsToldAs}
+use Rattle.teco_cli.specs.declared.fault.LineFault.{LineFault}
+use Rattle.teco_cli.specs.declared.fault.LineFault.TheVariants as line_fault
+use Rattle.teco_cli.specs.declared.refusal.Refusal.{Refusal}
+use Rattle.teco_cli.specs.declared.refusal.RefusedAs.TheVariants.{Faulty}
+use Rattle.tecol_driver.specs.declared.line.Line.{Line}
+use Rattle.tecol_driver.specs.declared.line.Mode.{Mode}
+use Rattle.tecol_driver.specs.declared.line.Mode.TheVariants.{Bytes, Listing, Again, CheckSource, CheckBytes}
+
+-- FILE: any text, if it is there
+abbrev pub file_rule : Rule
+file_rule = record (new_rule (codes "input")) { value_names = 1; action = Some Set }
+
+abbrev pub tecol_rules : List Rule
+tecol_rules = flag (codes "reverse") (Some 114)
+    ∷ flag (codes "words") (Some 119)
+    ∷ flag (codes "check") (Some 99)
+    ∷ with_text (codes "output") (Some 111)
+    ∷ file_rule
+    ∷ []
+
+-- The command that the words are read by: the parser's rules for a command with these arguments and no others of its own.
+abbrev pub tecol_app : App
+tecol_app = with_rules (with_version (new_app (codes "tecol"))) tecol_rules
+
+-- what is made where these flags are up: --reverse, --words and --check
+abbrev pub mode_by : Bool → Bool → Bool → Mode
+mode_by true words true = CheckBytes
+mode_by false words true = CheckSource
+mode_by true words false = Listing
+mode_by false true false = Again
+mode_by false false false = Bytes
+
+-- By a parse the flag is up, or it is not.
+abbrev pub IsFlag : List Row → Text → Bool → Type 0
+IsFlag rows id up = IsTrue up ↔ (one_of id rows ≡ Some (codes "true"))
+
+-- The line has what a parse gives for each argument; a name that isn't given is that of a standard stream.
+pub record GivesLine (rows : List Row) (line : Line) : Type 0 where
+  pub reverse : Bool
+  pub check : Bool
+  pub reverse_is : IsFlag rows (codes "reverse") reverse
+  pub words_is : IsFlag rows (codes "words") line.words
+  pub check_is : IsFlag rows (codes "check") check
+  -- a check with words is no line
+  pub fits : check && line.words ≡ false
+  pub mode : line.mode ≡ mode_by reverse line.words check
+  pub input : string_bytes line.input ≡ unwrap_or (first_of (codes "input") rows) (codes "-")
+  pub output : string_bytes line.output ≡ unwrap_or (first_of (codes "output") rows) (codes "-")
+
+-- The line is what these words say, the program's name first: the parser takes them, and the line has what their parse gives.
+pub record SayLine (words : List Text) (line : Line) : Type 0 where
+  pub taken : fault_of tecol_app words ≡ []
+  pub given : GivesLine (matches_of tecol_app words) line
+
+-- A parse asks for a check with words.
+abbrev pub SaysBoth : List Row → Type 0
+SaysBoth rows = IsFlag rows (codes "check") true × IsFlag rows (codes "words") true
+
+-- Why a parse gives no line: memory was refused, or what it says doesn't go together.
+abbrev pub GivesNoLine : List Row → LineFault → Type 0
+GivesNoLine rows line_fault.NoMemory = ⊤
+GivesNoLine rows (line_fault.Refused refusal) = SaysBoth rows × (refusal.refused_as ≡ Faulty)
+
+-- Why a line is refused, by the kind of an error of the parser: it wants memory; or these words have an error of that
+-- kind, and it does not take them; or it takes them, but what they say doesn't go together.
+abbrev pub IsTecolError : List Text → ErrorKind → Type 0
+IsTecolError words error = (error ≡ kind.OutOfMemory)
+    ⊎ (((takes tecol_app words ≡ false) × IsAmong error (fault_of tecol_app words))
+    ⊎ ((fault_of tecol_app words ≡ [])
+    × (SaysBoth (matches_of tecol_app words) × (error ≡ kind.ArgumentConflict))))
+
+-- A line is refused for such an error, and told as what that is.
+pub record IsRefusedLine (words : List Text) (refusal : Refusal) : Type 0 where
+  pub error : ErrorKind
+  pub error_is : IsTecolError words error
+  pub told : IsToldAs refusal.refused_as error
+
+-- Why the words gave no line: memory was refused, or the line is.
+abbrev pub SayNoLine : List Text → LineFault → Type 0
+SayNoLine words line_fault.NoMemory = ⊤
+SayNoLine words (line_fault.Refused refusal) = IsRefusedLine words refusal
+
+-- The words, where they were given, say this line.
+abbrev pub SayLineIn : Result (Vec (String Global) Global) LineFault → Line → Type 0
+SayLineIn (Ok words) line = SayLine (map string_bytes words.items) line
+SayLineIn (Err fault) line = ⊥
+
+-- Why there is no line: the words were not given, or they say none.
+abbrev pub SayNoLineIn : Result (Vec (String Global) Global) LineFault → LineFault → Type 0
+SayNoLineIn (Ok words) fault = SayNoLine (map string_bytes words.items) fault
+SayNoLineIn (Err given) fault = fault ≡ given

@@ -1,0 +1,80 @@
+//! What a run makes of its input.
+ghost use Rattle.std.specs.Prelude.{◌≡◌, IfOk};
+ghost use Rattle.tecol_driver.specs.Made.{IsMade, IsMadeOf, IsMadeOfSource, IsVerdict};
+
+use crate::line::{Line, Mode};
+use std::alloc::Global;
+use teco_core::NoMemory;
+use teco_lint::{check, report};
+use teco_source::{SourceFault, beginnings, commands, listing};
+
+/// What was made.
+#[derive(Drop)]
+pub enum Made {
+    /// Bytes, a listing, or the lines of a check that found no fault.
+    Fine(Vec<u8>),
+    /// The lines of a check that found a fault.
+    Faulty(Vec<u8>),
+    /// Nothing: in the source a caret at this place cannot be read.
+    Unreadable(usize),
+}
+
+/// What a check tells of commands. `places` tells for each of their bytes where in the source it begins; without it the commands are
+/// the source.
+fn check_in(
+    alloc: Global,
+    name: &str,
+    source: &[u8],
+    places: Option<&[usize]>,
+    bytes: &[u8],
+) -> Result<Made, NoMemory>
+    ensures { IfOk result (IsVerdict bytes.now) }
+{
+    let advice = check(alloc, bytes)?;
+    let lines = report(alloc, name, source, places, bytes, &advice.remarks)?.into_bytes();
+    if advice.is_faulty {
+        return Ok(Made::Faulty(lines));
+    }
+    Ok(Made::Fine(lines))
+}
+
+/// What is made of a source that stands for these commands.
+fn make_of_commands(
+    alloc: Global,
+    line: &Line,
+    source: &[u8],
+    bytes: Vec<u8>,
+) -> Result<Made, NoMemory>
+    ensures { IfOk result (IsMadeOf line.now.mode bytes.items) }
+{
+    match line.mode {
+        Mode::CheckSource => {
+            let places = beginnings(alloc, source)?;
+            check_in(alloc, line.input.as_str(), source, Some(&places), &bytes)
+        }
+        Mode::Again => Ok(Made::Fine(listing(alloc, &bytes, line.words)?)),
+        _ => Ok(Made::Fine(bytes)),
+    }
+}
+
+/// What is made of a source.
+fn make_of_source(alloc: Global, line: &Line, source: &[u8]) -> Result<Made, NoMemory>
+    ensures { IfOk result (IsMadeOfSource line.now.mode source.now) }
+{
+    match commands(alloc, source) {
+        Ok(bytes) => make_of_commands(alloc, line, source, bytes),
+        Err(SourceFault::Caret(at)) => Ok(Made::Unreadable(at)),
+        Err(SourceFault::Memory) => Err(NoMemory),
+    }
+}
+
+/// What the line asks to be made of an input.
+pub fn make(alloc: Global, line: &Line, input: &[u8]) -> Result<Made, NoMemory>
+    ensures { IfOk result (IsMade line.now.mode input.now) }
+{
+    match line.mode {
+        Mode::Listing => Ok(Made::Fine(listing(alloc, input, line.words)?)),
+        Mode::CheckBytes => check_in(alloc, line.input.as_str(), input, None, input),
+        _ => make_of_source(alloc, line, input),
+    }
+}

@@ -1,0 +1,146 @@
+//! The program's command line.
+ghost use Rattle.clap.specs.Words.{first_of, found_of, rows_of};
+ghost use Rattle.std.specs.Prelude.{◌≡◌, IfErr, IfOk, codes, map, unwrap_or};
+ghost use Rattle.std.specs.String.{string_bytes};
+ghost use Rattle.tecol_driver.specs.CommandLine.{GivesLine, SayLine, SayNoLine, GivesNoLine, mode_by, tecol_rules};
+ghost use Rattle.teco_cli.specs.OptionTable.{rule_by};
+ghost use Rattle.teco_cli.specs.Refusals.{IsFaulty};
+
+use crate::line::{Line, Mode};
+use clap::ArgMatches;
+use std::alloc::Global;
+use teco_cli::{LineFault, OptionRow, Program, Refusal, Takes, faulty, flag_at, parsed};
+use teco_core::NoMemory;
+
+/// What the help says after the options.
+const AFTER_HELP: &str =
+    "In a source $ is ESC, ^J a line end and ^A to ^_ are control bytes; line ends and margins are layout,
+and !! begins a comment after a blank or at the beginning of a line. What a check tells is a line for
+each fault and each hint: FILE:LINE:COLUMN: ILL: .. or FILE:LINE:COLUMN: hint: ..
+Status: 0; 1 a file or memory failed; 2 a fault was found, or a source can't be read; 3 a faulty line.";
+
+/// The usage, which the help and each faulty line show.
+const USAGE: &str = "tecol [OPTIONS] [FILE]";
+
+/// What the help tells.
+static PROGRAM: Program = Program {
+    name: "tecol",
+    about: "Turns sources of TECO command strings into their bytes and back, and checks them",
+    after_help: AFTER_HELP,
+    usage: USAGE,
+};
+
+/// Every option, in the order of the help, and then the file.
+static ARGUMENTS: [OptionRow; 5] = [
+    OptionRow {
+        name: "reverse",
+        short: Some('r'),
+        takes: Takes::Nothing,
+        value: "",
+        help: "Reads bytes, and writes a source of them",
+    },
+    OptionRow {
+        name: "words",
+        short: Some('w'),
+        takes: Takes::Nothing,
+        value: "",
+        help: "Writes a source, with what each command does as a comment",
+    },
+    OptionRow {
+        name: "check",
+        short: Some('c'),
+        takes: Takes::Nothing,
+        value: "",
+        help: "Tells what is wrong, and runs nothing",
+    },
+    OptionRow {
+        name: "output",
+        short: Some('o'),
+        takes: Takes::Text,
+        value: "FILE",
+        help: "Where the output goes, - for standard output; a file has it whole or stays as it was",
+    },
+    OptionRow {
+        name: "input",
+        short: None,
+        takes: Takes::MaybeOperand,
+        value: "FILE",
+        help: "The file to read; without it, or by -, standard input",
+    },
+];
+
+/// What the program is called, and what its help tells.
+fn program() -> &'static Program
+    ensures { result.now.name.now ≡ codes "tecol" }
+{
+    &PROGRAM
+}
+
+/// The table.
+fn arguments() -> &'static [OptionRow]
+    ensures { map rule_by result.now ≡ tecol_rules }
+{
+    &ARGUMENTS
+}
+
+/// The text of an argument; `-` if it isn't given.
+fn text_at(alloc: Global, matches: &ArgMatches, name: &str) -> Result<String, NoMemory>
+    ensures { IfOk result (λ text. string_bytes text
+        ≡ unwrap_or (first_of name.now (rows_of (found_of matches.now))) (codes "-")) }
+{
+    match matches.get_str(name) {
+        Some(text) => String::from_str(alloc, text),
+        None => String::from_str(alloc, "-"),
+    }
+}
+
+/// What is made by these flags.
+fn mode_by(reverse: bool, words: bool, check: bool) -> Mode
+    ensures { result ≡ mode_by reverse words check }
+{
+    match (check, reverse, words) {
+        (true, true, _) => Mode::CheckBytes,
+        (true, false, _) => Mode::CheckSource,
+        (false, true, _) => Mode::Listing,
+        (false, false, true) => Mode::Again,
+        (false, false, false) => Mode::Bytes,
+    }
+}
+
+/// The line that a parse gives.
+fn line_in<'a>(alloc: Global, matches: &ArgMatches<'a>) -> Result<Line, LineFault>
+    ensures line { IfOk result (GivesLine (rows_of (found_of matches.now))) }
+    ensures refused { IfErr result (GivesNoLine (rows_of (found_of matches.now))) }
+{
+    let reverse = flag_at(matches, "reverse");
+    let words = flag_at(matches, "words");
+    let check = flag_at(matches, "check");
+    if check && words {
+        let why = "the argument '--check' cannot be used with '--words'";
+        return Err(LineFault::Refused(faulty(alloc, why, USAGE)?));
+    }
+    Ok(Line {
+        input: text_at(alloc, matches, "input")?,
+        output: text_at(alloc, matches, "output")?,
+        mode: mode_by(reverse, words, check),
+        words,
+    })
+}
+
+/// What the words say, the program's name first: `tecol [OPTIONS] [FILE]`.
+pub fn line_of(alloc: Global, words: &[String]) -> Result<Line, LineFault>
+    ensures line { IfOk result (SayLine (map string_bytes words.now)) }
+    ensures refused { IfErr result (SayNoLine (map string_bytes words.now)) }
+{
+    match parsed(alloc, program(), arguments(), words) {
+        Ok(matches) => line_in(alloc, &matches),
+        Err(fault) => Err(fault),
+    }
+}
+
+/// The refusal of a line with an argument that is not UTF-8.
+pub fn not_text(alloc: Global) -> Result<Refusal, NoMemory>
+    ensures { IfOk result (IsFaulty (codes "an argument is not UTF-8 text") (codes "tecol [OPTIONS] [FILE]")) }
+{
+    faulty(alloc, "an argument is not UTF-8 text", USAGE)
+}
