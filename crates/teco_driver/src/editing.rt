@@ -24,7 +24,7 @@ use teco_cli::{Commands, Line, is_standard_output};
 use teco_core::NoMemory;
 use teco_fs::{Disk, Reason, Written, has_bytes, write_output};
 use teco_io::{Source, Terminal, TerminalFault};
-use teco_serve::{Alarm, Bounds, Fate, Listens, Served, output_name, serve};
+use teco_serve::{Alarm, Bounds, Fate, Listens, Served, Settings, output_name, serve};
 use teco_session::Session;
 use teco_store::Desk;
 
@@ -143,13 +143,17 @@ fn work_over(alloc: Global, line: &Line, name: &str, input: Vec<u8>) -> Result<W
     Ok(Work { session, to })
 }
 
-/// How far each command string may run, by the line.
-fn bounds_of(line: &Line) -> Bounds
-    ensures { result ≡ bounds_of line.now }
+/// How the line has its commands served.
+fn settings_of(line: &Line) -> Settings
+    ensures bounds { result.bounds ≡ bounds_of line.now }
+    ensures prompt { result.prompt ≡ line.now.prompt }
 {
-    Bounds {
-        steps: line.limit,
-        seconds: line.seconds,
+    Settings {
+        bounds: Bounds {
+            steps: line.limit,
+            seconds: line.seconds,
+        },
+        prompt: line.prompt,
     }
 }
 
@@ -212,8 +216,7 @@ pub fn edit_by_stream<S: Source, A: Alarm, T: Terminal, L: Listens, D: Disk>(
         alloc,
         &mut host.commands,
         &mut work.session,
-        bounds_of(line),
-        line.prompt,
+        settings_of(line),
         &mut host.alarm,
         &mut host.terminal,
         listener,
@@ -248,8 +251,7 @@ pub fn edit_by<C: Source, S: Source, A: Alarm, T: Terminal, L: Listens, D: Disk>
         alloc,
         commands,
         &mut work.session,
-        bounds_of(line),
-        line.prompt,
+        settings_of(line),
         &mut host.alarm,
         &mut host.terminal,
         listener,

@@ -15,6 +15,15 @@ pub struct Bounds {
     pub seconds: Option<u64>,
 }
 
+/// How a stream of commands is served.
+#[derive(Clone, Copy)]
+pub struct Settings {
+    /// How far each command string may run.
+    pub bounds: Bounds,
+    /// Whether a star asks for commands.
+    pub prompt: bool,
+}
+
 /// What asks a command string to stop when it has run long enough.
 pub trait Alarm: Stop {
     /// A command string begins, which may run so many seconds.

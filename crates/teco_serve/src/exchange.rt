@@ -12,7 +12,7 @@ ghost use Rattle.teco_session.specs.Kept.{history_of};
 ghost use Rattle.teco_session.specs.Step.{Reply, RunStep, is_terminal_failure};
 ghost use Rattle.teco_io.specs.Terminal.{Puts, Shows};
 
-use crate::alarm::{Alarm, Bounds};
+use crate::alarm::{Alarm, Bounds, Settings};
 use crate::listener::Listens;
 use crate::served::Served;
 use crate::splitter::Asked;
@@ -210,25 +210,24 @@ fn exits(asked: &Asked, was_done: bool, is_done: bool) -> bool
 pub fn do_exchange<A: Alarm, T: Terminal, L: Listens>(
     asked: &Asked,
     session: &mut Session,
-    bounds: Bounds,
-    prompt: bool,
+    settings: Settings,
     alarm: &mut A,
     term: &mut T,
     listener: &mut L,
 ) -> Option<Served>
     ensures { (exchange : Exchange)
-        × IsExchange (allowance bounds (HasRung A.answered)) (value_of asked.now) (history_of session.old)
+        × IsExchange (allowance settings.bounds (HasRung A.answered)) (value_of asked.now) (history_of session.old)
         (history_of session.new) exchange
-        × ExchangeEnds (Shows (T.screen term.old) (T.screen term.new)) prompt exchange result }
+        × ExchangeEnds (Shows (T.screen term.old) (T.screen term.new)) settings.prompt exchange result }
 {
     let was_done = session.editor().done();
-    if let Err(TerminalFault) = do_asked(asked, session, bounds, alarm, term, listener) {
+    if let Err(TerminalFault) = do_asked(asked, session, settings.bounds, alarm, term, listener) {
         return Some(Served::ShowFault);
     }
     if exits(asked, was_done, session.editor().done()) {
         return Some(Served::Exit);
     }
-    if let Err(TerminalFault) = show_prompt(prompt, term) {
+    if let Err(TerminalFault) = show_prompt(settings.prompt, term) {
         return Some(Served::ShowFault);
     }
     None

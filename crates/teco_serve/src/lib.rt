@@ -10,7 +10,7 @@ mod served;
 mod serving;
 mod splitter;
 
-pub use alarm::{Alarm, Bounds, ClockAlarm, SystemTimer, Timer};
+pub use alarm::{Alarm, Bounds, ClockAlarm, Settings, SystemTimer, Timer};
 pub use fate::{Fate, ending, ending_of, output_name, said_of, said_why, status_of};
 pub use listener::{Explainer, Listens, Silent};
 pub use served::Served;

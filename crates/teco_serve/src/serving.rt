@@ -7,7 +7,7 @@ ghost use Rattle.teco_serve.specs.Serving.{Exchanges, Serves};
 ghost use Rattle.teco_io.specs.Source.{Gives, HasEnded};
 ghost use Rattle.teco_io.specs.Terminal.{Shows};
 
-use crate::alarm::{Alarm, Bounds};
+use crate::alarm::{Alarm, Settings};
 use crate::exchange::{do_exchange, show_prompt};
 use crate::listener::Listens;
 use crate::served::Served;
@@ -23,17 +23,16 @@ const PIECE: usize = 4096;
 fn serve_held<A: Alarm, T: Terminal, L: Listens>(
     splitter: &mut Splitter,
     session: &mut Session,
-    bounds: Bounds,
-    prompt: bool,
+    settings: Settings,
     alarm: &mut A,
     term: &mut T,
     listener: &mut L,
 ) -> Option<Served>
     ensures { (exchanges : List Exchange)
-        × Exchanges (allowance bounds (HasRung A.answered)) (history_of session.old) exchanges (history_of session.new)
+        × Exchanges (allowance settings.bounds (HasRung A.answered)) (history_of session.old) exchanges (history_of session.new)
         × CutsOff splitter.old exchanges splitter.new
         × Emptied result splitter.new
-        × HeldEnds (Shows (T.screen term.old) (T.screen term.new)) prompt exchanges result }
+        × HeldEnds (Shows (T.screen term.old) (T.screen term.new)) settings.prompt exchanges result }
 {
     'held: loop {
         let Ok(next) = splitter.next() else {
@@ -42,7 +41,7 @@ fn serve_held<A: Alarm, T: Terminal, L: Listens>(
         let Some(asked) = next else {
             return None;
         };
-        let ended = do_exchange(&asked, session, bounds, prompt, alarm, term, listener);
+        let ended = do_exchange(&asked, session, settings, alarm, term, listener);
         if let Some(served) = ended {
             return Some(served);
         }
@@ -50,8 +49,7 @@ fn serve_held<A: Alarm, T: Terminal, L: Listens>(
 }
 
 /// Reads pieces of the stream, cuts them into texts, and does what each asks before it reads again. Each command string may run as far
-/// as `bounds` say, and the alarm is set for each anew. With `prompt` a star asks for commands. The listener hears what is done for each
-/// text.
+/// as the settings say, and the alarm is set for each anew. The listener hears what is done for each text.
 ///
 /// However the source cuts its bytes, what is done is a beginning of what they ask, and all of it at the end of the stream and where
 /// a read fails. It ends where a run makes the session done, and at the first put that fails; nothing is done after that.
@@ -59,19 +57,18 @@ pub fn serve<S: Source, A: Alarm, T: Terminal, L: Listens>(
     alloc: Global,
     source: &mut S,
     session: &mut Session,
-    bounds: Bounds,
-    prompt: bool,
+    settings: Settings,
     alarm: &mut A,
     term: &mut T,
     listener: &mut L,
 ) -> Served
-    ensures { Serves (allowance bounds (HasRung A.answered)) prompt
+    ensures { Serves (allowance settings.bounds (HasRung A.answered)) settings.prompt
         (Gives S.coming S.bound S.failures source.old source.new)
         (HasEnded (S.coming source.new) (S.ended source.new))
         (Shows (T.screen term.old) (T.screen term.new))
         (history_of session.old) (history_of session.new) result }
 {
-    if let Err(TerminalFault) = show_prompt(prompt, term) {
+    if let Err(TerminalFault) = show_prompt(settings.prompt, term) {
         return Served::ShowFault;
     }
     let mut splitter = Splitter::new(alloc);
@@ -87,15 +84,7 @@ pub fn serve<S: Source, A: Alarm, T: Terminal, L: Listens>(
         if splitter.feed(&piece[..n]).is_err() {
             return Served::NoMemory;
         }
-        let ended = serve_held(
-            &mut splitter,
-            session,
-            bounds,
-            prompt,
-            alarm,
-            term,
-            listener,
-        );
+        let ended = serve_held(&mut splitter, session, settings, alarm, term, listener);
         if let Some(served) = ended {
             listener.left(splitter.held(), true);
             return served;

@@ -18,6 +18,6 @@ returns g c =
     let given = read_before (is_standard_input c.args.name.now) g.S.Source c.args.host.now.commands c.input_at.new.stream (seen c.args.host.now.disk) (seen c.input_at.new.disk) (seen c.finish-fate.new.host.disk) c.args.name.now c.in-Ok.input.items
     c.finish-fate.ensures.still c.in-Ok.ensures.input in
     record {
-      edits = over_work _ _ _ _ _ _ _ _ _ _ _ _ c.input_at.ensures.keeps given c.in-Ok-work_over.ensures.to c.in-Ok-work_over.ensures.history (rw c.bounds_of.ensures at c.serve-served.ensures) c.finish-fate.ensures.ends;
+      edits = over_work _ _ _ _ _ _ _ _ _ _ _ _ c.input_at.ensures.keeps given c.in-Ok-work_over.ensures.to c.in-Ok-work_over.ensures.history (rw (c.settings_of.ensures.bounds, c.settings_of.ensures.prompt) at c.serve-served.ensures) c.finish-fate.ensures.ends;
       still = λ apart. c.finish-fate.ensures.still ∙ c.input_at.ensures.still apart;
     }

@@ -13,7 +13,7 @@ pub returns-in-Err : goal.returns-in-Err
 returns-in-Err g c =
     let d = c.in-Err.ensures.done in
     let x : Exchange = record { asked = value_of c.args.asked.now; before = history_of c.args.session.now; replies = d.0; after = history_of c.do_asked.new.session } in
-    let rest = if exits x then [] else star c.args.prompt in (
+    let rest = if exits x then [] else star c.args.settings.prompt in (
       x,
       record { asked_is = refl; before_is = refl; after_is = refl; does = d.1 },
       (
@@ -34,7 +34,7 @@ returns-then-exits g c =
       record { asked_is = refl; before_is = refl; after_is = refl; does = d.1 },
       (
         ends,
-        subst (λ l. Shows (g.T.Terminal.screen c.args.term.now) (g.T.Terminal.screen c.do_asked.new.term) l false) (sym (shown_exit c.args.prompt x ends)) d.2,
+        subst (λ l. Shows (g.T.Terminal.screen c.args.term.now) (g.T.Terminal.screen c.do_asked.new.term) l false) (sym (shown_exit c.args.settings.prompt x ends)) d.2,
       ),
     )
 
@@ -47,15 +47,15 @@ returns-in-Err-show_prompt g c =
     let now : c.done.result ≡ (present x.after).is_done = c.done.ensures ∙ ap (λ s. s.is_done) c.editor-2.ensures.present in
     let same : c.exits.result ≡ exits x = exits_from x c.exits.result c.done-was_done.result c.done.result c.exits.ensures was now in
     let on : exits x ≡ false = sym same ∙ c.if-exits.false in
-    let shown = shown_on c.args.prompt x on in (
+    let shown = shown_on c.args.settings.prompt x on in (
       x,
       record { asked_is = refl; before_is = refl; after_is = refl; does = d.1 },
       (
         on,
         subst (λ l. BreaksOff (Shows (g.T.Terminal.screen c.args.term.now) (g.T.Terminal.screen c.show_prompt.new.term)) [] l) (sym shown) (record {
-          some = some-right (replies_shown d.0) (star c.args.prompt) c.in-Err-show_prompt.ensures.some;
+          some = some-right (replies_shown d.0) (star c.args.settings.prompt) c.in-Err-show_prompt.ensures.some;
           front = replies_shown d.0 ++ p.0;
-          beginning = front-after (replies_shown d.0) p.0 (star c.args.prompt) p.1;
+          beginning = front-after (replies_shown d.0) p.0 (star c.args.settings.prompt) p.1;
           shows = Shows-trans d.2 p.2;
         }),
       ),
@@ -74,6 +74,6 @@ returns g c =
       record { asked_is = refl; before_is = refl; after_is = refl; does = d.1 },
       (
         on,
-        subst (λ l. Shows (g.T.Terminal.screen c.args.term.now) (g.T.Terminal.screen c.show_prompt.new.term) l false) (sym (shown_on c.args.prompt x on)) (Shows-trans d.2 p),
+        subst (λ l. Shows (g.T.Terminal.screen c.args.term.now) (g.T.Terminal.screen c.show_prompt.new.term) l false) (sym (shown_on c.args.settings.prompt x on)) (Shows-trans d.2 p),
       ),
     )

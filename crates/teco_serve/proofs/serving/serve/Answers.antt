@@ -42,7 +42,7 @@ returns-in-Err g c =
       exit = tt;
       shown = record {
         before = [];
-        last = star c.args.prompt;
+        last = star c.args.settings.prompt;
         parts = inl (refl, refl, refl);
         breaks = record { some = c.in-Err.ensures.some; front = e.0; beginning = e.1; shows = e.2 };
       };
@@ -57,7 +57,7 @@ pieces-init g c = (
   CutsOff-none _ c.new-splitter.ensures,
   ap texts_of c.new-splitter.ensures,
   tt,
-  subst (λ l. Shows (g.T.Terminal.screen c.args.term.now) (g.T.Terminal.screen c.show_prompt.new.term) l false) (sym (append-nil (star c.args.prompt))) c.in_default.ensures.puts,
+  subst (λ l. Shows (g.T.Terminal.screen c.args.term.now) (g.T.Terminal.screen c.show_prompt.new.term) l false) (sym (append-nil (star c.args.settings.prompt))) c.in_default.ensures.puts,
 )
 
 pub returns-in_default-read : goal.returns-in_default-read
@@ -116,12 +116,12 @@ returns-in-Some g c =
     let fed : c.feed.new.self ≡ c.pieces.splitter ++ piece = no_error {P = c.feed.new.self ≡ c.pieces.splitter ++ piece} c.feed.result (sym c.is_err.ensures.value ∙ c.if-is_err.false) c.feed.ensures.ok in
     let cut = CutsOff-append bytes c.feed.new.self c.serve_held-ended.new.splitter inv.1 d.0 (CutsOff-fed inv.0 c.pieces.splitter piece c.feed.new.self inv.1 inv.4 fed) d.2 in
     let joins = Shows-joins (g.T.Terminal.screen c.args.term.now) (g.T.Terminal.screen c.pieces.term) (g.T.Terminal.screen c.serve_held-ended.new.term) in
-    let ends = ends_from _ _ _ joins c.args.prompt inv.1 inv.6 d.0 c.in-Some.served inv.7 d.4 in
+    let ends = ends_from _ _ _ joins c.args.settings.prompt inv.1 inv.6 d.0 c.in-Some.served inv.7 d.4 in
     record {
       bytes = bytes;
       read = subst (λ b. Gives g.S.Source.coming g.S.Source.bound g.S.Source.failures c.args.source.now c.read.new.self bytes b) (sym ends.read) (Gives-more inv.2 c.in-Ok.ensures.ok);
       exchanges = inv.1 ++ d.0;
-      done = Exchanges-append (allowance c.args.bounds (HasRung g.A.Stop.answered)) (history_of c.args.session.now) (history_of c.pieces.session) (history_of c.serve_held-ended.new.session) inv.1 d.0 inv.3 d.1;
+      done = Exchanges-append (allowance c.args.settings.bounds (HasRung g.A.Stop.answered)) (history_of c.args.session.now) (history_of c.pieces.session) (history_of c.serve_held-ended.new.session) inv.1 d.0 inv.3 d.1;
       first = CutsOff-first bytes c.serve_held-ended.new.splitter (inv.1 ++ d.0) cut;
       all = λ out. absurd (ends.all out);
       ended = λ end. absurd (ends.ended end);
@@ -141,9 +141,9 @@ pieces-preserved g c =
       bytes,
       inv.1 ++ d.0,
       Gives-more inv.2 c.in-Ok.ensures.ok,
-      Exchanges-append (allowance c.args.bounds (HasRung g.A.Stop.answered)) (history_of c.args.session.now) (history_of c.pieces.session) (history_of c.serve_held-ended.new.session) inv.1 d.0 inv.3 d.1,
+      Exchanges-append (allowance c.args.settings.bounds (HasRung g.A.Stop.answered)) (history_of c.args.session.now) (history_of c.pieces.session) (history_of c.serve_held-ended.new.session) inv.1 d.0 inv.3 d.1,
       cut,
       d.3,
       GoOn-append inv.1 d.0 inv.6 d.4.0,
-      held_shows _ _ _ joins c.args.prompt inv.1 inv.6 d.0 inv.7 d.4.1,
+      held_shows _ _ _ joins c.args.settings.prompt inv.1 inv.6 d.0 inv.7 d.4.1,
     )

@@ -7,7 +7,7 @@ use crate::tests::step::failed_searches;
 use std::alloc::Global;
 use std::test::*;
 use teco_io::MemorySource;
-use teco_serve::{Bounds, ClockAlarm, Served, Silent, serve};
+use teco_serve::{Bounds, ClockAlarm, Served, Settings, Silent, serve};
 use teco_session::Session;
 use teco_store::Desk;
 
@@ -43,22 +43,16 @@ fn served_by(
     prompt: bool,
     term: &mut Screen,
 ) -> Served {
-    let bounds = Bounds {
-        steps,
-        seconds: None,
+    let settings = Settings {
+        bounds: Bounds {
+            steps,
+            seconds: None,
+        },
+        prompt,
     };
     let clock = Ticking::new();
     let alarm = &mut ClockAlarm::new(&clock);
-    serve(
-        alloc,
-        source,
-        session,
-        bounds,
-        prompt,
-        alarm,
-        term,
-        &mut Silent,
-    )
+    serve(alloc, source, session, settings, alarm, term, &mut Silent)
 }
 
 /// Whether the bytes are this text, but for those that it doesn't tell.
