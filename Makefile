@@ -1,6 +1,6 @@
 # Builds, installs and checks what is here. `make help` lists what can be made.
 #
-# The programs and the library are proved as they are built, by bin/build. A program that stands in its crate's out/ and is newer than
+# The programs and the library are proved as they are built, by tools/build. A program that stands in its crate's out/ and is newer than
 # every source, as rt ci leaves it, is taken as it is.
 .POSIX:
 
@@ -31,18 +31,18 @@ EXAMPLES = examples/*.md examples/*.tec examples/*.in examples/*.out examples/*.
 PROGRAMS = out/teco out/teco-debug out/tecol out/teco-term out/teco-screen
 LIBRARY = out/libteco_c.a out/teco.pc
 VERSION != sed -n 's/^pub const VERSION: &str = "\(.*\)";$$/\1/p' crates/teco_cli/src/*.rt
-SOURCES != find crates.txt crates/*/src crates/*/specs crates/*/proofs -type f ! -path '*/src/tests/*'
+SOURCES != find crates.txt crates/*/src crates/*/specs crates/*/proofs -type f ! -path 'crates/teco_tests/*'
 # What teco-term and teco-screen share, and what each has beside it.
-SHARED = doors/c/term-codes.c doors/c/term-file.c doors/c/term-journal.c doors/c/term-keys.c doors/c/term-options.c doors/c/term-read.c \
-    doors/c/term-tty.c doors/c/term-work.c
-TERM_SOURCES = doors/c/teco-term.c doors/c/term-line.c doors/c/term-press.c doors/c/term-strings.c $(SHARED)
-SCREEN_SOURCES != ls doors/screen/*.c
+SHARED != ls frontends/common/*.c
+TERM_SOURCES != ls frontends/term/*.c
+SCREEN_SOURCES != ls frontends/screen/*.c
+HEADERS = bindings/c/teco.h frontends/common/terminal.h
 NCURSES != pkg-config --cflags --libs ncursesw 2> /dev/null || echo -lncursesw
 
 ## make               builds the programs teco, teco-debug, tecol, teco-term and teco-screen, the library and the completions, into out/;
 ##                    it wants ncursesw, which is libncurses-dev in Debian
 all:
-	bin/build
+	tools/build
 	$(MAKE) built
 
 built: $(PROGRAMS) $(LIBRARY) out/completions
@@ -59,11 +59,11 @@ try:
 
 ## make quick         looks at the layout and the pages, and checks what differs from HEAD: seconds, and what the checks of the crates take
 quick:
-	bin/quick
+	tools/quick
 
 ## make test          runs all tests, unproved: some three minutes
 test:
-	cd crates/teco && $(RT) try --test
+	cd crates/teco_tests && $(RT) try --test
 
 ## make gate          proves everything from nothing, then builds and tries the examples over the library: an hour
 gate:
@@ -71,23 +71,23 @@ gate:
 
 ## make pages         runs every check of the pages, the examples and the scripts with the built programs
 pages: $(PROGRAMS) out/completions
-	docs/pages out
+	tools/pages out
 
 ## make bench         times the program beside its peers, as bench/README.md says
 bench: out/teco
 	TECO=$$PWD/out/teco bench/run
 
 crates/teco/out/teco: $(SOURCES)
-	bin/build teco
+	tools/build teco
 
 crates/teco_debug/out/teco_debug: $(SOURCES)
-	bin/build teco_debug
+	tools/build teco_debug
 
 crates/tecol/out/tecol: $(SOURCES)
-	bin/build tecol
+	tools/build tecol
 
 crates/teco_c/out/libteco_c.a: $(SOURCES)
-	bin/build teco_c
+	tools/build teco_c
 
 out/teco: crates/teco/out/teco
 	@mkdir -p out
@@ -107,27 +107,27 @@ out/libteco_c.a: crates/teco_c/out/libteco_c.a
 	kit=$$(dirname "$$($(RT) doc)") && \
 	    printf '%s\n' 'CREATE $@' 'ADDLIB crates/teco_c/out/libteco_c.a' "ADDLIB $$kit/c/liblibc_c.a" SAVE END | $(AR) -M
 
-out/teco-term: $(TERM_SOURCES) doors/c/terminal.h doors/c/term-editor.h doors/c/teco.h out/libteco_c.a
-	$(CC) -std=c11 -pthread $(CFLAGS) $(TERM_SOURCES) out/libteco_c.a -o $@ $(LDFLAGS)
+out/teco-term: $(TERM_SOURCES) $(SHARED) frontends/term/term-editor.h $(HEADERS) out/libteco_c.a
+	$(CC) -std=c11 -pthread $(CFLAGS) -Ibindings/c -Ifrontends/common $(TERM_SOURCES) $(SHARED) out/libteco_c.a -o $@ $(LDFLAGS)
 
 # The rows of the reference, which F1 shows.
-out/reference.h: docs/REFERENCE.md doors/screen/reference
+out/reference.h: docs/REFERENCE.md frontends/screen/reference
 	@mkdir -p out
-	doors/screen/reference > $@
+	frontends/screen/reference > $@
 
-out/teco-screen: $(SCREEN_SOURCES) $(SHARED) doors/screen/screen.h doors/c/terminal.h doors/c/teco.h out/reference.h out/libteco_c.a
-	$(CC) -std=c11 -pthread $(CFLAGS) -Idoors/screen -Idoors/c -Iout $(SCREEN_SOURCES) $(SHARED) out/libteco_c.a -o $@ $(NCURSES) $(LDFLAGS)
+out/teco-screen: $(SCREEN_SOURCES) $(SHARED) frontends/screen/screen.h $(HEADERS) out/reference.h out/libteco_c.a
+	$(CC) -std=c11 -pthread $(CFLAGS) -Ibindings/c -Ifrontends/common -Iout $(SCREEN_SOURCES) $(SHARED) out/libteco_c.a -o $@ $(NCURSES) $(LDFLAGS)
 
 # Where the library lies is said in teco.pc, so it is written anew each time.
-out/teco.pc: doors/c/teco.pc.in always
+out/teco.pc: bindings/c/teco.pc.in always
 	@mkdir -p out
-	@sed 's|@PREFIX@|$(PREFIX)|; s|@LIBDIR@|$(LIBDIR)|; s|@INCLUDEDIR@|$(INCLUDEDIR)|; s|@VERSION@|$(VERSION)|' doors/c/teco.pc.in > $@
+	@sed 's|@PREFIX@|$(PREFIX)|; s|@LIBDIR@|$(LIBDIR)|; s|@INCLUDEDIR@|$(INCLUDEDIR)|; s|@VERSION@|$(VERSION)|' bindings/c/teco.pc.in > $@
 
 # What bash, zsh and fish complete, made of what each program's --help says.
-out/completions: $(PROGRAMS) bin/completions
+out/completions: $(PROGRAMS) tools/completions
 	@mkdir -p out/completions
 	for name in $(NAMES); do \
-	    for shell in bash zsh fish; do bin/completions $$shell out/$$name > out/completions/$$name.$$shell || exit 1; done; \
+	    for shell in bash zsh fish; do tools/completions $$shell out/$$name > out/completions/$$name.$$shell || exit 1; done; \
 	done
 	@touch $@
 
@@ -144,7 +144,7 @@ install: all
 	    $(INSTALL) -m 644 out/completions/$$name.fish '$(DESTDIR)$(FISHDIR)'/$$name.fish || exit 1; \
 	done
 	$(INSTALL) -m 644 out/libteco_c.a '$(DESTDIR)$(LIBDIR)/libteco_c.a'
-	$(INSTALL) -m 644 doors/c/teco.h '$(DESTDIR)$(INCLUDEDIR)/teco.h'
+	$(INSTALL) -m 644 bindings/c/teco.h '$(DESTDIR)$(INCLUDEDIR)/teco.h'
 	$(INSTALL) -m 644 out/teco.pc '$(DESTDIR)$(PCDIR)/teco.pc'
 	$(INSTALL) -m 644 $(TOP_PAGES) '$(DESTDIR)$(DOCDIR)'
 	$(INSTALL) -m 644 $(PAGES) '$(DESTDIR)$(DOCDIR)/docs'

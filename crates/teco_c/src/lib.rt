@@ -1,6 +1,6 @@
-//! A door for C: a handle that is closed while it is all zero, and a call for each request of a session.
+//! The library for C: a handle that is closed while it is all zero, and a call for each request of a session.
 //!
-//! The header doors/c/teco.h says for C what the contracts say here. No call but an open and a run asks for memory.
+//! The header bindings/c/teco.h says for C what the contracts say here. No call but an open and a run asks for memory.
 #![tactic(auto)]
 
 mod calls;

@@ -1,4 +1,4 @@
-//! What stands behind the calls of the door for C: the handles, the room of a caller, and what a call does to a session.
+//! What stands behind the calls of the library for C: the handles, the room of a caller, and what a call does to a session.
 //!
 //! It is a library of its own, since a static library is linked anew for each check.
 #![tactic(auto)]

@@ -22,7 +22,7 @@ fn text_size(text: &[u8], kind: TokenKind) -> usize
     }
 }
 
-/// Tells what stands at a place of a text after fillers, as `teco_token` of the door does. Takes no memory.
+/// Tells what stands at a place of a text after fillers, as `teco_token` of the library for C does. Takes no memory.
 pub fn tell_token(
     text: &[u8],
     at: usize,

@@ -1,4 +1,4 @@
-//! The examples of the pages in docs. `docs/rows --write` makes their tables.
+//! The examples of the pages in docs. `tools/rows --write` makes their tables.
 use super::Streams;
 use crate::tests::rows::all_hold;
 use std::test::*;

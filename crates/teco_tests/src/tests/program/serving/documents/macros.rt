@@ -1,4 +1,4 @@
-//! Examples of the pages, made by `docs/rows --write`.
+//! Examples of the pages, made by `tools/rows --write`.
 
 pub(super) const EXAMPLES: &str = "
     // What runs on, and does something else

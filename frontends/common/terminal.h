@@ -1,0 +1,274 @@
+/*
+ * terminal.h - what the programs for a person at a terminal share: teco-term, and teco-screen of frontends/screen
+ *
+ * term-options.c reads the line of a program, and says how it ended. term-work.c does what a string asks, over a session; term-journal.c
+ * keeps the strings, and leaves them in a file where the program is ended. term-codes.c has the sentences of the codes. term-file.c reads
+ * INPUT and writes the output; term-tty.c sets the terminal, and term-read.c reads it, also while a string runs; term-keys.c tells keys,
+ * sequences and pastes apart.
+ */
+#ifndef TERMINAL_H
+#define TERMINAL_H
+
+#ifndef _XOPEN_SOURCE
+#define _XOPEN_SOURCE 700
+#endif
+#ifndef _DEFAULT_SOURCE
+#define _DEFAULT_SOURCE
+#endif
+
+#include "teco.h"
+#include <signal.h>
+#include <stdbool.h>
+#include <stddef.h>
+#include <stdint.h>
+#include <sys/stat.h>
+#include <sys/types.h>
+#include <time.h>
+
+#define CONTROL(letter) ((letter) & 31)
+enum { BELL = 7, TAB = 9, LINE_FEED = 10, RETURN = 13, ESCAPE = 27, DELETE = 127 };
+
+/* How the program ends, where it doesn't go on. */
+enum fate {
+    GOES_ON, EXIT, END_OF_COMMANDS, NO_INPUT, LARGE_INPUT, NO_OUTPUT, CHANGED_FILE, NO_TERMINAL, POOR_TERMINAL, READ_FAULT, SHOW_FAULT,
+    NO_MEMORY
+};
+
+static inline enum fate shown(bool is_shown)
+{
+    return is_shown ? GOES_ON : SHOW_FAULT;
+}
+
+/* Bytes that grow. All zero they are none. */
+struct bytes {
+    uint8_t *at;
+    size_t count, room;
+};
+
+/* Finds room for n more bytes, or adds n. False if memory is refused: then they are as before. */
+bool bytes_reserve(struct bytes *bytes, size_t n);
+bool bytes_add(struct bytes *bytes, const void *from, size_t n);
+void bytes_free(struct bytes *bytes);
+
+/* THE LINE OF THE PROGRAM */
+
+struct options {
+    const char *input, *output; /* the output's name may be none: INPUT.out then */
+    uint64_t limit, depth;
+    bool steps, help, version;
+};
+
+/* What differs between the programs. */
+struct program {
+    const char *name, *usage, *help;
+    bool has_steps; /* it takes --steps */
+};
+
+/* Reads the line. -1 if the program goes on, or else the status with which it ends: after its help or its version, or of a faulty line. */
+int options_read(const struct program *program, int count, char **words, struct options *options);
+
+/* The status of the program. Says on standard error what there is to say. */
+int conclude(const struct program *program, const char *input, enum fate fate);
+
+/* FILES */
+
+/* Reads a file whole, at most TECO_INPUT_LIMIT bytes of it, and what the system tells of it: GOES_ON, NO_INPUT, LARGE_INPUT or
+   NO_MEMORY. */
+enum fate file_read(const char *name, struct bytes *to, struct stat *about);
+
+/* Writes the output of a session to a file of this name, which has it whole or stays as it was. Devices and pipes get it after what
+   they have. EXIT, NO_MEMORY, or NO_OUTPUT and the reason in errno. */
+enum fate file_write(const char *name, struct teco *session);
+
+/* Whether two looks at a file saw the same one with the same bytes, by its number, size and time. */
+bool file_is_same(const struct stat *one, const struct stat *other);
+
+/* THE STRINGS OF A SESSION */
+
+/* A string that was run: where its text ends among all of them, how it ended, whether it has to be cut off after its steps, and whether it
+   was broken off before its limit. */
+struct kept {
+    size_t end;
+    uint64_t steps;
+    uint8_t code;
+    bool is_cut, is_broken_off;
+};
+
+/* The strings, so many of which are not undone. All zero there are none. */
+struct journal {
+    struct bytes texts;
+    struct kept *strings;
+    size_t count, room, cursor;
+    uint64_t limit;
+    bool is_wanted; /* something would be lost, if the program were ended now */
+};
+
+/* Finds room for a string of n bytes. False where memory is refused. */
+bool journal_reserve(struct journal *journal, size_t n);
+
+/* Notes a string for which there is room, in place of those that are undone. */
+void journal_note(struct journal *journal, const uint8_t *text, size_t n, uint8_t code, uint64_t steps);
+
+/* Moves the cursor; and cuts the last string off after so many steps, where it has more. */
+void journal_move(struct journal *journal, size_t cursor);
+void journal_rewind(struct journal *journal, uint64_t steps);
+void journal_want(struct journal *journal, bool is_wanted);
+void journal_free(struct journal *journal);
+
+/* The text of string i. */
+const uint8_t *journal_text(const struct journal *journal, size_t i, size_t *n);
+
+/* From now on journal_leave writes this one: beside INPUT, as a source that tecol reads. It may be called by a signal's handler. */
+void journal_watch(const struct journal *journal, const char *input);
+void journal_leave(void);
+
+/* WHAT A STRING ASKS */
+
+/* The most bytes that a string may type: memory that is not written to costs none. */
+enum { ROOM = 64 << 20 };
+
+/* The most calls of macros that are open at once. */
+enum { CALLS = 32 };
+
+/* How a string ended that was run. */
+struct told {
+    uint8_t code;
+    bool is_broken_off;
+    size_t at, calls; /* where it stopped in the string itself, or TECO_NOWHERE; and how many macros were open there, */
+    struct teco_call open[CALLS]; /* which are these, the latest first */
+    uint64_t steps;
+    size_t made;
+};
+
+/* What is edited. */
+struct work {
+    const struct options *options;
+    struct teco session;
+    struct teco_stopper asked, asks; /* a run is asked to stop, and the keys ask it */
+    size_t size;              /* of INPUT */
+    struct stat read, warned; /* the file as it was read, and as it was when a person was told that it had changed */
+    char *output;             /* the name of the output */
+    struct journal journal;
+    size_t verified;          /* so many bytes of the output are those of INPUT */
+    uint8_t *room;            /* for what a string types */
+};
+
+/* Reads INPUT and opens a session over it. GOES_ON, NO_INPUT, LARGE_INPUT or NO_MEMORY. work_close frees it, whatever this came to. */
+enum fate work_open(struct work *work, const struct options *options);
+void work_close(struct work *work);
+
+/* What a string asks that is at most 9 digits, and then a brace or a tilde: that byte, or 0 where it is a command string. Tells how many
+   times, or the number of steps. */
+uint8_t work_asks(const uint8_t *text, size_t n, uint64_t *number);
+
+/* Does what a string of n bytes asks: runs it, undoes, redoes or rewinds. What it typed is in the room. Where memory is refused for
+   noting it, it isn't begun: TECO_NOT_BEGUN. */
+struct told work_do(struct work *work, const uint8_t *text, size_t n);
+/* Runs a string of n bytes that is asked to stop by this stopper. What it typed is in the room. */
+void work_run(struct work *work, const uint8_t *text, size_t n, uint64_t limit, const struct teco_stopper *asked, struct told *told);
+
+uint8_t work_undo(struct work *work, uint64_t times);
+uint8_t work_redo(struct work *work, uint64_t times);
+uint8_t work_rewind(struct work *work, uint64_t steps);
+
+/* The steps of the last string that isn't undone. False where there is none. */
+bool work_steps(const struct work *work, uint64_t *steps);
+
+/* Whether EX would write something else than INPUT has. */
+bool work_has_edits(struct work *work);
+
+/* Writes the output after an exit. EXIT, or else the session is where it was before the string that exits, and `why` says what the person
+   has to know: GOES_ON where another name is wanted, CHANGED_FILE where a second exit writes it. */
+enum fate work_write(struct work *work, char *why, size_t size);
+
+/* Goes on to the exit that could not be written, over another name, or the same where n is 0. The same. */
+enum fate work_write_to(struct work *work, const uint8_t *name, size_t n, char *why, size_t size);
+
+/* The letters of a code, and its sentence, by its number; and the sentence of how a string ended. */
+const char *code_letters(uint8_t number);
+const char *code_sentence(uint8_t number);
+const char *told_sentence(const struct told *told);
+
+/* Names the macros that were open, the innermost first: three of them, and how many more. */
+void told_macros(const struct told *told, char *text, size_t size);
+
+/* THE TERMINAL */
+
+/* What the terminal is shown when it is taken, and when it is given back; and whether all of it is drawn on: then line ends go to it as
+   they are, and a wait comes to RESUMED in another size. */
+struct marks {
+    const char *begin, *end;
+    bool is_full;
+};
+
+/* Sets the terminal for keys. GOES_ON, NO_TERMINAL, or POOR_TERMINAL where it is a dumb one. tty_end gives it back as it was; so does
+   each signal that ends the program, which leaves the journal too, or stops it. */
+enum fate tty_begin(const struct marks *marks);
+void tty_end(void);
+
+/* A copy of the process has none of the handlers, and never sets the terminal. Both are called with all signals blocked. */
+bool tty_block(sigset_t *usual);
+void tty_unblock(const sigset_t *usual);
+void tty_forget(void);
+
+/* Shows bytes. False where the terminal doesn't take them. */
+bool tty_show(const void *bytes, size_t n);
+bool tty_say(const char *text);
+
+/* What a wait comes to: bytes of keys; something to read at the other place; the screen isn't what it was; no more bytes ever come; a
+   fault; and the time is over. */
+enum event { CAME, TOLD, RESUMED, ENDED, FAILED, LATE };
+
+/* Waits for bytes, and reads all that come together: no two reads of them are more than 10 ms apart. */
+enum event tty_read(struct bytes *together);
+
+/* Waits for bytes, for another place that can be read, or -1, and at most so long, or for ever where that is null. */
+enum event tty_wait(int other, const struct timespec *most);
+
+/* Reads a piece of what came, behind what there is: CAME, ENDED, FAILED. */
+enum event tty_take(struct bytes *together);
+
+/* Whether the terminal was given back meanwhile or has another size: then a wait comes to RESUMED. tty_resume says that all is about to be
+   drawn anew. */
+extern volatile sig_atomic_t tty_is_other;
+void tty_resume(void);
+
+/* From some 10 ms after this on a thread reads the keys, until tty_unwatch. It keeps them, and after that they come first, in their order.
+   At a Ctrl-C that isn't pasted it asks to stop instead, and so it does if no more bytes will come. If the system makes no thread, the
+   keys wait. */
+void tty_watch(const struct teco_stopper *asks);
+void tty_unwatch(void);
+
+/* How long bytes may be apart that come together. */
+extern const struct timespec TTY_GAP;
+
+/* The size of the terminal, or 24 rows and 80 columns where it isn't known, and the byte of its erase key. */
+void tty_size(size_t *rows, size_t *columns);
+uint8_t tty_erase_key(void);
+
+/* KEYS */
+
+/* Who takes keys: a key, a sequence that a key has sent, a byte that is pasted, and word that a paste begins. */
+struct taker {
+    enum fate (*press)(void *to, uint8_t key);
+    enum fate (*sequence)(void *to, const uint8_t *bytes, size_t n);
+    enum fate (*paste)(void *to, uint8_t byte);
+    void (*begin_paste)(void *to);
+};
+
+/* What of a paste has come. */
+struct keys {
+    bool is_pasted;  /* what comes is a paste, */
+    size_t matched;  /* and so many of the last bytes may be the mark of its end, or of its beginning if none came */
+};
+
+/* Follows the marks of pastes over the byte that comes next, which is taken later. Whether it is a key, and not pasted. */
+bool keys_follow(struct keys *keys, uint8_t byte);
+
+/* Gives what came together to the taker. Where all of it is sequences of keys it gets these, and else all is keys and pastes. */
+enum fate keys_receive(struct keys *keys, const struct bytes *together, const struct taker *taker, void *to);
+
+/* Whether more may come of what begins as these bytes do: of a sequence or of a mark of a paste. */
+bool keys_are_open(const struct keys *keys, const struct bytes *together);
+
+#endif

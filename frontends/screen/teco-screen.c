@@ -1,0 +1,77 @@
+/*
+ * teco-screen - TECO on a full screen, where a command string shows what it does while it is typed
+ *
+ *   teco-screen [--limit N] [--output FILE] [--undo N] INPUT
+ *
+ * docs/SCREEN.md tells of the rule and the keys. A string is tried in a copy of the process; nothing here changes the text of the session
+ * but through teco_where, teco_undo, teco_redo and teco_rewind.
+ */
+#include "screen.h"
+#include <locale.h>
+
+static const struct program PROGRAM = {
+    .name = "teco-screen",
+    .usage = "usage: teco-screen [--limit N] [--output FILE] [--undo N] INPUT\n",
+    /* The completions of the shells are made of these lines, by tools/completions. */
+    .help = "TECO on a full screen: a command string shows what it does while it is typed\n"
+            "\n"
+            "Usage: teco-screen [OPTIONS] <INPUT>\n"
+            "\n"
+            "Arguments:\n"
+            "  <INPUT>  The file to edit; it stays as it is, unless --output names it too\n"
+            "\n"
+            "Options:\n"
+            "      --limit <N>      The most steps that each command string may take, at most 1000000000000; 1000000 without it\n"
+            "      --output <FILE>  Where the output goes after an exit; INPUT.out where it is not given\n"
+            "      --undo <N>       The most command strings kept to be undone, at most 100000; all without it\n"
+            "  -h, --help           Print help\n"
+            "  -V, --version        Print version\n"
+            "\n"
+            "ESC ESC keeps a string, EX writes the output and ends the program, and Ctrl-D leaves with nothing written.\n"};
+
+/* The first page is read by a string, which can be undone. */
+static enum fate edit_on_screen(struct screen *screen)
+{
+    if (!draw_begin())
+        return POOR_TERMINAL;
+    draw_anew();
+    if (screen->work.size > 0)
+        screen->still.told = work_do(&screen->work, (const uint8_t *)"Y", 1);
+    else
+        screen->still.told.at = TECO_NOWHERE;
+    screen_look(screen);
+    return screen_converse(screen);
+}
+
+/* Sets the terminal, and gives it back when the editing is over. Where it went away, the strings are left. */
+static enum fate edit_at_terminal(struct screen *screen)
+{
+    struct marks marks = {.begin = "", .end = ""};
+    bool is_known = draw_marks(&marks);
+    enum fate fate = tty_begin(&marks);
+    if (fate == GOES_ON)
+        fate = is_known ? edit_on_screen(screen) : POOR_TERMINAL;
+    if (fate != EXIT && fate != END_OF_COMMANDS)
+        journal_leave();
+    tty_end();
+    return fate;
+}
+
+int main(int count, char **words)
+{
+    struct options options;
+    static struct screen screen;
+    int status = options_read(&PROGRAM, count, words, &options);
+    if (status >= 0)
+        return status;
+    (void)setlocale(LC_CTYPE, "");
+    enum fate fate = work_open(&screen.work, &options);
+    if (fate == GOES_ON)
+        fate = preview_open(&screen.preview, &screen.work) ? edit_at_terminal(&screen) : NO_MEMORY;
+    preview_close(&screen.preview);
+    work_close(&screen.work);
+    bytes_free(&screen.line);
+    bytes_free(&screen.pending);
+    lines_forget();
+    return conclude(&PROGRAM, options.input, fate);
+}
