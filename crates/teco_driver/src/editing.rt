@@ -41,16 +41,6 @@ fn depth_of(line: &Line) -> Option<usize>
     }
 }
 
-/// A session over the input, with pages of as many lines as the line says, and with its depth.
-fn session_over(line: &Line, input: Vec<u8>) -> Result<Session, NoMemory>
-    requires small { vec_len input ≤ FILE_LIMIT }
-    requires depth { IfSome line.now.undo IsDepth }
-    ensures { IfOk result (λ session. history_of session ≡ history_over line.now input.items) }
-{
-    let lines = line.page_lines.unwrap_or(0) as usize;
-    Session::with_pages(input, lines, depth_of(line))
-}
-
 /// Whether the output goes over the file that is read: the line says so, or its output has the name of its input.
 fn replaces_input(line: &Line) -> bool
     ensures { result ≡ replaces_input line.now }
@@ -131,7 +121,7 @@ struct Work {
     to: String,
 }
 
-/// Makes a session over an input of the line, with as many lines on a page and as deep as the line says.
+/// Makes a session over an input, with pages and a depth by the line, and the name of its output.
 fn work_over(alloc: Global, line: &Line, name: &str, input: Vec<u8>) -> Result<Work, NoMemory>
     requires small { vec_len input ≤ FILE_LIMIT }
     requires depth { IfSome line.now.undo IsDepth }
@@ -139,7 +129,8 @@ fn work_over(alloc: Global, line: &Line, name: &str, input: Vec<u8>) -> Result<W
     ensures history { IfOk result (λ work. history_of work.session ≡ history_over line.now input.items) }
 {
     let to = output_name(alloc, line, name)?;
-    let session = session_over(line, input)?;
+    let lines = line.page_lines.unwrap_or(0) as usize;
+    let session = Session::with_pages(input, lines, depth_of(line))?;
     Ok(Work { session, to })
 }
 
