@@ -1,5 +1,5 @@
 //! Of teco_driver: its parts, and runs of the whole program over files in memory.
-use super::bytes::{are_there, first_of, is, is_typed, joined, screen_of, wide_screen};
+use super::bytes::{Screen, are_there, first_of, is, is_typed, joined, screen_of, wide_screen};
 use super::keep::runs;
 use super::line_commands::{checked, explained, shown, sources};
 use super::rows::{Cells, Rule, all_hold, cells_of, halves_at, number_or};
@@ -78,6 +78,17 @@ impl Clock for Ticking {
     }
 }
 
+/// The status of a run of `tecol`, which needs no alarm.
+fn status_of_tecol<A>(
+    alloc: Global,
+    words: Result<Vec<String>, LineFault>,
+    host: &mut Host<MemorySource, A, Screen, MemoryDisk>,
+    told: &mut Screen,
+) -> ExitCode {
+    let (source, to, disk) = (&mut host.commands, &mut host.terminal, &mut host.disk);
+    tecol_driver::program(alloc, words, 7, source, to, told, disk)
+}
+
 /// Whether a run of `teco` or `tecol` over these files ends so, and types, tells, notes and leaves what its row says.
 fn runs_on(alloc: Global, disk: MemoryDisk, cells: &Cells, after: &str) -> bool {
     let words = if is(cells[8], "no words") {
@@ -97,8 +108,7 @@ fn runs_on(alloc: Global, disk: MemoryDisk, cells: &Cells, after: &str) -> bool 
     };
     let (mut told, mut noted) = (wide_screen(alloc), wide_screen(alloc));
     let status = if cells[0].starts_with("tecol") {
-        let (source, to, disk) = (&mut host.commands, &mut host.terminal, &mut host.disk);
-        tecol_driver::program(alloc, words, 7, source, to, &mut told, disk)
+        status_of_tecol(alloc, words, &mut host, &mut told)
     } else {
         program(alloc, words, &mut host, &mut told, &mut noted)
     };
