@@ -13,11 +13,8 @@ ghost use Rattle.teco_step.specs.declared.failure.Failure.TheVariants.{Memory};
 ghost use Rattle.teco_step.specs.declared.next.Next.TheVariants.{Error};
 
 use crate::{
-    Failure, Next, Setting, Work, arithmetic, at_level, back, byte, delete, exit, extract, forward,
-    get, increment, insert, insert_tab, jump, jump_to, kill, leave_or_not, next_of, next_page,
-    number, pop, print, push, quantity, register_value, run_register, search_and_replace,
-    search_or_compare, search_pages, set_case, set_number, set_text, to_line, turn_pages,
-    type_byte, type_out, type_text, view, write_page,
+    Failure, Next, Setting, Work, case, control, edit, next_of, page_searching, pages, registers,
+    searching, typing, value,
 };
 use teco_core::{Args, Code, Reg};
 use teco_io::Terminal;
@@ -36,23 +33,23 @@ fn command_step<D: Desk, T: Terminal>(
         (desk.old, args.old, term.old) (desk.new, args.new, term.new) result }
 {
     match command {
-        Command::Jump => jump(desk, args),
-        Command::Forward => forward(desk, args),
-        Command::TypeOut => type_out(desk, args, term),
-        Command::View => view(desk, args, term),
-        Command::TypeByte => type_byte(desk, args, term),
-        Command::Print => print(desk, false, setting.modifiers, args, term),
-        Command::PrintOctal => print(desk, true, setting.modifiers, args, term),
-        Command::Leave => leave_or_not(desk, setting.inside, args),
-        Command::Back => back(desk, args),
-        Command::Line => to_line(desk, args),
-        Command::Delete => delete(desk, args),
-        Command::Kill => kill(desk, args),
-        Command::NextPage => next_page(desk, args),
-        Command::TurnPages => turn_pages(desk, setting.work, args),
-        Command::WritePage => write_page(desk, args),
-        Command::Exit => exit(desk, args),
-        Command::CaseMode => set_case(desk, args),
+        Command::Jump => edit::jump(desk, args),
+        Command::Forward => edit::forward(desk, args),
+        Command::TypeOut => typing::type_out(desk, args, term),
+        Command::View => typing::view(desk, args, term),
+        Command::TypeByte => typing::type_byte(desk, args, term),
+        Command::Print => typing::print(desk, false, setting.modifiers, args, term),
+        Command::PrintOctal => typing::print(desk, true, setting.modifiers, args, term),
+        Command::Leave => control::leave_or_not(desk, setting.inside, args),
+        Command::Back => edit::back(desk, args),
+        Command::Line => edit::to_line(desk, args),
+        Command::Delete => edit::delete(desk, args),
+        Command::Kill => edit::kill(desk, args),
+        Command::NextPage => pages::next_page(desk, args),
+        Command::TurnPages => pages::turn_pages(desk, setting.work, args),
+        Command::WritePage => pages::write_page(desk, args),
+        Command::Exit => pages::exit(desk, args),
+        Command::CaseMode => case::set_case(desk, args),
     }
 }
 
@@ -69,10 +66,10 @@ fn bare_step<D: Desk, T: Terminal>(
     ensures no_memory { takes_nothing (token.bare bare) ≡ true → result ≡ Err Memory → ⊥ }
 {
     match bare {
-        Bare::Quantity(which) => quantity(desk, which, args),
-        Bare::Arithmetic(which) => arithmetic(desk, which, args),
+        Bare::Quantity(which) => value::quantity(desk, which, args),
+        Bare::Arithmetic(which) => value::arithmetic(desk, which, args),
         Bare::Command(command) => command_step(desk, command, setting, args, term),
-        Bare::Level(command) => at_level(desk, command, args),
+        Bare::Level(command) => value::at_level(desk, command, args),
     }
 }
 
@@ -91,14 +88,14 @@ fn register_step<D: Desk, T: Terminal>(
     ensures no_memory { takes_nothing (token.register command q) ≡ true → result ≡ Err Memory → ⊥ }
 {
     match command {
-        RegisterCommand::Number => register_value(desk, setting.modifiers, q, args),
-        RegisterCommand::Increment => increment(desk, q, args),
-        RegisterCommand::Set => set_number(desk, q, args),
-        RegisterCommand::Macro => run_register(desk, q, args),
-        RegisterCommand::Extract => extract(desk, q, args),
-        RegisterCommand::Get => get(desk, setting.modifiers, q, args, term),
-        RegisterCommand::Push => push(desk, q, args),
-        RegisterCommand::Pop => pop(desk, q, args),
+        RegisterCommand::Number => registers::register_value(desk, setting.modifiers, q, args),
+        RegisterCommand::Increment => registers::increment(desk, q, args),
+        RegisterCommand::Set => registers::set_number(desk, q, args),
+        RegisterCommand::Macro => control::run_register(desk, q, args),
+        RegisterCommand::Extract => registers::extract(desk, q, args),
+        RegisterCommand::Get => registers::get(desk, setting.modifiers, q, args, term),
+        RegisterCommand::Push => registers::push(desk, q, args),
+        RegisterCommand::Pop => registers::pop(desk, q, args),
     }
 }
 
@@ -115,13 +112,15 @@ fn text_step<D: Desk, T: Terminal>(
         (desk.old, args.old, term.old) (desk.new, args.new, term.new) result }
 {
     match command {
-        TextCommand::Insert => insert(desk, text, args),
-        TextCommand::Go => jump_to(desk, text, args),
-        TextCommand::InsertTab => insert_tab(desk, text, args),
-        TextCommand::TypeOut => type_text(desk, text, args, term),
-        TextCommand::Search => search_or_compare(desk, text, setting, args),
-        TextCommand::SearchPages => search_pages(desk, text, false, setting, args),
-        TextCommand::SearchPagesQuietly => search_pages(desk, text, true, setting, args),
+        TextCommand::Insert => edit::insert(desk, text, args),
+        TextCommand::Go => control::jump_to(desk, text, args),
+        TextCommand::InsertTab => edit::insert_tab(desk, text, args),
+        TextCommand::TypeOut => typing::type_text(desk, text, args, term),
+        TextCommand::Search => searching::search_or_compare(desk, text, setting, args),
+        TextCommand::SearchPages => page_searching::search_pages(desk, text, false, setting, args),
+        TextCommand::SearchPagesQuietly => page_searching::search_pages(
+            desk, text, true, setting, args,
+        ),
     }
 }
 
@@ -149,17 +148,17 @@ fn item_step<D: Desk, T: Terminal>(
     ensures no_memory { takes_nothing (item_in text.now item) ≡ true → result ≡ Err Memory → ⊥ }
 {
     match item {
-        Item::Digits(span) => number(desk, bytes_of(text, span), args),
+        Item::Digits(span) => value::number(desk, bytes_of(text, span), args),
         Item::Bare(bare) => bare_step(desk, bare, setting, args, term),
         Item::Register(command, q) => register_step(desk, command, q, setting, args, term),
         Item::Text(command, span) => {
             text_step(desk, command, bytes_of(text, span), setting, args, term)
         }
-        Item::SetText(q, span) => set_text(desk, q, bytes_of(text, span), args),
-        Item::Byte(code) => byte(desk, code, args),
+        Item::SetText(q, span) => registers::set_text(desk, q, bytes_of(text, span), args),
+        Item::Byte(code) => value::byte(desk, code, args),
         Item::Replace(old, new) => {
             let (old, new) = (bytes_of(text, old), bytes_of(text, new));
-            search_and_replace(desk, old, new, setting, args)
+            searching::search_and_replace(desk, old, new, setting, args)
         }
     }
 }
