@@ -5,22 +5,22 @@ use Rattle.std.proofs.lemmas.Bool.{ne_eqb, lt-leb, le-leb}
 use Rattle.teco_core.specs.Refusal.{◌>>=◌}
 use Rattle.teco_core.specs.declared.code.Code.{Code}
 use Rattle.teco_core.specs.declared.code.Code.TheVariants.{Ice}
-use Rattle.teco_search.specs.declared.element.Item.{Item}
+use Rattle.teco_search.specs.declared.element.SetItem.{SetItem}
 use Rattle.teco_search.specs.declared.element.Element.{Element}
 use Rattle.teco_search.specs.Reading.{Reading, byte_at, listed_at, items_at, after_item, element_at, elements_at, read}
 
 -- some items, and then those that are read
-abbrev pub with_front : List Item → Reading (List Item) → Reading (List Item)
+abbrev pub with_front : List SetItem → Reading (List SetItem) → Reading (List SetItem)
 with_front is (Ok x) = Ok (is ++ x.0, x.1)
 with_front is (Err e) = Err e
 
 -- Of the list that begins at a start these items are read so far, and the others come at a place.
-pub record ItemsSoFar (text : List ℕ) (start : ℕ) (is : List Item) (at : ℕ) : Type 0 where
+pub record ItemsSoFar (text : List ℕ) (start : ℕ) (is : List SetItem) (at : ℕ) : Type 0 where
   pub left : ℕ
   pub room : length text ≤ at + left
   pub same : items_at (length text) text start ≡ with_front is (items_at left text at)
 
-with_none : (r : Reading (List Item)) → r ≡ with_front [] r
+with_none : (r : Reading (List SetItem)) → r ≡ with_front [] r
 with_none (Ok x) = refl
 with_none (Err e) = refl
 
@@ -32,40 +32,40 @@ unfolding items_at
 step_refused zero text at e = refl
 step_refused (suc n) text at e = rw e
 
-step_cut : (n : ℕ) (text : List ℕ) (at : ℕ) (i : Item) (after : ℕ) → listed_at text at ≡ Ok (i, after) → byte_at text after ≡ Err Ice → items_at n text at ≡ Err Ice
+step_cut : (n : ℕ) (text : List ℕ) (at : ℕ) (i : SetItem) (after : ℕ) → listed_at text at ≡ Ok (i, after) → byte_at text after ≡ Err Ice → items_at n text at ≡ Err Ice
 unfolding items_at
 step_cut zero text at i after e f = refl
 step_cut (suc n) text at i after e f = rw (e, f)
 
-pub step_read : (n : ℕ) (text : List ℕ) (at : ℕ) (i : Item) (after b : ℕ) → listed_at text at ≡ Ok (i, after) → byte_at text after ≡ Ok b → items_at (suc n) text at ≡ after_item b i (items_at n text (after + 1)) (after + 1)
+pub step_read : (n : ℕ) (text : List ℕ) (at : ℕ) (i : SetItem) (after b : ℕ) → listed_at text at ≡ Ok (i, after) → byte_at text after ≡ Ok b → items_at (suc n) text at ≡ after_item b i (items_at n text (after + 1)) (after + 1)
 unfolding items_at
 step_read n text at i after b e f = rw (e, f)
 
-step_other : (n : ℕ) (text : List ℕ) (at : ℕ) (i : Item) (after b : ℕ) → listed_at text at ≡ Ok (i, after) → byte_at text after ≡ Ok b → b ≢ 93 → b ≢ 44 → items_at n text at ≡ Err Ice
+step_other : (n : ℕ) (text : List ℕ) (at : ℕ) (i : SetItem) (after b : ℕ) → listed_at text at ≡ Ok (i, after) → byte_at text after ≡ Ok b → b ≢ 93 → b ≢ 44 → items_at n text at ≡ Err Ice
 unfolding items_at
 step_other zero text at i after b e f no_end no_comma = refl
 step_other (suc n) text at i after b e f no_end no_comma = rw (e, f, ne_eqb b 93 no_end, ne_eqb b 44 no_comma)
 
-module _ (text : List ℕ) (start : ℕ) (is : List Item) (at : ℕ) (so_far : ItemsSoFar text start is at) where
+module _ (text : List ℕ) (start : ℕ) (is : List SetItem) (at : ℕ) (so_far : ItemsSoFar text start is at) where
   pub items_refused : listed_at text at ≡ Err Ice → items_at (length text) text start ≡ Err Ice
   items_refused e = so_far.same ∙ ap (with_front is) (step_refused so_far.left text at e)
 
-  pub items_cut : (i : Item) (after : ℕ) → listed_at text at ≡ Ok (i, after) → byte_at text after ≡ Err Ice → items_at (length text) text start ≡ Err Ice
+  pub items_cut : (i : SetItem) (after : ℕ) → listed_at text at ≡ Ok (i, after) → byte_at text after ≡ Err Ice → items_at (length text) text start ≡ Err Ice
   items_cut i after e f = so_far.same ∙ ap (with_front is) (step_cut so_far.left text at i after e f)
 
-  pub items_other : (i : Item) (after b : ℕ) → listed_at text at ≡ Ok (i, after) → byte_at text after ≡ Ok b → b ≢ 93 → b ≢ 44 → items_at (length text) text start ≡ Err Ice
+  pub items_other : (i : SetItem) (after b : ℕ) → listed_at text at ≡ Ok (i, after) → byte_at text after ≡ Ok b → b ≢ 93 → b ≢ 44 → items_at (length text) text start ≡ Err Ice
   items_other i after b e f no_end no_comma = so_far.same ∙ ap (with_front is) (step_other so_far.left text at i after b e f no_end no_comma)
 
-with_last : (is : List Item) (i : Item) (r : Reading (List Item)) → with_front is (with_front (i ∷ []) r) ≡ with_front (is ++ i ∷ []) r
-with_last is i (Ok x) = ap (λ js. let whole : Reading (List Item) = Ok (js, x.1) in whole) (sym (append_assoc is (i ∷ []) x.0))
+with_last : (is : List SetItem) (i : SetItem) (r : Reading (List SetItem)) → with_front is (with_front (i ∷ []) r) ≡ with_front (is ++ i ∷ []) r
+with_last is i (Ok x) = ap (λ js. let whole : Reading (List SetItem) = Ok (js, x.1) in whole) (sym (append_assoc is (i ∷ []) x.0))
 with_last is i (Err e) = refl
 
-comma_step : (i : Item) (r : Reading (List Item)) (at : ℕ) → after_item 44 i r at ≡ with_front (i ∷ []) r
+comma_step : (i : SetItem) (r : Reading (List SetItem)) (at : ℕ) → after_item 44 i r at ≡ with_front (i ∷ []) r
 comma_step i (Ok x) at = refl
 comma_step i (Err e) at = refl
 
 pub items_done :
-    (text : List ℕ) (start : ℕ) (is : List Item) (at : ℕ) (so_far : ItemsSoFar text start is at) (i : Item) (after : ℕ)
+    (text : List ℕ) (start : ℕ) (is : List SetItem) (at : ℕ) (so_far : ItemsSoFar text start is at) (i : SetItem) (after : ℕ)
     → listed_at text at ≡ Ok (i, after) → at < after → after ≤ length text → byte_at text after ≡ Ok 93
     → items_at (length text) text start ≡ Ok (is ++ i ∷ [], after + 1)
 items_done text start is at so_far i after e past within f = so_far.same ∙ by so_far.left so_far.room
@@ -75,7 +75,7 @@ items_done text start is at so_far i after e past within f = so_far.same ∙ by 
     by (suc n) room = ap (with_front is) (step_read n text at i after 93 e f)
 
 pub items_more :
-    (text : List ℕ) (start : ℕ) (is : List Item) (at : ℕ) (so_far : ItemsSoFar text start is at) (i : Item) (after : ℕ)
+    (text : List ℕ) (start : ℕ) (is : List SetItem) (at : ℕ) (so_far : ItemsSoFar text start is at) (i : SetItem) (after : ℕ)
     → listed_at text at ≡ Ok (i, after) → at < after → after ≤ length text → byte_at text after ≡ Ok 44
     → ItemsSoFar text start (is ++ i ∷ []) (after + 1)
 items_more text start is at so_far i after e past within f = by so_far.left so_far.room so_far.same

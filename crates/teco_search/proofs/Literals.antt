@@ -15,9 +15,9 @@ use Rattle.teco_search.proofs.Past.{match_past}
 use Rattle.teco_core.specs.Refusal.{◌>>=◌}
 use Rattle.teco_core.specs.declared.case_mode.CaseMode.{CaseMode}
 use Rattle.teco_core.specs.declared.case_mode.CaseMode.TheVariants.{Exact, Either}
-use Rattle.teco_search.specs.declared.element.Item.{Item}
-use Rattle.teco_search.specs.declared.element.Item.TheVariants as item
-use Rattle.teco_search.specs.declared.element.Item.TheVariants.{Byte}
+use Rattle.teco_search.specs.declared.element.SetItem.{SetItem}
+use Rattle.teco_search.specs.declared.element.SetItem.TheVariants as item
+use Rattle.teco_search.specs.declared.element.SetItem.TheVariants.{Byte}
 use Rattle.teco_search.specs.declared.element.OneByte.TheVariants.{Single}
 use Rattle.teco_core.specs.Ascii.{is_lower, is_upper, is_letter, upper}
 use Rattle.teco_search.specs.Element.{item_admits, admits}
@@ -70,13 +70,13 @@ exact_admits Either b x exact =
 
 -- Reading.
 
-as_item : ℕ → Class → Reading Item
+as_item : ℕ → Class → Reading SetItem
 as_item at named = Ok (item.Class named, at)
 
-by_name : ℕ → ℕ → Reading Item
+by_name : ℕ → ℕ → Reading SetItem
 by_name at letter = class_named (upper letter) >>= as_item at
 
-abbrev item_of : Reading Item → Item
+abbrev item_of : Reading SetItem → SetItem
 item_of (Ok x) = x.0
 item_of (Err e) = Byte 0
 
@@ -102,7 +102,7 @@ pub literal_element : (text : List ℕ) (at b q : ℕ) → item_at text at ≡ O
 unfolding element_at one_byte_at by_name as_item
 literal_element text at b q is = by (slice_get text at) refl
   where
-    refused : ◌≡◌ {A = Reading Item} (Err Ice) (Ok (Byte b, q)) → ⊥
+    refused : ◌≡◌ {A = Reading SetItem} (Err Ice) (Ok (Byte b, q)) → ⊥
     refused e = cc
 
     by : (o : Option ℕ) → slice_get text at ≡ o → element_at text at ≡ Ok (plain b, q)

@@ -6,8 +6,8 @@ use Rattle.teco_core.specs.Refusal.{◌>>=◌}
 use Rattle.teco_core.specs.declared.code.Code.{Code}
 use Rattle.teco_core.specs.declared.code.Code.TheVariants.{Ice}
 use Rattle.teco_search.specs.declared.element.Class.TheVariants as class
-use Rattle.teco_search.specs.declared.element.Item.{Item}
-use Rattle.teco_search.specs.declared.element.Item.TheVariants as item
+use Rattle.teco_search.specs.declared.element.SetItem.{SetItem}
+use Rattle.teco_search.specs.declared.element.SetItem.TheVariants as item
 use Rattle.teco_search.specs.declared.element.OneByte.{OneByte}
 use Rattle.teco_search.specs.declared.element.OneByte.TheVariants as one
 use Rattle.teco_search.specs.declared.element.Element.{Element}
@@ -53,20 +53,20 @@ module _ (text : List ℕ) where
   item_ice : (at : ℕ) → OnlyIce (item_at text at)
   unfolding item_at
   item_ice at = then_ice (byte_at text at) (λ b. item_by b text (at + 1)) (byte_ice at) (λ b.
-      either_ice (eqb b 17) (byte_at text (at + 1) >>= (λ x. let r : Reading Item = Ok (item.Byte x, at + 1 + 1) in r)) _ (then_ice (byte_at text (at + 1)) (λ x. let r : Reading Item = Ok (item.Byte x, at + 1 + 1) in r) (byte_ice (at + 1)) (λ x. tt))
-      (either_ice (eqb b 5) (byte_at text (at + 1) >>= (λ x. class_named (upper x) >>= (λ k. let r : Reading Item = Ok (item.Class k, at + 1 + 1) in r))) _
-      (then_ice (byte_at text (at + 1)) (λ x. class_named (upper x) >>= (λ k. let r : Reading Item = Ok (item.Class k, at + 1 + 1) in r)) (byte_ice (at + 1)) (λ x.
-      then_ice (class_named (upper x)) (λ k. let r : Reading Item = Ok (item.Class k, at + 1 + 1) in r) (named_ice (upper x)) (λ k. tt)))
+      either_ice (eqb b 17) (byte_at text (at + 1) >>= (λ x. let r : Reading SetItem = Ok (item.Byte x, at + 1 + 1) in r)) _ (then_ice (byte_at text (at + 1)) (λ x. let r : Reading SetItem = Ok (item.Byte x, at + 1 + 1) in r) (byte_ice (at + 1)) (λ x. tt))
+      (either_ice (eqb b 5) (byte_at text (at + 1) >>= (λ x. class_named (upper x) >>= (λ k. let r : Reading SetItem = Ok (item.Class k, at + 1 + 1) in r))) _
+      (then_ice (byte_at text (at + 1)) (λ x. class_named (upper x) >>= (λ k. let r : Reading SetItem = Ok (item.Class k, at + 1 + 1) in r)) (byte_ice (at + 1)) (λ x.
+      then_ice (class_named (upper x)) (λ k. let r : Reading SetItem = Ok (item.Class k, at + 1 + 1) in r) (named_ice (upper x)) (λ k. tt)))
       (either_ice (eqb b 24) (Ok (item.Class class.Any, at + 1)) _ tt (either_ice (eqb b 19) (Ok (item.Class class.Other, at + 1)) _ tt (either_ice (is_no_item b) (Err Ice) (Ok (item.Byte b, at + 1)) refl tt)))))
 
   listed_ice : (at : ℕ) → OnlyIce (listed_at text at)
   unfolding listed_at
   listed_ice at = either_ice (occurs_at text at 44 || occurs_at text at 93) (Err Ice) (item_at text at) refl (item_ice at)
 
-  after_ice : (b : ℕ) (i : Item) (others : Reading (List Item)) (at : ℕ) → OnlyIce others → OnlyIce (after_item b i others at)
+  after_ice : (b : ℕ) (i : SetItem) (others : Reading (List SetItem)) (at : ℕ) → OnlyIce others → OnlyIce (after_item b i others at)
   after_ice b i others at later =
       either_ice (eqb b 93) (Ok (i ∷ [], at)) _ tt
-      (either_ice (eqb b 44) (others >>= (λ js. let r : Reading (List Item) = Ok (i ∷ js.0, js.1) in r)) (Err Ice) (then_ice others (λ js. let r : Reading (List Item) = Ok (i ∷ js.0, js.1) in r) later (λ js. tt)) refl)
+      (either_ice (eqb b 44) (others >>= (λ js. let r : Reading (List SetItem) = Ok (i ∷ js.0, js.1) in r)) (Err Ice) (then_ice others (λ js. let r : Reading (List SetItem) = Ok (i ∷ js.0, js.1) in r) later (λ js. tt)) refl)
 
   items_ice : (n at : ℕ) → OnlyIce (items_at n text at)
   unfolding items_at

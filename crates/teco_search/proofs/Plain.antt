@@ -4,7 +4,7 @@ use Rattle.std.specs.Prelude.{All}
 use Rattle.std.specs.List.{list_all}
 use Rattle.std.proofs.lemmas.List.{length-map}
 use Rattle.teco_core.specs.declared.case_mode.CaseMode.TheVariants.{Exact}
-use Rattle.teco_search.specs.declared.element.Item.TheVariants.{Byte}
+use Rattle.teco_search.specs.declared.element.SetItem.TheVariants.{Byte}
 use Rattle.teco_search.specs.declared.element.OneByte.TheVariants.{Single}
 use Rattle.teco_search.specs.Law.{ReadsAsItself, MatchesWhereItIs}
 use Rattle.teco_search.specs.Literal.{plain, is_exact}

@@ -8,8 +8,8 @@ use Rattle.teco_core.specs.declared.code.Code.{Code}
 use Rattle.teco_core.specs.declared.code.Code.TheVariants.{Ice}
 use Rattle.teco_search.specs.declared.element.Class.{Class}
 use Rattle.teco_search.specs.declared.element.Class.TheVariants as class
-use Rattle.teco_search.specs.declared.element.Item.{Item}
-use Rattle.teco_search.specs.declared.element.Item.TheVariants as item
+use Rattle.teco_search.specs.declared.element.SetItem.{SetItem}
+use Rattle.teco_search.specs.declared.element.SetItem.TheVariants as item
 use Rattle.teco_search.specs.declared.element.OneByte.{OneByte}
 use Rattle.teco_search.specs.declared.element.OneByte.TheVariants as one
 use Rattle.teco_search.specs.declared.element.Element.{Element}
@@ -43,7 +43,7 @@ named_only b c is = by (eqb b 88) (eqb b 66) (eqb b 65) (eqb b 68) (eqb b 76) (e
     by false false false false false false false true is ex eo ea ed el er ev ew = let same : class.UpperCase ≡ c = cc in eqb-true b 87 ew ∙ ap letter_of same
     by false false false false false false false false is ex eo ea ed el er ev ew = cc
 
-pub item_some : (t : List ℕ) (i : Item) → SpellsItem t i → 0 < length t
+pub item_some : (t : List ℕ) (i : SetItem) → SpellsItem t i → 0 < length t
 item_some t i (SpellsItem.itself b plain) = omega arith
 item_some t i (SpellsItem.quoted b) = omega arith
 item_some t i (SpellsItem.named b c same) = omega arith
@@ -61,16 +61,16 @@ element_some t e (SpellsElement.among u c spelled) = one_some u c spelled
 element_some t e (SpellsElement.except u c spelled) = let more : length (14 ∷ u) ≡ suc (length u) = refl in omega arith
 
 module _ (text : List ℕ) where
-  one_cut : (at c end : ℕ) (i : Item) (j : Item) → slice_get text at ≡ Some c → ◌≡◌ {A = Reading Item} (Ok (j, at + 1)) (Ok (i, end)) → SpellsItem (c ∷ []) j → Cut text at end (λ t. SpellsItem t i)
+  one_cut : (at c end : ℕ) (i : SetItem) (j : SetItem) → slice_get text at ≡ Some c → ◌≡◌ {A = Reading SetItem} (Ok (j, at + 1)) (Ok (i, end)) → SpellsItem (c ∷ []) j → Cut text at end (λ t. SpellsItem t i)
   one_cut at c end i j here is spelled =
-      let same : ◌≡◌ {A = Item × ℕ} (j, at + 1) (i, end) = cc in
+      let same : ◌≡◌ {A = SetItem × ℕ} (j, at + 1) (i, end) = cc in
       let item_is : j ≡ i = ap (λ s. s.0) same in
       let end_is : at + 1 ≡ end = ap (λ s. s.1) same in
       record { front = c ∷ []; whole = front_some text at c here ∙ ap (λ n. c ∷ drop n text) end_is; spelled = subst (λ k. SpellsItem (c ∷ []) k) item_is spelled }
 
-  two_cut : (at c b end : ℕ) (i j : Item) → slice_get text at ≡ Some c → slice_get text (at + 1) ≡ Some b → ◌≡◌ {A = Reading Item} (Ok (j, at + 1 + 1)) (Ok (i, end)) → SpellsItem (c ∷ b ∷ []) j → Cut text at end (λ t. SpellsItem t i)
+  two_cut : (at c b end : ℕ) (i j : SetItem) → slice_get text at ≡ Some c → slice_get text (at + 1) ≡ Some b → ◌≡◌ {A = Reading SetItem} (Ok (j, at + 1 + 1)) (Ok (i, end)) → SpellsItem (c ∷ b ∷ []) j → Cut text at end (λ t. SpellsItem t i)
   two_cut at c b end i j here later is spelled =
-      let same : ◌≡◌ {A = Item × ℕ} (j, at + 1 + 1) (i, end) = cc in
+      let same : ◌≡◌ {A = SetItem × ℕ} (j, at + 1 + 1) (i, end) = cc in
       let item_is : j ≡ i = ap (λ s. s.0) same in
       let end_is : at + 1 + 1 ≡ end = ap (λ s. s.1) same in
       record {
@@ -79,18 +79,18 @@ module _ (text : List ℕ) where
         spelled = subst (λ k. SpellsItem (c ∷ b ∷ []) k) item_is spelled;
       }
 
-  item_cut : (at end : ℕ) (i : Item) → item_at text at ≡ Ok (i, end) → Cut text at end (λ t. SpellsItem t i)
+  item_cut : (at end : ℕ) (i : SetItem) → item_at text at ≡ Ok (i, end) → Cut text at end (λ t. SpellsItem t i)
   item_cut at end i is = by (slice_get text at) refl
     where
       quoted : slice_get text at ≡ Some 17 → item_by 17 text (at + 1) ≡ Ok (i, end) → Cut text at end (λ t. SpellsItem t i)
       quoted here e =
-          let b = bind_ok (byte_at text (at + 1)) (λ x. let r : Reading Item = Ok (item.Byte x, at + 1 + 1) in r) (i, end) e in
+          let b = bind_ok (byte_at text (at + 1)) (λ x. let r : Reading SetItem = Ok (item.Byte x, at + 1 + 1) in r) (i, end) e in
           two_cut at 17 b.0 end i (item.Byte b.0) here (byte_some text (at + 1) b.0 b.1) b.2 (SpellsItem.quoted b.0)
 
       named : slice_get text at ≡ Some 5 → item_by 5 text (at + 1) ≡ Ok (i, end) → Cut text at end (λ t. SpellsItem t i)
       named here e =
-          let b = bind_ok (byte_at text (at + 1)) (λ x. class_named (upper x) >>= (λ k. let r : Reading Item = Ok (item.Class k, at + 1 + 1) in r)) (i, end) e in
-          let k = bind_ok (class_named (upper b.0)) (λ k. let r : Reading Item = Ok (item.Class k, at + 1 + 1) in r) (i, end) b.2 in
+          let b = bind_ok (byte_at text (at + 1)) (λ x. class_named (upper x) >>= (λ k. let r : Reading SetItem = Ok (item.Class k, at + 1 + 1) in r)) (i, end) e in
+          let k = bind_ok (class_named (upper b.0)) (λ k. let r : Reading SetItem = Ok (item.Class k, at + 1 + 1) in r) (i, end) b.2 in
           two_cut at 5 b.0 end i (item.Class k.0) here (byte_some text (at + 1) b.0 b.1) k.2 (SpellsItem.named b.0 k.0 (named_only (upper b.0) k.0 k.1))
 
       others : (c : ℕ) → slice_get text at ≡ Some c → c ≢ 17 → c ≢ 5 → item_by c text (at + 1) ≡ Ok (i, end) → Cut text at end (λ t. SpellsItem t i)
@@ -111,14 +111,14 @@ module _ (text : List ℕ) where
           (cases_eq c 24)
 
       by : (o : Option ℕ) → slice_get text at ≡ o → Cut text at end (λ t. SpellsItem t i)
-      by None none = let refused : ◌≡◌ {A = Reading Item} (Err Ice) (Ok (i, end)) = sym (read_none text at none) ∙ is in cc
+      by None none = let refused : ◌≡◌ {A = Reading SetItem} (Err Ice) (Ok (i, end)) = sym (read_none text at none) ∙ is in cc
       by (Some c) here =
           let e = sym (read_by text at c here) ∙ is in
           ⊎_elim (λ is17. quoted (here ∙ ap (λ y. let o : Option ℕ = Some y in o) is17) (subst (λ k. item_by k text (at + 1) ≡ Ok (i, end)) is17 e))
           (λ n17. ⊎_elim (λ is5. named (here ∙ ap (λ y. let o : Option ℕ = Some y in o) is5) (subst (λ k. item_by k text (at + 1) ≡ Ok (i, end)) is5 e))
           (λ n5. others c here n17 n5 e) (cases_eq c 5)) (cases_eq c 17)
 
-  listed_cut : (at end : ℕ) (i : Item) → listed_at text at ≡ Ok (i, end) → Cut text at end (λ t. SpellsListed t i)
+  listed_cut : (at end : ℕ) (i : SetItem) → listed_at text at ≡ Ok (i, end) → Cut text at end (λ t. SpellsListed t i)
   unfolding listed_at
   listed_cut at end i is =
       ⊎_elim (λ yes_is. let refused = rw yes_is at is in cc)
@@ -137,7 +137,7 @@ module _ (text : List ℕ) where
           let here = (some_front text at b (drop end text) (whole ∙ ap (λ f. f ++ drop end text) same)).0 in
           false≢true (sym no_is ∙ some_occurs text at b here)
 
-  items_cut : (n at end : ℕ) (is : List Item) → items_at n text at ≡ Ok (is, end) → Cut text at end (λ t. SpellsItems t is)
+  items_cut : (n at end : ℕ) (is : List SetItem) → items_at n text at ≡ Ok (is, end) → Cut text at end (λ t. SpellsItems t is)
   unfolding items_at
   items_cut zero at end is e = cc
   items_cut (suc n) at end is e =
@@ -146,19 +146,19 @@ module _ (text : List ℕ) where
       by (λ place last js f. items_cut n place last js f) i.0.0 i.0.1 b.0 (listed_cut at i.0.1 i.0.0 i.1) (front_some text i.0.1 b.0 (byte_some text i.0.1 b.0 b.1)) b.2
     where
       by :
-          ((place last : ℕ) (js : List Item) → items_at n text place ≡ Ok (js, last) → Cut text place last (λ t. SpellsItems t js))
-          → (i : Item) (place b : ℕ) → Cut text at place (λ t. SpellsListed t i) → drop place text ≡ b ∷ drop (place + 1) text → after_item b i (items_at n text (place + 1)) (place + 1) ≡ Ok (is, end) → Cut text at end (λ t. SpellsItems t is)
+          ((place last : ℕ) (js : List SetItem) → items_at n text place ≡ Ok (js, last) → Cut text place last (λ t. SpellsItems t js))
+          → (i : SetItem) (place b : ℕ) → Cut text at place (λ t. SpellsListed t i) → drop place text ≡ b ∷ drop (place + 1) text → after_item b i (items_at n text (place + 1)) (place + 1) ≡ Ok (is, end) → Cut text at end (λ t. SpellsItems t is)
       by others_cut i place b first here e =
           ⊎_elim (λ is93.
-          let same : ◌≡◌ {A = List Item × ℕ} (i ∷ [], place + 1) (is, end) = let done = subst (λ k. after_item k i (items_at n text (place + 1)) (place + 1) ≡ Ok (is, end)) is93 e in cc in
+          let same : ◌≡◌ {A = List SetItem × ℕ} (i ∷ [], place + 1) (is, end) = let done = subst (λ k. after_item k i (items_at n text (place + 1)) (place + 1) ≡ Ok (is, end)) is93 e in cc in
           record {
             front = first.front ++ 93 ∷ [];
             whole = first.whole ∙ ap (λ r. first.front ++ r) (here ∙ ap (λ k. k ∷ drop (place + 1) text) is93 ∙ ap (λ k. 93 ∷ drop k text) (ap (λ s. s.1) same)) ∙ sym (append_assoc first.front (93 ∷ []) (drop end text));
             spelled = subst (λ js. SpellsItems (first.front ++ 93 ∷ []) js) (ap (λ s. s.0) same) (SpellsItems.last first.front i first.spelled);
           })
           (λ n93. ⊎_elim (λ is44.
-          let others = bind_ok (items_at n text (place + 1)) (λ js. let r : Reading (List Item) = Ok (i ∷ js.0, js.1) in r) (is, end) (subst (λ k. after_item k i (items_at n text (place + 1)) (place + 1) ≡ Ok (is, end)) is44 e) in
-          let same : ◌≡◌ {A = List Item × ℕ} (i ∷ others.0.0, others.0.1) (is, end) = let done = others.2 in cc in
+          let others = bind_ok (items_at n text (place + 1)) (λ js. let r : Reading (List SetItem) = Ok (i ∷ js.0, js.1) in r) (is, end) (subst (λ k. after_item k i (items_at n text (place + 1)) (place + 1) ≡ Ok (is, end)) is44 e) in
+          let same : ◌≡◌ {A = List SetItem × ℕ} (i ∷ others.0.0, others.0.1) (is, end) = let done = others.2 in cc in
           let later = others_cut (place + 1) others.0.1 others.0.0 others.1 in
           record {
             front = first.front ++ 44 ∷ later.front;

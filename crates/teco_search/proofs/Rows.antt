@@ -4,7 +4,7 @@ use Rattle.teco_core.specs.declared.code.Code.TheVariants.{Ice}
 use Rattle.teco_core.specs.declared.case_mode.CaseMode.{CaseMode}
 use Rattle.teco_core.specs.declared.case_mode.CaseMode.TheVariants.{Exact, Either}
 use Rattle.teco_search.specs.declared.element.Class.TheVariants as class
-use Rattle.teco_search.specs.declared.element.Item.TheVariants as item
+use Rattle.teco_search.specs.declared.element.SetItem.TheVariants as item
 use Rattle.teco_search.specs.declared.element.OneByte.TheVariants.{Single, Listed}
 use Rattle.teco_search.specs.declared.element.Element.{Element}
 use Rattle.teco_search.specs.declared.element.Element.TheVariants.{Among, Except, Blanks}

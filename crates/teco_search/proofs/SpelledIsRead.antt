@@ -10,8 +10,8 @@ use Rattle.teco_core.specs.declared.code.Code.{Code}
 use Rattle.teco_core.specs.declared.code.Code.TheVariants.{Ice}
 use Rattle.teco_search.specs.declared.element.Class.{Class}
 use Rattle.teco_search.specs.declared.element.Class.TheVariants as class
-use Rattle.teco_search.specs.declared.element.Item.{Item}
-use Rattle.teco_search.specs.declared.element.Item.TheVariants as item
+use Rattle.teco_search.specs.declared.element.SetItem.{SetItem}
+use Rattle.teco_search.specs.declared.element.SetItem.TheVariants as item
 use Rattle.teco_search.specs.declared.element.OneByte.{OneByte}
 use Rattle.teco_search.specs.declared.element.OneByte.TheVariants as one
 use Rattle.teco_search.specs.declared.element.Element.{Element}
@@ -61,7 +61,7 @@ and_or true b c no_b no_c = or_from b c no_b no_c
 and_or false b c no_b no_c = refl
 
 module _ (text : List ℕ) where
-  item_read : (t rest : List ℕ) (at : ℕ) (i : Item) → SpellsItem t i → drop at text ≡ t ++ rest → item_at text at ≡ Ok (i, at + length t)
+  item_read : (t rest : List ℕ) (at : ℕ) (i : SetItem) → SpellsItem t i → drop at text ≡ t ++ rest → item_at text at ≡ Ok (i, at + length t)
   item_read t rest at i (SpellsItem.itself b plain) whole =
       let here = some_front text at b rest whole in
       let no = no_control b plain in
@@ -76,22 +76,22 @@ module _ (text : List ℕ) where
       let next = some_front text (at + 1) b rest here.1 in
       let two : at + 1 + 1 ≡ at + 2 = omega arith in
       let named : class_named (upper b) ≡ Ok c = ap class_named same ∙ named_all c in
-      read_by text at 5 here.0 ∙ rw (some_byte text (at + 1) b next.0) (ap (λ r. r >>= (λ k. let a : Reading Item = Ok (item.Class k, at + 1 + 1) in a)) named ∙ ap (λ n. let a : Reading Item = Ok (item.Class c, n) in a) two)
+      read_by text at 5 here.0 ∙ rw (some_byte text (at + 1) b next.0) (ap (λ r. r >>= (λ k. let a : Reading SetItem = Ok (item.Class k, at + 1 + 1) in a)) named ∙ ap (λ n. let a : Reading SetItem = Ok (item.Class c, n) in a) two)
   item_read t rest at i SpellsItem.any whole = read_by text at 24 (some_front text at 24 rest whole).0
   item_read t rest at i SpellsItem.other whole = read_by text at 19 (some_front text at 19 rest whole).0
 
   -- Only a byte that is itself begins with this byte, which is no control.
-  not_first : (t rest : List ℕ) (at b : ℕ) (i : Item) → SpellsItem t i → drop at text ≡ t ++ rest → is_control b ≡ false → t ≢ (b ∷ []) → occurs_at text at b ≡ false
+  not_first : (t rest : List ℕ) (at b : ℕ) (i : SetItem) → SpellsItem t i → drop at text ≡ t ++ rest → is_control b ≡ false → t ≢ (b ∷ []) → occurs_at text at b ≡ false
   not_first t rest at b i spelled whole plain other = occurs_not text at b (λ here. by t i spelled whole other here)
     where
-      by : (t : List ℕ) (i : Item) → SpellsItem t i → drop at text ≡ t ++ rest → t ≢ (b ∷ []) → slice_get text at ≡ Some b → ⊥
+      by : (t : List ℕ) (i : SetItem) → SpellsItem t i → drop at text ≡ t ++ rest → t ≢ (b ∷ []) → slice_get text at ≡ Some b → ⊥
       by t i (SpellsItem.itself c itself) whole other here = let same : c ≡ b = same_Some c b (sym (some_front text at c rest whole).0 ∙ here) in other (ap (λ x. x ∷ []) same)
       by t i (SpellsItem.quoted c) whole other here = let same : 17 ≡ b = same_Some 17 b (sym (some_front text at 17 (c ∷ rest) whole).0 ∙ here) in both_ways (is_control b) plain (ap is_control (sym same))
       by t i (SpellsItem.named c k is) whole other here = let same : 5 ≡ b = same_Some 5 b (sym (some_front text at 5 (c ∷ rest) whole).0 ∙ here) in both_ways (is_control b) plain (ap is_control (sym same))
       by t i SpellsItem.any whole other here = let same : 24 ≡ b = same_Some 24 b (sym (some_front text at 24 rest whole).0 ∙ here) in both_ways (is_control b) plain (ap is_control (sym same))
       by t i SpellsItem.other whole other here = let same : 19 ≡ b = same_Some 19 b (sym (some_front text at 19 rest whole).0 ∙ here) in both_ways (is_control b) plain (ap is_control (sym same))
 
-  listed_read : (t rest : List ℕ) (at : ℕ) (i : Item) → SpellsListed t i → drop at text ≡ t ++ rest → listed_at text at ≡ Ok (i, at + length t)
+  listed_read : (t rest : List ℕ) (at : ℕ) (i : SetItem) → SpellsListed t i → drop at text ≡ t ++ rest → listed_at text at ≡ Ok (i, at + length t)
   unfolding listed_at
   listed_read t rest at i listed whole =
       rw (not_first t rest at 44 i listed.spelled whole refl listed.no_comma, not_first t rest at 93 i listed.spelled whole refl listed.no_end) (item_read t rest at i listed.spelled whole)
@@ -105,7 +105,7 @@ module _ (text : List ℕ) where
   inside : (at : ℕ) (t rest : List ℕ) → 0 < length t → drop at text ≡ t ++ rest → at < length text
   inside at t rest some whole = let left = sym (length-drop at text) ∙ ap length whole ∙ length-append t rest in omega (arith, left)
 
-  items_read : (n at : ℕ) (t rest : List ℕ) (is : List Item) → SpellsItems t is → length text ≤ at + n → drop at text ≡ t ++ rest → items_at n text at ≡ Ok (is, at + length t)
+  items_read : (n at : ℕ) (t rest : List ℕ) (is : List SetItem) → SpellsItems t is → length text ≤ at + n → drop at text ≡ t ++ rest → items_at n text at ≡ Ok (is, at + length t)
   items_read zero at t rest is (SpellsItems.last u i listed) room whole =
       let long : length (u ++ 93 ∷ []) ≡ length u + 1 = length-append u (93 ∷ []) in
       let within = inside at (u ++ 93 ∷ []) rest (omega (arith, long)) whole in absurd (omega arith)
@@ -116,20 +116,20 @@ module _ (text : List ℕ) where
       let split = whole ∙ append_assoc u (93 ∷ []) rest in
       let byte = after_item u rest at 93 split in
       let end : at + length u + 1 ≡ at + length (u ++ 93 ∷ []) = omega (arith, length-append u (93 ∷ [])) in
-      step_read n text at i (at + length u) 93 (listed_read u (93 ∷ rest) at i listed split) byte.0 ∙ ap (λ k. let r : Reading (List Item) = Ok (i ∷ [], k) in r) end
+      step_read n text at i (at + length u) 93 (listed_read u (93 ∷ rest) at i listed split) byte.0 ∙ ap (λ k. let r : Reading (List SetItem) = Ok (i ∷ [], k) in r) end
   items_read (suc n) at t rest is (SpellsItems.more u v i js listed later) room whole =
       let split = whole ∙ append_assoc u (44 ∷ v) rest in
       let byte = after_item u (v ++ rest) at 44 split in
       let others = items_read n (at + length u + 1) v rest js later (omega arith) byte.1 in
       let end : at + length u + 1 + length v ≡ at + length (u ++ 44 ∷ v) = let long : length (u ++ 44 ∷ v) ≡ length u + suc (length v) = length-append u (44 ∷ v) in omega arith in
       step_read n text at i (at + length u) 44 (listed_read u (44 ∷ v ++ rest) at i listed split) byte.0
-      ∙ ap (λ r. r >>= (λ os. let a : Reading (List Item) = Ok (i ∷ os.0, os.1) in a)) others ∙ ap (λ k. let r : Reading (List Item) = Ok (i ∷ js, k) in r) end
+      ∙ ap (λ r. r >>= (λ os. let a : Reading (List SetItem) = Ok (i ∷ os.0, os.1) in a)) others ∙ ap (λ k. let r : Reading (List SetItem) = Ok (i ∷ js, k) in r) end
 
   -- An item begins with ^Q, ^E, ^X, ^S or a byte that is no control.
-  never_first : (t rest : List ℕ) (at k : ℕ) (i : Item) → SpellsItem t i → drop at text ≡ t ++ rest → is_control k ≡ true → k ≢ 17 → k ≢ 5 → k ≢ 24 → k ≢ 19 → occurs_at text at k ≡ false
+  never_first : (t rest : List ℕ) (at k : ℕ) (i : SetItem) → SpellsItem t i → drop at text ≡ t ++ rest → is_control k ≡ true → k ≢ 17 → k ≢ 5 → k ≢ 24 → k ≢ 19 → occurs_at text at k ≡ false
   never_first t rest at k i spelled whole control n17 n5 n24 n19 = occurs_not text at k (λ here. by t i spelled whole here)
     where
-      by : (t : List ℕ) (i : Item) → SpellsItem t i → drop at text ≡ t ++ rest → slice_get text at ≡ Some k → ⊥
+      by : (t : List ℕ) (i : SetItem) → SpellsItem t i → drop at text ≡ t ++ rest → slice_get text at ≡ Some k → ⊥
       by t i (SpellsItem.itself c itself) whole here = let same : c ≡ k = same_Some c k (sym (some_front text at c rest whole).0 ∙ here) in both_ways (is_control k) (ap is_control (sym same) ∙ itself) control
       by t i (SpellsItem.quoted c) whole here = n17 (sym (same_Some 17 k (sym (some_front text at 17 (c ∷ rest) whole).0 ∙ here)))
       by t i (SpellsItem.named c j is) whole here = n5 (sym (same_Some 5 k (sym (some_front text at 5 (c ∷ rest) whole).0 ∙ here)))
@@ -137,7 +137,7 @@ module _ (text : List ℕ) where
       by t i SpellsItem.other whole here = n19 (sym (same_Some 19 k (sym (some_front text at 19 rest whole).0 ∙ here)))
 
   -- A byte that names no kind does not come after its ^E.
-  never_pair : (t rest : List ℕ) (at k : ℕ) (i : Item) → SpellsItem t i → drop at text ≡ t ++ rest → class_named (upper k) ≡ Err Ice → (occurs_at text at 5 && occurs_at text (at + 1) k) ≡ false
+  never_pair : (t rest : List ℕ) (at k : ℕ) (i : SetItem) → SpellsItem t i → drop at text ≡ t ++ rest → class_named (upper k) ≡ Err Ice → (occurs_at text at 5 && occurs_at text (at + 1) k) ≡ false
   never_pair t rest at k i (SpellsItem.itself b plain) whole unnamed =
       rw (occurs_not text at 5 (λ here. let same : b ≡ 5 = same_Some b 5 (sym (some_front text at b rest whole).0 ∙ here) in both_ways (is_control b) plain (ap is_control same))) refl
   never_pair t rest at k i (SpellsItem.quoted b) whole unnamed =

@@ -6,8 +6,8 @@ use Rattle.teco_core.specs.declared.case_mode.CaseMode.{CaseMode}
 use Rattle.teco_core.specs.declared.case_mode.CaseMode.TheVariants.{Exact, Either}
 use Rattle.teco_search.specs.declared.element.Class.{Class}
 use Rattle.teco_search.specs.declared.element.Class.TheVariants as class
-use Rattle.teco_search.specs.declared.element.Item.{Item}
-use Rattle.teco_search.specs.declared.element.Item.TheVariants as item
+use Rattle.teco_search.specs.declared.element.SetItem.{SetItem}
+use Rattle.teco_search.specs.declared.element.SetItem.TheVariants as item
 use Rattle.teco_search.specs.declared.element.OneByte.{OneByte}
 use Rattle.teco_search.specs.declared.element.OneByte.TheVariants as one
 
@@ -32,7 +32,7 @@ is_same Exact a b = a == b
 is_same Either a b = upper a == upper b
 
 -- whether an item admits a byte
-unfoldable pub item_admits : CaseMode → Item → ℕ → Bool
+unfoldable pub item_admits : CaseMode → SetItem → ℕ → Bool
 item_admits mode (item.Byte a) b = is_same mode a b
 item_admits mode (item.Class c) b = is_in c b
 

@@ -6,8 +6,8 @@ use Rattle.teco_core.specs.declared.code.Code.TheVariants.{Ice, Mem}
 use Rattle.teco_core.specs.Refusal.{◌>>=◌}
 use Rattle.teco_search.specs.declared.element.Class.{Class}
 use Rattle.teco_search.specs.declared.element.Class.TheVariants as class
-use Rattle.teco_search.specs.declared.element.Item.{Item}
-use Rattle.teco_search.specs.declared.element.Item.TheVariants as item
+use Rattle.teco_search.specs.declared.element.SetItem.{SetItem}
+use Rattle.teco_search.specs.declared.element.SetItem.TheVariants as item
 use Rattle.teco_search.specs.declared.element.OneByte.{OneByte}
 use Rattle.teco_search.specs.declared.element.OneByte.TheVariants as one
 use Rattle.teco_search.specs.declared.element.Element.{Element}
@@ -39,7 +39,7 @@ abbrev pub is_no_item : ℕ → Bool
 is_no_item b = b == 14 || b == 18 || b == 22 || b == 23
 
 -- ^Q and a byte, ^E and a letter, ^X, ^S, or a byte itself
-abbrev pub item_by : ℕ → List ℕ → ℕ → Reading Item
+abbrev pub item_by : ℕ → List ℕ → ℕ → Reading SetItem
 item_by b text at =
     if b == 17 then (do
       quoted ← byte_at text at
@@ -52,24 +52,24 @@ item_by b text at =
     else (if b == 19 then Ok (item.Class class.Other, at)
     else (if is_no_item b then Err Ice else Ok (item.Byte b, at)))))
 
-unfoldable pub item_at : List ℕ → ℕ → Reading Item
+unfoldable pub item_at : List ℕ → ℕ → Reading SetItem
 item_at text at = do
   b ← byte_at text at
   item_by b text (at + 1)
 
 -- No item of a list begins with a comma or ].
-unfoldable pub listed_at : List ℕ → ℕ → Reading Item
+unfoldable pub listed_at : List ℕ → ℕ → Reading SetItem
 listed_at text at = if occurs_at text at 44 || occurs_at text at 93 then Err Ice else item_at text at
 
 -- After an item of a list comes ] as its end, or a comma and the next item.
-abbrev pub after_item : ℕ → Item → Reading (List Item) → ℕ → Reading (List Item)
+abbrev pub after_item : ℕ → SetItem → Reading (List SetItem) → ℕ → Reading (List SetItem)
 after_item b i others at =
     if b == 93 then Ok (i ∷ [], at) else (if b == 44 then (do
       is ← others
       Ok (i ∷ is.0, is.1)) else Err Ice)
 
 -- the items of a list, which are at most n, up to its ]
-unfoldable pub items_at : ℕ → List ℕ → ℕ → Reading (List Item)
+unfoldable pub items_at : ℕ → List ℕ → ℕ → Reading (List SetItem)
 items_at zero text at = Err Ice
 items_at (suc n) text at = do
   i ← listed_at text at

@@ -4,8 +4,8 @@ use Rattle.std.specs.Fmt.{decimal}
 use Rattle.std.specs.List.{flat_map}
 use Rattle.teco_search.specs.declared.element.Class.{Class}
 use Rattle.teco_search.specs.declared.element.Class.TheVariants as class
-use Rattle.teco_search.specs.declared.element.Item.{Item}
-use Rattle.teco_search.specs.declared.element.Item.TheVariants as item
+use Rattle.teco_search.specs.declared.element.SetItem.{SetItem}
+use Rattle.teco_search.specs.declared.element.SetItem.TheVariants as item
 use Rattle.teco_search.specs.declared.element.OneByte.{OneByte}
 use Rattle.teco_search.specs.declared.element.OneByte.TheVariants as one
 use Rattle.teco_search.specs.declared.element.Element.{Element}
@@ -26,16 +26,16 @@ shown_class class.LetterOrDigit = codes "^ER"
 shown_class class.LowerCase = codes "^EV"
 shown_class class.UpperCase = codes "^EW"
 
-abbrev pub shown_item : Item → List ℕ
+abbrev pub shown_item : SetItem → List ℕ
 shown_item (item.Byte b) = shown_byte b
 shown_item (item.Class c) = shown_class c
 
 -- an item of a list after the first
-abbrev pub shown_other : Item → List ℕ
+abbrev pub shown_other : SetItem → List ℕ
 shown_other j = codes "," ++ shown_item j
 
 -- items with a comma before each but the first
-abbrev pub shown_items : List Item → List ℕ
+abbrev pub shown_items : List SetItem → List ℕ
 shown_items [] = []
 shown_items (i ∷ is) = shown_item i ++ flat_map shown_other is
 

@@ -2,8 +2,8 @@
 use Rattle.std.specs.Prelude.{◌≡◌, ◌≢◌, ℕ, Bool, false, ◌||◌, List, [], ◌∷◌, ◌++◌, ◌==◌}
 use Rattle.teco_search.specs.declared.element.Class.{Class}
 use Rattle.teco_search.specs.declared.element.Class.TheVariants as class
-use Rattle.teco_search.specs.declared.element.Item.{Item}
-use Rattle.teco_search.specs.declared.element.Item.TheVariants as item
+use Rattle.teco_search.specs.declared.element.SetItem.{SetItem}
+use Rattle.teco_search.specs.declared.element.SetItem.TheVariants as item
 use Rattle.teco_search.specs.declared.element.OneByte.{OneByte}
 use Rattle.teco_search.specs.declared.element.OneByte.TheVariants as one
 use Rattle.teco_search.specs.declared.element.Element.{Element}
@@ -26,7 +26,7 @@ letter_of class.LowerCase = 86
 letter_of class.UpperCase = 87
 
 -- Another byte is itself, ^Q before a byte makes it itself, ^E and a letter in either case are a kind, ^X and ^S are two of the kinds.
-pub data SpellsItem : List ℕ → Item → Type 0 where
+pub data SpellsItem : List ℕ → SetItem → Type 0 where
   itself : (b : ℕ) → is_control b ≡ false → SpellsItem (b ∷ []) (item.Byte b)
   quoted : (b : ℕ) → SpellsItem (17 ∷ b ∷ []) (item.Byte b)
   named : (b : ℕ) (c : Class) → upper b ≡ letter_of c → SpellsItem (5 ∷ b ∷ []) (item.Class c)
@@ -34,21 +34,21 @@ pub data SpellsItem : List ℕ → Item → Type 0 where
   other : SpellsItem (19 ∷ []) (item.Class class.Other)
 
 -- In a list a comma and ] are not themselves.
-pub record SpellsListed (t : List ℕ) (i : Item) : Type 0 where
+pub record SpellsListed (t : List ℕ) (i : SetItem) : Type 0 where
   pub spelled : SpellsItem t i
   pub no_comma : t ≢ (44 ∷ [])
   pub no_end : t ≢ (93 ∷ [])
 
 -- items with a comma between two, and ] after the last
-pub data SpellsItems : List ℕ → List Item → Type 0 where
-  last : (t : List ℕ) (i : Item) → SpellsListed t i → SpellsItems (t ++ 93 ∷ []) (i ∷ [])
-  more : (t u : List ℕ) (i : Item) (is : List Item) → SpellsListed t i → SpellsItems u is
+pub data SpellsItems : List ℕ → List SetItem → Type 0 where
+  last : (t : List ℕ) (i : SetItem) → SpellsListed t i → SpellsItems (t ++ 93 ∷ []) (i ∷ [])
+  more : (t u : List ℕ) (i : SetItem) (is : List SetItem) → SpellsListed t i → SpellsItems u is
       → SpellsItems (t ++ 44 ∷ u) (i ∷ is)
 
 -- an item, or a list after ^E[
 pub data SpellsOne : List ℕ → OneByte → Type 0 where
-  single : (t : List ℕ) (i : Item) → SpellsItem t i → SpellsOne t (one.Single i)
-  listed : (t : List ℕ) (is : List Item) → SpellsItems t is → SpellsOne (5 ∷ 91 ∷ t) (one.Listed is)
+  single : (t : List ℕ) (i : SetItem) → SpellsItem t i → SpellsOne t (one.Single i)
+  listed : (t : List ℕ) (is : List SetItem) → SpellsItems t is → SpellsOne (5 ∷ 91 ∷ t) (one.Listed is)
 
 -- ^E and S in either case is a run of blanks, and ^N before what one byte may be is its opposite.
 pub data SpellsElement : List ℕ → Element → Type 0 where

@@ -6,7 +6,7 @@ ghost use Rattle.teco_search.specs.Element.{item_admits};
 
 use crate::byte_set::ByteSet;
 use crate::byte_table::{others, table_of};
-use crate::element::{Element, Item, OneByte, both_cases, is_exact};
+use crate::element::{Element, OneByte, SetItem, both_cases, is_exact};
 use crate::frequency::frequency;
 use teco_core::CaseMode;
 
@@ -21,12 +21,12 @@ pub(crate) struct Anchor {
 
 /// Which bytes an item admits.
 #[tactic(auto, unfolding(crate::specs::Element::item_admits))]
-fn bytes_of(mode: CaseMode, item: Item) -> ByteSet
+fn bytes_of(mode: CaseMode, item: SetItem) -> ByteSet
     ensures { (b : ℕ) → contains result b ≡ item_admits mode item b }
 {
     match item {
-        Item::Class(class) => ByteSet::Kind(class),
-        Item::Byte(byte) => {
+        SetItem::Class(class) => ByteSet::Kind(class),
+        SetItem::Byte(byte) => {
             if is_exact(mode, byte) {
                 ByteSet::One(byte)
             } else {

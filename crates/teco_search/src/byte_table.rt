@@ -4,7 +4,7 @@ ghost use Rattle.std.specs.List.{list_any};
 ghost use Rattle.teco_search.specs.ByteSet.{Adds, in_table};
 ghost use Rattle.teco_search.specs.Element.{admits, is_in, item_admits};
 
-use crate::element::{Class, Item, OneByte, both_cases, is_exact};
+use crate::element::{Class, OneByte, SetItem, both_cases, is_exact};
 use teco_core::CaseMode;
 
 /// Adds a byte to a table.
@@ -27,13 +27,13 @@ fn add_class(table: &mut [bool; 256], class: Class)
 
 /// Adds the bytes that an item admits to a table.
 #[tactic(auto, unfolding(crate::specs::Element::item_admits))]
-fn add_item(table: &mut [bool; 256], mode: CaseMode, item: Item)
+fn add_item(table: &mut [bool; 256], mode: CaseMode, item: SetItem)
     ensures { Adds table.old table.new (item_admits mode item) }
 {
     match item {
-        Item::Class(class) => add_class(table, class),
-        Item::Byte(byte) if is_exact(mode, byte) => add_byte(table, byte),
-        Item::Byte(byte) => {
+        SetItem::Class(class) => add_class(table, class),
+        SetItem::Byte(byte) if is_exact(mode, byte) => add_byte(table, byte),
+        SetItem::Byte(byte) => {
             let (lower, upper) = both_cases(mode, byte);
             add_byte(table, lower);
             add_byte(table, upper);
@@ -42,7 +42,7 @@ fn add_item(table: &mut [bool; 256], mode: CaseMode, item: Item)
 }
 
 /// The table of the bytes that one of some items admits.
-fn table_of_items(mode: CaseMode, items: &[Item]) -> [bool; 256]
+fn table_of_items(mode: CaseMode, items: &[SetItem]) -> [bool; 256]
     ensures { (b : ℕ) → b < 256 → in_table result b ≡ list_any (λ i. item_admits mode i b) items.now }
 {
     let mut table = [false; 256];

@@ -28,7 +28,7 @@ pub enum Class {
 
 /// What one byte may be: a given byte, or one of a kind.
 #[derive(Clone, Copy)]
-pub enum Item {
+pub enum SetItem {
     Byte(u8),
     Class(Class),
 }
@@ -36,14 +36,14 @@ pub enum Item {
 /// The items of a list. What is read has at least one.
 #[derive(Drop)]
 pub struct Items {
-    items: Vec<Item>,
+    items: Vec<SetItem>,
 }
 
 impl Model for Items {
     ghost use Rattle.std.specs.Prelude.{List};
-    ghost use Rattle.teco_search.specs.declared.element.Item.{Item};
+    ghost use Rattle.teco_search.specs.declared.element.SetItem.{SetItem};
 
-    ghost Value = { List Item };
+    ghost Value = { List SetItem };
 
     ghost view = { λ i. i.items.items };
 }
@@ -51,7 +51,7 @@ impl Model for Items {
 /// One item, or a list of them.
 #[derive(Drop)]
 pub enum OneByte {
-    Single(Item),
+    Single(SetItem),
     Listed(Items),
 }
 
@@ -112,7 +112,7 @@ impl Class {
     }
 }
 
-impl Item {
+impl SetItem {
     /// Whether a byte may be here. With either case a letter admits both its cases.
     #[tactic(auto, unfolding(crate::specs::Element::item_admits))]
     #[inline]
@@ -120,8 +120,8 @@ impl Item {
         ensures { result ≡ item_admits mode self byte }
     {
         match self {
-            Item::Class(class) => class.contains(byte),
-            Item::Byte(own) => match mode {
+            SetItem::Class(class) => class.contains(byte),
+            SetItem::Byte(own) => match mode {
                 CaseMode::Exact => own == byte,
                 CaseMode::Either => own.to_ascii_uppercase() == byte.to_ascii_uppercase(),
             },
@@ -131,13 +131,13 @@ impl Item {
 
 impl Items {
     /// A list of these items.
-    pub(crate) fn new(items: Vec<Item>) -> Self
+    pub(crate) fn new(items: Vec<SetItem>) -> Self
         ensures { result ≡ items.items }
     {
         Items { items }
     }
 
-    pub(crate) fn as_slice(&self) -> &[Item]
+    pub(crate) fn as_slice(&self) -> &[SetItem]
         ensures { result.now ≡ self.now }
     {
         self.items.as_slice()
@@ -194,20 +194,20 @@ impl fmt::Display for Class {
     }
 }
 
-impl fmt::Display for Item {
+impl fmt::Display for SetItem {
     ghost output = { λ item. Some (shown_item item) };
 
     /// A byte is shown as itself, or by its code where it is no ASCII character that shows.
     fn fmt<W: fmt::Write>(&self, f: &mut fmt::Formatter<W>) -> fmt::Result {
         match self {
-            Item::Byte(byte) => {
+            SetItem::Byte(byte) => {
                 if b' ' <= *byte && *byte <= b'~' {
                     f.write_char(char::from(*byte))
                 } else {
                     write!(f, "<{byte}>")
                 }
             }
-            Item::Class(class) => class.fmt(f),
+            SetItem::Class(class) => class.fmt(f),
         }
     }
 }

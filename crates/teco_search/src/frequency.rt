@@ -1,7 +1,7 @@
 //! A guess at how often bytes stand in a text. It decides which byte of a match is looked for, and never what is found.
 ghost use Rattle.std.specs.Prelude.{◌≤◌};
 
-use crate::element::{Class, Element, Item, OneByte, is_exact};
+use crate::element::{Class, Element, OneByte, SetItem, is_exact};
 use teco_core::CaseMode;
 
 /// All the bytes of a text.
@@ -42,12 +42,12 @@ fn frequency_of_class(class: Class) -> u32
     }
 }
 
-fn frequency_of_item(mode: CaseMode, item: Item) -> u32
+fn frequency_of_item(mode: CaseMode, item: SetItem) -> u32
     ensures { result ≤ 1000 }
 {
     match item {
-        Item::Class(class) => frequency_of_class(class),
-        Item::Byte(byte) => {
+        SetItem::Class(class) => frequency_of_class(class),
+        SetItem::Byte(byte) => {
             if is_exact(mode, byte) {
                 frequency_of_byte(byte)
             } else {
@@ -59,7 +59,7 @@ fn frequency_of_item(mode: CaseMode, item: Item) -> u32
 }
 
 /// The sum over some items, which may have bytes in common.
-fn frequency_of_list(mode: CaseMode, items: &[Item]) -> u32
+fn frequency_of_list(mode: CaseMode, items: &[SetItem]) -> u32
     ensures { result ≤ 1000 }
 {
     let mut sum = 0;

@@ -17,6 +17,6 @@ mod reading;
 mod run;
 mod search;
 
-pub use element::{Class, Element, Item, Items, OneByte};
+pub use element::{Class, Element, Items, OneByte, SetItem};
 pub use law::{literal_texts, occurrences, search_texts};
 pub use pattern::{Pattern, count, find, find_forward, matches_at};

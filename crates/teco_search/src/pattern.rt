@@ -10,7 +10,7 @@ ghost use Rattle.teco_search.specs.Reading.{read};
 ghost use Rattle.teco_search.specs.Shown.{shown, shown_byte};
 
 use crate::anchor::Anchor;
-use crate::element::{Element, Item};
+use crate::element::{Element, SetItem};
 use crate::joined::Joined;
 use crate::matching::match_end;
 use crate::reading::{literal, read};
@@ -85,7 +85,7 @@ fn show_bytes<W: fmt::Write>(bytes: &[u8], f: &mut fmt::Formatter<W>) -> fmt::Re
     ensures { WritesOnOk W.write_str_gives f.old result (flat_map shown_byte bytes.now) f.new }
 {
     'bytes: for byte in bytes {
-        Item::Byte(*byte).fmt(f)?;
+        SetItem::Byte(*byte).fmt(f)?;
     }
     Ok(())
 }

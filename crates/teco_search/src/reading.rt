@@ -4,7 +4,7 @@ ghost use Rattle.std.specs.List.{list_all};
 ghost use Rattle.teco_search.specs.Literal.{plain, is_exact};
 ghost use Rattle.teco_search.specs.Reading.{Reads, occurs_at, byte_at, class_named, item_at, listed_at, items_at, one_byte_at, element_at, read};
 
-use crate::element::{Class, Element, Item, Items, OneByte, is_exact};
+use crate::element::{Class, Element, Items, OneByte, SetItem, is_exact};
 use std::alloc::Global;
 use teco_core::{CaseMode, Code};
 
@@ -58,7 +58,7 @@ fn class_named(letter: u8) -> Result<Class, Code>
 }
 
 #[tactic(auto, unfolding(crate::specs::Reading::item_at))]
-fn item_at(text: &[u8], at: usize) -> Result<(Item, usize), Code>
+fn item_at(text: &[u8], at: usize) -> Result<(SetItem, usize), Code>
     ensures read { result ≡ item_at text.now at }
     ensures only { IfErr result (λ e. e ≡ Code.Ice) }
     ensures within { IfOk result (λ i. (at < i.1) × (i.1 ≤ length text.now)) }
@@ -69,22 +69,22 @@ fn item_at(text: &[u8], at: usize) -> Result<(Item, usize), Code>
         CONTROL_Q | CONTROL_E => {
             let next = byte_at(text, at)?;
             let item = if byte == CONTROL_Q {
-                Item::Byte(next)
+                SetItem::Byte(next)
             } else {
-                Item::Class(class_named(next.to_ascii_uppercase())?)
+                SetItem::Class(class_named(next.to_ascii_uppercase())?)
             };
             Ok((item, at + 1))
         }
-        CONTROL_X => Ok((Item::Class(Class::Any), at)),
-        CONTROL_S => Ok((Item::Class(Class::Other), at)),
+        CONTROL_X => Ok((SetItem::Class(Class::Any), at)),
+        CONTROL_S => Ok((SetItem::Class(Class::Other), at)),
         CONTROL_N | CONTROL_R | CONTROL_V | CONTROL_W => Err(Code::Ice),
-        _ => Ok((Item::Byte(byte), at)),
+        _ => Ok((SetItem::Byte(byte), at)),
     }
 }
 
 /// An item of a list, which doesn't begin with a comma or `]`.
 #[tactic(auto, unfolding(crate::specs::Reading::listed_at))]
-fn listed_at(text: &[u8], at: usize) -> Result<(Item, usize), Code>
+fn listed_at(text: &[u8], at: usize) -> Result<(SetItem, usize), Code>
     ensures read { result ≡ listed_at text.now at }
     ensures only { IfErr result (λ e. e ≡ Code.Ice) }
     ensures within { IfOk result (λ i. (at < i.1) × (i.1 ≤ length text.now)) }
@@ -191,7 +191,7 @@ pub(crate) fn literal(alloc: Global, text: &[u8], mode: CaseMode) -> Result<Opti
     let mut bytes = Vec::new(alloc);
     let mut at = 0;
     'bytes: while at < text.len() {
-        let Ok((Item::Byte(byte), after)) = item_at(text, at) else {
+        let Ok((SetItem::Byte(byte), after)) = item_at(text, at) else {
             return Ok(None);
         };
         if !is_exact(mode, byte) {

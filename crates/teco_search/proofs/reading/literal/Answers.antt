@@ -1,6 +1,6 @@
 use Rattle.std.proofs.Common.{◌≡◌, ◌<◌, map, length, Ok, sym, refl, arith}
 use Rattle.std.proofs.lemmas.List.{map_push, length_push}
-use Rattle.teco_search.specs.declared.element.Item.TheVariants.{Byte}
+use Rattle.teco_search.specs.declared.element.SetItem.TheVariants.{Byte}
 use Rattle.teco_search.specs.Literal.{plain}
 use Rattle.teco_search.specs.Reading.{item_at}
 use Rattle.teco_search.proofs.Lists.{elements_begin, elements_done, elements_more}

@@ -2,7 +2,7 @@ use Rattle.std.proofs.Common.{◌≡◌, ◌+◌, ◌++◌, ◌∷◌, [], take,
 use Rattle.std.proofs.Output.{has_written_append, has_written_of_eq}
 use Rattle.std.proofs.lemmas.List.{take_more}
 use Rattle.std.specs.Prelude.{codes}
-use Rattle.teco_search.specs.declared.element.Item.TheVariants.{Byte}
+use Rattle.teco_search.specs.declared.element.SetItem.TheVariants.{Byte}
 use Rattle.teco_search.specs.Shown.{shown_item, shown_items}
 use Rattle.teco_search.proofs.Commas.{before_next, items_more, before_more}
 use Rattle.teco_search.proofs.element.ItemsDisplay.fmt.Goals as goal
