@@ -26,3 +26,6 @@ pub mod Breaking
 pub mod BreaksIsBroken
 pub mod TreeRows
 pub mod FirstPlaces
+pub mod Streams
+pub mod StreamCounts
+mod StreamRows

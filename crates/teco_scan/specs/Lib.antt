@@ -14,3 +14,4 @@ pub mod ListLaws
 pub mod Breaks
 pub mod Gathered
 pub mod GatheredLists
+pub mod Stream

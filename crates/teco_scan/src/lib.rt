@@ -1,4 +1,4 @@
-//! The spelling of tokens, the table of commands, and the blocks and tags that the tokens of a text make.
+//! The spelling of tokens, the table of commands, the blocks and tags that the tokens of a text make, and the texts of a stream.
 #![tactic(auto)]
 
 mod blocks;
@@ -9,6 +9,7 @@ mod leads;
 mod names;
 mod operand;
 mod scan;
+mod stream;
 mod table;
 mod token;
 
@@ -27,5 +28,6 @@ pub use leads::{
 };
 pub use names::lone_form;
 pub use scan::{filler_end, spelling, token_at};
+pub use stream::{HistoryMove, asks_history, ends_in_escape, move_asked, pair_end};
 pub use table::ROWS;
 pub use token::{Found, Item, Span, Token, TokenKind};
