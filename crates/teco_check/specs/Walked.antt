@@ -2,7 +2,7 @@
 use Rattle.std.specs.Prelude.{◌≡◌, ℕ, List, length, drop, Option, Some, None, Result, Ok, Err, if◌then◌else◌}
 use Rattle.teco_scan.specs.declared.blocks.Kind.{Kind}
 use Rattle.teco_scan.specs.declared.blocks.Kind.TheVariants.{Iter, Then, Else}
-use Rattle.teco_scan.specs.declared.blocks.Stop.{Stop}
+use Rattle.teco_scan.specs.declared.blocks.SkipEnd.{SkipEnd}
 use Rattle.teco_check.specs.declared.faults.Fault.{Fault}
 use Rattle.teco_check.specs.Checked.{lands_below}
 use Rattle.teco_check.specs.Walk.{CodeRule, OpenList, lands_in, out_of, walk}
@@ -17,7 +17,7 @@ after_node code bytes o os (Ok to) = walk code bytes o os (drop to bytes)
 after_node code bytes o os (Err fault) = Some fault
 
 -- after a list that was checked up to its end or its `|`
-abbrev pub after_stop : CodeRule → List ℕ → Option Kind → ℕ → List OpenList → Stop → Option Fault
+abbrev pub after_stop : CodeRule → List ℕ → Option Kind → ℕ → List OpenList → SkipEnd → Option Fault
 after_stop code bytes None opening os stop = None
 after_stop code bytes (Some Iter) opening os stop = out_of (walk code bytes) os (drop stop.to bytes)
 after_stop code bytes (Some Then) opening os stop =
@@ -25,6 +25,6 @@ after_stop code bytes (Some Then) opening os stop =
     else out_of (walk code bytes) os (drop stop.to bytes)
 after_stop code bytes (Some Else) opening os stop = out_of (walk code bytes) os (drop stop.to bytes)
 
-abbrev pub after_list : CodeRule → List ℕ → Option Kind → ℕ → List OpenList → Result Stop Fault → Option Fault
+abbrev pub after_list : CodeRule → List ℕ → Option Kind → ℕ → List OpenList → Result SkipEnd Fault → Option Fault
 after_list code bytes kind opening os (Ok stop) = after_stop code bytes kind opening os stop
 after_list code bytes kind opening os (Err fault) = Some fault

@@ -13,7 +13,7 @@ ghost use Rattle.teco_check.specs.Walked.{after_list};
 
 use crate::faults::{Fault, Wrong};
 use teco_core::Code;
-use teco_scan::{BlockMark, Kind, Stop};
+use teco_scan::{BlockMark, Kind, SkipEnd};
 
 /// The place at which the innermost list was opened, if it is a block's.
 fn opened_at(kind: Option<Kind>, opening: usize) -> Option<usize>
@@ -33,7 +33,7 @@ pub fn end_of_list(
     mark: BlockMark,
     from: usize,
     to: usize,
-) -> Result<Stop, Fault>
+) -> Result<SkipEnd, Fault>
     requires { mark ≢ BlockMark.Iterate }
     ensures clean { (text : List ℕ) (d : ℕ) (code : ℕ → Bool) (may : List ℕ → Bool) (lists : List Nodes)
         → is_clean code may lists (at_mark list_at mark (drop to text) kind d).0 ≡ is_ok result }
@@ -48,14 +48,14 @@ pub fn end_of_list(
         → IfErr result (λ fault. code_of fault.wrong ≡ Some code → (at_mark list_at mark (drop to text) kind d).1 ≡ broken code) }
 {
     let innermost = opened_at(kind, opening);
-    let whole = Stop { to, divided: false };
+    let whole = SkipEnd { to, divided: false };
     match (mark, kind) {
         (BlockMark::EndIteration, Some(Kind::Iter)) => Ok(whole),
         (BlockMark::EndIteration, _) => Err(Fault {
             at: from,
             wrong: Wrong::Stray(Code::Bni, innermost),
         }),
-        (BlockMark::Otherwise, Some(Kind::Then)) => Ok(Stop { to, divided: true }),
+        (BlockMark::Otherwise, Some(Kind::Then)) => Ok(SkipEnd { to, divided: true }),
         (BlockMark::EndTest, Some(Kind::Then)) => Ok(whole),
         (BlockMark::EndTest, Some(Kind::Else)) => Ok(whole),
         _ => Err(Fault {
@@ -67,7 +67,7 @@ pub fn end_of_list(
 
 /// The end of the text ends the text's own list; inside a block it is a fault of the block that is opened at this place.
 #[tactic(auto, unfolding(crate::specs::Clean::is_clean))]
-pub fn end_of_text(kind: Option<Kind>, opening: usize, to: usize) -> Result<Stop, Fault>
+pub fn end_of_text(kind: Option<Kind>, opening: usize, to: usize) -> Result<SkipEnd, Fault>
     ensures clean { (d : ℕ) (code : ℕ → Bool) (may : List ℕ → Bool) (lists : List Nodes)
         → is_clean code may lists (at_scan list_at ended kind d).0 ≡ is_ok result }
     ensures first { (code : CodeRule) (text : List ℕ) (os : List OpenList) → at_end kind opening ≡ after_list code text kind opening os result }
@@ -79,7 +79,7 @@ pub fn end_of_text(kind: Option<Kind>, opening: usize, to: usize) -> Result<Stop
         → IfErr result (λ fault. code_of fault.wrong ≡ Some code → (at_scan list_at ended kind d).1 ≡ broken code) }
 {
     match kind {
-        None => Ok(Stop { to, divided: false }),
+        None => Ok(SkipEnd { to, divided: false }),
         Some(_) => Err(Fault {
             at: opening,
             wrong: Wrong::Unended,

@@ -22,7 +22,7 @@ use crate::jumps::{LISTS, gathered, lands_below};
 use std::alloc::Global;
 use teco_core::{BLOCK_LIMIT, Code, Reg};
 use teco_scan::{
-    Found, Item, Kind, RegisterCommand, Stop, Tags, TextCommand, Token, TokenKind, block_laws,
+    Found, Item, Kind, RegisterCommand, SkipEnd, Tags, TextCommand, Token, TokenKind, block_laws,
     closing_mark, filler_end, spelling, token_at,
 };
 
@@ -284,7 +284,7 @@ fn check_list(
     kind: Option<Kind>,
     depth: usize,
     around: &[usize; LISTS],
-) -> Result<Stop, Fault>
+) -> Result<SkipEnd, Fault>
     requires inside { at ≤ length text.now }
     requires few { depth ≤ BLOCK_LIMIT }
     requires opened { kind ≢ None → IsFaultHere (drop opening text.now) Wrong.Unended }

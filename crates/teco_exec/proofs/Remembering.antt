@@ -4,7 +4,7 @@ use Rattle.std.proofs.Common.{◌≡◌, ◌≤◌, ℕ, All, List, Option, Some
 use Rattle.std.proofs.Props.{props}
 use Rattle.teco_core.specs.declared.code.Code.{Code}
 use Rattle.teco_scan.specs.declared.blocks.Kind.{Kind}
-use Rattle.teco_scan.specs.declared.blocks.Stop.{Stop}
+use Rattle.teco_scan.specs.declared.blocks.SkipEnd.{SkipEnd}
 use Rattle.teco_scan.specs.declared.token.Span.{Span}
 use Rattle.teco_scan.specs.Lists.{behind_block, list_at, tag_at}
 use Rattle.teco_scan.specs.Seen.{bytes_in}
@@ -13,7 +13,7 @@ use Rattle.teco_exec.specs.declared.blocks.Block.{Block}
 use Rattle.teco_exec.specs.declared.cursor.Cursor.{Cursor}
 
 module _ {remembered text : List ℕ} (is : remembered ≡ text) where
-  pub closes_there : (r : Result Stop Code) (k : Kind) (d at : ℕ) → close_of remembered r ≡ (list_at (Some k) d (drop at remembered)).1
+  pub closes_there : (r : Result SkipEnd Code) (k : Kind) (d at : ℕ) → close_of remembered r ≡ (list_at (Some k) d (drop at remembered)).1
       → close_of text r ≡ (list_at (Some k) d (drop at text)).1
   closes_there r k d at h = subst (λ t. close_of t r ≡ (list_at (Some k) d (drop at t)).1) is h
 

@@ -1,6 +1,6 @@
 //! Where a run stands.
 use teco_core::Reg;
-use teco_scan::Fault;
+use teco_scan::ListFault;
 
 /// Where a run stands: before a step of a token, or at a fault of a text.
 ///
@@ -17,7 +17,7 @@ pub struct Place {
     pub calls: Vec<Call>,
     /// The first fault of the innermost text, if it has one. A run that ends by its code has met it: at the place, or in what the
     /// token there skips. A jump finds no tag after it.
-    pub fault: Option<Fault>,
+    pub fault: Option<ListFault>,
 }
 
 // Its calls go here, and a crate that lets a place go calls this.

@@ -9,7 +9,7 @@ ghost use Rattle.teco_scan.specs.declared.blocks.Kind.TheVariants.{Then};
 use std::alloc::Global;
 use std::marker::Model;
 use teco_core::{BLOCK_LIMIT, Code};
-use teco_scan::{Kind, Span, Stop, Tags, find_tag, skip_block};
+use teco_scan::{Kind, SkipEnd, Span, Tags, find_tag, skip_block};
 
 /// The most skips that are remembered of a text.
 const SKIPS: usize = 8;
@@ -103,7 +103,7 @@ impl<'t> Remembered<'t> {
     }
 
     /// What [`skip_block`] gives of the text. It is found at once where it was the latest of its place.
-    pub fn skip(&mut self, at: usize, kind: Kind, depth: usize) -> Result<Stop, Code>
+    pub fn skip(&mut self, at: usize, kind: Kind, depth: usize) -> Result<SkipEnd, Code>
         requires inside { at ≤ length self.old }
         requires few { depth ≤ BLOCK_LIMIT }
         ensures text { self.new ≡ self.old }
@@ -153,7 +153,7 @@ impl<'t> Remembered<'t> {
 
     /// Where this skip stopped, if it is remembered.
     #[inline(always)]
-    fn skipped(&self, at: usize, kind: Kind, depth: usize) -> Option<Stop>
+    fn skipped(&self, at: usize, kind: Kind, depth: usize) -> Option<SkipEnd>
         ensures closes { IfSome result (λ stop.
             closed stop.divided (drop stop.to self.now) ≡ (list_at (Some kind) depth (drop at self.now)).1) }
         ensures within { IfSome result (λ stop. stop.to ≤ length self.now) }
@@ -161,7 +161,7 @@ impl<'t> Remembered<'t> {
     {
         let skip = self.skips[at % SKIPS]?;
         if skip.at as usize == at && skip.depth as usize == depth && skip.kind == kind {
-            return Some(Stop {
+            return Some(SkipEnd {
                 to: skip.to as usize,
                 divided: skip.divided,
             });
@@ -171,7 +171,7 @@ impl<'t> Remembered<'t> {
 
     /// Skips in the text, and remembers it.
     #[inline(never)]
-    fn skip_anew(&mut self, at: usize, kind: Kind, depth: usize) -> Result<Stop, Code>
+    fn skip_anew(&mut self, at: usize, kind: Kind, depth: usize) -> Result<SkipEnd, Code>
         requires inside { at ≤ length self.old }
         requires few { depth ≤ BLOCK_LIMIT }
         ensures text { self.new ≡ self.old }

@@ -10,7 +10,7 @@ use Rattle.teco_scan.specs.Scan as token
 use Rattle.teco_scan.specs.declared.command.Arithmetic.TheVariants as arithmetic
 use Rattle.teco_scan.specs.declared.command.Bare.TheVariants as bare
 use Rattle.teco_scan.specs.declared.command.RegisterCommand.TheVariants as commands
-use Rattle.teco_scan.specs.declared.breaks.Fault.{Fault}
+use Rattle.teco_scan.specs.declared.breaks.ListFault.{ListFault}
 use Rattle.teco_exec.specs.declared.place.Place.{Place}
 use Rattle.teco_messages.specs.Placed.{call_shown, standing_shown, text_under}
 use Rattle.teco_messages.specs.Shown.{code_shown, code_shown_with, place_shown}
@@ -56,12 +56,12 @@ fault_here_shown text at fault code =
     ++ codes ", " ++ token_shown (token_in text at MOST_FAULTY)
 
 -- the place of a fault, unless it is the one where the run stood
-abbrev pub fault_at_shown : List ℕ → ℕ → Fault → Code → Option ℕ → List ℕ
+abbrev pub fault_at_shown : List ℕ → ℕ → ListFault → Code → Option ℕ → List ℕ
 fault_at_shown text at fault code (Some opened) = open_block_shown text opened
 fault_at_shown text at fault code None =
     if fault.at == at then [] else fault_here_shown text fault.at fault.code code
 
-abbrev pub fault_shown : List ℕ → ℕ → Option Fault → Code → List ℕ
+abbrev pub fault_shown : List ℕ → ℕ → Option ListFault → Code → List ℕ
 fault_shown text at None code = []
 fault_shown text at (Some fault) code =
     if meets text at fault.code code then fault_at_shown text at fault code fault.opened else []

@@ -15,7 +15,7 @@ use crate::tokens::token;
 use std::fmt::Write;
 use teco_core::{Code, NoMemory, Registers};
 use teco_exec::Place;
-use teco_scan::{Arithmetic, Bare, Fault, Found, Item, RegisterCommand, TokenKind, token_at};
+use teco_scan::{Arithmetic, Bare, Found, Item, ListFault, RegisterCommand, TokenKind, token_at};
 
 /// The most bytes that are shown where no token is.
 pub(crate) const MOST_FAULTY: usize = 16;
@@ -109,7 +109,7 @@ fn show_fault_at(
     out: &mut String,
     text: &[u8],
     at: usize,
-    fault: Fault,
+    fault: ListFault,
     code: Code,
 ) -> Result<(), NoMemory>
     ensures { OnOk result (string_bytes out.new
@@ -131,7 +131,7 @@ fn show_fault(
     out: &mut String,
     text: &[u8],
     at: usize,
-    fault: Option<Fault>,
+    fault: Option<ListFault>,
     code: Code,
 ) -> Result<(), NoMemory>
     ensures { OnOk result (string_bytes out.new ≡ string_bytes out.old ++ fault_shown text.now at fault code) }

@@ -3,7 +3,7 @@ use Rattle.std.proofs.Common.{◌≡◌, ℕ, suc, ◌+◌, ◌<◌, ◌≤◌, 
 use Rattle.teco_core.specs.declared.code.Code.{Code}
 use Rattle.teco_scan.specs.declared.blocks.Kind.{Kind}
 use Rattle.teco_scan.specs.declared.blocks.Kind.TheVariants.{Iter, Then, Else}
-use Rattle.teco_scan.specs.declared.breaks.Fault.{Fault}
+use Rattle.teco_scan.specs.declared.breaks.ListFault.{ListFault}
 use Rattle.teco_scan.specs.declared.breaks.OpenList.{OpenList}
 use Rattle.teco_scan.specs.declared.command.BlockMark.TheVariants.{Iterate, EndIteration, Otherwise, EndTest}
 use Rattle.teco_scan.specs.declared.command.Modifiers.{Modifiers}
@@ -48,7 +48,7 @@ at_block list bs more t kind x e opens lt is =
     ∙ ap (λ (n : ℕ). (behind list_at list.kind list.depth (behind_block list_at kind n (list_at (Some kind) n more).1)).1) (sym one)
     ∙ ap (λ (y : Past). (behind list_at list.kind list.depth y).1) is
 
-pub breaks_broken : (text : List ℕ) (list : OpenList) (at : ℕ) (there : Fault) → Breaks text list at there → (list_at list.kind list.depth (drop at text)).1 ≡ broken there.code
+pub breaks_broken : (text : List ℕ) (list : OpenList) (at : ℕ) (there : ListFault) → Breaks text list at there → (list_at list.kind list.depth (drop at text)).1 ≡ broken there.code
 breaks_broken text list at there (ends_inside kind is e) = ap (λ k. (list_at k list.depth (drop at text)).1) is ∙ ap (λ (l : Listed). l.1) (list_found (Some kind) list.depth (drop at text) ended (sym e))
 breaks_broken text list at there (no_token here e) = ap (λ (l : Listed). l.1) (list_found list.kind list.depth (drop at text) (fault there.code) (sym e))
 breaks_broken text list at there (stray_mark {more = more} {token = t} mark here e is breaks) =
@@ -68,7 +68,7 @@ breaks_broken text list at there (after_token {next = next} {token = t} e within
 breaks_broken text list at there (after_block {next = next} {token = t} kind to e within opens lt passes b) =
     at_block list (drop at text) (drop to text) t kind (Ok (drop next text)) e opens lt passes ∙ breaks_broken text list next there b
 
-pub breaks_within : (text : List ℕ) (list : OpenList) (at : ℕ) (there : Fault) → Breaks text list at there → there.at ≤ length text
+pub breaks_within : (text : List ℕ) (list : OpenList) (at : ℕ) (there : ListFault) → Breaks text list at there → there.at ≤ length text
 breaks_within text list at there (ends_inside kind is e) = omega arith
 breaks_within text list at there (no_token here e) = here.within
 breaks_within text list at there (stray_mark mark here e is breaks) = here.within

@@ -5,7 +5,7 @@ use Rattle.teco_core.specs.declared.code.Code.TheVariants.{Pdo, Utc}
 use Rattle.teco_core.specs.declared.limits.TheConstants.{BLOCK_LIMIT}
 use Rattle.teco_scan.specs.declared.blocks.Kind.{Kind}
 use Rattle.teco_scan.specs.declared.blocks.Kind.TheVariants.{Iter, Then, Else}
-use Rattle.teco_scan.specs.declared.breaks.Fault.{Fault}
+use Rattle.teco_scan.specs.declared.breaks.ListFault.{ListFault}
 use Rattle.teco_scan.specs.declared.breaks.OpenList.{OpenList}
 use Rattle.teco_scan.specs.declared.command.BlockMark.{BlockMark}
 use Rattle.teco_scan.specs.Scan.{TokenMeaning, found, ended, fault, scan, after_fillers}
@@ -24,7 +24,7 @@ opening Then start = start - 2
 opening Iter start = start - 1
 opening Else start = start - 1
 
-abbrev pub fault_at : ℕ → Code → Fault
+abbrev pub fault_at : ℕ → Code → ListFault
 fault_at at code = record { at = at; opened = None; code = code }
 
 -- the list of a part of a block that opens in another list, and begins here
@@ -33,7 +33,7 @@ inside_list list kind start = record { kind = Some kind; start = start; depth = 
 
 -- How a list of a text breaks, from a place in it on: a rule for each fault, and one for each way to come to it. What comes
 -- before a fault is passed whole, by the skips of `list_at`; no other rule goes past anything.
-pub data Breaks : List ℕ → OpenList → ℕ → Fault → Type 0 where
+pub data Breaks : List ℕ → OpenList → ℕ → ListFault → Type 0 where
   -- The text ends inside a block.
   ends_inside : {text : List ℕ} {list : OpenList} {at : ℕ} (kind : Kind) → list.kind ≡ Some kind
       → scan (drop at text) ≡ ended
@@ -55,26 +55,26 @@ pub data Breaks : List ℕ → OpenList → ℕ → Fault → Type 0 where
       → list.depth ≡ BLOCK_LIMIT
       → Breaks text list at (fault_at to Pdo)
   -- The fault is in the first list of a block that opens here,
-  in_block : {text : List ℕ} {list : OpenList} {at start : ℕ} {there : Fault} {token : TokenMeaning} (kind : Kind)
+  in_block : {text : List ℕ} {list : OpenList} {at start : ℕ} {there : ListFault} {token : TokenMeaning} (kind : Kind)
       → scan (drop at text) ≡ found token (drop start text) → start ≤ length text
       → opened_kind token.instruction ≡ Some kind → list.depth < BLOCK_LIMIT
       → Breaks text (inside_list list kind start) start there
       → Breaks text list at there
   -- or in the second part of a conditional that begins here.
-  in_second_part : {text : List ℕ} {list : OpenList} {at start : ℕ} {there : Fault} {token : TokenMeaning} (to : ℕ)
+  in_second_part : {text : List ℕ} {list : OpenList} {at start : ℕ} {there : ListFault} {token : TokenMeaning} (to : ℕ)
       → scan (drop at text) ≡ found token (drop to text) → start ≤ length text
       → opened_kind token.instruction ≡ Some Then → list.depth < BLOCK_LIMIT
       → (list_at (Some Then) (list.depth + 1) (drop to text)).1 ≡ closed true (drop start text)
       → Breaks text (inside_list list Else start) start there
       → Breaks text list at there
   -- The fault comes after this token, which is none of a block,
-  after_token : {text : List ℕ} {list : OpenList} {at next : ℕ} {there : Fault} {token : TokenMeaning}
+  after_token : {text : List ℕ} {list : OpenList} {at next : ℕ} {there : ListFault} {token : TokenMeaning}
       → scan (drop at text) ≡ found token (drop next text) → next ≤ length text
       → opened_kind token.instruction ≡ None → closing_mark token.instruction ≡ None
       → Breaks text list next there
       → Breaks text list at there
   -- or after the whole block that opens here.
-  after_block : {text : List ℕ} {list : OpenList} {at next : ℕ} {there : Fault} {token : TokenMeaning} (kind : Kind) (to : ℕ)
+  after_block : {text : List ℕ} {list : OpenList} {at next : ℕ} {there : ListFault} {token : TokenMeaning} (kind : Kind) (to : ℕ)
       → scan (drop at text) ≡ found token (drop to text) → next ≤ length text
       → opened_kind token.instruction ≡ Some kind → list.depth < BLOCK_LIMIT
       → behind_block list_at kind (list.depth + 1) (list_at (Some kind) (list.depth + 1) (drop to text)).1 ≡ Ok (drop next text)
@@ -86,6 +86,6 @@ abbrev pub whole_list : OpenList
 whole_list = record { kind = None; start = 0; depth = 0 }
 
 -- This is the first fault of a text: where its own list breaks. Where it has none, its nodes are whole.
-abbrev pub IsFirstFault : List ℕ → Option Fault → Type 0
+abbrev pub IsFirstFault : List ℕ → Option ListFault → Type 0
 IsFirstFault text (Some there) = Breaks text whole_list 0 there
 IsFirstFault text None = is_whole (nodes text) ≡ true

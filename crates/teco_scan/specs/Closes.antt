@@ -1,11 +1,11 @@
 -- What the code found of blocks, as what it means: places as the bytes from there.
 use Rattle.std.specs.Prelude.{ℕ, List, drop, Option, Some, None, Result, Ok, Err}
 use Rattle.teco_core.specs.declared.code.Code.{Code}
-use Rattle.teco_scan.specs.declared.blocks.Stop.{Stop}
+use Rattle.teco_scan.specs.declared.blocks.SkipEnd.{SkipEnd}
 use Rattle.teco_scan.specs.Lists.{Close, closed, broken, Past}
 
 -- how a skip closed
-abbrev pub close_of : List ℕ → Result Stop Code → Close
+abbrev pub close_of : List ℕ → Result SkipEnd Code → Close
 close_of bs (Ok stop) = closed stop.divided (drop stop.to bs)
 close_of bs (Err c) = broken c
 

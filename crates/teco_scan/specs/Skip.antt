@@ -5,7 +5,7 @@ use Rattle.teco_scan.specs.declared.command.BlockMark.{BlockMark}
 use Rattle.teco_scan.specs.declared.command.BlockMark.TheVariants.{Iterate, EndIteration, Otherwise, EndTest}
 use Rattle.teco_scan.specs.declared.blocks.Kind.{Kind}
 use Rattle.teco_scan.specs.declared.blocks.Kind.TheVariants.{Iter, Then, Else}
-use Rattle.teco_scan.specs.declared.blocks.Stop.{Stop}
+use Rattle.teco_scan.specs.declared.blocks.SkipEnd.{SkipEnd}
 use Rattle.teco_scan.specs.Scan.{Instruction, mark, decide, tag}
 use Rattle.teco_scan.specs.Lists.{list_at, tag_at}
 
@@ -24,7 +24,7 @@ byte_of Otherwise = 124
 byte_of EndTest = 39
 
 -- A skip stopped one past that byte.
-abbrev pub IsClosed : List ℕ → Kind → Stop → Type 0
+abbrev pub IsClosed : List ℕ → Kind → SkipEnd → Type 0
 IsClosed bs kind stop = drop (stop.to - 1) bs ≡ closing_byte kind stop.divided ∷ drop stop.to bs
 
 -- A whole block was skipped up to one past the byte that ends it.

@@ -23,7 +23,7 @@ pub enum Kind {
 
 /// Where a skip stopped: the place one past the block's closing byte or, where it is divided, one past its `|`.
 #[derive(Clone, Copy)]
-pub struct Stop {
+pub struct SkipEnd {
     pub to: usize,
     pub divided: bool,
 }
@@ -63,7 +63,7 @@ fn is_tag(text: &[u8], kind: TokenKind, name: &[u8]) -> bool
 }
 
 /// What a closing mark does to the innermost block, where the mark ends at this place.
-fn end_of_block(kind: Kind, mark: BlockMark, to: usize) -> Result<Stop, Code>
+fn end_of_block(kind: Kind, mark: BlockMark, to: usize) -> Result<SkipEnd, Code>
     requires { mark ≢ BlockMark.Iterate }
     ensures closes { (text : List ℕ) (d : ℕ)
         → close_of text result ≡ (at_mark list_at mark (drop to text) (Some kind) d).1 }
@@ -73,11 +73,11 @@ fn end_of_block(kind: Kind, mark: BlockMark, to: usize) -> Result<Stop, Code>
         → IfOk result (λ stop. IsClosed text kind stop) }
     ensures fault { IfErr result (λ code. is_fault code ≡ true) }
 {
-    let whole = Stop { to, divided: false };
+    let whole = SkipEnd { to, divided: false };
     match (mark, kind) {
         (BlockMark::EndIteration, Kind::Iter) => Ok(whole),
         (BlockMark::EndIteration, _) => Err(Code::Bni),
-        (BlockMark::Otherwise, Kind::Then) => Ok(Stop { to, divided: true }),
+        (BlockMark::Otherwise, Kind::Then) => Ok(SkipEnd { to, divided: true }),
         (BlockMark::EndTest, Kind::Then | Kind::Else) => Ok(whole),
         _ => Err(Code::Ill),
     }
@@ -145,7 +145,7 @@ pub(crate) fn skip_node(text: &[u8], token: Token, depth: usize) -> Result<usize
 /// is that of the first token that is none, else UTC where the text ends inside a block, BNI or ILL at a mark that ends
 /// or divides no such block, and PDO at the 65th open block. It takes no memory.
 #[cycle(skip)]
-pub fn skip_block(text: &[u8], at: usize, kind: Kind, depth: usize) -> Result<Stop, Code>
+pub fn skip_block(text: &[u8], at: usize, kind: Kind, depth: usize) -> Result<SkipEnd, Code>
     requires inside { at ≤ length text.now }
     requires few { depth ≤ BLOCK_LIMIT }
     ensures closes { close_of text.now result ≡ (list_at (Some kind) depth (drop at text.now)).1 }

@@ -25,7 +25,7 @@ pub struct OpenList {
 
 /// A fault of a text: what breaks one of its lists.
 #[derive(Clone, Copy, Debug)]
-pub struct Fault {
+pub struct ListFault {
     /// Its place: that of the bytes that are no token, of the mark that ends no such block, of the block that is one too many, or
     /// the end of the text.
     pub at: usize,
@@ -46,10 +46,10 @@ fn opening(kind: Kind, start: usize) -> usize
 }
 
 /// A fault at this place.
-fn fault_at(at: usize, code: Code) -> Fault
+fn fault_at(at: usize, code: Code) -> ListFault
     ensures { result ≡ fault_at at code }
 {
-    Fault {
+    ListFault {
         at,
         opened: None,
         code,
@@ -57,14 +57,14 @@ fn fault_at(at: usize, code: Code) -> Fault
 }
 
 /// The end of the text breaks the list of a block, and not the text's own.
-fn end_of_text(list: OpenList, end: usize) -> Option<Fault>
+fn end_of_text(list: OpenList, end: usize) -> Option<ListFault>
     ensures breaks { (text : List ℕ) (at : ℕ) → scan (drop at text) ≡ ended → length text ≡ end
         → IfSome result (λ fault. Breaks text list at fault) }
     ensures none { is_none result ≡ is_none list.kind }
 {
     match list.kind {
         None => None,
-        Some(kind) => Some(Fault {
+        Some(kind) => Some(ListFault {
             at: end,
             opened: Some(opening(kind, list.start)),
             code: Code::Utc,
@@ -91,7 +91,7 @@ fn stray_code(kind: Option<Kind>, mark: BlockMark) -> Option<Code>
 }
 
 /// What a mark that ends or divides a block is to this list, where it stands at this place: a fault, or it closes the list.
-fn end_of_list(list: OpenList, mark: BlockMark, from: usize) -> Option<Fault>
+fn end_of_list(list: OpenList, mark: BlockMark, from: usize) -> Option<ListFault>
     requires { mark ≢ BlockMark.Iterate }
     ensures breaks { (text more : List ℕ) (at : ℕ) (token : TokenMeaning) → IsTokenPlace text at from
         → scan (drop at text) ≡ found token more → closing_mark token.instruction ≡ Some mark
@@ -124,7 +124,7 @@ fn past_block(text: &[u8], list: OpenList, kind: Kind, start: usize) -> (OpenLis
     requires few { list.depth < BLOCK_LIMIT }
     ensures few { result.0.depth ≤ BLOCK_LIMIT }
     ensures within { (start ≤ result.1) × (result.1 ≤ length text.now) }
-    ensures comes { (at : ℕ) (token : TokenMeaning) (fault : Fault)
+    ensures comes { (at : ℕ) (token : TokenMeaning) (fault : ListFault)
         → scan (drop at text.now) ≡ found token (drop start text.now)
         → opened_kind token.instruction ≡ Some kind
         → Breaks text.now result.0 result.1 fault → Breaks text.now list at fault }
@@ -143,7 +143,7 @@ fn past_block(text: &[u8], list: OpenList, kind: Kind, start: usize) -> (OpenLis
 
 /// Where a list of a text first breaks, from a place in it on. There is none where it closes, or where the text's own list goes on to
 /// the end of the text.
-fn first_fault_from(text: &[u8], list: OpenList, at: usize) -> Option<Fault>
+fn first_fault_from(text: &[u8], list: OpenList, at: usize) -> Option<ListFault>
     requires inside { at ≤ length text.now }
     requires few { list.depth ≤ BLOCK_LIMIT }
     ensures breaks { IfSome result (λ fault. Breaks text.now list at fault) }
@@ -172,7 +172,7 @@ fn first_fault_from(text: &[u8], list: OpenList, at: usize) -> Option<Fault>
 /// The first fault of a text, if it has one: where its own list breaks.
 ///
 /// It takes no memory. What comes before the fault in a block is passed once for each block around it.
-pub fn first_fault(text: &[u8]) -> Option<Fault>
+pub fn first_fault(text: &[u8]) -> Option<ListFault>
     ensures { IsFirstFault text.now result }
 {
     let whole = OpenList {
@@ -186,8 +186,8 @@ pub fn first_fault(text: &[u8]) -> Option<Fault>
 /// The laws of faults, as clauses: where a list breaks, it is broken by that code, and the place lies in the text. The call does
 /// nothing.
 pub fn break_laws()
-    ensures broken { (text : List ℕ) (list : OpenList) (at : ℕ) (fault : Fault) → Breaks text list at fault
+    ensures broken { (text : List ℕ) (list : OpenList) (at : ℕ) (fault : ListFault) → Breaks text list at fault
         → (list_at list.kind list.depth (drop at text)).1 ≡ broken fault.code }
-    ensures within { (text : List ℕ) (list : OpenList) (at : ℕ) (fault : Fault) → Breaks text list at fault
+    ensures within { (text : List ℕ) (list : OpenList) (at : ℕ) (fault : ListFault) → Breaks text list at fault
         → fault.at ≤ length text }
 {}

@@ -14,9 +14,9 @@ mod table;
 mod token;
 
 pub use blocks::{
-    Kind, Stop, block_laws, closing_mark, find_tag, nesting, skip_block, skip_whole_block,
+    Kind, SkipEnd, block_laws, closing_mark, find_tag, nesting, skip_block, skip_whole_block,
 };
-pub use breaks::{Fault, OpenList, break_laws, first_fault};
+pub use breaks::{ListFault, OpenList, break_laws, first_fault};
 pub use command::{
     Arithmetic, Bare, BlockMark, Command, Form, LevelCommand, Modifiers, Name, Quantity,
     RegisterCommand, Row, Test, TextCommand,

@@ -1,9 +1,9 @@
 use Rattle.std.proofs.Common.{sym, subst}
-use Rattle.teco_scan.specs.declared.breaks.Fault.{Fault}
+use Rattle.teco_scan.specs.declared.breaks.ListFault.{ListFault}
 use Rattle.teco_scan.specs.Breaks.{Breaks, stray_mark}
 use Rattle.teco_scan.proofs.breaks.end_of_list.Goals as goal
 
 pub returns-in-Some-clause-breaks : goal.returns-in-Some-clause-breaks
 returns-in-Some-clause-breaks c text more at token here e is =
-    subst (λ (there : Fault). Breaks text c.args.list at there) (sym c.fault_at.ensures)
+    subst (λ (there : ListFault). Breaks text c.args.list at there) (sym c.fault_at.ensures)
     (stray_mark c.args.mark here e is (c.in-Some.ensures.breaks more c.args.list.depth))

@@ -1,5 +1,5 @@
 use Rattle.std.proofs.Common.{ℕ, List, drop, sym, ap, ◌∙◌, subst, arith}
-use Rattle.teco_scan.specs.declared.breaks.Fault.{Fault}
+use Rattle.teco_scan.specs.declared.breaks.ListFault.{ListFault}
 use Rattle.teco_scan.specs.declared.token.Token.{Token}
 use Rattle.teco_scan.specs.Breaks.{Breaks, IsTokenPlace, no_token, too_deep, after_token}
 use Rattle.teco_scan.specs.Lists.{at_instruction, list_at}
@@ -21,7 +21,7 @@ returns-in-End-clause-whole c =
 
 pub returns-in-Fault-clause-breaks : goal.returns-in-Fault-clause-breaks
 returns-in-Fault-clause-breaks c =
-    subst (λ (there : Fault). Breaks c.args.text.now c.args.list c.args.at there) (sym c.fault_at.ensures)
+    subst (λ (there : ListFault). Breaks c.args.text.now c.args.list c.args.at there) (sym c.fault_at.ensures)
     (c.loop-code.invariant.comes _ (no_token (record { rest = c.filler_end.ensures.read; within = c.filler_end.ensures.within.1 }) (sym c.in-Fault.ensures.read)))
 
 pub returns-in-Fault-clause-whole : goal.returns-in-Fault-clause-whole
@@ -58,7 +58,7 @@ loop-code-preserved-in-None-opened_kind c =
 
 pub returns-in-Some-opened_kind-clause-breaks : goal.returns-in-Some-opened_kind-clause-breaks
 returns-in-Some-opened_kind-clause-breaks c =
-    subst (λ (there : Fault). Breaks c.args.text.now c.args.list c.args.at there) (sym c.fault_at-in-Some-opened_kind.ensures)
+    subst (λ (there : ListFault). Breaks c.args.text.now c.args.list c.args.at there) (sym c.fault_at-in-Some-opened_kind.ensures)
     (c.loop-code.invariant.comes _ (too_deep c.in-Some-opened_kind.field-0 (token_here c.args.text.now c.loop-code.next c.in-Token.token c.in-Token.ensures.place)
     (sym c.in-Token.ensures.read) (sym (c.in-Some-opened_kind.ensures c.args.text.now)) c.if-list-eq-BLOCK_LIMIT.true))
 

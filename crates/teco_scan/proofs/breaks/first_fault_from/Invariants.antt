@@ -1,6 +1,6 @@
 use Rattle.std.proofs.Common.{◌≡◌, ◌≤◌, ◌-◌, length, drop}
 use Rattle.teco_core.specs.declared.limits.TheConstants.{BLOCK_LIMIT}
-use Rattle.teco_scan.specs.declared.breaks.Fault.{Fault}
+use Rattle.teco_scan.specs.declared.breaks.ListFault.{ListFault}
 use Rattle.teco_scan.specs.Breaks.{Breaks}
 use Rattle.teco_scan.specs.Lists.{list_at}
 use Rattle.teco_scan.specs.Nesting.{is_whole}
@@ -11,7 +11,7 @@ abbrev pub invariant-loop-code : goal.invariant-loop-code
 invariant-loop-code l = record {
   inside : l.next ≤ length l.text;
   few : l.list.depth ≤ BLOCK_LIMIT;
-  comes : (there : Fault) → Breaks l.text l.list l.next there → Breaks l.text l.fn.list l.fn.at there;
+  comes : (there : ListFault) → Breaks l.text l.list l.next there → Breaks l.text l.fn.list l.fn.at there;
   whole : is_whole (list_at l.list.kind l.list.depth (drop l.next l.text)).0 ≡ is_whole (list_at l.fn.list.kind l.fn.list.depth (drop l.fn.at l.text)).0;
 }
 
